@@ -1,5 +1,11 @@
 -- Literals and their codes.
 use Rattle.std.proofs.Common.{◌≡◌, ℕ, ◌+◌, ◌*◌, ◌/◌, ◌%◌, ◌<◌, ◌≤◌, Bool, true, false, not, ◌==◌, if◌then◌else◌, refl, ap, ◌∙◌, sym, arith}
+use Rattle.std.proofs.Common.{List}
+use Rattle.std.specs.Bool.{Decides}
+use Rattle.std.specs.Ordering.{on}
+use Rattle.std.specs.Cmp.{unsigned_Decides}
+use Rattle.std.specs.Cmp.Lexicographic.{pointwise}
+use Rattle.std.proofs.lemmas.Slice.Eq.{slice_eq-Decides}
 use Rattle.cnf_base.specs.Literals.{Literal, code_of, literal_of, negated}
 
 -- the opposite of the opposite
@@ -45,3 +51,12 @@ code_of-below l n h = omega (arith, (code_of-bounds l).1)
 
 pub below-code_of : (l : Literal) (n : ℕ) → code_of l < 2 * n → l.variable < n
 below-code_of l n h = omega (arith, (code_of-bounds l).0)
+
+-- what `==` says of two literals, and of two clauses
+pub literals_Decides : (l m : Literal) → Decides (on code_of (◌==◌) l m) (l ≡ m)
+literals_Decides l m =
+    let codes = unsigned_Decides (code_of l) (code_of m) in
+    ((λ h. code_of-injective l m (codes.0 h)), (λ e. codes.1 (ap code_of e)))
+
+pub clauses_Decides : (c d : List Literal) → Decides (pointwise (on code_of (◌==◌)) c d) (c ≡ d)
+clauses_Decides c d = slice_eq-Decides literals_Decides c d (pointwise (on code_of (◌==◌)) c d) refl
