@@ -19,3 +19,6 @@ pub use laws::{
 };
 pub use marks::Marks;
 pub use reading::{Clauses, follows};
+
+#[cfg(test)]
+mod tests;

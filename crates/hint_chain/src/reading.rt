@@ -26,7 +26,8 @@ pub trait Clauses {
 }
 
 /// Ok where the hints are a chain for the clause, else their first fault. It takes no memory, and a
-/// time that is linear in the literals of the clause and of those that it reads.
+/// time that is linear in the literals of the clause and of those that it reads, but for a sweep of
+/// the marks once in 2^32 calls.
 pub fn follows<C: Clauses>(
     clauses: &C,
     clause: &Clause,
