@@ -1,0 +1,6 @@
+pub mod Searches
+pub mod Finds
+pub mod Framings
+pub mod Cuts
+pub mod Driver
+pub mod Rows

@@ -1,0 +1,4 @@
+pub mod Search
+pub mod Chunks
+pub mod Framing
+pub mod Script
