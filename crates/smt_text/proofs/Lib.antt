@@ -4,3 +4,5 @@ pub mod Framings
 pub mod Cuts
 pub mod Driver
 pub mod Rows
+pub mod Strings
+pub mod Spelled

@@ -5,7 +5,7 @@ ghost use Rattle.smt_text.specs.Search.{Passes};
 ghost use Rattle.smt_text.specs.Chunks.{beginning, first_cut};
 ghost use Rattle.smt_text.specs.Framing.{Searched, cut_off, last_chunk};
 
-use crate::chunk::{Chunk, Cut, ChunkKind};
+use crate::chunk::{Chunk, ChunkKind, Cut};
 use crate::place::Place;
 use crate::scan::{lines_in, pass_blank, pass_inside, pass_stray};
 use crate::text::Text;

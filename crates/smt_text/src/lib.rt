@@ -9,6 +9,9 @@
 pub mod chunk;
 mod find;
 pub mod framer;
+mod lexicon;
 mod place;
 mod scan;
 pub mod text;
+pub mod token;
+pub mod tokens;

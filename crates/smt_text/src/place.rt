@@ -22,11 +22,7 @@ pub fn place_after(place: Place, byte: u8) -> Place
             b'|' => Place::Quoted,
             _ => Place::Plain,
         },
-        Place::Comment => if byte == b'\n' {
-            Place::Plain
-        } else {
-            place
-        },
+        Place::Comment => if byte == b'\n' { Place::Plain } else { place },
         Place::Literal => if byte == b'"' { Place::Plain } else { place },
         Place::Quoted => if byte == b'|' { Place::Plain } else { place },
     }

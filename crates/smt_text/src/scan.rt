@@ -21,11 +21,7 @@ fn begins(comment: bool, byte: u8) -> bool
 fn comment_after(comment: bool, byte: u8) -> bool
     ensures { result ≡ comment_after comment byte }
 {
-    if comment {
-        byte != b'\n'
-    } else {
-        byte == b';'
-    }
+    if comment { byte != b'\n' } else { byte == b';' }
 }
 
 /// Passes over white space and comments. `Ok` has the place of the first other byte, and `Err` whether a comment goes on.
