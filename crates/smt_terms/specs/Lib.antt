@@ -1,0 +1,6 @@
+pub mod Equivalences
+pub mod Operators
+pub mod Same
+pub mod Nodes
+pub mod Ranks
+pub mod Terms
