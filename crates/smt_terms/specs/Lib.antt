@@ -4,3 +4,4 @@ pub mod Same
 pub mod Nodes
 pub mod Ranks
 pub mod Terms
+pub mod Bits
