@@ -5,3 +5,4 @@ pub mod Nodes
 pub mod Ranks
 pub mod Terms
 pub mod Bits
+pub mod Places

@@ -13,10 +13,9 @@ use Rattle.smt_terms.specs.declared.fault.MakeFault.TheVariants.{WrongSort, Widt
 use Rattle.smt_terms.specs.Same.{same_sort}
 
 -- a step that may be refused, and what follows it
-infixl 10 ◌>>=◌
-abbrev pub ◌>>=◌ : {E A B : Type 0} → Result A E → (A → Result B E) → Result B E
-(Ok x) >>= f = f x
-(Err e) >>= f = Err e
+abbrev pub and_then : {E A B : Type 0} → Result A E → (A → Result B E) → Result B E
+and_then (Ok x) f = f x
+and_then (Err e) f = Err e
 
 -- ---- sorts
 
@@ -84,7 +83,7 @@ word_sort n = if nat_le 1 n && nat_le n 128 then Ok (sort.Word n) else Err (Widt
 abbrev pub constant_sort : Sort → Result Sort MakeFault
 constant_sort sort.Bool = Ok sort.Bool
 constant_sort (sort.Word n) = word_sort n
-constant_sort (sort.Array n m) = word_sort n >>= λ _. word_sort m >>= λ _. Ok (sort.Array n m)
+constant_sort (sort.Array n m) = and_then (word_sort n) λ _. and_then (word_sort m) λ _. Ok (sort.Array n m)
 
 -- the same of a sort that is Bool or a word
 abbrev pub plain_sort : Sort → Result Sort MakeFault

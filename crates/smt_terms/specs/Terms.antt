@@ -13,7 +13,7 @@ use Rattle.smt_terms.specs.declared.fault.MakeError.{MakeError}
 use Rattle.smt_terms.specs.declared.fault.MakeError.TheVariants.{NoMemory, Fault}
 use Rattle.smt_terms.specs.Same.{same_node}
 use Rattle.smt_terms.specs.Nodes.{node_at, at_term}
-use Rattle.smt_terms.specs.Ranks.{ranked, rank_of, ◌>>=◌}
+use Rattle.smt_terms.specs.Ranks.{ranked, rank_of, and_then}
 
 -- ---- sorts of terms
 
@@ -114,7 +114,7 @@ numbered v n None = if nat_lt (length v.nodes) v.limit then Ok (length v.nodes, 
 
 -- a node's number, and the terms with it, or the node's first fault
 unfoldable pub make : TermsValue → Node → Result (ℕ × TermsValue) MakeFault
-make v n = node_sort v.nodes n >>= λ _. numbered v n (position (same_node n) v.nodes)
+make v n = and_then (node_sort v.nodes n) λ _. numbered v n (position (same_node n) v.nodes)
 
 -- The answer is what making gives, with the new terms. After a fault, or for want of memory, the terms are as before.
 abbrev pub Makes : Result (ℕ × TermsValue) MakeFault → Result ℕ MakeError → TermsValue → TermsValue → Type 0
