@@ -1,5 +1,5 @@
 -- Ranks by places are ranks by lists.
-use Rattle.std.proofs.Common.{◌≡◌, ℕ, suc, ◌<◌, ◌≤◌, true, false, List, ◌∷◌, length, get_or, drop, refl, Option, Some, None, Result, Ok, Err, rules, tests, ⊎_elim}
+use Rattle.std.proofs.Common.{◌≡◌, ◌∙◌, ℕ, suc, ◌<◌, ◌≤◌, true, false, List, ◌∷◌, length, get_or, drop, refl, Option, Some, None, Result, Ok, Err, rules, tests, ⊎_elim}
 use Rattle.std.specs.Prelude.{nat_le, if◌then◌else◌}
 use Rattle.std.proofs.lemmas.Bool.{cases_lt}
 use Rattle.std.proofs.lemmas.Option.{slice_get_past, slice_get-get_or}
@@ -7,10 +7,11 @@ use Rattle.std.proofs.Math.Seq.{drop-cons}
 use Rattle.std.proofs.Math.ListN.{drop_of_length-le}
 use Rattle.smt_terms.specs.declared.sort.Sort.{Sort}
 use Rattle.smt_terms.specs.declared.rank.Demand.{Demand}
+use Rattle.smt_terms.specs.declared.rank.Demand.TheVariants.{Argument}
 use Rattle.smt_terms.specs.declared.fault.MakeFault.{MakeFault}
 use Rattle.smt_terms.specs.declared.fault.MakeFault.TheVariants.{WrongSort}
-use Rattle.smt_terms.specs.Ranks.{Rank, Gives, Takes, allows, ranked, and_then}
-use Rattle.smt_terms.specs.Places.{demanded, ranked_at}
+use Rattle.smt_terms.specs.Ranks.{Rank, Gives, Takes, allows, ranked, each_of, and_then}
+use Rattle.smt_terms.specs.Places.{demanded, taken, ended, ranked_at}
 
 is_le : (n m : ℕ) → n ≤ m → nat_le n m ≡ true
 is_le n m h = search (rules, tests)
@@ -41,3 +42,14 @@ by_places (Takes d next) k args = ⊎_elim (λ lt. takes d next k args (λ s. by
 -- from the first place on
 pub from_first : (r : Rank) (args : List (Option Sort)) → ranked_at r 0 args ≡ ranked r 0 args
 from_first r args = by_places r 0 args
+
+-- what a loop over the sorts of a signature knows, from where it stands
+module _ (wanted : List Sort) (r : Result Sort MakeFault) (args : List (Option Sort)) (k : ℕ) (so_far : ranked_at (each_of wanted r) 0 args ≡ ranked_at (each_of (drop k wanted) r) k args) where
+  pub each_taken : (d s : Sort) → k < length wanted → Ok s ≡ taken args k (Argument (get_or wanted k d)) → ranked_at (each_of wanted r) 0 args ≡ ranked_at (each_of (drop (suc k) wanted) r) (suc k) args
+  each_taken d s lt e = so_far ∙ rw (drop-cons wanted k d lt) (rw (← e) refl)
+
+  pub each_refused : (d : Sort) (f : MakeFault) → k < length wanted → Err f ≡ taken args k (Argument (get_or wanted k d)) → ranked_at (each_of wanted r) 0 args ≡ Err f
+  each_refused d f lt e = so_far ∙ rw (drop-cons wanted k d lt) (rw (← e) refl)
+
+  pub each_ended : length wanted ≤ k → ranked_at (each_of wanted r) 0 args ≡ ended (length args) k r
+  each_ended le = so_far ∙ rw (drop_of_length-le wanted le) refl

@@ -1,6 +1,6 @@
 // What an operator takes, and what it gives.
 
-ghost use Rattle.std.specs.Prelude.{◌≡◌, ℕ, Result, Ok, ◌+◌, ◌^◌, ◌≤◌, length, nat_lt, true};
+ghost use Rattle.std.specs.Prelude.{◌≡◌, ℕ, Result, Ok, ◌+◌, ◌*◌, ◌^◌, ◌≤◌, length, nat_lt, true};
 ghost use Rattle.smt_terms.specs.Ranks.{and_then, allows, width_of, is_plain, index_sort, element_sort, word_sort, constant_sort, plain_sort, literal_sort, extract_sort, one_truth, two_truths, two_words, one_word, concatenation, equality, choice, selection, storing, difference, truth, application, each_of, ranked, rank_of, operator_rank};
 ghost use Rattle.smt_terms.specs.declared.sort.Sort.{Sort};
 ghost use Rattle.smt_terms.specs.declared.fault.MakeFault.{MakeFault};
@@ -177,13 +177,41 @@ fn two_truths(held: &[Sort], args: &[TermId]) -> Result<Sort, MakeFault>
     ended(args, 2, Ok(Sort::Bool))
 }
 
-/// The width of the one argument, a word.
-fn one_word(held: &[Sort], args: &[TermId]) -> Result<u32, MakeFault>
-    ensures { (h : ℕ → Result Sort MakeFault) → ranked_at (one_word h) 0 (sorts_at held.now args.now) ≡ and_then result h }
+/// A word, and its sort again.
+fn same_word(held: &[Sort], args: &[TermId]) -> Result<Sort, MakeFault>
+    ensures { result ≡ ranked_at (one_word word_sort) 0 (sorts_at held.now args.now) }
 {
     let word = taken(held, args, 0, Demand::AnyWord)?;
-    ended(args, 1, Ok(word))?;
-    Ok(word.width())
+    ended(args, 1, word_sort(u128::from(word.width())))
+}
+
+fn extraction(held: &[Sort], args: &[TermId], high: u64, low: u64) -> Result<Sort, MakeFault>
+    ensures { result ≡ ranked_at (one_word (extract_sort high low)) 0 (sorts_at held.now args.now) }
+{
+    let word = taken(held, args, 0, Demand::AnyWord)?;
+    ended(args, 1, extract_sort(high, low, word.width()))
+}
+
+fn extension(held: &[Sort], args: &[TermId], by: u64) -> Result<Sort, MakeFault>
+    ensures { result ≡ ranked_at (one_word λ n. word_sort (n + by)) 0 (sorts_at held.now args.now) }
+{
+    let word = taken(held, args, 0, Demand::AnyWord)?;
+    ended(
+        args,
+        1,
+        word_sort(u128::from(word.width()) + u128::from(by)),
+    )
+}
+
+fn repetition(held: &[Sort], args: &[TermId], copies: u64) -> Result<Sort, MakeFault>
+    ensures { result ≡ ranked_at (one_word λ n. word_sort (n * copies)) 0 (sorts_at held.now args.now) }
+{
+    let word = taken(held, args, 0, Demand::AnyWord)?;
+    ended(
+        args,
+        1,
+        word_sort(u128::from(word.width()) * u128::from(copies)),
+    )
 }
 
 /// The sort of two words of one sort.
@@ -256,4 +284,99 @@ fn difference(held: &[Sort], args: &[TermId]) -> Result<Sort, MakeFault>
     let array = taken(held, args, 0, Demand::AnyArray)?;
     taken(held, args, 1, Demand::Exactly(array))?;
     ended(args, 2, Ok(array.index()))
+}
+
+/// Arguments of these sorts, and what is given for them.
+fn each_of(
+    held: &[Sort],
+    args: &[TermId],
+    wanted: &[Sort],
+    given: Result<Sort, MakeFault>,
+) -> Result<Sort, MakeFault>
+    ensures { result ≡ ranked_at (each_of wanted.now given) 0 (sorts_at held.now args.now) }
+{
+    let mut place = 0;
+    for sort in wanted {
+        taken(held, args, place, Demand::Argument(*sort))?;
+        place += 1;
+    }
+    ended(args, place, given)
+}
+
+/// A declared function of arguments of its signature's sorts, one at least.
+fn application(held: &[Sort], args: &[TermId], signature: &Signature) -> Result<Sort, MakeFault>
+    ensures { result ≡ ranked_at (application signature.now.args signature.now.value) 0 (sorts_at held.now args.now) }
+{
+    let wanted = signature.args.as_slice();
+    if wanted.is_empty() {
+        return ended(args, 0, Err(MakeFault::WrongSort(0)));
+    }
+    each_of(held, args, wanted, plain_sort(signature.value))
+}
+
+fn operator_sort(operator: Operator, held: &[Sort], args: &[TermId]) -> Result<Sort, MakeFault>
+    ensures { result ≡ ranked_at (operator_rank operator) 0 (sorts_at held.now args.now) }
+{
+    match operator {
+        Operator::True | Operator::False => ended(args, 0, Ok(Sort::Bool)),
+        Operator::Not => one_truth(held, args),
+        Operator::And | Operator::Or | Operator::Xor | Operator::Implies => two_truths(held, args),
+        Operator::Ite => choice(held, args),
+        Operator::Equal => equality(held, args),
+        Operator::Bvnot | Operator::Bvneg => same_word(held, args),
+        Operator::Bvadd
+        | Operator::Bvsub
+        | Operator::Bvmul
+        | Operator::Bvand
+        | Operator::Bvor
+        | Operator::Bvxor
+        | Operator::Bvnand
+        | Operator::Bvnor
+        | Operator::Bvxnor
+        | Operator::Bvudiv
+        | Operator::Bvurem
+        | Operator::Bvsdiv
+        | Operator::Bvsrem
+        | Operator::Bvsmod
+        | Operator::Bvshl
+        | Operator::Bvlshr
+        | Operator::Bvashr => two_words(held, args),
+        Operator::Bvult
+        | Operator::Bvule
+        | Operator::Bvugt
+        | Operator::Bvuge
+        | Operator::Bvslt
+        | Operator::Bvsle
+        | Operator::Bvsgt
+        | Operator::Bvsge => comparison(held, args, Sort::Bool),
+        Operator::Bvcomp => comparison(held, args, Sort::Word(1)),
+        Operator::Concat => concatenation(held, args),
+        Operator::Select => selection(held, args),
+        Operator::Store => storing(held, args),
+        Operator::Witness => difference(held, args),
+    }
+}
+
+fn op_sort(op: &Op, held: &[Sort], args: &[TermId]) -> Result<Sort, MakeFault>
+    ensures { result ≡ ranked_at (rank_of op.now) 0 (sorts_at held.now args.now) }
+{
+    match op {
+        Op::Plain(operator) => operator_sort(*operator, held, args),
+        Op::Word { width, value } => ended(args, 0, literal_sort(*width, *value)),
+        Op::Extract { high, low } => extraction(held, args, *high, *low),
+        Op::ZeroExtend(by) | Op::SignExtend(by) => extension(held, args, *by),
+        Op::RotateLeft(_) | Op::RotateRight(_) => same_word(held, args),
+        Op::Repeat(copies) => repetition(held, args, *copies),
+        Op::Constant { sort, .. } => ended(args, 0, constant_sort(*sort)),
+        Op::Apply { signature, .. } => application(held, args, signature),
+        Op::Param { sort, .. } => ended(args, 0, plain_sort(*sort)),
+    }
+}
+
+/// The sort of a node over terms of these sorts, or its first fault.
+#[tactic(auto, using(crate::proofs::Places::from_first))]
+pub fn node_sort(held: &[Sort], node: &Node) -> Result<Sort, MakeFault>
+    ensures { result ≡ ranked (rank_of node.now.op) 0 (sorts_at held.now node.now.args) }
+{
+    op_sort(&node.op, held, node.args.as_slice())
 }
