@@ -20,7 +20,7 @@ abbrev pub node_at : List Node → ℕ → Node
 node_at nodes t = slice_index_or nodes t no_node
 
 -- A recursion over the terms below a number, each by its number, its operator, and what its arguments gave.
-abbrev pub below : {A : Type 0} → A → (ℕ → Op → List A → A) → List Node → ℕ → ℕ → A
+unfoldable pub below : {A : Type 0} → A → (ℕ → Op → List A → A) → List Node → ℕ → ℕ → A
 below d step nodes zero t = d
 below d step nodes (suc n) t = if t == n then step n (node_at nodes n).op (map (below d step nodes n) (node_at nodes n).args) else below d step nodes n t
 

@@ -1,5 +1,5 @@
 -- Lists of terms, their sorts, and the number that a node gets.
-use Rattle.std.specs.Prelude.{◌≡◌, ℕ, ◌<◌, ◌≤◌, ◌^◌, nat_lt, if◌then◌else◌, List, [], ◌∷◌, ◌++◌, length, map, position, Option, Some, None, Result, Ok, Err}
+use Rattle.std.specs.Prelude.{◌≡◌, ℕ, ◌<◌, ◌≤◌, ◌^◌, nat_lt, if◌then◌else◌, List, [], ◌∷◌, ◌++◌, length, map, position, slice_get, take, Option, Some, None, Result, Ok, Err}
 use Rattle.std.specs.List.{AllByRecursion}
 use Rattle.smt_terms.specs.declared.sort.Sort.{Sort}
 use Rattle.smt_terms.specs.declared.sort.Sort.TheVariants as sort
@@ -105,12 +105,24 @@ pub record AreTerms (v : TermsValue) : Type 0 where
   pub within : length v.nodes ≤ v.limit
   pub limit : v.limit ≤ 2 ^ 24
 
+-- the sorts of the terms in order
+pub record HaveSorts (nodes : List Node) (sorts : List Sort) : Type 0 where
+  pub count : length sorts ≡ length nodes
+  pub each : (t : ℕ) → t < length nodes → slice_get sorts t ≡ Some (sort_of nodes t)
+
 -- ---- making terms
+
+abbrev pub no_terms : ℕ → TermsValue
+no_terms limit = record { nodes = []; limit = limit }
+
+-- the terms before a number
+abbrev pub cut_at : TermsValue → ℕ → TermsValue
+cut_at v len = record { nodes = take len v.nodes; limit = v.limit }
 
 -- an equal node keeps its number, a new one gets the next
 abbrev pub numbered : TermsValue → Node → Option ℕ → Result (ℕ × TermsValue) MakeFault
 numbered v n (Some t) = Ok (t, v)
-numbered v n None = if nat_lt (length v.nodes) v.limit then Ok (length v.nodes, record v { nodes = v.nodes ++ n ∷ [] }) else Err TermLimit
+numbered v n None = if nat_lt (length v.nodes) v.limit then Ok (length v.nodes, record { nodes = v.nodes ++ n ∷ []; limit = v.limit }) else Err TermLimit
 
 -- a node's number, and the terms with it, or the node's first fault
 unfoldable pub make : TermsValue → Node → Result (ℕ × TermsValue) MakeFault

@@ -1,5 +1,7 @@
 // Why a node is refused.
 
+use std::alloc::{AllocError, AllocFailed};
+
 /// The first fault of a node, in this order.
 #[derive(Clone, Copy, Debug, PartialEq, Eq)]
 pub enum MakeFault {
@@ -17,4 +19,37 @@ pub enum MakeFault {
 pub enum MakeError {
     NoMemory,
     Fault(MakeFault),
+}
+
+impl From<MakeFault> for MakeError {
+    ghost use Rattle.std.specs.Prelude.{◌≡◌};
+    ghost use Rattle.smt_terms.specs.declared.fault.MakeError.TheVariants.{Fault};
+
+    ghost from_gives = { λ f e. e ≡ Fault f };
+
+    fn from(fault: MakeFault) -> MakeError {
+        MakeError::Fault(fault)
+    }
+}
+
+impl From<AllocError> for MakeError {
+    ghost use Rattle.std.specs.Prelude.{◌≡◌};
+    ghost use Rattle.smt_terms.specs.declared.fault.MakeError.TheVariants.{NoMemory};
+
+    ghost from_gives = { λ _ e. e ≡ NoMemory };
+
+    fn from(_error: AllocError) -> MakeError {
+        MakeError::NoMemory
+    }
+}
+
+impl<T: Drop> From<AllocFailed<T>> for MakeError {
+    ghost use Rattle.std.specs.Prelude.{◌≡◌};
+    ghost use Rattle.smt_terms.specs.declared.fault.MakeError.TheVariants.{NoMemory};
+
+    ghost from_gives = { λ _ e. e ≡ NoMemory };
+
+    fn from(_error: AllocFailed<T>) -> MakeError {
+        MakeError::NoMemory
+    }
 }

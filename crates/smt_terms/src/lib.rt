@@ -12,3 +12,4 @@ pub mod node;
 pub mod operator;
 pub mod rank;
 pub mod sort;
+pub mod terms;
