@@ -1,0 +1,6 @@
+mod Filing
+mod Lists
+mod Keeps
+mod Splitting
+mod Came
+mod Passes

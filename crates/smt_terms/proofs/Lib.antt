@@ -1,0 +1,4 @@
+mod Places
+pub mod Recursion
+pub mod Growing
+mod Making

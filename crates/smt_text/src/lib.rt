@@ -1,0 +1,17 @@
+//! The lexical layer of a script: its chunks, the tokens of each, and the spelling of symbols and strings.
+//!
+//! A [`framer::Framer`] takes the script in pieces and gives its chunks: commands in balanced parentheses, and what
+//! stands between them. However the script is cut into pieces, its chunks are those of the whole. [`tokens::tokens`]
+//! gives the tokens of a chunk, or exactly where its first bad one stands; a text has one reading. What `print` writes
+//! reads back as the same token. The crate stands on std alone.
+#![tactic(auto)]
+
+pub mod chunk;
+mod find;
+pub mod framer;
+mod lexicon;
+mod place;
+mod scan;
+pub mod text;
+pub mod token;
+pub mod tokens;
