@@ -39,7 +39,7 @@ sort_is_given t s e = cc
 given : (t s : Sort) (v : Value) → (let r : Result Sort MakeFault = Ok t in r) ≡ Ok s → HasSort t v → HasSort s v
 given t s v e h = subst (λ k. HasSort k v) (sort_is_given t s e) h
 
-guard_ok : (b : Bool) (r : Result Sort MakeFault) (f : MakeFault) (s : Sort) → (if b then r else Err f) ≡ Ok s → (b ≡ true) × (r ≡ Ok s)
+pub guard_ok : (b : Bool) (r : Result Sort MakeFault) (f : MakeFault) (s : Sort) → (if b then r else Err f) ≡ Ok s → (b ≡ true) × (r ≡ Ok s)
 guard_ok true r f s e = (refl, e)
 guard_ok false r f s e = let q : ⊥ = cc in absurd q
 
