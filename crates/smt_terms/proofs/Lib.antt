@@ -5,5 +5,6 @@ pub mod Made
 pub mod Arrays
 pub mod Typing
 pub mod Widths
+pub mod Evaluating
 mod Making
 mod Spans

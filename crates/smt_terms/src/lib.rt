@@ -8,6 +8,7 @@
 
 pub mod bits;
 pub mod fault;
+pub mod laws;
 pub mod list;
 pub mod node;
 pub mod operator;
