@@ -15,3 +15,5 @@ pub mod operator;
 pub mod rank;
 pub mod sort;
 pub mod terms;
+#[cfg(test)]
+mod tests;
