@@ -5,6 +5,8 @@ pub mod Made
 pub mod Arrays
 pub mod Typing
 pub mod Widths
+pub mod Arities
+mod Rotations
 pub mod Evaluating
 mod Making
 mod Spans

@@ -9,3 +9,4 @@ pub mod Places
 pub mod BitTables
 pub mod Values
 pub mod Evaluations
+pub mod Scalars
