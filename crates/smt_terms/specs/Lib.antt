@@ -6,3 +6,7 @@ pub mod Ranks
 pub mod Terms
 pub mod Bits
 pub mod Places
+pub mod BitTables
+pub mod Values
+pub mod Evaluations
+pub mod Scalars

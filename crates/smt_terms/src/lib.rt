@@ -6,10 +6,16 @@
 //! The crate stands on the words of `smt_words`, the literals of `cnf_base`, and `indexmap`.
 #![tactic(auto)]
 
+pub mod apply;
+pub mod bits;
 pub mod fault;
+pub mod laws;
 pub mod list;
 pub mod node;
 pub mod operator;
 pub mod rank;
+pub mod scalar;
 pub mod sort;
 pub mod terms;
+#[cfg(test)]
+mod tests;
