@@ -1,0 +1,4 @@
+pub mod Walks
+pub mod Depths
+pub mod Cuts
+pub mod ShapeWalks
