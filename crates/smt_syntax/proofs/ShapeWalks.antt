@@ -1,12 +1,17 @@
 -- The reader of shapes accepts exactly the shapes.
-use Rattle.std.proofs.Common.{◌≡◌, ℕ, Bool, true, false, ◌&&◌, cond, List, refl, ap, sym, ◌∙◌, Option, Some, None, Result, Ok, Err}
+use Rattle.std.proofs.Common.{◌≡◌, ℕ, Bool, true, false, ◌&&◌, cond, List, refl, ap, ◌∙◌, Some, Ok, Err}
+use Rattle.std.specs.Prelude.{is_ok, codes}
+use Rattle.std.specs.Str.{bytes_eq}
 use Rattle.smt_text.specs.declared.token.TokenKind.{TokenKind}
 use Rattle.smt_text.specs.declared.token.TokenKind.TheVariants as kind
 use Rattle.smt_syntax.specs.Sexps.{Sexp, Sexps, atom, group, none, more}
-use Rattle.smt_syntax.specs.Walk.{◌>>=◌, Reader, walk, walks}
+use Rattle.smt_syntax.specs.Walk.{◌>>=◌, walk, walks}
 use Rattle.smt_syntax.specs.Shapes as is
 use Rattle.smt_syntax.specs.Shapes.{is_term, are_terms, are_some_terms, is_let, is_binding, are_bindings, are_some_bindings, is_annotated, is_sort, are_two_sorts}
-use Rattle.smt_syntax.specs.ShapeReader.{part_if, keyword_part, head_part, word_part, opened, context, taken, at_place, closed, Seen, seen, shape_reader}
+use Rattle.smt_syntax.specs.ShapeReader.{part_if, word_part, opened, context, taken, at_place, closed, Seen, seen, shape_reader}
+use Rattle.smt_syntax.specs.Forms.{fits, want_of}
+use Rattle.smt_syntax.specs.declared.form.Form.{Form}
+use Rattle.smt_syntax.specs.declared.form.Form.TheVariants as form
 use Rattle.smt_syntax.specs.declared.shape.Want.{Want}
 use Rattle.smt_syntax.specs.declared.shape.Want.TheVariants as want
 use Rattle.smt_syntax.specs.declared.shape.Place.{Place}
@@ -60,11 +65,11 @@ unfolding walk word_part opened
 nothing (atom k x) = refl
 nothing (group es) = refl
 
-and_true : (b : Bool) → b && true ≡ b
+pub and_true : (b : Bool) → b && true ≡ b
 and_true true = refl
 and_true false = refl
 
-and_false : (b : Bool) → b && false ≡ false
+pub and_false : (b : Bool) → b && false ≡ false
 and_false true = refl
 and_false false = refl
 
@@ -217,3 +222,128 @@ mutual
   annotated : (es : Sexps) → finish frame.BangStarted es ≡ checked (is_annotated es) part.Term
   annotated none = refl
   annotated (more t rest) = step frame.BangStarted frame.BangTerm part.Term part.Term (is_term t) _ t rest (term t) refl (some_attributes rest)
+
+-- ---- sorts
+
+bit_vec : (es : Sexps) → finish frame.BitVecStarted es ≡ checked (is.is_bit_vec es) part.Sort
+unfolding walk walks word_part opened context taken closed
+bit_vec none = refl
+bit_vec (more (group xs) es) = fails frame.BitVecStarted (group xs) es refl
+bit_vec (more (atom k b) none) =
+    as_test _ _ _ _ (and_false (is.is_symbol k && bytes_eq b (codes "BitVec")))
+    (step frame.BitVecStarted frame.BitVecNamed part.Symbol part.Sort (is.is_symbol k && bytes_eq b (codes "BitVec")) false (atom k b) none (word want.BitVec k b _ _ refl) refl refl)
+bit_vec (more (atom k b) (more (group xs) es)) =
+    as_test _ _ _ _ (and_false (is.is_symbol k && bytes_eq b (codes "BitVec")))
+    (step frame.BitVecStarted frame.BitVecNamed part.Symbol part.Sort (is.is_symbol k && bytes_eq b (codes "BitVec")) false (atom k b) (more (group xs) es) (word want.BitVec k b _ _ refl) refl (fails frame.BitVecNamed (group xs) es refl))
+bit_vec (more (atom k b) (more (atom l n) none)) =
+    as_test _ _ _ _ (ap (λ c. (is.is_symbol k && bytes_eq b (codes "BitVec")) && c) (and_true (is.is_numeral l)))
+    (step frame.BitVecStarted frame.BitVecNamed part.Symbol part.Sort (is.is_symbol k && bytes_eq b (codes "BitVec")) _ (atom k b) (more (atom l n) none) (word want.BitVec k b _ _ refl) refl
+    (step frame.BitVecNamed frame.BitVecDone part.Numeral part.Sort (is.is_numeral l) true (atom l n) none (word want.Numeral l n _ _ refl) refl refl))
+bit_vec (more (atom k b) (more (atom l n) (more e es))) =
+    as_test _ _ _ _ (ap (λ c. (is.is_symbol k && bytes_eq b (codes "BitVec")) && c) (and_false (is.is_numeral l)) ∙ and_false (is.is_symbol k && bytes_eq b (codes "BitVec")))
+    (step frame.BitVecStarted frame.BitVecNamed part.Symbol part.Sort (is.is_symbol k && bytes_eq b (codes "BitVec")) _ (atom k b) (more (atom l n) (more e es)) (word want.BitVec k b _ _ refl) refl
+    (step frame.BitVecNamed frame.BitVecDone part.Numeral part.Sort (is.is_numeral l) false (atom l n) (more e es) (word want.Numeral l n _ _ refl) refl (fails frame.BitVecDone e es (nothing e))))
+
+mutual
+  unfolding walk walks is_sort are_two_sorts word_part opened context taken closed
+
+  pub sort : (e : Sexp) → judge want.Sort e ≡ checked (is_sort e) part.Sort
+  sort (atom k x) = word want.Sort k x _ _ refl
+  sort (group none) = refl
+  sort (group (more (atom kind.Symbol x) es)) = step frame.SortStarted frame.ArrayStarted part.Array part.Sort (bytes_eq x (codes "Array")) _ (atom kind.Symbol x) es (word want.SortHead kind.Symbol x _ _ refl) refl (two_sorts es)
+  sort (group (more (atom kind.Underscore x) es)) = step frame.SortStarted frame.BitVecStarted part.Underscore part.Sort true _ (atom kind.Underscore x) es refl refl (bit_vec es)
+  sort (group (more (atom kind.As x) es)) = step frame.SortStarted (frame.Foreign place.Sort) part.Foreign part.Sort true true (atom kind.As x) es refl refl (foreign place.Sort es)
+  sort (group (more (atom kind.Exists x) es)) = step frame.SortStarted (frame.Foreign place.Sort) part.Foreign part.Sort true true (atom kind.Exists x) es refl refl (foreign place.Sort es)
+  sort (group (more (atom kind.Forall x) es)) = step frame.SortStarted (frame.Foreign place.Sort) part.Foreign part.Sort true true (atom kind.Forall x) es refl refl (foreign place.Sort es)
+  sort (group (more (atom kind.Match x) es)) = step frame.SortStarted (frame.Foreign place.Sort) part.Foreign part.Sort true true (atom kind.Match x) es refl refl (foreign place.Sort es)
+  sort (group (more (atom k x) es)) = fails frame.SortStarted (atom k x) es refl
+  sort (group (more (group h) es)) = fails frame.SortStarted (group h) es refl
+
+  two_sorts : (es : Sexps) → finish frame.ArrayStarted es ≡ checked (are_two_sorts es) part.Sort
+  two_sorts none = refl
+  two_sorts (more s none) = as_test _ _ _ _ (and_false (is_sort s)) (step frame.ArrayStarted frame.ArrayIndexed part.Sort part.Sort (is_sort s) false s none (sort s) refl refl)
+  two_sorts (more s (more t none)) =
+      as_test _ _ _ _ (ap (λ c. is_sort s && c) (and_true (is_sort t)))
+      (step frame.ArrayStarted frame.ArrayIndexed part.Sort part.Sort (is_sort s) _ s (more t none) (sort s) refl (step frame.ArrayIndexed frame.ArrayDone part.Sort part.Sort (is_sort t) true t none (sort t) refl refl))
+  two_sorts (more s (more t (more e es))) =
+      as_test _ _ _ _ (ap (λ c. is_sort s && c) (and_false (is_sort t)) ∙ and_false (is_sort s))
+      (step frame.ArrayStarted frame.ArrayIndexed part.Sort part.Sort (is_sort s) _ s (more t (more e es)) (sort s) refl (step frame.ArrayIndexed frame.ArrayDone part.Sort part.Sort (is_sort t) false t (more e es) (sort t) refl (fails frame.ArrayDone e es (nothing e))))
+
+-- ---- lists in commands
+
+sorts : (es : Sexps) → finish frame.SortList es ≡ checked (is.are_sorts es) part.List
+unfolding walk walks context taken closed
+sorts none = refl
+sorts (more s ss) = step frame.SortList frame.SortList part.Sort part.List (is_sort s) _ s ss (sort s) refl (sorts ss)
+
+parameter : (p : Sexp) → judge want.Parameter p ≡ checked (is.is_parameter p) part.Parameter
+unfolding walk walks word_part opened context taken closed
+parameter (atom k x) = refl
+parameter (group none) = refl
+parameter (group (more (group xs) es)) = fails frame.ParameterStarted (group xs) es refl
+parameter (group (more (atom k x) none)) = as_test _ _ _ _ (and_false (is.is_name k)) (step frame.ParameterStarted frame.ParameterNamed part.Name part.Parameter (is.is_name k) false (atom k x) none (word want.Name k x _ _ refl) refl refl)
+parameter (group (more (atom k x) (more s none))) =
+    as_test _ _ _ _ (ap (λ c. is.is_name k && c) (and_true (is_sort s)))
+    (step frame.ParameterStarted frame.ParameterNamed part.Name part.Parameter (is.is_name k) _ (atom k x) (more s none) (word want.Name k x _ _ refl) refl (step frame.ParameterNamed frame.ParameterDone part.Sort part.Parameter (is_sort s) true s none (sort s) refl refl))
+parameter (group (more (atom k x) (more s (more e es)))) =
+    as_test _ _ _ _ (ap (λ c. is.is_name k && c) (and_false (is_sort s)) ∙ and_false (is.is_name k))
+    (step frame.ParameterStarted frame.ParameterNamed part.Name part.Parameter (is.is_name k) _ (atom k x) (more s (more e es)) (word want.Name k x _ _ refl) refl (step frame.ParameterNamed frame.ParameterDone part.Sort part.Parameter (is_sort s) false s (more e es) (sort s) refl (fails frame.ParameterDone e es (nothing e))))
+
+parameters : (es : Sexps) → finish frame.ParameterList es ≡ checked (is.are_parameters es) part.List
+unfolding walk walks context taken closed
+parameters none = refl
+parameters (more p ps) = step frame.ParameterList frame.ParameterList part.Parameter part.List (is.is_parameter p) _ p ps (parameter p) refl (parameters ps)
+
+term_list : (es : Sexps) → finish frame.TermList es ≡ checked (are_terms es) part.List
+unfolding walk walks are_terms context taken closed
+term_list none = refl
+term_list (more e es) = step frame.TermList frame.TermList part.Term part.List (is_term e) _ e es (term e) refl (term_list es)
+
+some_term_list : (es : Sexps) → finish frame.NoTerms es ≡ checked (are_some_terms es) part.List
+unfolding walk walks are_some_terms context taken closed
+some_term_list none = refl
+some_term_list (more e es) = step frame.NoTerms frame.TermList part.Term part.List (is_term e) _ e es (term e) refl (term_list es)
+
+-- ---- the parts of commands
+
+passes : (b : Bool) (p : Part) (x : Seen Part) → x ≡ checked b p → is_ok x ≡ b
+passes true p x e = rw e refl
+passes false p x e = rw e refl
+
+one_word : (w : Want) (k : TokenKind) (x : List ℕ) (b : Bool) (p : Part) → word_part w k x ≡ part_if b p → is_ok (judge w (atom k x)) ≡ b
+one_word w k x b p e = passes b p _ (word w k x b p e)
+
+-- the walk accepts exactly the parts that fit
+pub fits-walk : (f : Form) (e : Sexp) → is_ok (judge (want_of f) e) ≡ fits f e
+unfolding walk walks word_part opened context closed
+fits-walk form.Term e = passes _ _ _ (term e)
+fits-walk form.Sort e = passes _ _ _ (sort e)
+fits-walk form.Name (atom k x) = one_word want.Name k x _ _ refl
+fits-walk form.Name (group es) = refl
+fits-walk form.Symbol (atom k x) = one_word want.Symbol k x _ _ refl
+fits-walk form.Symbol (group es) = refl
+fits-walk form.Numeral (atom k x) = one_word want.Numeral k x _ _ refl
+fits-walk form.Numeral (group es) = refl
+fits-walk form.String (atom k x) = one_word want.String k x _ _ refl
+fits-walk form.String (group es) = refl
+fits-walk form.Keyword (atom k x) = one_word want.Keyword k x _ _ refl
+fits-walk form.Keyword (group es) = refl
+fits-walk form.Option (atom k x) = one_word want.Option k x _ _ refl
+fits-walk form.Option (group es) = refl
+fits-walk form.OtherOption (atom k x) = one_word want.OtherOption k x _ _ refl
+fits-walk form.OtherOption (group es) = refl
+fits-walk form.Boolean (atom k x) = one_word want.Boolean k x _ _ refl
+fits-walk form.Boolean (group es) = refl
+fits-walk form.Value (atom k x) = one_word want.Value k x _ _ refl
+fits-walk form.Value (group es) = passes true part.Value _ (unread es)
+fits-walk form.Empty (atom k x) = refl
+fits-walk form.Empty (group none) = refl
+fits-walk form.Empty (group (more e es)) = passes false part.List _ (fails frame.EmptyList e es (nothing e))
+fits-walk form.Sorts (atom k x) = refl
+fits-walk form.Sorts (group es) = passes _ _ _ (sorts es)
+fits-walk form.Parameters (atom k x) = refl
+fits-walk form.Parameters (group es) = passes _ _ _ (parameters es)
+fits-walk form.Terms (atom k x) = refl
+fits-walk form.Terms (group es) = passes _ _ _ (term_list es)
+fits-walk form.SomeTerms (atom k x) = refl
+fits-walk form.SomeTerms (group es) = passes _ _ _ (some_term_list es)

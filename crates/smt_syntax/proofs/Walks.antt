@@ -1,6 +1,6 @@
 -- Reading tokens with a stack of open lists gives what the walk over the S-expression gives.
-use Rattle.std.proofs.Common.{◌≡◌, ℕ, List, [], ◌∷◌, ◌++◌, refl, ap, sym, ◌∙◌, subst, append_assoc, append-nil, Result, Ok, Err}
-use Rattle.smt_syntax.specs.Sexps.{Sign, open_paren, close_paren, word, Sexp, Sexps, atom, group, none, more, spelling, spellings}
+use Rattle.std.proofs.Common.{◌≡◌, List, [], ◌∷◌, ◌++◌, refl, sym, ◌∙◌, subst, append_assoc, append-nil, Result, Ok, Err}
+use Rattle.smt_syntax.specs.Sexps.{Sign, close_paren, Sexp, Sexps, atom, group, none, more, spelling, spellings}
 use Rattle.smt_syntax.specs.Walk.{◌>>=◌, Reader, walk, walks, context_in, run}
 
 pub bind_assoc : {E A B C : Type 0} (x : Result A E) (f : A → Result B E) (g : B → Result C E) → (x >>= f) >>= g ≡ x >>= λ a. f a >>= g

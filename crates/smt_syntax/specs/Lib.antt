@@ -4,3 +4,7 @@ pub mod Depth
 pub mod Spans
 pub mod Shapes
 pub mod ShapeReader
+pub mod Forms
+pub mod Judging
+pub mod Commands
+pub mod Names

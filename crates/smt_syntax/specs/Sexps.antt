@@ -1,9 +1,9 @@
 -- S-expressions: words, and lists in parentheses (SMT-LIB 2.6, section 3.2).
 use Rattle.std.specs.Prelude.{ℕ, List, [], ◌∷◌, ◌++◌, map}
-use Rattle.smt_text.specs.Lexicon.{Lexeme, lexeme_of}
+use Rattle.smt_text.specs.Lexicon.{Lexeme}
 use Rattle.smt_text.specs.declared.token.Token.{Token}
 use Rattle.smt_text.specs.declared.token.TokenKind.{TokenKind}
-use Rattle.smt_text.specs.declared.token.TokenKind.TheVariants.{Open, Close, Numeral, Decimal, Hexadecimal, Binary, String, Keyword, Symbol, Underscore, Bang, As, Exists, Forall, Let, Match, Command, Reserved}
+use Rattle.smt_text.specs.declared.token.TokenKind.TheVariants.{Open, Close}
 
 -- a token as S-expressions are made of: a parenthesis, or a word; whether a symbol stood in bars does not count
 pub data Sign : Type 0 where

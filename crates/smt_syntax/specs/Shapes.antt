@@ -1,8 +1,8 @@
 -- The shapes of the parts of commands (SMT-LIB 2.6, sections 3.3 to 3.6 and 3.9), as tests on S-expressions.
-use Rattle.std.specs.Prelude.{ℕ, Bool, true, false, ◌&&◌, List, [], ◌∷◌, ◌||◌, if◌then◌else◌, codes}
+use Rattle.std.specs.Prelude.{ℕ, Bool, true, false, ◌&&◌, List, ◌||◌, if◌then◌else◌, codes}
 use Rattle.std.specs.Str.{bytes_eq}
 use Rattle.smt_text.specs.declared.token.TokenKind.{TokenKind}
-use Rattle.smt_text.specs.declared.token.TokenKind.TheVariants.{Open, Close, Numeral, Decimal, Hexadecimal, Binary, String, Keyword, Symbol, Underscore, Bang, As, Exists, Forall, Let, Match, Command, Reserved}
+use Rattle.smt_text.specs.declared.token.TokenKind.TheVariants.{Numeral, Decimal, Hexadecimal, Binary, String, Keyword, Symbol, Underscore, Bang, As, Exists, Forall, Let, Match, Command, Reserved}
 use Rattle.smt_syntax.specs.Sexps.{Sexp, Sexps, atom, group, none, more}
 
 -- what follows these words is not judged: their forms are not supported

@@ -2,7 +2,7 @@
 use Rattle.std.specs.Prelude.{◌≡◌, ℕ, ◌+◌, ◌-◌, ◌≤◌, List, [], ◌∷◌, ◌++◌, length, take, drop, Some, None, option_to_list, if◌then◌else◌, ◌==◌}
 use Rattle.smt_syntax.specs.declared.span.Span.{Span}
 use Rattle.smt_syntax.specs.declared.parts.CutStep.{CutStep}
-use Rattle.smt_syntax.specs.Sexps.{Sign, open_paren, close_paren, word, Sexp, Sexps, none, more, spelling, spellings}
+use Rattle.smt_syntax.specs.Sexps.{Sign, open_paren, close_paren, word, Sexp, Sexps, none, more, spelling}
 
 abbrev pub span : ℕ → ℕ → Span
 span start end = record { start = start; end = end }

@@ -1,6 +1,6 @@
 // How deep parentheses nest.
 
-ghost use Rattle.std.specs.Prelude.{◌≡◌, ◌+◌, ◌<◌, ◌^◌, ℕ, List, IsTrue, ◌↔◌};
+ghost use Rattle.std.specs.Prelude.{◌≡◌, ◌+◌, ◌<◌, ◌^◌, ℕ, List, nat_lt};
 ghost use Rattle.smt_syntax.specs.Sexps.{sign_by, signs_in};
 ghost use Rattle.smt_syntax.specs.Depth.{most_open, most_depth, open_after};
 
@@ -36,7 +36,7 @@ fn most_open(tokens: &[Token<'_>]) -> usize
 
 /// Whether more parentheses are open at once than may be.
 pub fn is_too_deep(tokens: &[Token<'_>]) -> bool
-    ensures { IsTrue result ↔ (most_depth < most_open 0 (signs_in tokens.now)) }
+    ensures { result ≡ nat_lt most_depth (most_open 0 (signs_in tokens.now)) }
 {
-    most_open(tokens) > MOST_DEPTH
+    MOST_DEPTH < most_open(tokens)
 }

@@ -7,7 +7,10 @@
 //! them for readers of their own. The crate stands on `smt_text`.
 #![tactic(auto)]
 
+pub mod command;
 pub mod depth;
+pub mod form;
+pub mod judge;
 pub mod parts;
 pub mod shape;
 pub mod span;

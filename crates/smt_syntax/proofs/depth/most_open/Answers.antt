@@ -1,4 +1,4 @@
-use Rattle.smt_syntax.proofs.Depths.{counted_none, counted_more, counted_all}
+use Rattle.smt_syntax.proofs.Depths.{counted_more, counted_all}
 use Rattle.smt_syntax.proofs.depth.most_open.Goals as goal
 
 pub loop-token-preserved : goal.loop-token-preserved
