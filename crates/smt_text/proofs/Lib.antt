@@ -6,3 +6,4 @@ pub mod Driver
 pub mod Rows
 pub mod Strings
 pub mod Spelled
+mod Readings

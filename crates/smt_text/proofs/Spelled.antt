@@ -1,5 +1,5 @@
 -- The loop over the tokens of a text.
-use Rattle.std.proofs.Common.{◌≡◌, ℕ, ◌+◌, ◌-◌, ◌<◌, ◌≤◌, List, [], ◌∷◌, ◌++◌, length, take, drop, map, refl, ap, sym, ◌∙◌, subst, arith, Option, Some, None, Result, Ok, Err}
+use Rattle.std.proofs.Common.{◌≡◌, ℕ, ◌+◌, ◌-◌, ◌≤◌, List, [], ◌∷◌, ◌++◌, length, take, drop, refl, ap, sym, ◌∙◌, subst, arith, Some, None, Ok, Err}
 use Rattle.std.proofs.lemmas.List.{drop-drop, map-append, length-drop}
 use Rattle.smt_text.specs.Lexicon.{Lexeme, First, first_token, lexeme_of, lexemes_of}
 use Rattle.smt_text.specs.Tokens.{Spells, AreTokens, IsBadAt}

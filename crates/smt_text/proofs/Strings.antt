@@ -11,7 +11,7 @@ shift i k (Some n) = ap Some (omega arith)
 other_byte : (b k : ℕ) → b ≢ k → eqb b k ≡ false
 other_byte b k h = search (rules, tests)
 
-end_other : (b : ℕ) (bs : List ℕ) → eqb b 34 ≡ false → string_end (b ∷ bs) ≡ option_map (λ n. n + 1) (string_end bs)
+pub end_other : (b : ℕ) (bs : List ℕ) → eqb b 34 ≡ false → string_end (b ∷ bs) ≡ option_map (λ n. n + 1) (string_end bs)
 unfolding string_end
 end_other b [] e = rw e refl
 end_other b (c ∷ bs) e = rw e refl

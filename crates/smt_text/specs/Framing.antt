@@ -4,7 +4,6 @@ use Rattle.std.specs.Option.{option_map}
 use Rattle.smt_text.specs.Search.{Passes}
 use Rattle.smt_text.specs.Chunks.{begins, comment_after, beginning, closes, inside_after, ends_stray, first_cut}
 use Rattle.smt_text.specs.declared.place.Place.TheVariants.{Plain}
-use Rattle.smt_text.specs.declared.chunk.ChunkKind.{ChunkKind}
 use Rattle.smt_text.specs.declared.chunk.ChunkKind.TheVariants.{Stray, Unfinished}
 use Rattle.smt_text.specs.declared.chunk.Cut.{Cut}
 use Rattle.smt_text.specs.declared.chunk.Chunk.{Chunk}

@@ -11,7 +11,10 @@ mod find;
 pub mod framer;
 mod lexicon;
 mod place;
+pub mod print;
 mod scan;
+#[cfg(test)]
+mod tests;
 pub mod text;
 pub mod token;
 pub mod tokens;

@@ -1,0 +1,10 @@
+pub mod Sexps
+pub mod Walk
+pub mod Depth
+pub mod Spans
+pub mod Shapes
+pub mod ShapeReader
+pub mod Forms
+pub mod Judging
+pub mod Commands
+pub mod Names
