@@ -1,0 +1,5 @@
+pub mod Chains
+pub mod Trails
+pub mod Passes
+pub mod Marks
+pub mod Searches
