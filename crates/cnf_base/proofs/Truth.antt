@@ -14,7 +14,7 @@ negated_cases false false = refl
 pub lit_true-negated : (v : ℕ → Bool) (l : Literal) → lit_true v (negated l) ≡ not (lit_true v l)
 lit_true-negated v l = negated_cases l.positive (v l.variable)
 
-and_assoc : (a b c : Bool) → (a && (b && c)) ≡ ((a && b) && c)
+pub and_assoc : (a b c : Bool) → (a && (b && c)) ≡ ((a && b) && c)
 and_assoc true b c = refl
 and_assoc false b c = refl
 

@@ -7,8 +7,19 @@
 //! meaning. The crate stands on `std` alone, and the crates above share its definitions of truth.
 #![tactic(auto)]
 
+mod adder;
+mod choice;
+mod circuit;
 mod clause;
+mod gate;
+mod laws;
 mod lit;
 
+pub use circuit::Circuit;
 pub use clause::{Clause, ClauseId, Pos};
+pub use gate::GateKind;
+pub use laws::{agreement_keeps_truth, gains_mean, gates_are_determined, gates_mean};
 pub use lit::Lit;
+
+#[cfg(test)]
+mod tests;
