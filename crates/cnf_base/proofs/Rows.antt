@@ -1,6 +1,7 @@
 -- Rows of literals, place by place.
-use Rattle.std.proofs.Common.{◌≡◌, ℕ, zero, suc, ◌+◌, ◌<◌, List, [], ◌∷◌, ◌++◌, append_assoc, length, get_or, drop, refl, ap, ◌∙◌, sym, arith}
+use Rattle.std.proofs.Common.{◌≡◌, ℕ, zero, suc, ◌+◌, ◌<◌, List, [], ◌∷◌, ◌++◌, append_assoc, length, get_or, take, drop, refl, ap, ◌∙◌, sym, arith}
 use Rattle.std.proofs.Math.Seq.{drop-cons}
+use Rattle.std.proofs.lemmas.List.{take_more}
 use Rattle.cnf_base.specs.Literals.{Literal, positive_of}
 use Rattle.cnf_base.specs.Assignments.{fresh_bits}
 
@@ -9,6 +10,10 @@ pub drop_at : {A : Type 0} (l : List A) (k : ℕ) (x : A) → k < length l → x
 drop_at l k x h e =
     let next : suc k ≡ k + 1 = omega arith in
     drop-cons l k x h ∙ ap (λ y. y ∷ drop (suc k) l) (sym e) ∙ ap (λ n. x ∷ drop n l) next
+
+-- the places before k + 1, where the one at k was read
+pub take_at : {A : Type 0} (l : List A) (k : ℕ) (x : A) → k < length l → x ≡ get_or l k x → take (k + 1) l ≡ take k l ++ x ∷ []
+take_at l k x h e = take_more l k x h ∙ ap (λ y. take k l ++ y ∷ []) (sym e)
 
 pub length-fresh_bits : (n g : ℕ) → length (fresh_bits g n) ≡ n
 length-fresh_bits zero g = refl

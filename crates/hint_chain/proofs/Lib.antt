@@ -1,0 +1,6 @@
+mod Shapes
+mod Marking
+mod Hints
+pub mod Sound
+pub mod Exact
+pub mod Growing
