@@ -8,12 +8,9 @@ use Rattle.plain_search.specs.declared.Held.{Held}
 use Rattle.plain_search.specs.declared.entry.Entry.{Entry}
 use Rattle.plain_search.specs.declared.entry.Reason.{Reason}
 use Rattle.plain_search.specs.declared.entry.Reason.TheVariants.{Given, Forced, Decided}
-use Rattle.plain_search.specs.Chains.{IsFalse}
-use Rattle.plain_search.specs.Trails.{literals_of, IsForcedBy, AreReasoned, AllAssumed, OnlyGiven}
+use Rattle.hint_chain.specs.Chains.{IsFalse}
+use Rattle.plain_search.specs.Trails.{given_entry, literals_of, IsForcedBy, AreReasoned, AllAssumed, OnlyGiven}
 use Rattle.plain_search.specs.Searches.{IsAssumed, IsClash}
-
-abbrev pub given_entry : Literal → Entry
-given_entry l = record { literal = l; level = 0; reason = Given }
 
 entry-at : (entries : List Entry) (k : ℕ) (l : Literal) → k < length (literals_of entries) → get_or (literals_of entries) k l ≡ l → (e : Entry) × Contains entries e × (e.literal ≡ l)
 entry-at [] k l within is = absurd (omega arith)

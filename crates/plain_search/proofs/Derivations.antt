@@ -9,7 +9,7 @@ use Rattle.cnf_base.specs.declared.clause.ClauseId.{ClauseId}
 use Rattle.cnf_base.proofs.Codes.{negated-negated}
 use Rattle.plain_search.specs.declared.Held.{Held}
 use Rattle.plain_search.specs.declared.entry.Entry.{Entry}
-use Rattle.plain_search.specs.Chains.{IsFalse, IsFalseClause, IsUnit, HasPair, Lookup, ChainFrom, IsChain}
+use Rattle.hint_chain.specs.Chains.{IsFalse, IsFalseClause, IsUnit, HasPair, Lookup, ChainFrom, IsChain}
 use Rattle.plain_search.specs.Trails.{literals_of, IsConsistent, Forces}
 use Rattle.plain_search.specs.Searches.{Knows}
 use Rattle.plain_search.specs.Marks.{IsMarked, AddsMarks}

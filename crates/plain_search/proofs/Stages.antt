@@ -3,7 +3,7 @@ use Rattle.std.proofs.Common.{◌≡◌, ℕ, suc, zero, ◌+◌, ◌<◌, Bool,
 use Rattle.std.specs.Prelude.{All, Contains, slice_get}
 use Rattle.std.proofs.lemmas.Option.{slice_get-get_or, slice_get_within, get_or_from_slice_get}
 use Rattle.std.proofs.lemmas.List.{append-nil, append_assoc, take_at, get_or_append_left, length-append}
-use Rattle.std.proofs.lemmas.List.Elements.{All-nil, All-cons, All-append, All-push, All-weaker, All-contains, Contains-append_left, Contains-append_cases}
+use Rattle.std.proofs.lemmas.List.Elements.{All-from_recursion, All-nil, All-cons, All-append, All-push, All-weaker, All-contains, Contains-append_left, Contains-append_cases}
 use Rattle.cnf_base.specs.Literals.{Literal}
 use Rattle.cnf_base.specs.Clauses.{lit_true, clause_true}
 use Rattle.plain_search.specs.declared.Held.{Held}
@@ -14,8 +14,9 @@ use Rattle.plain_search.specs.declared.Verdict.TheVariants.{Refuted}
 use Rattle.plain_search.specs.declared.entry.Entry.{Entry}
 use Rattle.plain_search.specs.declared.entry.Reason.{Reason}
 use Rattle.plain_search.specs.declared.entry.Reason.TheVariants.{Given, Forced, Decided}
-use Rattle.plain_search.specs.Chains.{Lookup, IsChain}
-use Rattle.plain_search.specs.Trails.{literals_of, IsForcedBy, AreReasoned, AllAssumed, OnlyGiven, AreBelow, AreHeldBelow, AllDecided, IsBackTo}
+use Rattle.hint_chain.specs.Chains.{Lookup, IsChain}
+use Rattle.cnf_base.specs.Assignments.{AreBelow}
+use Rattle.plain_search.specs.Trails.{decided_entry, literals_of, IsForcedBy, AreReasoned, AllAssumed, OnlyGiven, AreHeldBelow, AllDecided, IsBackTo}
 use Rattle.plain_search.specs.Passes.{IsResting, IsGrown}
 use Rattle.plain_search.specs.Searches.{Knows, learnt_row, named, IsLearnt, AreChains, AreChainsBelow, assignment, IsModel, IsAgainst, IsVerdict, IsOutcome, IsAssumed, IsClash}
 use Rattle.plain_search.proofs.Lists.{each_after-nil, each_after-push, each_after-take, each_after-weaker, Contains-map}
@@ -63,9 +64,6 @@ stage-grown held given from variables rows chains entries new s reasoned g = rec
       (All-weaker (λ e. (row : ℕ) × (e.reason ≡ Forced row)) (λ e. e.reason ≡ Given → Contains given e.literal) (λ e f r. let q : ⊥ = cc (f.1, r) in absurd q) g.added g.forced));
   all = rw g.split (all-assumed-more given entries g.added s.all);
 }
-
-abbrev pub decided_entry : Literal → ℕ → Entry
-decided_entry l level = record { literal = l; level = level; reason = Decided }
 
 pub stage-decided : (held : List Held) (given : List Literal) (from variables : ℕ) (rows : List Held) (chains : List Chain) (entries new : List Entry) (l : Literal) (level : ℕ) → IsStage held given from variables rows chains entries → new ≡ entries ++ decided_entry l level ∷ [] → IsStage held given from variables rows chains new
 stage-decided held given from variables rows chains entries new l level s is = record {
@@ -149,7 +147,7 @@ stage-model held given from variables rows chains entries values s rest decided 
     true_rows k d within =
         let h = get_or rows k d in
         let r = rest k d within in
-        let below : r.literal.variable < variables = All-contains (λ l. l.variable < variables) h.clause r.literal (s.below k d within) r.among in
+        let below : r.literal.variable < variables = All-contains (λ l. l.variable < variables) h.clause r.literal (All-from_recursion (λ l. l.variable < variables) h.clause (s.below k d within)) r.among in
         let on : Contains (literals_of entries) r.literal = ⊎_elim (λ c. c) (λ f. absurd (r.not_false f)) (decided r.literal r.from_one below) in
         true-at (assignment values) h.clause r.literal r.among.0 r.among.1 r.among.2 (at_literal r.literal on)
 

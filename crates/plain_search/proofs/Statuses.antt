@@ -8,8 +8,8 @@ use Rattle.cnf_base.specs.Literals.{Literal}
 use Rattle.plain_search.specs.declared.Held.{Held}
 use Rattle.plain_search.specs.declared.entry.Entry.{Entry}
 use Rattle.plain_search.specs.declared.entry.Reason.TheVariants.{Forced}
-use Rattle.plain_search.specs.Chains.{IsFalse, IsFalseClause}
-use Rattle.plain_search.specs.Trails.{literals_of, IsOpen, Forces, IsForcedBy, AreReasoned}
+use Rattle.hint_chain.specs.Chains.{IsFalse, IsFalseClause}
+use Rattle.plain_search.specs.Trails.{forced_entry, literals_of, IsOpen, Forces, IsForcedBy, AreReasoned}
 use Rattle.plain_search.specs.Passes.{IsResting, IsGrown}
 use Rattle.plain_search.proofs.Lists.{each_after-push}
 
@@ -47,9 +47,6 @@ so_far-again trues clause i d l within s e = rw (take_more clause i d within) (
     others = All-push (λ k. (k ≡ l) ⊎ IsFalse trues k) (take i clause) (get_or clause i d) s.1.others (inl (sym e));
   },
 )
-
-abbrev pub forced_entry : Literal → ℕ → ℕ → Entry
-forced_entry l level row = record { literal = l; level = level; reason = Forced row }
 
 pub reasoned-force : (rows : List Held) (old new : List Entry) (l : Literal) (level row : ℕ) (h : Held) → AreReasoned rows old → new ≡ old ++ forced_entry l level row ∷ [] → slice_get rows row ≡ Some h → Forces (literals_of old) h.clause l → AreReasoned rows new
 reasoned-force rows old new l level row h before e at forces =

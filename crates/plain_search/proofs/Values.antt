@@ -8,11 +8,12 @@ use Rattle.std.specs.Option.{option_map_or}
 use mathlib.Core.Bool.{beq}
 use Rattle.cnf_base.specs.Clauses.{lit_true}
 use Rattle.std.proofs.lemmas.List.{append-nil, append_assoc, take_all, take_more, map_push, take_at, length_push, get_or_push, get_or-drop}
-use Rattle.std.proofs.lemmas.List.Elements.{All-nil, All-cons, All-map, Contains-get_or, Contains-append_left, Contains-push, Contains-push_cases}
+use Rattle.std.proofs.lemmas.List.Elements.{recursion_from_All, All-nil, All-cons, All-map, Contains-get_or, Contains-append_left, Contains-push, Contains-push_cases}
 use Rattle.cnf_base.specs.Literals.{Literal, negated}
 use Rattle.plain_search.specs.declared.entry.Entry.{Entry}
-use Rattle.plain_search.specs.Chains.{IsFalse}
-use Rattle.plain_search.specs.Trails.{literals_of, AreBelow, IsOpen, HasValue, IsConsistent, level_of, IsBackTo, AllDecided, EachAfter, IsSet, IsNext, IsTrail}
+use Rattle.hint_chain.specs.Chains.{IsFalse}
+use Rattle.cnf_base.specs.Assignments.{AreBelow}
+use Rattle.plain_search.specs.Trails.{literals_of, IsOpen, HasValue, IsConsistent, level_of, IsBackTo, AllDecided, EachAfter, IsSet, IsNext, IsTrail}
 use Rattle.plain_search.specs.Searches.{assignment}
 use Rattle.plain_search.proofs.Lists.{Contains-map, each_after-nil, each_after-push, each_after-take, slice_get-set_same, slice_get-set_other}
 
@@ -215,6 +216,6 @@ is_not_none None e n = cc
 is_not_none (Some b) e n = cc
 
 pub trail-below : (values : List (Option Bool)) (entries : List Entry) → IsTrail values entries → AreBelow (length values) (literals_of entries)
-trail-below values entries t k d h =
+trail-below values entries t = recursion_from_All (λ l. l.variable < length values) (literals_of entries) (λ k d h.
     let l = get_or (literals_of entries) k d in
-    slice_get_within values l.variable (Some l.positive) ((t.agrees l).1 (Contains-get_or (literals_of entries) k d h))
+    slice_get_within values l.variable (Some l.positive) ((t.agrees l).1 (Contains-get_or (literals_of entries) k d h)))

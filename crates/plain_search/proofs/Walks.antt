@@ -3,7 +3,7 @@ use Rattle.std.proofs.Common.{◌≡◌, ℕ, ◌+◌, ◌-◌, ◌<◌, ◌≤�
 use Rattle.std.specs.Prelude.{◌⊎◌, Contains, slice_get, reverse}
 use Rattle.std.proofs.lemmas.Option.{get_or_from_slice_get}
 use Rattle.std.proofs.lemmas.List.{take_all, reverse-append}
-use Rattle.std.proofs.lemmas.List.Elements.{All-nil, All-push, All-weaker, All-contains}
+use Rattle.std.proofs.lemmas.List.Elements.{All-from_recursion, recursion_from_All, All-nil, All-push, All-weaker, All-contains}
 use Rattle.cnf_base.specs.Literals.{Literal, negated}
 use Rattle.cnf_base.specs.declared.clause.ClauseId.{ClauseId}
 use Rattle.cnf_base.proofs.Codes.{negated-negated}
@@ -11,8 +11,9 @@ use Rattle.plain_search.specs.declared.Held.{Held}
 use Rattle.plain_search.specs.declared.entry.Entry.{Entry}
 use Rattle.plain_search.specs.declared.entry.Reason.{Reason}
 use Rattle.plain_search.specs.declared.entry.Reason.TheVariants.{Given, Forced}
-use Rattle.plain_search.specs.Chains.{IsFalse, IsFalseClause, Lookup, IsChain}
-use Rattle.plain_search.specs.Trails.{literals_of, IsConsistent, Forces, IsForcedBy, AreReasoned, OnlyGiven, AreBelow}
+use Rattle.hint_chain.specs.Chains.{IsFalse, IsFalseClause, Lookup, IsChain}
+use Rattle.cnf_base.specs.Assignments.{AreBelow}
+use Rattle.plain_search.specs.Trails.{literals_of, IsConsistent, Forces, IsForcedBy, AreReasoned, OnlyGiven}
 use Rattle.plain_search.specs.Searches.{Knows, IsAgainst}
 use Rattle.plain_search.specs.Marks.{IsMarked, AddsMarks}
 use Rattle.plain_search.proofs.Lists.{Contains-map}
@@ -53,7 +54,7 @@ module _ (rows : List Held) (entries : List Entry) (variables i : ℕ) (marks : 
   on_trail = Contains-map (λ x. x.literal) entries e (i - 1, within, sym read)
 
   pub entry-below : AreBelow variables (literals_of entries) → e.literal.variable < length marks
-  entry-below below = rw visited.size (All-contains (λ l. l.variable < variables) (literals_of entries) e.literal below on_trail)
+  entry-below below = rw visited.size (All-contains (λ l. l.variable < variables) (literals_of entries) e.literal (All-from_recursion (λ l. l.variable < variables) (literals_of entries) below) on_trail)
 
   pub forced-at : (row : ℕ) → AreReasoned rows entries → e.reason ≡ Forced row → (h : Held) × (slice_get rows row ≡ Some h) × Forces (literals_of (take (i - 1) entries)) h.clause e.literal
   forced-at row reasoned reason =
@@ -116,7 +117,9 @@ walk-chain rows entries variables marks literals hints levels consistent walk = 
 
 -- opposites have the same variables
 pub opposites-below : (variables : ℕ) (trues literals : List Literal) → AreBelow variables trues → IsFalseClause trues literals → AreBelow variables literals
-opposites-below variables trues literals below off = All-weaker (IsFalse trues) (λ l. l.variable < variables) (λ l f. All-contains (λ k. k.variable < variables) trues (negated l) below f) literals off
+opposites-below variables trues literals below off =
+    let all = All-from_recursion (λ l. l.variable < variables) trues below in
+    recursion_from_All (λ l. l.variable < variables) literals (All-weaker (IsFalse trues) (λ l. l.variable < variables) (λ l f. All-contains (λ k. k.variable < variables) trues (negated l) all f) literals off)
 
 pub same-row : (rows : List Held) (row : ℕ) (h d : Held) → slice_get rows row ≡ Some h → d ≡ get_or rows row d → d ≡ h
 same-row rows row h d at read = read ∙ get_or_from_slice_get rows row h d at

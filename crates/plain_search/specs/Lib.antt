@@ -1,4 +1,3 @@
-pub mod Chains
 pub mod Trails
 pub mod Passes
 pub mod Marks

@@ -8,7 +8,7 @@ use Rattle.plain_search.specs.declared.propagation.Status.{Status}
 use Rattle.plain_search.specs.declared.propagation.Status.TheVariants.{AllFalse, OneOpen, Resting}
 use Rattle.plain_search.specs.declared.propagation.Pass.{Pass}
 use Rattle.plain_search.specs.declared.propagation.Pass.TheVariants.{Conflict, Grown, Quiet}
-use Rattle.plain_search.specs.Chains.{IsFalse, IsFalseClause}
+use Rattle.hint_chain.specs.Chains.{IsFalse, IsFalseClause}
 use Rattle.plain_search.specs.Trails.{IsOpen, Forces}
 
 -- some literal is not false

@@ -7,10 +7,11 @@ use Rattle.plain_search.specs.declared.Chain.{Chain}
 use Rattle.plain_search.specs.declared.Outcome.{Outcome}
 use Rattle.plain_search.specs.declared.Verdict.{Verdict}
 use Rattle.plain_search.specs.declared.Verdict.TheVariants.{Model, Refuted}
-use Rattle.plain_search.specs.Chains.{Lookup, IsChain, HasPair}
+use Rattle.hint_chain.specs.Chains.{Lookup, IsChain, HasPair}
 use Rattle.plain_search.specs.declared.entry.Entry.{Entry}
 use Rattle.plain_search.specs.declared.entry.Reason.TheVariants.{Given}
-use Rattle.plain_search.specs.Trails.{EachAfter, AreBelow, AllAssumed, OnlyGiven}
+use Rattle.cnf_base.specs.Assignments.{AreBelow}
+use Rattle.plain_search.specs.Trails.{EachAfter, AllAssumed, OnlyGiven}
 
 -- the look-up finds each of these clauses under its name
 abbrev pub Knows : Lookup → List Held → Type 0

@@ -2,11 +2,12 @@
 use Rattle.std.specs.Prelude.{◌≡◌, ◌⊎◌, ℕ, ◌<◌, ◌≤◌, ◌+◌, ◌-◌, ◌++◌, Bool, true, false, List, Option, Some, None, All, Contains, map, length, take, slice_get, slice_index_or}
 use Rattle.std.specs.Option.{option_map_or}
 use Rattle.cnf_base.specs.Literals.{Literal}
+use Rattle.cnf_base.specs.Assignments.{AreBelow}
 use Rattle.plain_search.specs.declared.Held.{Held}
 use Rattle.plain_search.specs.declared.entry.Entry.{Entry}
 use Rattle.plain_search.specs.declared.entry.Reason.{Reason}
 use Rattle.plain_search.specs.declared.entry.Reason.TheVariants.{Given, Decided, Forced}
-use Rattle.plain_search.specs.Chains.{IsFalse}
+use Rattle.hint_chain.specs.Chains.{IsFalse}
 
 -- what contracts see of a trail: its entries, and the bound below which its variables are
 pub record TrailView : Type 0 where
@@ -52,13 +53,21 @@ AreReasoned rows entries = EachAfter (λ before e. IsForcedBy rows (literals_of 
 abbrev pub OnlyGiven : List Literal → List Entry → Type 0
 OnlyGiven given entries = All (λ e. e.reason ≡ Given → Contains given e.literal) entries
 
+-- the entries of a literal that is given, decided, or forced by the clause of a row
+abbrev pub given_entry : Literal → Entry
+given_entry l = record { literal = l; level = 0; reason = Given }
+
+abbrev pub decided_entry : Literal → ℕ → Entry
+decided_entry l level = record { literal = l; level = level; reason = Decided }
+
+abbrev pub forced_entry : Literal → ℕ → ℕ → Entry
+forced_entry l level row = record { literal = l; level = level; reason = Forced row }
+
 -- each given literal is true from level 0 on
 abbrev pub AllAssumed : List Literal → List Entry → Type 0
 AllAssumed given entries = All (λ l. (e : Entry) × Contains entries e × (e.literal ≡ l) × (e.level ≡ 0)) given
 
-abbrev pub AreBelow : ℕ → List Literal → Type 0
-AreBelow variables clause = All (λ l. l.variable < variables) clause
-
+-- each clause is of variables below this number
 abbrev pub AreHeldBelow : ℕ → List Held → Type 0
 AreHeldBelow variables rows = All (λ h. AreBelow variables h.clause) rows
 

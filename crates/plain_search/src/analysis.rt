@@ -2,8 +2,9 @@
 
 ghost use Rattle.std.specs.Prelude.{◌≡◌, ◌<◌, ◌↔◌, ℕ, [], ◌∷◌, ◌++◌, List, IsTrue, IfOk, OnOk, length};
 ghost use Rattle.cnf_base.specs.Literals.{Literal, negated};
-ghost use Rattle.plain_search.specs.Chains.{Lookup, IsChain, IsFalseClause};
-ghost use Rattle.plain_search.specs.Trails.{literals_of, AreBelow, AreHeldBelow, AreReasoned, OnlyGiven};
+ghost use Rattle.hint_chain.specs.Chains.{Lookup, IsChain, IsFalseClause};
+ghost use Rattle.cnf_base.specs.Assignments.{AreBelow};
+ghost use Rattle.plain_search.specs.Trails.{literals_of, AreHeldBelow, AreReasoned, OnlyGiven};
 ghost use Rattle.plain_search.specs.Passes.{IsConflict};
 ghost use Rattle.plain_search.specs.Searches.{Knows, IsAgainst};
 ghost use Rattle.plain_search.specs.Marks.{IsMarked, AddsMarks};
@@ -82,9 +83,11 @@ pub(crate) fn analyze(
     requires below { AreHeldBelow trail.now.variables rows.now }
     requires reasoned { AreReasoned rows.now trail.now.entries }
     requires conflict { IsConflict rows.now (literals_of trail.now.entries) conflict }
-    ensures chain { IfOk result (λ r. (look : Lookup) → Knows look rows.now → IsChain look r.chain.clause r.chain.hints.items) }
+    ensures chain { IfOk result (λ r. (look : Lookup) → Knows look rows.now →
+        IsChain look r.chain.clause r.chain.hints.items) }
     ensures below { IfOk result (λ r. AreBelow trail.now.variables r.chain.clause) }
-    ensures given { IfOk result (λ r. (given : List Literal) → OnlyGiven given trail.now.entries → r.levels.items ≡ [] → IsAgainst given r.chain.clause) }
+    ensures given { IfOk result (λ r. (given : List Literal) → OnlyGiven given trail.now.entries →
+        r.levels.items ≡ [] → IsAgainst given r.chain.clause) }
 {
     let mut analysis = Analysis::new(alloc, trail.variables())?;
     analysis.resolve(&rows[conflict])?;

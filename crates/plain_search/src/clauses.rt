@@ -20,7 +20,8 @@ impl Clauses {
     /// Adds a learnt clause under the next name.
     pub(crate) fn learn(&mut self, alloc: Global, chain: Chain) -> Result<(), AllocError>
         requires { self.old.from + length self.old.chains.items < 2 ^ 63 }
-        ensures rows { OnOk result (self.new.rows.items ≡ self.old.rows.items ++ learnt_row (self.old.from + length self.old.chains.items) chain ∷ []) }
+        ensures rows { OnOk result (self.new.rows.items ≡ self.old.rows.items
+            ++ learnt_row (self.old.from + length self.old.chains.items) chain ∷ []) }
         ensures chains { OnOk result (self.new.chains.items ≡ self.old.chains.items ++ chain ∷ []) }
         ensures from { self.new.from ≡ self.old.from }
     {

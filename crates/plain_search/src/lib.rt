@@ -25,7 +25,8 @@ mod propagation;
 mod trail;
 
 ghost use Rattle.std.specs.Prelude.{◌≡◌, ◌<◌, ◌≤◌, ◌^◌, [], List, IfOk, OnOk, MatchOption};
-ghost use Rattle.plain_search.specs.Trails.{AreBelow, AreHeldBelow};
+ghost use Rattle.cnf_base.specs.Assignments.{AreBelow};
+ghost use Rattle.plain_search.specs.Trails.{AreHeldBelow};
 ghost use Rattle.plain_search.specs.Searches.{IsOutcome, IsAssumed, IsClash};
 
 use analysis::analyze;
@@ -74,7 +75,8 @@ fn assume(alloc: Global, trail: &mut Trail, given: &[Lit]) -> Result<Option<Clau
     requires below { AreBelow trail.old.variables given.now }
     requires empty { trail.old.entries ≡ [] }
     ensures variables { OnOk result (trail.new.variables ≡ trail.old.variables) }
-    ensures assumed { IfOk result (λ clash. MatchOption clash (IsAssumed given.now trail.new.entries) (IsClash given.now)) }
+    ensures assumed { IfOk result (λ clash.
+        MatchOption clash (IsAssumed given.now trail.new.entries) (IsClash given.now)) }
 {
     for literal in given {
         match trail.value(*literal) {
@@ -86,8 +88,11 @@ fn assume(alloc: Global, trail: &mut Trail, given: &[Lit]) -> Result<Option<Clau
     Ok(None)
 }
 
-/// An assignment under which every held clause and each given literal is true, or learnt clauses of which the last one has
-/// only opposites of given literals.
+/// Finds an assignment under which every held clause and each given literal is true, or learnt clauses
+/// the last of which has only opposites of given literals.
+///
+/// Each held clause has a name of its own at a position below `from`, and learnt clause `k` gets the name
+/// of position `from + k` and part 0. Every variable is below `variables`. The one error is want of memory.
 pub fn search(
     alloc: Global,
     held: Vec<Held>,
@@ -147,3 +152,6 @@ fn refuted(clauses: Clauses) -> Outcome
         verdict: Verdict::Refuted,
     }
 }
+
+#[cfg(test)]
+mod tests;

@@ -1,7 +1,8 @@
 //! Unit propagation in passes over all clauses.
 
 ghost use Rattle.std.specs.Prelude.{◌≡◌, ◌<◌, ◌++◌, ◌∷◌, [], List, All, IfOk, OnOk, length};
-ghost use Rattle.plain_search.specs.Trails.{literals_of, AreBelow, AreHeldBelow, AreReasoned};
+ghost use Rattle.cnf_base.specs.Assignments.{AreBelow};
+ghost use Rattle.plain_search.specs.Trails.{literals_of, AreHeldBelow, AreReasoned};
 ghost use Rattle.plain_search.specs.Passes.{HasStatus, IsPass, IsGrown};
 
 use crate::Held;

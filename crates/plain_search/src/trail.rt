@@ -4,7 +4,8 @@ ghost use Rattle.std.specs.Prelude.{◌≡◌, ◌<◌, ◌≤◌, ◌^◌, ℕ,
 ghost use Rattle.cnf_base.specs.Literals.{Literal, negative_of};
 ghost use Rattle.cnf_base.specs.Clauses.{lit_true};
 ghost use Rattle.plain_search.specs.declared.entry.Entry.{Entry};
-ghost use Rattle.plain_search.specs.Trails.{literals_of, AreBelow, IsOpen, HasValue, IsConsistent, level_of, IsBackTo, AllDecided};
+ghost use Rattle.cnf_base.specs.Assignments.{AreBelow};
+ghost use Rattle.plain_search.specs.Trails.{literals_of, given_entry, decided_entry, forced_entry, IsOpen, HasValue, IsConsistent, level_of, IsBackTo, AllDecided};
 ghost use Rattle.plain_search.specs.Searches.{assignment};
 
 use crate::entry::{Entry, Reason};
@@ -98,7 +99,7 @@ impl Trail {
     pub(crate) fn assume(&mut self, literal: Lit) -> Result<(), AllocError>
         requires within { literal.variable < self.old.variables }
         requires unset { IsOpen (literals_of self.old.entries) literal }
-        ensures entries { OnOk result (self.new.entries ≡ self.old.entries ++ record { literal = literal; level = 0; reason = Reason.Given } ∷ []) }
+        ensures entries { OnOk result (self.new.entries ≡ self.old.entries ++ given_entry literal ∷ []) }
         ensures variables { OnOk result (self.new.variables ≡ self.old.variables) }
     {
         self.push(Entry {
@@ -112,7 +113,8 @@ impl Trail {
     pub(crate) fn decide(&mut self, literal: Lit) -> Result<(), AllocError>
         requires within { literal.variable < self.old.variables }
         requires unset { IsOpen (literals_of self.old.entries) literal }
-        ensures entries { OnOk result ((level : ℕ) × (self.new.entries ≡ self.old.entries ++ record { literal = literal; level = level; reason = Reason.Decided } ∷ [])) }
+        ensures entries { OnOk result ((level : ℕ)
+            × (self.new.entries ≡ self.old.entries ++ decided_entry literal level ∷ [])) }
         ensures variables { OnOk result (self.new.variables ≡ self.old.variables) }
     {
         let level = self.level() + 1;
@@ -127,7 +129,8 @@ impl Trail {
     pub(crate) fn force(&mut self, literal: Lit, row: usize) -> Result<(), AllocError>
         requires within { literal.variable < self.old.variables }
         requires unset { IsOpen (literals_of self.old.entries) literal }
-        ensures entries { OnOk result ((level : ℕ) × (self.new.entries ≡ self.old.entries ++ record { literal = literal; level = level; reason = Reason.Forced row } ∷ [])) }
+        ensures entries { OnOk result ((level : ℕ)
+            × (self.new.entries ≡ self.old.entries ++ forced_entry literal level row ∷ [])) }
         ensures variables { OnOk result (self.new.variables ≡ self.old.variables) }
     {
         let level = self.level();
@@ -160,7 +163,9 @@ impl Trail {
 
     /// The first variable without a value.
     pub(crate) fn first_open(&self) -> Option<u64>
-        ensures { MatchOption result (AllDecided self.now.variables (literals_of self.now.entries)) (λ x. (0 < x) × (x < self.now.variables) × IsOpen (literals_of self.now.entries) (negative_of x)) }
+        ensures { let trues = literals_of self.now.entries in
+            MatchOption result (AllDecided self.now.variables trues)
+            (λ x. (0 < x) × (x < self.now.variables) × IsOpen trues (negative_of x)) }
     {
         for variable in 1..self.values.len() {
             if self.values[variable].is_none() {
@@ -172,7 +177,8 @@ impl Trail {
 
     /// The values of the variables from 1 on, those without one being false.
     pub(crate) fn assignment(&self, alloc: Global) -> Result<Vec<bool>, AllocError>
-        ensures { IfOk result (λ values. All (λ l. lit_true (assignment values.items) l ≡ true) (literals_of self.now.entries)) }
+        ensures { IfOk result (λ values.
+            All (λ l. lit_true (assignment values.items) l ≡ true) (literals_of self.now.entries)) }
     {
         truths(alloc, self.values.as_slice())
     }
@@ -180,7 +186,8 @@ impl Trail {
 
 // The values past the first one, those that are open being false.
 fn truths(alloc: Global, values: &[Option<bool>]) -> Result<Vec<bool>, AllocError>
-    ensures { IfOk result (λ truths. truths.items ≡ map (λ o. unwrap_or o false) (drop 1 values.now)) }
+    ensures { IfOk result (λ truths.
+        truths.items ≡ map (λ o. unwrap_or o false) (drop 1 values.now)) }
 {
     values
         .iter()

@@ -3,8 +3,9 @@ use Rattle.std.specs.Prelude.{All}
 use Rattle.std.proofs.lemmas.List.{length_push, nil_from_length}
 use Rattle.plain_search.specs.declared.Chain.{Chain}
 use Rattle.plain_search.specs.declared.propagation.Pass.TheVariants.{Quiet}
-use Rattle.plain_search.specs.Chains.{Lookup, IsChain}
-use Rattle.plain_search.specs.Trails.{literals_of, AreBelow, AreReasoned, AllDecided}
+use Rattle.hint_chain.specs.Chains.{Lookup, IsChain}
+use Rattle.cnf_base.specs.Assignments.{AreBelow}
+use Rattle.plain_search.specs.Trails.{literals_of, AreReasoned, AllDecided}
 use Rattle.plain_search.specs.Passes.{IsResting, IsPass}
 use Rattle.plain_search.specs.Searches.{Knows, learnt_row, IsClash}
 use Rattle.plain_search.proofs.Stages.{IsStage, stage-grown, stage-decided, stage-learnt, stage-back, stage-model, refuted-outcome, clash-outcome}

@@ -3,7 +3,8 @@ use Rattle.std.specs.Prelude.{slice_get}
 use Rattle.std.proofs.lemmas.Bool.{false≢true}
 use Rattle.std.proofs.lemmas.Option.{slice_get_within}
 use Rattle.cnf_base.specs.Literals.{Literal}
-use Rattle.plain_search.specs.Trails.{literals_of, AreBelow}
+use Rattle.cnf_base.specs.Assignments.{AreBelow}
+use Rattle.plain_search.specs.Trails.{literals_of}
 use Rattle.plain_search.proofs.Walks.{walk-start, walk-unmarked, walk-given, walk-decided, walk-forced, walk-chain, entry-below, forced-at, opposites-below, same-row}
 use Rattle.plain_search.proofs.analysis.analyze.Goals as goal
 

@@ -4,7 +4,7 @@ use Rattle.std.specs.Bool.{OnFalse}
 use Rattle.std.proofs.lemmas.List.{take_all}
 use Rattle.std.proofs.lemmas.Option.{slice_get-get_or}
 use Rattle.plain_search.specs.declared.Held.{Held}
-use Rattle.plain_search.specs.Chains.{IsFalseClause}
+use Rattle.hint_chain.specs.Chains.{IsFalseClause}
 use Rattle.plain_search.specs.Trails.{literals_of, IsOpen, Forces}
 use Rattle.plain_search.specs.Passes.{IsResting}
 use Rattle.plain_search.proofs.Statuses.{reasoned-force, grown-force, resting-more}

@@ -1,7 +1,7 @@
 use Rattle.std.proofs.Common.{◌≡◌, true, false, List, take, Some, None, rules, subst, sym, ◌∙◌}
 use Rattle.std.proofs.lemmas.List.{take_all}
 use Rattle.cnf_base.specs.Literals.{Literal}
-use Rattle.plain_search.specs.Chains.{IsFalseClause}
+use Rattle.hint_chain.specs.Chains.{IsFalseClause}
 use Rattle.plain_search.specs.Trails.{literals_of, HasValue}
 use Rattle.plain_search.proofs.Statuses.{IsSoFar, so_far-false, so_far-open, so_far-again}
 use Rattle.plain_search.proofs.propagation.status_of.Goals as goal

@@ -1,5 +1,6 @@
 use Rattle.std.proofs.Common.{subst}
-use Rattle.plain_search.specs.Trails.{TrailView, literals_of, IsConsistent, AreBelow}
+use Rattle.cnf_base.specs.Assignments.{AreBelow}
+use Rattle.plain_search.specs.Trails.{TrailView, literals_of, IsConsistent}
 use Rattle.plain_search.proofs.Values.{trail-consistent, trail-below}
 use Rattle.plain_search.proofs.trail.Trail.entries.Goals as goal
 
