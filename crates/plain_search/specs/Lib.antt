@@ -1,0 +1,4 @@
+pub mod Trails
+pub mod Passes
+pub mod Marks
+pub mod Searches
