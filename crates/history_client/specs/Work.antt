@@ -3,7 +3,6 @@ use Rattle.std.specs.Prelude.{◌≡◌, ℕ, ◌+◌, ◌<◌, List, [], ◌∷
 use Rattle.std.specs.Bool.{OnTrue}
 use Rattle.shared_history.specs.Known.{Story}
 use Rattle.history_client.specs.declared.law.Pool.{Pool}
-use Rattle.history_client.specs.declared.law.Event.{Event}
 use Rattle.history_client.specs.declared.worker.Task.{Task}
 use Rattle.history_client.specs.declared.worker.Worker.{Worker}
 use Rattle.history_client.specs.Pools.{notes}

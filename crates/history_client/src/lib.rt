@@ -6,9 +6,10 @@
 #![tactic(auto)]
 
 mod law;
+#[cfg(test)]
+mod tests;
 mod threads;
 mod worker;
-
 
 pub use law::{Call, Event, Pool, Reply, Tally};
 pub use threads::run;
