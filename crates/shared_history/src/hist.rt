@@ -146,7 +146,8 @@ impl<L: Law> Hist<L> {
     }
 
     /// All entries from the place up to which the pass has got them, those too that a `step` brought into what it has seen.
-    /// It takes one turn, in which it copies fewer entries than two pieces have. After `NoMemory` the pass is as before.
+    /// It takes one turn, in which it shares the frozen pieces and copies at most 256 entries. After `NoMemory` the pass
+    /// is as before.
     pub fn read<R: Wait>(
         &self,
         rt: &R,
