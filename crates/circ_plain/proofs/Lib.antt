@@ -1,0 +1,5 @@
+pub mod Bits
+pub mod Negating
+pub mod Comparing
+pub mod Powers
+pub mod Shifting
