@@ -3,3 +3,6 @@ pub mod Negating
 pub mod Comparing
 pub mod Powers
 pub mod Shifting
+pub mod Stages
+pub mod Joining
+pub mod Ordering
