@@ -5,3 +5,4 @@ pub mod Counting
 pub mod Building
 pub mod Places
 pub mod Assembling
+pub mod Ordering

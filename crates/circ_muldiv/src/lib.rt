@@ -1,36 +1,25 @@
-//! Circuits of products and quotients.
+//! Circuits of products, quotients, remainders and moduli over rows of bits.
+//!
+//! A row of bits is a slice of literals, the lowest bit first. Each call adds the gates of one operator
+//! of SMT-LIB's FixedSizeBitVectors or of its logic QF_BV to a circuit: long multiplication, restoring
+//! long division, and the signed operators by the absolute values. Its contract says which gates these
+//! are, as a function of the next variable, which bits are the result, and that in every assignment of
+//! the circuit's clauses in which variable 1 is true they are the operator's number, for a divisor that
+//! is 0 too. Where memory is wanting the circuit is as it was. The crate stands on the gates and adders
+//! of `cnf_base`, on negation and absolute value of `circ_plain` and on the number functions of
+//! `smt_words`.
 #![tactic(auto)]
 
+mod laws;
 mod products;
 mod quotients;
 mod rows;
 mod signed;
 
-ghost use Rattle.std.specs.Prelude.{◌≡◌, ◌<◌, ℕ, Bool, true, List, length};
-ghost use Rattle.cnf_base.specs.Literals.{Literal};
-ghost use Rattle.cnf_base.specs.Clauses.{number};
-ghost use Rattle.cnf_base.specs.Gates.{HaveMeaning};
-ghost use Rattle.circ_muldiv.specs.Products.{mul_gates, mul_bits};
-ghost use Rattle.circ_muldiv.specs.Quotients.{divide_gates, quotient_bits, remainder_bits};
-ghost use Rattle.circ_muldiv.specs.Signed.{sdiv_gates, sdiv_bits, srem_gates, srem_bits, smod_gates, smod_bits};
-ghost use Rattle.smt_words.specs.Words.{mul_of, udiv_of, urem_of, sdiv_of, srem_of, smod_of};
-
+pub use laws::{
+    bits_are_below, circuits_are_ordered, circuits_have_their_sizes, circuits_mean_their_numbers,
+    sizes_are_small,
+};
 pub use products::mul;
 pub use quotients::divide;
 pub use signed::{sdiv, smod, srem};
-
-/// Where each gate has its meaning, the bits of each circuit are those of the operator's value.
-pub fn circuits_mean_their_numbers()
-    ensures product { (v : ℕ → Bool) (g : ℕ) (a b : List Literal) → v 1 ≡ true → length a ≡ length b → HaveMeaning v g (mul_gates g a b) →
-        number v (mul_bits g a b) ≡ mul_of (length a) (number v a) (number v b) }
-    ensures quotient { (v : ℕ → Bool) (g : ℕ) (a b : List Literal) → v 1 ≡ true → length a ≡ length b → HaveMeaning v g (divide_gates g a b) →
-        number v (quotient_bits g a b) ≡ udiv_of (length a) (number v a) (number v b) }
-    ensures remainder { (v : ℕ → Bool) (g : ℕ) (a b : List Literal) → v 1 ≡ true → length a ≡ length b → HaveMeaning v g (divide_gates g a b) →
-        number v (remainder_bits g a b) ≡ urem_of (length a) (number v a) (number v b) }
-    ensures signed_quotient { (v : ℕ → Bool) (g : ℕ) (a b : List Literal) → v 1 ≡ true → 0 < length a → length a ≡ length b → HaveMeaning v g (sdiv_gates g a b) →
-        number v (sdiv_bits g a b) ≡ sdiv_of (length a) (number v a) (number v b) }
-    ensures signed_remainder { (v : ℕ → Bool) (g : ℕ) (a b : List Literal) → v 1 ≡ true → 0 < length a → length a ≡ length b → HaveMeaning v g (srem_gates g a b) →
-        number v (srem_bits g a b) ≡ srem_of (length a) (number v a) (number v b) }
-    ensures signed_modulus { (v : ℕ → Bool) (g : ℕ) (a b : List Literal) → v 1 ≡ true → 0 < length a → length a ≡ length b → HaveMeaning v g (smod_gates g a b) →
-        number v (smod_bits g a b) ≡ smod_of (length a) (number v a) (number v b) }
-{}

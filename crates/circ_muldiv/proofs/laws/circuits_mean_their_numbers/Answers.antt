@@ -1,7 +1,7 @@
 use Rattle.circ_muldiv.proofs.Multiplying.{mul_correct}
 use Rattle.circ_muldiv.proofs.Dividing.{divide_correct}
 use Rattle.circ_muldiv.proofs.Signs.{sdiv_correct, srem_correct, smod_correct}
-use Rattle.circ_muldiv.proofs.circuits_mean_their_numbers.Goals as goal
+use Rattle.circ_muldiv.proofs.laws.circuits_mean_their_numbers.Goals as goal
 
 pub returns-clause-product : goal.returns-clause-product
 returns-clause-product c = mul_correct
