@@ -1,1 +1,2 @@
 pub mod Wiring
+pub mod Bitwise

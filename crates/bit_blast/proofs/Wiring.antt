@@ -1,9 +1,9 @@
 -- Rows of wires, place by place.
 use Rattle.std.proofs.Common.{◌≡◌, ℕ, zero, suc, ◌+◌, ◌-◌, ◌/◌, ◌%◌, ◌<◌, ◌≤◌, List, [], ◌∷◌, ◌++◌, append_assoc, length, get_or, take, drop, refl, ap, ◌∙◌, sym, subst, arith}
-use Rattle.std.specs.Prelude.{◌==◌, if◌then◌else◌, map}
+use Rattle.std.specs.Prelude.{◌==◌, if◌then◌else◌, map, replicate}
 use Rattle.std.proofs.lemmas.List.{append-nil}
 use Rattle.cnf_base.specs.Literals.{Literal, true_literal, false_literal}
-use Rattle.bit_blast.specs.Blocks.{literal_bits, copies_of, top_of, repeated}
+use Rattle.bit_blast.specs.Blocks.{literal_bits, top_of, repeated}
 
 -- one place more was put before the rest
 pub pushed_row : {A : Type 0} (old new rest after whole : List A) (x : A) → new ≡ old ++ x ∷ [] → rest ≡ x ∷ after → old ++ rest ≡ whole → new ++ after ≡ whole
@@ -21,10 +21,10 @@ literal_bits-rest n k x l lt is =
     let e : n - k ≡ suc (n - (k + 1)) = omega arith in
     ap (λ m. literal_bits m x) e ∙ ap (λ b. b ∷ literal_bits (n - (k + 1)) (x / 2)) (sym is)
 
-pub copies_of-rest : (n k : ℕ) (l : Literal) → k < n → copies_of (n - k) l ≡ l ∷ copies_of (n - (k + 1)) l
-copies_of-rest n k l lt =
+pub replicate-rest : (n k : ℕ) (l : Literal) → k < n → replicate (n - k) l ≡ l ∷ replicate (n - (k + 1)) l
+replicate-rest n k l lt =
     let e : n - k ≡ suc (n - (k + 1)) = omega arith in
-    ap (λ m. copies_of m l) e
+    ap (λ m. replicate m l) e
 
 pub repeated-rest : (n k : ℕ) (a : List Literal) → k < n → repeated (n - k) a ≡ a ++ repeated (n - (k + 1)) a
 repeated-rest n k a lt =

@@ -1,5 +1,5 @@
 -- The circuit of each operator: its gates, and the bits of its result, the lowest first.
-use Rattle.std.specs.Prelude.{◌≡◌, ℕ, ◌≤◌, zero, suc, ◌+◌, ◌-◌, ◌*◌, ◌/◌, ◌%◌, ◌==◌, if◌then◌else◌, Bool, true, false, List, [], ◌∷◌, ◌++◌, Option, Some, None, map, length, take, drop}
+use Rattle.std.specs.Prelude.{◌≡◌, ℕ, ◌≤◌, zero, suc, ◌+◌, ◌-◌, ◌*◌, ◌/◌, ◌%◌, ◌==◌, if◌then◌else◌, Bool, true, false, List, [], ◌∷◌, ◌++◌, Option, Some, None, map, length, replicate, take, drop}
 use Rattle.cnf_base.specs.Literals.{Literal, negated, true_literal, false_literal}
 use Rattle.cnf_base.specs.declared.gate.GateKind.{GateKind}
 use Rattle.cnf_base.specs.declared.gate.GateKind.TheVariants.{And as AndGate, Xor as XorGate}
@@ -102,11 +102,6 @@ choice = Takes λ c. Takes λ a. Takes λ b. choice_by c a b
 abbrev pub literal_bits : ℕ → ℕ → List Literal
 literal_bits zero x = []
 literal_bits (suc n) x = (if x % 2 == 1 then true_literal else false_literal) ∷ literal_bits n (x / 2)
-
--- a literal, so many times
-abbrev pub copies_of : ℕ → Literal → List Literal
-copies_of zero l = []
-copies_of (suc n) l = l ∷ copies_of n l
 
 -- the highest bit
 abbrev pub top_of : List Literal → Literal
@@ -231,8 +226,8 @@ abbrev pub circuit_of : Op → CircuitOf
 circuit_of (Plain o) = operator_circuit o
 circuit_of (Word n x) = Makes (wires (literal_bits n x))
 circuit_of (Extract i j) = one λ a. wires (extracted i j a)
-circuit_of (ZeroExtend i) = one λ a. wires (a ++ copies_of i false_literal)
-circuit_of (SignExtend i) = one λ a. wires (a ++ copies_of i (top_of a))
+circuit_of (ZeroExtend i) = one λ a. wires (a ++ replicate i false_literal)
+circuit_of (SignExtend i) = one λ a. wires (a ++ replicate i (top_of a))
 circuit_of (RotateLeft i) = one λ a. wires (turned_left i a)
 circuit_of (RotateRight i) = one λ a. wires (turned_right i a)
 circuit_of (Repeat i) = one λ a. wires (repeated i a)

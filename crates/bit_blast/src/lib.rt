@@ -7,4 +7,5 @@
 //! cnf_base and the terms of smt_terms.
 #![tactic(auto)]
 
+mod encode;
 mod rows;

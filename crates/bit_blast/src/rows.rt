@@ -1,10 +1,10 @@
 //! Rows of bits: wires without a gate, and rows of one gate a place.
 
-ghost use Rattle.std.specs.Prelude.{◌≡◌, if◌then◌else◌, ◌+◌, ◌-◌, ◌^◌, ◌≤◌, ◌<◌, ◌++◌, Some, ◌*◌, IfOk, OnOk, OnErr, length, map, take, drop};
+ghost use Rattle.std.specs.Prelude.{◌≡◌, if◌then◌else◌, ◌+◌, ◌-◌, ◌^◌, ◌≤◌, ◌<◌, ◌++◌, Some, ◌*◌, IfOk, OnOk, OnErr, length, map, replicate, take, drop};
 ghost use Rattle.cnf_base.specs.Literals.{negated, true_literal, false_literal};
 ghost use Rattle.cnf_base.specs.Circuits.{Gains};
 ghost use Rattle.cnf_base.specs.Assignments.{fresh_bits};
-ghost use Rattle.bit_blast.specs.Blocks.{gate_of, each_gate, literal_bits, copies_of, top_of, rotated as rotated_row, repeated as repeated_row, extracted as extracted_row, turned_left, turned_right, connective_of, by_gate, sum as sum_block, difference as difference_block, equality as equality_block, IsBuilt};
+ghost use Rattle.bit_blast.specs.Blocks.{gate_of, each_gate, literal_bits, top_of, rotated as rotated_row, repeated as repeated_row, extracted as extracted_row, turned_left, turned_right, connective_of, by_gate, sum as sum_block, difference as difference_block, equality as equality_block, IsBuilt};
 
 use cnf_base::{Circuit, GateKind, Lit};
 use smt_terms::operator::Operator;
@@ -118,7 +118,7 @@ pub fn joined(alloc: Global, low: &[Lit], high: &[Lit]) -> Result<Vec<Lit>, Allo
 
 /// A row with a literal so many times above it.
 pub fn extended(alloc: Global, a: &[Lit], more: u64, by: Lit) -> Result<Vec<Lit>, AllocError>
-    ensures { IfOk result (λ r. r.items ≡ a.now ++ copies_of more by) }
+    ensures { IfOk result (λ r. r.items ≡ a.now ++ replicate more by) }
 {
     let mut bits = Vec::from_slice(alloc, a)?;
     for _place in 0..more {

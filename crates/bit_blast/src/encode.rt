@@ -1,0 +1,127 @@
+//! The circuit of a term.
+
+ghost use Rattle.std.specs.Prelude.{◌≡◌, ◌≢◌, None, [], ◌∷◌, ◌+◌, ◌^◌, ◌≤◌, ◌<◌, IfOk, OnErr, MatchOption, length};
+ghost use Rattle.std.specs.Option.{option_copied};
+ghost use Rattle.smt_terms.specs.Nodes.{node_at};
+ghost use Rattle.smt_terms.specs.Terms.{IsTerm};
+ghost use Rattle.smt_terms.specs.Bits.{bits_in};
+ghost use Rattle.bit_blast.specs.Blocks.{block_of, built, circuit_of, operator_circuit, connective_of, IsBuilt, HasNone, EachShort};
+
+use crate::rows;
+use cnf_base::{Circuit, Lit};
+use smt_terms::node::{Op};
+use smt_terms::operator::Operator;
+use std::alloc::AllocError;
+
+// The bits of an operator without arguments.
+fn leaf(op: &Op, circuit: &mut Circuit) -> Result<Option<Vec<Lit>>, AllocError>
+    ensures ok { IfOk result (λ o. MatchOption o
+        (HasNone (built (circuit_of op.now) circuit.old.next []) circuit.old circuit.new)
+        (λ row. IsBuilt (built (circuit_of op.now) circuit.old.next []) row.items circuit.old circuit.new)) }
+    ensures err { OnErr result (circuit.new ≡ circuit.old) }
+{
+    match op {
+        Op::Plain(Operator::True) => Ok(Some(rows::literal_row(circuit.alloc(), 1, 1)?)),
+        Op::Plain(Operator::False) => Ok(Some(rows::literal_row(circuit.alloc(), 1, 0)?)),
+        Op::Word { width, value } => {
+            Ok(Some(rows::literal_row(circuit.alloc(), *width, *value)?))
+        }
+        _ => Ok(None),
+    }
+}
+
+// The circuit of an operator over one row.
+fn unary(op: &Op, a: &[Lit], circuit: &mut Circuit) -> Result<Option<Vec<Lit>>, AllocError>
+    requires short { length a.now ≤ 128 }
+    ensures ok { IfOk result (λ o. MatchOption o
+        (HasNone (built (circuit_of op.now) circuit.old.next (a.now ∷ [])) circuit.old circuit.new)
+        (λ row. IsBuilt (built (circuit_of op.now) circuit.old.next (a.now ∷ [])) row.items circuit.old circuit.new)) }
+    ensures err { OnErr result (circuit.new ≡ circuit.old) }
+{
+    let alloc = circuit.alloc();
+    match op {
+        Op::Plain(Operator::Not | Operator::Bvnot) => Ok(Some(rows::negated_row(alloc, a)?)),
+        Op::ZeroExtend(more) => Ok(Some(rows::extended(alloc, a, *more, Lit::FALSE)?)),
+        Op::SignExtend(more) => Ok(Some(rows::extended(alloc, a, *more, rows::top(a))?)),
+        Op::Repeat(copies) => Ok(Some(rows::repeated(alloc, *copies, a)?)),
+        Op::Extract { high, low } => Ok(Some(rows::extracted(alloc, *high, *low, a)?)),
+        Op::RotateLeft(places) => Ok(Some(rows::rotated_left(alloc, *places, a)?)),
+        Op::RotateRight(places) => Ok(Some(rows::rotated_right(alloc, *places, a)?)),
+        _ => Ok(None),
+    }
+}
+
+// The circuit of an operator over two rows.
+fn binary(
+    op: &Op,
+    a: &[Lit],
+    b: &[Lit],
+    circuit: &mut Circuit,
+) -> Result<Option<Vec<Lit>>, AllocError>
+    requires short { length a.now ≤ 128 }
+    requires room { circuit.old.next + 2 ^ 17 ≤ 2 ^ 63 }
+    ensures ok { IfOk result (λ o. MatchOption o
+        (HasNone (built (circuit_of op.now) circuit.old.next (a.now ∷ b.now ∷ [])) circuit.old circuit.new)
+        (λ row. IsBuilt (built (circuit_of op.now) circuit.old.next (a.now ∷ b.now ∷ [])) row.items circuit.old circuit.new)) }
+    ensures err { OnErr result (circuit.new ≡ circuit.old) }
+{
+    let Op::Plain(operator) = op else { return Ok(None) };
+    if let Operator::Concat = operator {
+        return Ok(Some(rows::joined(circuit.alloc(), b, a)?));
+    }
+    if a.len() != b.len() {
+        return Ok(None);
+    }
+    match rows::bitwise_kind(*operator) {
+        Some((kind, positive)) => Ok(Some(rows::bitwise(kind, positive, a, b, circuit)?)),
+        None => paired(*operator, a, b, circuit),
+    }
+}
+
+// The circuit of an operator over two rows of one length, which is not bit by bit.
+fn paired(
+    operator: Operator,
+    a: &[Lit],
+    b: &[Lit],
+    circuit: &mut Circuit,
+) -> Result<Option<Vec<Lit>>, AllocError>
+    requires same { length a.now ≡ length b.now }
+    requires short { length a.now ≤ 128 }
+    requires room { circuit.old.next + 2 ^ 17 ≤ 2 ^ 63 }
+    requires other { connective_of operator ≡ None }
+    requires split { operator ≢ Operator.Concat }
+    ensures ok { IfOk result (λ o. MatchOption o
+        (HasNone (built (operator_circuit operator) circuit.old.next (a.now ∷ b.now ∷ [])) circuit.old circuit.new)
+        (λ row. IsBuilt (built (operator_circuit operator) circuit.old.next (a.now ∷ b.now ∷ [])) row.items circuit.old circuit.new)) }
+    ensures err { OnErr result (circuit.new ≡ circuit.old) }
+{
+    match operator {
+        Operator::Equal | Operator::Bvcomp => Ok(Some(rows::equality(a, b, circuit)?)),
+        Operator::Bvadd => Ok(Some(rows::sum(Lit::FALSE, a, b, circuit)?)),
+        Operator::Bvsub => Ok(Some(rows::difference(a, b, circuit)?)),
+        _ => Ok(None),
+    }
+}
+
+// The circuit of an operator over a condition and two rows.
+fn ternary(
+    op: &Op,
+    c: &[Lit],
+    a: &[Lit],
+    b: &[Lit],
+    circuit: &mut Circuit,
+) -> Result<Option<Vec<Lit>>, AllocError>
+    requires short { length a.now ≤ 128 }
+    requires room { circuit.old.next + 2 ^ 17 ≤ 2 ^ 63 }
+    ensures ok { IfOk result (λ o. MatchOption o
+        (HasNone (built (circuit_of op.now) circuit.old.next (c.now ∷ a.now ∷ b.now ∷ [])) circuit.old circuit.new)
+        (λ row. IsBuilt (built (circuit_of op.now) circuit.old.next (c.now ∷ a.now ∷ b.now ∷ [])) row.items circuit.old circuit.new)) }
+    ensures err { OnErr result (circuit.new ≡ circuit.old) }
+{
+    let Op::Plain(Operator::Ite) = op else { return Ok(None) };
+    let [condition] = c else { return Ok(None) };
+    if a.len() != b.len() {
+        return Ok(None);
+    }
+    Ok(Some(circuit.mux(*condition, a, b)?))
+}
