@@ -2,3 +2,4 @@ mod Places
 pub mod Recursion
 pub mod Growing
 mod Making
+mod Spans

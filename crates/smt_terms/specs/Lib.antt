@@ -6,3 +6,4 @@ pub mod Ranks
 pub mod Terms
 pub mod Bits
 pub mod Places
+pub mod BitTables

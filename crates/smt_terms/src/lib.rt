@@ -6,6 +6,7 @@
 //! The crate stands on the words of `smt_words`, the literals of `cnf_base`, and `indexmap`.
 #![tactic(auto)]
 
+pub mod bits;
 pub mod fault;
 pub mod list;
 pub mod node;
