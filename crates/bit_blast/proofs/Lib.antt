@@ -1,2 +1,4 @@
 pub mod Wiring
 pub mod Bitwise
+pub mod Wires
+pub mod Counting

@@ -3,7 +3,7 @@ use Rattle.std.proofs.Common.{◌≡◌, ℕ, zero, suc, ◌+◌, ◌-◌, ◌/�
 use Rattle.std.specs.Prelude.{◌==◌, if◌then◌else◌, map, replicate}
 use Rattle.std.proofs.lemmas.List.{append-nil}
 use Rattle.cnf_base.specs.Literals.{Literal, true_literal, false_literal}
-use Rattle.bit_blast.specs.Blocks.{literal_bits, top_of, repeated}
+use Rattle.bit_blast.specs.Blocks.{literal_bits, repeated}
 
 -- one place more was put before the rest
 pub pushed_row : {A : Type 0} (old new rest after whole : List A) (x : A) → new ≡ old ++ x ∷ [] → rest ≡ x ∷ after → old ++ rest ≡ whole → new ++ after ≡ whole
@@ -30,12 +30,3 @@ pub repeated-rest : (n k : ℕ) (a : List Literal) → k < n → repeated (n - k
 repeated-rest n k a lt =
     let e : n - k ≡ suc (n - (k + 1)) = omega arith in
     ap (λ m. repeated m a) e
-
--- the last literal, where it was read
-pub top_of-last : (a : List Literal) (x : Literal) → 0 < length a → x ≡ get_or a (length a - 1) x → x ≡ top_of a
-top_of-last [] x h e = absurd (omega arith)
-top_of-last (y ∷ []) x h e = e
-top_of-last (y ∷ z ∷ zs) x h e =
-    let p : suc (suc (length zs)) - 1 ≡ suc (length zs) = omega arith in
-    let q : suc (length zs) - 1 ≡ length zs = omega arith in
-    top_of-last (z ∷ zs) x (omega arith) (e ∙ ap (λ k. get_or (y ∷ z ∷ zs) k x) p ∙ ap (λ k. get_or (z ∷ zs) k x) (sym q))

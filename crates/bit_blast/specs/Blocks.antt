@@ -7,6 +7,7 @@ use Rattle.bit_blast.specs.declared.rows.Connective.{Connective}
 use Rattle.bit_blast.specs.declared.rows.Connective.TheVariants.{Both, Neither, ButNot, Differ}
 use Rattle.cnf_base.specs.Assignments.{fresh_bits}
 use Rattle.cnf_base.specs.Adders.{add_gates, add_bits}
+use Rattle.circ_plain.specs.Signs.{sign_of}
 use Rattle.cnf_base.specs.Choices.{mux_gates, equal_gates, equal_bit}
 use Rattle.std.specs.List.{AllByRecursion}
 use Rattle.cnf_base.specs.Circuits.{CircuitValue, Gains}
@@ -102,12 +103,6 @@ choice = Takes λ c. Takes λ a. Takes λ b. choice_by c a b
 abbrev pub literal_bits : ℕ → ℕ → List Literal
 literal_bits zero x = []
 literal_bits (suc n) x = (if x % 2 == 1 then true_literal else false_literal) ∷ literal_bits n (x / 2)
-
--- the highest bit
-abbrev pub top_of : List Literal → Literal
-top_of [] = false_literal
-top_of (a ∷ []) = a
-top_of (a ∷ b ∷ bs) = top_of (b ∷ bs)
 
 -- the bits moved n places up, those at the top to the bottom
 abbrev pub rotated : ℕ → List Literal → List Literal
@@ -227,7 +222,7 @@ circuit_of (Plain o) = operator_circuit o
 circuit_of (Word n x) = Makes (wires (literal_bits n x))
 circuit_of (Extract i j) = one λ a. wires (extracted i j a)
 circuit_of (ZeroExtend i) = one λ a. wires (a ++ replicate i false_literal)
-circuit_of (SignExtend i) = one λ a. wires (a ++ replicate i (top_of a))
+circuit_of (SignExtend i) = one λ a. wires (a ++ replicate i (sign_of a))
 circuit_of (RotateLeft i) = one λ a. wires (turned_left i a)
 circuit_of (RotateRight i) = one λ a. wires (turned_right i a)
 circuit_of (Repeat i) = one λ a. wires (repeated i a)

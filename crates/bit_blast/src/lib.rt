@@ -7,5 +7,7 @@
 //! cnf_base and the terms of smt_terms.
 #![tactic(auto)]
 
-mod encode;
+mod blasting;
 mod rows;
+
+pub use blasting::encode;

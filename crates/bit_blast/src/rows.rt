@@ -4,8 +4,10 @@ ghost use Rattle.std.specs.Prelude.{◌≡◌, if◌then◌else◌, ◌+◌, ◌
 ghost use Rattle.cnf_base.specs.Literals.{negated, true_literal, false_literal};
 ghost use Rattle.cnf_base.specs.Circuits.{Gains};
 ghost use Rattle.cnf_base.specs.Assignments.{fresh_bits};
-ghost use Rattle.bit_blast.specs.Blocks.{gate_of, each_gate, literal_bits, top_of, rotated as rotated_row, repeated as repeated_row, extracted as extracted_row, turned_left, turned_right, connective_of, by_gate, sum as sum_block, difference as difference_block, equality as equality_block, IsBuilt};
+ghost use Rattle.circ_plain.specs.Signs.{sign_of};
+ghost use Rattle.bit_blast.specs.Blocks.{gate_of, each_gate, literal_bits, rotated as rotated_row, repeated as repeated_row, extracted as extracted_row, turned_left, turned_right, connective_of, by_gate, sum as sum_block, difference as difference_block, equality as equality_block, IsBuilt};
 
+use circ_plain::sign;
 use cnf_base::{Circuit, GateKind, Lit};
 use smt_terms::operator::Operator;
 use std::alloc::{AllocError, Global};
@@ -129,12 +131,12 @@ pub fn extended(alloc: Global, a: &[Lit], more: u64, by: Lit) -> Result<Vec<Lit>
 
 /// The highest literal of a row, false where there is none.
 pub fn top(a: &[Lit]) -> Lit
-    ensures { result ≡ top_of a.now }
+    ensures { result ≡ sign_of a.now }
 {
     if a.len() == 0 {
         return Lit::FALSE;
     }
-    a[a.len() - 1]
+    sign(a)
 }
 
 /// The row moved some places up, what stood at the top to the bottom.

@@ -9,9 +9,49 @@ ghost use Rattle.bit_blast.specs.Blocks.{block_of, built, circuit_of, operator_c
 
 use crate::rows;
 use cnf_base::{Circuit, Lit};
-use smt_terms::node::{Op};
+use smt_terms::bits::Bits;
+use smt_terms::node::{Op, TermId};
 use smt_terms::operator::Operator;
+use smt_terms::terms::Terms;
 use std::alloc::AllocError;
+
+/// Appends the circuit of a term to `circuit` and gives the literals of its bits, the lowest first. `None` exactly
+/// where an argument has no bits or the operator has no circuit over them; the circuit is then as before.
+pub fn encode(
+    terms: &Terms,
+    bits: &Bits,
+    t: TermId,
+    circuit: &mut Circuit,
+) -> Result<Option<Vec<Lit>>, AllocError>
+    requires held { t < length terms.now.nodes }
+    requires short { EachShort bits.now }
+    requires room { circuit.old.next + 2 ^ 17 ≤ 2 ^ 63 }
+    ensures ok { IfOk result (λ o. MatchOption o
+        (HasNone (block_of circuit.old.next (bits_in bits.now) (node_at terms.now.nodes t)) circuit.old circuit.new)
+        (λ row. IsBuilt (block_of circuit.old.next (bits_in bits.now) (node_at terms.now.nodes t)) row.items circuit.old circuit.new)) }
+    ensures err { OnErr result (circuit.new ≡ circuit.old) }
+{
+    let node = terms.node(t);
+    match node.args.as_slice() {
+        [] => leaf(&node.op, circuit),
+        [a] => {
+            let Some(a) = bits.of(*a) else { return Ok(None) };
+            unary(&node.op, a, circuit)
+        }
+        [a, b] => {
+            let Some(a) = bits.of(*a) else { return Ok(None) };
+            let Some(b) = bits.of(*b) else { return Ok(None) };
+            binary(&node.op, a, b, circuit)
+        }
+        [c, a, b] => {
+            let Some(c) = bits.of(*c) else { return Ok(None) };
+            let Some(a) = bits.of(*a) else { return Ok(None) };
+            let Some(b) = bits.of(*b) else { return Ok(None) };
+            ternary(&node.op, c, a, b, circuit)
+        }
+        _ => Ok(None),
+    }
+}
 
 // The bits of an operator without arguments.
 fn leaf(op: &Op, circuit: &mut Circuit) -> Result<Option<Vec<Lit>>, AllocError>
