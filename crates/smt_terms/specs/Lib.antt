@@ -7,3 +7,5 @@ pub mod Terms
 pub mod Bits
 pub mod Places
 pub mod BitTables
+pub mod Values
+pub mod Evaluations

@@ -40,6 +40,12 @@ held_sort nodes t = if nat_lt t (length nodes) then Some (sort_of nodes t) else 
 abbrev pub node_sort : List Node → Node → Result Sort MakeFault
 node_sort nodes n = ranked (rank_of n.op) 0 (map (held_sort nodes) n.args)
 
+-- the widths in a sort are 1 to 128
+abbrev pub IsSort : Sort → Type 0
+IsSort sort.Bool = Unit {0}
+IsSort (sort.Word n) = (1 ≤ n) × (n ≤ 128)
+IsSort (sort.Array n m) = (1 ≤ n) × (n ≤ 128) × (1 ≤ m) × (m ≤ 128)
+
 -- ---- lists of terms
 
 -- a term's arguments come before it, and its operator takes their sorts

@@ -1,0 +1,90 @@
+-- Arrays that differ differ at their witness, and what a store leaves.
+use Rattle.std.proofs.Common.{◌≡◌, ℕ, zero, suc, ◌<◌, Bool, true, false, not, ◌&&◌, refl, sym, ap, ◌∙◌, subst, ⊎_elim, arith}
+use Rattle.std.specs.Prelude.{◌==◌, if◌then◌else◌}
+use Rattle.std.proofs.lemmas.Bool.{and_parts, cases_lt, eq-eqb, ne_eqb, not-false, not-true, eqb-true}
+use Rattle.smt_terms.specs.Values.{all_below, first_below, changed}
+
+pub all_below_each : (p : ℕ → Bool) (n : ℕ) → all_below p n ≡ true → (i : ℕ) → i < n → p i ≡ true
+unfolding all_below
+all_below_each p zero h i lt = absurd (omega arith)
+all_below_each p (suc n) h i lt =
+    let q = and_parts (all_below p n) (p n) h in
+    ⊎_elim
+    (λ less. all_below_each p n q.0 i less)
+    (λ le. let e : n ≡ i = omega arith in subst (λ k. p k ≡ true) e q.1)
+    (cases_lt i n)
+
+both : (a b : Bool) → a ≡ true → b ≡ true → (a && b) ≡ true
+both a b p q = ap (λ x. x && b) p ∙ q
+
+pub each_all_below : (p : ℕ → Bool) (n : ℕ) → ((i : ℕ) → i < n → p i ≡ true) → all_below p n ≡ true
+unfolding all_below
+each_all_below p zero h = refl
+each_all_below p (suc n) h = both (all_below p n) (p n) (each_all_below p n (λ i lt. h i (omega arith))) (h n (omega arith))
+
+below_case : (p : ℕ → Bool) (n : ℕ) (b : Bool) → all_below (λ i. not (p i)) n ≡ b → (b && not (p n)) ≡ false → (b ≡ false → (first_below p n < n) × (p (first_below p n) ≡ true)) → (first_below p (suc n) < suc n) × (p (first_below p (suc n)) ≡ true)
+unfolding all_below first_below
+below_case p n true e h ih =
+    let here : p n ≡ true = not-false (p n) h in
+    let is : first_below p (suc n) ≡ n = ap (λ t. if t then (if p n then n else 0) else first_below p n) e ∙ ap (λ t. if t then n else 0) here in
+    (omega (arith, is), ap p is ∙ here)
+below_case p n false e h ih =
+    let is : first_below p (suc n) ≡ first_below p n = ap (λ t. if t then (if p n then n else 0) else first_below p n) e in
+    let k = ih refl in
+    (omega (arith, is, k.0), ap p is ∙ k.1)
+
+-- where the test holds somewhere, it holds at the least such number
+pub first_below_is : (p : ℕ → Bool) (n : ℕ) → all_below (λ i. not (p i)) n ≡ false → (first_below p n < n) × (p (first_below p n) ≡ true)
+unfolding all_below first_below
+first_below_is p zero h = let q : ⊥ = cc in absurd q
+first_below_is p (suc n) h = below_case p n (all_below (λ i. not (p i)) n) refl h (λ e. first_below_is p n e)
+
+choice_le : (b c : Bool) (n k : ℕ) → k < suc n → (if b then (if c then n else 0) else k) < suc n
+choice_le true true n k h = omega arith
+choice_le true false n k h = omega arith
+choice_le false c n k h = h
+
+pub first_below_lt : (p : ℕ → Bool) (n : ℕ) → first_below p n < suc n
+unfolding first_below
+first_below_lt p zero = omega arith
+first_below_lt p (suc n) = let h = choice_le (all_below (λ i. not (p i)) n) (p n) n (first_below p n) (first_below_lt p n) in omega arith
+
+first_below_in-go : (p : ℕ → Bool) (n : ℕ) → first_below p (suc n) < suc n
+unfolding first_below
+first_below_in-go p n = choice_le (all_below (λ i. not (p i)) n) (p n) n (first_below p n) (first_below_lt p n)
+
+pub first_below_in : (p : ℕ → Bool) (n : ℕ) → 0 < n → first_below p n < n
+first_below_in p zero h = absurd (omega arith)
+first_below_in p (suc n) h = first_below_in-go p n
+
+pub all_below_same : (p q : ℕ → Bool) (n : ℕ) → ((i : ℕ) → p i ≡ q i) → all_below p n ≡ all_below q n
+unfolding all_below
+all_below_same p q zero h = refl
+all_below_same p q (suc n) h = rw (all_below_same p q n h, h n) refl
+
+not_not : (b : Bool) → not (not b) ≡ b
+not_not true = refl
+not_not false = refl
+
+pub changed_same : (f : ℕ → ℕ) (i x j : ℕ) → j ≡ i → changed f i x j ≡ x
+changed_same f i x j e = ap (λ b. if b then x else f j) (eq-eqb j i e)
+
+pub changed_other : (f : ℕ → ℕ) (i x j : ℕ) → (j ≡ i → ⊥) → changed f i x j ≡ f j
+changed_other f i x j ne = ap (λ b. if b then x else f j) (ne_eqb j i ne)
+
+-- arrays that are not the same differ at the least such index
+pub first_differs : (n : ℕ) (f g : ℕ → ℕ) → all_below (λ i. f i == g i) n ≡ false → (let w = first_below (λ i. not (f i == g i)) n in (w < n) × (f w ≡ g w → ⊥))
+first_differs n f g h =
+    let differ : ℕ → Bool = λ i. not (f i == g i) in
+    let all = all_below_same (λ i. not (differ i)) (λ i. f i == g i) n (λ i. not_not (f i == g i)) in
+    let w = first_below_is differ n (all ∙ h) in
+    let k = first_below differ n in
+    let e = not-true (f k == g k) w.1 in
+    (w.0, λ same. let t = eq-eqb (f k) (g k) same in let q : true ≡ false = sym t ∙ e in let z : ⊥ = cc in z)
+
+-- arrays that differ somewhere are not the same
+pub differ_not_all : (n : ℕ) (f g : ℕ → ℕ) (i : ℕ) → i < n → (f i ≡ g i → ⊥) → all_below (λ k. f k == g k) n ≡ false
+differ_not_all n f g i lt ne = go (all_below (λ k. f k == g k) n) refl where
+  go : (b : Bool) → all_below (λ k. f k == g k) n ≡ b → all_below (λ k. f k == g k) n ≡ false
+  go false e = e
+  go true e = let q = eqb-true (f i) (g i) (all_below_each (λ k. f k == g k) n e i lt) in absurd (ne q)
