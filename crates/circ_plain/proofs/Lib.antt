@@ -3,3 +3,5 @@ pub mod Negating
 pub mod Comparing
 pub mod Powers
 pub mod Shifting
+pub mod Stages
+pub mod Joining

@@ -1,7 +1,7 @@
 -- Powers of two: the least one that reaches a number, and numbers moved by places.
-use Rattle.std.proofs.Common.{◌≡◌, ℕ, zero, suc, ◌+◌, ◌-◌, ◌*◌, ◌/◌, ◌%◌, ◌^◌, ◌<◌, ◌≤◌, Bool, true, false, refl, sym, ap, ◌∙◌, subst, arith}
+use Rattle.std.proofs.Common.{◌≡◌, ℕ, zero, suc, ◌+◌, ◌-◌, ◌*◌, ◌/◌, ◌%◌, ◌^◌, ◌<◌, ◌≤◌, Bool, true, false, inl, inr, refl, sym, ap, ◌∙◌, subst, arith}
 use Rattle.std.specs.Prelude.{if◌then◌else◌, nat_le}
-use Rattle.std.proofs.lemmas.Bool.{leb-true, leb-false}
+use Rattle.std.proofs.lemmas.Bool.{leb-true, leb-false, cases_order}
 use Rattle.std.proofs.lemmas.Nat.{pow_pos, mod_below, div-mul-add, shr_split, shr_below}
 use Rattle.std.proofs.Math.Pow.{pow-lt, pow-add}
 use Rattle.std.proofs.Math.Nat.{pow-suc, mod-eq_of_lt, add-mul-mod_self_right, mul-lt-mul_of_pos_left}
@@ -100,3 +100,13 @@ moved_down x n d h lt =
     ∙ all
     ∙ ap (λ k. (k - 1 - (x / 2 ^ d * 2 ^ d + x % 2 ^ d)) / 2 ^ d) (sym p)
     ∙ ap (λ k. (2 ^ n - 1 - k) / 2 ^ d) (sym split)
+
+-- only one number of stages reaches the width while no earlier one does
+pub stages_only : (n k : ℕ) → ((j : ℕ) → j < k → 2 ^ j < n) → n ≤ 2 ^ k → k ≡ stages n
+stages_only n k none reached = elim (cases_order k (stages n)) [
+  | inl same ↦ same
+  | inr other ↦ elim other [
+    | inl less ↦ let below = stages_least n k less in absurd (omega arith)
+    | inr more ↦ let below = none (stages n) more in absurd (omega (arith, stages_reach n))
+  ]
+]

@@ -19,10 +19,10 @@ use Rattle.std.proofs.lemmas.List.{length-replicate}
 use Rattle.cnf_base.proofs.Numbers.{number_lt, number-append, number-take}
 use Rattle.cnf_base.proofs.Rows.{length-fresh_bits}
 use Rattle.cnf_base.proofs.Choosing.{length-mux_gates}
-use Rattle.circ_plain.specs.declared.shifts.Direction.{Direction}
-use Rattle.circ_plain.specs.declared.shifts.Direction.TheVariants.{Up, Down}
+use Rattle.circ_plain.specs.declared.moves.Direction.{Direction}
+use Rattle.circ_plain.specs.declared.moves.Direction.TheVariants.{Up, Down}
 use Rattle.circ_plain.specs.Signs.{sign_of}
-use Rattle.circ_plain.specs.Shifts.{stages, moved, stage_gates, stage_bits, any_gates, any_bit, mask_gates, move_gates, move_bits, over_bit, logical_gates, logical_bits, shl_gates, shl_bits, lshr_gates, lshr_bits, ashr_gates, ashr_bits}
+use Rattle.circ_plain.specs.Shifts.{stages, AreNear, moved, stage_gates, stage_bits, any_gates, any_bit, mask_gates, move_gates, move_bits, over_bit, logical_gates, logical_bits, shl_gates, shl_bits, lshr_gates, lshr_bits, ashr_gates, ashr_bits}
 use Rattle.circ_plain.proofs.Negating.{sign_is}
 use Rattle.circ_plain.proofs.Powers.{stages_reach, stages_least, moved_up, moved_down}
 use Rattle.circ_plain.proofs.Bits.{meaning_front, meaning_back, false_is_false, number-replicate_false, number-replicate_true, choice_number}
@@ -70,10 +70,6 @@ number-moved_down v fill d r true e h =
     ∙ rw (number-replicate_true v d fill e, number-drop v d r, length-drop d r) (moved_down (number v r) (length r) d h (number_lt v r))
 
 -- ---- all stages
-
--- the distances of the stages from place j on, for these bits of the amount, are within a width
-abbrev pub AreNear : ℕ → ℕ → List Literal → Type 0
-AreNear n j ts = (i : ℕ) → i < j + length ts → 2 ^ i < n
 
 AreNear-next : (n j : ℕ) (t : Literal) (ts : List Literal) → AreNear n j (t ∷ ts) → AreNear n (suc j) ts
 AreNear-next n j t ts h = λ i lt. h i (omega arith)
@@ -222,3 +218,112 @@ over_cases n y m h = elim (cases_lt y (2 ^ m)) [
   | inl lt ↦ let none : y / 2 ^ m ≡ 0 = div-eq_of_lt lt in inr (le-ltb 0 (y / 2 ^ m) (omega arith), mod-eq_of_lt lt)
   | inr le ↦ inl (lt-ltb 0 (y / 2 ^ m) (le-div 1 y (2 ^ m) (pow_pos m) (omega arith)), omega arith)
 ]
+
+-- ---- whole shifts
+
+-- the amount of the stages
+near_amount : (v : ℕ → Bool) (m : ℕ) (t : List Literal) → 2 ^ 0 * number v (take m t) ≡ number v t % 2 ^ m
+near_amount v m t = omega (arith, number-take v m t)
+
+up_cases : (x y n m : ℕ) → n ≤ 2 ^ m → (if not (nat_lt 0 (y / 2 ^ m)) then x * 2 ^ (y % 2 ^ m) % 2 ^ n else 0) ≡ x * 2 ^ y % 2 ^ n
+up_cases x y n m h = elim (over_cases n y m h) [
+  | inl w ↦ rw w.0 (sym (shl_past x n y w.1))
+  | inr w ↦ rw (w.0, w.1) refl
+]
+
+down_cases : (x y n m : ℕ) → x < 2 ^ n → n ≤ 2 ^ m → (if not (nat_lt 0 (y / 2 ^ m)) then x / 2 ^ (y % 2 ^ m) else 0) ≡ x / 2 ^ y
+down_cases x y n m lt h = elim (over_cases n y m h) [
+  | inl w ↦ rw w.0 (sym (shr_past x n y lt w.1))
+  | inr w ↦ rw (w.0, w.1) refl
+]
+
+signed_cases : (x r y n m : ℕ) (f : Bool) → x < 2 ^ n → r < 2 ^ n → n ≤ 2 ^ m → turned f n r ≡ turned f n x / 2 ^ (y % 2 ^ m) → (if nat_lt 0 (y / 2 ^ m) then (if f then 2 ^ n - 1 else 0) else r) ≡ (if f then not_of n (lshr_of n (not_of n x) y) else lshr_of n x y)
+signed_cases x r y n m false lx lr h e = elim (over_cases n y m h) [
+  | inl w ↦ rw w.0 (sym (shr_past x n y lx w.1))
+  | inr w ↦ rw w.0 (e ∙ ap (λ k. x / 2 ^ k) w.1)
+]
+signed_cases x r y n m true lx lr h e = elim (over_cases n y m h) [
+  | inl w ↦ let none : (2 ^ n - 1 - x) / 2 ^ y ≡ 0 = shr_past (2 ^ n - 1 - x) n y (omega arith) w.1 in rw (w.0, none) (omega arith)
+  | inr w ↦ let rest : 2 ^ n - 1 - r ≡ (2 ^ n - 1 - x) / 2 ^ y = e ∙ ap (λ k. (2 ^ n - 1 - x) / 2 ^ k) w.1 in rw (w.0, ← rest) (omega arith)
+]
+
+number-replicate : (v : ℕ → Bool) (n : ℕ) (l : Literal) (f : Bool) → lit_true v l ≡ f → number v (replicate n l) ≡ (if f then 2 ^ n - 1 else 0)
+number-replicate v n l true e = number-replicate_true v n l e
+number-replicate v n l false e = number-replicate_false v n l e
+
+-- a masked row after its stages
+masked : (v : ℕ → Bool) (way : Direction) (g : ℕ) (a t : List Literal) → v 1 ≡ true → HaveMeaning v g (logical_gates way g a t) → number v (logical_bits way g a t) ≡ (if not (nat_lt 0 (number v t / 2 ^ stages (length a))) then number v (move_bits g a t) else 0)
+masked v way g a t one h =
+    let moves = move_gates way false_literal g a t in
+    let over = over_bit way false_literal g a t in
+    let front = meaning_front v g moves _ h in
+    let back = meaning_back v g moves _ h in
+    let whole = mask_number v (g + length moves) (negated over) (move_bits g a t) back in
+    let keep : lit_true v (negated over) ≡ not (nat_lt 0 (number v t / 2 ^ stages (length a))) = lit_true-negated v over ∙ ap not (over_is v way false_literal g a t one front) in
+    ap (λ n. number v (fresh_bits (g + length moves) n)) (sym (length-stage_bits g a (take (stages (length a)) t)))
+    ∙ whole
+    ∙ ap (λ b. if b then number v (move_bits g a t) else 0) keep
+
+stages_front : (v : ℕ → Bool) (way : Direction) (fill : Literal) (g : ℕ) (a t : List Literal) (more : List GateKind) → HaveMeaning v g (move_gates way fill g a t ++ more) → HaveMeaning v g (stage_gates way fill g 0 a (take (stages (length a)) t))
+stages_front v way fill g a t more h =
+    meaning_front v g (stage_gates way fill g 0 a (take (stages (length a)) t)) _ (meaning_front v g (move_gates way fill g a t) more h)
+
+pub shl_is : (v : ℕ → Bool) (g : ℕ) (a t : List Literal) → v 1 ≡ true → HaveMeaning v g (shl_gates g a t) → number v (shl_bits g a t) ≡ shl_of (length a) (number v a) (number v t)
+shl_is v g a t one h =
+    let m = stages (length a) in
+    let row = stages_up v g false_literal 0 a (take m t) (false_is_false v one) (near_stages (length a) t) (stages_front v Up false_literal g a t _ h) in
+    masked v Up g a t one h
+    ∙ rw (row, near_amount v m t) (up_cases (number v a) (number v t) (length a) m (stages_reach (length a)))
+
+pub lshr_is : (v : ℕ → Bool) (g : ℕ) (a t : List Literal) → v 1 ≡ true → HaveMeaning v g (lshr_gates g a t) → number v (lshr_bits g a t) ≡ lshr_of (length a) (number v a) (number v t)
+lshr_is v g a t one h =
+    let m = stages (length a) in
+    let row = stages_down v g false_literal 0 a (take m t) false (false_is_false v one) (near_stages (length a) t) (stages_front v Down false_literal g a t _ h) in
+    masked v Down g a t one h
+    ∙ rw (row, near_amount v m t) (down_cases (number v a) (number v t) (length a) m (number_lt v a) (stages_reach (length a)))
+
+pub ashr_is : (v : ℕ → Bool) (g : ℕ) (a t : List Literal) → v 1 ≡ true → 0 < length a → HaveMeaning v g (ashr_gates g a t) → number v (ashr_bits g a t) ≡ ashr_of (length a) (number v a) (number v t)
+ashr_is v g a t one some h =
+    let n = length a in
+    let m = stages n in
+    let s = sign_of a in
+    let moves = move_gates Down s g a t in
+    let over = over_bit Down s g a t in
+    let f = lit_true v s in
+    let front = meaning_front v g moves _ h in
+    let back = meaning_back v g moves _ h in
+    let lr = length-stage_bits g a (take m t) in
+    let row : turned f n (number v (move_bits g a t)) ≡ turned f n (number v a) / 2 ^ (number v t % 2 ^ m) = stages_down v g s 0 a (take m t) f refl (near_stages n t) (stages_front v Down s g a t _ h) ∙ ap (λ k. turned f n (number v a) / 2 ^ k) (near_amount v m t) in
+    let fits : number v (move_bits g a t) < 2 ^ n = subst (λ k. number v (move_bits g a t) < 2 ^ k) lr (number_lt v (move_bits g a t)) in
+    let choice = choice_number v (g + length moves) over (replicate n s) (move_bits g a t) (length-replicate n s ∙ sym lr) back in
+    ap (λ k. number v (fresh_bits (g + length moves) k)) (sym lr)
+    ∙ choice
+    ∙ rw (over_is v Down s g a t one front, number-replicate v n s f refl) refl
+    ∙ signed_cases (number v a) (number v (move_bits g a t)) (number v t) n m f (number_lt v a) fits (stages_reach n) row
+    ∙ ap (λ b. if b then not_of n (lshr_of n (not_of n (number v a)) (number v t)) else lshr_of n (number v a) (number v t)) (sign_is v a some)
+
+-- ---- lengths of whole shifts
+
+pub length-move_gates : (way : Direction) (fill : Literal) (g : ℕ) (a t : List Literal) → length (move_gates way fill g a t) ≡ length a * length (take (stages (length a)) t) + length (drop (stages (length a)) t)
+length-move_gates way fill g a t =
+    let near = take (stages (length a)) t in
+    let far = drop (stages (length a)) t in
+    let first = stage_gates way fill g 0 a near in
+    length-append first (any_gates (g + length first) false_literal far)
+    ∙ rw (length-any_gates (g + length first) false_literal far, length-stage_gates way fill g 0 a near (near_stages (length a) t)) refl
+
+pub length-logical_gates : (way : Direction) (g : ℕ) (a t : List Literal) → length (logical_gates way g a t) ≡ length a * length (take (stages (length a)) t) + length (drop (stages (length a)) t) + length a
+length-logical_gates way g a t =
+    let keep = negated (over_bit way false_literal g a t) in
+    length-append (move_gates way false_literal g a t) (mask_gates keep (move_bits g a t))
+    ∙ rw (length-move_gates way false_literal g a t, length-mask_gates keep (move_bits g a t), length-stage_bits g a (take (stages (length a)) t)) refl
+
+pub length-ashr_gates : (g : ℕ) (a t : List Literal) → length (ashr_gates g a t) ≡ length a * length (take (stages (length a)) t) + length (drop (stages (length a)) t) + length a
+length-ashr_gates g a t =
+    let n = length a in
+    let over = over_bit Down (sign_of a) g a t in
+    let row = move_bits g a t in
+    let lr = length-stage_bits g a (take (stages n) t) in
+    let ls = length-replicate n (sign_of a) in
+    length-append (move_gates Down (sign_of a) g a t) (mux_gates over (replicate n (sign_of a)) row)
+    ∙ rw (length-move_gates Down (sign_of a) g a t, length-mux_gates over (replicate n (sign_of a)) row (ls ∙ sym lr), ls) refl

@@ -1,12 +1,12 @@
 -- Shifts by a number of places that is itself a row of bits (barrel shifters), from the next variable g on.
-use Rattle.std.specs.Prelude.{ℕ, zero, suc, ◌+◌, ◌-◌, ◌^◌, nat_le, if◌then◌else◌, List, [], ◌∷◌, ◌++◌, length, take, drop, replicate}
+use Rattle.std.specs.Prelude.{ℕ, zero, suc, ◌+◌, ◌-◌, ◌^◌, ◌<◌, nat_le, if◌then◌else◌, List, [], ◌∷◌, ◌++◌, length, take, drop, replicate}
 use Rattle.cnf_base.specs.Literals.{Literal, positive_of, negative_of, negated, false_literal}
 use Rattle.cnf_base.specs.declared.gate.GateKind.{GateKind}
 use Rattle.cnf_base.specs.declared.gate.GateKind.TheVariants.{And}
 use Rattle.cnf_base.specs.Assignments.{fresh_bits}
 use Rattle.cnf_base.specs.Choices.{mux_gates}
-use Rattle.circ_plain.specs.declared.shifts.Direction.{Direction}
-use Rattle.circ_plain.specs.declared.shifts.Direction.TheVariants.{Up, Down}
+use Rattle.circ_plain.specs.declared.moves.Direction.{Direction}
+use Rattle.circ_plain.specs.declared.moves.Direction.TheVariants.{Up, Down}
 use Rattle.circ_plain.specs.Signs.{sign_of}
 
 -- the least m up to k with n ≤ 2 ^ m, or k where there is none
@@ -22,6 +22,10 @@ stages n = least_power n n
 abbrev pub moved : Direction → Literal → ℕ → List Literal → List Literal
 moved Up fill d r = replicate d fill ++ take (length r - d) r
 moved Down fill d r = drop d r ++ replicate d fill
+
+-- these bits of an amount, from place j of it on, move n bits by less than n places
+abbrev pub AreNear : ℕ → ℕ → List Literal → Type 0
+AreNear n j ts = (i : ℕ) → i < j + length ts → 2 ^ i < n
 
 -- one stage a bit of the amount, from place j of it on: the row moved by 2 ^ j where the bit is true, else the row
 abbrev pub stage_gates : Direction → Literal → ℕ → ℕ → List Literal → List Literal → List GateKind

@@ -8,6 +8,7 @@
 //! number functions of `smt_words`.
 #![tactic(auto)]
 
+mod moves;
 mod orders;
 mod rows;
 mod shifts;
@@ -15,4 +16,5 @@ mod signs;
 
 pub use orders::{sle, slt, ule, ult};
 pub use rows::sign;
+pub use shifts::{ashr, lshr, shl};
 pub use signs::{abs, neg};
