@@ -9,3 +9,4 @@ pub mod Extending
 pub mod Adding
 pub mod Choosing
 pub mod Equating
+mod Worked

@@ -65,8 +65,9 @@ impl Circuit {
         ensures gains { OnOk result (Gains self.old self.new (equal_gates self.old.next true_literal a.now b.now)) }
         ensures literal { IfOk result (λ l. l ≡ equal_bit self.old.next true_literal a.now b.now) }
     {
+        let places = a.len();
         let mut equal = Lit::TRUE;
-        for k in 0..a.len() {
+        for k in 0..places {
             equal = self.equal_place(equal, a[k], b[k])?;
         }
         Ok(equal)
@@ -79,7 +80,7 @@ impl Circuit {
         ensures literal { IfOk result (λ l. l ≡ positive_of (self.old.next + 1)) }
     {
         let differ = self.gate(GateKind::Xor(a, b))?;
-        let equal = self.gate(GateKind::And(before, differ.negated()))?;
-        Ok(equal)
+        let both = self.gate(GateKind::And(before, differ.negated()))?;
+        Ok(both)
     }
 }

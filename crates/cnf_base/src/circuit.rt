@@ -121,11 +121,11 @@ impl Circuit {
         ensures err { OnErr result (self.new ≡ self.old) }
     {
         let held = self.clauses.len();
-        let literal = Lit::new(self.next, true);
-        match self.put_clauses(literal, kind) {
+        let gate = Lit::new(self.next, true);
+        match self.put_clauses(gate, kind) {
             Ok(()) => {
                 self.next += 1;
-                Ok(literal)
+                Ok(gate)
             }
             Err(error) => {
                 self.clauses.truncate(held);

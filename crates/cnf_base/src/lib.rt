@@ -20,3 +20,6 @@ pub use clause::{Clause, ClauseId, Pos};
 pub use gate::GateKind;
 pub use laws::{agreement_keeps_truth, gains_mean, gates_are_determined, gates_mean};
 pub use lit::Lit;
+
+#[cfg(test)]
+mod tests;
