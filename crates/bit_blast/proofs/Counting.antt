@@ -1,24 +1,25 @@
 -- No operator has a circuit over four rows or more, and a block has its bits from rows that are there.
-use Rattle.std.proofs.Common.{◌≡◌, ℕ, suc, ◌+◌, ◌<◌, ◌≤◌, Bool, true, false, List, [], ◌∷◌, length, Option, Some, None, refl, ap, subst, arith}
+use Rattle.std.proofs.Common.{◌≡◌, ℕ, suc, ◌+◌, ◌<◌, ◌≤◌, Bool, true, false, List, [], ◌∷◌, length, Option, Some, None, refl, sym, subst, arith}
 use Rattle.std.specs.Prelude.{if◌then◌else◌, ◌==◌}
 use Rattle.std.specs.List.{AllByRecursion}
-use Rattle.cnf_base.specs.Literals.{Literal}
+use Rattle.cnf_base.specs.Literals.{Literal, false_literal}
 use Rattle.smt_terms.specs.declared.operator.Operator.{Operator}
 use Rattle.smt_terms.specs.declared.operator.Operator.TheVariants as plain
 use Rattle.smt_terms.specs.declared.node.Op.{Op}
 use Rattle.smt_terms.specs.declared.node.Op.TheVariants.{Plain, Word, Extract, ZeroExtend, SignExtend, RotateLeft, RotateRight, Repeat, Constant, Apply, Param}
 use Rattle.smt_terms.specs.declared.node.Node.{Node}
 use Rattle.smt_terms.specs.Bits.{TermBits, bits_in}
-use Rattle.bit_blast.specs.Blocks.{Block, CircuitOf, Makes, Takes, Lacks, built, two, choice, operator_circuit, circuit_of, with_first, all_bits, block_over, block_of, EachShort}
+use Rattle.bit_blast.specs.declared.rows.Connective.TheVariants.{Both, Neither, ButNot, Differ}
+use Rattle.bit_blast.specs.Blocks.{Block, CircuitOf, Makes, Takes, Lacks, built, two, choice, by_gate, sum, difference, equality, operator_circuit, circuit_of, with_first, all_bits, block_over, block_of, EachShort}
 
 -- the bits of a term are few
 pub short_of : (held : List TermBits) (t : ℕ) (b : List Literal) → EachShort held → Some b ≡ bits_in held t → length b ≤ 128
 short_of [] t b h e = let f : ⊥ = cc in absurd f
-short_of (x ∷ held) t b h e = go (x.term == t) e
+short_of (x ∷ held) t b h e = go (short_of held t b h.1) (x.term == t) e
   where
-    go : (c : Bool) → Some b ≡ (if c then Some x.bits else bits_in held t) → length b ≤ 128
-    go true e = let q : b ≡ x.bits = cc in subst (λ l. length l ≤ 128) (λ i. q (~i)) h.0
-    go false e = short_of held t b h.1 e
+    go : (Some b ≡ bits_in held t → length b ≤ 128) → (c : Bool) → Some b ≡ (if c then Some x.bits else bits_in held t) → length b ≤ 128
+    go rest true e = let q : b ≡ x.bits = cc in subst (λ l. length l ≤ 128) (sym q) h.0
+    go rest false e = rest e
 
 two_many : (f : List Literal → List Literal → ℕ → Block) (g : ℕ) (w x y z : List Literal) (r : List (List Literal)) → built (two f) g (w ∷ x ∷ y ∷ z ∷ r) ≡ None
 two_many f g w x y z r = go (length w == length x)
@@ -29,34 +30,34 @@ two_many f g w x y z r = go (length w == length x)
 
 choice_many : (g : ℕ) (w x y z : List Literal) (r : List (List Literal)) → built choice g (w ∷ x ∷ y ∷ z ∷ r) ≡ None
 choice_many g [] x y z r = refl
-choice_many g (c ∷ []) x y z r = go (length x == length y)
+choice_many g (c ∷ []) x y z r = go _ (length x == length y)
   where
-    go : (b : Bool) {m : ℕ → Block} → built (if b then Makes m else Lacks) g (z ∷ r) ≡ None
-    go true = refl
-    go false = refl
+    go : (m : ℕ → Block) (b : Bool) → built (if b then Makes m else Lacks) g (z ∷ r) ≡ None
+    go m true = refl
+    go m false = refl
 choice_many g (c ∷ d ∷ cs) x y z r = refl
 
 operator_many : (o : Operator) (g : ℕ) (w x y z : List Literal) (r : List (List Literal)) → built (operator_circuit o) g (w ∷ x ∷ y ∷ z ∷ r) ≡ None
 operator_many plain.True g w x y z r = refl
 operator_many plain.False g w x y z r = refl
 operator_many plain.Not g w x y z r = refl
-operator_many plain.And g w x y z r = two_many _ g w x y z r
-operator_many plain.Or g w x y z r = two_many _ g w x y z r
-operator_many plain.Xor g w x y z r = two_many _ g w x y z r
-operator_many plain.Implies g w x y z r = two_many _ g w x y z r
+operator_many plain.And g w x y z r = two_many (by_gate Both true) g w x y z r
+operator_many plain.Or g w x y z r = two_many (by_gate Neither false) g w x y z r
+operator_many plain.Xor g w x y z r = two_many (by_gate Differ true) g w x y z r
+operator_many plain.Implies g w x y z r = two_many (by_gate ButNot false) g w x y z r
 operator_many plain.Ite g w x y z r = choice_many g w x y z r
-operator_many plain.Equal g w x y z r = two_many _ g w x y z r
+operator_many plain.Equal g w x y z r = two_many (equality) g w x y z r
 operator_many plain.Bvnot g w x y z r = refl
 operator_many plain.Bvneg g w x y z r = refl
-operator_many plain.Bvadd g w x y z r = two_many _ g w x y z r
-operator_many plain.Bvsub g w x y z r = two_many _ g w x y z r
+operator_many plain.Bvadd g w x y z r = two_many (sum false_literal) g w x y z r
+operator_many plain.Bvsub g w x y z r = two_many (difference) g w x y z r
 operator_many plain.Bvmul g w x y z r = refl
-operator_many plain.Bvand g w x y z r = two_many _ g w x y z r
-operator_many plain.Bvor g w x y z r = two_many _ g w x y z r
-operator_many plain.Bvxor g w x y z r = two_many _ g w x y z r
-operator_many plain.Bvnand g w x y z r = two_many _ g w x y z r
-operator_many plain.Bvnor g w x y z r = two_many _ g w x y z r
-operator_many plain.Bvxnor g w x y z r = two_many _ g w x y z r
+operator_many plain.Bvand g w x y z r = two_many (by_gate Both true) g w x y z r
+operator_many plain.Bvor g w x y z r = two_many (by_gate Neither false) g w x y z r
+operator_many plain.Bvxor g w x y z r = two_many (by_gate Differ true) g w x y z r
+operator_many plain.Bvnand g w x y z r = two_many (by_gate Both false) g w x y z r
+operator_many plain.Bvnor g w x y z r = two_many (by_gate Neither true) g w x y z r
+operator_many plain.Bvxnor g w x y z r = two_many (by_gate Differ false) g w x y z r
 operator_many plain.Bvudiv g w x y z r = refl
 operator_many plain.Bvurem g w x y z r = refl
 operator_many plain.Bvsdiv g w x y z r = refl
@@ -73,7 +74,7 @@ operator_many plain.Bvslt g w x y z r = refl
 operator_many plain.Bvsle g w x y z r = refl
 operator_many plain.Bvsgt g w x y z r = refl
 operator_many plain.Bvsge g w x y z r = refl
-operator_many plain.Bvcomp g w x y z r = two_many _ g w x y z r
+operator_many plain.Bvcomp g w x y z r = two_many (equality) g w x y z r
 operator_many plain.Concat g w x y z r = refl
 operator_many plain.Select g w x y z r = refl
 operator_many plain.Store g w x y z r = refl

@@ -2,3 +2,4 @@ pub mod Wiring
 pub mod Bitwise
 pub mod Wires
 pub mod Counting
+pub mod Shapes
