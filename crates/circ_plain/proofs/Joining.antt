@@ -1,5 +1,5 @@
 -- The parts of a shift one after another are the whole shift.
-use Rattle.std.proofs.Common.{◌≡◌, ℕ, ◌+◌, ◌-◌, List, [], ◌∷◌, ◌++◌, length, take, drop, min, sym, ap, subst, ◌∙◌}
+use Rattle.std.proofs.Common.{◌≡◌, ℕ, ◌-◌, List, length, take, drop, min, ap, subst, ◌∙◌}
 use Rattle.std.specs.Prelude.{replicate}
 use Rattle.std.proofs.lemmas.List.{take_rest}
 use Rattle.cnf_base.specs.Literals.{Literal, negated, false_literal}

@@ -5,3 +5,4 @@ pub mod Powers
 pub mod Shifting
 pub mod Stages
 pub mod Joining
+pub mod Ordering

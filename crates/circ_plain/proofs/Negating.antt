@@ -1,22 +1,20 @@
 -- The bits of a negation and of an absolute value are those of the numbers.
-use Rattle.std.proofs.Common.{◌≡◌, ℕ, zero, suc, ◌+◌, ◌-◌, ◌*◌, ◌/◌, ◌%◌, ◌^◌, ◌<◌, ◌≤◌, Bool, true, false, not, List, [], ◌∷◌, ◌++◌, length, length-append, length-take, min, take, get_or, refl, sym, ap, ◌∙◌, subst, arith}
-use Rattle.std.specs.Prelude.{if◌then◌else◌, map, replicate, nat_le}
+use Rattle.std.proofs.Common.{◌≡◌, ℕ, suc, ◌+◌, ◌-◌, ◌*◌, ◌%◌, ◌^◌, ◌<◌, Bool, true, false, List, [], ◌∷◌, length, length-append, length-take, min, take, get_or, refl, sym, ap, ◌∙◌, subst, arith}
+use Rattle.std.specs.Prelude.{map, replicate, nat_le}
 use Rattle.std.proofs.lemmas.Bool.{le-leb, lt-leb}
 use Rattle.std.proofs.lemmas.List.{length-map, length-replicate}
-use Rattle.std.proofs.lemmas.Nat.{pow_pos}
 use Rattle.std.proofs.Math.Nat.{pow-suc, mod-eq_of_lt, add-mul-mod_self_left}
 use Rattle.cnf_base.specs.Literals.{Literal, negated, true_literal, false_literal}
-use Rattle.cnf_base.specs.declared.gate.GateKind.{GateKind}
 use Rattle.cnf_base.specs.Clauses.{lit_true, number, bit}
 use Rattle.cnf_base.specs.Gates.{HaveMeaning}
-use Rattle.cnf_base.specs.Adders.{add_gates, add_bits, add_carry}
+use Rattle.cnf_base.specs.Adders.{add_carry}
 use Rattle.cnf_base.specs.Assignments.{fresh_bits}
 use Rattle.cnf_base.specs.Choices.{mux_gates}
 use Rattle.cnf_base.specs.Circuits.{CircuitValue, Gains}
 use Rattle.cnf_base.proofs.Growing.{Gains-then}
 use Rattle.cnf_base.proofs.Adding.{add_number, length-add_gates, length-add_bits}
 use Rattle.smt_words.specs.Words.{is_negative, neg_of, abs_of}
-use Rattle.cnf_base.proofs.Numbers.{bit_lt, number_lt, number-negated}
+use Rattle.cnf_base.proofs.Numbers.{number_lt, number-negated}
 use Rattle.cnf_base.proofs.Rows.{length-fresh_bits}
 use Rattle.cnf_base.proofs.Choosing.{length-mux_gates}
 use Rattle.circ_plain.specs.Signs.{sign_of, neg_gates, neg_bits, abs_gates, abs_bits}

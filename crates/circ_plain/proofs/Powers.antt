@@ -3,7 +3,7 @@ use Rattle.std.proofs.Common.{◌≡◌, ℕ, zero, suc, ◌+◌, ◌-◌, ◌*�
 use Rattle.std.specs.Prelude.{if◌then◌else◌, nat_le}
 use Rattle.std.proofs.lemmas.Bool.{leb-true, leb-false, cases_order}
 use Rattle.std.proofs.lemmas.Nat.{pow_pos, mod_below, div-mul-add, shr_split, shr_below}
-use Rattle.std.proofs.Math.Pow.{pow-lt, pow-add}
+use Rattle.std.proofs.Math.Pow.{pow-add}
 use Rattle.std.proofs.Math.Nat.{pow-suc, mod-eq_of_lt, add-mul-mod_self_right, mul-lt-mul_of_pos_left}
 use Rattle.smt_words.proofs.Numbers.{pow_le}
 use Rattle.circ_plain.specs.Shifts.{least_power, stages}

@@ -5,16 +5,16 @@ use Rattle.std.proofs.lemmas.Bool.{lt-ltb, le-ltb, cases_lt}
 use Rattle.std.proofs.lemmas.Bool.Decides.{nat_tests}
 use Rattle.std.proofs.lemmas.Nat.{pow_pos, shr-shr, mul-mod_first, le-div}
 use Rattle.std.proofs.Math.Pow.{pow-add}
-use Rattle.std.proofs.Math.Nat.{pow-suc, mod-eq_of_lt, div-eq_of_lt, div-one}
-use Rattle.cnf_base.specs.Literals.{Literal, positive_of, negative_of, negated, false_literal}
+use Rattle.std.proofs.Math.Nat.{pow-suc, mod-eq_of_lt, div-eq_of_lt, div-one, mul-le-mul_left}
+use Rattle.cnf_base.specs.Literals.{Literal, negative_of, negated, false_literal}
 use Rattle.cnf_base.specs.declared.gate.GateKind.{GateKind}
 use Rattle.cnf_base.specs.Clauses.{lit_true, number, bit}
 use Rattle.cnf_base.specs.Gates.{HaveMeaning}
 use Rattle.cnf_base.specs.Assignments.{fresh_bits}
 use Rattle.cnf_base.specs.Choices.{mux_gates}
 use Rattle.cnf_base.proofs.Truth.{lit_true-negated}
-use Rattle.smt_words.specs.Words.{is_negative, not_of, shl_of, lshr_of, ashr_of}
-use Rattle.smt_words.proofs.Numbers.{shl_past, shr_past, pow_le}
+use Rattle.smt_words.specs.Words.{not_of, shl_of, lshr_of, ashr_of}
+use Rattle.smt_words.proofs.Numbers.{shl_past, shr_past}
 use Rattle.std.proofs.lemmas.List.{length-replicate}
 use Rattle.cnf_base.proofs.Numbers.{number_lt, number-append, number-take}
 use Rattle.cnf_base.proofs.Rows.{length-fresh_bits}
@@ -71,7 +71,7 @@ number-moved_down v fill d r true e h =
 
 -- ---- all stages
 
-AreNear-next : (n j : ℕ) (t : Literal) (ts : List Literal) → AreNear n j (t ∷ ts) → AreNear n (suc j) ts
+pub AreNear-next : (n j : ℕ) (t : Literal) (ts : List Literal) → AreNear n j (t ∷ ts) → AreNear n (suc j) ts
 AreNear-next n j t ts h = λ i lt. h i (omega arith)
 
 -- a stage moves by its bit of the amount
@@ -327,3 +327,17 @@ length-ashr_gates g a t =
     let ls = length-replicate n (sign_of a) in
     length-append (move_gates Down (sign_of a) g a t) (mux_gates over (replicate n (sign_of a)) row)
     ∙ rw (length-move_gates Down (sign_of a) g a t, length-mux_gates over (replicate n (sign_of a)) row (ls ∙ sym lr), ls) refl
+
+-- a bound on the gates of a shift that knows no stages
+pub shift_room : (n t m : ℕ) → n * min m t + (t - m) + n ≤ n * t + t + n
+shift_room n t m = omega (arith, mul-le-mul_left {m = min m t} {n = t} n (omega arith))
+
+pub logical_room : (way : Direction) (g : ℕ) (a t : List Literal) → length (logical_gates way g a t) ≤ length a * length t + length t + length a
+logical_room way g a t =
+    let m = stages (length a) in
+    rw (length-logical_gates way g a t, length-take m t, length-drop m t) (shift_room (length a) (length t) m)
+
+pub arithmetic_room : (g : ℕ) (a t : List Literal) → length (ashr_gates g a t) ≤ length a * length t + length t + length a
+arithmetic_room g a t =
+    let m = stages (length a) in
+    rw (length-ashr_gates g a t, length-take m t, length-drop m t) (shift_room (length a) (length t) m)

@@ -1,12 +1,10 @@
 -- The shifters' gates one place or one part after another, for the code that makes them.
-use Rattle.std.proofs.Common.{◌≡◌, ℕ, zero, suc, ◌+◌, ◌*◌, ◌%◌, ◌^◌, ◌<◌, ◌≤◌, List, [], ◌∷◌, ◌++◌, length, take, drop, min, inl, inr, refl, sym, ap, ◌∙◌, subst, arith}
-use Rattle.std.specs.Prelude.{replicate}
+use Rattle.std.proofs.Common.{◌≡◌, ℕ, suc, ◌+◌, ◌*◌, ◌%◌, ◌^◌, ◌<◌, ◌≤◌, List, [], ◌∷◌, ◌++◌, length, take, drop, min, inl, inr, refl, sym, ap, ◌∙◌, arith}
 use Rattle.std.proofs.lemmas.Bool.{cases_lt}
 use Rattle.std.proofs.lemmas.List.{drop_all, take_all}
 use Rattle.std.proofs.Math.Nat.{mul-le-mul_left, mod-eq_of_lt}
 use Rattle.std.proofs.Math.Pow.{pow-lt}
-use Rattle.cnf_base.specs.Literals.{Literal, positive_of, negative_of, negated, false_literal}
-use Rattle.cnf_base.specs.declared.gate.GateKind.{GateKind}
+use Rattle.cnf_base.specs.Literals.{Literal, negative_of, negated}
 use Rattle.cnf_base.specs.declared.gate.GateKind.TheVariants.{And}
 use Rattle.cnf_base.specs.Assignments.{fresh_bits}
 use Rattle.cnf_base.specs.Choices.{mux_gates}
@@ -15,7 +13,7 @@ use Rattle.cnf_base.proofs.Rows.{length-fresh_bits}
 use Rattle.cnf_base.proofs.Choosing.{length-mux_gates}
 use Rattle.smt_words.proofs.Numbers.{pow_le}
 use Rattle.circ_plain.specs.declared.moves.Direction.{Direction}
-use Rattle.circ_plain.specs.Shifts.{moved, stage_gates, stage_bits, any_gates, any_bit, mask_gates}
+use Rattle.circ_plain.specs.Shifts.{moved, stage_gates, stage_bits, any_gates, any_bit}
 use Rattle.circ_plain.proofs.Shifting.{length-moved}
 
 -- the first bit of a disjunction, and the disjunction of the rest

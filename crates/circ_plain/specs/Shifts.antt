@@ -1,6 +1,6 @@
 -- Shifts by a number of places that is itself a row of bits (barrel shifters), from the next variable g on.
 use Rattle.std.specs.Prelude.{ℕ, zero, suc, ◌+◌, ◌-◌, ◌^◌, ◌<◌, nat_le, if◌then◌else◌, List, [], ◌∷◌, ◌++◌, length, take, drop, replicate}
-use Rattle.cnf_base.specs.Literals.{Literal, positive_of, negative_of, negated, false_literal}
+use Rattle.cnf_base.specs.Literals.{Literal, negative_of, negated, false_literal}
 use Rattle.cnf_base.specs.declared.gate.GateKind.{GateKind}
 use Rattle.cnf_base.specs.declared.gate.GateKind.TheVariants.{And}
 use Rattle.cnf_base.specs.Assignments.{fresh_bits}

@@ -8,12 +8,16 @@
 //! number functions of `smt_words`.
 #![tactic(auto)]
 
+mod laws;
 mod moves;
 mod orders;
 mod rows;
 mod shifts;
 mod signs;
+#[cfg(test)]
+mod tests;
 
+pub use laws::{orders_are_ordered, shifts_are_ordered, signs_are_ordered};
 pub use orders::{sle, slt, ule, ult};
 pub use rows::sign;
 pub use shifts::{ashr, lshr, shl};

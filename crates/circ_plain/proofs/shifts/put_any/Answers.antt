@@ -1,5 +1,4 @@
-use Rattle.std.proofs.Common.{◌∙◌, refl, sym, arith, rules}
-use Rattle.std.proofs.lemmas.List.{drop_all}
+use Rattle.std.proofs.Common.{◌∙◌, sym, arith, rules}
 use Rattle.cnf_base.proofs.Growing.{Grows-more}
 use Rattle.cnf_base.proofs.Rows.{drop_at}
 use Rattle.circ_plain.proofs.Stages.{any_place, negative_from}

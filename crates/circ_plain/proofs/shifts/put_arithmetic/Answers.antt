@@ -1,4 +1,4 @@
-use Rattle.std.proofs.Common.{◌≡◌, ◌≤◌, ◌+◌, ◌∙◌, length, sym, ap, arith}
+use Rattle.std.proofs.Common.{◌≡◌, ◌∙◌, length, sym, ap, arith}
 use Rattle.std.proofs.lemmas.List.{length-replicate}
 use Rattle.circ_plain.specs.declared.moves.Direction.TheVariants.{Down}
 use Rattle.circ_plain.proofs.Shifting.{length-move_gates, length-ashr_gates}

@@ -1,4 +1,4 @@
-use Rattle.std.proofs.Common.{◌≡◌, ◌≤◌, ◌+◌, ◌∙◌, length, ap, arith}
+use Rattle.std.proofs.Common.{◌∙◌, arith}
 use Rattle.circ_plain.proofs.Shifting.{length-move_gates, length-logical_gates}
 use Rattle.circ_plain.proofs.Joining.{logical_joined, logical_bits_are, width_is}
 use Rattle.cnf_base.specs.Literals.{false_literal}

@@ -1,5 +1,4 @@
-use Rattle.std.proofs.Common.{◌≡◌, ◌<◌, ◌≤◌, ◌+◌, ◌-◌, ◌*◌, length, take, drop, ap, arith}
-use Rattle.cnf_base.specs.Literals.{false_literal}
+use Rattle.std.proofs.Common.{length, ap, arith}
 use Rattle.circ_plain.proofs.Shifting.{near_stages, length-move_gates, length-stage_gates}
 use Rattle.circ_plain.proofs.Joining.{near_is, far_is, moves_joined}
 use Rattle.circ_plain.proofs.shifts.put_moves.Goals as goal

@@ -1,4 +1,4 @@
-use Rattle.std.proofs.Common.{◌≡◌, ◌<◌, ◌≤◌, ◌+◌, ◌*◌, ◌%◌, ◌^◌, ◌∙◌, length, sym, ap, arith}
+use Rattle.std.proofs.Common.{◌≡◌, ◌≤◌, ◌*◌, ◌%◌, ◌^◌, ◌∙◌, length, sym, ap, arith}
 use Rattle.cnf_base.proofs.Growing.{Grows-more}
 use Rattle.cnf_base.proofs.Rows.{drop_at}
 use Rattle.circ_plain.specs.Shifts.{moved}

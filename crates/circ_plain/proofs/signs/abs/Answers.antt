@@ -1,7 +1,5 @@
-use Rattle.std.proofs.Common.{◌≡◌, ◌+◌, ◌*◌, ◌∙◌, [], length, ap, sym, arith}
-use Rattle.cnf_base.specs.Circuits.{CircuitValue, Gains}
+use Rattle.std.proofs.Common.{◌∙◌, length, ap, arith}
 use Rattle.cnf_base.proofs.Growing.{Gains-all}
-use Rattle.circ_plain.specs.Signs.{neg_gates, neg_bits, abs_gates, abs_bits}
 use Rattle.circ_plain.proofs.Negating.{abs_joined, abs_bits_are, abs_number, length-neg_bits, length-neg_gates}
 use Rattle.circ_plain.proofs.signs.abs.Goals as goal
 

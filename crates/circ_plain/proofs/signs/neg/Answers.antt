@@ -1,6 +1,4 @@
-use Rattle.std.proofs.Common.{◌≡◌, ◌∙◌, refl}
-use Rattle.std.specs.Prelude.{map, replicate}
-use Rattle.cnf_base.specs.Literals.{negated, false_literal}
+use Rattle.std.proofs.Common.{◌∙◌}
 use Rattle.cnf_base.proofs.Growing.{Gains-all}
 use Rattle.circ_plain.proofs.Negating.{neg_number}
 use Rattle.circ_plain.proofs.signs.neg.Goals as goal
