@@ -10,7 +10,7 @@ use Rattle.smt_terms.specs.declared.node.Op.TheVariants.{Plain, Word, Extract, Z
 use Rattle.smt_terms.specs.declared.node.Node.{Node}
 use Rattle.smt_terms.specs.Bits.{TermBits, bits_in}
 use Rattle.bit_blast.specs.declared.rows.Connective.TheVariants.{Both, Neither, ButNot, Differ}
-use Rattle.bit_blast.specs.Blocks.{Block, CircuitOf, Makes, Takes, Lacks, built, two, choice, by_gate, sum, difference, equality, operator_circuit, circuit_of, with_first, all_bits, block_over, block_of, EachShort}
+use Rattle.bit_blast.specs.Blocks.{Block, CircuitOf, Makes, Takes, Lacks, built, two, two_signed, choice, by_gate, below, not_above, signed_below, signed_not_above, shift_up, shift_down, signed_shift_down, sum, difference, equality, operator_circuit, circuit_of, with_first, all_bits, block_over, block_of, EachShort}
 
 -- the bits of a term are few
 pub short_of : (held : List TermBits) (t : ℕ) (b : List Literal) → EachShort held → Some b ≡ bits_in held t → length b ≤ 128
@@ -27,6 +27,13 @@ two_many f g w x y z r = go (length w == length x)
     go : (c : Bool) → built (if c then Makes (f w x) else Lacks) g (y ∷ z ∷ r) ≡ None
     go true = refl
     go false = refl
+
+signed_many : (f : List Literal → List Literal → ℕ → Block) (g : ℕ) (w x y z : List Literal) (r : List (List Literal)) → built (two_signed f) g (w ∷ x ∷ y ∷ z ∷ r) ≡ None
+signed_many f g w x y z r = go (length w == 0)
+  where
+    go : (c : Bool) → built (if c then Lacks else (if length w == length x then Makes (f w x) else Lacks)) g (y ∷ z ∷ r) ≡ None
+    go true = refl
+    go false = two_many f g w x y z r
 
 choice_many : (g : ℕ) (w x y z : List Literal) (r : List (List Literal)) → built choice g (w ∷ x ∷ y ∷ z ∷ r) ≡ None
 choice_many g [] x y z r = refl
@@ -63,17 +70,17 @@ operator_many plain.Bvurem g w x y z r = refl
 operator_many plain.Bvsdiv g w x y z r = refl
 operator_many plain.Bvsrem g w x y z r = refl
 operator_many plain.Bvsmod g w x y z r = refl
-operator_many plain.Bvshl g w x y z r = refl
-operator_many plain.Bvlshr g w x y z r = refl
-operator_many plain.Bvashr g w x y z r = refl
-operator_many plain.Bvult g w x y z r = refl
-operator_many plain.Bvule g w x y z r = refl
-operator_many plain.Bvugt g w x y z r = refl
-operator_many plain.Bvuge g w x y z r = refl
-operator_many plain.Bvslt g w x y z r = refl
-operator_many plain.Bvsle g w x y z r = refl
-operator_many plain.Bvsgt g w x y z r = refl
-operator_many plain.Bvsge g w x y z r = refl
+operator_many plain.Bvshl g w x y z r = two_many (shift_up) g w x y z r
+operator_many plain.Bvlshr g w x y z r = two_many (shift_down) g w x y z r
+operator_many plain.Bvashr g w x y z r = signed_many (signed_shift_down) g w x y z r
+operator_many plain.Bvult g w x y z r = two_many (below) g w x y z r
+operator_many plain.Bvule g w x y z r = two_many (not_above) g w x y z r
+operator_many plain.Bvugt g w x y z r = two_many (λ a b. below b a) g w x y z r
+operator_many plain.Bvuge g w x y z r = two_many (λ a b. not_above b a) g w x y z r
+operator_many plain.Bvslt g w x y z r = signed_many (signed_below) g w x y z r
+operator_many plain.Bvsle g w x y z r = signed_many (signed_not_above) g w x y z r
+operator_many plain.Bvsgt g w x y z r = signed_many (λ a b. signed_below b a) g w x y z r
+operator_many plain.Bvsge g w x y z r = signed_many (λ a b. signed_not_above b a) g w x y z r
 operator_many plain.Bvcomp g w x y z r = two_many (equality) g w x y z r
 operator_many plain.Concat g w x y z r = refl
 operator_many plain.Select g w x y z r = refl

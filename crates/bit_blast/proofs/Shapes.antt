@@ -125,7 +125,7 @@ truths_correct v g f r means (sort.Bool ∷ sort.Bool ∷ []) (a ∷ c ∷ []) (
 truths_correct v g f r means (sort.Bool ∷ sort.Bool ∷ []) (a ∷ c ∷ []) (x ∷ y ∷ []) s b rank each is have =
     let l = each.0.0 in
     let m = each.1.0.0 in
-    let rows : built (two f) g ((l ∷ []) ∷ (m ∷ []) ∷ []) ≡ Some b = rw (← each.0.1, ← each.1.0.1) is in
+    let rows : built (two f) g ((l ∷ []) ∷ (m ∷ []) ∷ []) ≡ Some b = (rw (each.0.1, each.1.0.1) at is) in
     let e : f (l ∷ []) (m ∷ []) g ≡ b = some_is rows in
     let sorts : sort.Bool ≡ s = cc in
     let done = means l m (subst (λ c. HaveMeaning v g c.gates) (sym e) have) in

@@ -7,7 +7,9 @@ use Rattle.bit_blast.specs.declared.rows.Connective.{Connective}
 use Rattle.bit_blast.specs.declared.rows.Connective.TheVariants.{Both, Neither, ButNot, Differ}
 use Rattle.cnf_base.specs.Assignments.{fresh_bits}
 use Rattle.cnf_base.specs.Adders.{add_gates, add_bits}
-use Rattle.circ_plain.specs.Signs.{sign_of}
+use Rattle.circ_plain.specs.Signs.{sign_of, neg_gates, neg_bits}
+use Rattle.circ_plain.specs.Orders.{ult_gates, ult_bit, ule_gates, ule_bit, slt_gates, slt_bit, sle_gates, sle_bit}
+use Rattle.circ_plain.specs.Shifts.{shl_gates, shl_bits, lshr_gates, lshr_bits, ashr_gates, ashr_bits}
 use Rattle.cnf_base.specs.Choices.{mux_gates, equal_gates, equal_bit}
 use Rattle.std.specs.List.{AllByRecursion}
 use Rattle.cnf_base.specs.Circuits.{CircuitValue, Gains}
@@ -54,6 +56,10 @@ alike a b f = if length a == length b then Makes f else Lacks
 abbrev pub two : (List Literal → List Literal → ℕ → Block) → CircuitOf
 two f = Takes λ a. Takes λ b. alike a b (f a b)
 
+-- two rows of equally many bits, and of one at least
+abbrev pub two_signed : (List Literal → List Literal → ℕ → Block) → CircuitOf
+two_signed f = Takes λ a. Takes λ b. if length a == 0 then Lacks else alike a b (f a b)
+
 -- the gate of a connective: both are true, neither is, the first is and the second is not, they differ
 abbrev pub gate_of : Connective → Literal → Literal → GateKind
 gate_of Both a b = AndGate a b
@@ -89,6 +95,32 @@ difference a b = sum true_literal a (map negated b)
 
 abbrev pub equality : List Literal → List Literal → ℕ → Block
 equality a b g = record { gates = equal_gates g true_literal a b; bits = equal_bit g true_literal a b ∷ [] }
+
+abbrev pub negation : List Literal → ℕ → Block
+negation a g = record { gates = neg_gates g a; bits = neg_bits g a }
+
+-- the orders of unsigned and of signed numbers
+abbrev pub below : List Literal → List Literal → ℕ → Block
+below a b g = record { gates = ult_gates g a b; bits = ult_bit g a b ∷ [] }
+
+abbrev pub not_above : List Literal → List Literal → ℕ → Block
+not_above a b g = record { gates = ule_gates g a b; bits = ule_bit g a b ∷ [] }
+
+abbrev pub signed_below : List Literal → List Literal → ℕ → Block
+signed_below a b g = record { gates = slt_gates g a b; bits = slt_bit g a b ∷ [] }
+
+abbrev pub signed_not_above : List Literal → List Literal → ℕ → Block
+signed_not_above a b g = record { gates = sle_gates g a b; bits = sle_bit g a b ∷ [] }
+
+-- shifts by a row
+abbrev pub shift_up : List Literal → List Literal → ℕ → Block
+shift_up a t g = record { gates = shl_gates g a t; bits = shl_bits g a t }
+
+abbrev pub shift_down : List Literal → List Literal → ℕ → Block
+shift_down a t g = record { gates = lshr_gates g a t; bits = lshr_bits g a t }
+
+abbrev pub signed_shift_down : List Literal → List Literal → ℕ → Block
+signed_shift_down a t g = record { gates = ashr_gates g a t; bits = ashr_bits g a t }
 
 -- the choice between two rows by the one bit of a condition
 abbrev pub choice_by : List Literal → List Literal → List Literal → CircuitOf
@@ -185,7 +217,7 @@ operator_circuit plain.Implies = bitwise ButNot false
 operator_circuit plain.Ite = choice
 operator_circuit plain.Equal = two equality
 operator_circuit plain.Bvnot = one λ a. wires (map negated a)
-operator_circuit plain.Bvneg = Lacks
+operator_circuit plain.Bvneg = one negation
 operator_circuit plain.Bvadd = two (sum false_literal)
 operator_circuit plain.Bvsub = two difference
 operator_circuit plain.Bvmul = Lacks
@@ -200,17 +232,17 @@ operator_circuit plain.Bvurem = Lacks
 operator_circuit plain.Bvsdiv = Lacks
 operator_circuit plain.Bvsrem = Lacks
 operator_circuit plain.Bvsmod = Lacks
-operator_circuit plain.Bvshl = Lacks
-operator_circuit plain.Bvlshr = Lacks
-operator_circuit plain.Bvashr = Lacks
-operator_circuit plain.Bvult = Lacks
-operator_circuit plain.Bvule = Lacks
-operator_circuit plain.Bvugt = Lacks
-operator_circuit plain.Bvuge = Lacks
-operator_circuit plain.Bvslt = Lacks
-operator_circuit plain.Bvsle = Lacks
-operator_circuit plain.Bvsgt = Lacks
-operator_circuit plain.Bvsge = Lacks
+operator_circuit plain.Bvshl = two shift_up
+operator_circuit plain.Bvlshr = two shift_down
+operator_circuit plain.Bvashr = two_signed signed_shift_down
+operator_circuit plain.Bvult = two below
+operator_circuit plain.Bvule = two not_above
+operator_circuit plain.Bvugt = two λ a b. below b a
+operator_circuit plain.Bvuge = two λ a b. not_above b a
+operator_circuit plain.Bvslt = two_signed signed_below
+operator_circuit plain.Bvsle = two_signed signed_not_above
+operator_circuit plain.Bvsgt = two_signed λ a b. signed_below b a
+operator_circuit plain.Bvsge = two_signed λ a b. signed_not_above b a
 operator_circuit plain.Bvcomp = two equality
 operator_circuit plain.Concat = Takes λ a. Takes λ b. Makes (wires (b ++ a))
 operator_circuit plain.Select = Lacks
@@ -229,6 +261,50 @@ circuit_of (Repeat i) = one λ a. wires (repeated i a)
 circuit_of (Constant d s) = Lacks
 circuit_of (Apply d s) = Lacks
 circuit_of (Param k s) = Lacks
+
+-- the operator reads the highest bit of its two rows as a sign
+abbrev pub IsSigned : Operator → Type 0
+IsSigned plain.True = ⊥
+IsSigned plain.False = ⊥
+IsSigned plain.Not = ⊥
+IsSigned plain.And = ⊥
+IsSigned plain.Or = ⊥
+IsSigned plain.Xor = ⊥
+IsSigned plain.Implies = ⊥
+IsSigned plain.Ite = ⊥
+IsSigned plain.Equal = ⊥
+IsSigned plain.Bvnot = ⊥
+IsSigned plain.Bvneg = ⊥
+IsSigned plain.Bvadd = ⊥
+IsSigned plain.Bvsub = ⊥
+IsSigned plain.Bvmul = ⊥
+IsSigned plain.Bvand = ⊥
+IsSigned plain.Bvor = ⊥
+IsSigned plain.Bvxor = ⊥
+IsSigned plain.Bvnand = ⊥
+IsSigned plain.Bvnor = ⊥
+IsSigned plain.Bvxnor = ⊥
+IsSigned plain.Bvudiv = ⊥
+IsSigned plain.Bvurem = ⊥
+IsSigned plain.Bvsdiv = ⊥
+IsSigned plain.Bvsrem = ⊥
+IsSigned plain.Bvsmod = ⊥
+IsSigned plain.Bvshl = ⊥
+IsSigned plain.Bvlshr = ⊥
+IsSigned plain.Bvashr = Unit {0}
+IsSigned plain.Bvult = ⊥
+IsSigned plain.Bvule = ⊥
+IsSigned plain.Bvugt = ⊥
+IsSigned plain.Bvuge = ⊥
+IsSigned plain.Bvslt = Unit {0}
+IsSigned plain.Bvsle = Unit {0}
+IsSigned plain.Bvsgt = Unit {0}
+IsSigned plain.Bvsge = Unit {0}
+IsSigned plain.Bvcomp = ⊥
+IsSigned plain.Concat = ⊥
+IsSigned plain.Select = ⊥
+IsSigned plain.Store = ⊥
+IsSigned plain.Witness = ⊥
 
 -- ---- blocks of terms
 

@@ -5,9 +5,10 @@ ghost use Rattle.std.specs.Option.{option_copied};
 ghost use Rattle.smt_terms.specs.Nodes.{node_at};
 ghost use Rattle.smt_terms.specs.Terms.{IsTerm};
 ghost use Rattle.smt_terms.specs.Bits.{bits_in};
-ghost use Rattle.bit_blast.specs.Blocks.{block_of, built, circuit_of, operator_circuit, connective_of, IsBuilt, HasNone, EachShort};
+ghost use Rattle.bit_blast.specs.Blocks.{block_of, built, circuit_of, operator_circuit, connective_of, IsSigned, IsBuilt, HasNone, EachShort};
 
 use crate::rows;
+use circ_plain::{ashr, lshr, neg, shl};
 use cnf_base::{Circuit, Lit};
 use smt_terms::bits::Bits;
 use smt_terms::node::{Op, TermId};
@@ -73,6 +74,7 @@ fn leaf(op: &Op, circuit: &mut Circuit) -> Result<Option<Vec<Lit>>, AllocError>
 // The circuit of an operator over one row.
 fn unary(op: &Op, a: &[Lit], circuit: &mut Circuit) -> Result<Option<Vec<Lit>>, AllocError>
     requires short { length a.now ≤ 128 }
+    requires room { circuit.old.next + 2 ^ 17 ≤ 2 ^ 63 }
     ensures ok { IfOk result (λ o. MatchOption o
         (HasNone (built (circuit_of op.now) circuit.old.next (a.now ∷ [])) circuit.old circuit.new)
         (λ row. IsBuilt (built (circuit_of op.now) circuit.old.next (a.now ∷ [])) row.items circuit.old circuit.new)) }
@@ -81,6 +83,7 @@ fn unary(op: &Op, a: &[Lit], circuit: &mut Circuit) -> Result<Option<Vec<Lit>>, 
     let alloc = circuit.alloc();
     match op {
         Op::Plain(Operator::Not | Operator::Bvnot) => Ok(Some(rows::negated_row(alloc, a)?)),
+        Op::Plain(Operator::Bvneg) => Ok(Some(neg(circuit, a)?)),
         Op::ZeroExtend(more) => Ok(Some(rows::extended(alloc, a, *more, Lit::FALSE)?)),
         Op::SignExtend(more) => Ok(Some(rows::extended(alloc, a, *more, rows::top(a))?)),
         Op::Repeat(copies) => Ok(Some(rows::repeated(alloc, *copies, a)?)),
@@ -139,6 +142,46 @@ fn paired(
         Operator::Equal | Operator::Bvcomp => Ok(Some(rows::equality(a, b, circuit)?)),
         Operator::Bvadd => Ok(Some(rows::sum(Lit::FALSE, a, b, circuit)?)),
         Operator::Bvsub => Ok(Some(rows::difference(a, b, circuit)?)),
+        Operator::Bvult => Ok(Some(rows::below(a, b, circuit)?)),
+        Operator::Bvugt => Ok(Some(rows::below(b, a, circuit)?)),
+        Operator::Bvule => Ok(Some(rows::not_above(a, b, circuit)?)),
+        Operator::Bvuge => Ok(Some(rows::not_above(b, a, circuit)?)),
+        Operator::Bvshl => Ok(Some(shl(circuit, a, b)?)),
+        Operator::Bvlshr => Ok(Some(lshr(circuit, a, b)?)),
+        Operator::Bvslt
+        | Operator::Bvsgt
+        | Operator::Bvsle
+        | Operator::Bvsge
+        | Operator::Bvashr => signed(operator, a, b, circuit),
+        _ => Ok(None),
+    }
+}
+
+// The circuit of an operator over two rows of one length, the highest bit of which is a sign.
+fn signed(
+    operator: Operator,
+    a: &[Lit],
+    b: &[Lit],
+    circuit: &mut Circuit,
+) -> Result<Option<Vec<Lit>>, AllocError>
+    requires same { length a.now ≡ length b.now }
+    requires short { length a.now ≤ 128 }
+    requires room { circuit.old.next + 2 ^ 17 ≤ 2 ^ 63 }
+    requires sign { IsSigned operator }
+    ensures ok { IfOk result (λ o. MatchOption o
+        (HasNone (built (operator_circuit operator) circuit.old.next (a.now ∷ b.now ∷ [])) circuit.old circuit.new)
+        (λ row. IsBuilt (built (operator_circuit operator) circuit.old.next (a.now ∷ b.now ∷ [])) row.items circuit.old circuit.new)) }
+    ensures err { OnErr result (circuit.new ≡ circuit.old) }
+{
+    if a.len() == 0 {
+        return Ok(None);
+    }
+    match operator {
+        Operator::Bvslt => Ok(Some(rows::signed_below(a, b, circuit)?)),
+        Operator::Bvsgt => Ok(Some(rows::signed_below(b, a, circuit)?)),
+        Operator::Bvsle => Ok(Some(rows::signed_not_above(a, b, circuit)?)),
+        Operator::Bvsge => Ok(Some(rows::signed_not_above(b, a, circuit)?)),
+        Operator::Bvashr => Ok(Some(ashr(circuit, a, b)?)),
         _ => Ok(None),
     }
 }

@@ -5,9 +5,9 @@ ghost use Rattle.cnf_base.specs.Literals.{negated, true_literal, false_literal};
 ghost use Rattle.cnf_base.specs.Circuits.{Gains};
 ghost use Rattle.cnf_base.specs.Assignments.{fresh_bits};
 ghost use Rattle.circ_plain.specs.Signs.{sign_of};
-ghost use Rattle.bit_blast.specs.Blocks.{gate_of, each_gate, literal_bits, rotated as rotated_row, repeated as repeated_row, extracted as extracted_row, turned_left, turned_right, connective_of, by_gate, sum as sum_block, difference as difference_block, equality as equality_block, IsBuilt};
+ghost use Rattle.bit_blast.specs.Blocks.{gate_of, each_gate, literal_bits, rotated as rotated_row, repeated as repeated_row, extracted as extracted_row, turned_left, turned_right, connective_of, by_gate, sum as sum_block, difference as difference_block, equality as equality_block, below as below_block, not_above as not_above_block, signed_below as signed_below_block, signed_not_above as signed_not_above_block, IsBuilt};
 
-use circ_plain::sign;
+use circ_plain::{sign, sle, slt, ule, ult};
 use cnf_base::{Circuit, GateKind, Lit};
 use smt_terms::operator::Operator;
 use std::alloc::{AllocError, Global};
@@ -269,6 +269,60 @@ pub fn equality(a: &[Lit], b: &[Lit], circuit: &mut Circuit) -> Result<Vec<Lit>,
 {
     let mut bits = Vec::with_capacity(circuit.alloc(), 1)?;
     let bit = circuit.equal(a, b)?;
+    bits.push_reserved(bit);
+    Ok(bits)
+}
+
+/// The one bit that says whether the first number is below the second.
+pub fn below(a: &[Lit], b: &[Lit], circuit: &mut Circuit) -> Result<Vec<Lit>, AllocError>
+    requires same { length a.now ≡ length b.now }
+    requires room { circuit.old.next + 2 * length a.now ≤ 2 ^ 63 }
+    ensures ok { IfOk result (λ row. IsBuilt (Some (below_block a.now b.now circuit.old.next)) row.items circuit.old circuit.new) }
+    ensures err { OnErr result (circuit.new ≡ circuit.old) }
+{
+    let mut bits = Vec::with_capacity(circuit.alloc(), 1)?;
+    let bit = ult(circuit, a, b)?;
+    bits.push_reserved(bit);
+    Ok(bits)
+}
+
+/// The one bit that says whether the first number is not above the second.
+pub fn not_above(a: &[Lit], b: &[Lit], circuit: &mut Circuit) -> Result<Vec<Lit>, AllocError>
+    requires same { length a.now ≡ length b.now }
+    requires room { circuit.old.next + 2 * length a.now ≤ 2 ^ 63 }
+    ensures ok { IfOk result (λ row. IsBuilt (Some (not_above_block a.now b.now circuit.old.next)) row.items circuit.old circuit.new) }
+    ensures err { OnErr result (circuit.new ≡ circuit.old) }
+{
+    let mut bits = Vec::with_capacity(circuit.alloc(), 1)?;
+    let bit = ule(circuit, a, b)?;
+    bits.push_reserved(bit);
+    Ok(bits)
+}
+
+/// The one bit that says whether the first signed number is below the second.
+pub fn signed_below(a: &[Lit], b: &[Lit], circuit: &mut Circuit) -> Result<Vec<Lit>, AllocError>
+    requires same { length a.now ≡ length b.now }
+    requires some { 0 < length a.now }
+    requires room { circuit.old.next + 2 * length a.now ≤ 2 ^ 63 }
+    ensures ok { IfOk result (λ row. IsBuilt (Some (signed_below_block a.now b.now circuit.old.next)) row.items circuit.old circuit.new) }
+    ensures err { OnErr result (circuit.new ≡ circuit.old) }
+{
+    let mut bits = Vec::with_capacity(circuit.alloc(), 1)?;
+    let bit = slt(circuit, a, b)?;
+    bits.push_reserved(bit);
+    Ok(bits)
+}
+
+/// The one bit that says whether the first signed number is not above the second.
+pub fn signed_not_above(a: &[Lit], b: &[Lit], circuit: &mut Circuit) -> Result<Vec<Lit>, AllocError>
+    requires same { length a.now ≡ length b.now }
+    requires some { 0 < length a.now }
+    requires room { circuit.old.next + 2 * length a.now ≤ 2 ^ 63 }
+    ensures ok { IfOk result (λ row. IsBuilt (Some (signed_not_above_block a.now b.now circuit.old.next)) row.items circuit.old circuit.new) }
+    ensures err { OnErr result (circuit.new ≡ circuit.old) }
+{
+    let mut bits = Vec::with_capacity(circuit.alloc(), 1)?;
+    let bit = sle(circuit, a, b)?;
     bits.push_reserved(bit);
     Ok(bits)
 }

@@ -4,8 +4,8 @@ use Rattle.smt_terms.specs.Bits.{bits_in}
 use Rattle.bit_blast.proofs.Counting.{short_of, block_many}
 use Rattle.bit_blast.proofs.blasting.encode.Goals as goal
 
-pub unary-requires : goal.unary-requires
-unary-requires c = record { short = short_of _ _ _ c.requires.short c.in-Some.ensures }
+pub unary-requires-clause-short : goal.unary-requires-clause-short
+unary-requires-clause-short c = short_of _ _ _ c.requires.short c.in-Some.ensures
 
 pub binary-requires-clause-short : goal.binary-requires-clause-short
 binary-requires-clause-short c = short_of _ _ _ c.requires.short c.in-Some-of.ensures
