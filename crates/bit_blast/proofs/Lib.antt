@@ -4,3 +4,5 @@ pub mod Wires
 pub mod Counting
 pub mod Room
 pub mod Shapes
+pub mod Correct
+pub mod Wired
