@@ -6,3 +6,4 @@ pub mod Room
 pub mod Shapes
 pub mod Correct
 pub mod Wired
+pub mod Compared

@@ -22,7 +22,7 @@ same_word n sort.Bool e = let f : ⊥ = cc in absurd f
 same_word n (sort.Word m) e = ap sort.Word (sym (eqb-true n m e))
 same_word n (sort.Array k m) e = let f : ⊥ = cc in absurd f
 
-some_is : {A : Type 0} {x y : A} → Some x ≡ Some y → x ≡ y
+pub some_is : {A : Type 0} {x y : A} → Some x ≡ Some y → x ≡ y
 some_is e = cc
 
 -- ---- one word
