@@ -7,3 +7,4 @@ pub mod Shapes
 pub mod Correct
 pub mod Wired
 pub mod Compared
+pub mod Table
