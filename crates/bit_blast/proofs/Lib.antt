@@ -8,3 +8,4 @@ pub mod Correct
 pub mod Wired
 pub mod Compared
 pub mod Table
+pub mod Ordered

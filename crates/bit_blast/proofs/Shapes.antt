@@ -100,7 +100,7 @@ two_correct v g h f r means ss rows xs s b = two_of (λ a. Unit {0}) v g h f r (
     any (a ∷ rows) = tt
 
 -- two rows of one bit at least
-signed_rows : (f : List Literal → List Literal → ℕ → Block) (g : ℕ) (rows : List (List Literal)) (b : Block) → built (two_signed f) g rows ≡ Some b → FirstIs (λ a. 0 < length a) rows × (built (two f) g rows ≡ Some b)
+pub signed_rows : (f : List Literal → List Literal → ℕ → Block) (g : ℕ) (rows : List (List Literal)) (b : Block) → built (two_signed f) g rows ≡ Some b → FirstIs (λ a. 0 < length a) rows × (built (two f) g rows ≡ Some b)
 signed_rows f g [] b e = let q : ⊥ = cc in absurd q
 signed_rows f g (a ∷ []) b e = let q : ⊥ = cc in absurd q
 signed_rows f g (a ∷ c ∷ rows) b e = go (length a == 0) refl e

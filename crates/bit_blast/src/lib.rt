@@ -8,6 +8,8 @@
 #![tactic(auto)]
 
 mod blasting;
+mod laws;
 mod rows;
 
 pub use blasting::encode;
+pub use laws::{blocks_are_correct, blocks_are_ordered};
