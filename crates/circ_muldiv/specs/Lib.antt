@@ -1,0 +1,4 @@
+pub mod Products
+pub mod Quotients
+pub mod Signed
+pub mod Sizes
