@@ -136,7 +136,7 @@ concatenation_correct v g ss rows xs s b rank each is =
       k.3,
       k.5,
       rw (k.6.1, k.7.1) (subst (λ c. AreBitsOf v s c.bits (VWord (r.0 + r.1) (concat_of r.1 (number v k.0) (number v k.1)))) blk
-      (subst (λ (p : ℕ × ℕ). AreBitsOf v s (k.1 ++ k.0) (VWord (p.0 + p.1) (concat_of p.1 (number v k.0) (number v k.1)))) (λ i. (widths i, widths' i)) means)),
+          (subst (λ (p : ℕ × ℕ). AreBitsOf v s (k.1 ++ k.0) (VWord (p.0 + p.1) (concat_of p.1 (number v k.0) (number v k.1)))) (λ i. (widths i, widths' i)) means)),
     )
 
 -- ---- choices

@@ -36,18 +36,30 @@ pub fn encode(
     match node.args.as_slice() {
         [] => leaf(&node.op, circuit),
         [a] => {
-            let Some(a) = bits.of(*a) else { return Ok(None) };
+            let Some(a) = bits.of(*a) else {
+                return Ok(None)
+            };
             unary(&node.op, a, circuit)
         }
         [a, b] => {
-            let Some(a) = bits.of(*a) else { return Ok(None) };
-            let Some(b) = bits.of(*b) else { return Ok(None) };
+            let Some(a) = bits.of(*a) else {
+                return Ok(None)
+            };
+            let Some(b) = bits.of(*b) else {
+                return Ok(None)
+            };
             binary(&node.op, a, b, circuit)
         }
         [c, a, b] => {
-            let Some(c) = bits.of(*c) else { return Ok(None) };
-            let Some(a) = bits.of(*a) else { return Ok(None) };
-            let Some(b) = bits.of(*b) else { return Ok(None) };
+            let Some(c) = bits.of(*c) else {
+                return Ok(None)
+            };
+            let Some(a) = bits.of(*a) else {
+                return Ok(None)
+            };
+            let Some(b) = bits.of(*b) else {
+                return Ok(None)
+            };
             ternary(&node.op, c, a, b, circuit)
         }
         _ => Ok(None),
@@ -108,7 +120,9 @@ fn binary(
         (λ row. IsBuilt (built (circuit_of op.now) circuit.old.next (a.now ∷ b.now ∷ [])) row.items circuit.old circuit.new)) }
     ensures err { OnErr result (circuit.new ≡ circuit.old) }
 {
-    let Op::Plain(operator) = op else { return Ok(None) };
+    let Op::Plain(operator) = op else {
+        return Ok(None)
+    };
     if let Operator::Concat = operator {
         return Ok(Some(rows::joined(circuit.alloc(), b, a)?));
     }
@@ -148,11 +162,8 @@ fn paired(
         Operator::Bvuge => Ok(Some(rows::not_above(b, a, circuit)?)),
         Operator::Bvshl => Ok(Some(shl(circuit, a, b)?)),
         Operator::Bvlshr => Ok(Some(lshr(circuit, a, b)?)),
-        Operator::Bvslt
-        | Operator::Bvsgt
-        | Operator::Bvsle
-        | Operator::Bvsge
-        | Operator::Bvashr => signed(operator, a, b, circuit),
+        Operator::Bvslt | Operator::Bvsgt | Operator::Bvsle | Operator::Bvsge | Operator::Bvashr =>
+            signed(operator, a, b, circuit),
         _ => Ok(None),
     }
 }
@@ -201,7 +212,9 @@ fn ternary(
         (λ row. IsBuilt (built (circuit_of op.now) circuit.old.next (c.now ∷ a.now ∷ b.now ∷ [])) row.items circuit.old circuit.new)) }
     ensures err { OnErr result (circuit.new ≡ circuit.old) }
 {
-    let Op::Plain(Operator::Ite) = op else { return Ok(None) };
+    let Op::Plain(Operator::Ite) = op else {
+        return Ok(None)
+    };
     let [condition] = c else { return Ok(None) };
     if a.len() != b.len() {
         return Ok(None);

@@ -234,12 +234,7 @@ pub fn bitwise(
 }
 
 /// The sum of two rows of one length and a carry.
-pub fn sum(
-    carry: Lit,
-    a: &[Lit],
-    b: &[Lit],
-    circuit: &mut Circuit,
-) -> Result<Vec<Lit>, AllocError>
+pub fn sum(carry: Lit, a: &[Lit], b: &[Lit], circuit: &mut Circuit) -> Result<Vec<Lit>, AllocError>
     requires same { length a.now ≡ length b.now }
     requires room { circuit.old.next + 3 * length a.now ≤ 2 ^ 63 }
     ensures ok { IfOk result (λ row. IsBuilt (Some (sum_block carry a.now b.now circuit.old.next)) row.items circuit.old circuit.new) }
