@@ -14,7 +14,7 @@ use Rattle.circ_plain.specs.declared.moves.Direction.{Direction}
 use Rattle.circ_plain.specs.declared.moves.Direction.TheVariants.{Up, Down}
 use Rattle.circ_plain.specs.Signs.{sign_of, neg_gates, neg_bits, abs_gates, abs_bits}
 use Rattle.circ_plain.specs.Orders.{below_gates, below_bit, ult_gates, ult_bit, with_sign, slt_gates, slt_bit}
-use Rattle.circ_plain.specs.Shifts.{stages, AreNear, moved, stage_gates, stage_bits, any_gates, any_bit, mask_gates, move_gates, move_bits, over_bit, logical_gates, logical_bits, ashr_gates, ashr_bits}
+use Rattle.circ_plain.specs.Shifts.{stages, AreNear, moved, stage_gates, stage_bits, any_gates, any_bit, mask_gates, move_gates, move_bits, over_bit, logical_gates, logical_bits, shl_gates, shl_bits, lshr_gates, lshr_bits, ashr_gates, ashr_bits}
 use Rattle.circ_plain.proofs.Negating.{length-neg_gates, length-abs_gates}
 use Rattle.circ_plain.proofs.Shifting.{length-moved, AreNear-next, near_stages, length-logical_gates, length-move_gates, length-ashr_gates}
 
@@ -193,3 +193,15 @@ ashr_bits-below g a t =
     let moves = length (move_gates Down (sign_of a) g a t) in
     let e : g + moves + length a ≡ g + length (ashr_gates g a t) = omega (arith, length-move_gates Down (sign_of a) g a t, length-ashr_gates g a t) in
     subst (λ n. AreBelow n (ashr_bits g a t)) e (AreBelow-fresh_bits (length a) (g + moves))
+
+pub shl_gates-ordered : (g : ℕ) (a t : List Literal) → 1 < g → AreBelow g a → AreBelow g t → AreOrdered g (shl_gates g a t)
+shl_gates-ordered g a t = logical_gates-ordered Up g a t
+
+pub shl_bits-below : (g : ℕ) (a t : List Literal) → AreBelow (g + length (shl_gates g a t)) (shl_bits g a t)
+shl_bits-below g a t = logical_bits-below Up g a t
+
+pub lshr_gates-ordered : (g : ℕ) (a t : List Literal) → 1 < g → AreBelow g a → AreBelow g t → AreOrdered g (lshr_gates g a t)
+lshr_gates-ordered g a t = logical_gates-ordered Down g a t
+
+pub lshr_bits-below : (g : ℕ) (a t : List Literal) → AreBelow (g + length (lshr_gates g a t)) (lshr_bits g a t)
+lshr_bits-below g a t = logical_bits-below Down g a t

@@ -341,3 +341,9 @@ pub arithmetic_room : (g : ℕ) (a t : List Literal) → length (ashr_gates g a 
 arithmetic_room g a t =
     let m = stages (length a) in
     rw (length-ashr_gates g a t, length-take m t, length-drop m t) (shift_room (length a) (length t) m)
+
+pub shl_room : (g : ℕ) (a t : List Literal) → length (shl_gates g a t) ≤ length a * length t + length t + length a
+shl_room g a t = logical_room Up g a t
+
+pub lshr_room : (g : ℕ) (a t : List Literal) → length (lshr_gates g a t) ≤ length a * length t + length t + length a
+lshr_room g a t = logical_room Down g a t

@@ -1,0 +1,11 @@
+pub mod Wiring
+pub mod Bitwise
+pub mod Wires
+pub mod Counting
+pub mod Room
+pub mod Shapes
+pub mod Correct
+pub mod Wired
+pub mod Compared
+pub mod Table
+pub mod Ordered

@@ -1,0 +1,44 @@
+-- What the bits of terms mean.
+use Rattle.std.specs.Prelude.{◌≡◌, ℕ, ◌+◌, ◌<◌, Bool, true, List, [], ◌∷◌, length, Option, Some, Ok}
+use Rattle.std.specs.List.{AllByRecursion}
+use Rattle.cnf_base.specs.Literals.{Literal}
+use Rattle.cnf_base.specs.Clauses.{lit_true, number}
+use Rattle.cnf_base.specs.Gates.{HaveMeaning, AreOrdered}
+use Rattle.cnf_base.specs.Assignments.{AreBelow}
+use Rattle.smt_terms.specs.declared.sort.Sort.{Sort}
+use Rattle.smt_terms.specs.declared.sort.Sort.TheVariants as sort
+use Rattle.smt_terms.specs.declared.node.Op.{Op}
+use Rattle.smt_terms.specs.Terms.{op_rank}
+use Rattle.smt_terms.specs.Values.{Value, VBool, VWord, Interpretation, op_value}
+use Rattle.bit_blast.specs.Blocks.{Block, built, circuit_of}
+
+-- Under an assignment the literals are the bits of a value of a sort: a Bool has one, a word as many as its width, the
+-- lowest first. An array has none.
+abbrev pub AreBitsOf : (ℕ → Bool) → Sort → List Literal → Value → Type 0
+AreBitsOf v sort.Bool bits x = (l : Literal) × (bits ≡ l ∷ []) × (x ≡ VBool (lit_true v l))
+AreBitsOf v (sort.Word n) bits x = (length bits ≡ n) × (x ≡ VWord n (number v bits))
+AreBitsOf v (sort.Array n m) bits x = ⊥
+
+-- each row has the bits of a value, and there are as many sorts as rows and values
+abbrev pub EachIsBits : (ℕ → Bool) → List Sort → List (List Literal) → List Value → Type 0
+EachIsBits v [] [] [] = Unit {0}
+EachIsBits v [] [] (x ∷ xs) = ⊥
+EachIsBits v [] (b ∷ bs) xs = ⊥
+EachIsBits v (s ∷ ss) [] xs = ⊥
+EachIsBits v (s ∷ ss) (b ∷ bs) [] = ⊥
+EachIsBits v (s ∷ ss) (b ∷ bs) (x ∷ xs) = AreBitsOf v s b x × EachIsBits v ss bs xs
+
+-- In every assignment that makes variable 1 true and gives each gate of a block its meaning, the bits of the block are
+-- those of the value that the operator gives of the values whose bits its arguments are.
+abbrev pub BlocksAreCorrect : Type 0
+BlocksAreCorrect =
+    (M : Interpretation) (v : ℕ → Bool) (g : ℕ) (op : Op) (ss : List Sort) (rows : List (List Literal)) (xs : List Value) (s : Sort) (b : Block)
+    → v 1 ≡ true → op_rank op ss ≡ Ok s → EachIsBits v ss rows xs → built (circuit_of op) g rows ≡ Some b → HaveMeaning v g b.gates
+    → AreBitsOf v s b.bits (op_value M op xs)
+
+-- the gates of a block whose arguments are below its first variable stand after their inputs, and its bits are below the next variable
+abbrev pub BlocksAreOrdered : Type 0
+BlocksAreOrdered =
+    (g : ℕ) (op : Op) (rows : List (List Literal)) (b : Block)
+    → 1 < g → AllByRecursion (AreBelow g) rows → built (circuit_of op) g rows ≡ Some b
+    → AreOrdered g b.gates × AreBelow (g + length b.gates) b.bits

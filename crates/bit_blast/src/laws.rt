@@ -1,0 +1,15 @@
+//! What the circuits of terms mean.
+
+ghost use Rattle.bit_blast.specs.Meanings.{BlocksAreCorrect, BlocksAreOrdered};
+
+/// In every assignment in which each gate of a term's block has its meaning, the bits of the block are those of the
+/// value that the term's operator gives of its arguments' values.
+pub fn blocks_are_correct()
+    ensures { BlocksAreCorrect }
+{}
+
+/// Each gate of a term's block stands after its inputs, so that an assignment of the variables so far goes on over the
+/// block in exactly one way (`cnf_base` has this of every such row), and the block's bits are of variables that there are.
+pub fn blocks_are_ordered()
+    ensures { BlocksAreOrdered }
+{}
