@@ -5,3 +5,5 @@ pub mod ShapeWalks
 pub mod Judgings
 pub mod Fittings
 pub mod CommandReadings
+pub mod OneSexp
+pub mod Rows

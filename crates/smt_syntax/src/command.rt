@@ -387,3 +387,8 @@ pub fn read_command(alloc: Global, tokens: &Tokens<'_>) -> Result<Command, Synta
 {
     read_tokens(alloc, tokens.as_slice())
 }
+
+/// Tokens are the spelling of one S-expression at most, so a command has one reading.
+pub fn one_reading()
+    ensures { (e f : Sexp) → spelling e ≡ spelling f → e ≡ f }
+{}

@@ -14,3 +14,5 @@ pub mod judge;
 pub mod parts;
 pub mod shape;
 pub mod span;
+#[cfg(test)]
+mod tests;
