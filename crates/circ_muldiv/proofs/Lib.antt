@@ -6,3 +6,4 @@ pub mod Building
 pub mod Places
 pub mod Assembling
 pub mod Ordering
+mod Worked

@@ -1,8 +1,7 @@
 -- The inputs of each gate stand before it, and the bits of a result are of variables that were made or handed in.
-use Rattle.std.proofs.Common.{◌≡◌, ℕ, zero, suc, ◌+◌, ◌*◌, ◌<◌, ◌≤◌, List, [], ◌∷◌, ◌++◌, length, length-append, take, drop, refl, sym, ap, ◌∙◌, subst, arith}
+use Rattle.std.proofs.Common.{◌≡◌, ℕ, zero, suc, ◌+◌, ◌<◌, ◌≤◌, List, [], ◌∷◌, ◌++◌, length, length-append, take, drop, sym, subst, arith}
 use Rattle.std.specs.Prelude.{map, replicate}
 use Rattle.cnf_base.specs.Literals.{Literal, positive_of, negated, true_literal, false_literal}
-use Rattle.cnf_base.specs.declared.gate.GateKind.{GateKind}
 use Rattle.cnf_base.specs.declared.gate.GateKind.TheVariants.{And, Xor}
 use Rattle.cnf_base.specs.Gates.{AreOrdered}
 use Rattle.cnf_base.specs.Assignments.{AreBelow, fresh_bits}
@@ -195,8 +194,8 @@ sdiv_stands g a b one same ha hb =
     let up : x ≤ suc x = omega arith in
     let e : suc x + length q ≡ g + length (sdiv_gates g a b) = omega (arith, length-sdiv_gates g a b same, length-magnitudes g a b same, length-neg_gates h q, length-magnitudes_quotient g a b) in (
       AreOrdered-append m.gates (negate ++ Xor (sign_of a) (sign_of b) ∷ choice) g stand.ordered
-      (AreOrdered-append negate (Xor (sign_of a) (sign_of b) ∷ choice) h (neg_gates-ordered h q (omega arith) stand.quotient)
-      ((sa, sb), mux_gates-ordered (neg_bits h q) q (suc x) (positive_of x) (AreBelow-more x (suc x) up (neg_bits h q) (neg_bits-below h q)) (AreBelow-more x (suc x) up q (later h (length negate) q stand.quotient)) (omega arith))),
+          (AreOrdered-append negate (Xor (sign_of a) (sign_of b) ∷ choice) h (neg_gates-ordered h q (omega arith) stand.quotient)
+          ((sa, sb), mux_gates-ordered (neg_bits h q) q (suc x) (positive_of x) (AreBelow-more x (suc x) up (neg_bits h q) (neg_bits-below h q)) (AreBelow-more x (suc x) up q (later h (length negate) q stand.quotient)) (omega arith))),
       subst (λ n. AreBelow n (sdiv_bits g a b)) e (AreBelow-fresh_bits (length q) (suc x)),
     )
 
@@ -240,8 +239,10 @@ smod_stands g a b one ha hb =
     let last = sum_gates-ordered (suc y) w b (positive_of y) (omega arith) (AreBelow-more x (suc y) in_y w signed.1) (AreBelow-more g (suc y) in_g b hb) (omega arith) in
     let e : suc y + length sum ≡ g + length (smod_gates g a b) = omega (arith, length-append m.gates (ws ++ Xor (sign_of a) (sign_of b) ∷ (zs ++ moves ∷ sum)), length-append ws (Xor (sign_of a) (sign_of b) ∷ (zs ++ moves ∷ sum)), length-append zs (moves ∷ sum)) in (
       AreOrdered-append m.gates (ws ++ Xor (sign_of a) (sign_of b) ∷ (zs ++ moves ∷ sum)) g stand.ordered
-      (AreOrdered-append ws (Xor (sign_of a) (sign_of b) ∷ (zs ++ moves ∷ sum)) h signed.0
-      ((sx, sy), AreOrdered-append zs (moves ∷ sum) (suc x) (equal_gates-ordered u zero (suc x) true_literal hu (AreBelow-replicate (length u) (suc x) false_literal (omega arith)) (omega arith))
-      ((omega arith, hz), last))),
+          (AreOrdered-append ws (Xor (sign_of a) (sign_of b) ∷ (zs ++ moves ∷ sum)) h signed.0 (
+            (sx, sy),
+            AreOrdered-append zs (moves ∷ sum) (suc x) (equal_gates-ordered u zero (suc x) true_literal hu (AreBelow-replicate (length u) (suc x) false_literal (omega arith)) (omega arith))
+                ((omega arith, hz), last),
+          )),
       subst (λ n. AreBelow n (smod_bits g a b)) e (sum_bits-below (suc y) w b (positive_of y)),
     )

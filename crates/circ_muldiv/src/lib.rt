@@ -15,6 +15,8 @@ mod products;
 mod quotients;
 mod rows;
 mod signed;
+#[cfg(test)]
+mod tests;
 
 pub use laws::{
     bits_are_below, circuits_are_ordered, circuits_have_their_sizes, circuits_mean_their_numbers,
