@@ -1,0 +1,69 @@
+#!/usr/bin/env python3
+"""Runs the built program on every row of this folder, and compares answers, status and proof byte by byte.
+
+usage: run.py [PROGRAM]    (default: the program that `rt run` leaves in crates/smt_tool/out)
+
+A row is a file NAME.row with the sections `== words`, `== script`, `== answers`, `== status` and, where the proof file
+is fixed to the byte, `== proof`. The word PROOF stands for a new file. A section's text ends before the next line that
+begins with `==`; a last line `\\` takes away the line feed before it. Whatever a `solve` wrote is replayed by
+reference.py too, unless the row says `== no replay`.
+"""
+import pathlib
+import re
+import subprocess
+import sys
+import tempfile
+
+HERE = pathlib.Path(__file__).resolve().parent
+PROGRAM = HERE.parents[1] / "crates/smt_tool/out/smt_tool"
+
+
+def sections(path):
+    parts = re.split(r"^== (.*)\n", path.read_bytes().decode("latin-1"), flags=re.M)
+    held = {}
+    for name, text in zip(parts[1::2], parts[2::2]):
+        held[name.strip()] = text[:-3] if text.endswith("\n\\\n") else text
+    return held
+
+
+def faults(program, row, folder):
+    proof = folder / "proof"
+    words = [str(proof) if w == "PROOF" else w for w in row["words"].split()]
+    script = row.get("script", "").encode("latin-1")
+    ran = subprocess.run([program, *words], input=script, capture_output=True, timeout=120)
+    if ran.stdout.decode("latin-1") != row.get("answers", ""):
+        yield "answers: %r" % ran.stdout
+    if ran.returncode != int(row["status"]):
+        yield "status: %d" % ran.returncode
+    written = proof.read_bytes().decode("latin-1") if proof.exists() else None
+    if "proof" in row and written != row["proof"]:
+        yield "proof: %r" % written
+    if words[:1] == ["solve"] and int(row["status"]) in (0, 1) and "no replay" not in row:
+        yield from replayed(script, proof, row, folder)
+
+
+def replayed(script, proof, row, folder):
+    text = folder / "script"
+    text.write_bytes(script)
+    ran = subprocess.run([sys.executable, HERE / "reference.py", text, proof], capture_output=True, text=True)
+    verdicts = [a for a in row.get("answers", "").split("\n") if a in ("sat", "unsat")]
+    wanted = "".join(v + "\n" for v in verdicts) + "accepted %d\n" % len(verdicts)
+    if ran.stdout != wanted:
+        yield "replay: %s%s" % (ran.stdout, ran.stderr)
+
+
+def main():
+    program = sys.argv[1] if len(sys.argv) > 1 else PROGRAM
+    rows, failed = sorted(HERE.glob("*.row")), 0
+    for path in rows:
+        with tempfile.TemporaryDirectory() as folder:
+            found = list(faults(program, sections(path), pathlib.Path(folder)))
+        for fault in found:
+            print("%s: %s" % (path.stem, fault))
+        failed += bool(found)
+    print("%d rows, %d failed" % (len(rows), failed))
+    return 1 if failed or not rows else 0
+
+
+if __name__ == "__main__":
+    sys.exit(main())
