@@ -1,14 +1,13 @@
 -- Rows of gates mean their operators, bit by bit.
-use Rattle.std.proofs.Common.{◌≡◌, ℕ, zero, suc, ◌+◌, ◌-◌, ◌*◌, ◌/◌, ◌%◌, ◌^◌, ◌<◌, min, max, Bool, true, false, not, ◌&&◌, ◌||◌, List, [], ◌∷◌, length, refl, sym, ap, ◌∙◌, arith}
+use Rattle.std.proofs.Common.{◌≡◌, ℕ, suc, ◌+◌, ◌-◌, ◌*◌, ◌/◌, ◌%◌, ◌^◌, min, max, Bool, true, false, not, ◌&&◌, List, [], ◌∷◌, length, refl, sym, ap, ◌∙◌, arith}
 use Rattle.std.specs.Prelude.{if◌then◌else◌, bit_and, bit_or, bit_xor, map}
 use Rattle.std.specs.Int.Bits.{and_step, or_step, xor_step, differ}
-use Rattle.cnf_base.specs.Literals.{Literal, positive_of, negated}
+use Rattle.cnf_base.specs.Literals.{Literal, negated}
 use Rattle.cnf_base.specs.Clauses.{lit_true, number, bit}
 use Rattle.cnf_base.specs.Gates.{gate_value, HaveMeaning}
 use Rattle.cnf_base.specs.Assignments.{fresh_bits}
 use Rattle.cnf_base.proofs.Truth.{lit_true-negated}
 use Rattle.cnf_base.proofs.Numbers.{number-negated}
-use Rattle.cnf_base.proofs.Rows.{length-fresh_bits}
 use Rattle.smt_words.specs.Words.{not_of}
 use Rattle.bit_blast.specs.declared.rows.Connective.{Connective}
 use Rattle.bit_blast.specs.declared.rows.Connective.TheVariants.{Both, Neither, ButNot, Differ}

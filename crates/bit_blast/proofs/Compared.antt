@@ -1,7 +1,7 @@
 -- The bits of orders, shifts, equalities and choices are those of their values.
-use Rattle.std.proofs.Common.{◌≡◌, ℕ, zero, suc, ◌+◌, ◌-◌, ◌*◌, ◌^◌, ◌<◌, ◌≤◌, Bool, true, false, not, ◌&&◌, List, [], ◌∷◌, ◌++◌, length, Option, Some, None, refl, sym, ap, ◌∙◌, subst, arith}
-use Rattle.std.specs.Prelude.{if◌then◌else◌, ◌==◌, map, Result, Ok, Err}
-use Rattle.std.proofs.lemmas.Bool.{eqb-true, eq-eqb}
+use Rattle.std.proofs.Common.{◌≡◌, ℕ, ◌+◌, ◌*◌, ◌<◌, Bool, true, false, not, ◌&&◌, List, [], ◌∷◌, ◌++◌, length, Some, refl, sym, ap, ◌∙◌, subst, arith}
+use Rattle.std.specs.Prelude.{if◌then◌else◌, ◌==◌, map, Result, Ok}
+use Rattle.std.proofs.lemmas.Bool.{eq-eqb}
 use Rattle.cnf_base.specs.Literals.{Literal, positive_of, true_literal}
 use Rattle.cnf_base.specs.Clauses.{lit_true, number, bit}
 use Rattle.cnf_base.specs.Gates.{HaveMeaning}
@@ -16,9 +16,9 @@ use Rattle.circ_plain.proofs.Shifting.{shl_is, lshr_is, ashr_is}
 use Rattle.smt_terms.specs.declared.sort.Sort.{Sort}
 use Rattle.smt_terms.specs.declared.sort.Sort.TheVariants as sort
 use Rattle.smt_terms.specs.declared.fault.MakeFault.{MakeFault}
-use Rattle.smt_terms.specs.Ranks.{ranked, concatenation, equality as equality_rank, choice as choice_rank, word_sort}
+use Rattle.smt_terms.specs.Ranks.{ranked, concatenation, equality as equality_rank, choice as choice_rank}
 use Rattle.smt_terms.specs.Values.{Value, VBool, VWord, same_value, is_true, width_in, number_of}
-use Rattle.bit_blast.specs.Blocks.{Block, CircuitOf, Makes, Takes, Lacks, built, two, wires, equality, choice, choice_by, below, not_above, signed_below, signed_not_above, shift_up, shift_down, signed_shift_down}
+use Rattle.bit_blast.specs.Blocks.{Block, Makes, Takes, Lacks, built, two, wires, equality, choice, choice_by, below, not_above, signed_below, signed_not_above, shift_up, shift_down, signed_shift_down}
 use Rattle.bit_blast.specs.Meanings.{AreBitsOf, EachIsBits}
 use Rattle.bit_blast.proofs.Correct.{ok_is, as_word, as_truth}
 use Rattle.bit_blast.proofs.Wired.{concat_means}

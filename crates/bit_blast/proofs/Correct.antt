@@ -1,19 +1,15 @@
 -- The bits of each operator's block are those of the operator's value.
-use Rattle.std.proofs.Common.{◌≡◌, ℕ, zero, suc, ◌+◌, ◌-◌, ◌*◌, ◌/◌, ◌%◌, ◌^◌, ◌<◌, ◌≤◌, Bool, true, false, not, ◌&&◌, ◌||◌, List, [], ◌∷◌, ◌++◌, length, take, drop, Option, Some, None, refl, sym, ap, ◌∙◌, subst, arith}
-use Rattle.std.specs.Prelude.{if◌then◌else◌, ◌==◌, nat_le, nat_lt, map, replicate, bit_and, bit_or, bit_xor, Result, Ok, Err}
-use Rattle.std.proofs.lemmas.Bool.{eqb-true, eq-eqb, and_parts}
-use Rattle.std.proofs.lemmas.Bool.Decides.{nat_tests}
-use Rattle.std.proofs.lemmas.List.{length-map, length-append}
+use Rattle.std.proofs.Common.{◌≡◌, ℕ, ◌+◌, ◌-◌, ◌*◌, ◌^◌, ◌<◌, Bool, true, false, not, ◌&&◌, List, [], ◌∷◌, length, refl, sym, ap, ◌∙◌, subst, arith}
+use Rattle.std.specs.Prelude.{if◌then◌else◌, nat_le, map, Result, Ok, Err}
+use Rattle.std.proofs.lemmas.List.{length-map}
 use Rattle.cnf_base.specs.Literals.{Literal, positive_of, true_literal, false_literal, negated}
 use Rattle.cnf_base.specs.Clauses.{lit_true, number, bit}
 use Rattle.cnf_base.specs.Gates.{HaveMeaning}
 use Rattle.cnf_base.specs.Assignments.{fresh_bits}
-use Rattle.cnf_base.specs.Adders.{add_gates, add_bits, add_carry}
+use Rattle.cnf_base.specs.Adders.{add_bits, add_carry}
 use Rattle.cnf_base.proofs.Truth.{lit_true-negated}
-use Rattle.cnf_base.proofs.Numbers.{number-append, number_lt, number-negated}
+use Rattle.cnf_base.proofs.Numbers.{number_lt, number-negated}
 use Rattle.cnf_base.proofs.Adding.{add_number, length-add_bits}
-use Rattle.cnf_base.proofs.Choosing.{mux_number}
-use Rattle.cnf_base.proofs.Equating.{equal_number}
 use Rattle.cnf_base.proofs.Rows.{length-fresh_bits}
 use Rattle.smt_words.specs.Words.{not_of, add_of, sub_of}
 use Rattle.circ_plain.proofs.Bits.{false_is_false}
@@ -22,13 +18,12 @@ use Rattle.smt_terms.specs.declared.sort.Sort.{Sort}
 use Rattle.smt_terms.specs.declared.sort.Sort.TheVariants as sort
 use Rattle.smt_terms.specs.declared.fault.MakeFault.{MakeFault}
 use Rattle.smt_terms.specs.declared.fault.MakeFault.TheVariants.{WidthOutOfRange}
-use Rattle.smt_terms.specs.Ranks.{word_sort, extract_sort, literal_sort}
-use Rattle.smt_terms.specs.Values.{Value, VBool, VWord}
+use Rattle.smt_terms.specs.Ranks.{word_sort}
+use Rattle.smt_terms.specs.Values.{VBool, VWord}
 use Rattle.bit_blast.specs.declared.rows.Connective.{Connective}
-use Rattle.bit_blast.specs.declared.rows.Connective.TheVariants.{Both, Neither, ButNot, Differ}
-use Rattle.bit_blast.specs.Blocks.{Block, signed, by_gate, each_gate, sum, difference}
+use Rattle.bit_blast.specs.Blocks.{signed, by_gate, sum, difference}
 use Rattle.bit_blast.specs.Meanings.{AreBitsOf}
-use Rattle.bit_blast.proofs.Bitwise.{said, agreed, gate_said, Works, row_number, and_works, or_works, xor_works, negated_number, unnegated_number}
+use Rattle.bit_blast.proofs.Bitwise.{said, agreed, gate_said, Works, row_number, negated_number, unnegated_number}
 
 -- ---- sorts
 

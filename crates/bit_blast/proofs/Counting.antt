@@ -1,7 +1,6 @@
 -- No operator has a circuit over four rows or more, and a block has its bits from rows that are there.
-use Rattle.std.proofs.Common.{◌≡◌, ℕ, suc, ◌+◌, ◌<◌, ◌≤◌, Bool, true, false, List, [], ◌∷◌, length, Option, Some, None, refl, sym, subst, arith}
+use Rattle.std.proofs.Common.{◌≡◌, ℕ, ◌≤◌, Bool, true, false, List, [], ◌∷◌, length, Option, Some, None, refl, sym, subst, arith}
 use Rattle.std.specs.Prelude.{if◌then◌else◌, ◌==◌}
-use Rattle.std.specs.List.{AllByRecursion}
 use Rattle.cnf_base.specs.Literals.{Literal, false_literal}
 use Rattle.smt_terms.specs.declared.operator.Operator.{Operator}
 use Rattle.smt_terms.specs.declared.operator.Operator.TheVariants as plain
@@ -10,7 +9,7 @@ use Rattle.smt_terms.specs.declared.node.Op.TheVariants.{Plain, Word, Extract, Z
 use Rattle.smt_terms.specs.declared.node.Node.{Node}
 use Rattle.smt_terms.specs.Bits.{TermBits, bits_in}
 use Rattle.bit_blast.specs.declared.rows.Connective.TheVariants.{Both, Neither, ButNot, Differ}
-use Rattle.bit_blast.specs.Blocks.{Block, CircuitOf, Makes, Takes, Lacks, built, two, two_signed, choice, by_gate, below, not_above, signed_below, signed_not_above, shift_up, shift_down, signed_shift_down, sum, difference, equality, operator_circuit, circuit_of, with_first, all_bits, block_over, block_of, EachShort}
+use Rattle.bit_blast.specs.Blocks.{Block, Makes, Lacks, built, two, two_some, choice, by_gate, below, not_above, signed_below, signed_not_above, shift_up, shift_down, signed_shift_down, product, quotient, remainder, signed_quotient, signed_remainder, signed_modulus, sum, difference, equality, operator_circuit, circuit_of, with_first, all_bits, block_over, block_of, EachShort}
 
 -- the bits of a term are few
 pub short_of : (held : List TermBits) (t : ℕ) (b : List Literal) → EachShort held → Some b ≡ bits_in held t → length b ≤ 128
@@ -28,8 +27,8 @@ two_many f g w x y z r = go (length w == length x)
     go true = refl
     go false = refl
 
-signed_many : (f : List Literal → List Literal → ℕ → Block) (g : ℕ) (w x y z : List Literal) (r : List (List Literal)) → built (two_signed f) g (w ∷ x ∷ y ∷ z ∷ r) ≡ None
-signed_many f g w x y z r = go (length w == 0)
+some_many : (f : List Literal → List Literal → ℕ → Block) (g : ℕ) (w x y z : List Literal) (r : List (List Literal)) → built (two_some f) g (w ∷ x ∷ y ∷ z ∷ r) ≡ None
+some_many f g w x y z r = go (length w == 0)
   where
     go : (c : Bool) → built (if c then Lacks else (if length w == length x then Makes (f w x) else Lacks)) g (y ∷ z ∷ r) ≡ None
     go true = refl
@@ -58,29 +57,29 @@ operator_many plain.Bvnot g w x y z r = refl
 operator_many plain.Bvneg g w x y z r = refl
 operator_many plain.Bvadd g w x y z r = two_many (sum false_literal) g w x y z r
 operator_many plain.Bvsub g w x y z r = two_many (difference) g w x y z r
-operator_many plain.Bvmul g w x y z r = refl
+operator_many plain.Bvmul g w x y z r = some_many product g w x y z r
 operator_many plain.Bvand g w x y z r = two_many (by_gate Both true) g w x y z r
 operator_many plain.Bvor g w x y z r = two_many (by_gate Neither false) g w x y z r
 operator_many plain.Bvxor g w x y z r = two_many (by_gate Differ true) g w x y z r
 operator_many plain.Bvnand g w x y z r = two_many (by_gate Both false) g w x y z r
 operator_many plain.Bvnor g w x y z r = two_many (by_gate Neither true) g w x y z r
 operator_many plain.Bvxnor g w x y z r = two_many (by_gate Differ false) g w x y z r
-operator_many plain.Bvudiv g w x y z r = refl
-operator_many plain.Bvurem g w x y z r = refl
-operator_many plain.Bvsdiv g w x y z r = refl
-operator_many plain.Bvsrem g w x y z r = refl
-operator_many plain.Bvsmod g w x y z r = refl
+operator_many plain.Bvudiv g w x y z r = some_many quotient g w x y z r
+operator_many plain.Bvurem g w x y z r = some_many remainder g w x y z r
+operator_many plain.Bvsdiv g w x y z r = some_many signed_quotient g w x y z r
+operator_many plain.Bvsrem g w x y z r = some_many signed_remainder g w x y z r
+operator_many plain.Bvsmod g w x y z r = some_many signed_modulus g w x y z r
 operator_many plain.Bvshl g w x y z r = two_many (shift_up) g w x y z r
 operator_many plain.Bvlshr g w x y z r = two_many (shift_down) g w x y z r
-operator_many plain.Bvashr g w x y z r = signed_many (signed_shift_down) g w x y z r
+operator_many plain.Bvashr g w x y z r = some_many (signed_shift_down) g w x y z r
 operator_many plain.Bvult g w x y z r = two_many (below) g w x y z r
 operator_many plain.Bvule g w x y z r = two_many (not_above) g w x y z r
 operator_many plain.Bvugt g w x y z r = two_many (λ a b. below b a) g w x y z r
 operator_many plain.Bvuge g w x y z r = two_many (λ a b. not_above b a) g w x y z r
-operator_many plain.Bvslt g w x y z r = signed_many (signed_below) g w x y z r
-operator_many plain.Bvsle g w x y z r = signed_many (signed_not_above) g w x y z r
-operator_many plain.Bvsgt g w x y z r = signed_many (λ a b. signed_below b a) g w x y z r
-operator_many plain.Bvsge g w x y z r = signed_many (λ a b. signed_not_above b a) g w x y z r
+operator_many plain.Bvslt g w x y z r = some_many (signed_below) g w x y z r
+operator_many plain.Bvsle g w x y z r = some_many (signed_not_above) g w x y z r
+operator_many plain.Bvsgt g w x y z r = some_many (λ a b. signed_below b a) g w x y z r
+operator_many plain.Bvsge g w x y z r = some_many (λ a b. signed_not_above b a) g w x y z r
 operator_many plain.Bvcomp g w x y z r = two_many (equality) g w x y z r
 operator_many plain.Concat g w x y z r = refl
 operator_many plain.Select g w x y z r = refl

@@ -7,5 +7,8 @@ pub mod Shapes
 pub mod Correct
 pub mod Wired
 pub mod Compared
+pub mod Arithmetic
 pub mod Table
 pub mod Ordered
+pub mod Fixing
+pub mod Reading

@@ -1,5 +1,5 @@
 -- Each gate of a block stands after its inputs, and the block's bits are of variables that there are.
-use Rattle.std.proofs.Common.{◌≡◌, ℕ, zero, suc, ◌+◌, ◌-◌, ◌%◌, ◌/◌, ◌<◌, ◌≤◌, Bool, true, false, List, [], ◌∷◌, ◌++◌, length, take, drop, Option, Some, None, refl, sym, ap, ◌∙◌, subst, arith}
+use Rattle.std.proofs.Common.{◌≡◌, ℕ, zero, suc, ◌+◌, ◌-◌, ◌%◌, ◌/◌, ◌<◌, Bool, true, false, List, [], ◌∷◌, ◌++◌, length, take, drop, Some, refl, sym, ap, subst, arith}
 use Rattle.std.specs.Prelude.{if◌then◌else◌, ◌==◌, map, replicate}
 use Rattle.std.specs.List.{AllByRecursion}
 use Rattle.std.proofs.lemmas.Bool.{eqb-true}
@@ -13,15 +13,15 @@ use Rattle.cnf_base.proofs.Choosing.{mux_gates-ordered, length-mux_gates}
 use Rattle.cnf_base.proofs.Equating.{equal_gates-ordered, equal_bit-below}
 use Rattle.circ_plain.specs.Signs.{sign_of}
 use Rattle.circ_plain.proofs.Ordering.{sign_of-below, neg_gates-ordered, neg_bits-below, ult_gates-ordered, ult_bit-below, slt_gates-ordered, slt_bit-below, shl_gates-ordered, shl_bits-below, lshr_gates-ordered, lshr_bits-below, ashr_gates-ordered, ashr_bits-below}
+use Rattle.circ_muldiv.proofs.Ordering.{mul_stands, division_stands, remainder_bits-below, sdiv_stands, srem_stands, smod_stands}
 use Rattle.smt_terms.specs.declared.operator.Operator.{Operator}
 use Rattle.smt_terms.specs.declared.operator.Operator.TheVariants as plain
-use Rattle.smt_terms.specs.declared.node.Op.{Op}
 use Rattle.smt_terms.specs.declared.node.Op.TheVariants.{Plain, Word, Extract, ZeroExtend, SignExtend, RotateLeft, RotateRight, Repeat, Constant, Apply, Param}
 use Rattle.bit_blast.specs.declared.rows.Connective.{Connective}
 use Rattle.bit_blast.specs.declared.rows.Connective.TheVariants.{Both, Neither, ButNot, Differ}
-use Rattle.bit_blast.specs.Blocks.{Block, Makes, Takes, Lacks, built, one, two, two_signed, wires, signed, each_gate, by_gate, sum, difference, equality, choice, choice_by, negation, below, not_above, signed_below, signed_not_above, shift_up, shift_down, signed_shift_down, literal_bits, rotated, extracted, repeated, operator_circuit, circuit_of}
+use Rattle.bit_blast.specs.Blocks.{Block, Makes, Takes, Lacks, built, one, two, two_some, wires, signed, each_gate, by_gate, sum, difference, equality, choice, negation, below, not_above, signed_below, signed_not_above, shift_up, shift_down, signed_shift_down, product, quotient, remainder, signed_quotient, signed_remainder, signed_modulus, literal_bits, rotated, extracted, repeated, operator_circuit}
 use Rattle.bit_blast.specs.Meanings.{BlocksAreOrdered}
-use Rattle.bit_blast.proofs.Shapes.{some_is, signed_rows}
+use Rattle.bit_blast.proofs.Shapes.{some_is, some_rows}
 
 -- what is to be shown of a block
 abbrev pub Stands : ℕ → Block → Type 0
@@ -108,8 +108,8 @@ made_two g f h (a ∷ c ∷ rows) b all is = go (length a == length c) refl rows
     go true e (d ∷ rest) k = let q : ⊥ = cc in absurd q
     go false e rest k = let q : ⊥ = cc in absurd q
 
-made_signed : (g : ℕ) (f : List Literal → List Literal → ℕ → Block) → ((a c : List Literal) → length a ≡ length c → AreBelow g a → AreBelow g c → Stands g (f a c g)) → (rows : List (List Literal)) (b : Block) → Rows g rows → built (two_signed f) g rows ≡ Some b → Stands g b
-made_signed g f h rows b all is = made_two g f h rows b all (signed_rows f g rows b is).1
+made_some : (g : ℕ) (f : List Literal → List Literal → ℕ → Block) → ((a c : List Literal) → length a ≡ length c → AreBelow g a → AreBelow g c → Stands g (f a c g)) → (rows : List (List Literal)) (b : Block) → Rows g rows → built (two_some f) g rows ≡ Some b → Stands g b
+made_some g f h rows b all is = made_two g f h rows b all (some_rows f g rows b is).1
 
 made_joined : (g : ℕ) (rows : List (List Literal)) (b : Block) → Rows g rows → built (Takes λ a. Takes λ c. Makes (wires (c ++ a))) g rows ≡ Some b → Stands g b
 made_joined g [] b all is = let q : ⊥ = cc in absurd q
@@ -147,29 +147,29 @@ operator_ordered plain.Bvnot g rows b up all is = made_one g (λ a. wires (map n
 operator_ordered plain.Bvneg g rows b up all is = made_one g negation (λ a h. (neg_gates-ordered g a up h, neg_bits-below g a)) rows b all is
 operator_ordered plain.Bvadd g rows b up all is = made_two g (sum false_literal) (λ a c e h k. (add_gates-ordered a c g false_literal h k up, add_bits-below a c g false_literal)) rows b all is
 operator_ordered plain.Bvsub g rows b up all is = made_two g difference (λ a c e h k. (add_gates-ordered a (map negated c) g true_literal h (AreBelow-negated g c k) up, add_bits-below a (map negated c) g true_literal)) rows b all is
-operator_ordered plain.Bvmul g rows b up all is = let q : ⊥ = cc in absurd q
+operator_ordered plain.Bvmul g rows b up all is = made_some g product (λ a c e h k. mul_stands g a c up h k) rows b all is
 operator_ordered plain.Bvand g rows b up all is = made_two g (by_gate Both true) (λ a c e h k. gates_stand Both true g a c e h k) rows b all is
 operator_ordered plain.Bvor g rows b up all is = made_two g (by_gate Neither false) (λ a c e h k. gates_stand Neither false g a c e h k) rows b all is
 operator_ordered plain.Bvxor g rows b up all is = made_two g (by_gate Differ true) (λ a c e h k. gates_stand Differ true g a c e h k) rows b all is
 operator_ordered plain.Bvnand g rows b up all is = made_two g (by_gate Both false) (λ a c e h k. gates_stand Both false g a c e h k) rows b all is
 operator_ordered plain.Bvnor g rows b up all is = made_two g (by_gate Neither true) (λ a c e h k. gates_stand Neither true g a c e h k) rows b all is
 operator_ordered plain.Bvxnor g rows b up all is = made_two g (by_gate Differ false) (λ a c e h k. gates_stand Differ false g a c e h k) rows b all is
-operator_ordered plain.Bvudiv g rows b up all is = let q : ⊥ = cc in absurd q
-operator_ordered plain.Bvurem g rows b up all is = let q : ⊥ = cc in absurd q
-operator_ordered plain.Bvsdiv g rows b up all is = let q : ⊥ = cc in absurd q
-operator_ordered plain.Bvsrem g rows b up all is = let q : ⊥ = cc in absurd q
-operator_ordered plain.Bvsmod g rows b up all is = let q : ⊥ = cc in absurd q
+operator_ordered plain.Bvudiv g rows b up all is = made_some g quotient (λ a c e h k. (let d = division_stands g a c up h k in (d.ordered, d.quotient))) rows b all is
+operator_ordered plain.Bvurem g rows b up all is = made_some g remainder (λ a c e h k. ((division_stands g a c up h k).ordered, remainder_bits-below g a c up h k)) rows b all is
+operator_ordered plain.Bvsdiv g rows b up all is = made_some g signed_quotient (λ a c e h k. sdiv_stands g a c up e h k) rows b all is
+operator_ordered plain.Bvsrem g rows b up all is = made_some g signed_remainder (λ a c e h k. srem_stands g a c up h k) rows b all is
+operator_ordered plain.Bvsmod g rows b up all is = made_some g signed_modulus (λ a c e h k. smod_stands g a c up h k) rows b all is
 operator_ordered plain.Bvshl g rows b up all is = made_two g shift_up (λ a c e h k. (shl_gates-ordered g a c up h k, shl_bits-below g a c)) rows b all is
 operator_ordered plain.Bvlshr g rows b up all is = made_two g shift_down (λ a c e h k. (lshr_gates-ordered g a c up h k, lshr_bits-below g a c)) rows b all is
-operator_ordered plain.Bvashr g rows b up all is = made_signed g signed_shift_down (λ a c e h k. (ashr_gates-ordered g a c up h k, ashr_bits-below g a c)) rows b all is
+operator_ordered plain.Bvashr g rows b up all is = made_some g signed_shift_down (λ a c e h k. (ashr_gates-ordered g a c up h k, ashr_bits-below g a c)) rows b all is
 operator_ordered plain.Bvult g rows b up all is = made_two g below (λ a c e h k. (ult_gates-ordered g a c up h k, (ult_bit-below g a c up, tt))) rows b all is
 operator_ordered plain.Bvule g rows b up all is = made_two g not_above (λ a c e h k. (ult_gates-ordered g c a up k h, (ult_bit-below g c a up, tt))) rows b all is
 operator_ordered plain.Bvugt g rows b up all is = made_two g (λ a c. below c a) (λ a c e h k. (ult_gates-ordered g c a up k h, (ult_bit-below g c a up, tt))) rows b all is
 operator_ordered plain.Bvuge g rows b up all is = made_two g (λ a c. not_above c a) (λ a c e h k. (ult_gates-ordered g a c up h k, (ult_bit-below g a c up, tt))) rows b all is
-operator_ordered plain.Bvslt g rows b up all is = made_signed g signed_below (λ a c e h k. (slt_gates-ordered g a c up h k, (slt_bit-below g a c up, tt))) rows b all is
-operator_ordered plain.Bvsle g rows b up all is = made_signed g signed_not_above (λ a c e h k. (slt_gates-ordered g c a up k h, (slt_bit-below g c a up, tt))) rows b all is
-operator_ordered plain.Bvsgt g rows b up all is = made_signed g (λ a c. signed_below c a) (λ a c e h k. (slt_gates-ordered g c a up k h, (slt_bit-below g c a up, tt))) rows b all is
-operator_ordered plain.Bvsge g rows b up all is = made_signed g (λ a c. signed_not_above c a) (λ a c e h k. (slt_gates-ordered g a c up h k, (slt_bit-below g a c up, tt))) rows b all is
+operator_ordered plain.Bvslt g rows b up all is = made_some g signed_below (λ a c e h k. (slt_gates-ordered g a c up h k, (slt_bit-below g a c up, tt))) rows b all is
+operator_ordered plain.Bvsle g rows b up all is = made_some g signed_not_above (λ a c e h k. (slt_gates-ordered g c a up k h, (slt_bit-below g c a up, tt))) rows b all is
+operator_ordered plain.Bvsgt g rows b up all is = made_some g (λ a c. signed_below c a) (λ a c e h k. (slt_gates-ordered g c a up k h, (slt_bit-below g c a up, tt))) rows b all is
+operator_ordered plain.Bvsge g rows b up all is = made_some g (λ a c. signed_not_above c a) (λ a c e h k. (slt_gates-ordered g a c up h k, (slt_bit-below g a c up, tt))) rows b all is
 operator_ordered plain.Bvcomp g rows b up all is = made_two g equality (λ a c e h k. (equal_gates-ordered a c g true_literal h k up, (equal_bit-below a c g true_literal up, tt))) rows b all is
 operator_ordered plain.Concat g rows b up all is = made_joined g rows b all is
 operator_ordered plain.Select g rows b up all is = let q : ⊥ = cc in absurd q

@@ -1,7 +1,6 @@
 -- The gates of a shift are few.
-use Rattle.std.proofs.Common.{◌≡◌, ℕ, ◌+◌, ◌*◌, ◌^◌, ◌≤◌, List, length, subst, sym, arith}
+use Rattle.std.proofs.Common.{◌≡◌, ℕ, ◌+◌, ◌*◌, ◌^◌, ◌≤◌, subst, arith}
 use Rattle.std.proofs.Math.Nat.{mul-le-mul}
-use Rattle.cnf_base.specs.Literals.{Literal}
 
 pub shift_fits : (next gates n t : ℕ) → gates ≤ n * t + t + n → n ≡ t → n ≤ 128 → next + 2 ^ 17 ≤ 2 ^ 63 → next + gates ≤ 2 ^ 63
 shift_fits next gates n t few same short room =

@@ -1,7 +1,7 @@
 -- Operators by their shapes: what the rank, the rows and the values of the arguments of each are.
-use Rattle.std.proofs.Common.{◌≡◌, ℕ, suc, ◌+◌, ◌<◌, ◌≤◌, Bool, true, false, ◌&&◌, List, [], ◌∷◌, length, Option, Some, None, refl, sym, ap, ◌∙◌, subst, arith}
+use Rattle.std.proofs.Common.{◌≡◌, ℕ, ◌+◌, ◌<◌, Bool, true, false, List, [], ◌∷◌, length, Some, refl, sym, ap, ◌∙◌, subst, arith}
 use Rattle.std.specs.Prelude.{if◌then◌else◌, ◌==◌, map, Result, Ok, Err}
-use Rattle.std.proofs.lemmas.Bool.{eqb-true, eq-eqb, and_parts}
+use Rattle.std.proofs.lemmas.Bool.{eqb-true, and_parts}
 use Rattle.std.proofs.lemmas.Bool.Decides.{nat_tests}
 use Rattle.cnf_base.specs.Literals.{Literal}
 use Rattle.cnf_base.specs.Clauses.{lit_true, number}
@@ -11,9 +11,9 @@ use Rattle.smt_terms.specs.declared.sort.Sort.TheVariants as sort
 use Rattle.smt_terms.specs.declared.fault.MakeFault.{MakeFault}
 use Rattle.smt_terms.specs.declared.fault.MakeFault.TheVariants.{WrongSort}
 use Rattle.smt_terms.specs.Same.{same_sort}
-use Rattle.smt_terms.specs.Ranks.{Rank, ranked, one_word, two_words, one_truth, two_truths, concatenation, equality as equality_rank, choice as choice_rank, word_sort}
-use Rattle.smt_terms.specs.Values.{Value, VBool, VWord, applied, word_of, words_of, truth_of, truths_of, is_true}
-use Rattle.bit_blast.specs.Blocks.{Block, CircuitOf, Makes, Takes, Lacks, built, one, two, two_signed}
+use Rattle.smt_terms.specs.Ranks.{ranked, one_word, two_words, one_truth, two_truths, concatenation, equality as equality_rank, choice as choice_rank, word_sort}
+use Rattle.smt_terms.specs.Values.{Value, VBool, applied, word_of, words_of, truth_of, truths_of}
+use Rattle.bit_blast.specs.Blocks.{Block, Makes, Lacks, built, one, two, two_some}
 use Rattle.bit_blast.specs.Meanings.{AreBitsOf, EachIsBits}
 
 -- the width of a word that is of the sort of another
@@ -100,22 +100,22 @@ two_correct v g h f r means ss rows xs s b = two_of (λ a. Unit {0}) v g h f r (
     any (a ∷ rows) = tt
 
 -- two rows of one bit at least
-pub signed_rows : (f : List Literal → List Literal → ℕ → Block) (g : ℕ) (rows : List (List Literal)) (b : Block) → built (two_signed f) g rows ≡ Some b → FirstIs (λ a. 0 < length a) rows × (built (two f) g rows ≡ Some b)
-signed_rows f g [] b e = let q : ⊥ = cc in absurd q
-signed_rows f g (a ∷ []) b e = let q : ⊥ = cc in absurd q
-signed_rows f g (a ∷ c ∷ rows) b e = go (length a == 0) refl e
+pub some_rows : (f : List Literal → List Literal → ℕ → Block) (g : ℕ) (rows : List (List Literal)) (b : Block) → built (two_some f) g rows ≡ Some b → FirstIs (λ a. 0 < length a) rows × (built (two f) g rows ≡ Some b)
+some_rows f g [] b e = let q : ⊥ = cc in absurd q
+some_rows f g (a ∷ []) b e = let q : ⊥ = cc in absurd q
+some_rows f g (a ∷ c ∷ rows) b e = go (length a == 0) refl e
   where
     go : (t : Bool) → (length a == 0) ≡ t → built (if t then Lacks else (if length a == length c then Makes (f a c) else Lacks)) g rows ≡ Some b → (0 < length a) × (built (two f) g (a ∷ c ∷ rows) ≡ Some b)
     go true k e = let q : ⊥ = cc in absurd q
     go false k e = (grind (arith, nat_tests, k), e)
 
-pub signed_correct : (v : ℕ → Bool) (g : ℕ) (h : Sort → Result Sort MakeFault) (f : List Literal → List Literal → ℕ → Block) (r : ℕ → ℕ → ℕ → Value)
+pub some_correct : (v : ℕ → Bool) (g : ℕ) (h : Sort → Result Sort MakeFault) (f : List Literal → List Literal → ℕ → Block) (r : ℕ → ℕ → ℕ → Value)
     → ((a b : List Literal) (s : Sort) → 0 < length a → h (sort.Word (length a)) ≡ Ok s → length a ≡ length b → HaveMeaning v g (f a b g).gates → AreBitsOf v s (f a b g).bits (r (length a) (number v a) (number v b)))
     → (ss : List Sort) (rows : List (List Literal)) (xs : List Value) (s : Sort) (b : Block)
-    → ranked (two_words h) 0 (map Some ss) ≡ Ok s → EachIsBits v ss rows xs → built (two_signed f) g rows ≡ Some b → HaveMeaning v g b.gates
+    → ranked (two_words h) 0 (map Some ss) ≡ Ok s → EachIsBits v ss rows xs → built (two_some f) g rows ≡ Some b → HaveMeaning v g b.gates
     → AreBitsOf v s b.bits (applied (words_of r) xs)
-signed_correct v g h f r means ss rows xs s b rank each is have =
-    let k = signed_rows f g rows b is in
+some_correct v g h f r means ss rows xs s b rank each is have =
+    let k = some_rows f g rows b is in
     two_of (λ a. 0 < length a) v g h f r means ss rows xs s b k.0 rank each k.1 have
 
 -- ---- Bools

@@ -1,30 +1,29 @@
 -- Each operator's block is correct: one line an operator.
-use Rattle.std.proofs.Common.{◌≡◌, ℕ, suc, ◌+◌, ◌-◌, ◌*◌, Bool, true, false, not, ◌&&◌, ◌||◌, List, [], ◌∷◌, ◌++◌, length, Option, Some, None, refl, sym, ap, ◌∙◌, subst}
-use Rattle.std.specs.Prelude.{if◌then◌else◌, map, replicate, bit_and, bit_or, bit_xor, Result, Ok, Err}
+use Rattle.std.proofs.Common.{◌≡◌, ℕ, ◌+◌, ◌-◌, ◌*◌, Bool, true, false, not, ◌&&◌, ◌||◌, List, [], ◌∷◌, ◌++◌, Some, refl, subst}
+use Rattle.std.specs.Prelude.{map, replicate, bit_and, bit_or, bit_xor, Result, Ok}
 use Rattle.cnf_base.specs.Literals.{Literal, negated, true_literal, false_literal}
 use Rattle.cnf_base.specs.Gates.{HaveMeaning}
 use Rattle.cnf_base.proofs.Truth.{lit_true-negated}
-use Rattle.smt_words.specs.Words.{not_of, neg_of, and_of, or_of, xor_of, nand_of, nor_of, xnor_of, add_of, sub_of, shl_of, lshr_of, ashr_of, ult_of, ule_of, slt_of, sle_of, comp_of, extract_of, sign_extend_of, rotate_left_of, rotate_right_of, repeat_of}
+use Rattle.smt_words.specs.Words.{not_of, neg_of, and_of, or_of, xor_of, nand_of, nor_of, xnor_of, add_of, sub_of, mul_of, udiv_of, urem_of, sdiv_of, srem_of, smod_of, shl_of, lshr_of, ashr_of, ult_of, ule_of, slt_of, sle_of, comp_of, extract_of, sign_extend_of, rotate_left_of, rotate_right_of, repeat_of}
 use Rattle.circ_plain.specs.Signs.{sign_of}
 use Rattle.circ_plain.proofs.Bits.{false_is_false}
 use Rattle.smt_terms.specs.declared.sort.Sort.{Sort}
 use Rattle.smt_terms.specs.declared.sort.Sort.TheVariants as sort
 use Rattle.smt_terms.specs.declared.operator.Operator.{Operator}
 use Rattle.smt_terms.specs.declared.operator.Operator.TheVariants as plain
-use Rattle.smt_terms.specs.declared.node.Op.{Op}
 use Rattle.smt_terms.specs.declared.node.Op.TheVariants.{Plain, Word, Extract, ZeroExtend, SignExtend, RotateLeft, RotateRight, Repeat, Constant, Apply, Param}
 use Rattle.smt_terms.specs.declared.fault.MakeFault.{MakeFault}
-use Rattle.smt_terms.specs.declared.fault.MakeFault.TheVariants.{WrongSort}
 use Rattle.smt_terms.specs.Ranks.{ranked, Gives, truth, word_sort, extract_sort, literal_sort}
 use Rattle.smt_terms.specs.Terms.{op_rank}
-use Rattle.smt_terms.specs.Values.{Value, VBool, VWord, Interpretation, applied, Is, differ, operator_meaning, op_value}
+use Rattle.smt_terms.specs.Values.{Value, VBool, VWord, applied, differ, operator_meaning}
 use Rattle.bit_blast.specs.declared.rows.Connective.TheVariants.{Both, Neither, ButNot, Differ}
-use Rattle.bit_blast.specs.Blocks.{Block, Makes, built, wires, by_gate, sum, difference, equality, negation, below, not_above, signed_below, signed_not_above, shift_up, shift_down, signed_shift_down, literal_bits, extracted, turned_left, turned_right, repeated, operator_circuit, circuit_of}
+use Rattle.bit_blast.specs.Blocks.{Block, Makes, built, wires, by_gate, sum, difference, equality, negation, below, not_above, signed_below, signed_not_above, shift_up, shift_down, signed_shift_down, product, quotient, remainder, signed_quotient, signed_remainder, signed_modulus, literal_bits, extracted, turned_left, turned_right, repeated, operator_circuit}
 use Rattle.bit_blast.specs.Meanings.{AreBitsOf, EachIsBits, BlocksAreCorrect}
 use Rattle.bit_blast.proofs.Bitwise.{said, agreed, and_works, or_works, xor_works}
-use Rattle.bit_blast.proofs.Shapes.{some_is, one_correct, two_correct, signed_correct, truth_correct, truths_correct}
+use Rattle.bit_blast.proofs.Shapes.{some_is, one_correct, two_correct, some_correct, truth_correct, truths_correct}
 use Rattle.bit_blast.proofs.Correct.{ok_is, as_truth, direct_means, nand_means, nor_means, pair_means, sum_means, difference_means}
 use Rattle.bit_blast.proofs.Wired.{literal_means, not_means, neg_means, extract_means, zero_extend_means, sign_extend_means, rotate_left_means, rotate_right_means, repeat_means}
+use Rattle.bit_blast.proofs.Arithmetic.{product_means, quotient_means, remainder_means, signed_quotient_means, signed_remainder_means, signed_modulus_means}
 use Rattle.bit_blast.proofs.Compared.{below_means, above_means, not_above_means, not_below_means, signed_below_means, signed_above_means, signed_not_above_means, signed_not_below_means, shift_up_means, shift_down_means, signed_shift_down_means, comparison_means, equality_correct, concatenation_correct, choice_correct}
 
 -- an operator without arguments
@@ -87,7 +86,7 @@ operator_correct plain.Bvadd v g one ss rows xs s b rank each is have =
 operator_correct plain.Bvsub v g one ss rows xs s b rank each is have =
     two_correct v g Ok difference (λ n x y. VWord n (sub_of n x y)) (difference_means v g one) ss rows xs s b rank each is have
 operator_correct plain.Bvmul v g one ss rows xs s b rank each is have =
-    let q : ⊥ = cc in absurd q
+    some_correct v g Ok product (λ n x y. VWord n (mul_of n x y)) (product_means v g one) ss rows xs s b rank each is have
 operator_correct plain.Bvand v g one ss rows xs s b rank each is have =
     two_correct v g Ok (by_gate Both true) (λ n x y. VWord n (and_of n x y)) (direct_means Both true bit_and and_works v g) ss rows xs s b rank each is have
 operator_correct plain.Bvor v g one ss rows xs s b rank each is have =
@@ -101,21 +100,21 @@ operator_correct plain.Bvnor v g one ss rows xs s b rank each is have =
 operator_correct plain.Bvxnor v g one ss rows xs s b rank each is have =
     two_correct v g Ok (by_gate Differ false) (λ n x y. VWord n (xnor_of n x y)) (nand_means Differ bit_xor xor_works v g) ss rows xs s b rank each is have
 operator_correct plain.Bvudiv v g one ss rows xs s b rank each is have =
-    let q : ⊥ = cc in absurd q
+    some_correct v g Ok quotient (λ n x y. VWord n (udiv_of n x y)) (quotient_means v g one) ss rows xs s b rank each is have
 operator_correct plain.Bvurem v g one ss rows xs s b rank each is have =
-    let q : ⊥ = cc in absurd q
+    some_correct v g Ok remainder (λ n x y. VWord n (urem_of n x y)) (remainder_means v g one) ss rows xs s b rank each is have
 operator_correct plain.Bvsdiv v g one ss rows xs s b rank each is have =
-    let q : ⊥ = cc in absurd q
+    some_correct v g Ok signed_quotient (λ n x y. VWord n (sdiv_of n x y)) (signed_quotient_means v g one) ss rows xs s b rank each is have
 operator_correct plain.Bvsrem v g one ss rows xs s b rank each is have =
-    let q : ⊥ = cc in absurd q
+    some_correct v g Ok signed_remainder (λ n x y. VWord n (srem_of n x y)) (signed_remainder_means v g one) ss rows xs s b rank each is have
 operator_correct plain.Bvsmod v g one ss rows xs s b rank each is have =
-    let q : ⊥ = cc in absurd q
+    some_correct v g Ok signed_modulus (λ n x y. VWord n (smod_of n x y)) (signed_modulus_means v g one) ss rows xs s b rank each is have
 operator_correct plain.Bvshl v g one ss rows xs s b rank each is have =
     two_correct v g Ok shift_up (λ n x y. VWord n (shl_of n x y)) (shift_up_means v g one) ss rows xs s b rank each is have
 operator_correct plain.Bvlshr v g one ss rows xs s b rank each is have =
     two_correct v g Ok shift_down (λ n x y. VWord n (lshr_of n x y)) (shift_down_means v g one) ss rows xs s b rank each is have
 operator_correct plain.Bvashr v g one ss rows xs s b rank each is have =
-    signed_correct v g Ok signed_shift_down (λ n x y. VWord n (ashr_of n x y)) (signed_shift_down_means v g one) ss rows xs s b rank each is have
+    some_correct v g Ok signed_shift_down (λ n x y. VWord n (ashr_of n x y)) (signed_shift_down_means v g one) ss rows xs s b rank each is have
 operator_correct plain.Bvult v g one ss rows xs s b rank each is have =
     two_correct v g (λ s. truth) below (λ n x y. VBool (ult_of n x y)) (below_means v g one) ss rows xs s b rank each is have
 operator_correct plain.Bvule v g one ss rows xs s b rank each is have =
@@ -125,13 +124,13 @@ operator_correct plain.Bvugt v g one ss rows xs s b rank each is have =
 operator_correct plain.Bvuge v g one ss rows xs s b rank each is have =
     two_correct v g (λ s. truth) (λ a b. not_above b a) (λ n x y. VBool (ule_of n y x)) (not_below_means v g one) ss rows xs s b rank each is have
 operator_correct plain.Bvslt v g one ss rows xs s b rank each is have =
-    signed_correct v g (λ s. truth) signed_below (λ n x y. VBool (slt_of n x y)) (signed_below_means v g one) ss rows xs s b rank each is have
+    some_correct v g (λ s. truth) signed_below (λ n x y. VBool (slt_of n x y)) (signed_below_means v g one) ss rows xs s b rank each is have
 operator_correct plain.Bvsle v g one ss rows xs s b rank each is have =
-    signed_correct v g (λ s. truth) signed_not_above (λ n x y. VBool (sle_of n x y)) (signed_not_above_means v g one) ss rows xs s b rank each is have
+    some_correct v g (λ s. truth) signed_not_above (λ n x y. VBool (sle_of n x y)) (signed_not_above_means v g one) ss rows xs s b rank each is have
 operator_correct plain.Bvsgt v g one ss rows xs s b rank each is have =
-    signed_correct v g (λ s. truth) (λ a b. signed_below b a) (λ n x y. VBool (slt_of n y x)) (signed_above_means v g one) ss rows xs s b rank each is have
+    some_correct v g (λ s. truth) (λ a b. signed_below b a) (λ n x y. VBool (slt_of n y x)) (signed_above_means v g one) ss rows xs s b rank each is have
 operator_correct plain.Bvsge v g one ss rows xs s b rank each is have =
-    signed_correct v g (λ s. truth) (λ a b. signed_not_above b a) (λ n x y. VBool (sle_of n y x)) (signed_not_below_means v g one) ss rows xs s b rank each is have
+    some_correct v g (λ s. truth) (λ a b. signed_not_above b a) (λ n x y. VBool (sle_of n y x)) (signed_not_below_means v g one) ss rows xs s b rank each is have
 operator_correct plain.Bvcomp v g one ss rows xs s b rank each is have =
     two_correct v g (λ s. Ok (sort.Word 1)) equality (λ n x y. VWord 1 (comp_of n x y)) (comparison_means v g one) ss rows xs s b rank each is have
 operator_correct plain.Concat v g one ss rows xs s b rank each is have =

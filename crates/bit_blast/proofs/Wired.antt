@@ -1,12 +1,11 @@
 -- The bits of operators of one argument, of literals and of rows side by side are those of their values.
-use Rattle.std.proofs.Common.{◌≡◌, ℕ, zero, suc, ◌+◌, ◌-◌, ◌*◌, ◌/◌, ◌%◌, ◌^◌, ◌<◌, ◌≤◌, Bool, true, false, not, ◌&&◌, List, [], ◌∷◌, ◌++◌, length, Option, Some, None, refl, sym, ap, ◌∙◌, subst, arith}
-use Rattle.std.specs.Prelude.{if◌then◌else◌, ◌==◌, nat_le, nat_lt, map, replicate, Result, Ok, Err}
-use Rattle.std.proofs.lemmas.Bool.{and_parts}
+use Rattle.std.proofs.Common.{◌≡◌, ℕ, ◌+◌, ◌-◌, ◌*◌, ◌%◌, ◌^◌, ◌<◌, ◌≤◌, Bool, true, false, ◌&&◌, List, [], ◌∷◌, ◌++◌, length, refl, ◌∙◌, arith}
+use Rattle.std.specs.Prelude.{if◌then◌else◌, nat_le, nat_lt, map, replicate, Result, Ok, Err}
 use Rattle.std.proofs.lemmas.Bool.Decides.{nat_tests}
 use Rattle.std.proofs.lemmas.List.{length-map, length-append}
 use Rattle.std.proofs.Math.Nat.{mod-lt}
 use Rattle.cnf_base.specs.Literals.{Literal, negated, false_literal}
-use Rattle.cnf_base.specs.Clauses.{lit_true, number}
+use Rattle.cnf_base.specs.Clauses.{number}
 use Rattle.cnf_base.specs.Gates.{HaveMeaning}
 use Rattle.cnf_base.proofs.Numbers.{number-append}
 use Rattle.smt_words.specs.Words.{not_of, neg_of, extract_of, sign_extend_of, rotate_left_of, rotate_right_of, repeat_of, concat_of}
@@ -14,12 +13,11 @@ use Rattle.circ_plain.specs.Signs.{sign_of}
 use Rattle.circ_plain.proofs.Negating.{neg_number, length-neg_bits}
 use Rattle.circ_plain.proofs.Bits.{false_is_false, number-replicate_false}
 use Rattle.smt_terms.specs.declared.sort.Sort.{Sort}
-use Rattle.smt_terms.specs.declared.sort.Sort.TheVariants as sort
 use Rattle.smt_terms.specs.declared.fault.MakeFault.{MakeFault}
 use Rattle.smt_terms.specs.declared.fault.MakeFault.TheVariants.{WrongSort}
 use Rattle.smt_terms.specs.Ranks.{word_sort, extract_sort, literal_sort}
-use Rattle.smt_terms.specs.Values.{Value, VBool, VWord}
-use Rattle.bit_blast.specs.Blocks.{negation, literal_bits, extracted, turned_left, turned_right, rotated, repeated}
+use Rattle.smt_terms.specs.Values.{VWord}
+use Rattle.bit_blast.specs.Blocks.{negation, literal_bits, extracted, turned_left, turned_right, repeated}
 use Rattle.bit_blast.specs.Meanings.{AreBitsOf}
 use Rattle.bit_blast.proofs.Bitwise.{negated_number}
 use Rattle.bit_blast.proofs.Wires.{length-literal_bits, literal_number, extract_number, length-extracted, zero_extend_number, sign_extend_number, length-extended, length-rotated, rotate_left_number, rotate_right_number, repeat_number, length-repeated}

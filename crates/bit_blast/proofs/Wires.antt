@@ -1,13 +1,13 @@
 -- The numbers of rows of wires.
-use Rattle.std.proofs.Common.{◌≡◌, ℕ, zero, suc, ◌+◌, ◌-◌, ◌*◌, ◌/◌, ◌%◌, ◌^◌, ◌<◌, ◌≤◌, Bool, true, false, not, List, [], ◌∷◌, ◌++◌, length, take, drop, refl, sym, ap, ◌∙◌, subst, arith}
-use Rattle.std.specs.Prelude.{if◌then◌else◌, ◌==◌, map, replicate}
+use Rattle.std.proofs.Common.{◌≡◌, ℕ, zero, suc, ◌+◌, ◌-◌, ◌*◌, ◌/◌, ◌%◌, ◌^◌, ◌<◌, ◌≤◌, Bool, true, false, not, List, [], ◌∷◌, ◌++◌, length, take, drop, refl, sym, ap, ◌∙◌, arith}
+use Rattle.std.specs.Prelude.{if◌then◌else◌, ◌==◌, replicate}
 use Rattle.std.proofs.lemmas.List.{length-append, length-drop, length-take-le, length-replicate}
 use Rattle.std.proofs.Math.Nat.{pow-suc, div-div-eq-div-mul, zero-div, mod-lt}
 use Rattle.std.proofs.lemmas.Nat.{pow-add, pow_pos}
 use Rattle.cnf_base.specs.Literals.{Literal, true_literal, false_literal}
 use Rattle.cnf_base.specs.Clauses.{lit_true, number, bit}
 use Rattle.cnf_base.proofs.Numbers.{bit-parity, number-append, number-take}
-use Rattle.smt_words.specs.Words.{concat_of, extract_of, sign_extend_of, rotate_left_of, rotate_right_of, repeat_of, is_negative}
+use Rattle.smt_words.specs.Words.{extract_of, sign_extend_of, rotate_left_of, rotate_right_of, repeat_of}
 use Rattle.circ_plain.specs.Signs.{sign_of}
 use Rattle.circ_plain.proofs.Bits.{false_is_false, number-replicate_false, number-replicate_true}
 use Rattle.circ_plain.proofs.Negating.{sign_is}

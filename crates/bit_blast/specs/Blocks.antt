@@ -1,5 +1,5 @@
 -- The circuit of each operator: its gates, and the bits of its result, the lowest first.
-use Rattle.std.specs.Prelude.{◌≡◌, ℕ, ◌≤◌, zero, suc, ◌+◌, ◌-◌, ◌*◌, ◌/◌, ◌%◌, ◌==◌, if◌then◌else◌, Bool, true, false, List, [], ◌∷◌, ◌++◌, Option, Some, None, map, length, replicate, take, drop}
+use Rattle.std.specs.Prelude.{◌≡◌, ℕ, ◌≤◌, zero, suc, ◌+◌, ◌-◌, ◌/◌, ◌%◌, ◌==◌, if◌then◌else◌, Bool, true, false, List, [], ◌∷◌, ◌++◌, Option, Some, None, map, length, replicate, take, drop}
 use Rattle.cnf_base.specs.Literals.{Literal, negated, true_literal, false_literal}
 use Rattle.cnf_base.specs.declared.gate.GateKind.{GateKind}
 use Rattle.cnf_base.specs.declared.gate.GateKind.TheVariants.{And as AndGate, Xor as XorGate}
@@ -9,6 +9,9 @@ use Rattle.cnf_base.specs.Assignments.{fresh_bits}
 use Rattle.cnf_base.specs.Adders.{add_gates, add_bits}
 use Rattle.circ_plain.specs.Signs.{sign_of, neg_gates, neg_bits}
 use Rattle.circ_plain.specs.Orders.{ult_gates, ult_bit, ule_gates, ule_bit, slt_gates, slt_bit, sle_gates, sle_bit}
+use Rattle.circ_muldiv.specs.Products.{mul_gates, mul_bits}
+use Rattle.circ_muldiv.specs.Quotients.{divide_gates, quotient_bits, remainder_bits}
+use Rattle.circ_muldiv.specs.Signed.{sdiv_gates, sdiv_bits, srem_gates, srem_bits, smod_gates, smod_bits}
 use Rattle.circ_plain.specs.Shifts.{shl_gates, shl_bits, lshr_gates, lshr_bits, ashr_gates, ashr_bits}
 use Rattle.cnf_base.specs.Choices.{mux_gates, equal_gates, equal_bit}
 use Rattle.std.specs.List.{AllByRecursion}
@@ -57,8 +60,8 @@ abbrev pub two : (List Literal → List Literal → ℕ → Block) → CircuitOf
 two f = Takes λ a. Takes λ b. alike a b (f a b)
 
 -- two rows of equally many bits, and of one at least
-abbrev pub two_signed : (List Literal → List Literal → ℕ → Block) → CircuitOf
-two_signed f = Takes λ a. Takes λ b. if length a == 0 then Lacks else alike a b (f a b)
+abbrev pub two_some : (List Literal → List Literal → ℕ → Block) → CircuitOf
+two_some f = Takes λ a. Takes λ b. if length a == 0 then Lacks else alike a b (f a b)
 
 -- the gate of a connective: both are true, neither is, the first is and the second is not, they differ
 abbrev pub gate_of : Connective → Literal → Literal → GateKind
@@ -121,6 +124,25 @@ shift_down a t g = record { gates = lshr_gates g a t; bits = lshr_bits g a t }
 
 abbrev pub signed_shift_down : List Literal → List Literal → ℕ → Block
 signed_shift_down a t g = record { gates = ashr_gates g a t; bits = ashr_bits g a t }
+
+-- products, quotients and remainders
+abbrev pub product : List Literal → List Literal → ℕ → Block
+product a b g = record { gates = mul_gates g a b; bits = mul_bits g a b }
+
+abbrev pub quotient : List Literal → List Literal → ℕ → Block
+quotient a b g = record { gates = divide_gates g a b; bits = quotient_bits g a b }
+
+abbrev pub remainder : List Literal → List Literal → ℕ → Block
+remainder a b g = record { gates = divide_gates g a b; bits = remainder_bits g a b }
+
+abbrev pub signed_quotient : List Literal → List Literal → ℕ → Block
+signed_quotient a b g = record { gates = sdiv_gates g a b; bits = sdiv_bits g a b }
+
+abbrev pub signed_remainder : List Literal → List Literal → ℕ → Block
+signed_remainder a b g = record { gates = srem_gates g a b; bits = srem_bits g a b }
+
+abbrev pub signed_modulus : List Literal → List Literal → ℕ → Block
+signed_modulus a b g = record { gates = smod_gates g a b; bits = smod_bits g a b }
 
 -- the choice between two rows by the one bit of a condition
 abbrev pub choice_by : List Literal → List Literal → List Literal → CircuitOf
@@ -220,29 +242,29 @@ operator_circuit plain.Bvnot = one λ a. wires (map negated a)
 operator_circuit plain.Bvneg = one negation
 operator_circuit plain.Bvadd = two (sum false_literal)
 operator_circuit plain.Bvsub = two difference
-operator_circuit plain.Bvmul = Lacks
+operator_circuit plain.Bvmul = two_some product
 operator_circuit plain.Bvand = bitwise Both true
 operator_circuit plain.Bvor = bitwise Neither false
 operator_circuit plain.Bvxor = bitwise Differ true
 operator_circuit plain.Bvnand = bitwise Both false
 operator_circuit plain.Bvnor = bitwise Neither true
 operator_circuit plain.Bvxnor = bitwise Differ false
-operator_circuit plain.Bvudiv = Lacks
-operator_circuit plain.Bvurem = Lacks
-operator_circuit plain.Bvsdiv = Lacks
-operator_circuit plain.Bvsrem = Lacks
-operator_circuit plain.Bvsmod = Lacks
+operator_circuit plain.Bvudiv = two_some quotient
+operator_circuit plain.Bvurem = two_some remainder
+operator_circuit plain.Bvsdiv = two_some signed_quotient
+operator_circuit plain.Bvsrem = two_some signed_remainder
+operator_circuit plain.Bvsmod = two_some signed_modulus
 operator_circuit plain.Bvshl = two shift_up
 operator_circuit plain.Bvlshr = two shift_down
-operator_circuit plain.Bvashr = two_signed signed_shift_down
+operator_circuit plain.Bvashr = two_some signed_shift_down
 operator_circuit plain.Bvult = two below
 operator_circuit plain.Bvule = two not_above
 operator_circuit plain.Bvugt = two λ a b. below b a
 operator_circuit plain.Bvuge = two λ a b. not_above b a
-operator_circuit plain.Bvslt = two_signed signed_below
-operator_circuit plain.Bvsle = two_signed signed_not_above
-operator_circuit plain.Bvsgt = two_signed λ a b. signed_below b a
-operator_circuit plain.Bvsge = two_signed λ a b. signed_not_above b a
+operator_circuit plain.Bvslt = two_some signed_below
+operator_circuit plain.Bvsle = two_some signed_not_above
+operator_circuit plain.Bvsgt = two_some λ a b. signed_below b a
+operator_circuit plain.Bvsge = two_some λ a b. signed_not_above b a
 operator_circuit plain.Bvcomp = two equality
 operator_circuit plain.Concat = Takes λ a. Takes λ b. Makes (wires (b ++ a))
 operator_circuit plain.Select = Lacks
@@ -305,6 +327,50 @@ IsSigned plain.Concat = ⊥
 IsSigned plain.Select = ⊥
 IsSigned plain.Store = ⊥
 IsSigned plain.Witness = ⊥
+
+-- the operator is a product, a quotient or a remainder
+abbrev pub IsProduct : Operator → Type 0
+IsProduct plain.True = ⊥
+IsProduct plain.False = ⊥
+IsProduct plain.Not = ⊥
+IsProduct plain.And = ⊥
+IsProduct plain.Or = ⊥
+IsProduct plain.Xor = ⊥
+IsProduct plain.Implies = ⊥
+IsProduct plain.Ite = ⊥
+IsProduct plain.Equal = ⊥
+IsProduct plain.Bvnot = ⊥
+IsProduct plain.Bvneg = ⊥
+IsProduct plain.Bvadd = ⊥
+IsProduct plain.Bvsub = ⊥
+IsProduct plain.Bvmul = Unit {0}
+IsProduct plain.Bvand = ⊥
+IsProduct plain.Bvor = ⊥
+IsProduct plain.Bvxor = ⊥
+IsProduct plain.Bvnand = ⊥
+IsProduct plain.Bvnor = ⊥
+IsProduct plain.Bvxnor = ⊥
+IsProduct plain.Bvudiv = Unit {0}
+IsProduct plain.Bvurem = Unit {0}
+IsProduct plain.Bvsdiv = Unit {0}
+IsProduct plain.Bvsrem = Unit {0}
+IsProduct plain.Bvsmod = Unit {0}
+IsProduct plain.Bvshl = ⊥
+IsProduct plain.Bvlshr = ⊥
+IsProduct plain.Bvashr = ⊥
+IsProduct plain.Bvult = ⊥
+IsProduct plain.Bvule = ⊥
+IsProduct plain.Bvugt = ⊥
+IsProduct plain.Bvuge = ⊥
+IsProduct plain.Bvslt = ⊥
+IsProduct plain.Bvsle = ⊥
+IsProduct plain.Bvsgt = ⊥
+IsProduct plain.Bvsge = ⊥
+IsProduct plain.Bvcomp = ⊥
+IsProduct plain.Concat = ⊥
+IsProduct plain.Select = ⊥
+IsProduct plain.Store = ⊥
+IsProduct plain.Witness = ⊥
 
 -- ---- blocks of terms
 

@@ -2,15 +2,17 @@
 use Rattle.std.specs.Prelude.{◌≡◌, ℕ, ◌+◌, ◌<◌, Bool, true, List, [], ◌∷◌, length, Option, Some, Ok}
 use Rattle.std.specs.List.{AllByRecursion}
 use Rattle.cnf_base.specs.Literals.{Literal}
-use Rattle.cnf_base.specs.Clauses.{lit_true, number}
-use Rattle.cnf_base.specs.Gates.{HaveMeaning, AreOrdered}
-use Rattle.cnf_base.specs.Assignments.{AreBelow}
+use Rattle.cnf_base.specs.Clauses.{lit_true, all_true, number}
+use Rattle.cnf_base.specs.Gates.{gates_clauses, HaveMeaning, AreOrdered}
+use Rattle.cnf_base.specs.Assignments.{AreBelow, with_gates}
+use Rattle.cnf_base.specs.Circuits.{IsDetermined}
 use Rattle.smt_terms.specs.declared.sort.Sort.{Sort}
 use Rattle.smt_terms.specs.declared.sort.Sort.TheVariants as sort
 use Rattle.smt_terms.specs.declared.node.Op.{Op}
+use Rattle.smt_terms.specs.declared.node.Node.{Node}
 use Rattle.smt_terms.specs.Terms.{op_rank}
 use Rattle.smt_terms.specs.Values.{Value, VBool, VWord, Interpretation, op_value}
-use Rattle.bit_blast.specs.Blocks.{Block, built, circuit_of}
+use Rattle.bit_blast.specs.Blocks.{Block, built, circuit_of, all_bits}
 
 -- Under an assignment the literals are the bits of a value of a sort: a Bool has one, a word as many as its width, the
 -- lowest first. An array has none.
@@ -42,3 +44,28 @@ BlocksAreOrdered =
     (g : ℕ) (op : Op) (rows : List (List Literal)) (b : Block)
     → 1 < g → AllByRecursion (AreBelow g) rows → built (circuit_of op) g rows ≡ Some b
     → AreOrdered g b.gates × AreBelow (g + length b.gates) b.bits
+
+-- In every assignment that makes variable 1 true and satisfies the clauses of a block, the bits of the block are those of
+-- the value that the operator gives of the values whose bits its arguments are.
+abbrev pub ClausesFixValues : Type 0
+ClausesFixValues =
+    (M : Interpretation) (v : ℕ → Bool) (g : ℕ) (op : Op) (ss : List Sort) (rows : List (List Literal)) (xs : List Value) (s : Sort) (b : Block)
+    → v 1 ≡ true → op_rank op ss ≡ Ok s → EachIsBits v ss rows xs → built (circuit_of op) g rows ≡ Some b → all_true v (gates_clauses g b.gates) ≡ true
+    → AreBitsOf v s b.bits (op_value M op xs)
+
+-- An assignment of the variables below a block's first one, in which the arguments are the bits of values, goes on over
+-- the block in exactly one way, and the bits of the block are then those of the operator's value of these.
+abbrev pub BlocksExtendAssignments : Type 0
+BlocksExtendAssignments =
+    (M : Interpretation) (f : ℕ → Bool) (g : ℕ) (op : Op) (ss : List Sort) (rows : List (List Literal)) (xs : List Value) (s : Sort) (b : Block)
+    → f 1 ≡ true → 1 < g → AllByRecursion (AreBelow g) rows
+    → op_rank op ss ≡ Ok s → EachIsBits f ss rows xs → built (circuit_of op) g rows ≡ Some b
+    → IsDetermined f g b.gates × AreBitsOf (with_gates f g b.gates) s b.bits (op_value M op xs)
+
+-- In every assignment that makes variable 1 true and satisfies these clauses, the row is the bits of the value that a
+-- node's operator gives of the values whose bits its arguments are.
+abbrev pub Fix : List (List Literal) → (ℕ → Option (List Literal)) → Node → List Literal → Type 0
+Fix clauses bits n row =
+    (M : Interpretation) (v : ℕ → Bool) (ss : List Sort) (rows : List (List Literal)) (xs : List Value) (s : Sort)
+    → v 1 ≡ true → all_true v clauses ≡ true → op_rank n.op ss ≡ Ok s → all_bits bits n.args ≡ Some rows → EachIsBits v ss rows xs
+    → AreBitsOf v s row (op_value M n.op xs)

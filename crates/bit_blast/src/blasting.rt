@@ -1,13 +1,15 @@
 //! The circuit of a term.
 
-ghost use Rattle.std.specs.Prelude.{◌≡◌, ◌≢◌, None, [], ◌∷◌, ◌+◌, ◌^◌, ◌≤◌, ◌<◌, IfOk, OnErr, MatchOption, length};
+ghost use Rattle.std.specs.Prelude.{◌≡◌, ◌≢◌, None, [], ◌∷◌, ◌+◌, ◌^◌, ◌≤◌, ◌<◌, IfOk, IfSome, OnErr, MatchOption, length};
 ghost use Rattle.std.specs.Option.{option_copied};
 ghost use Rattle.smt_terms.specs.Nodes.{node_at};
 ghost use Rattle.smt_terms.specs.Terms.{IsTerm};
 ghost use Rattle.smt_terms.specs.Bits.{bits_in};
-ghost use Rattle.bit_blast.specs.Blocks.{block_of, built, circuit_of, operator_circuit, connective_of, IsSigned, IsBuilt, HasNone, EachShort};
+ghost use Rattle.bit_blast.specs.Meanings.{Fix};
+ghost use Rattle.bit_blast.specs.Blocks.{block_of, built, circuit_of, operator_circuit, connective_of, IsSigned, IsProduct, IsBuilt, HasNone, EachShort};
 
 use crate::rows;
+use circ_muldiv::{divide, mul, sdiv, smod, srem};
 use circ_plain::{ashr, lshr, neg, shl};
 use cnf_base::{Circuit, Lit};
 use smt_terms::bits::Bits;
@@ -17,8 +19,28 @@ use smt_terms::terms::Terms;
 use std::alloc::AllocError;
 
 /// Appends the circuit of a term to `circuit` and gives the literals of its bits, the lowest first. `None` exactly
-/// where an argument has no bits or the operator has no circuit over them; the circuit is then as before.
+/// where an argument has no bits or the operator has no circuit over them; the circuit is then as before. The clauses
+/// fix the bits: they are those of the operator's value of the arguments' values.
 pub fn encode(
+    terms: &Terms,
+    bits: &Bits,
+    t: TermId,
+    circuit: &mut Circuit,
+) -> Result<Option<Vec<Lit>>, AllocError>
+    requires held { t < length terms.now.nodes }
+    requires short { EachShort bits.now }
+    requires room { circuit.old.next + 2 ^ 17 ≤ 2 ^ 63 }
+    ensures ok { IfOk result (λ o. MatchOption o
+        (HasNone (block_of circuit.old.next (bits_in bits.now) (node_at terms.now.nodes t)) circuit.old circuit.new)
+        (λ row. IsBuilt (block_of circuit.old.next (bits_in bits.now) (node_at terms.now.nodes t)) row.items circuit.old circuit.new)) }
+    ensures means { IfOk result (λ o. IfSome o (λ row. Fix circuit.new.clauses (bits_in bits.now) (node_at terms.now.nodes t) row.items)) }
+    ensures err { OnErr result (circuit.new ≡ circuit.old) }
+{
+    block(terms, bits, t, circuit)
+}
+
+// The circuit of a term, by how many arguments it has.
+fn block(
     terms: &Terms,
     bits: &Bits,
     t: TermId,
@@ -164,6 +186,12 @@ fn paired(
         Operator::Bvlshr => Ok(Some(lshr(circuit, a, b)?)),
         Operator::Bvslt | Operator::Bvsgt | Operator::Bvsle | Operator::Bvsge | Operator::Bvashr =>
             signed(operator, a, b, circuit),
+        Operator::Bvmul
+        | Operator::Bvudiv
+        | Operator::Bvurem
+        | Operator::Bvsdiv
+        | Operator::Bvsrem
+        | Operator::Bvsmod => multiplied(operator, a, b, circuit),
         _ => Ok(None),
     }
 }
@@ -193,6 +221,42 @@ fn signed(
         Operator::Bvsle => Ok(Some(rows::signed_not_above(a, b, circuit)?)),
         Operator::Bvsge => Ok(Some(rows::signed_not_above(b, a, circuit)?)),
         Operator::Bvashr => Ok(Some(ashr(circuit, a, b)?)),
+        _ => Ok(None),
+    }
+}
+
+// The circuit of a product, a quotient or a remainder of two rows of one length.
+fn multiplied(
+    operator: Operator,
+    a: &[Lit],
+    b: &[Lit],
+    circuit: &mut Circuit,
+) -> Result<Option<Vec<Lit>>, AllocError>
+    requires same { length a.now ≡ length b.now }
+    requires short { length a.now ≤ 128 }
+    requires room { circuit.old.next + 2 ^ 17 ≤ 2 ^ 63 }
+    requires product { IsProduct operator }
+    ensures ok { IfOk result (λ o. MatchOption o
+        (HasNone (built (operator_circuit operator) circuit.old.next (a.now ∷ b.now ∷ [])) circuit.old circuit.new)
+        (λ row. IsBuilt (built (operator_circuit operator) circuit.old.next (a.now ∷ b.now ∷ [])) row.items circuit.old circuit.new)) }
+    ensures err { OnErr result (circuit.new ≡ circuit.old) }
+{
+    if a.len() == 0 {
+        return Ok(None);
+    }
+    match operator {
+        Operator::Bvmul => Ok(Some(mul(circuit, a, b)?)),
+        Operator::Bvudiv => {
+            let (quotient, _) = divide(circuit, a, b)?;
+            Ok(Some(quotient))
+        }
+        Operator::Bvurem => {
+            let (_, remainder) = divide(circuit, a, b)?;
+            Ok(Some(remainder))
+        }
+        Operator::Bvsdiv => Ok(Some(sdiv(circuit, a, b)?)),
+        Operator::Bvsrem => Ok(Some(srem(circuit, a, b)?)),
+        Operator::Bvsmod => Ok(Some(smod(circuit, a, b)?)),
         _ => Ok(None),
     }
 }

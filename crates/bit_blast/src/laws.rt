@@ -1,6 +1,6 @@
 //! What the circuits of terms mean.
 
-ghost use Rattle.bit_blast.specs.Meanings.{BlocksAreCorrect, BlocksAreOrdered};
+ghost use Rattle.bit_blast.specs.Meanings.{BlocksAreCorrect, BlocksAreOrdered, BlocksExtendAssignments, ClausesFixValues};
 
 /// In every assignment in which each gate of a term's block has its meaning, the bits of the block are those of the
 /// value that the term's operator gives of its arguments' values.
@@ -12,4 +12,16 @@ pub fn blocks_are_correct()
 /// block in exactly one way (`cnf_base` has this of every such row), and the block's bits are of variables that there are.
 pub fn blocks_are_ordered()
     ensures { BlocksAreOrdered }
+{}
+
+/// In every assignment that makes variable 1 true and the clauses of a term's block true, the bits of the block are
+/// those of the value that the term's operator gives of its arguments' values.
+pub fn clauses_fix_values()
+    ensures { ClausesFixValues }
+{}
+
+/// Every assignment of the variables so far goes on over a term's block in exactly one way, and the bits of the block
+/// are then those of the value that the term's operator gives of its arguments' values.
+pub fn blocks_extend_assignments()
+    ensures { BlocksExtendAssignments }
 {}

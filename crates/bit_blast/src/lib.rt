@@ -7,9 +7,13 @@
 //! cnf_base and the terms of smt_terms.
 #![tactic(auto)]
 
+mod assignment;
 mod blasting;
 mod laws;
 mod rows;
 
+pub use assignment::Assignment;
 pub use blasting::encode;
-pub use laws::{blocks_are_correct, blocks_are_ordered};
+pub use laws::{
+    blocks_are_correct, blocks_are_ordered, blocks_extend_assignments, clauses_fix_values,
+};
