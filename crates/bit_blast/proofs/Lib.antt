@@ -11,4 +11,5 @@ pub mod Arithmetic
 pub mod Table
 pub mod Ordered
 pub mod Fixing
+pub mod Sizes
 pub mod Reading

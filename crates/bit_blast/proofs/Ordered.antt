@@ -74,7 +74,7 @@ each_gate-ordered Neither g (x ∷ a) (y ∷ b) h i = ((h.0, i.0), each_gate-ord
 each_gate-ordered ButNot g (x ∷ a) (y ∷ b) h i = ((h.0, i.0), each_gate-ordered ButNot (suc g) a b (AreBelow-more g (suc g) (omega arith) a h.1) (AreBelow-more g (suc g) (omega arith) b i.1))
 each_gate-ordered Differ g (x ∷ a) (y ∷ b) h i = ((h.0, i.0), each_gate-ordered Differ (suc g) a b (AreBelow-more g (suc g) (omega arith) a h.1) (AreBelow-more g (suc g) (omega arith) b i.1))
 
-length-each_gate : (k : Connective) (a b : List Literal) → length a ≡ length b → length (each_gate k a b) ≡ length a
+pub length-each_gate : (k : Connective) (a b : List Literal) → length a ≡ length b → length (each_gate k a b) ≡ length a
 length-each_gate k [] b e = refl
 length-each_gate k (x ∷ a) [] e = absurd (omega arith)
 length-each_gate k (x ∷ a) (y ∷ b) e = ap suc (length-each_gate k a b (omega arith))

@@ -1,5 +1,5 @@
 -- What the bits of terms mean.
-use Rattle.std.specs.Prelude.{◌≡◌, ℕ, ◌+◌, ◌<◌, Bool, true, List, [], ◌∷◌, length, Option, Some, Ok}
+use Rattle.std.specs.Prelude.{◌≡◌, ℕ, ◌+◌, ◌^◌, ◌<◌, ◌≤◌, Bool, true, List, [], ◌∷◌, length, Option, Some, Ok}
 use Rattle.std.specs.List.{AllByRecursion}
 use Rattle.cnf_base.specs.Literals.{Literal}
 use Rattle.cnf_base.specs.Clauses.{lit_true, all_true, number}
@@ -69,3 +69,10 @@ Fix clauses bits n row =
     (M : Interpretation) (v : ℕ → Bool) (ss : List Sort) (rows : List (List Literal)) (xs : List Value) (s : Sort)
     → v 1 ≡ true → all_true v clauses ≡ true → op_rank n.op ss ≡ Ok s → all_bits bits n.args ≡ Some rows → EachIsBits v ss rows xs
     → AreBitsOf v s row (op_value M n.op xs)
+
+-- no block over rows of at most 128 bits has more than 2^17 gates
+abbrev pub BlocksAreSmall : Type 0
+BlocksAreSmall =
+    (g : ℕ) (op : Op) (rows : List (List Literal)) (b : Block)
+    → AllByRecursion (λ row. length row ≤ 128) rows → built (circuit_of op) g rows ≡ Some b
+    → length b.gates ≤ 2 ^ 17

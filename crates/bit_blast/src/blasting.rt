@@ -34,6 +34,7 @@ pub fn encode(
         (HasNone (block_of circuit.old.next (bits_in bits.now) (node_at terms.now.nodes t)) circuit.old circuit.new)
         (λ row. IsBuilt (block_of circuit.old.next (bits_in bits.now) (node_at terms.now.nodes t)) row.items circuit.old circuit.new)) }
     ensures means { IfOk result (λ o. IfSome o (λ row. Fix circuit.new.clauses (bits_in bits.now) (node_at terms.now.nodes t) row.items)) }
+    ensures size { circuit.new.next ≤ circuit.old.next + 2 ^ 17 }
     ensures err { OnErr result (circuit.new ≡ circuit.old) }
 {
     block(terms, bits, t, circuit)

@@ -1,6 +1,6 @@
 //! What the circuits of terms mean.
 
-ghost use Rattle.bit_blast.specs.Meanings.{BlocksAreCorrect, BlocksAreOrdered, BlocksExtendAssignments, ClausesFixValues};
+ghost use Rattle.bit_blast.specs.Meanings.{BlocksAreCorrect, BlocksAreOrdered, BlocksAreSmall, BlocksExtendAssignments, ClausesFixValues};
 
 /// In every assignment in which each gate of a term's block has its meaning, the bits of the block are those of the
 /// value that the term's operator gives of its arguments' values.
@@ -24,4 +24,9 @@ pub fn clauses_fix_values()
 /// are then those of the value that the term's operator gives of its arguments' values.
 pub fn blocks_extend_assignments()
     ensures { BlocksExtendAssignments }
+{}
+
+/// No term whose arguments have at most 128 bits has a block of more than 2^17 gates.
+pub fn blocks_are_small()
+    ensures { BlocksAreSmall }
 {}

@@ -15,5 +15,6 @@ mod rows;
 pub use assignment::Assignment;
 pub use blasting::encode;
 pub use laws::{
-    blocks_are_correct, blocks_are_ordered, blocks_extend_assignments, clauses_fix_values,
+    blocks_are_correct, blocks_are_ordered, blocks_are_small, blocks_extend_assignments,
+    clauses_fix_values,
 };
