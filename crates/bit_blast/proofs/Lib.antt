@@ -12,4 +12,5 @@ pub mod Table
 pub mod Ordered
 pub mod Fixing
 pub mod Sizes
+pub mod Existing
 pub mod Reading

@@ -1,5 +1,5 @@
 -- No block over rows of at most 128 bits has more than 2^17 gates.
-use Rattle.std.proofs.Common.{◌≡◌, ℕ, zero, suc, ◌+◌, ◌-◌, ◌*◌, ◌%◌, ◌^◌, ◌<◌, ◌≤◌, Bool, true, false, List, [], ◌∷◌, ◌++◌, length, take, drop, Option, Some, None, refl, sym, ap, ◌∙◌, subst, arith}
+use Rattle.std.proofs.Common.{◌≡◌, ℕ, ◌+◌, ◌*◌, ◌^◌, ◌≤◌, Bool, true, false, List, [], ◌∷◌, ◌++◌, length, Option, Some, None, refl, sym, ap, ◌∙◌, subst, arith}
 use Rattle.std.specs.Prelude.{if◌then◌else◌, ◌==◌, map, replicate, Result, Ok, Err, IfOk, OnErr, MatchOption}
 use Rattle.std.specs.List.{AllByRecursion}
 use Rattle.std.proofs.Math.Nat.{mul-le-mul}
@@ -21,13 +21,12 @@ use Rattle.circ_muldiv.specs.Sizes.{sdiv_size, srem_size, smod_size}
 use Rattle.circ_muldiv.proofs.Counting.{mul_small, divide_small, length-mul_gates, length-divide_gates, length-sdiv_gates, length-srem_gates, length-smod_gates}
 use Rattle.smt_terms.specs.declared.operator.Operator.{Operator}
 use Rattle.smt_terms.specs.declared.operator.Operator.TheVariants as plain
-use Rattle.smt_terms.specs.declared.node.Op.{Op}
 use Rattle.smt_terms.specs.declared.node.Op.TheVariants.{Plain, Word, Extract, ZeroExtend, SignExtend, RotateLeft, RotateRight, Repeat, Constant, Apply, Param}
 use Rattle.smt_terms.specs.declared.node.Node.{Node}
 use Rattle.smt_terms.specs.Bits.{TermBits, bits_in}
 use Rattle.bit_blast.specs.declared.rows.Connective.{Connective}
 use Rattle.bit_blast.specs.declared.rows.Connective.TheVariants.{Both, Neither, ButNot, Differ}
-use Rattle.bit_blast.specs.Blocks.{Block, Makes, Takes, Lacks, built, one, two, two_some, wires, each_gate, by_gate, sum, difference, equality, choice, negation, below, not_above, signed_below, signed_not_above, shift_up, shift_down, signed_shift_down, product, quotient, remainder, signed_quotient, signed_remainder, signed_modulus, literal_bits, rotated, extracted, repeated, turned_left, turned_right, operator_circuit, circuit_of, with_first, all_bits, block_over, block_of, EachShort, IsBuilt, HasNone}
+use Rattle.bit_blast.specs.Blocks.{Block, Makes, Takes, Lacks, built, one, two, two_some, wires, by_gate, sum, difference, equality, choice, negation, below, not_above, signed_below, signed_not_above, shift_up, shift_down, signed_shift_down, product, quotient, remainder, signed_quotient, signed_remainder, signed_modulus, literal_bits, extracted, repeated, turned_left, turned_right, operator_circuit, circuit_of, with_first, all_bits, block_over, block_of, EachShort, IsBuilt, HasNone}
 use Rattle.bit_blast.specs.Meanings.{BlocksAreSmall}
 use Rattle.bit_blast.proofs.Counting.{short_of}
 use Rattle.bit_blast.proofs.Ordered.{length-each_gate}

@@ -11,6 +11,7 @@ use Rattle.smt_terms.specs.declared.sort.Sort.TheVariants as sort
 use Rattle.smt_terms.specs.declared.node.Op.{Op}
 use Rattle.smt_terms.specs.declared.node.Node.{Node}
 use Rattle.smt_terms.specs.Terms.{op_rank}
+use Rattle.smt_terms.specs.Scalars.{is_fixed}
 use Rattle.smt_terms.specs.Values.{Value, VBool, VWord, Interpretation, op_value}
 use Rattle.bit_blast.specs.Blocks.{Block, built, circuit_of, all_bits}
 
@@ -76,3 +77,22 @@ BlocksAreSmall =
     (g : ℕ) (op : Op) (rows : List (List Literal)) (b : Block)
     → AllByRecursion (λ row. length row ≤ 128) rows → built (circuit_of op) g rows ≡ Some b
     → length b.gates ≤ 2 ^ 17
+
+-- a row has as many bits as a sort: one for a Bool, for a word its width, which is not 0
+abbrev pub IsRowOf : Sort → List Literal → Type 0
+IsRowOf sort.Bool row = length row ≡ 1
+IsRowOf (sort.Word n) row = (0 < n) × (length row ≡ n)
+IsRowOf (sort.Array n m) row = ⊥
+
+abbrev pub AreRowsOf : List Sort → List (List Literal) → Type 0
+AreRowsOf [] [] = Unit {0}
+AreRowsOf [] (row ∷ rows) = ⊥
+AreRowsOf (s ∷ ss) [] = ⊥
+AreRowsOf (s ∷ ss) (row ∷ rows) = IsRowOf s row × AreRowsOf ss rows
+
+-- an operator that is no declaration and no parameter has a block over rows of the sorts that it takes
+abbrev pub BlocksExist : Type 0
+BlocksExist =
+    (g : ℕ) (op : Op) (ss : List Sort) (rows : List (List Literal)) (s : Sort)
+    → is_fixed op ≡ true → op_rank op ss ≡ Ok s → AreRowsOf ss rows
+    → (b : Block) × (built (circuit_of op) g rows ≡ Some b)

@@ -1,6 +1,6 @@
 //! What the circuits of terms mean.
 
-ghost use Rattle.bit_blast.specs.Meanings.{BlocksAreCorrect, BlocksAreOrdered, BlocksAreSmall, BlocksExtendAssignments, ClausesFixValues};
+ghost use Rattle.bit_blast.specs.Meanings.{BlocksAreCorrect, BlocksAreOrdered, BlocksAreSmall, BlocksExist, BlocksExtendAssignments, ClausesFixValues};
 
 /// In every assignment in which each gate of a term's block has its meaning, the bits of the block are those of the
 /// value that the term's operator gives of its arguments' values.
@@ -29,4 +29,10 @@ pub fn blocks_extend_assignments()
 /// No term whose arguments have at most 128 bits has a block of more than 2^17 gates.
 pub fn blocks_are_small()
     ensures { BlocksAreSmall }
+{}
+
+/// A term has a block where its operator is no declaration and no parameter and takes arguments of their sorts, and each
+/// argument has as many bits as its sort.
+pub fn blocks_exist()
+    ensures { BlocksExist }
 {}

@@ -11,10 +11,12 @@ mod assignment;
 mod blasting;
 mod laws;
 mod rows;
+#[cfg(test)]
+mod tests;
 
 pub use assignment::Assignment;
 pub use blasting::encode;
 pub use laws::{
-    blocks_are_correct, blocks_are_ordered, blocks_are_small, blocks_extend_assignments,
-    clauses_fix_values,
+    blocks_are_correct, blocks_are_ordered, blocks_are_small, blocks_exist,
+    blocks_extend_assignments, clauses_fix_values,
 };
