@@ -1,0 +1,225 @@
+-- The names of the held clauses, as slots are taken and given up.
+use Rattle.std.proofs.Common.{ℕ, zero, suc, ◌≡◌, ◌≢◌, ◌<◌, ◌≤◌, ◌⊎◌, Bool, true, false, List, [], ◌∷◌, Option, Some, None, length, refl, sym, ap, ◌∙◌, inl, inr, arith}
+use Rattle.std.specs.Prelude.{slice_get, option_and_then}
+use Rattle.std.specs.Ordering.{nat_cmp, ordering_then, is_eq, MatchOrdering}
+use Rattle.std.specs.declared.cmp.Ordering.{Ordering}
+use Rattle.std.specs.declared.cmp.Ordering.TheVariants.{Less, Equal, Greater}
+use Rattle.std.specs.BTreeMap.{get, is_at, Updates}
+use Rattle.std.proofs.Math.ListN.{get_or, set, length-set}
+use Rattle.std.proofs.lemmas.List.{get_or-set_other, get_or-set_same}
+use Rattle.std.proofs.lemmas.Option.{slice_get-get_or}
+use Rattle.std.proofs.lemmas.Cmp.{ranked}
+use Rattle.std.proofs.lemmas.Bool.Decides.{eqb_tells}
+use Rattle.cnf_base.specs.Literals.{Literal}
+use Rattle.cnf_base.specs.declared.clause.ClauseId.{ClauseId}
+use Rattle.cdcl_core.specs.declared.trail.Trail.{Trail}
+use Rattle.cdcl_core.specs.declared.watches.Watches.{Watches}
+use Rattle.cdcl_core.specs.declared.watches.Kind.{Kind}
+use Rattle.cdcl_core.specs.declared.watches.Kind.TheVariants.{Free}
+use Rattle.cdcl_core.specs.Search.{id_cmp, clause_of}
+use Rattle.cdcl_core.specs.Watched.{kind_at}
+use Rattle.cdcl_core.specs.State.{no_id, all_codes, IsNamed, IsSettled, IsPlaced, IsWaiting, HoldsSome}
+use Rattle.cdcl_core.proofs.Clauses.{codes_length}
+use Rattle.cdcl_core.proofs.Slots.{free_apart}
+
+both_equal : (o p : Ordering) → is_eq (ordering_then o p) ≡ true → (o ≡ Equal) × (p ≡ Equal)
+both_equal Less p e = absurd cc
+both_equal Equal Less e = absurd cc
+both_equal Equal Equal e = (refl, refl)
+both_equal Equal Greater e = absurd cc
+both_equal Greater p e = absurd cc
+
+equal_numbers : (x y : ℕ) → nat_cmp x y ≡ Equal → x ≡ y
+equal_numbers x y e = let m : MatchOrdering Equal (x < y) (x ≡ y) (y < x) = ranked x y Equal (sym e) in m
+
+-- names that compare equal are equal
+pub same_id : (a b : ClauseId) → is_at (id_cmp a) b ≡ true → a ≡ b
+same_id a b e =
+    let p : (nat_cmp a.pos b.pos ≡ Equal) × (nat_cmp a.part b.part ≡ Equal) = both_equal (nat_cmp a.pos b.pos) (nat_cmp a.part b.part) e in
+    same (equal_numbers a.pos b.pos p.0) (equal_numbers a.part b.part p.1)
+  where
+    same : {x y u v : ℕ} → x ≡ y → u ≡ v → (let r : ClauseId = record { pos = x; part = u } in r) ≡ (let r : ClauseId = record { pos = y; part = v } in r)
+    same e f = cc
+
+pub true_or_false : (b : Bool) → (b ≡ true) ⊎ (b ≡ false)
+true_or_false true = inl refl
+true_or_false false = inr refl
+
+-- a name that no clause has is not in the map
+pub not_named : (w : Watches) (t : Trail) (id : ClauseId) → IsSettled w t → clause_of w id ≡ None → get id_cmp w.slots id ≡ None
+not_named w t id s fresh = none (get id_cmp w.slots id) refl
+  where
+    none : (o : Option ℕ) → get id_cmp w.slots id ≡ o → get id_cmp w.slots id ≡ None
+    none None e = e
+    none (Some q) e =
+        let within : q < length w.clauses.items = (let h : q < length w.kinds.items = s.named.high id q e in omega (arith, h, s.watched.clauses, codes_length w.clauses.items)) in
+        let found : clause_of w id ≡ Some (get_or w.clauses.items q []) = ap (option_and_then (λ i. slice_get w.clauses.items i)) e ∙ slice_get-get_or w.clauses.items q [] within in
+        absurd (let z : None ≡ Some (get_or w.clauses.items q []) = sym fresh ∙ found in cc)
+
+apart : (w : Watches) (t : Trail) (s : ℕ) → IsSettled w t → kind_at w.kinds.items s ≡ Free → (i : ℕ) → i < t.len → 0 < get_or t.reasons.items i 0 → get_or t.reasons.items i 0 ≢ s
+apart w t s st free i a b = free_apart (all_codes w.clauses.items) w.kinds.items w.ids.items t.rows.items t.codes.items t.reasons.items t.len s st.reasoned free i a b
+
+-- a name for a free slot concerns no reason
+pub named_placed : (w w2 : Watches) (t : Trail) (s : ℕ) (id : ClauseId) → IsSettled w t → kind_at w.kinds.items s ≡ Free → w2.lists ≡ w.lists → w2.kinds ≡ w.kinds → w2.clauses ≡ w.clauses → w2.refuted ≡ w.refuted → w2.ids.items ≡ set w.ids.items s id → IsPlaced w2 t
+named_placed w w2 t s id st free e1 e2 e3 e4 e5 = record {
+  trail = st.trail;
+  shown = st.shown;
+  watched = rw (e1, e2, e3) st.watched;
+  idle = rw e1 st.idle;
+  reasoned = rw (e2, e3, e5) (record {
+    decided = st.reasoned.decided;
+    forced = st.reasoned.forced;
+    live = st.reasoned.live;
+    name = λ i a b. rw (get_or-set_other w.ids.items s (get_or t.reasons.items i 0) id no_id (apart w t s st free i a b)) (st.reasoned.name i a b);
+    has = st.reasoned.has;
+    others = st.reasoned.others;
+    width = st.reasoned.width;
+  });
+  rows = rw (e2, e5, length-set) st.named.rows;
+  fixed = rw (e2, e3, e4) st.fixed;
+  calm = λ u. e4 ∙ st.calm u;
+}
+
+-- the map and the names after a slot was taken
+pub record IsTaken (w w2 : Watches) (s : ℕ) (id : ClauseId) (k : Kind) : Type 0 where
+  pub updates : Updates id_cmp w.slots w2.slots id (Some s)
+  pub ids : w2.ids.items ≡ set w.ids.items s id
+  pub kinds : w2.kinds.items ≡ set w.kinds.items s k
+  pub live : k ≢ Free
+  pub low : 1 ≤ s
+  pub high : s < length w.kinds.items
+  pub free : kind_at w.kinds.items s ≡ Free
+  pub fresh : get id_cmp w.slots id ≡ None
+
+-- what the map gives for a name, before and after
+found_cases : (w w2 : Watches) (s : ℕ) (id : ClauseId) (k : Kind) (q : ClauseId) → IsTaken w w2 s id k → ((id ≡ q) × (get id_cmp w2.slots q ≡ Some s)) ⊎ ((is_at (id_cmp id) q ≡ false) × (get id_cmp w2.slots q ≡ get id_cmp w.slots q))
+found_cases w w2 s id k q u = elim (true_or_false (is_at (id_cmp id) q)) [
+  | inl e ↦ inl (same_id id q e, u.updates.0 q ∙ rw e refl)
+  | inr e ↦ inr (e, u.updates.2 q e)
+]
+
+pub taken_named : (w w2 : Watches) (t : Trail) (s : ℕ) (id : ClauseId) (k : Kind) → IsSettled w t → IsTaken w w2 s id k → IsNamed w2.slots w2.ids.items w2.kinds.items
+taken_named w w2 t s id k st u =
+    let size : length w2.kinds.items ≡ length w.kinds.items = rw (u.kinds, length-set) refl in
+    let lo : 1 ≤ s = u.low in
+    let hi : s < length w.kinds.items = u.high in
+    let kind_s : kind_at w2.kinds.items s ≡ k = rw u.kinds (get_or-set_same w.kinds.items s k Free hi) in
+    let kind_q : (q : ℕ) → q ≢ s → kind_at w2.kinds.items q ≡ kind_at w.kinds.items q = λ q ne. rw u.kinds (get_or-set_other w.kinds.items s q k Free ne) in
+    let name_s : get_or w2.ids.items s no_id ≡ id = rw u.ids (get_or-set_same w.ids.items s id no_id (omega (arith, st.named.rows))) in
+    let name_q : (q : ℕ) → q ≢ s → get_or w2.ids.items q no_id ≡ get_or w.ids.items q no_id = λ q ne. rw u.ids (get_or-set_other w.ids.items s q id no_id ne) in
+    let other : (p : ClauseId) (q : ℕ) → get id_cmp w.slots p ≡ Some q → q ≢ s = λ p q f e. st.named.live p q f (rw e u.free) in
+    record {
+      low = λ p q f. elim (found_cases w w2 s id k p u) [
+        | inl a ↦ rw (← some_inj s q (sym a.1 ∙ f)) lo
+        | inr a ↦ st.named.low p q (sym a.1 ∙ f)
+      ];
+      high = λ p q f. rw size (elim (found_cases w w2 s id k p u) [
+        | inl a ↦ rw (← some_inj s q (sym a.1 ∙ f)) hi
+        | inr a ↦ st.named.high p q (sym a.1 ∙ f)
+      ]);
+      name = λ p q f. elim (found_cases w w2 s id k p u) [
+        | inl a ↦ rw (← some_inj s q (sym a.1 ∙ f)) (name_s ∙ a.0)
+        | inr a ↦ name_q q (other p q (sym a.1 ∙ f)) ∙ st.named.name p q (sym a.1 ∙ f)
+      ];
+      live = λ p q f. elim (found_cases w w2 s id k p u) [
+        | inl a ↦ rw (← some_inj s q (sym a.1 ∙ f)) (λ e. u.live (sym kind_s ∙ e))
+        | inr a ↦ λ e. st.named.live p q (sym a.1 ∙ f) (sym (kind_q q (other p q (sym a.1 ∙ f))) ∙ e)
+      ];
+      held = λ q a b live. elim (eqb_tells q s) [
+        | inl e ↦ rw (e.1, name_s) u.updates.1
+        | inr e ↦
+            let old : get id_cmp w.slots (get_or w.ids.items q no_id) ≡ Some q = st.named.held q a (rw size at b) (λ z. live (kind_q q e.1 ∙ z)) in
+            elim (found_cases w w2 s id k (get_or w.ids.items q no_id) u) [
+              | inl x ↦ absurd (let z : None ≡ Some q = sym u.fresh ∙ rw (← x.0) at old in cc)
+              | inr x ↦ rw (name_q q e.1) (x.1 ∙ old)
+            ]
+      ];
+      rows = rw (u.kinds, u.ids, length-set, length-set) st.named.rows;
+      some = rw size st.named.some;
+    }
+  where
+    some_inj : (a b : ℕ) → Some a ≡ Some b → a ≡ b
+    some_inj a b e = cc
+
+pub settled_of : (w : Watches) (t : Trail) → IsPlaced w t → IsNamed w.slots w.ids.items w.kinds.items → IsSettled w t
+settled_of w t p n = record { trail = p.trail; shown = p.shown; watched = p.watched; idle = p.idle; reasoned = p.reasoned; named = n; fixed = p.fixed; calm = p.calm }
+
+-- the steps of a clause that comes: w has a slot for it, w2 the name, and w3 the clause
+pub record IsStored (w w2 w3 : Watches) (t : Trail) (s : ℕ) (id : ClauseId) (c : List Literal) : Type 0 where
+  pub settled : IsSettled w t
+  pub waiting : IsWaiting w s
+  pub fresh : clause_of w id ≡ None
+  pub updates : Updates id_cmp w.slots w2.slots id (Some s)
+  pub ids : w2.ids.items ≡ set w.ids.items s id
+  pub kinds : w2.kinds ≡ w.kinds
+  pub clauses : w2.clauses ≡ w.clauses
+  pub holds : HoldsSome w2 w3 s c
+
+stored_taken : (w w2 w3 : Watches) (t : Trail) (s : ℕ) (id : ClauseId) (c : List Literal) → (u : IsStored w w2 w3 t s id c) → IsTaken w w3 s id u.holds.0
+stored_taken w w2 w3 t s id c u = record {
+  updates = rw u.holds.1.1.slots u.updates;
+  ids = rw u.holds.1.1.ids u.ids;
+  kinds = u.holds.1.1.kinds ∙ ap (λ v. set v.items s u.holds.0) u.kinds;
+  live = u.holds.1.0;
+  low = u.waiting.low;
+  high = u.waiting.high;
+  free = u.waiting.free;
+  fresh = not_named w t id u.settled u.fresh;
+}
+
+pub stored_settled : (w w2 w3 : Watches) (t t3 : Trail) (s : ℕ) (id : ClauseId) (c : List Literal) → IsStored w w2 w3 t s id c → IsPlaced w3 t3 → IsSettled w3 t3
+stored_settled w w2 w3 t t3 s id c u p = settled_of w3 t3 p (taken_named w w3 t s id u.holds.0 u.settled (stored_taken w w2 w3 t s id c u))
+
+pub other_slot : {X : Type 0} (xs : List X) (i j : ℕ) (x : X) → j ≢ i → slice_get (set xs i x) j ≡ slice_get xs j
+other_slot [] i j x ne = refl
+other_slot (y ∷ ys) zero zero x ne = absurd (ne refl)
+other_slot (y ∷ ys) zero (suc j) x ne = refl
+other_slot (y ∷ ys) (suc i) zero x ne = refl
+other_slot (y ∷ ys) (suc i) (suc j) x ne = other_slot ys i j x (λ e. ne (ap suc e))
+
+same_slot : {X : Type 0} (xs : List X) (i : ℕ) (x : X) → i < length xs → slice_get (set xs i x) i ≡ Some x
+same_slot xs i x h = let h2 : i < length (set xs i x) = rw length-set h in slice_get-get_or (set xs i x) i x h2 ∙ ap Some (get_or-set_same xs i x x h)
+
+clauses_now : (w w2 w3 : Watches) (t : Trail) (s : ℕ) (id : ClauseId) (c : List Literal) → IsStored w w2 w3 t s id c → w3.clauses.items ≡ set w.clauses.items s c
+clauses_now w w2 w3 t s id c u = u.holds.1.1.clauses ∙ ap (λ v. set v.items s c) u.clauses
+
+pub stored_held : (w w2 w3 : Watches) (t : Trail) (s : ℕ) (id : ClauseId) (c : List Literal) → IsStored w w2 w3 t s id c → clause_of w3 id ≡ Some c
+stored_held w w2 w3 t s id c u =
+    let m : IsTaken w w3 s id u.holds.0 = stored_taken w w2 w3 t s id c u in
+    let within : s < length w.clauses.items = (let h : s < length w.kinds.items = u.waiting.high in omega (arith, h, u.settled.watched.clauses, codes_length w.clauses.items)) in
+    ap (option_and_then (λ i. slice_get w3.clauses.items i)) m.updates.1 ∙ (ap (λ xs. slice_get xs s) (clauses_now w w2 w3 t s id c u) ∙ same_slot w.clauses.items s c within)
+
+-- a look-up that finds no changed slot
+pub read_other : (xs ys : List (List Literal)) (o : Option ℕ) → ((q : ℕ) → o ≡ Some q → slice_get xs q ≡ slice_get ys q) → option_and_then (λ i. slice_get xs i) o ≡ option_and_then (λ i. slice_get ys i) o
+read_other xs ys None h = refl
+read_other xs ys (Some q) h = h q refl
+
+pub stored_others : (w w2 w3 : Watches) (t : Trail) (s : ℕ) (id : ClauseId) (c : List Literal) (q : ClauseId) → IsStored w w2 w3 t s id c → q ≢ id → clause_of w3 q ≡ clause_of w q
+stored_others w w2 w3 t s id c q u ne = elim (found_cases w w3 s id u.holds.0 q (stored_taken w w2 w3 t s id c u)) [
+  | inl a ↦ absurd (ne (sym a.0))
+  | inr a ↦ ap (option_and_then (λ i. slice_get w3.clauses.items i)) a.1 ∙ read_other w3.clauses.items w.clauses.items (get id_cmp w.slots q)
+      (λ i f. ap (λ xs. slice_get xs i) (clauses_now w w2 w3 t s id c u) ∙ other_slot w.clauses.items s i c (λ e. u.settled.named.live q i f (rw e u.waiting.free)))
+]
+
+-- the map was asked for memory in vain
+pub unnamed_settled : (w w2 : Watches) (t : Trail) → IsSettled w t → w2.lists ≡ w.lists → w2.kinds ≡ w.kinds → w2.clauses ≡ w.clauses → w2.ids ≡ w.ids → w2.refuted ≡ w.refuted → w2.slots.entries ≡ w.slots.entries → IsSettled w2 t
+unnamed_settled w w2 t st e1 e2 e3 e4 e5 e6 =
+    let same : (p : ClauseId) → get id_cmp w2.slots p ≡ get id_cmp w.slots p = λ p. rw e6 refl in
+    record {
+      trail = st.trail;
+      shown = st.shown;
+      watched = rw (e1, e2, e3) st.watched;
+      idle = rw e1 st.idle;
+      reasoned = rw (e2, e3, e4) st.reasoned;
+      named = rw (e2, e4) (record {
+        low = λ p q f. st.named.low p q (sym (same p) ∙ f);
+        high = λ p q f. st.named.high p q (sym (same p) ∙ f);
+        name = λ p q f. st.named.name p q (sym (same p) ∙ f);
+        live = λ p q f. st.named.live p q (sym (same p) ∙ f);
+        held = λ q a b live. same (get_or w.ids.items q no_id) ∙ st.named.held q a b live;
+        rows = st.named.rows;
+        some = st.named.some;
+      });
+      fixed = rw (e2, e3, e5) st.fixed;
+      calm = λ u. e5 ∙ st.calm u;
+    }

@@ -1,0 +1,8 @@
+use Rattle.cdcl_core.proofs.Places.{pushed_first}
+use Rattle.cdcl_core.proofs.lists.WatchLists.push_first.Goals as goal
+
+pub invariant_of-self : goal.invariant_of-self
+invariant_of-self c = (pushed_first c.self.inside.places.items c.self.inside.heads.items c.args.self.now c.args.list c.args.place c.index.result.now c.index_mut.result.now c.self.view_is c.self.invariant c.requires.list c.requires.place c.requires.named c.requires.idle c.index.ensures c.index_mut.ensures.value).1
+
+pub returns : goal.returns
+returns c = (pushed_first c.self.inside.places.items c.self.inside.heads.items c.args.self.now c.args.list c.args.place c.index.result.now c.index_mut.result.now c.self.view_is c.self.invariant c.requires.list c.requires.place c.requires.named c.requires.idle c.index.ensures c.index_mut.ensures.value).0

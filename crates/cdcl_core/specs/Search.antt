@@ -1,0 +1,47 @@
+-- The held clauses and the trail, as the public calls speak of them.
+use Rattle.std.specs.Prelude.{ℕ, ◌≡◌, ◌<◌, ◌≤◌, ◌≢◌, List, Contains, length, take, Option, Some, option_and_then, slice_get}
+use Rattle.std.specs.Ordering.{nat_cmp, ordering_then}
+use Rattle.std.specs.declared.cmp.Ordering.{Ordering}
+use Rattle.std.specs.BTreeMap.{get}
+use Rattle.cnf_base.specs.Literals.{Literal, code_of}
+use Rattle.cnf_base.specs.declared.clause.ClauseId.{ClauseId}
+use Rattle.cdcl_core.specs.declared.trail.Trail.{Trail}
+use Rattle.cdcl_core.specs.declared.watches.Watches.{Watches}
+use Rattle.cdcl_core.specs.Levels.{Row, IsFalseBy, RestsBy, IsRefutedBy}
+
+-- the order of clause names
+abbrev pub id_cmp : ClauseId → ClauseId → Ordering
+id_cmp a b = ordering_then (nat_cmp a.pos b.pos) (nat_cmp a.part b.part)
+
+-- the true literals in order
+abbrev pub literals_of : Trail → List Row
+literals_of t = take t.len t.rows.items
+
+-- the present decision level
+abbrev pub level_of : Trail → ℕ
+level_of t = t.level
+
+-- how many literals have a row in the tables, those of the lowest variables
+abbrev pub rows_of : Trail → ℕ
+rows_of t = length t.stamps.items
+
+-- the literal has a row: every literal of a clause that was added has one, and each whose variable was reserved
+abbrev pub IsKnown : Trail → Literal → Type 0
+IsKnown t l = code_of l < rows_of t
+
+-- the held clause of this name
+abbrev pub clause_of : Watches → ClauseId → Option (List Literal)
+clause_of w id = option_and_then (λ s. slice_get w.clauses.items s) (get id_cmp w.slots id)
+
+-- no held clause is false, or unit with its last literal open, now or at the end of any lower level
+abbrev pub IsAtRest : Watches → Trail → Type 0
+IsAtRest w t = (id : ClauseId) (c : List Literal) (j : ℕ) → clause_of w id ≡ Some c → j ≤ level_of t → RestsBy (literals_of t) j c
+
+-- the clause of this name is held, and every literal of it is false
+abbrev pub IsConflict : Watches → Trail → ClauseId → Type 0
+IsConflict w t id = (c : List Literal) × ((clause_of w id ≡ Some c) × IsRefutedBy (literals_of t) (level_of t) c)
+
+-- a literal with a reason is forced by it: the clause is held and has the literal, and its other literals were false before
+abbrev pub AreForced : Watches → Trail → Type 0
+AreForced w t = (i : ℕ) (l : Literal) (level : ℕ) (id : ClauseId) → slice_get (literals_of t) i ≡ Some (l, level, Some id) →
+    (c : List Literal) × ((clause_of w id ≡ Some c) × (Contains c l × ((m : Literal) → Contains c m → m ≢ l → IsFalseBy (take i (literals_of t)) (level_of t) m)))

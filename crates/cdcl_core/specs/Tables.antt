@@ -1,0 +1,17 @@
+-- The tables behind linked places.
+use Rattle.std.specs.Prelude.{ℕ, List, map}
+use Rattle.cdcl_core.specs.declared.lists.Place.{Place}
+use Rattle.cdcl_core.specs.Lists.{Lists}
+use Rattle.cdcl_core.specs.Chains.{lists_of, IsLinked}
+
+abbrev pub nexts : List Place → List ℕ
+nexts ps = map (λ p. p.next) ps
+
+abbrev pub literals : List Place → List ℕ
+literals ps = map (λ p. p.literal) ps
+
+abbrev pub shown : List Place → List ℕ → Lists
+shown ps rs = record { lists = lists_of (nexts ps) rs; literals = literals ps }
+
+abbrev pub IsWell : List Place → List ℕ → Type 0
+IsWell ps rs = IsLinked (nexts ps) rs

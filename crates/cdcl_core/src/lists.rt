@@ -1,0 +1,153 @@
+//! Lists of places, linked through the places themselves, so that moving a place takes no memory.
+
+ghost use Rattle.std.specs.Prelude.{◌≡◌, ◌≢◌, ◌-◌, ◌<◌, ◌≤◌, ℕ, length, slice_set, slice_index, slice_index_or, [], ◌∷◌, ◌++◌, replicate, IfOk, OnOk, OnErr, sum_by};
+ghost use Rattle.cdcl_core.specs.Chains.{first_of, rest_of, times};
+
+use std::alloc::{AllocError, Global};
+use std::marker::Model;
+
+/// What stands at a place: the literal's code that it watches, and the place that follows in its list.
+#[derive(Clone, Copy)]
+struct Place {
+    literal: usize,
+    next: usize,
+}
+
+/// Lists of places, and the literal of each place. A place stands in at most one list.
+#[derive(Drop)]
+pub(crate) struct WatchLists {
+    places: Vec<Place>,
+    heads: Vec<usize>,
+}
+
+impl Model for WatchLists {
+    ghost use Rattle.cdcl_core.specs.Lists.{Lists};
+
+    ghost Value = { Lists };
+
+    ghost use Rattle.cdcl_core.specs.Tables.{shown, IsWell};
+
+    ghost view = { λ s. shown s.places.items s.heads.items };
+
+    ghost invariant = { λ s. IsWell s.places.items s.heads.items };
+}
+
+impl WatchLists {
+    /// No list, and no place but the first, which stands for none.
+    pub(crate) fn new(alloc: Global) -> Result<WatchLists, AllocError>
+        ensures lists { IfOk result (λ w. w.lists ≡ []) }
+        ensures literals { IfOk result (λ w. w.literals ≡ []) }
+    {
+        Ok(WatchLists {
+            places: Vec::new(alloc),
+            heads: Vec::new(alloc),
+        })
+    }
+
+    /// The literal of a place.
+    #[inline(always)]
+    pub(crate) fn literal(&self, place: usize) -> usize
+        requires { place < length self.now.literals }
+        ensures { result ≡ slice_index self.now.literals place }
+    {
+        self.places[place].literal
+    }
+
+    /// Gives a place another literal.
+    #[inline(always)]
+    pub(crate) fn set_literal(&mut self, place: usize, literal: usize)
+        requires { place < length self.old.literals }
+        ensures { self.new ≡ record { lists = self.old.lists; literals = slice_set self.old.literals place literal } }
+    {
+        self.places[place].literal = literal;
+    }
+
+    /// The first place of a list, or 0 where it is empty.
+    #[inline(always)]
+    pub(crate) fn first(&self, list: usize) -> usize
+        requires { list < length self.now.lists }
+        ensures value { result ≡ first_of (slice_index_or self.now.lists list []) }
+        ensures once { (q : ℕ) → sum_by (times q) self.now.lists ≤ 1 }
+        ensures empty { result ≡ 0 → slice_index_or self.now.lists list [] ≡ [] }
+    {
+        self.heads[list]
+    }
+
+    /// Moves the first place of the list `from` to the front of the list `to`.
+    #[inline(always)]
+    pub(crate) fn move_first(&mut self, from: usize, to: usize)
+        requires from { from < length self.old.lists }
+        requires to { to < length self.old.lists }
+        requires apart { from ≢ to }
+        requires pending { 0 < first_of (slice_index_or self.old.lists from []) }
+        ensures { self.new ≡ record { lists = slice_set (slice_set self.old.lists from (rest_of (slice_index_or self.old.lists from []))) to (first_of (slice_index_or self.old.lists from []) ∷ slice_index_or self.old.lists to []); literals = self.old.literals } }
+    {
+        let place = self.heads[from];
+        let after = self.places[place].next;
+        self.places[place].next = self.heads[to];
+        self.heads[from] = after;
+        self.heads[to] = place;
+    }
+
+    /// Exchanges two lists.
+    #[inline(always)]
+    pub(crate) fn exchange(&mut self, a: usize, b: usize)
+        requires a { a < length self.old.lists }
+        requires b { b < length self.old.lists }
+        ensures { self.new ≡ record { lists = slice_set (slice_set self.old.lists a (slice_index_or self.old.lists b [])) b (slice_index_or self.old.lists a []); literals = self.old.literals } }
+    {
+        let first = self.heads[a];
+        self.heads[a] = self.heads[b];
+        self.heads[b] = first;
+    }
+
+    /// Takes the first place out of a list.
+    pub(crate) fn pop_first(&mut self, list: usize)
+        requires list { list < length self.old.lists }
+        requires pending { 0 < first_of (slice_index_or self.old.lists list []) }
+        ensures { self.new ≡ record { lists = slice_set self.old.lists list (rest_of (slice_index_or self.old.lists list [])); literals = self.old.literals } }
+    {
+        let place = self.heads[list];
+        self.heads[list] = self.places[place].next;
+    }
+
+    /// Puts a place that stands in no list to the front of one.
+    pub(crate) fn push_first(&mut self, list: usize, place: usize)
+        requires list { list < length self.old.lists }
+        requires place { place < length self.old.literals }
+        requires named { 0 < place }
+        requires idle { sum_by (times place) self.old.lists ≡ 0 }
+        ensures { self.new ≡ record { lists = slice_set self.old.lists list (place ∷ slice_index_or self.old.lists list []); literals = self.old.literals } }
+    {
+        self.places[place].next = self.heads[list];
+        self.heads[list] = place;
+    }
+
+    /// Has at least `count` lists: the new ones are empty.
+    pub(crate) fn grow_lists(&mut self, count: usize) -> Result<(), AllocError>
+        ensures ok { OnOk result (self.new ≡ record { lists = self.old.lists ++ replicate (count - length self.old.lists) []; literals = self.old.literals }) }
+        ensures err { OnErr result (self.new ≡ self.old) }
+    {
+        if self.heads.len() < count {
+            self.heads.resize(count, 0)?;
+        }
+        Ok(())
+    }
+
+    /// Has at least `count` places: the new ones stand in no list and have the literal 0.
+    pub(crate) fn grow_places(&mut self, count: usize) -> Result<(), AllocError>
+        ensures ok { OnOk result (self.new ≡ record { lists = self.old.lists; literals = self.old.literals ++ replicate (count - length self.old.literals) 0 }) }
+        ensures err { OnErr result (self.new ≡ self.old) }
+    {
+        if self.places.len() < count {
+            self.places.resize(
+                count,
+                Place {
+                    literal: 0,
+                    next: 0,
+                },
+            )?;
+        }
+        Ok(())
+    }
+}

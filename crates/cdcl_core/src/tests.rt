@@ -1,0 +1,123 @@
+//! Small searches.
+
+ghost use Rattle.cdcl_core.specs.State.{IsSettled};
+
+use crate::{Trail, Watches};
+use cnf_base::{Clause, ClauseId, Lit};
+use std::alloc::AllocError;
+use std::test::Fail;
+
+const fn name(pos: u64) -> ClauseId {
+    ClauseId { pos, part: 0 }
+}
+
+fn yes(variable: u64) -> Lit {
+    Lit::new(variable.clamp(1, 9), true)
+}
+
+fn no(variable: u64) -> Lit {
+    yes(variable).negated()
+}
+
+// Holds the clause at level 0, under a free name.
+fn hold(
+    watches: &mut Watches,
+    trail: &mut Trail,
+    pos: u64,
+    literals: &[Lit],
+) -> Result<(), AllocError>
+    requires { IsSettled watches.old trail.old }
+    ensures { IsSettled watches.new trail.new }
+{
+    let clause = Clause::from_literals(watches.alloc, literals)?;
+    let id = name(pos);
+    if watches.clause(id).is_some() || trail.level() != 0 {
+        return Ok(());
+    }
+    watches.add(trail, id, clause)
+}
+
+// Decides the literal after propagation; the name of a false clause, or None.
+fn assume(watches: &mut Watches, trail: &mut Trail, l: Lit) -> Option<ClauseId>
+    requires { IsSettled watches.old trail.old }
+    ensures { IsSettled watches.new trail.new }
+{
+    let conflict = watches.propagate(trail);
+    if conflict.is_some() {
+        return conflict;
+    }
+    if !trail.knows(l) || trail.value(l).is_some() {
+        return None;
+    }
+    watches.decide(trail, l);
+    watches.propagate(trail)
+}
+
+// Drops the clause where no literal is true; whether it did.
+fn give_back(watches: &mut Watches, trail: &Trail, id: ClauseId) -> bool
+    requires { IsSettled watches.old trail.now }
+    ensures { IsSettled watches.new trail.now }
+{
+    if !trail.literals().is_empty() || watches.clause(id).is_none() {
+        return false;
+    }
+    watches.drop_clause(trail, id);
+    true
+}
+
+#[test]
+fn a_decision_forces_a_chain_of_literals(rt: HostRuntime) -> Result<(), Fail> {
+    let mut trail = Trail::new(rt.alloc());
+    let mut watches = Watches::new(rt.alloc())?;
+    hold(&mut watches, &mut trail, 1, &[no(1), yes(2)])?;
+    hold(&mut watches, &mut trail, 2, &[no(2), no(4), yes(3)])?;
+    hold(&mut watches, &mut trail, 3, &[yes(4), no(1)])?;
+    assert_eq!(rt; assume(&mut watches, &mut trail, yes(1)), None);
+    assert_eq!(rt; trail.literals().len(), 4);
+    assert_eq!(rt; trail.value(yes(3)), Some(true));
+    assert_eq!(rt; trail.value(no(4)), Some(false));
+    watches.backjump(&mut trail, 0);
+    assert_eq!(rt; trail.literals().len(), 0);
+    assert_eq!(rt; trail.value(yes(3)), None);
+    Ok(())
+}
+
+#[test]
+fn a_false_clause_is_named(rt: HostRuntime) -> Result<(), Fail> {
+    let mut trail = Trail::new(rt.alloc());
+    let mut watches = Watches::new(rt.alloc())?;
+    hold(&mut watches, &mut trail, 1, &[no(1), yes(2)])?;
+    hold(&mut watches, &mut trail, 2, &[no(1), yes(3)])?;
+    hold(&mut watches, &mut trail, 3, &[no(2), no(3)])?;
+    assert_eq!(rt; assume(&mut watches, &mut trail, yes(1)), Some(name(3)));
+    Ok(())
+}
+
+#[test]
+fn clauses_of_at_most_one_literal_hold_at_level_0(rt: HostRuntime) -> Result<(), Fail> {
+    let mut trail = Trail::new(rt.alloc());
+    let mut watches = Watches::new(rt.alloc())?;
+    hold(&mut watches, &mut trail, 1, &[yes(5)])?;
+    hold(&mut watches, &mut trail, 2, &[no(6), no(6)])?;
+    assert_eq!(rt; watches.propagate(&mut trail), None);
+    assert_eq!(rt; trail.value(yes(5)), Some(true));
+    assert_eq!(rt; trail.value(yes(6)), Some(false));
+    hold(&mut watches, &mut trail, 9, &[])?;
+    assert_eq!(rt; watches.propagate(&mut trail), Some(name(9)));
+    Ok(())
+}
+
+#[test]
+fn a_dropped_clause_is_gone(rt: HostRuntime) -> Result<(), Fail> {
+    let mut trail = Trail::new(rt.alloc());
+    let mut watches = Watches::new(rt.alloc())?;
+    hold(&mut watches, &mut trail, 1, &[no(1), yes(2)])?;
+    hold(&mut watches, &mut trail, 2, &[no(1), yes(3)])?;
+    if !give_back(&mut watches, &trail, name(1)) {
+        return Err(Fail::from("it is not held"));
+    }
+    assert!(rt; watches.clause(name(1)).is_none());
+    assert_eq!(rt; assume(&mut watches, &mut trail, yes(1)), None);
+    assert_eq!(rt; trail.literals().len(), 2);
+    Ok(())
+}

@@ -1,0 +1,120 @@
+//! The trail: the literals that are true, in the order in which they became so.
+
+ghost use Rattle.std.specs.Prelude.{◌≡◌, ◌+◌, ◌^◌, ◌<◌, ◌≤◌, [], length, slice_set, IsTrue, ◌↔◌, MatchOption, MatchBool};
+ghost use Rattle.cdcl_core.specs.Levels.{IsOpen, IsTrueBy, IsFalseBy};
+ghost use Rattle.cdcl_core.specs.Search.{literals_of, level_of, IsKnown};
+ghost use Rattle.cdcl_core.specs.State.{IsNew, IsConsistent};
+ghost use Rattle.cnf_base.specs.Literals.{literal_of};
+ghost use Rattle.cdcl_core.specs.Stamps.{neg as neg_of};
+
+use cnf_base::{ClauseId, Lit};
+use std::alloc::Global;
+
+/// The true literals in order, each with its decision level and its reason.
+#[derive(Drop)]
+pub struct Trail {
+    // by literal: 0 where it is not true, else one more than its level
+    pub(crate) stamps: Vec<u64>,
+    // the codes of the true literals in order: those before `head` were propagated
+    pub(crate) codes: Vec<usize>,
+    // the slot of the clause that forced each, 0 for a decided one
+    pub(crate) reasons: Vec<usize>,
+    pub(crate) rows: Vec<(Lit, u64, Option<ClauseId>)>,
+    pub(crate) len: usize,
+    pub(crate) head: usize,
+    pub(crate) level: u64,
+}
+
+impl Trail {
+    /// The trail on which no literal is true.
+    pub fn new(alloc: Global) -> Trail
+        ensures new { IsNew result }
+        ensures literals { literals_of result ≡ [] }
+    {
+        Trail {
+            stamps: Vec::new(alloc),
+            codes: Vec::new(alloc),
+            reasons: Vec::new(alloc),
+            rows: Vec::new(alloc),
+            len: 0,
+            head: 0,
+            level: 0,
+        }
+    }
+
+    /// The present decision level: the number of decided literals.
+    pub fn level(&self) -> u64
+        ensures { result ≡ level_of self.now }
+    {
+        self.level
+    }
+
+    /// The true literals in order, each with its decision level and its reason, None for a decided one.
+    pub fn literals(&self) -> &[(Lit, u64, Option<ClauseId>)]
+        ensures { result.now ≡ literals_of self.now }
+    {
+        let rows = self.rows.as_slice();
+        let end = if self.len < rows.len() {
+            self.len
+        } else {
+            rows.len()
+        };
+        &rows[..end]
+    }
+
+    /// Whether the literal has a row in the tables, as `decide` asks.
+    pub fn knows(&self, l: Lit) -> bool
+        ensures { IsTrue result ↔ IsKnown self.now l }
+    {
+        (l.code() as usize) < self.stamps.len()
+    }
+
+    /// Whether the literal is true, false (where its negation is true), or neither.
+    pub fn value(&self, l: Lit) -> Option<bool>
+        requires { IsConsistent self.now }
+        ensures { MatchOption result (IsOpen (literals_of self.now) (level_of self.now) l) (λ b. MatchBool b (IsTrueBy (literals_of self.now) (level_of self.now) l) (IsFalseBy (literals_of self.now) (level_of self.now) l)) }
+    {
+        let code = l.code() as usize;
+        if code < self.stamps.len() {
+            if self.stamps[code] != 0 {
+                return Some(true);
+            }
+            if self.stamps[neg(code)] != 0 {
+                return Some(false);
+            }
+        }
+        None
+    }
+}
+
+/// The code of the opposite literal, or the other place of a clause.
+#[inline(always)]
+pub(crate) fn neg(code: usize) -> usize
+    ensures { result ≡ neg_of code }
+{
+    if code % 2 == 0 { code + 1 } else { code - 1 }
+}
+
+// Makes the literal of this code true at the present level.
+#[inline(always)]
+pub(crate) fn enqueue(t: &mut Trail, code: usize, slot: usize, reason: Option<ClauseId>)
+    requires codes { t.old.len < length t.old.codes.items }
+    requires reasons { t.old.len < length t.old.reasons.items }
+    requires rows { t.old.len < length t.old.rows.items }
+    requires within { code < length t.old.stamps.items }
+    requires named { 2 ≤ code }
+    requires level { t.old.level + 1 < 2 ^ 64 }
+    ensures stamps { t.new.stamps.items ≡ slice_set t.old.stamps.items code (t.old.level + 1) }
+    ensures codes { t.new.codes.items ≡ slice_set t.old.codes.items t.old.len code }
+    ensures reasons { t.new.reasons.items ≡ slice_set t.old.reasons.items t.old.len slot }
+    ensures rows { t.new.rows.items ≡ slice_set t.old.rows.items t.old.len (record { 0 = literal_of code; 1 = t.old.level; 2 = reason }) }
+    ensures len { t.new.len ≡ t.old.len + 1 }
+    ensures head { t.new.head ≡ t.old.head }
+    ensures same_level { t.new.level ≡ t.old.level }
+{
+    t.stamps[code] = t.level + 1;
+    t.codes[t.len] = code;
+    t.reasons[t.len] = slot;
+    t.rows[t.len] = (Lit::from_code(code as u64), t.level, reason);
+    t.len += 1;
+}

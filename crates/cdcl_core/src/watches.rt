@@ -1,0 +1,71 @@
+//! The held clauses and their watches.
+
+ghost use Rattle.std.specs.Prelude.{◌≡◌, None, IfOk};
+ghost use Rattle.std.specs.Option.{option_copied};
+ghost use Rattle.cnf_base.specs.declared.clause.ClauseId.{ClauseId};
+ghost use Rattle.cdcl_core.specs.declared.trail.Trail.{Trail};
+ghost use Rattle.cdcl_core.specs.Search.{clause_of};
+ghost use Rattle.cdcl_core.specs.State.{IsNew, IsSettled};
+
+use crate::lists::WatchLists;
+use cnf_base::{Clause, ClauseId};
+use std::alloc::{AllocError, Global};
+use std::collections::BTreeMap;
+
+/// What a slot holds.
+#[derive(Clone, Copy)]
+pub(crate) enum Kind {
+    /// No clause.
+    Free,
+    /// A clause whose value was settled at level 0 when it came: it is not watched.
+    Fixed,
+    /// A clause that is watched at two different literals.
+    Watched,
+}
+
+/// The held clauses, each of two or more literals watched at two of them.
+#[derive(Drop)]
+pub struct Watches {
+    pub(crate) alloc: Global,
+    pub(crate) lists: WatchLists,
+    // by slot
+    pub(crate) kinds: Vec<Kind>,
+    pub(crate) clauses: Vec<Clause>,
+    pub(crate) ids: Vec<ClauseId>,
+    pub(crate) slots: BTreeMap<ClauseId, usize>,
+    // whether a clause that is not watched may be false
+    pub(crate) refuted: bool,
+}
+
+impl Watches {
+    /// No clause. With a new trail it is settled.
+    pub fn new(alloc: Global) -> Result<Watches, AllocError>
+        ensures settled { IfOk result (λ w. (t : Trail) → IsNew t → IsSettled w t) }
+        ensures held { IfOk result (λ w. (id : ClauseId) → clause_of w id ≡ None) }
+    {
+        let mut lists = WatchLists::new(alloc)?;
+        lists.grow_lists(2)?;
+        lists.grow_places(2)?;
+        let mut clauses = Vec::new(alloc);
+        clauses.push(Clause::empty(alloc))?;
+        Ok(Watches {
+            alloc,
+            lists,
+            kinds: vec![in alloc; Kind::Free; 1]?,
+            clauses,
+            ids: vec![in alloc; ClauseId { pos: 0, part: 0 }; 1]?,
+            slots: BTreeMap::new(alloc),
+            refuted: false,
+        })
+    }
+
+    /// The held clause of this name.
+    pub fn clause(&self, id: ClauseId) -> Option<&Clause>
+        ensures { option_copied result ≡ clause_of self.now id }
+    {
+        match self.slots.get(&id) {
+            Some(slot) => self.clauses.get(*slot),
+            None => None,
+        }
+    }
+}

@@ -1,0 +1,73 @@
+//! Choices on small tables.
+
+use crate::{GlueCounter, Learnt, Phases, Restarts, VariableOrder, drops_are_due, worse_half};
+use std::test::Fail;
+
+#[test]
+fn variables_come_by_activity(rt: HostRuntime) -> Result<(), Fail> {
+    let mut order = VariableOrder::new(rt.alloc());
+    order.reserve(5)?;
+    for variable in [3, 1, 3, 4, 1, 3] {
+        order.bump(variable);
+    }
+    order.decay();
+    assert_eq!(rt; order.pop(), Some(3));
+    assert_eq!(rt; order.pop(), Some(1));
+    order.insert(3);
+    order.bump(4);
+    order.bump(4);
+    order.bump(4);
+    assert_eq!(rt; order.pop(), Some(4));
+    assert_eq!(rt; order.pop(), Some(3));
+    Ok(())
+}
+
+#[test]
+fn a_phase_is_kept(rt: HostRuntime) -> Result<(), Fail> {
+    let mut phases = Phases::new(rt.alloc());
+    phases.reserve(3)?;
+    phases.save(2, true);
+    assert!(rt; phases.is_positive(2));
+    assert!(rt; !phases.is_positive(1));
+    Ok(())
+}
+
+#[test]
+fn glue_counts_levels_once(rt: HostRuntime) -> Result<(), Fail> {
+    let mut counter = GlueCounter::new(rt.alloc());
+    counter.reserve(9)?;
+    assert_eq!(rt; counter.glue(&[8, 3, 3, 8, 1]), 3);
+    assert_eq!(rt; counter.glue(&[3, 3]), 1);
+    Ok(())
+}
+
+#[test]
+fn growing_glue_makes_a_restart_due(rt: HostRuntime) -> Result<(), Fail> {
+    let mut restarts = Restarts::new();
+    for _ in 0..600u64 {
+        restarts.meet(4);
+    }
+    assert!(rt; !restarts.is_due());
+    for _ in 0..30u64 {
+        restarts.meet(9);
+    }
+    assert!(rt; restarts.is_due());
+    restarts.restart();
+    assert!(rt; !restarts.is_due());
+    Ok(())
+}
+
+#[test]
+fn the_worse_half_goes(rt: HostRuntime) -> Result<(), Fail> {
+    let row = [
+        Learnt { glue: 9, size: 20 },
+        Learnt { glue: 2, size: 20 },
+        Learnt { glue: 3, size: 20 },
+        Learnt { glue: 9, size: 2 },
+    ];
+    let places = worse_half(rt.alloc(), &row)?;
+    assert_eq!(rt; places.as_slice(), [0].as_slice());
+    assert!(rt; drops_are_due(4_000, 3_201));
+    assert!(rt; !drops_are_due(4_000, 3_200));
+    Ok(())
+}
