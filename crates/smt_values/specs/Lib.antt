@@ -1,3 +1,4 @@
 pub mod Arrays
+pub mod Differences
 pub mod Tables
 pub mod Held

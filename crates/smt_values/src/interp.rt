@@ -1,6 +1,6 @@
 // Interpretations of declarations.
 
-ghost use Rattle.std.specs.Prelude.{◌≡◌, ◌≢◌, ℕ, [], map, Some, IfOk, OnOk, OnErr};
+ghost use Rattle.std.specs.Prelude.{◌≡◌, ◌==◌, ◌<◌, ℕ, [], map, length, None, Some, if◌then◌else◌, true, slice_index_or, option_copied, IfOk, OnOk, OnErr};
 ghost use Rattle.smt_terms.specs.declared.sort.Signature.{Signature};
 ghost use Rattle.smt_terms.specs.Terms.{IsSort};
 ghost use Rattle.smt_terms.specs.Scalars.{scalar_value};
@@ -23,9 +23,9 @@ pub struct Interp {
 
 impl Model for Interp {
     ghost use Rattle.std.specs.Prelude.{List, Option};
-    ghost use Rattle.smt_values.specs.declared.value.Value.{Value};
+    ghost use Rattle.smt_values.specs.declared.value.Value as held;
 
-    ghost Value = { List (Option Value) };
+    ghost Value = { List (Option held.Value) };
 
     ghost view = { λ m. m.values.items };
 }
