@@ -140,3 +140,7 @@ none_is_agree a b = go (agree a b) (word a.index (first_below (λ i. not (elemen
   go : (c : Bool) (w : WordValue) → not (is_some (if c then None else Some w)) ≡ c
   go true w = refl
   go false w = refl
+
+pub opposite : (r c : Bool) → c ≡ not r → r ≡ not c
+opposite true c e = ap not (sym e)
+opposite false c e = ap not (sym e)
