@@ -1,6 +1,6 @@
 // Tables of functions.
 
-ghost use Rattle.std.specs.Prelude.{◌≡◌, ◌<◌, ◌≤◌, [], map, IfOk, OnOk, OnErr};
+ghost use Rattle.std.specs.Prelude.{◌≡◌, ◌<◌, ◌≤◌, [], map, length, IfOk, OnOk, OnErr};
 ghost use Rattle.smt_terms.specs.Scalars.{scalar_value};
 
 use smt_terms::scalar::Scalar;
@@ -69,7 +69,9 @@ impl Model for FunTable {
 }
 
 /// Where a list of arguments stands, or would stand, among rising ones.
-fn place_of(rows: &[Row], args: &[Scalar]) -> usize {
+fn place_of(rows: &[Row], args: &[Scalar]) -> usize
+    ensures { result ≤ length rows.now }
+{
     rows.partition_point(|row| row.args.as_slice() < args)
 }
 
