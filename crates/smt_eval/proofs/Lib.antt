@@ -1,2 +1,4 @@
 pub mod Taking
 pub mod Evaluating
+pub mod Stores
+pub mod Calling

@@ -146,7 +146,7 @@ others plain.Select e = let q : ⊥ = cc in absurd q
 others plain.Store e = let q : ⊥ = cc in absurd q
 others plain.Witness e = let q : ⊥ = cc in absurd q
 
-clash : (r : Result Sort MakeFault) → IsOk r → IsErr r → ⊥
+pub clash : (r : Result Sort MakeFault) → IsOk r → IsErr r → ⊥
 clash (Ok s) ok err = let q : ⊥ = cc in q
 clash (Err f) ok err = let q : ⊥ = cc in q
 

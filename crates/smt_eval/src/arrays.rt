@@ -96,6 +96,13 @@ fn witness(a: &Value, b: &Value) -> Value
     }
 }
 
+/// The index 0 of an array.
+fn least_index(array: &ArrayValue) -> Word
+    ensures { result ≡ word array.now.index 0 }
+{
+    Word::new(array.index_width(), 0).unwrap()
+}
+
 /// The least index at which two arrays of one sort differ, or 0.
 fn least_difference(a: &ArrayValue, b: &ArrayValue) -> Word
     requires index { b.now.index ≡ a.now.index }
@@ -104,7 +111,7 @@ fn least_difference(a: &ArrayValue, b: &ArrayValue) -> Word
 {
     match a.difference(b) {
         Some(index) => index,
-        None => Word::new(a.index_width(), 0).unwrap(),
+        None => least_index(a),
     }
 }
 

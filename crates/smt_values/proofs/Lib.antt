@@ -1,3 +1,4 @@
 pub mod Entries
 pub mod Differing
 pub mod Reading
+pub mod Rows

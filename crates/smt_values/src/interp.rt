@@ -148,6 +148,7 @@ impl Interp {
     pub fn call(&self, declaration: DeclId, sort: Sort, args: &[Scalar]) -> Scalar
         requires sort { IsSort sort }
         requires plain { is_plain sort ≡ true }
+        ensures { scalar_value result ≡ read_at sort ((interpretation_of self.now).functions declaration (map scalar_value args.now)) }
     {
         let given = match self.value(declaration) {
             Some(Value::Fun(table)) => table.at(args),

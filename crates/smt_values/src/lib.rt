@@ -9,6 +9,7 @@
 
 pub mod array;
 pub mod interp;
+mod order;
 pub mod table;
 #[cfg(test)]
 mod tests;
