@@ -2,3 +2,4 @@ pub mod Taking
 pub mod Evaluating
 pub mod Stores
 pub mod Calling
+pub mod Suiting
