@@ -2,3 +2,4 @@ pub mod Entries
 pub mod Differing
 pub mod Reading
 pub mod Rows
+pub mod TableReading

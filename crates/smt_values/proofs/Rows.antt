@@ -153,9 +153,9 @@ value_at d [] t = refl
 value_at d (r ∷ rs) t =
     ap (λ b. if b then scalar_value r.value else value_for (scalar_value d) rs (map scalar_value t)) (args_equal r.args t)
     ∙ go (is_eq (args_cmp r.args t)) (value_at d rs t) where
-  go : (b : Bool) → value_for (scalar_value d) rs (map scalar_value t) ≡ scalar_value (value_in d (row_at rs t)) → (if b then scalar_value r.value else value_for (scalar_value d) rs (map scalar_value t)) ≡ scalar_value (value_in d (if b then Some r else row_at rs t))
-  go true h = refl
-  go false h = h
+      go : (b : Bool) → value_for (scalar_value d) rs (map scalar_value t) ≡ scalar_value (value_in d (row_at rs t)) → (if b then scalar_value r.value else value_for (scalar_value d) rs (map scalar_value t)) ≡ scalar_value (value_in d (if b then Some r else row_at rs t))
+      go true h = refl
+      go false h = h
 
 -- ---- one more row
 

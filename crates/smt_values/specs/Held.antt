@@ -63,3 +63,10 @@ IsOfSort s (held.Bool b) = s ≡ sort.Bool
 IsOfSort s (held.Word w) = s ≡ sort.Word w.width
 IsOfSort s (held.Array a) = s ≡ sort.Array a.index a.default.width
 IsOfSort s (held.Fun t) = ⊥
+
+-- a table of a function
+abbrev pub IsFunction : (List of.Value → of.Value) → Value → Type 0
+IsFunction f (held.Bool b) = ⊥
+IsFunction f (held.Word w) = ⊥
+IsFunction f (held.Array a) = ⊥
+IsFunction f (held.Fun t) = (vs : List of.Value) → table_value t vs ≡ f vs

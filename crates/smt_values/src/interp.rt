@@ -5,9 +5,10 @@ ghost use Rattle.smt_terms.specs.Ranks.{is_plain};
 ghost use Rattle.smt_terms.specs.Terms.{IsSort};
 ghost use Rattle.smt_terms.specs.Scalars.{scalar_value};
 ghost use Rattle.smt_terms.specs.Values.{read_at};
-ghost use Rattle.smt_values.specs.Held.{meaning, set_for, interpretation_of, Suits, IsOfSort};
+ghost use Rattle.smt_values.specs.Held.{meaning, set_for, interpretation_of, Suits, IsOfSort, IsFunction};
 
-use crate::table::{FunTable, Scalars};
+use crate::scalars::read_scalar;
+use crate::table::FunTable;
 use crate::value::{Value, word_from};
 use smt_terms::scalar::Scalar;
 use smt_terms::sort::{DeclId, Signature, Sort};
@@ -41,25 +42,6 @@ fn grow(values: &mut Vec<Option<Value>>, declaration: DeclId) -> Result<(), Allo
     Ok(())
 }
 
-/// A truth value or a word read at such a sort.
-fn read_scalar(sort: Sort, scalar: Scalar) -> Scalar
-    requires sort { IsSort sort }
-    requires plain { is_plain sort ≡ true }
-    ensures { scalar_value result ≡ read_at sort (scalar_value scalar) }
-{
-    match sort {
-        Sort::Bool => match scalar {
-            Scalar::Bool(_) => scalar,
-            Scalar::Word(_) => Scalar::Bool(false),
-        },
-        Sort::Word(width) => match scalar {
-            Scalar::Word(word) => Scalar::Word(word_from(width, word.value())),
-            Scalar::Bool(_) => Scalar::Word(word_from(width, 0)),
-        },
-        Sort::Array(..) => Scalar::Bool(false),
-    }
-}
-
 /// A value read at a sort.
 fn read(alloc: Global, sort: Sort, value: &Value) -> Result<Value, AllocError>
     requires sort { IsSort sort }
@@ -81,19 +63,6 @@ fn read(alloc: Global, sort: Sort, value: &Value) -> Result<Value, AllocError>
             _ => Ok(Value::default(alloc, sort)),
         },
     }
-}
-
-/// A table whose values are read at a sort.
-fn read_table(alloc: Global, sort: Sort, table: &FunTable) -> Result<FunTable, AllocError>
-    requires sort { IsSort sort }
-    requires plain { is_plain sort ≡ true }
-{
-    let mut read = FunTable::constant(alloc, read_scalar(sort, table.default()));
-    for row in table.rows() {
-        let args = Scalars::of(alloc, row.args.as_slice())?;
-        read.set(args, read_scalar(sort, row.value))?;
-    }
-    Ok(read)
 }
 
 impl Interp {
@@ -169,14 +138,17 @@ impl Interp {
         requires suits { Suits signature.now.value (set_for self.now declaration) }
         ensures meaning { signature.now.args ≡ [] → IfOk result (λ v. meaning v ≡ read_at signature.now.value ((interpretation_of self.now).constants declaration)) }
         ensures sort { signature.now.args ≡ [] → IfOk result (λ v. IsOfSort signature.now.value v) }
+        ensures function { ¬ (signature.now.args ≡ []) → IfOk result (λ v. IsFunction (λ vs. read_at signature.now.value ((interpretation_of self.now).functions declaration vs)) v) }
     {
         if signature.args.as_slice().is_empty() {
             return self.constant(alloc, declaration, signature.value);
         }
-        let table = match self.value(declaration) {
-            Some(Value::Fun(table)) => read_table(alloc, signature.value, table)?,
-            _ => FunTable::constant(alloc, read_scalar(signature.value, Scalar::Bool(false))),
-        };
-        Ok(Value::Fun(table))
+        match self.value(declaration) {
+            Some(Value::Fun(table)) => Ok(Value::Fun(table.read(alloc, signature.value)?)),
+            _ => {
+                let default = read_scalar(signature.value, Scalar::Bool(false));
+                Ok(Value::Fun(FunTable::constant(alloc, default)))
+            }
+        }
     }
 }

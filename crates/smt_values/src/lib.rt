@@ -10,6 +10,7 @@
 pub mod array;
 pub mod interp;
 mod order;
+mod scalars;
 pub mod table;
 #[cfg(test)]
 mod tests;

@@ -20,13 +20,7 @@ fn number(scalar: &Scalar) -> u128
     ensures { result ≡ number scalar.now }
 {
     match scalar {
-        Scalar::Bool(holds) => {
-            if *holds {
-                1
-            } else {
-                0
-            }
-        }
+        Scalar::Bool(holds) => { if *holds { 1 } else { 0 } }
         Scalar::Word(word) => word.value(),
     }
 }

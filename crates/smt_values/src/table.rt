@@ -2,10 +2,14 @@
 
 ghost use Rattle.std.specs.Prelude.{◌≡◌, ◌≤◌, map, is_some, length, slice_get, IfOk, OnOk, OnErr};
 ghost use Rattle.smt_terms.specs.Scalars.{scalar_value};
+ghost use Rattle.smt_terms.specs.Terms.{IsSort};
+ghost use Rattle.smt_values.specs.Readings.{table_read};
 ghost use Rattle.smt_values.specs.Tables.{AreRowsRising, RowsSplit, row_at, row_matching, value_in, table_value, constant_table, entered_row, with_row};
 
 use crate::order::compare;
+use crate::scalars::read_scalar;
 use smt_terms::scalar::Scalar;
+use smt_terms::sort::Sort;
 use std::alloc::{AllocError, Global};
 use std::marker::Model;
 
@@ -164,6 +168,21 @@ impl FunTable {
         ensures err { OnErr result (self.new ≡ self.old) }
     {
         enter(&mut self.rows, Row { args, value })
+    }
+
+    /// The table with its values read at a sort.
+    pub fn read(&self, alloc: Global, sort: Sort) -> Result<FunTable, AllocError>
+        requires { IsSort sort }
+        ensures { IfOk result (λ t. t ≡ table_read sort self.now) }
+    {
+        let default = read_scalar(sort, self.default);
+        let mut rows = Vec::new(alloc);
+        for row in self.rows.as_slice() {
+            let args = Scalars::of(alloc, row.args.as_slice())?;
+            let value = read_scalar(sort, row.value);
+            rows.push(Row { args, value })?;
+        }
+        Ok(FunTable { default, rows })
     }
 
     /// An equal table.
