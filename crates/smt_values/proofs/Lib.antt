@@ -3,3 +3,4 @@ pub mod Differing
 pub mod Reading
 pub mod Rows
 pub mod TableReading
+pub mod Changing

@@ -43,7 +43,7 @@ mod_small x w lt = let e : x ≡ 0 * w + x = omega arith in ap (λ z. z % w) e �
 funext : (f g : ℕ → ℕ) → ((i : ℕ) → f i ≡ g i) → f ≡ g
 funext f g h = λ j i. h i j
 
-element_below : (n d : ℕ) → d < 2 ^ n → (k : ℕ) (es : List Entry) → AllByRecursion (IsEntry k n) es → (i : ℕ) → element_of d (entry_at es i) < 2 ^ n
+pub element_below : (n d : ℕ) → d < 2 ^ n → (k : ℕ) (es : List Entry) → AllByRecursion (IsEntry k n) es → (i : ℕ) → element_of d (entry_at es i) < 2 ^ n
 element_below n d lt k es h i = go (entry_at es i) refl where
   go : (o : Option Entry) → entry_at es i ≡ o → element_of d o < 2 ^ n
   go None e = lt

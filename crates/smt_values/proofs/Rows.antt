@@ -18,7 +18,7 @@ use Rattle.smt_values.specs.Tables.{same_values, value_for, rank, number, scalar
 
 -- ---- the order
 
-order : IsTotalOrder args_cmp
+pub order : IsTotalOrder args_cmp
 order = lists_total (then_total (on_total rank nat_cmp_total) (on_total number nat_cmp_total))
 
 less_is : (o : Ordering) → is_lt o ≡ true → o ≡ Less
@@ -71,7 +71,7 @@ rows_split rs t zero le h = row_all_from (λ r. is_lt (args_cmp r.args t) ≡ fa
 rows_split [] t (suc p) le h = absurd (omega arith)
 rows_split (r ∷ rs) t (suc p) le h = (h.0 zero r (omega arith) (omega arith), rows_split rs t p (omega arith) (λ k d a b. h.0 (suc k) d (omega arith) (omega arith), λ k d a b. h.1 (suc k) d (omega arith) (omega arith)))
 
-row_passed : (r : Row) (rs : List Row) (t : List Scalar) → is_eq (args_cmp r.args t) ≡ false → row_at (r ∷ rs) t ≡ row_at rs t
+pub row_passed : (r : Row) (rs : List Row) (t : List Scalar) → is_eq (args_cmp r.args t) ≡ false → row_at (r ∷ rs) t ≡ row_at rs t
 row_passed r rs t e = cond-false (is_eq (args_cmp r.args t)) (Some r) (row_at rs t) e
 
 row_absent : (rs : List Row) (t : List Scalar) → AllByRecursion (λ q. args_cmp t q.args ≡ Less) rs → row_at rs t ≡ None
@@ -160,15 +160,15 @@ value_at d (r ∷ rs) t =
 -- ---- one more row
 
 module _ (f : Row) where
-  row_met : (r : Row) (rs : List Row) → is_eq (args_cmp r.args f.args) ≡ true → entered_row (r ∷ rs) f ≡ f ∷ rs
+  pub row_met : (r : Row) (rs : List Row) → is_eq (args_cmp r.args f.args) ≡ true → entered_row (r ∷ rs) f ≡ f ∷ rs
   row_met r rs e = cond-true (is_eq (args_cmp r.args f.args)) (f ∷ rs) (if is_lt (args_cmp r.args f.args) then r ∷ entered_row rs f else f ∷ r ∷ rs) e
 
-  row_after : (r : Row) (rs : List Row) → is_lt (args_cmp r.args f.args) ≡ true → entered_row (r ∷ rs) f ≡ r ∷ entered_row rs f
+  pub row_after : (r : Row) (rs : List Row) → is_lt (args_cmp r.args f.args) ≡ true → entered_row (r ∷ rs) f ≡ r ∷ entered_row rs f
   row_after r rs e =
       cond-false (is_eq (args_cmp r.args f.args)) (f ∷ rs) (if is_lt (args_cmp r.args f.args) then r ∷ entered_row rs f else f ∷ r ∷ rs) (ap is_eq (less_is (args_cmp r.args f.args) e))
       ∙ cond-true (is_lt (args_cmp r.args f.args)) (r ∷ entered_row rs f) (f ∷ r ∷ rs) e
 
-  row_before : (r : Row) (rs : List Row) → is_eq (args_cmp r.args f.args) ≡ false → is_lt (args_cmp r.args f.args) ≡ false → entered_row (r ∷ rs) f ≡ f ∷ r ∷ rs
+  pub row_before : (r : Row) (rs : List Row) → is_eq (args_cmp r.args f.args) ≡ false → is_lt (args_cmp r.args f.args) ≡ false → entered_row (r ∷ rs) f ≡ f ∷ r ∷ rs
   row_before r rs e g =
       cond-false (is_eq (args_cmp r.args f.args)) (f ∷ rs) (if is_lt (args_cmp r.args f.args) then r ∷ entered_row rs f else f ∷ r ∷ rs) e
       ∙ cond-false (is_lt (args_cmp r.args f.args)) (r ∷ entered_row rs f) (f ∷ r ∷ rs) g
