@@ -1,14 +1,14 @@
 -- The least index at which two arrays differ, from its parts.
-use Rattle.std.proofs.Common.{◌≡◌, ℕ, zero, suc, ◌+◌, ◌<◌, ◌≤◌, ◌^◌, Bool, true, false, not, ◌||◌, List, [], ◌∷◌, length, get_or, refl, ap, sym, ◌∙◌, subst, arith, inl, inr, ⊎_elim, Option, Some, None}
+use Rattle.std.proofs.Common.{◌≡◌, ℕ, zero, suc, ◌<◌, ◌^◌, Bool, true, false, not, ◌||◌, List, [], ◌∷◌, get_or, refl, ap, sym, ◌∙◌, subst, arith, ⊎_elim, Option, Some, None}
 use Rattle.std.specs.Prelude.{◌==◌, nat_le, if◌then◌else◌, slice_get, is_some}
 use Rattle.std.specs.List.{AllByRecursion}
-use Rattle.std.proofs.lemmas.Bool.{eq-eqb, ne_eqb, eqb-true, cond-true, cond-false, cases_eq, cases_lt, cases_Bool, or_cases, or_left, or_right, or_parts, leb-true, leb-false, false_from_ne_true}
+use Rattle.std.proofs.lemmas.Bool.{eq-eqb, ne_eqb, cond-true, cond-false, cases_eq, cases_Bool, or_cases, or_parts, leb-true, leb-false, false_from_ne_true}
 use Rattle.smt_words.specs.Words.{WordValue, word}
 use Rattle.smt_terms.specs.Values.{all_below, first_below}
-use Rattle.smt_terms.proofs.Arrays.{each_all_below, all_below_each, first_below_is, differ_not_all}
+use Rattle.smt_terms.proofs.Arrays.{each_all_below, all_below_each, differ_not_all}
 use Rattle.smt_values.specs.Arrays.{Entry, ArrayFields, entry_at, element_of, element_at, AreRising}
 use Rattle.smt_values.specs.Differences.{agree, first_difference, holds, either_holds, IsFirstAmong, lesser, IsGap}
-use Rattle.smt_values.proofs.Entries.{above, absent, passed, met, at_own, all_at, all_get}
+use Rattle.smt_values.proofs.Entries.{above, absent, passed, met, at_own}
 
 -- ---- the least number that passes a test
 

@@ -1,12 +1,11 @@
 -- Rising entries: where an index stands, and what one more entry leaves.
-use Rattle.std.proofs.Common.{◌≡◌, ℕ, zero, suc, ◌<◌, ◌≤◌, ◌^◌, Bool, true, false, ◌||◌, List, [], ◌∷◌, ◌++◌, length, get_or, set, take, drop, refl, ap, sym, ◌∙◌, subst, arith, inl, inr, ⊎_elim, Option, Some, None}
+use Rattle.std.proofs.Common.{◌≡◌, ℕ, zero, suc, ◌<◌, ◌≤◌, Bool, true, false, List, [], ◌∷◌, length, get_or, set, refl, ap, sym, ◌∙◌, subst, arith, ⊎_elim, Option, Some, None}
 use Rattle.std.specs.Prelude.{◌==◌, nat_lt, if◌then◌else◌, slice_get, is_some, ltb}
 use Rattle.std.specs.List.{AllByRecursion, insert}
-use Rattle.std.specs.List.Sorted.{IsNonDecreasingBy, IsPartitionedBy, IsPartitionPoint}
-use Rattle.std.proofs.lemmas.Bool.{eq-eqb, ne_eqb, eqb-true, eqb-false, ltb-true, ltb-false, lt-ltb, le-ltb, cases_lt, cond-true, cond-false, cases_eq, cases_Bool}
-use Rattle.smt_words.specs.Words.{WordValue}
+use Rattle.std.specs.List.Sorted.{IsNonDecreasingBy, IsPartitionPoint}
+use Rattle.std.proofs.lemmas.Bool.{eq-eqb, ne_eqb, ltb-true, ltb-false, lt-ltb, le-ltb, cases_lt, cond-true, cond-false, cases_eq}
 use Rattle.smt_terms.specs.Values.{changed}
-use Rattle.smt_values.specs.Arrays.{Entry, entry_at, element_of, IsOfWidth, IsEntry, AreRising, entered, matching, Splits}
+use Rattle.smt_values.specs.Arrays.{Entry, entry_at, element_of, AreRising, entered, matching, Splits}
 
 -- ---- each entry
 

@@ -1,12 +1,12 @@
 -- Values read at sorts.
-use Rattle.std.proofs.Common.{◌≡◌, ℕ, ◌<◌, ◌≤◌, ◌%◌, ◌^◌, ◌+◌, ◌*◌, List, [], ◌∷◌, refl, ap, sym, ◌∙◌, subst, arith, Option, Some, None, Result, Ok, Err}
+use Rattle.std.proofs.Common.{◌≡◌, ℕ, ◌<◌, ◌%◌, ◌^◌, ◌+◌, ◌*◌, List, refl, ap, sym, ◌∙◌, subst, arith, Option, Some, None, Result, Ok, Err}
 use Rattle.std.specs.Prelude.{OnOk, OnErr}
 use Rattle.std.specs.List.{AllByRecursion}
 use Rattle.std.proofs.lemmas.Nat.{mod-mul-add}
-use Rattle.smt_words.specs.Words.{WordValue, IsWidth, word}
+use Rattle.smt_words.specs.Words.{WordValue, word}
 use Rattle.smt_terms.specs.declared.sort.Sort.{Sort}
 use Rattle.smt_terms.specs.declared.sort.Sort.TheVariants as sort
-use Rattle.smt_terms.specs.Values.{VBool, VWord, VArray, no_value, default_of, read_at}
+use Rattle.smt_terms.specs.Values.{VArray, no_value, default_of, read_at}
 use Rattle.smt_values.specs.declared.value.Value.{Value}
 use Rattle.smt_values.specs.declared.value.Value.TheVariants as held
 use Rattle.smt_values.specs.Held.{meaning, Suits}

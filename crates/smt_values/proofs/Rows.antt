@@ -1,8 +1,8 @@
 -- Rising rows: where arguments stand, what value they have, and what one more row leaves.
-use Rattle.std.proofs.Common.{◌≡◌, ℕ, zero, suc, ◌<◌, ◌≤◌, Bool, true, false, not, ◌&&◌, List, [], ◌∷◌, ◌++◌, length, map, get_or, set, refl, ap, sym, ◌∙◌, subst, arith, inl, inr, ⊎_elim, Option, Some, None, Result, Ok, Err}
+use Rattle.std.proofs.Common.{◌≡◌, ℕ, zero, suc, ◌<◌, ◌≤◌, Bool, true, false, ◌&&◌, List, [], ◌∷◌, length, map, get_or, set, refl, ap, sym, ◌∙◌, subst, arith, ⊎_elim, Some, None, Result, Ok, Err}
 use Rattle.std.specs.Prelude.{OnOk, OnErr, ◌==◌, nat_lt, if◌then◌else◌, slice_get, is_some}
 use Rattle.std.specs.List.{AllByRecursion, insert}
-use Rattle.std.specs.List.Sorted.{IsPartitionedBy, IsPartitionPoint}
+use Rattle.std.specs.List.Sorted.{IsPartitionPoint}
 use Rattle.std.specs.Ordering.{nat_cmp, ordering_then, ordering_reverse, is_eq, is_lt}
 use Rattle.std.specs.Cmp.{IsTotalOrder, nat_cmp_total, on_total, then_total}
 use Rattle.std.specs.Cmp.Lexicographic.{lists_total}
@@ -12,7 +12,7 @@ use Rattle.std.proofs.lemmas.Bool.{eq-eqb, ne_eqb, cond-true, cond-false, cases_
 use Rattle.smt_terms.specs.declared.scalar.Scalar.{Scalar}
 use Rattle.smt_terms.specs.declared.scalar.Scalar.TheVariants as scalar
 use Rattle.smt_terms.specs.Scalars.{scalar_value}
-use Rattle.smt_terms.specs.Values.{Value, same_value}
+use Rattle.smt_terms.specs.Values.{same_value}
 use Rattle.smt_values.specs.declared.table.Row.{Row}
 use Rattle.smt_values.specs.Tables.{same_values, value_for, rank, number, scalar_cmp, args_cmp, AreRowsRising, row_at, value_in, row_matching, entered_row, RowsSplit}
 

@@ -1,5 +1,5 @@
 -- Array values: a default, and an element for each of finitely many indexes (SMT-LIB 2.6, theory ArraysEx).
-use Rattle.std.specs.Prelude.{◌≡◌, ℕ, zero, suc, ◌<◌, ◌≤◌, ◌^◌, ◌==◌, nat_lt, Bool, if◌then◌else◌, List, [], ◌∷◌, Option, Some, None, is_some}
+use Rattle.std.specs.Prelude.{◌≡◌, ℕ, zero, suc, ◌<◌, ◌≤◌, ◌^◌, ◌==◌, nat_lt, if◌then◌else◌, List, [], ◌∷◌, Option, Some, None}
 use Rattle.std.specs.List.{AllByRecursion}
 use Rattle.smt_words.specs.Words.{WordValue, IsWidth}
 use Rattle.smt_terms.specs.Values.{Value, VArray}

@@ -1,5 +1,5 @@
 -- Truth values and words, and tables of them, read at a sort.
-use Rattle.std.specs.Prelude.{ℕ, ◌%◌, ◌^◌, false, map}
+use Rattle.std.specs.Prelude.{◌%◌, ◌^◌, false, map}
 use Rattle.smt_words.specs.Words.{word}
 use Rattle.smt_terms.specs.declared.sort.Sort.{Sort}
 use Rattle.smt_terms.specs.declared.sort.Sort.TheVariants as sort

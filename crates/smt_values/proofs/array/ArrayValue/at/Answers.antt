@@ -1,5 +1,5 @@
-use Rattle.std.proofs.Common.{◌≡◌, ◌∙◌, sym, ap, subst, Some, arith}
-use Rattle.smt_values.specs.Arrays.{IsArray, entry_at}
+use Rattle.std.proofs.Common.{◌∙◌, ap, subst}
+use Rattle.smt_values.specs.Arrays.{IsArray}
 use Rattle.smt_values.proofs.Reading.{element_is}
 use Rattle.smt_values.proofs.array.ArrayValue.at.Goals as goal
 

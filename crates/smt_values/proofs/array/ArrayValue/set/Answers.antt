@@ -1,4 +1,4 @@
-use Rattle.std.proofs.Common.{◌≡◌, ◌∙◌, sym, subst}
+use Rattle.std.proofs.Common.{sym, subst}
 use Rattle.smt_values.specs.Arrays.{IsOfWidth}
 use Rattle.smt_values.proofs.Reading.{kept_array}
 use Rattle.smt_values.proofs.array.ArrayValue.set.Goals as goal

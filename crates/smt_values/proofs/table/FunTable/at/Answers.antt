@@ -1,4 +1,4 @@
-use Rattle.std.proofs.Common.{◌≡◌, ◌∙◌, sym, ap, map}
+use Rattle.std.proofs.Common.{◌∙◌, sym, ap, map}
 use Rattle.smt_terms.specs.Scalars.{scalar_value}
 use Rattle.smt_values.specs.Tables.{table_value}
 use Rattle.smt_values.proofs.Rows.{value_at}

@@ -1,4 +1,4 @@
-use Rattle.std.proofs.Common.{◌≡◌, ◌∙◌, sym, ap, subst, length, map, arith}
+use Rattle.std.proofs.Common.{◌∙◌, sym, ap, subst, map, arith}
 use Rattle.std.proofs.lemmas.List.{take_all}
 use Rattle.smt_values.specs.Tables.{AreRowsRising}
 use Rattle.smt_values.specs.Readings.{row_read}
