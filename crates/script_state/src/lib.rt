@@ -11,6 +11,7 @@
 
 pub mod answer;
 pub mod error_text;
+pub mod laws;
 pub mod state;
 mod whole;
 #[cfg(test)]
