@@ -1,12 +1,12 @@
 -- A chunk reads one way, and a step makes one assertion at most.
-use Rattle.std.proofs.Common.{◌≡◌, ℕ, ◌+◌, ◌≤◌, Bool, true, false, refl, sym, ap, ◌∙◌, inl, inr, arith, Option, Some, None, Result, Ok, Err}
+use Rattle.std.proofs.Common.{◌≡◌, ◌+◌, ◌≤◌, Bool, true, false, refl, sym, ap, ◌∙◌, inl, inr, arith, Option, Some, None, Result, Ok, Err}
 use Rattle.std.specs.Prelude.{if◌then◌else◌}
 use Rattle.smt_text.specs.declared.chunk.Chunk.{Chunk}
 use Rattle.smt_text.specs.declared.token.CommandName.{CommandName}
 use Rattle.smt_text.specs.declared.token.CommandName.TheVariants as name
 use Rattle.smt_text.proofs.Spelled.{AreTokens-one, AreTokens-bad}
 use Rattle.smt_syntax.specs.declared.command.SyntaxFault.{SyntaxFault}
-use Rattle.smt_syntax.specs.Sexps.{Sexp, Sexps, group, none, more, signs_of}
+use Rattle.smt_syntax.specs.Sexps.{Sexps, group, none, more, signs_of}
 use Rattle.smt_syntax.specs.Commands.{read}
 use Rattle.smt_syntax.proofs.OneSexp.{spelling-one}
 use Rattle.smt_terms.specs.declared.sort.Sort.TheVariants as sort
