@@ -1,0 +1,5 @@
+pub mod Searching
+pub mod Keeping
+pub mod Naming
+pub mod Blaming
+pub mod Standing

@@ -1,0 +1,7 @@
+pub mod Lists
+pub mod Declared
+pub mod Held
+pub mod Asserting
+pub mod Obeying
+pub mod Applying
+pub mod Deciding
