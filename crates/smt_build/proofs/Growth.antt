@@ -33,6 +33,9 @@ grows_both signatures a b c p q = record {
 
 -- ---- what a node may name
 
+pub none_declared : (signatures : List Signature) → AreDeclared signatures []
+none_declared signatures = record { each = λ t d e. absurd (let z : ⊥ = cc in z) }
+
 pub agrees : (signatures : List Signature) (terms : TermsValue) (op : Op) → AreDeclared signatures terms.nodes → IsDeclared signatures op → Agrees terms.nodes op
 agrees signatures terms op h k t d e f = let p = h.each t d e in let q = k.each d f in cc
 
