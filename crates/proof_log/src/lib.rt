@@ -1,0 +1,4 @@
+//! The log of proof steps.
+#![tactic(auto)]
+
+pub mod entry;
