@@ -4,9 +4,11 @@ ghost use Rattle.std.specs.Prelude.{◌≡◌, [], IfOk, length};
 
 use cnf_base::{Clause, ClauseId};
 use smt_terms::node::{Node, TermId};
-use smt_terms::sort::AssertId;
 use std::alloc::{AllocError, Global};
 use std::marker::Model;
+
+/// The number of an assertion, counted from 0 over a script.
+pub type AssertId = u32;
 
 /// The clauses by which a chain's clause follows, by name, in the order in which they are used.
 #[derive(Debug, Drop)]
@@ -51,10 +53,7 @@ impl Hints {
     pub fn copy(&self, alloc: Global) -> Result<Hints, AllocError>
         ensures { IfOk result (λ h. h ≡ self.now) }
     {
-        Ok(Hints::from_vec(Vec::from_slice(
-            alloc,
-            self.names.as_slice(),
-        )?))
+        Ok(Hints::from_vec(Vec::from_slice(alloc, self.names.as_slice())?))
     }
 }
 
