@@ -1,2 +1,4 @@
 pub mod Growing
 pub mod Sound
+pub mod Staying
+pub mod Ordered
