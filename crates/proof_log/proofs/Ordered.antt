@@ -128,9 +128,9 @@ log_is_ordered nodes log all i =
           ⊎_elim
           (λ less. absurd (omega (arith, rises nodes start log (suc p) q i less, o.upto, r.from)))
           (λ ge. ⊎_elim
-              (λ less. absurd (omega (arith, rises nodes start log (suc q) p i less, r.upto, o.from)))
-              (λ le. omega arith)
-              (cases_lt q p))
+          (λ less. absurd (omega (arith, rises nodes start log (suc q) p i less, r.upto, o.from)))
+          (λ le. omega arith)
+          (cases_lt q p))
           (cases_lt p q);
       hints = earlier_hints nodes log i;
     }

@@ -171,7 +171,7 @@ no_argument : (d : ℕ) (t s : Sort) (ss : List Sort) → op_rank (Constant d t)
 no_argument d t s [] e = refl
 no_argument d t s (x ∷ ss) e = let q : ⊥ = cc in absurd q
 
-leaf_sort : (op : Op) (ss : List Sort) (s : Sort) (n : ℕ) → op_rank op ss ≡ Ok s → constant_width op ≡ Some n → plain_width s ≡ Some n
+pub leaf_sort : (op : Op) (ss : List Sort) (s : Sort) (n : ℕ) → op_rank op ss ≡ Ok s → constant_width op ≡ Some n → plain_width s ≡ Some n
 leaf_sort (Constant d t) ss s n e w =
     let none = no_argument d t s ss e in
     let own = given_sort d t s n (subst (λ xs. op_rank (Constant d t) xs ≡ Ok s) none e) w in
