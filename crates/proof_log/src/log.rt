@@ -145,9 +145,9 @@ impl Log {
                 self.select(alloc, terms, assertion, term)?;
             }
             Entry::Chain(clause, hints) => {
-                self.put_plain(alloc, terms, Entry::Chain(clause, hints))?;
+                self.put_plain(alloc, terms.len(), Entry::Chain(clause, hints))?;
             }
-            Entry::Node(node) => self.put_plain(alloc, terms, Entry::Node(node))?,
+            Entry::Node(node) => self.put_plain(alloc, terms.len(), Entry::Node(node))?,
         }
         Ok(at)
     }
