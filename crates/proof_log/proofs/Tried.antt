@@ -13,7 +13,7 @@ use Rattle.smt_terms.specs.declared.fault.MakeFault.{MakeFault}
 use Rattle.smt_terms.specs.Same.{same_node}
 use Rattle.smt_terms.specs.Nodes.{node_at}
 use Rattle.smt_terms.specs.Terms.{IsTermList, TermsValue, AreTerms, make, sort_of}
-use Rattle.smt_terms.specs.Bits.{bits_in}
+use Rattle.smt_terms.specs.Bits.{TermBits, bits_in}
 use Rattle.smt_terms.proofs.Made.{IsNew, IsMade, made, no_place, at_place}
 use Rattle.bit_blast.specs.Blocks.{Block, all_bits, block_of}
 use Rattle.hint_chain.specs.declared.fault.ChainFault.{ChainFault}
@@ -29,7 +29,7 @@ use Rattle.proof_log.specs.declared.fault.Kept.TheVariants as kept
 use Rattle.proof_log.specs.declared.fault.PushError.{PushError}
 use Rattle.proof_log.specs.declared.fault.PushError.TheVariants as push
 use Rattle.proof_log.specs.Logs.{Asserted, LogState, clause_at, constant_width, IsStep, IsLeaf, IsEncoding, IsSelector, after, state_of}
-use Rattle.proof_log.specs.Stored.{LogValue, selector_in, literal_of, IsKept, Stands, with_leaf, with_block, with_plain, Encodes, IsSelected, IsPushed}
+use Rattle.proof_log.specs.Stored.{LogValue, StepsValue, with_step, selector_in, literal_of, IsKept, Stands, with_leaf, with_block, with_plain, Encodes, IsSelected, IsPushed}
 use Rattle.proof_log.specs.Faults.{IsGiven, with_node, IsNewNode, IsValid, terms_after, MakesNoTerm, kind_of, Shows, ShowsChain, IsFault, NodeIsMade, Tried, Answers}
 use Rattle.proof_log.proofs.Standing.{stands_over, stands_all, kept_longer, kept_plain, kept_leaf, kept_block, kept_selector, leaf_small}
 
@@ -248,3 +248,15 @@ room_for a b m c e le h = AreBelow-more b m (omega arith) c h
 pub no_some : {A : Type 0} (o : Option A) → ((x : A) → o ≡ Some x → ⊥) → o ≡ None
 no_some None h = refl
 no_some (Some x) h = absurd (h x refl)
+
+-- the log with one step more, part by part
+view_of : ℕ → ℕ → List TermBits → List (Option Literal) → StepsValue → LogValue
+view_of next over bits selectors s = record { next = next; over = over; bits = bits; selectors = selectors; entries = s.entries; clauses = s.clauses }
+
+pub node_new : (next before over count : ℕ) (bits : List TermBits) (selectors : List (Option Literal)) (s t : StepsValue) (old : LogValue) (n : Node)
+    → (let l : LogValue = record { next = next; over = before; bits = bits; selectors = selectors; entries = s.entries; clauses = s.clauses } in l) ≡ old
+    → t ≡ with_step s (step.Node n) [] → over ≡ count
+    → (let l : LogValue = record { next = next; over = over; bits = bits; selectors = selectors; entries = t.entries; clauses = t.clauses } in l) ≡ with_plain old count (step.Node n)
+unfolding view_of
+node_new next before over count bits selectors s t old n v e c =
+    ap (λ t. view_of next over bits selectors t) e ∙ ap (λ o. view_of next o bits selectors (with_step s (step.Node n) [])) c ∙ ap (λ l. with_plain l count (step.Node n)) v

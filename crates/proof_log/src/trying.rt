@@ -1,6 +1,6 @@
 //! Steps that are tried, kind by kind: what shows that one is not valid, or it is put into the log.
 
-ghost use Rattle.std.specs.Prelude.{◌≡◌, ◌≤◌, ◌≢◌, ◌↔◌, IsTrue, List, [], ◌∷◌, Some, OnErr, IfOk, MatchOption, MatchBool, Contains, is_some};
+ghost use Rattle.std.specs.Prelude.{◌≡◌, ◌≤◌, ◌≢◌, List, [], ◌∷◌, Some, OnErr, IfOk, MatchOption, MatchBool, Contains, is_some};
 ghost use Rattle.cnf_base.specs.Literals.{Literal};
 ghost use Rattle.cnf_base.specs.Assignments.{AreBelow};
 ghost use Rattle.cnf_base.specs.declared.clause.ClauseId.{ClauseId};
@@ -24,7 +24,7 @@ use std::alloc::{AllocError, Global};
 
 /// Whether an operator is made by no step.
 pub(crate) fn is_given(op: &Op) -> bool
-    ensures { IsTrue result ↔ IsGiven op.now }
+    ensures { MatchBool result (IsGiven op.now) (¬ (IsGiven op.now)) }
 {
     matches!(op, Op::Constant { .. } | Op::Param { .. })
 }
