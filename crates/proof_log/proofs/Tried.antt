@@ -260,3 +260,8 @@ pub node_new : (next before over count : ℕ) (bits : List TermBits) (selectors 
 unfolding view_of
 node_new next before over count bits selectors s t old n v e c =
     ap (λ t. view_of next over bits selectors t) e ∙ ap (λ o. view_of next o bits selectors (with_step s (step.Node n) [])) c ∙ ap (λ l. with_plain l count (step.Node n)) v
+
+pub plain_added : (v : TermsValue) (e : Entry) (c : List Literal) (hints : List ClauseId) (old new : LogValue) (over p : ℕ) → e ≡ step.Chain c hints → Stands v.nodes old → IsValid v (state_of v.nodes old.entries) e → over ≡ length v.nodes → new ≡ with_plain old over (step.Chain c hints) → p ≡ suc (length old.entries) → IsPushed v.nodes old new e p
+plain_added v e c hints old new over p q h i count x at =
+    let k = plain_pushed v c hints old new over h (subst (IsValid v (state_of v.nodes old.entries)) q i) count x in
+    subst (λ e. IsPushed v.nodes old new e p) (sym q) (subst (IsPushed v.nodes old new (step.Chain c hints)) (sym at) k)
