@@ -223,7 +223,7 @@ new_node v w n t e m =
     let h = made v w n t m in
     ⊎_elim
     (λ same. let within : t < length v.nodes = subst (λ u. t < length u.nodes) same h.within in
-        absurd (no_place v.nodes n e t within (subst (λ u. node_at u.nodes t ≡ n) same h.node)))
+    absurd (no_place v.nodes n e t within (subst (λ u. node_at u.nodes t ≡ n) same h.node)))
     (λ new. (new.number, new.pushed))
     h.grown
 
@@ -232,13 +232,12 @@ node_done v w n old new p h given e m at x =
     let q = new_node v w n m.0 e m.1 in
     let made : make v n ≡ Ok (length v.nodes, with_node v n) = m.1 ∙ ap (λ k. Ok (k, w)) q.0 ∙ ap (λ u. Ok (length v.nodes, u)) q.1 in
     let k = subst (λ u. IsKept u.nodes old) (sym q.1) (kept_longer v.nodes (n ∷ []) old (stands_over v.nodes old h)) in
-    let among : Contains w.nodes n = subst (λ u. Contains u.nodes n) (sym q.1) (Contains-push v.nodes n) in
-    (
+    let among : Contains w.nodes n = subst (λ u. Contains u.nodes n) (sym q.1) (Contains-push v.nodes n) in (
       record { operator = given; new = e; made = made },
       q.1,
       subst (IsPushed w.nodes old new (step.Node n)) (sym at)
-      (subst (λ l. IsPushed w.nodes old l (step.Node n) (suc (length old.entries))) (sym x)
-      (pushed w.nodes old (with_plain old (length w.nodes) (step.Node n)) (step.Node n) refl refl (kept_plain w.nodes old (step.Node n) k among refl))),
+          (subst (λ l. IsPushed w.nodes old l (step.Node n) (suc (length old.entries))) (sym x)
+          (pushed w.nodes old (with_plain old (length w.nodes) (step.Node n)) (step.Node n) refl refl (kept_plain w.nodes old (step.Node n) k among refl))),
     )
 
 -- marks for the variables below b are marks for a clause below a
