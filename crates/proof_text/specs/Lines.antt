@@ -1,6 +1,6 @@
 -- The lines of a proof file and their text: words with one space between, and a line feed. Numbers are in decimal.
-use Rattle.std.specs.Prelude.{ℕ, ◌<◌, ◌^◌, Bool, if◌then◌else◌, List, [], ◌∷◌, ◌++◌, map, codes}
-use Rattle.std.specs.List.{flat_map}
+use Rattle.std.specs.Prelude.{ℕ, ◌<◌, ◌^◌, Bool, if◌then◌else◌, List, [], ◌∷◌, ◌++◌, map, codes, length}
+use Rattle.std.specs.List.{flat_map, AllByRecursion}
 use Rattle.std.specs.Fmt.{decimal}
 use Rattle.proof_text.specs.Operators.{name_of}
 use Rattle.proof_text.specs.declared.list.WrittenLiteral.{WrittenLiteral}
@@ -66,3 +66,46 @@ words_of (Unsat p) = with_number (codes "unsat") p
 -- a line as it is written
 abbrev pub line_text : Line → List ℕ
 line_text l = joined (words_of l) ++ 10 ∷ []
+
+-- ---- what can be written
+
+-- numbers are below 2 ^ 64
+abbrev pub IsNumber : ℕ → Type 0
+IsNumber n = n < 2 ^ 64
+
+-- the value of a word is below 2 ^ 128
+abbrev pub IsHead : Head → Type 0
+IsHead (Plain op) = Unit {0}
+IsHead (Word width x) = IsNumber width × (x < 2 ^ 128)
+IsHead (Extract high low) = IsNumber high × IsNumber low
+IsHead (ZeroExtend i) = IsNumber i
+IsHead (SignExtend i) = IsNumber i
+IsHead (RotateLeft i) = IsNumber i
+IsHead (RotateRight i) = IsNumber i
+IsHead (Repeat i) = IsNumber i
+IsHead (Apply d) = IsNumber d
+
+-- variables are counted from 1
+pub record IsLiteral (l : WrittenLiteral) : Type 0 where
+  pub from_one : 0 < l.variable
+  pub bound : IsNumber l.variable
+
+pub record IsHint (h : WrittenHint) : Type 0 where
+  pub pos : IsNumber h.pos
+  pub part : IsNumber h.part
+
+-- a word has a digit
+abbrev pub IsValue : WrittenValue → Type 0
+IsValue (value.Bool b) = Unit {0}
+IsValue (value.Word digits) = 0 < length digits
+
+abbrev pub IsLine : Line → Type 0
+IsLine (Header cubes budget) = IsNumber cubes × IsNumber budget
+IsLine (Term head args) = IsHead head × AllByRecursion IsNumber args
+IsLine (Leaf t) = IsNumber t
+IsLine (Encode t) = IsNumber t
+IsLine (Selector a) = IsNumber a
+IsLine (Chain clause hints) = AllByRecursion IsLiteral clause × AllByRecursion IsHint hints
+IsLine (Sat count) = IsNumber count
+IsLine (Value d v) = IsNumber d × IsValue v
+IsLine (Unsat p) = IsNumber p

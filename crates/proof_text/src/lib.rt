@@ -9,11 +9,16 @@
 
 pub mod entry;
 pub mod header;
+mod keyword;
+pub mod laws;
 pub mod line;
 pub mod list;
 pub mod number;
 pub mod operator;
+pub mod reader;
+mod reading;
 pub mod record;
 #[cfg(test)]
 mod tests;
+mod words;
 mod write;
