@@ -1,0 +1,80 @@
+-- Words that are joined by marks, and split at them.
+use Rattle.std.proofs.Common.{◌≡◌, ◌≢◌, ℕ, suc, ◌+◌, ◌<◌, ◌≤◌, Bool, true, false, not, ◌&&◌, cond, List, [], ◌∷◌, ◌++◌, length, refl, sym, ap, subst, ◌∙◌, arith, append_assoc, append-nil, eqb}
+use Rattle.std.proofs.lemmas.Bool.{eqb-true, eqb-false, eq-eqb}
+use Rattle.std.specs.List.{flat_map, list_all, AllByRecursion}
+use Rattle.proof_text.specs.Reading.{fields, behind, longer, is_digit}
+use Rattle.proof_text.specs.Lines.{spaced, joined}
+use Rattle.proof_text.proofs.Splitting.{in_front, some_word}
+use Rattle.proof_text.proofs.Numerals.{not_eqb, digit_range}
+
+-- the mark does not stand in the word
+abbrev pub is_free : ℕ → List ℕ → Bool
+is_free mark w = list_all (λ b. not (eqb b mark)) w
+
+abbrev pub marked : ℕ → List (List ℕ) → List ℕ
+marked mark words = flat_map (λ w. mark ∷ w) words
+
+abbrev pub joined_by : ℕ → List (List ℕ) → List ℕ
+joined_by mark [] = []
+joined_by mark (w ∷ ws) = w ++ marked mark ws
+
+pub both : (a b : Bool) → a && b ≡ true → (a ≡ true) × (b ≡ true)
+both true b e = (refl, e)
+both false b e = absurd (let k : ⊥ = cc in k)
+
+pub not_true : (a : Bool) → not a ≡ true → a ≡ false
+not_true true e = absurd (let k : ⊥ = cc in k)
+not_true false e = refl
+
+in_front-one : (b : ℕ) (w : List ℕ) (ws : List (List ℕ)) → longer b (in_front w ws) ≡ in_front (b ∷ w) ws
+in_front-one b w [] = refl
+in_front-one b w (v ∷ vs) = refl
+
+nothing : (ws : List (List ℕ)) → 0 < length ws → ws ≡ in_front [] ws
+nothing [] h = absurd (omega arith)
+nothing (w ∷ ws) h = refl
+
+fields_word : (mark : ℕ) (w rest : List ℕ) → is_free mark w ≡ true → fields mark (w ++ rest) ≡ in_front w (fields mark rest)
+unfolding fields
+fields_word mark [] rest free = nothing (fields mark rest) (some_word mark rest)
+fields_word mark (b ∷ w) rest free =
+    let p = both (not (eqb b mark)) (is_free mark w) free in
+    let other : eqb b mark ≡ false = not_true (eqb b mark) p.0 in
+    rw (other, fields_word mark w rest p.1) (in_front-one b w (fields mark rest))
+
+-- what is joined splits into its words
+pub fields_joined : (mark : ℕ) (w : List ℕ) (ws : List (List ℕ)) → AllByRecursion (λ x. is_free mark x ≡ true) (w ∷ ws) → fields mark (joined_by mark (w ∷ ws)) ≡ w ∷ ws
+unfolding fields
+fields_joined mark w [] free = fields_word mark w [] free.0 ∙ rw (append-nil w) refl
+fields_joined mark w (v ∷ vs) free =
+    let same : eqb mark mark ≡ true = eq-eqb mark mark refl in
+    fields_word mark w (marked mark (v ∷ vs)) free.0 ∙ rw (same, fields_joined mark v vs free.1, append-nil w) refl
+
+joined_longer : (mark b : ℕ) (ws : List (List ℕ)) → joined_by mark (longer b ws) ≡ b ∷ joined_by mark ws
+joined_longer mark b [] = refl
+joined_longer mark b (w ∷ ws) = refl
+
+joined_marked : (mark : ℕ) (ws : List (List ℕ)) → 0 < length ws → joined_by mark ([] ∷ ws) ≡ mark ∷ joined_by mark ws
+joined_marked mark [] h = absurd (omega arith)
+joined_marked mark (w ∷ ws) h = refl
+
+joined_chosen : (q : Bool) (mark b : ℕ) (bs : List ℕ) → eqb b mark ≡ q → joined_by mark (fields mark bs) ≡ bs → joined_by mark (cond q ([] ∷ fields mark bs) (longer b (fields mark bs))) ≡ b ∷ bs
+joined_chosen true mark b bs e h =
+    let same : b ≡ mark = eqb-true b mark e in
+    joined_marked mark (fields mark bs) (some_word mark bs) ∙ rw (h, same) refl
+joined_chosen false mark b bs e h = joined_longer mark b (fields mark bs) ∙ rw h refl
+
+-- the words of a text joined are the text
+pub joined_fields : (mark : ℕ) (bs : List ℕ) → joined_by mark (fields mark bs) ≡ bs
+unfolding fields
+joined_fields mark [] = refl
+joined_fields mark (b ∷ bs) = joined_chosen (eqb b mark) mark b bs refl (joined_fields mark bs)
+
+-- digits are no marks
+pub digits_free : (mark : ℕ) (w : List ℕ) → mark < 48 → list_all is_digit w ≡ true → is_free mark w ≡ true
+digits_free mark [] low h = refl
+digits_free mark (b ∷ w) low h =
+    let p = both (is_digit b) (list_all is_digit w) h in
+    let r = digit_range b p.0 in
+    let other : eqb b mark ≡ false = not_eqb b mark (λ e. absurd (omega arith)) in
+    rw (other, digits_free mark w low p.1) refl

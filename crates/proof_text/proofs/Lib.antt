@@ -1,0 +1,6 @@
+pub mod Appending
+pub mod Splitting
+pub mod Numerals
+pub mod Fields
+pub mod Exact
+pub mod Giving

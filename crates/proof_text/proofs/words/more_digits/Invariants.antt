@@ -1,0 +1,6 @@
+use Rattle.std.proofs.Common.{◌≡◌, ◌^◌, drop}
+use Rattle.proof_text.specs.Reading.{more_digits}
+use Rattle.proof_text.proofs.words.more_digits.Given as goal
+
+abbrev pub invariant-loop-byte : goal.invariant-loop-byte
+invariant-loop-byte l = more_digits (2 ^ 64) l.n (drop l.byte-index l.digits) ≡ more_digits (2 ^ 64) l.fn.n l.digits

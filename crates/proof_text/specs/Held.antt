@@ -1,0 +1,26 @@
+-- What a reader of a proof holds: bytes that were fed and not yet given as lines.
+use Rattle.std.specs.Prelude.{◌≡◌, ℕ, ◌+◌, ◌==◌, Bool, true, not, List, [], ◌∷◌, ◌++◌, Result, Ok, Err}
+use Rattle.std.specs.List.{list_all}
+use Rattle.proof_text.specs.Lines.{line_text, IsLine}
+use Rattle.proof_text.specs.declared.line.Line.{Line}
+use Rattle.proof_text.specs.declared.reader.LineFault.{LineFault}
+
+-- the bytes, and the number of their first line
+pub record Held : Type 0 where
+  pub line : ℕ
+  pub bytes : List ℕ
+
+-- no line feed stands there
+abbrev pub without_feed : List ℕ → Bool
+without_feed bytes = list_all (λ b. not (b == 10)) bytes
+
+-- the first whole line, up to its line feed, and what is behind it
+pub record IsNext (old : Held) (text : List ℕ) (new : Held) : Type 0 where
+  pub bytes : old.bytes ≡ text ++ 10 ∷ new.bytes
+  pub first : without_feed text ≡ true
+  pub line : new.line ≡ old.line + 1
+
+-- the line that is printed so, or the fault where none is
+abbrev pub Answers : Result Line LineFault → ℕ → List ℕ → Type 0
+Answers (Ok l) line text = IsLine l × (text ++ 10 ∷ [] ≡ line_text l)
+Answers (Err f) line text = (f.line ≡ line) × ((l : Line) → IsLine l → text ++ 10 ∷ [] ≡ line_text l → ⊥)
