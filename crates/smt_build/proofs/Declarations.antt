@@ -1,6 +1,6 @@
 -- The declaration that tokens ask for.
-use Rattle.std.proofs.Common.{◌≡◌, ℕ, ◌≤◌, ◌<◌, Bool, true, false, List, [], ◌∷◌, length, get_or, refl, ap, sym, ◌∙◌, subst, arith, Option, Some, None, Result, Ok, Err}
-use Rattle.std.specs.Prelude.{is_some, if◌then◌else◌}
+use Rattle.std.proofs.Common.{◌≡◌, ℕ, ◌≤◌, ◌<◌, true, false, List, [], ◌∷◌, length, get_or, refl, ap, ◌∙◌, arith, Result, Ok, Err}
+use Rattle.std.specs.Prelude.{is_some}
 use Rattle.smt_text.specs.declared.token.Token.{Token}
 use Rattle.smt_text.specs.declared.token.CommandName.{CommandName}
 use Rattle.smt_text.specs.declared.token.CommandName.TheVariants as name
@@ -17,7 +17,7 @@ use Rattle.smt_build.specs.declared.fault.BuildError.{BuildError}
 use Rattle.smt_build.specs.Names.{SymbolsValue, declaration_of}
 use Rattle.smt_build.specs.Operators.{is_reserved}
 use Rattle.smt_build.specs.Sorts.{sort_in}
-use Rattle.smt_build.specs.Declaring.{Declaration, next, constant, declare_constant, declare_parts, declare, Declares}
+use Rattle.smt_build.specs.Declaring.{next, constant, declare_constant, declare, Declares}
 use Rattle.smt_build.proofs.Spellings.{one_word}
 
 -- one token of a slice is a word

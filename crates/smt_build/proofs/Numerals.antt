@@ -1,8 +1,8 @@
 -- The width that a numeral gives, digit by digit.
-use Rattle.std.proofs.Common.{◌≡◌, ℕ, ◌+◌, ◌*◌, ◌<◌, ◌≤◌, List, [], ◌∷◌, length, get_or, drop, refl, sym, ◌∙◌, arith, rules, tests, Option, Some, None}
+use Rattle.std.proofs.Common.{◌≡◌, ℕ, ◌+◌, ◌*◌, ◌<◌, ◌≤◌, List, [], ◌∷◌, length, get_or, drop, refl, ◌∙◌, arith, rules, tests, Option, Some, None}
 use Rattle.std.specs.Prelude.{fold, nat_le, ◌&&◌, if◌then◌else◌}
 use Rattle.std.proofs.lemmas.List.{drop_more, drop_all}
-use Rattle.smt_build.specs.Literals.{decimal_value, value_in, width_of_numeral}
+use Rattle.smt_build.specs.Literals.{decimal_value, width_of_numeral}
 
 abbrev pub from : ℕ → List ℕ → ℕ
 from n digits = fold (λ v d. 10 * v + decimal_value d) n digits

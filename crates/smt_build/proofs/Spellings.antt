@@ -1,18 +1,18 @@
 -- What tokens that spell an S-expression say of it.
-use Rattle.std.proofs.Common.{◌≡◌, ℕ, Bool, true, false, List, [], ◌∷◌, ◌++◌, map, take, drop, length, get_or, ◌≤◌, ◌<◌, refl, ap, sym, ◌∙◌, subst, arith, Result, Ok, Err}
+use Rattle.std.proofs.Common.{◌≡◌, ℕ, Bool, true, false, List, [], ◌∷◌, ◌++◌, length, get_or, ◌≤◌, ◌<◌, refl, ap, sym, ◌∙◌, subst, arith, Result, Err}
 use Rattle.std.specs.Prelude.{codes, if◌then◌else◌}
 use Rattle.std.specs.Str.{bytes_eq}
-use Rattle.smt_text.specs.Lexicon.{Lexeme, lexeme_of, lexemes_of}
+use Rattle.smt_text.specs.Lexicon.{Lexeme, lexemes_of}
 use Rattle.smt_text.specs.declared.token.Token.{Token}
 use Rattle.smt_text.specs.declared.token.TokenKind.{TokenKind}
 use Rattle.smt_text.specs.declared.token.TokenKind.TheVariants as kind
-use Rattle.smt_syntax.specs.Sexps.{Sign, open_paren, close_paren, word, Sexp, Sexps, atom, group, none, more, spelling, spellings, sign_by, sign_of, sign_in, signs_in, signs_of}
+use Rattle.smt_syntax.specs.Sexps.{Sign, open_paren, close_paren, word, Sexp, atom, group, none, more, spelling, spellings, sign_by, sign_in, signs_in, signs_of}
 use Rattle.smt_syntax.specs.declared.span.Span.{Span}
 use Rattle.smt_syntax.specs.Spans.{IsWithin, tokens_at, Stands}
 use Rattle.smt_terms.specs.declared.sort.Sort.{Sort}
 use Rattle.smt_build.specs.declared.fault.BuildFault.{BuildFault}
 use Rattle.smt_build.specs.declared.fault.BuildFault.TheVariants.{NotSupported}
-use Rattle.smt_build.specs.Sorts.{sort_named, width_sort, named_sort, indexed_sort, listed_sort, sort_in}
+use Rattle.smt_build.specs.Sorts.{sort_named, width_sort, named_sort, indexed_sort, sort_in}
 
 -- the signs of tokens are those of their lexemes
 pub signs_same : (ts : List Token) → signs_of (lexemes_of ts) ≡ signs_in ts

@@ -1,5 +1,5 @@
 -- The loop that reads a part, a step a token.
-use Rattle.std.proofs.Common.{◌≡◌, ℕ, ◌+◌, ◌<◌, ◌≤◌, List, [], ◌∷◌, ◌++◌, map, reverse, length, get_or, drop, refl, ap, sym, ◌∙◌, Option, Some, None, Result, Ok, Err}
+use Rattle.std.proofs.Common.{◌≡◌, ℕ, ◌+◌, ◌<◌, ◌≤◌, List, [], ◌∷◌, ◌++◌, map, length, get_or, drop, refl, ap, sym, ◌∙◌, Option, Result, Ok, Err}
 use Rattle.std.proofs.lemmas.List.{drop_more, drop_all, map-append, reverse-append}
 use Rattle.smt_text.specs.declared.token.Token.{Token}
 use Rattle.smt_text.specs.declared.token.TokenKind.{TokenKind}
@@ -21,7 +21,7 @@ use Rattle.smt_build.specs.Names.{SymbolsValue, no_symbols}
 use Rattle.smt_build.specs.Building.{Built, Builds}
 use Rattle.smt_build.specs.Terms.{term_of}
 use Rattle.smt_build.specs.TermReader.{Part, term, Open, term_reader, takes, closes, at_word}
-use Rattle.smt_build.specs.Steps.{Step, ends, goes, opened, handed, step, Steps}
+use Rattle.smt_build.specs.Steps.{Step, ends, goes, handed, step, Steps}
 use Rattle.smt_build.specs.Views.{part_of, open_of, stack_of, Does, Takes, Means}
 use Rattle.smt_build.proofs.TermWalks.{as_part, walk-term}
 

@@ -1,8 +1,8 @@
 -- The walk of the reader of terms gives the term that is meant.
-use Rattle.std.proofs.Common.{◌≡◌, ℕ, List, [], ◌∷◌, ◌++◌, refl, sym, ◌∙◌, Result, Ok, Err}
+use Rattle.std.proofs.Common.{◌≡◌, ℕ, List, [], ◌∷◌, ◌++◌, refl, sym, ◌∙◌, Result, Ok}
 use Rattle.smt_text.specs.declared.token.TokenKind.TheVariants as kind
 use Rattle.smt_syntax.specs.Sexps.{Sexp, Sexps, atom, group, none, more}
-use Rattle.smt_syntax.specs.Walk.{Reader, ◌>>=◌, walk, walks}
+use Rattle.smt_syntax.specs.Walk.{◌>>=◌, walk, walks}
 use Rattle.smt_syntax.proofs.Walks.{bind_assoc, bind_same}
 use Rattle.smt_terms.specs.Terms.{TermsValue}
 use Rattle.smt_build.specs.declared.fault.BuildFault.{BuildFault}
@@ -10,7 +10,7 @@ use Rattle.smt_build.specs.declared.reader.Want.TheVariants as want
 use Rattle.smt_build.specs.Names.{SymbolsValue}
 use Rattle.smt_build.specs.Building.{Built}
 use Rattle.smt_build.specs.Terms.{term_of, args_of}
-use Rattle.smt_build.specs.TermReader.{Part, term, Open, application, at_word, opens, context, takes, closes, term_reader}
+use Rattle.smt_build.specs.TermReader.{Part, term, application, at_word, opens, context, takes, closes, term_reader}
 
 abbrev pub as_part : Built → Result (Part × TermsValue) BuildFault
 as_part b = b >>= λ r. Ok (term r.0, r.1)

@@ -2,9 +2,7 @@
 use Rattle.std.specs.Prelude.{◌≡◌, ℕ, ◌*◌, nat_le, List, [], ◌∷◌, ◌++◌, length, slice_get, Option, Some, None, Result, Ok, Err, if◌then◌else◌}
 use Rattle.smt_text.specs.declared.token.TokenKind.{TokenKind}
 use Rattle.smt_text.specs.declared.token.TokenKind.TheVariants as kind
-use Rattle.smt_terms.specs.declared.sort.Sort.{Sort}
 use Rattle.smt_terms.specs.declared.sort.Signature.{Signature}
-use Rattle.smt_terms.specs.declared.node.Op.{Op}
 use Rattle.smt_terms.specs.declared.node.Op.TheVariants.{Plain, Word, Constant}
 use Rattle.smt_terms.specs.declared.node.Node.{Node}
 use Rattle.smt_terms.specs.declared.fault.MakeFault.{MakeFault}

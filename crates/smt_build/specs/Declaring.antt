@@ -1,5 +1,5 @@
 -- The declaration that a command makes (SMT-LIB 2.6, section 4.2.3).
-use Rattle.std.specs.Prelude.{◌≡◌, ℕ, List, [], ◌∷◌, length, is_some, Option, Some, None, Result, Ok, Err, if◌then◌else◌}
+use Rattle.std.specs.Prelude.{◌≡◌, ℕ, List, length, is_some, Result, Ok, Err, if◌then◌else◌}
 use Rattle.smt_text.specs.declared.token.CommandName.{CommandName}
 use Rattle.smt_text.specs.declared.token.CommandName.TheVariants as name
 use Rattle.smt_syntax.specs.Sexps.{Sexp, Sexps, atom, group, none, more}

@@ -1,4 +1,4 @@
-use Rattle.std.proofs.Common.{◌≡◌, true, false, ap, sym, ◌∙◌, refl}
+use Rattle.std.proofs.Common.{ap, sym, ◌∙◌, refl}
 use Rattle.std.specs.Prelude.{is_some}
 use Rattle.smt_build.proofs.Declarations.{declared_name, no_sort}
 use Rattle.smt_build.proofs.declare.declare_constant.Goals as goal

@@ -1,4 +1,4 @@
-use Rattle.std.proofs.Common.{ap, sym, ◌∙◌}
+use Rattle.std.proofs.Common.{ap, ◌∙◌}
 use Rattle.smt_build.specs.Names.{declaration_of}
 use Rattle.smt_build.proofs.NameLemmas.{numbers_put}
 use Rattle.smt_build.proofs.symbols.Symbols.add.Goals as goal
