@@ -28,10 +28,8 @@ fn apply(rt: &(impl Abort + AllocGlobal), state: &mut State, text: &[u8]) -> Res
 }
 
 /// A sum and a conjunction of two words of width 8; then the two are equal.
-#[test]
-fn the_first_script(rt: HostRuntime) -> Result<(), Fail> {
-    let mut state = State::new(rt.alloc());
-    let script: [(&[u8], Answer); 8] = [
+fn first_script() -> &'static [(&'static [u8], Answer)] {
+    &[
         (b"(declare-const x (_ BitVec 8))", Answer::Done),
         (b"(declare-const y (_ BitVec 8))", Answer::Done),
         (b"(assert (= (bvadd x y) #x0f))", Answer::Done),
@@ -40,33 +38,12 @@ fn the_first_script(rt: HostRuntime) -> Result<(), Fail> {
         (b"(check-sat)", Answer::Check),
         (b"(assert (= x y))", Answer::Done),
         (b"(check-sat)", Answer::Check),
-    ];
-    for (text, answer) in script {
-        assert_eq!(rt; apply(&rt, &mut state, text)?, answer);
-    }
-    assert_eq!(rt; state.declared().len(), 2);
-    assert_eq!(rt; state.live().len(), 4);
-    // x, y, their sum, #x0f, the first equality; #xf0, the conjunction, the negation, the second; #x1f, the third; x = y
-    assert_eq!(rt; state.terms().len(), 12);
-    for (i, term) in [4, 8, 10, 11].iter().enumerate() {
-        assert_eq!(rt; state.live().get(i).map(|live| live.term), Some(*term));
-    }
-    Ok(())
+    ]
 }
 
-#[test]
-fn what_is_not_supported_is_refused_and_forgotten(rt: HostRuntime) -> Result<(), Fail> {
-    let mut state = State::new(rt.alloc());
-    assert_eq!(rt;
-        apply(&rt, &mut state, b"(declare-const x (_ BitVec 8))")?,
-        Answer::Done
-    );
-    assert_eq!(rt;
-        apply(&rt, &mut state, b"(assert (= x #x01))")?,
-        Answer::Done
-    );
-    let terms = state.terms().len();
-    let refused: [&[u8]; 22] = [
+/// What is refused where a word x of width 8 is declared.
+fn refused_commands() -> &'static [&'static [u8]] {
+    &[
         b"(declare-sort S 0)",
         b"(declare-const x (_ BitVec 8))",
         b"(declare-const bvadd (_ BitVec 8))",
@@ -89,8 +66,40 @@ fn what_is_not_supported_is_refused_and_forgotten(rt: HostRuntime) -> Result<(),
         b"(push 1)",
         b"(assert (= x #b2))",
         b"()",
-    ];
-    for text in refused {
+    ]
+}
+
+#[test]
+fn the_first_script_is_done(rt: HostRuntime) -> Result<(), Fail> {
+    let mut state = State::new(rt.alloc());
+    for (text, answer) in first_script() {
+        assert_eq!(rt; apply(&rt, &mut state, text)?, *answer);
+    }
+    assert_eq!(rt; state.declared().len(), 2);
+    assert_eq!(rt; state.live().len(), 4);
+    // x, y, their sum, #x0f, the equality; #xf0, the conjunction, the negation, the equality; #x1f, the equality; x = y
+    assert_eq!(rt; state.terms().len(), 12);
+    let mut asserted = Vec::new(rt.alloc());
+    for live in state.live() {
+        asserted.push(live.term)?;
+    }
+    assert_eq!(rt; asserted.as_slice(), [4, 8, 10, 11].as_slice());
+    Ok(())
+}
+
+#[test]
+fn what_is_not_supported_is_refused_and_forgotten(rt: HostRuntime) -> Result<(), Fail> {
+    let mut state = State::new(rt.alloc());
+    assert_eq!(rt;
+        apply(&rt, &mut state, b"(declare-const x (_ BitVec 8))")?,
+        Answer::Done
+    );
+    assert_eq!(rt;
+        apply(&rt, &mut state, b"(assert (= x #x01))")?,
+        Answer::Done
+    );
+    let terms = state.terms().len();
+    for text in refused_commands() {
         assert_eq!(rt; apply(&rt, &mut state, text)?, REFUSED);
         assert_eq!(rt; state.terms().len(), terms);
         assert_eq!(rt; state.live().len(), 1);
