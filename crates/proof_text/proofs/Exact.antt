@@ -576,7 +576,7 @@ is_clear w = list_all (λ b. nat_lt 32 b) w
 abbrev AreClear : List (List ℕ) → Type 0
 AreClear ws = AllByRecursion (λ w. is_clear w ≡ true) ws
 
-all_append : {X : Type 0} (P : X → Type 0) (xs ys : List X) → AllByRecursion P xs → AllByRecursion P ys → AllByRecursion P (xs ++ ys)
+pub all_append : {X : Type 0} (P : X → Type 0) (xs ys : List X) → AllByRecursion P xs → AllByRecursion P ys → AllByRecursion P (xs ++ ys)
 all_append P [] ys h k = k
 all_append P (x ∷ xs) ys h k = (h.0, all_append P xs ys h.1 k)
 
