@@ -7,3 +7,4 @@ pub mod Ordered
 pub mod Standing
 pub mod Settled
 mod Tried
+mod Worked
