@@ -1,13 +1,13 @@
 -- A line is read exactly: as the one that is printed so, if there is one.
-use Rattle.std.proofs.Common.{◌≡◌, ◌≢◌, ℕ, zero, suc, ◌+◌, ◌-◌, ◌^◌, ◌<◌, ◌≤◌, Bool, true, false, not, ◌&&◌, cond, List, [], ◌∷◌, ◌++◌, length, map, refl, sym, ap, subst, ◌∙◌, arith, append_assoc, append-nil, eqb, lt-ltb, codes, Option, Some, None}
-use Rattle.std.proofs.lemmas.Bool.{eqb-true, eqb-false, eq-eqb}
+use Rattle.std.proofs.Common.{◌≡◌, ◌≢◌, ℕ, ◌^◌, ◌<◌, ◌≤◌, Bool, true, false, not, ◌&&◌, cond, List, [], ◌∷◌, ◌++◌, length, map, refl, sym, ap, subst, ◌∙◌, arith, append-nil, eqb, lt-ltb, codes, Option, Some, None}
+use Rattle.std.proofs.lemmas.Bool.{eqb-true, eqb-false}
 use Rattle.std.proofs.lemmas.Slice.Eq.{bytes_eq-Decides}
 use Rattle.std.proofs.lemmas.List.Folds.{list_all-append}
 use Rattle.std.proofs.lemmas.List.{length-map, append_cancel_right}
 use Rattle.std.specs.Prelude.{nat_lt}
 use Rattle.proof_text.specs.Held.{without_feed}
 use Rattle.std.specs.Fmt.{decimal}
-use Rattle.std.specs.List.{flat_map, list_all, AllByRecursion}
+use Rattle.std.specs.List.{list_all, AllByRecursion}
 use Rattle.std.specs.Str.{bytes_eq}
 use Rattle.smt_terms.specs.declared.operator.Operator.{Operator}
 use Rattle.smt_terms.specs.declared.operator.Operator.TheVariants as plain
@@ -25,7 +25,7 @@ use Rattle.proof_text.specs.declared.line.WrittenValue.TheVariants as value
 use Rattle.proof_text.specs.declared.line.Line.{Line}
 use Rattle.proof_text.specs.declared.line.Line.TheVariants as line
 use Rattle.proof_text.specs.Lines.{spaced, joined, with_number, head_words, literal_text, hint_text, digit_of, value_text, words_of, line_text, IsNumber, IsHead, IsLiteral, IsHint, IsValue, IsLine}
-use Rattle.proof_text.specs.Reading.{◌>>=◌, each_of, fields, look_up, is_digit, number_of, number_in, number_at, wide_at, ended, only_number, numbers_of, signed, literal_of, literals_at, hint_in, hint_of, hints_of, chain_of, indexed_names, with_index, indexed_at, indexed_head_at, named_at, head_at, term_of, digit_in, digits_of, binary_of, value_of, value_at, declared_of, exactly, header_of, keywords, one_number, line_by, line_of}
+use Rattle.proof_text.specs.Reading.{◌>>=◌, each_of, fields, look_up, is_digit, number_of, number_in, number_at, wide_at, ended, only_number, numbers_of, signed, literal_of, literals_at, hint_of, hints_of, chain_of, indexed_names, with_index, indexed_at, named_at, head_at, term_of, digit_in, digits_of, binary_of, value_of, value_at, declared_of, exactly, header_of, keywords, one_number, line_by, line_of}
 use Rattle.proof_text.proofs.Numerals.{number_reads, number_says, decimal_digits, not_eqb, digit_range, low_enough}
 use Rattle.proof_text.proofs.Fields.{is_free, joined_by, fields_joined, joined_fields, digits_free, both}
 
@@ -576,7 +576,7 @@ is_clear w = list_all (λ b. nat_lt 32 b) w
 abbrev AreClear : List (List ℕ) → Type 0
 AreClear ws = AllByRecursion (λ w. is_clear w ≡ true) ws
 
-all_append : {X : Type 0} (P : X → Type 0) (xs ys : List X) → AllByRecursion P xs → AllByRecursion P ys → AllByRecursion P (xs ++ ys)
+pub all_append : {X : Type 0} (P : X → Type 0) (xs ys : List X) → AllByRecursion P xs → AllByRecursion P ys → AllByRecursion P (xs ++ ys)
 all_append P [] ys h k = k
 all_append P (x ∷ xs) ys h k = (h.0, all_append P xs ys h.1 k)
 

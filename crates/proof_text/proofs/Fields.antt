@@ -1,9 +1,8 @@
 -- Words that are joined by marks, and split at them.
-use Rattle.std.proofs.Common.{◌≡◌, ◌≢◌, ℕ, suc, ◌+◌, ◌<◌, ◌≤◌, Bool, true, false, not, ◌&&◌, cond, List, [], ◌∷◌, ◌++◌, length, refl, sym, ap, subst, ◌∙◌, arith, append_assoc, append-nil, eqb}
-use Rattle.std.proofs.lemmas.Bool.{eqb-true, eqb-false, eq-eqb}
+use Rattle.std.proofs.Common.{◌≡◌, ℕ, ◌<◌, Bool, true, false, not, ◌&&◌, cond, List, [], ◌∷◌, ◌++◌, length, refl, ◌∙◌, arith, append-nil, eqb}
+use Rattle.std.proofs.lemmas.Bool.{eqb-true, eq-eqb}
 use Rattle.std.specs.List.{flat_map, list_all, AllByRecursion}
-use Rattle.proof_text.specs.Reading.{fields, behind, longer, is_digit}
-use Rattle.proof_text.specs.Lines.{spaced, joined}
+use Rattle.proof_text.specs.Reading.{fields, longer, is_digit}
 use Rattle.proof_text.proofs.Splitting.{in_front, some_word}
 use Rattle.proof_text.proofs.Numerals.{not_eqb, digit_range}
 

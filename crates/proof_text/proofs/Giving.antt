@@ -1,5 +1,5 @@
 -- The first whole line of what is held, and what is behind it.
-use Rattle.std.proofs.Common.{◌≡◌, ℕ, suc, ◌+◌, ◌-◌, ◌<◌, Bool, true, List, [], ◌∷◌, ◌++◌, length, take, drop, get_or, refl, sym, ap, subst, ◌∙◌, arith, length-drop, Result}
+use Rattle.std.proofs.Common.{◌≡◌, ℕ, ◌+◌, ◌-◌, ◌<◌, true, List, ◌∷◌, ◌++◌, length, take, drop, get_or, refl, sym, ap, subst, ◌∙◌, arith, length-drop, Result}
 use Rattle.std.proofs.lemmas.List.{take-append-drop, take_all, drop-drop}
 use Rattle.proof_text.specs.Held.{Held, without_feed, IsNext, Answers}
 use Rattle.proof_text.specs.declared.line.Line.{Line}

@@ -4,3 +4,4 @@ pub mod Numerals
 pub mod Fields
 pub mod Exact
 pub mod Giving
+pub mod Running

@@ -1,8 +1,8 @@
 -- Words of a line, and what was read so far before what is left.
-use Rattle.std.proofs.Common.{◌≡◌, ◌≢◌, ℕ, suc, ◌+◌, ◌-◌, ◌*◌, ◌<◌, ◌≤◌, Bool, true, false, cond, List, [], ◌∷◌, ◌++◌, length, take, drop, get_or, map, refl, sym, ap, ◌∙◌, arith, append_assoc, append-nil, eqb, le-ltb, lt-ltb, drop-cons, add-one, Option, Some, None}
-use Rattle.std.proofs.lemmas.Bool.{eqb-false, eq-eqb}
+use Rattle.std.proofs.Common.{◌≡◌, ◌≢◌, ℕ, suc, ◌+◌, ◌-◌, ◌*◌, ◌<◌, ◌≤◌, Bool, true, false, cond, List, [], ◌∷◌, ◌++◌, length, take, drop, get_or, refl, sym, ap, ◌∙◌, arith, append_assoc, append-nil, eqb, le-ltb, lt-ltb, drop-cons, add-one, Option, Some, None}
+use Rattle.std.proofs.lemmas.Bool.{eq-eqb}
 use Rattle.std.proofs.lemmas.Bool.Decides.{nat_tests}
-use Rattle.std.proofs.lemmas.List.{take_more, drop_all, take_all}
+use Rattle.std.proofs.lemmas.List.{take_more, drop_all}
 use Rattle.proof_text.specs.Reading.{fields, behind, longer, ◌>>=◌, each_of, literals_at, literal_of, is_digit, more_digits, look_up, indexed_names, indexed_at, indexed_head_at, head_at}
 use Rattle.proof_text.specs.Operators.{operator_names}
 use Rattle.proof_text.specs.declared.keyword.Indexed.{Indexed}

@@ -1,5 +1,5 @@
 -- Which line a step of a log is.
-use Rattle.std.specs.Prelude.{ℕ, Bool, true, false, List, map, IsTrue, Option, Some, None}
+use Rattle.std.specs.Prelude.{map, Option, Some, None}
 use Rattle.std.specs.Option.{option_map}
 use Rattle.cnf_base.specs.Literals.{Literal}
 use Rattle.cnf_base.specs.declared.clause.ClauseId.{ClauseId}

@@ -1,6 +1,6 @@
 -- What a reader of a proof holds: bytes that were fed and not yet given as lines.
-use Rattle.std.specs.Prelude.{◌≡◌, ℕ, ◌+◌, ◌==◌, Bool, true, not, List, [], ◌∷◌, ◌++◌, Result, Ok, Err}
-use Rattle.std.specs.List.{list_all}
+use Rattle.std.specs.Prelude.{◌≡◌, ◌≢◌, ℕ, length, ◌+◌, ◌==◌, Bool, true, not, List, [], ◌∷◌, ◌++◌, Result, Ok, Err}
+use Rattle.std.specs.List.{list_all, flat_map, AllByRecursion}
 use Rattle.proof_text.specs.Lines.{line_text, IsLine}
 use Rattle.proof_text.specs.declared.line.Line.{Line}
 use Rattle.proof_text.specs.declared.reader.LineFault.{LineFault}
@@ -24,3 +24,13 @@ pub record IsNext (old : Held) (text : List ℕ) (new : Held) : Type 0 where
 abbrev pub Answers : Result Line LineFault → ℕ → List ℕ → Type 0
 Answers (Ok l) line text = IsLine l × (text ++ 10 ∷ [] ≡ line_text l)
 Answers (Err f) line text = (f.line ≡ line) × ((l : Line) → IsLine l → text ++ 10 ∷ [] ≡ line_text l → ⊥)
+
+-- In front of it stand these lines, and what follows is not nothing and begins with no line. Lines are counted from 1.
+pub record IsFirstFault (text : List ℕ) (number : ℕ) : Type 0 where
+  pub lines : List Line
+  pub rest : List ℕ
+  pub whole : text ≡ flat_map line_text lines ++ rest
+  pub each : AllByRecursion IsLine lines
+  pub count : number ≡ length lines + 1
+  pub some : rest ≢ []
+  pub none : (l : Line) (more : List ℕ) → IsLine l → rest ≡ line_text l ++ more → ⊥

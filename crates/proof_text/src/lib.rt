@@ -8,6 +8,7 @@
 #![tactic(auto)]
 
 pub mod entry;
+pub mod file;
 pub mod header;
 mod keyword;
 pub mod laws;

@@ -1,4 +1,5 @@
 use crate::entry::write_entry;
+use crate::file::lines;
 use crate::header::write_header;
 use crate::line::{Head, Line, WrittenValue};
 use crate::reader::{LineFault, ProofReader};
@@ -148,5 +149,21 @@ fn what_no_line_prints_is_a_fault(rt: HostRuntime) -> Result<(), Fail> {
     assert!(rt; is_fault(alloc, b"c -0 0\n")?, "no variable");
     assert!(rt; is_fault(alloc, b"c 1 0 5\n")?, "no part");
     assert!(rt; is_fault(alloc, b"v 0 #b\n")?, "no digit");
+    Ok(())
+}
+
+#[test]
+fn a_file_is_read_whole_or_to_its_first_fault(rt: HostRuntime) -> Result<(), Fail> {
+    let alloc = rt.alloc();
+    let mut pieces = Vec::new(alloc);
+    pieces.push(Text::from_slice(alloc, b"e 0\ns ")?)?;
+    pieces.push(Text::from_slice(alloc, b"0\n")?)?;
+    let read = lines(alloc, pieces.as_slice())?;
+    assert!(rt;
+        matches!(read, Ok(found) if matches!(found.as_slice(), [Line::Encode(0), Line::Selector(0)]))
+    );
+    pieces.push(Text::from_slice(alloc, b"e x\ne y\n")?)?;
+    let stopped = lines(alloc, pieces.as_slice())?;
+    assert!(rt; matches!(stopped, Err(LineFault { line: 3 })));
     Ok(())
 }

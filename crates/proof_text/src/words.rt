@@ -93,11 +93,11 @@ pub fn wide_number(word: &[u8]) -> Option<u128>
 {
     match word {
         [] => None,
-        [first, rest @ ..] => {
-            if !is_digit(*first) {
+        [leading, rest @ ..] => {
+            if !is_digit(*leading) {
                 None
-            } else if *first != b'0' {
-                more_wide_digits((*first - b'0') as u128, rest)
+            } else if *leading != b'0' {
+                more_wide_digits((*leading - b'0') as u128, rest)
             } else if rest.is_empty() {
                 Some(0)
             } else {

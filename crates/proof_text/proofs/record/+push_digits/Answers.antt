@@ -1,4 +1,4 @@
-use Rattle.std.proofs.Common.{◌≡◌, ◌^◌, ◌/◌, ◌%◌, ◌-◌, ℕ, map, refl, arith, append-nil, eqb}
+use Rattle.std.proofs.Common.{◌≡◌, ◌^◌, ◌/◌, ◌%◌, ◌-◌, refl, arith, append-nil, eqb}
 use Rattle.std.proofs.lemmas.Result.{on_ok_weaker, on_err_weaker}
 use Rattle.proof_text.specs.Lines.{digit_of}
 use Rattle.proof_text.proofs.Appending.{no_digits, digits_more, digit_is_one, digit_is_zero, kept_front}
