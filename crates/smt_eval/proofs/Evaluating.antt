@@ -1,5 +1,5 @@
 -- One term's value, from those of its arguments.
-use Rattle.std.proofs.Common.{◌≡◌, ℕ, zero, suc, ◌+◌, ◌<◌, ◌≤◌, Bool, true, false, List, [], ◌∷◌, ◌++◌, length, map, get_or, take, refl, ap, sym, ◌∙◌, subst, arith, add-one, length-append, ⊎_elim, Option, Some, None, Result, Ok, Err}
+use Rattle.std.proofs.Common.{◌≡◌, ℕ, zero, suc, ◌+◌, ◌<◌, Bool, true, false, List, [], ◌∷◌, ◌++◌, length, map, get_or, take, refl, ap, sym, ◌∙◌, subst, arith, add-one, length-append, ⊎_elim, Result, Ok, Err}
 use Rattle.std.specs.Prelude.{IsOk, is_ok, ◌||◌}
 use Rattle.std.specs.List.{AllByRecursion, list_any}
 use Rattle.std.proofs.Math.Seq.{take-suc}
@@ -8,20 +8,17 @@ use Rattle.std.proofs.Math.Seq.{get_or-append_seam}
 use Rattle.std.proofs.lemmas.Bool.{cases_lt}
 use Rattle.smt_terms.specs.declared.sort.Sort.{Sort}
 use Rattle.smt_terms.specs.declared.sort.Sort.TheVariants as sort
-use Rattle.smt_terms.specs.declared.sort.Signature.{Signature}
-use Rattle.smt_terms.specs.declared.operator.Operator.{Operator}
 use Rattle.smt_terms.specs.declared.node.Op.{Op}
-use Rattle.smt_terms.specs.declared.node.Op.TheVariants.{Plain, Word, Extract, ZeroExtend, SignExtend, RotateLeft, RotateRight, Repeat, Constant, Apply, Param}
+use Rattle.smt_terms.specs.declared.node.Op.TheVariants.{Constant, Param}
 use Rattle.smt_terms.specs.declared.node.Node.{Node}
 use Rattle.smt_terms.specs.declared.fault.MakeFault.{MakeFault}
 use Rattle.smt_terms.specs.declared.scalar.Scalar.{Scalar}
 use Rattle.smt_terms.specs.declared.scalar.Scalar.TheVariants as scalar
 use Rattle.smt_terms.specs.Scalars.{scalar_value, scalar_sort}
-use Rattle.smt_terms.specs.Ranks.{is_array, is_plain, Rank, ranked, constant_sort, plain_sort, each_of, application, rank_of}
+use Rattle.smt_terms.specs.Ranks.{is_array, constant_sort, plain_sort}
 use Rattle.smt_terms.specs.Nodes.{node_at}
-use Rattle.smt_terms.specs.Terms.{IsSort, IsTerm, IsTermList, op_rank, sort_of}
+use Rattle.smt_terms.specs.Terms.{IsSort, IsTermList, op_rank, sort_of}
 use Rattle.smt_terms.specs.Values as of
-use Rattle.smt_terms.proofs.Growing.{takes_ok}
 use Rattle.smt_terms.proofs.Recursion.{same_map}
 use Rattle.smt_terms.proofs.Typing.{typed, value_is, constant_sort_ok, plain_sort_ok}
 use Rattle.smt_terms.proofs.Widths.{constant_bounded, plain_bounded}

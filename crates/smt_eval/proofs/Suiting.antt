@@ -1,5 +1,5 @@
 -- Where no array is set, what is set suits every list of terms.
-use Rattle.std.proofs.Common.{◌≡◌, ℕ, ◌<◌, Bool, true, false, List, [], refl, ap, sym, ◌∙◌, subst, Option, Some, None, length}
+use Rattle.std.proofs.Common.{◌≡◌, ℕ, Bool, true, false, List, [], sym, subst, Option, Some, None}
 use Rattle.std.specs.Prelude.{◌==◌, if◌then◌else◌}
 use Rattle.smt_terms.specs.declared.sort.Sort.{Sort}
 use Rattle.smt_terms.specs.declared.sort.Sort.TheVariants as sort
@@ -7,7 +7,6 @@ use Rattle.smt_terms.specs.declared.node.Op.{Op}
 use Rattle.smt_terms.specs.declared.node.Op.TheVariants.{Plain, Word, Extract, ZeroExtend, SignExtend, RotateLeft, RotateRight, Repeat, Constant, Apply, Param}
 use Rattle.smt_terms.specs.declared.node.Node.{Node}
 use Rattle.smt_terms.specs.Nodes.{node_at}
-use Rattle.smt_values.specs.Arrays.{ArrayFields}
 use Rattle.smt_values.specs.declared.value.Value.{Value}
 use Rattle.smt_values.specs.declared.value.Value.TheVariants as held
 use Rattle.smt_values.specs.Held.{set_for, Suits}

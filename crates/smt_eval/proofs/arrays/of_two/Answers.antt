@@ -1,4 +1,3 @@
-use Rattle.smt_eval.proofs.Taking.{two_are_none}
 use Rattle.smt_eval.proofs.arrays.of_two.Goals as goal
 
 pub returns-in-Equal : goal.returns-in-Equal

@@ -1,4 +1,4 @@
-use Rattle.std.proofs.Common.{◌≡◌, ◌<◌, ◌∙◌, sym, ap, length, arith}
+use Rattle.std.proofs.Common.{◌<◌, ◌∙◌, sym, ap, length, arith}
 use Rattle.smt_eval.specs.Evaluated.{IsTyped, is_table, holds_array, held_value}
 use Rattle.smt_eval.proofs.Evaluating.{all_at, all_map_at, any_map_at}
 use Rattle.smt_eval.proofs.Stores.{read_is}
