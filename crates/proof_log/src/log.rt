@@ -148,6 +148,7 @@ impl Log {
             Entry::Chain(clause, hints) => {
                 self.put_plain(alloc, over, Entry::Chain(clause, hints))?;
             }
+            // Excluded by the condition on the kind.
             Entry::Node(node) => self.put_plain(alloc, over, Entry::Node(node))?,
         }
         Ok(at)
