@@ -1,7 +1,6 @@
 -- The trail before a literal became true, with its opposite decided.
-use Rattle.std.proofs.Common.{ℕ, ◌≡◌, ◌≢◌, ◌+◌, ◌<◌, ◌≤◌, ◌⊎◌, ◌++◌, Bool, true, false, not, List, [], ◌∷◌, Option, Some, None, length, take, refl, sym, ap, ◌∙◌, inl, inr, arith}
+use Rattle.std.proofs.Common.{ℕ, ◌≡◌, ◌≢◌, ◌+◌, ◌<◌, ◌++◌, Bool, true, false, not, List, [], ◌∷◌, Some, None, length, take, refl, sym, ap, ◌∙◌, inl, inr, arith}
 use Rattle.std.specs.Prelude.{Contains}
-use Rattle.std.proofs.Math.ListN.{get_or}
 use Rattle.std.proofs.lemmas.Bool.{cases_lt}
 use Rattle.std.proofs.lemmas.List.{get_or-take, get_or_append_left, get_or_push, length-take-le, length_push}
 use Rattle.cnf_base.specs.Literals.{Literal, negated}
@@ -16,7 +15,6 @@ use Rattle.cdcl_learn.proofs.Lists.{no_member, member_first, member_later, membe
 use Rattle.cdcl_learn.proofs.Derivations.{nothing}
 
 module _ (look : Lookup) (rows cut : List Row) (place level : ℕ) (l : Literal) (history : IsHistory look rows) (within : place < length rows) (opposite : literal_at rows place ≡ negated l) (is : cut ≡ take place rows ++ (l, level, None) ∷ []) where
-
   front : length (take place rows) ≡ place
   front = length-take-le place rows (omega (arith, within))
 

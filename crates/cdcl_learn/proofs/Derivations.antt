@@ -1,5 +1,5 @@
 -- Analysis of a conflict: whichever literals are resolved, the hints derive what is left.
-use Rattle.std.proofs.Common.{ℕ, ◌≡◌, ◌≢◌, ◌+◌, ◌<◌, ◌≤◌, ◌⊎◌, ◌++◌, Bool, true, false, List, [], ◌∷◌, Option, Some, None, length, reverse, map, refl, sym, ap, ◌∙◌, inl, inr, arith}
+use Rattle.std.proofs.Common.{ℕ, ◌≡◌, ◌≢◌, ◌<◌, ◌++◌, Bool, false, List, [], ◌∷◌, Some, None, length, reverse, map, refl, sym, ap, ◌∙◌, inl, inr, arith}
 use Rattle.std.specs.Prelude.{Contains, IsSome}
 use Rattle.std.proofs.Math.ListN.{get_or, set, length-set}
 use Rattle.std.proofs.lemmas.List.{reverse-append}
@@ -8,9 +8,9 @@ use Rattle.std.proofs.lemmas.List.Elements.{All-contains, All-map, Contains-get_
 use Rattle.cnf_base.specs.Literals.{Literal, negated}
 use Rattle.cnf_base.specs.declared.clause.ClauseId.{ClauseId}
 use Rattle.cnf_base.proofs.Codes.{negated-negated}
-use Rattle.hint_chain.specs.Chains.{Lookup, IsFalse, IsFalseClause, IsUnit, HasPair, ChainFrom, IsChain}
+use Rattle.hint_chain.specs.Chains.{Lookup, IsUnit, HasPair, ChainFrom, IsChain}
 use Rattle.cdcl_core.specs.Levels.{Row}
-use Rattle.cdcl_learn.specs.Rows.{literal_at, reason_at, IsFalseBefore, IsHistory, IsRefutedIn}
+use Rattle.cdcl_learn.specs.Rows.{literal_at, reason_at, IsFalseBefore, IsHistory}
 use Rattle.cdcl_learn.specs.Puts.{StandsIn, UsesEach}
 use Rattle.cdcl_learn.specs.Walks.{IsSet, IsMarked, IsDerived, IsResolved}
 use Rattle.cdcl_learn.proofs.Lists.{no_member, Contains-map, member_first, member_later, member_cases, same_literal, some_is, put_cases, unset, set_inside}
@@ -47,7 +47,6 @@ derived_start look rows old new id c at f clear k = record {
 
 -- one resolution, with the clause that forced the literal of a marked place
 module _ (look : Lookup) (rows : List Row) (old cut new : List Bool) (hints : List ClauseId) (i : ℕ) (id : ClauseId) (c : List Literal) (history : IsHistory look rows) (within : i < length rows) (at : look id ≡ Some c) (has : Contains c (literal_at rows i)) (others : (m : Literal) → Contains c m → m ≢ literal_at rows i → IsFalseBefore rows i m) (marked : IsSet old i) (gone : IsSet cut i → ⊥) (kept : (p : ℕ) → p ≢ i → IsSet old p → IsSet cut p) (less : (p : ℕ) → IsSet cut p → IsSet old p) (k : IsMarked rows c cut new) where
-
   -- a literal of the clause other than the forced one is false before it
   not_forced : (p : ℕ) → p < length rows → Contains c (negated (literal_at rows p)) → negated (literal_at rows p) ≢ literal_at rows i
   not_forced p h m q = history.apart i p within h (sym q)

@@ -1,11 +1,11 @@
 -- What is true of the trail of a search.
-use Rattle.std.proofs.Common.{ℕ, ◌≡◌, ◌≢◌, ◌+◌, ◌-◌, ◌*◌, ◌/◌, ◌<◌, ◌≤◌, ◌⊎◌, zero, suc, Bool, true, false, List, [], Option, Some, None, length, take, cond, refl, sym, ap, ◌∙◌, inl, inr, arith}
+use Rattle.std.proofs.Common.{ℕ, ◌≡◌, ◌≢◌, ◌+◌, ◌-◌, ◌*◌, ◌/◌, ◌<◌, ◌≤◌, ◌⊎◌, Bool, true, false, List, [], Some, length, take, cond, refl, sym, ap, ◌∙◌, inl, inr, arith}
 use Rattle.std.specs.Prelude.{slice_get, Contains}
 use Rattle.std.proofs.Math.ListN.{get_or}
 use Rattle.std.proofs.lemmas.List.{get_or-take, length-take-le}
 use Rattle.std.proofs.lemmas.Option.{slice_get-get_or, get_or_from_slice_get, slice_get_within}
 use Rattle.std.proofs.lemmas.Bool.{cases_lt}
-use Rattle.cnf_base.specs.Literals.{Literal, code_of, literal_of, negated}
+use Rattle.cnf_base.specs.Literals.{Literal, code_of, negated}
 use Rattle.cnf_base.specs.declared.clause.ClauseId.{ClauseId}
 use Rattle.cnf_base.proofs.Codes.{code_of-literal_of, negated-negated}
 use Rattle.cdcl_core.specs.declared.trail.Trail.{Trail}
@@ -17,7 +17,7 @@ use Rattle.cdcl_core.specs.Levels.{Row, IsTrueBy, IsFalseBy, RestsBy}
 use Rattle.cdcl_core.specs.Search.{literals_of, level_of, clause_of, IsConflict}
 use Rattle.cdcl_core.specs.Stamps.{neg, is_set, Has, IsTrueAt, RestsAt, IsTrail}
 use Rattle.cdcl_core.specs.Watched.{kind_at, IsWatched, IsWatching, Kept}
-use Rattle.cdcl_core.specs.State.{no_row, all_codes, IsShown, IsSettled}
+use Rattle.cdcl_core.specs.State.{no_row, all_codes, IsSettled}
 use Rattle.cdcl_core.proofs.Counting.{neg_neg}
 use Rattle.cdcl_core.proofs.Steps.{entry_true, trail_len, rises, places_of, watching_mate}
 use Rattle.cdcl_core.proofs.Bridge.{literals_length, code_of-negated, rests_rows}
@@ -198,8 +198,8 @@ conflict_now w t id marks st above f marked low =
     let r : IsRefutedIn (clause_of w) rows id = refuted_of w t st id f in
     not_refuted rows (level_of t - 1) c (history_of w t st).apart (lower_rest w t st id c (level_of t - 1) f.1.0 (omega (arith, above)))
     (λ m h.
-        let p : (k : ℕ) × ((k < length (literals_of t)) × ((literal_at (literals_of t) k ≡ negated m) × (level_at (literals_of t) k ≤ level_of t))) = place_of_true rows (level_of t) (negated m) (f.1.1 m h) in
-        let back : negated (literal_at rows p.0) ≡ m = ap negated p.1.1.0 ∙ negated-negated m in
-        let in_clause : Contains c (negated (literal_at rows p.0)) = rw back h in
-        let under : level_at rows p.0 < level_of t = low p.0 p.1.0 (marked c f.1.0 p.0 p.1.0 in_clause) in
-        true_at_place rows (level_of t - 1) p.0 (negated m) p.1.0 p.1.1.0 (omega (arith, under)))
+    let p : (k : ℕ) × ((k < length (literals_of t)) × ((literal_at (literals_of t) k ≡ negated m) × (level_at (literals_of t) k ≤ level_of t))) = place_of_true rows (level_of t) (negated m) (f.1.1 m h) in
+    let back : negated (literal_at rows p.0) ≡ m = ap negated p.1.1.0 ∙ negated-negated m in
+    let in_clause : Contains c (negated (literal_at rows p.0)) = rw back h in
+    let under : level_at rows p.0 < level_of t = low p.0 p.1.0 (marked c f.1.0 p.0 p.1.0 in_clause) in
+    true_at_place rows (level_of t - 1) p.0 (negated m) p.1.0 p.1.1.0 (omega (arith, under)))

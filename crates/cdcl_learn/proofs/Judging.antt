@@ -1,7 +1,6 @@
 -- What is true of the clause that is left.
-use Rattle.std.proofs.Common.{ℕ, ◌≡◌, ◌≢◌, ◌+◌, ◌-◌, ◌<◌, ◌≤◌, ◌⊎◌, Bool, true, false, List, [], ◌∷◌, Option, Some, None, length, map, refl, sym, ap, ◌∙◌, inl, inr, arith}
+use Rattle.std.proofs.Common.{ℕ, ◌≡◌, ◌≢◌, ◌-◌, ◌<◌, ◌≤◌, ◌⊎◌, Bool, List, Some, length, map, sym, ap, ◌∙◌, inl, inr, arith}
 use Rattle.std.specs.Prelude.{Contains}
-use Rattle.std.proofs.Math.ListN.{get_or}
 use Rattle.std.proofs.lemmas.Bool.{cases_lt}
 use Rattle.std.proofs.lemmas.Bool.Decides.{eqb_tells}
 use Rattle.cnf_base.specs.Literals.{Literal, negated}
@@ -14,9 +13,9 @@ use Rattle.cdcl_core.specs.Levels.{Row, IsTrueBy, IsFalseBy, RestsBy}
 use Rattle.cdcl_core.specs.Search.{literals_of, level_of, clause_of}
 use Rattle.cdcl_core.specs.State.{IsSettled}
 use Rattle.cdcl_learn.specs.Rows.{literal_at, level_at, AreRising, IsHistory}
-use Rattle.cdcl_learn.specs.Puts.{StandsIn, IsGoodPut, IsUnitAfter}
+use Rattle.cdcl_learn.specs.Puts.{IsGoodPut, IsUnitAfter}
 use Rattle.cdcl_learn.specs.Walks.{IsSet, IsDerived, IsExplained, IsTop, IsUnique}
-use Rattle.cdcl_learn.proofs.Lists.{same_literal, set_inside}
+use Rattle.cdcl_learn.proofs.Lists.{same_literal}
 use Rattle.cdcl_learn.proofs.Facts.{place_of_true, true_at_place, history_of, rising_of, lower_rest}
 use Rattle.cdcl_learn.proofs.Derivations.{IsClauseOf, uses_held, clause_uses, clause_chain, no_pair}
 
@@ -37,7 +36,6 @@ abbrev pub IsLast : List Row → ℕ → ℕ → Type 0
 IsLast rows rest b = ((0 < rest) × (b ≡ level_at rows (rest - 1))) ⊎ ((rest ≡ 0) × (b ≡ 0))
 
 module _ (w : Watches) (t : Trail) (marks : List Bool) (place rest b : ℕ) (c : List Literal) (hints : List ClauseId) (st : IsSettled w t) (above : 0 < level_of t) (unique : IsUnique (literals_of t) marks (level_of t) place) (top : IsTop marks place rest) (last : IsLast (literals_of t) rest b) (derived : IsDerived (clause_of w) (literals_of t) marks hints) (clause : IsClauseOf (literals_of t) marks c) where
-
   history : IsHistory (clause_of w) (literals_of t)
   history = history_of w t st
 

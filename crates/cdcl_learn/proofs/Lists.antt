@@ -1,5 +1,5 @@
 -- Members of lists, literals and marks.
-use Rattle.std.proofs.Common.{ℕ, ◌≡◌, ◌≢◌, ◌+◌, ◌<◌, ◌≤◌, ◌⊎◌, ◌++◌, zero, suc, Bool, true, false, List, [], ◌∷◌, Option, Some, None, length, take, map, replicate, cond, eqb, refl, sym, ap, ◌∙◌, inl, inr, arith}
+use Rattle.std.proofs.Common.{ℕ, ◌≡◌, ◌≢◌, ◌+◌, ◌<◌, ◌≤◌, ◌⊎◌, zero, suc, Bool, true, false, List, [], ◌∷◌, Option, Some, length, take, map, replicate, refl, sym, ap, ◌∙◌, inl, inr, arith}
 use Rattle.std.specs.Prelude.{Contains, IsSome}
 use Rattle.std.proofs.Math.ListN.{get_or, set, get_or-map}
 use Rattle.std.proofs.lemmas.Bool.{cases_lt}

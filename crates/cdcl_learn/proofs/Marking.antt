@@ -1,5 +1,5 @@
 -- Places and marks, one write after the other.
-use Rattle.std.proofs.Common.{ℕ, ◌≡◌, ◌≢◌, ◌+◌, ◌-◌, ◌<◌, ◌≤◌, ◌⊎◌, ◌++◌, Bool, true, false, List, [], ◌∷◌, Option, Some, None, length, take, refl, sym, ap, ◌∙◌, inl, inr, arith}
+use Rattle.std.proofs.Common.{ℕ, ◌≡◌, ◌≢◌, ◌+◌, ◌-◌, ◌<◌, ◌≤◌, ◌++◌, Bool, true, List, [], ◌∷◌, length, take, refl, sym, ap, ◌∙◌, inl, inr, arith}
 use Rattle.std.specs.Prelude.{Contains}
 use Rattle.std.proofs.Math.ListN.{get_or, set, length-set}
 use Rattle.std.proofs.lemmas.Bool.{cases_lt}
@@ -12,7 +12,7 @@ use Rattle.cdcl_core.specs.Levels.{Row}
 use Rattle.cdcl_core.proofs.Counting.{set_cases}
 use Rattle.cdcl_learn.specs.Rows.{literal_at}
 use Rattle.cdcl_learn.specs.Walks.{IsSet, HasPlaces, IsMarked, IsResolved, IsExplained}
-use Rattle.cdcl_learn.proofs.Lists.{no_member, front_cases, put_cases, unset}
+use Rattle.cdcl_learn.proofs.Lists.{no_member, front_cases, put_cases}
 
 pub no_places : (rows : List Row) → HasPlaces [] rows 0
 no_places rows = record { each = λ i h. absurd (omega arith); only = λ x h. absurd (omega arith) }

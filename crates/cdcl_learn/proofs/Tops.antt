@@ -1,8 +1,6 @@
 -- The last marked places.
-use Rattle.std.proofs.Common.{ℕ, ◌≡◌, ◌≢◌, ◌+◌, ◌-◌, ◌<◌, ◌≤◌, ◌⊎◌, Bool, true, false, List, Option, Some, None, length, refl, sym, ap, ◌∙◌, inl, inr, arith}
-use Rattle.std.proofs.Math.ListN.{get_or}
+use Rattle.std.proofs.Common.{ℕ, ◌≡◌, ◌≢◌, ◌-◌, ◌<◌, ◌≤◌, Bool, List, None, length, inl, inr, arith}
 use Rattle.std.proofs.lemmas.Bool.{cases_lt}
-use Rattle.std.proofs.lemmas.Bool.Decides.{eqb_tells}
 use Rattle.cdcl_core.specs.Levels.{Row}
 use Rattle.cdcl_learn.specs.Rows.{level_at, reason_at, AreRising, AreDecidedFirst}
 use Rattle.cdcl_learn.specs.Walks.{IsSet, IsTop, IsResolved, IsUnique}

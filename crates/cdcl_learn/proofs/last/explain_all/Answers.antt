@@ -1,4 +1,4 @@
-use Rattle.std.proofs.Common.{◌≡◌, ◌<◌, length, reverse, refl, sym, ap, ◌∙◌, arith}
+use Rattle.std.proofs.Common.{◌≡◌, reverse, refl, ap, ◌∙◌}
 use Rattle.cnf_base.specs.Literals.{negated}
 use Rattle.cnf_base.proofs.Codes.{negated-negated}
 use Rattle.cdcl_core.specs.Search.{clause_of}

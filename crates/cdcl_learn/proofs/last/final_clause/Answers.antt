@@ -1,8 +1,7 @@
-use Rattle.std.proofs.Common.{◌≡◌, ap, sym}
 use Rattle.std.proofs.lemmas.Result.{IfOk-weaker}
 use Rattle.cdcl_core.specs.Search.{clause_of, literals_of, IsConflict}
-use Rattle.cdcl_learn.specs.Rows.{IsHistory, IsRefutedIn}
-use Rattle.cdcl_learn.specs.Puts.{IsClash, AreGiven, DecidesOnly}
+use Rattle.cdcl_learn.specs.Rows.{IsRefutedIn}
+use Rattle.cdcl_learn.specs.Puts.{DecidesOnly}
 use Rattle.cdcl_learn.proofs.Facts.{history_of, refuted_of}
 use Rattle.cdcl_learn.proofs.last.final_clause.Goals as goal
 

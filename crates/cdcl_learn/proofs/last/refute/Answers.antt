@@ -1,13 +1,13 @@
-use Rattle.std.proofs.Common.{◌≡◌, ◌<◌, ◌++◌, List, [], ◌∷◌, Some, None, length, take, get_or, sym, ap, ◌∙◌, arith}
+use Rattle.std.proofs.Common.{◌≡◌, ◌++◌, [], ◌∷◌, Some, None, take, ap, ◌∙◌}
 use Rattle.std.specs.Prelude.{Contains}
 use Rattle.std.proofs.lemmas.List.{get_or_default}
 use Rattle.std.proofs.lemmas.Result.{IfOk-weaker}
-use Rattle.cnf_base.specs.Literals.{Literal, negated}
+use Rattle.cnf_base.specs.Literals.{negated}
 use Rattle.cdcl_core.specs.Levels.{Row}
 use Rattle.cdcl_core.specs.State.{no_row}
-use Rattle.cdcl_core.specs.Search.{clause_of, literals_of}
+use Rattle.cdcl_core.specs.Search.{clause_of}
 use Rattle.cdcl_learn.specs.Rows.{literal_at, reason_at, IsHistory}
-use Rattle.cdcl_learn.specs.Puts.{DecidesOnly, IsAgainst}
+use Rattle.cdcl_learn.specs.Puts.{DecidesOnly}
 use Rattle.cdcl_learn.proofs.Facts.{history_of}
 use Rattle.cdcl_learn.proofs.Cutting.{cut_history, cut_refuted, cut_given, pair_chain, pair_against}
 use Rattle.cdcl_learn.proofs.last.refute.Goals as goal

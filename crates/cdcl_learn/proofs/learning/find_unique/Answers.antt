@@ -1,7 +1,5 @@
-use Rattle.std.proofs.Common.{◌≡◌, ◌-◌, ◌<◌, ◌≤◌, ◌∙◌, length, get_or, arith, ap, sym}
-use Rattle.cdcl_learn.specs.Walks.{IsTop}
-use Rattle.cdcl_learn.specs.Rows.{level_at}
-use Rattle.cdcl_learn.proofs.Tops.{IsInLevel, level_starts, not_decided, level_goes_on, level_ends}
+use Rattle.std.proofs.Common.{arith}
+use Rattle.cdcl_learn.proofs.Tops.{IsInLevel, level_starts, level_goes_on, level_ends}
 use Rattle.cdcl_learn.proofs.learning.find_unique.Goals as goal
 
 pub level-init : goal.level-init

@@ -1,12 +1,11 @@
-use Rattle.std.proofs.Common.{◌≡◌, ◌-◌, ◌<◌, ◌≤◌, length, reverse, sym, ap, ◌∙◌, inl, inr, arith}
+use Rattle.std.proofs.Common.{◌-◌, ◌<◌, length, reverse, ap, ◌∙◌, inl, inr, arith}
 use Rattle.std.proofs.lemmas.List.{get_or_default}
 use Rattle.cdcl_core.specs.Levels.{Row}
 use Rattle.cdcl_core.specs.State.{no_row}
-use Rattle.cdcl_core.specs.Search.{literals_of, level_of, clause_of}
-use Rattle.cdcl_learn.proofs.Derivations.{IsClauseOf}
+use Rattle.cdcl_core.specs.Search.{literals_of, clause_of}
 use Rattle.cdcl_learn.proofs.Facts.{history_of, rising_of, refuted_of, conflict_now}
 use Rattle.cdcl_learn.proofs.Judging.{IsLast, IsJudged, judged}
-use Rattle.cdcl_learn.specs.Rows.{IsHistory, IsRefutedIn, AreRising}
+use Rattle.cdcl_learn.specs.Rows.{IsRefutedIn}
 use Rattle.cdcl_learn.proofs.learning.learn.Goals as goal
 use Rattle.cdcl_learn.proofs.learning.learn.Goals.{then-rest-eq0, else-rest-eq0}
 

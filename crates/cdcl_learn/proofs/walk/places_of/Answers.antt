@@ -1,9 +1,8 @@
-use Rattle.std.proofs.Common.{◌≡◌, ◌≢◌, ◌<◌, ℕ, sym, ap, ◌∙◌, length, get_or, arith}
+use Rattle.std.proofs.Common.{sym, ap, ◌∙◌, arith}
 use Rattle.std.proofs.lemmas.List.{get_or_default}
 use Rattle.cnf_base.specs.Literals.{code_of}
 use Rattle.cdcl_core.specs.Levels.{Row}
 use Rattle.cdcl_core.specs.State.{no_row}
-use Rattle.cdcl_learn.specs.Rows.{literal_at}
 use Rattle.cdcl_learn.proofs.Marking.{more_places}
 use Rattle.cdcl_learn.proofs.walk.places_of.Goals as goal
 

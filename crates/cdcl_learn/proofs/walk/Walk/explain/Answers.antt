@@ -1,6 +1,5 @@
-use Rattle.std.proofs.Common.{◌≡◌, ◌-◌, ◌+◌, ◌<◌, ◌≤◌, inl, inr, arith}
+use Rattle.std.proofs.Common.{◌-◌, inl, inr, arith}
 use Rattle.std.proofs.lemmas.Bool.Decides.{eqb_tells}
-use Rattle.cdcl_learn.specs.Walks.{IsSet}
 use Rattle.cdcl_learn.proofs.Marking.{explained_more}
 use Rattle.cdcl_learn.proofs.walk.Walk.explain.Goals as goal
 

@@ -1,4 +1,4 @@
-use Rattle.std.proofs.Common.{◌≡◌, ◌<◌, ◌++◌, List, [], ◌∷◌, Some, None, false, sym, ap, ◌∙◌, length, get_or, reverse, arith}
+use Rattle.std.proofs.Common.{◌≡◌, Some, false, sym, ap, ◌∙◌, length, reverse}
 use Rattle.std.proofs.Math.ListN.{set, length-set}
 use Rattle.std.proofs.lemmas.List.{get_or_default}
 use Rattle.cdcl_core.specs.Levels.{Row}

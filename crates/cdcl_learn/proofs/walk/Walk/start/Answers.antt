@@ -1,10 +1,10 @@
-use Rattle.std.proofs.Common.{ℕ, ◌≡◌, ◌<◌, ◌++◌, List, [], ◌∷◌, Some, None, false, true, sym, ap, ◌∙◌, length, get_or, replicate, reverse, arith}
+use Rattle.std.proofs.Common.{ℕ, ◌≡◌, ◌++◌, List, [], ◌∷◌, false, sym, ap, ◌∙◌, length, reverse}
 use Rattle.std.specs.Prelude.{Contains}
-use Rattle.std.proofs.lemmas.List.{length-replicate, reverse-append}
+use Rattle.std.proofs.lemmas.List.{length-replicate}
 use Rattle.cnf_base.specs.Literals.{Literal}
 use Rattle.cdcl_core.specs.Search.{clause_of}
 use Rattle.cdcl_learn.specs.Rows.{IsFalseBefore}
-use Rattle.cdcl_learn.specs.Walks.{IsSet, IsMarked, IsDerived}
+use Rattle.cdcl_learn.specs.Walks.{IsSet, IsMarked}
 use Rattle.cdcl_learn.proofs.Lists.{unset_all}
 use Rattle.cdcl_learn.proofs.Derivations.{derived_start, inside}
 use Rattle.cdcl_learn.proofs.walk.Walk.start.Goals as goal
