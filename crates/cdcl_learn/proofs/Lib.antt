@@ -5,3 +5,4 @@ pub mod Marking
 pub mod Tops
 pub mod Judging
 pub mod Cutting
+pub mod Orders
