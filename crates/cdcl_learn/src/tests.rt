@@ -37,7 +37,8 @@ fn hold(
     if watches.clause(id).is_some() || trail.level() != 0 {
         return Ok(());
     }
-    watches.add(trail, id, clause)
+    watches.add(trail, id, clause)?;
+    Ok(())
 }
 
 // Decides the literal after propagation; the name of a false clause, or None.
