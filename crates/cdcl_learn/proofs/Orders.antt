@@ -1,12 +1,11 @@
 -- For searches that carry `AreDecidedFirst` from call to call, and that add a learnt clause after they went back.
-use Rattle.std.proofs.Common.{ℕ, ◌≡◌, ◌≢◌, ◌+◌, ◌-◌, ◌<◌, ◌≤◌, ◌⊎◌, ◌++◌, zero, suc, Bool, true, false, List, [], ◌∷◌, Option, Some, None, length, filter, refl, sym, ap, ◌∙◌, inl, inr, arith}
-use Rattle.std.specs.Prelude.{slice_get, nat_le, Contains, All, IsSome}
-use Rattle.std.proofs.Math.ListN.{get_or}
+use Rattle.std.proofs.Common.{ℕ, ◌≡◌, ◌+◌, ◌-◌, ◌<◌, ◌≤◌, ◌++◌, zero, suc, Bool, true, false, List, [], ◌∷◌, Option, Some, None, length, filter, refl, sym, ap, ◌∙◌, inl, inr, arith}
+use Rattle.std.specs.Prelude.{slice_get, nat_le, IsSome}
 use Rattle.std.proofs.lemmas.Bool.{cases_lt, le-leb}
 use Rattle.std.proofs.lemmas.List.{get_or_append_left, get_or-append_right, get_or_push, length_push, length-append}
 use Rattle.cnf_base.specs.Literals.{Literal, negated}
 use Rattle.cnf_base.specs.declared.clause.ClauseId.{ClauseId}
-use Rattle.cdcl_core.specs.Levels.{Row, IsTrueBy, IsFalseBy, RestsBy, IsExtended, IsAdded}
+use Rattle.cdcl_core.specs.Levels.{Row, IsTrueBy, RestsBy, IsExtended, IsAdded}
 use Rattle.cdcl_core.specs.State.{no_row}
 use Rattle.cdcl_learn.specs.Rows.{row_at, level_at, reason_at, AreDecidedFirst}
 use Rattle.cdcl_learn.proofs.Lists.{unset}
