@@ -1,0 +1,100 @@
+//! The clause that ends a search.
+
+ghost use Rattle.std.specs.Prelude.{ℕ, ◌≡◌, ◌<◌, List, None, IfOk, Contains, length};
+ghost use Rattle.cnf_base.specs.Literals.{Literal, negated};
+ghost use Rattle.hint_chain.specs.Chains.{IsChain};
+ghost use Rattle.cdcl_core.specs.Levels.{IsFalseBy};
+ghost use Rattle.cdcl_core.specs.Search.{literals_of, level_of, clause_of};
+ghost use Rattle.cdcl_core.specs.State.{IsSettled};
+ghost use Rattle.cdcl_learn.specs.Rows.{literal_at, reason_at, IsHistory, IsRefutedIn, IsFalseBefore};
+ghost use Rattle.cdcl_learn.specs.Puts.{IsClash, AreGiven, IsAgainst, DecidesOnly};
+
+use crate::walk::{Row, Walk};
+use cdcl_core::{Trail, Watches};
+use cnf_base::{Clause, ClauseId, Lit};
+use std::alloc::{AllocError, Global};
+
+/// Why a search ends.
+#[derive(Clone, Copy)]
+pub enum Clash {
+    /// A held clause is false.
+    Held(ClauseId),
+    /// A given literal is false before it is decided.
+    Given(Lit),
+}
+
+/// A clause with its hints that has only opposites of given literals, where no other literal was decided.
+pub fn final_clause(
+    alloc: Global,
+    watches: &Watches,
+    trail: &Trail,
+    conflict: Clash,
+) -> Result<(Clause, Vec<ClauseId>), AllocError>
+    requires settled { IsSettled watches.now trail.now }
+    requires clash { IsClash watches.now trail.now conflict }
+    ensures chain { IfOk result (λ r. IsChain (clause_of watches.now) r.0 r.1.items) }
+    ensures against { IfOk result (λ r. (given : List Literal) → AreGiven given (literals_of trail.now) conflict → IsAgainst given r.0) }
+{
+    match conflict {
+        Clash::Held(id) => explain_all(alloc, watches, trail.literals(), id),
+        Clash::Given(l) => refute(alloc, watches, trail, l),
+    }
+}
+
+// The clause of the opposites of decided literals that a false clause rests on.
+fn explain_all(
+    alloc: Global,
+    watches: &Watches,
+    rows: &[Row],
+    conflict: ClauseId,
+) -> Result<(Clause, Vec<ClauseId>), AllocError>
+    requires history { IsHistory (clause_of watches.now) rows.now }
+    requires conflict { IsRefutedIn (clause_of watches.now) rows.now conflict }
+    ensures chain { IfOk result (λ r. IsChain (clause_of watches.now) r.0 r.1.items) }
+    ensures against { IfOk result (λ r. (given : List Literal) → DecidesOnly given rows.now → IsAgainst given r.0) }
+{
+    let mut walk = Walk::start(alloc, watches, rows, conflict)?;
+    walk.explain(watches, rows, rows.len(), true)?;
+    let clause = walk.clause(alloc, rows)?;
+    Ok((clause, walk.into_hints()))
+}
+
+// The place of the opposite of a false literal.
+fn place_of(rows: &[Row], l: Lit) -> usize
+    requires { IsFalseBefore rows.now (length rows.now) l }
+    ensures within { result < length rows.now }
+    ensures opposite { literal_at rows.now result ≡ negated l }
+{
+    let mut place = 0;
+    'places: while place + 1 < rows.len() {
+        if rows[place].0 == l.negated() {
+            break;
+        }
+        place += 1;
+    }
+    place
+}
+
+// The clause of the opposites of given literals that refute a given one.
+fn refute(
+    alloc: Global,
+    watches: &Watches,
+    trail: &Trail,
+    l: Lit,
+) -> Result<(Clause, Vec<ClauseId>), AllocError>
+    requires settled { IsSettled watches.now trail.now }
+    requires refuted { IsFalseBy (literals_of trail.now) (level_of trail.now) l }
+    ensures chain { IfOk result (λ r. IsChain (clause_of watches.now) r.0 r.1.items) }
+    ensures against { IfOk result (λ r. (given : List Literal) → DecidesOnly given (literals_of trail.now) → Contains given l → IsAgainst given r.0) }
+{
+    let rows = trail.literals();
+    let place = place_of(rows, l);
+    match rows[place].2 {
+        None => Ok((Clause::of_two(alloc, l, l.negated())?, Vec::new(alloc))),
+        Some(id) => {
+            let mut before: Vec<Row> = Vec::from_slice(alloc, &rows[..place])?;
+            before.push((l, trail.level(), None))?;
+            explain_all(alloc, watches, before.as_slice(), id)
+        }
+    }
+}
