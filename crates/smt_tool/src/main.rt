@@ -6,13 +6,14 @@
 #![tactic(auto)]
 
 mod answering;
-mod plan;
+mod command_line;
 mod reading;
-mod run;
+mod running;
 mod status;
+mod words;
 
-use plan::plan;
-use run::run;
+use command_line::plan;
+use running::run;
 use smt_desk::files::{FileSink, FileSource, StandardInput, StandardOutput};
 use status::Status;
 use std::env;

@@ -6,7 +6,7 @@ ghost use Rattle.smt_tool.specs.Words.{AreTaken};
 ghost use Rattle.smt_tool.specs.Runs.{AddsTo, BeginsWith, ReadsBytes, ReadsWithin, IsLater, HasCause, StopsWriting, counts, input_limit, header};
 
 use crate::answering::end_status;
-use crate::plan::plan;
+use crate::command_line::plan;
 use crate::reading::answer_script;
 use crate::status::Status;
 use smt_desk::stream::{Sink, Source, write_whole};

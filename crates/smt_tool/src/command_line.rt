@@ -1,21 +1,10 @@
-// What the program's words ask for.
+// The words that the program takes.
 
 ghost use Rattle.std.specs.Prelude.{◌≡◌, ◌↔◌, Some, IsTrue, MatchResult, map, slice_get};
 ghost use Rattle.smt_tool.specs.Words.{IsSolve, AreTaken};
 
+use crate::words::{Plan, Usage};
 use smt_session::settings::Settings;
-
-/// To answer the script of standard input, and to write its proof into a file.
-#[derive(Clone, Copy, Debug)]
-pub struct Plan<'a> {
-    /// The name of the proof file.
-    pub proof: &'a str,
-    pub settings: Settings,
-}
-
-/// The words are not taken.
-#[derive(Clone, Copy, Debug, PartialEq, Eq)]
-pub struct Usage;
 
 fn begins_with_dash(word: &str) -> bool
     ensures { IsTrue result ↔ (slice_get word.now 0 ≡ Some 45) }
