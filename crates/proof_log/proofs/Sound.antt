@@ -1,0 +1,330 @@
+-- Each step keeps the meaning of a log: its clauses are true, bits are those of values, selectors mean their terms.
+use Rattle.std.proofs.Common.{◌≡◌, ℕ, zero, suc, ◌+◌, ◌*◌, ◌%◌, ◌^◌, ◌<◌, ◌≤◌, Bool, true, false, not, ◌||◌, ◌&&◌, List, [], ◌∷◌, ◌++◌, length, map, Option, Some, None, Ok, refl, sym, ap, ◌∙◌, subst, inl, inr, ⊎_elim, arith}
+use Rattle.std.specs.Prelude.{◌==◌, ◌⊎◌, slice_get, if◌then◌else◌}
+use Rattle.std.specs.List.{AllByRecursion}
+use Rattle.std.proofs.lemmas.Bool.{eqb-true, and_parts}
+use Rattle.cnf_base.specs.Literals.{Literal, positive_of, negative_of}
+use Rattle.cnf_base.specs.Clauses.{lit_true, clause_true, all_true, bit, number}
+use Rattle.cnf_base.specs.Gates.{gates_clauses, HaveMeaning}
+use Rattle.cnf_base.specs.declared.gate.GateKind.{GateKind}
+use Rattle.cnf_base.specs.Assignments.{AgreeBelow, AreBelow, ClausesBelow, fresh_bits, with_variable, with_number, with_gates}
+use Rattle.cnf_base.specs.declared.clause.ClauseId.{ClauseId}
+use Rattle.cnf_base.proofs.Agreeing.{same_lit_true, same_clause_true, same_number, AreBelow-more, AreBelow-fresh_bits}
+use Rattle.cnf_base.proofs.Extending.{with_variable-here, with_variable-agrees, with_number-agrees, number-with_number, with_gates-agrees, with_gates-mean, gates_clauses-below}
+use Rattle.cnf_base.proofs.Meaning.{gates_mean}
+use Rattle.cnf_base.proofs.Rows.{length-fresh_bits}
+use Rattle.smt_terms.specs.declared.sort.Sort.{Sort}
+use Rattle.smt_terms.specs.declared.sort.Sort.TheVariants as sort
+use Rattle.smt_terms.specs.declared.node.Op.{Op}
+use Rattle.smt_terms.specs.declared.node.Op.TheVariants.{Plain, Word, Extract, ZeroExtend, SignExtend, RotateLeft, RotateRight, Repeat, Constant, Apply, Param}
+use Rattle.smt_terms.specs.declared.node.Node.{Node}
+use Rattle.smt_terms.specs.Nodes.{node_at}
+use Rattle.smt_terms.specs.Terms.{IsTerm, IsTermList, op_rank, sort_of}
+use Rattle.smt_terms.specs.Values.{Value, VBool, VWord, VArray, HasSort, Interpretation, is_true, op_value, value}
+use Rattle.smt_terms.proofs.Typing.{value_is, typed}
+use Rattle.bit_blast.specs.Blocks.{Block, with_first, all_bits, block_over, block_of, built, circuit_of}
+use Rattle.bit_blast.specs.Meanings.{AreBitsOf, EachIsBits}
+use Rattle.bit_blast.proofs.Correct.{word_sort_is}
+use Rattle.bit_blast.proofs.Table.{op_correct}
+use Rattle.bit_blast.proofs.Ordered.{op_ordered}
+use Rattle.hint_chain.proofs.Sound.{IsChain-follows}
+use Rattle.proof_log.specs.declared.entry.Entry.{Entry}
+use Rattle.proof_log.specs.declared.entry.Entry.TheVariants as step
+use Rattle.proof_log.specs.Logs.{Asserted, LogState, start, clause_at, with_value, with_row, plain_width, constant_width, IsStep, leaf_after, block_after, selector_clause, selector_after, after, state_from, state_of, AreSteps, IsLog}
+use Rattle.proof_log.specs.Meanings.{bits_number, leaf_mean, block_mean, mean_after, mean_from, meaning}
+use Rattle.proof_log.proofs.Growing.{each_append, each_get, clause_each}
+
+-- ---- what agrees below a variable
+
+pub same_bits : (n : ℕ) (f g : ℕ → Bool) → AgreeBelow n f g → (s : Sort) (b : List Literal) (v : Value) → AreBelow n b → AreBitsOf f s b v → AreBitsOf g s b v
+same_bits n f g a sort.Bool b v h i =
+    let held = subst (AreBelow n) i.1 h in
+    (i.0, i.1, i.2 ∙ ap VBool (sym (same_lit_true n f g a i.0 held.0)))
+same_bits n f g a (sort.Word m) b v h i = (i.0, i.1 ∙ ap (VWord m) (sym (same_number n f g a b h)))
+same_bits n f g a (sort.Array m k) b v h i = i
+
+-- a clause that is true, and of variables that there are
+abbrev pub IsTrueBelow : ℕ → (ℕ → Bool) → List Literal → Type 0
+IsTrueBelow n f c = (clause_true f c ≡ true) × AreBelow n c
+
+abbrev pub AreTrueBelow : ℕ → (ℕ → Bool) → List (List Literal) → Type 0
+AreTrueBelow n f = AllByRecursion (IsTrueBelow n f)
+
+row_keeps : (n m : ℕ) (f g : ℕ → Bool) → AgreeBelow n f g → n ≤ m → (cs : List (List Literal)) → AreTrueBelow n f cs → AreTrueBelow m g cs
+row_keeps n m f g a le [] h = tt
+row_keeps n m f g a le (c ∷ cs) h =
+    ((same_clause_true n f g a c h.0.1 ∙ h.0.0, AreBelow-more n m le c h.0.1), row_keeps n m f g a le cs h.1)
+
+rows_keep : (n m : ℕ) (f g : ℕ → Bool) → AgreeBelow n f g → n ≤ m → (rows : List (List (List Literal))) → AllByRecursion (AreTrueBelow n f) rows → AllByRecursion (AreTrueBelow m g) rows
+rows_keep n m f g a le [] h = tt
+rows_keep n m f g a le (row ∷ rows) h = (row_keeps n m f g a le row h.0, rows_keep n m f g a le rows h.1)
+
+row_of_both : (n : ℕ) (f : ℕ → Bool) (cs : List (List Literal)) → all_true f cs ≡ true → ClausesBelow n cs → AreTrueBelow n f cs
+row_of_both n f [] t h = tt
+row_of_both n f (c ∷ cs) t h =
+    let p = and_parts (clause_true f c) (all_true f cs) t in
+    ((p.0, h.0), row_of_both n f cs p.1 h.1)
+
+-- ---- partial functions with one value more
+
+pub with_value_cases : {A : Type 0} (h : ℕ → Option A) (x : ℕ) (a : A) (y : ℕ) (b : A) → with_value h x a y ≡ Some b → ((y ≡ x) × (a ≡ b)) ⊎ (h y ≡ Some b)
+with_value_cases {A} h x a y b e = go (y == x) refl
+  where
+    go : (c : Bool) → (y == x) ≡ c → ((y ≡ x) × (a ≡ b)) ⊎ (h y ≡ Some b)
+    go true q =
+        let p : Some a ≡ Some b = subst (λ c. (if c then Some a else h y) ≡ Some b) q e in
+        let r : a ≡ b = cc in
+        inl (eqb-true y x q, r)
+    go false q = inr (subst (λ c. (if c then Some a else h y) ≡ Some b) q e)
+
+-- ---- the meaning suits the log
+
+-- the bits of each term are of variables that there are, and those of its value
+abbrev pub Known : ℕ → (ℕ → Bool) → (ℕ → Option (List Literal)) → (ℕ → Sort) → (ℕ → Value) → Type 0
+Known n f bits sorts values = (t : ℕ) (b : List Literal) → bits t ≡ Some b → AreBelow n b × AreBitsOf f (sorts t) b (values t)
+
+abbrev pub Selecting : ℕ → (ℕ → Bool) → (ℕ → Option Asserted) → (ℕ → Value) → Type 0
+Selecting n f selectors values = (a : ℕ) (r : Asserted) → selectors a ≡ Some r → (r.literal.variable < n) × (lit_true f r.literal ≡ is_true (values r.term))
+
+pub record Suits (M : Interpretation) (nodes : List Node) (s : LogState) (f : ℕ → Bool) : Type 0 where
+  pub one : f 1 ≡ true
+  pub next : 1 < s.next
+  pub clauses : AllByRecursion (AreTrueBelow s.next f) s.clauses
+  pub terms : (t : ℕ) (b : List Literal) → s.bits t ≡ Some b → t < length nodes
+  pub bits : Known s.next f s.bits (sort_of nodes) (value M nodes)
+  pub selectors : Selecting s.next f s.selectors (value M nodes)
+
+known_keeps : (n m : ℕ) (f g : ℕ → Bool) → AgreeBelow n f g → n ≤ m → (bits : ℕ → Option (List Literal)) (sorts : ℕ → Sort) (values : ℕ → Value) → Known n f bits sorts values → Known m g bits sorts values
+known_keeps n m f g a le bits sorts values h t b e =
+    let k = h t b e in (AreBelow-more n m le b k.0, same_bits n f g a (sorts t) b (values t) k.0 k.1)
+
+known_more : (m : ℕ) (g : ℕ → Bool) (bits : ℕ → Option (List Literal)) (sorts : ℕ → Sort) (values : ℕ → Value) (t : ℕ) (new : List Literal) → Known m g bits sorts values → AreBelow m new → AreBitsOf g (sorts t) new (values t) → Known m g (with_value bits t new) sorts values
+known_more m g bits sorts values t new h held is u b e =
+    ⊎_elim
+    (λ p. subst (λ w. AreBelow m b × AreBitsOf g (sorts w) b (values w)) (sym p.0) (subst (λ c. AreBelow m c × AreBitsOf g (sorts t) c (values t)) p.1 (held, is)))
+    (λ p. h u b p)
+    (with_value_cases bits t new u b e)
+
+terms_more : (nodes : List Node) (bits : ℕ → Option (List Literal)) (t : ℕ) (new : List Literal) → ((u : ℕ) (b : List Literal) → bits u ≡ Some b → u < length nodes) → t < length nodes → (u : ℕ) (b : List Literal) → with_value bits t new u ≡ Some b → u < length nodes
+terms_more nodes bits t new h within u b e =
+    ⊎_elim (λ p. subst (λ w. w < length nodes) (sym p.0) within) (λ p. h u b p) (with_value_cases bits t new u b e)
+
+selecting_keeps : (n m : ℕ) (f g : ℕ → Bool) → AgreeBelow n f g → n ≤ m → (selectors : ℕ → Option Asserted) (values : ℕ → Value) → Selecting n f selectors values → Selecting m g selectors values
+selecting_keeps n m f g a le selectors values h x r e =
+    let k = h x r e in (omega (arith, k.0), same_lit_true n f g a r.literal k.0 ∙ k.1)
+
+selecting_more : (m : ℕ) (g : ℕ → Bool) (selectors : ℕ → Option Asserted) (values : ℕ → Value) (x : ℕ) (new : Asserted) → Selecting m g selectors values → new.literal.variable < m → lit_true g new.literal ≡ is_true (values new.term) → Selecting m g (with_value selectors x new) values
+selecting_more m g selectors values x new h below means y r e =
+    ⊎_elim
+    (λ p. subst (λ q. (q.literal.variable < m) × (lit_true g q.literal ≡ is_true (values q.term))) p.1 (below, means))
+    (λ p. h y r p)
+    (with_value_cases selectors x new y r e)
+
+-- one position more whose clauses are true
+row_suits : (M : Interpretation) (nodes : List Node) (s : LogState) (f : ℕ → Bool) (row : List (List Literal)) → Suits M nodes s f → AreTrueBelow s.next f row → Suits M nodes (with_row s row) f
+row_suits M nodes s f row h k = record {
+  one = h.one;
+  next = h.next;
+  clauses = each_append (AreTrueBelow s.next f) s.clauses (row ∷ []) h.clauses (k, tt);
+  terms = h.terms;
+  bits = h.bits;
+  selectors = h.selectors;
+}
+
+-- ---- leaves
+
+bit_same : (b c : Bool) → bit b ≡ bit c → b ≡ c
+bit_same true true e = refl
+bit_same true false e = absurd (omega arith)
+bit_same false true e = absurd (omega arith)
+bit_same false false e = refl
+
+truth_bits : (g : ℕ → Bool) (l : Literal) (b : Bool) → number g (l ∷ []) ≡ bit b → VBool b ≡ VBool (lit_true g l)
+truth_bits g l b e = let q : bit b ≡ bit (lit_true g l) = omega (arith, e) in ap VBool (bit_same b (lit_true g l) q)
+
+bit_small : (b : Bool) → bit b < 2 ^ 1
+bit_small true = omega arith
+bit_small false = omega arith
+
+-- new variables are the bits of a value, as many as its sort has
+fresh_means : (f : ℕ → Bool) (g n : ℕ) (s : Sort) (v : Value) → plain_width s ≡ Some n → HasSort s v → AreBitsOf (with_number f g n (bits_number v)) s (fresh_bits g n) v
+fresh_means f g n sort.Bool v e h =
+    let q : 1 ≡ n = cc in
+    let one = number-with_number 1 f g (bit h.0) (bit_small h.0) in
+    let is : AreBitsOf (with_number f g 1 (bit h.0)) sort.Bool (fresh_bits g 1) (VBool h.0) = (positive_of g, refl, truth_bits (with_number f g 1 (bit h.0)) (positive_of g) h.0 one) in
+    subst (λ k. AreBitsOf (with_number f g k (bits_number v)) sort.Bool (fresh_bits g k) v) q
+    (subst (λ w. AreBitsOf (with_number f g 1 (bits_number w)) sort.Bool (fresh_bits g 1) w) (sym h.1) is)
+fresh_means f g n (sort.Word m) v e h =
+    let q : m ≡ n = cc in
+    let is : AreBitsOf (with_number f g m h.0) (sort.Word m) (fresh_bits g m) (VWord m h.0) = (length-fresh_bits m g, ap (VWord m) (sym (number-with_number m f g h.0 h.2))) in
+    subst (λ k. AreBitsOf (with_number f g k (bits_number v)) (sort.Word m) (fresh_bits g k) v) q
+    (subst (λ w. AreBitsOf (with_number f g m (bits_number w)) (sort.Word m) (fresh_bits g m) w) (sym h.1) is)
+fresh_means f g n (sort.Array m k) v e h = let q : ⊥ = cc in absurd q
+
+-- a declared constant has its own sort
+given_sort : (d : ℕ) (t s : Sort) (n : ℕ) → op_rank (Constant d t) [] ≡ Ok s → plain_width t ≡ Some n → s ≡ t
+given_sort d sort.Bool s n e w = let q : sort.Bool ≡ s = cc in sym q
+given_sort d (sort.Word m) s n e w = word_sort_is m s e
+given_sort d (sort.Array m k) s n e w = let q : ⊥ = cc in absurd q
+
+no_argument : (d : ℕ) (t s : Sort) (ss : List Sort) → op_rank (Constant d t) ss ≡ Ok s → ss ≡ []
+no_argument d t s [] e = refl
+no_argument d t s (x ∷ ss) e = let q : ⊥ = cc in absurd q
+
+leaf_sort : (op : Op) (ss : List Sort) (s : Sort) (n : ℕ) → op_rank op ss ≡ Ok s → constant_width op ≡ Some n → plain_width s ≡ Some n
+leaf_sort (Constant d t) ss s n e w =
+    let none = no_argument d t s ss e in
+    let own = given_sort d t s n (subst (λ xs. op_rank (Constant d t) xs ≡ Ok s) none e) w in
+    subst (λ u. plain_width u ≡ Some n) (sym own) w
+leaf_sort (Plain o) ss s n e w = let q : ⊥ = cc in absurd q
+leaf_sort (Word m x) ss s n e w = let q : ⊥ = cc in absurd q
+leaf_sort (Extract i j) ss s n e w = let q : ⊥ = cc in absurd q
+leaf_sort (ZeroExtend i) ss s n e w = let q : ⊥ = cc in absurd q
+leaf_sort (SignExtend i) ss s n e w = let q : ⊥ = cc in absurd q
+leaf_sort (RotateLeft i) ss s n e w = let q : ⊥ = cc in absurd q
+leaf_sort (RotateRight i) ss s n e w = let q : ⊥ = cc in absurd q
+leaf_sort (Repeat i) ss s n e w = let q : ⊥ = cc in absurd q
+leaf_sort (Apply d t) ss s n e w = let q : ⊥ = cc in absurd q
+leaf_sort (Param k t) ss s n e w = let q : ⊥ = cc in absurd q
+
+module _ (M : Interpretation) (nodes : List Node) (all : IsTermList nodes) where
+  leaf_suits : (s : LogState) (f : ℕ → Bool) (t n : ℕ) → Suits M nodes s f → t < length nodes → plain_width (sort_of nodes t) ≡ Some n → Suits M nodes (leaf_after s t (Some n)) (with_number f s.next n (bits_number (value M nodes t)))
+  leaf_suits s f t n h within w =
+      let x = bits_number (value M nodes t) in
+      let g = with_number f s.next n x in
+      let a : AgreeBelow s.next f (with_number f s.next n x) = with_number-agrees n f s.next x in
+      let le : s.next ≤ s.next + n = omega arith in
+      let is = fresh_means f s.next n (sort_of nodes t) (value M nodes t) w (typed M nodes all t within) in
+      record {
+        one = a 1 h.next ∙ h.one;
+        next = omega (arith, h.next);
+        clauses = each_append (AreTrueBelow (s.next + n) g) s.clauses ([] ∷ []) (rows_keep s.next (s.next + n) f g a le s.clauses h.clauses) (tt, tt);
+        terms = terms_more nodes s.bits t (fresh_bits s.next n) h.terms within;
+        bits =
+            known_more (s.next + n) g s.bits (sort_of nodes) (value M nodes) t (fresh_bits s.next n)
+            (known_keeps s.next (s.next + n) f g a le s.bits (sort_of nodes) (value M nodes) h.bits)
+            (AreBelow-fresh_bits n s.next) is;
+        selectors = selecting_keeps s.next (s.next + n) f g a le s.selectors (value M nodes) h.selectors;
+      }
+
+  -- ---- circuits
+
+  each_bits : (n : ℕ) (f : ℕ → Bool) (bits : ℕ → Option (List Literal)) → Known n f bits (sort_of nodes) (value M nodes) → (args : List ℕ) (rows : List (List Literal)) → all_bits bits args ≡ Some rows
+      → AllByRecursion (AreBelow n) rows × EachIsBits f (map (sort_of nodes) args) rows (map (value M nodes) args)
+  each_bits n f bits h [] rows e =
+      let q : [] ≡ rows = cc in
+      subst (λ r. AllByRecursion (AreBelow n) r × EachIsBits f [] r []) q (tt, tt)
+  each_bits n f bits h (t ∷ ts) rows e = go (bits t) (all_bits bits ts) refl refl e
+    where
+      go : (o : Option (List Literal)) (os : Option (List (List Literal))) → bits t ≡ o → all_bits bits ts ≡ os → with_first o os ≡ Some rows
+          → AllByRecursion (AreBelow n) rows × EachIsBits f (sort_of nodes t ∷ map (sort_of nodes) ts) rows (value M nodes t ∷ map (value M nodes) ts)
+      go None os p q e = let r : ⊥ = cc in absurd r
+      go (Some b) None p q e = let r : ⊥ = cc in absurd r
+      go (Some b) (Some bs) p q e =
+          let r : b ∷ bs ≡ rows = cc in
+          let k = h t b p in
+          let ks = each_bits n f bits h ts bs q in
+          subst (λ w. AllByRecursion (AreBelow n) w × EachIsBits f (sort_of nodes t ∷ map (sort_of nodes) ts) w (value M nodes t ∷ map (value M nodes) ts)) r
+          ((k.0, ks.0), (k.1, ks.1))
+
+  known_rows : (s : LogState) (n : Node) (b : Block) → block_of s.next s.bits n ≡ Some b → (rows : List (List Literal)) × (all_bits s.bits n.args ≡ Some rows) × (built (circuit_of n.op) s.next rows ≡ Some b)
+  known_rows s n b e = go (all_bits s.bits n.args) refl e
+    where
+      go : (o : Option (List (List Literal))) → all_bits s.bits n.args ≡ o → block_over n.op s.next o ≡ Some b → (rows : List (List Literal)) × (all_bits s.bits n.args ≡ Some rows) × (built (circuit_of n.op) s.next rows ≡ Some b)
+      go None p e = let r : ⊥ = cc in absurd r
+      go (Some rows) p e = (rows, p, e)
+
+  block_suits : (s : LogState) (f : ℕ → Bool) (t : ℕ) (b : Block) → Suits M nodes s f → t < length nodes → block_of s.next s.bits (node_at nodes t) ≡ Some b → Suits M nodes (block_after s t (Some b)) (with_gates f s.next b.gates)
+  block_suits s f t b h within e =
+      let g = with_gates f s.next b.gates in
+      let m = s.next + length b.gates in
+      let a : AgreeBelow s.next f (with_gates f s.next b.gates) = with_gates-agrees b.gates f s.next in
+      let le : s.next ≤ s.next + length b.gates = omega arith in
+      let node = node_at nodes t in
+      let k = known_rows s (node_at nodes t) b e in
+      let known = known_keeps s.next m f g a le s.bits (sort_of nodes) (value M nodes) h.bits in
+      let below = (each_bits s.next f s.bits h.bits node.args k.0 k.1).0 in
+      let each = (each_bits m g s.bits known node.args k.0 k.1).1 in
+      let ordered = op_ordered s.next node.op k.0 b h.next below k.2 in
+      let have = with_gates-mean b.gates f s.next ordered.0 in
+      let one = a 1 h.next ∙ h.one in
+      let term = all t within in
+      let is = op_correct M g s.next node.op (map (sort_of nodes) node.args) k.0 (map (value M nodes) node.args) (sort_of nodes t) b one term.rank each k.2 have in
+      record {
+        one = one;
+        next = omega (arith, h.next);
+        clauses =
+            each_append (AreTrueBelow m g) s.clauses (gates_clauses s.next b.gates ∷ [])
+            (rows_keep s.next m f g a le s.clauses h.clauses)
+            (row_of_both m g (gates_clauses s.next b.gates) ((gates_mean g s.next b.gates).1 have) (gates_clauses-below b.gates s.next ordered.0), tt);
+        terms = terms_more nodes s.bits t b.bits h.terms within;
+        bits = known_more m g s.bits (sort_of nodes) (value M nodes) t b.bits known ordered.1 (subst (AreBitsOf g (sort_of nodes t) b.bits) (sym (value_is M nodes t term)) is);
+        selectors = selecting_keeps s.next m f g a le s.selectors (value M nodes) h.selectors;
+      }
+
+  -- ---- selectors
+
+  implied : (p q r : Bool) → p ≡ r → q ≡ r → (not p || (q || false)) ≡ true
+  implied true q r e k = rw (k ∙ sym e) refl
+  implied false q r e k = refl
+
+  selector_suits : (s : LogState) (f : ℕ → Bool) (x t : ℕ) (l : Literal) → Suits M nodes s f → t < length nodes → sort_of nodes t ≡ sort.Bool → s.bits t ≡ Some (l ∷ [])
+      → Suits M nodes (selector_after s x t (Some (l ∷ []))) (with_variable f s.next (is_true (value M nodes t)))
+  selector_suits s f x t l h within bool e =
+      let v = is_true (value M nodes t) in
+      let g = with_variable f s.next v in
+      let a : AgreeBelow s.next f (with_variable f s.next (is_true (value M nodes t))) = with_variable-agrees f s.next v in
+      let le : s.next ≤ suc s.next = omega arith in
+      let here : with_variable f s.next (is_true (value M nodes t)) s.next ≡ is_true (value M nodes t) = with_variable-here f s.next v in
+      let k = h.bits t (l ∷ []) e in
+      let means = subst (λ w. AreBitsOf f w (l ∷ []) (value M nodes t)) bool k.1 in
+      let same : l ≡ means.0 = let q = means.1 in cc in
+      let bit : lit_true g l ≡ v = same_lit_true s.next f g a l k.0.0 ∙ ap (lit_true f) same ∙ sym (ap is_true means.2) in
+      let below : l.variable < suc s.next = omega (arith, k.0.0) in
+      let own : s.next < suc s.next = omega arith in
+      let new : IsTrueBelow (suc s.next) g (selector_clause s.next l) = (implied (g s.next) (lit_true g l) v here bit, (own, (below, tt))) in
+      record {
+        one = a 1 h.next ∙ h.one;
+        next = omega (arith, h.next);
+        clauses = each_append (AreTrueBelow (suc s.next) g) s.clauses ((selector_clause s.next l ∷ []) ∷ []) (rows_keep s.next (suc s.next) f g a le s.clauses h.clauses) ((new, tt), tt);
+        terms = h.terms;
+        bits = known_keeps s.next (suc s.next) f g a le s.bits (sort_of nodes) (value M nodes) h.bits;
+        selectors =
+            selecting_more (suc s.next) g s.selectors (value M nodes) x (record { literal = positive_of s.next; term = t })
+            (selecting_keeps s.next (suc s.next) f g a le s.selectors (value M nodes) h.selectors) own here;
+      }
+
+  -- ---- all steps
+
+  pub step_suits : (s : LogState) (f : ℕ → Bool) (e : Entry) → Suits M nodes s f → IsStep nodes s e → Suits M nodes (after nodes s e) (mean_after M nodes s f e)
+  step_suits s f (step.Node n) h i = row_suits M nodes s f [] h tt
+  step_suits s f (step.Leaf t) h i =
+      let w = leaf_sort (node_at nodes t).op (map (sort_of nodes) (node_at nodes t).args) (sort_of nodes t) i.width (all t i.term).rank i.constant in
+      subst (λ o. Suits M nodes (leaf_after s t o) (leaf_mean f s.next o (value M nodes t))) (sym i.constant)
+      (leaf_suits s f t i.width h i.term w)
+  step_suits s f (step.Encode t) h i =
+      subst (λ o. Suits M nodes (block_after s t o) (block_mean f s.next o)) (sym i.circuit)
+      (block_suits s f t i.block h i.term i.circuit)
+  step_suits s f (step.Selector x t) h i =
+      subst (λ o. Suits M nodes (selector_after s x t o) (with_variable f s.next (is_true (value M nodes t)))) (sym i.encoded)
+      (selector_suits s f x t i.bit h i.term i.sort i.encoded)
+  step_suits s f (step.Chain c hints) h i =
+      let holds = IsChain-follows (clause_at s.clauses) c hints i.1 f (λ k d among e. (clause_each (IsTrueBelow s.next f) s.clauses k d h.clauses e).0) in
+      row_suits M nodes s f (c ∷ []) h ((holds, i.0), tt)
+
+  pub run_suits : (s : LogState) (f : ℕ → Bool) (log : List Entry) → Suits M nodes s f → AreSteps nodes s log → Suits M nodes (state_from nodes s log) (mean_from M nodes s f log)
+  run_suits s f [] h i = h
+  run_suits s f (e ∷ log) h i = run_suits (after nodes s e) (mean_after M nodes s f e) log (step_suits s f e h i.0) i.1
+
+  start_suits : Suits M nodes start (λ x. x == 1)
+  start_suits = record {
+    one = refl;
+    next = omega arith;
+    clauses = (((refl, (omega arith, tt)), tt), tt);
+    terms = λ t b e. let q : ⊥ = cc in absurd q;
+    bits = λ t b e. let q : ⊥ = cc in absurd q;
+    selectors = λ x t e. let q : ⊥ = cc in absurd q;
+  }
+
+  pub log_suits : (log : List Entry) → IsLog nodes log → Suits M nodes (state_of nodes log) (meaning M nodes log)
+  log_suits log i = run_suits start (λ x. x == 1) log start_suits i

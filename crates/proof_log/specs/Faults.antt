@@ -1,0 +1,156 @@
+-- Which steps are valid against a list of terms and a log, and what shows that one is not.
+use Rattle.std.specs.Prelude.{◌≡◌, ℕ, suc, ◌≤◌, List, [], ◌∷◌, ◌++◌, length, position, Option, Some, None, Result, Ok, Err, Contains}
+use Rattle.cnf_base.specs.Literals.{Literal}
+use Rattle.cnf_base.specs.Assignments.{AreBelow}
+use Rattle.cnf_base.specs.declared.clause.ClauseId.{ClauseId}
+use Rattle.smt_terms.specs.declared.node.Op.{Op}
+use Rattle.smt_terms.specs.declared.node.Op.TheVariants.{Plain, Word, Extract, ZeroExtend, SignExtend, RotateLeft, RotateRight, Repeat, Constant, Apply, Param}
+use Rattle.smt_terms.specs.declared.node.Node.{Node}
+use Rattle.smt_terms.specs.declared.fault.MakeFault.{MakeFault}
+use Rattle.smt_terms.specs.declared.fault.MakeError.{MakeError}
+use Rattle.smt_terms.specs.declared.fault.MakeError.TheVariants.{NoMemory, Fault}
+use Rattle.smt_terms.specs.Same.{same_node}
+use Rattle.smt_terms.specs.Terms.{TermsValue, Agrees, make}
+use Rattle.hint_chain.specs.Faults.{FirstFault}
+use Rattle.proof_log.specs.declared.entry.Entry.{Entry}
+use Rattle.proof_log.specs.declared.entry.Entry.TheVariants as step
+use Rattle.proof_log.specs.declared.fault.StepKind.{StepKind}
+use Rattle.proof_log.specs.declared.fault.StepKind.TheVariants as kind
+use Rattle.proof_log.specs.declared.fault.Kept.{Kept}
+use Rattle.proof_log.specs.declared.fault.StepFault.{StepFault}
+use Rattle.proof_log.specs.declared.fault.Kept.TheVariants as kept
+use Rattle.proof_log.specs.declared.fault.PushError.{PushError}
+use Rattle.proof_log.specs.declared.fault.PushError.TheVariants as push
+use Rattle.proof_log.specs.Logs.{Asserted, LogState, clause_at, state_of, IsStep}
+use Rattle.proof_log.specs.Stored.{LogValue, IsPushed}
+
+-- the operator is made by no step: it is a declared constant, or the parameter of a definition
+abbrev pub IsGiven : Op → Type 0
+IsGiven (Plain o) = ⊥
+IsGiven (Word n x) = ⊥
+IsGiven (Extract i j) = ⊥
+IsGiven (ZeroExtend i) = ⊥
+IsGiven (SignExtend i) = ⊥
+IsGiven (RotateLeft i) = ⊥
+IsGiven (RotateRight i) = ⊥
+IsGiven (Repeat i) = ⊥
+IsGiven (Constant d s) = Unit {0}
+IsGiven (Apply d s) = ⊥
+IsGiven (Param k s) = Unit {0}
+
+-- the terms, and one more
+abbrev pub with_node : TermsValue → Node → TermsValue
+with_node v n = record { nodes = v.nodes ++ n ∷ []; limit = v.limit }
+
+-- a new node, which is well sorted and for which there is room
+pub record IsNewNode (v : TermsValue) (n : Node) : Type 0 where
+  pub operator : ¬ (IsGiven n.op)
+  pub new : position (same_node n) v.nodes ≡ None
+  pub made : make v n ≡ Ok (length v.nodes, with_node v n)
+
+-- the step is valid against these terms and what the log has
+abbrev pub IsValid : TermsValue → LogState → Entry → Type 0
+IsValid v s (step.Node n) = IsNewNode v n
+IsValid v s (step.Leaf t) = IsStep v.nodes s (step.Leaf t)
+IsValid v s (step.Encode t) = IsStep v.nodes s (step.Encode t)
+IsValid v s (step.Selector a t) = IsStep v.nodes s (step.Selector a t)
+IsValid v s (step.Chain c hints) = IsStep v.nodes s (step.Chain c hints)
+
+-- the terms after the step
+abbrev pub terms_after : TermsValue → Entry → TermsValue
+terms_after v (step.Node n) = with_node v n
+terms_after v (step.Leaf t) = v
+terms_after v (step.Encode t) = v
+terms_after v (step.Selector a t) = v
+terms_after v (step.Chain c hints) = v
+
+-- the step makes no term
+abbrev pub MakesNoTerm : Entry → Type 0
+MakesNoTerm (step.Node n) = ⊥
+MakesNoTerm (step.Leaf t) = Unit {0}
+MakesNoTerm (step.Encode t) = Unit {0}
+MakesNoTerm (step.Selector a t) = Unit {0}
+MakesNoTerm (step.Chain c hints) = Unit {0}
+
+-- a term that the step makes gives its declaration no other signature than the terms do
+abbrev pub IsDeclared : TermsValue → Entry → Type 0
+IsDeclared v (step.Node n) = Agrees v.nodes n.op
+IsDeclared v (step.Leaf t) = Unit {0}
+IsDeclared v (step.Encode t) = Unit {0}
+IsDeclared v (step.Selector a t) = Unit {0}
+IsDeclared v (step.Chain c hints) = Unit {0}
+
+abbrev pub kind_of : Entry → StepKind
+kind_of (step.Node n) = kind.Node
+kind_of (step.Leaf t) = kind.Leaf
+kind_of (step.Encode t) = kind.Encode
+kind_of (step.Selector a t) = kind.Selector
+kind_of (step.Chain c hints) = kind.Chain
+
+-- ---- what shows that a step is not valid
+
+-- the operator, the fault of the node, or the term that it is
+abbrev pub ShowsNode : TermsValue → Node → Kept → Type 0
+ShowsNode v n kept.Operator = IsGiven n.op
+ShowsNode v n (kept.Make f) = make v n ≡ Err f
+ShowsNode v n (kept.Term t) = position (same_node n) v.nodes ≡ Some t
+ShowsNode v n (kept.Variable x) = ⊥
+ShowsNode v n (kept.Chain f) = ⊥
+
+-- the term, where no step has what it asks for
+abbrev pub ShowsTerm : ℕ → Kept → Type 0
+ShowsTerm t kept.Operator = ⊥
+ShowsTerm t (kept.Make f) = ⊥
+ShowsTerm t (kept.Term u) = u ≡ t
+ShowsTerm t (kept.Variable x) = ⊥
+ShowsTerm t (kept.Chain f) = ⊥
+
+-- the term, which is no Bool with a bit, or the variable that is the assertion's selector
+abbrev pub ShowsSelector : LogState → ℕ → ℕ → Kept → Type 0
+ShowsSelector s a t kept.Operator = ⊥
+ShowsSelector s a t (kept.Make f) = ⊥
+ShowsSelector s a t (kept.Term u) = u ≡ t
+ShowsSelector s a t (kept.Variable x) = (r : Asserted) × (s.selectors a ≡ Some r) × (r.literal.variable ≡ x)
+ShowsSelector s a t (kept.Chain f) = ⊥
+
+-- a variable of the clause that no step made, or the first fault of the hints
+abbrev pub ShowsChain : LogState → List Literal → List ClauseId → Kept → Type 0
+ShowsChain s c hints kept.Operator = ⊥
+ShowsChain s c hints (kept.Make f) = ⊥
+ShowsChain s c hints (kept.Term u) = ⊥
+ShowsChain s c hints (kept.Variable x) = (l : Literal) × Contains c l × (l.variable ≡ x) × (s.next ≤ x)
+ShowsChain s c hints (kept.Chain f) = AreBelow s.next c × FirstFault (clause_at s.clauses) c hints f
+
+abbrev pub Shows : TermsValue → LogState → Entry → Kept → Type 0
+Shows v s (step.Node n) k = ShowsNode v n k
+Shows v s (step.Leaf t) k = ShowsTerm t k
+Shows v s (step.Encode t) k = ShowsTerm t k
+Shows v s (step.Selector a t) k = ShowsSelector s a t k
+Shows v s (step.Chain c hints) k = ShowsChain s c hints k
+
+-- the step is not valid, and the fault says of what kind it is and what shows it
+pub record IsFault (v : TermsValue) (s : LogState) (e : Entry) (f : StepFault) : Type 0 where
+  pub invalid : ¬ (IsValid v s e)
+  pub kind : f.kind ≡ kind_of e
+  pub shown : Shows v s e f.kept
+
+-- ---- what calls tell
+
+-- The node was made, or it has a fault, or memory was wanting; in the last two cases the terms are as before.
+abbrev pub NodeIsMade : Result (ℕ × TermsValue) MakeFault → Result (Unit {0}) MakeError → TermsValue → TermsValue → Type 0
+NodeIsMade made (Ok u) old new = (t : ℕ) × (made ≡ Ok (t, new))
+NodeIsMade made (Err (Fault f)) old new = (made ≡ Err f) × (new ≡ old)
+NodeIsMade made (Err NoMemory) old new = new ≡ old
+
+-- The step was tried over these terms: it was valid, and is added; or it is not, as what is kept shows, and the log is
+-- as before.
+abbrev pub Tried : TermsValue → Entry → LogValue → LogValue → Option Kept → Type 0
+Tried v e old new None = IsValid v (state_of v.nodes old.entries) e × IsPushed v.nodes old new e (suc (length old.entries))
+Tried v e old new (Some k) = (¬ (IsValid v (state_of v.nodes old.entries) e)) × Shows v (state_of v.nodes old.entries) e k × (new ≡ old)
+
+-- The answer of a step that was tried: its position, where it is valid, and then the terms are those after it; a fault
+-- exactly where it is not. After a fault, and for want of memory, the log and the terms are as before.
+abbrev pub Answers : TermsValue → TermsValue → Entry → LogValue → LogValue → Result ℕ PushError → Type 0
+Answers v w e old new (Ok p) = IsValid v (state_of v.nodes old.entries) e × (w ≡ terms_after v e) × IsPushed w.nodes old new e p
+Answers v w e old new (Err (push.Fault f)) = IsFault v (state_of v.nodes old.entries) e f × (w ≡ v) × (new ≡ old)
+Answers v w e old new (Err push.NoMemory) = (w ≡ v) × (new ≡ old)

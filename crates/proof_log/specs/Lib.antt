@@ -1,0 +1,4 @@
+pub mod Logs
+pub mod Meanings
+pub mod Stored
+pub mod Faults

@@ -1,0 +1,166 @@
+-- Logs: which steps may stand after others, and what they leave.
+use Rattle.std.specs.Prelude.{◌≡◌, ℕ, zero, suc, ◌+◌, ◌<◌, ◌==◌, if◌then◌else◌, List, [], ◌∷◌, ◌++◌, length, Option, Some, None, Contains, slice_get}
+use Rattle.cnf_base.specs.Literals.{Literal, positive_of, negative_of, true_literal}
+use Rattle.cnf_base.specs.Assignments.{AreBelow, fresh_bits}
+use Rattle.cnf_base.specs.Gates.{gates_clauses}
+use Rattle.cnf_base.specs.declared.clause.ClauseId.{ClauseId}
+use Rattle.smt_terms.specs.declared.sort.Sort.{Sort}
+use Rattle.smt_terms.specs.declared.sort.Sort.TheVariants as sort
+use Rattle.smt_terms.specs.declared.node.Op.{Op}
+use Rattle.smt_terms.specs.declared.node.Op.TheVariants.{Plain, Word, Extract, ZeroExtend, SignExtend, RotateLeft, RotateRight, Repeat, Constant, Apply, Param}
+use Rattle.smt_terms.specs.declared.node.Node.{Node}
+use Rattle.smt_terms.specs.Nodes.{node_at}
+use Rattle.smt_terms.specs.Terms.{sort_of}
+use Rattle.bit_blast.specs.Blocks.{Block, block_of}
+use Rattle.hint_chain.specs.Chains.{IsChain}
+use Rattle.proof_log.specs.declared.entry.Entry.{Entry}
+use Rattle.proof_log.specs.declared.entry.Entry.TheVariants as step
+
+-- ---- what a log leaves
+
+-- the literal that stands for an assertion, and the assertion's term
+pub record Asserted : Type 0 where
+  pub literal : Literal
+  pub term : ℕ
+
+-- the next variable, the bits of terms, the selectors of assertions, and the clauses of each position
+pub record LogState : Type 0 where
+  pub next : ℕ
+  pub bits : ℕ → Option (List Literal)
+  pub selectors : ℕ → Option Asserted
+  pub clauses : List (List (List Literal))
+
+-- before the first step: position 0 has the clause that variable 1 is true
+abbrev pub start : LogState
+start = record { next = 2; bits = λ t. None; selectors = λ a. None; clauses = ((true_literal ∷ []) ∷ []) ∷ [] }
+
+abbrev pub clause_in : Option (List (List Literal)) → ℕ → Option (List Literal)
+clause_in None k = None
+clause_in (Some row) k = slice_get row k
+
+-- the clause of a name: of the position, and which of its clauses
+abbrev pub clause_at : List (List (List Literal)) → ClauseId → Option (List Literal)
+clause_at rows id = clause_in (slice_get rows id.pos) id.part
+
+-- the step at a position: position 0 is no step
+abbrev pub entry_at : List Entry → ℕ → Option Entry
+entry_at log zero = None
+entry_at log (suc p) = slice_get log p
+
+-- one more value of a partial function
+abbrev pub with_value : {A : Type 0} → (ℕ → Option A) → ℕ → A → ℕ → Option A
+with_value f x a y = if y == x then Some a else f y
+
+-- one position more, which has these clauses
+abbrev pub with_row : LogState → List (List Literal) → LogState
+with_row s row = record s { clauses = s.clauses ++ row ∷ [] }
+
+-- ---- steps
+
+-- how many bits a Bool or a word has
+abbrev pub plain_width : Sort → Option ℕ
+plain_width sort.Bool = Some 1
+plain_width (sort.Word n) = Some n
+plain_width (sort.Array n m) = None
+
+-- how many bits a declared constant has, if the operator is one of a Bool or a word
+abbrev pub constant_width : Op → Option ℕ
+constant_width (Plain o) = None
+constant_width (Word n x) = None
+constant_width (Extract i j) = None
+constant_width (ZeroExtend i) = None
+constant_width (SignExtend i) = None
+constant_width (RotateLeft i) = None
+constant_width (RotateRight i) = None
+constant_width (Repeat i) = None
+constant_width (Constant d s) = plain_width s
+constant_width (Apply d s) = None
+constant_width (Param k s) = None
+
+-- a declared Bool or word that has no bits
+pub record IsLeaf (nodes : List Node) (s : LogState) (t : ℕ) : Type 0 where
+  pub term : t < length nodes
+  pub new : s.bits t ≡ None
+  pub width : ℕ
+  pub constant : constant_width (node_at nodes t).op ≡ Some width
+
+-- a term without bits whose operator has a circuit over the bits of its arguments
+pub record IsEncoding (nodes : List Node) (s : LogState) (t : ℕ) : Type 0 where
+  pub term : t < length nodes
+  pub new : s.bits t ≡ None
+  pub block : Block
+  pub circuit : block_of s.next s.bits (node_at nodes t) ≡ Some block
+
+-- an assertion without a selector, whose term is a Bool with a bit
+pub record IsSelector (nodes : List Node) (s : LogState) (a t : ℕ) : Type 0 where
+  pub term : t < length nodes
+  pub sort : sort_of nodes t ≡ sort.Bool
+  pub new : s.selectors a ≡ None
+  pub bit : Literal
+  pub encoded : s.bits t ≡ Some (bit ∷ [])
+
+-- The step may stand after what the log has, over these terms, among which the term of a Node step is.
+abbrev pub IsStep : List Node → LogState → Entry → Type 0
+IsStep nodes s (step.Node n) = Contains nodes n
+IsStep nodes s (step.Leaf t) = IsLeaf nodes s t
+IsStep nodes s (step.Encode t) = IsEncoding nodes s t
+IsStep nodes s (step.Selector a t) = IsSelector nodes s a t
+IsStep nodes s (step.Chain c hints) = AreBelow s.next c × IsChain (clause_at s.clauses) c hints
+
+-- ---- what a step leaves
+
+abbrev pub leaf_after : LogState → ℕ → Option ℕ → LogState
+leaf_after s t None = with_row s []
+leaf_after s t (Some n) = record {
+  next = s.next + n;
+  bits = with_value s.bits t (fresh_bits s.next n);
+  selectors = s.selectors;
+  clauses = s.clauses ++ [] ∷ [];
+}
+
+abbrev pub block_after : LogState → ℕ → Option Block → LogState
+block_after s t None = with_row s []
+block_after s t (Some b) = record {
+  next = s.next + length b.gates;
+  bits = with_value s.bits t b.bits;
+  selectors = s.selectors;
+  clauses = s.clauses ++ gates_clauses s.next b.gates ∷ [];
+}
+
+-- the clause that an assertion's selector implies its bit
+abbrev pub selector_clause : ℕ → Literal → List Literal
+selector_clause x bit = negative_of x ∷ bit ∷ []
+
+abbrev pub selector_after : LogState → ℕ → ℕ → Option (List Literal) → LogState
+selector_after s a t None = with_row s []
+selector_after s a t (Some []) = with_row s []
+selector_after s a t (Some (bit ∷ bits)) = record {
+  next = suc s.next;
+  bits = s.bits;
+  selectors = with_value s.selectors a (record { literal = positive_of s.next; term = t });
+  clauses = s.clauses ++ (selector_clause s.next bit ∷ []) ∷ [];
+}
+
+-- what the log has after the step
+abbrev pub after : List Node → LogState → Entry → LogState
+after nodes s (step.Node n) = with_row s []
+after nodes s (step.Leaf t) = leaf_after s t (constant_width (node_at nodes t).op)
+after nodes s (step.Encode t) = block_after s t (block_of s.next s.bits (node_at nodes t))
+after nodes s (step.Selector a t) = selector_after s a t (s.bits t)
+after nodes s (step.Chain c hints) = with_row s (c ∷ [])
+
+-- what it has after all steps
+abbrev pub state_from : List Node → LogState → List Entry → LogState
+state_from nodes s [] = s
+state_from nodes s (e ∷ es) = state_from nodes (after nodes s e) es
+
+abbrev pub state_of : List Node → List Entry → LogState
+state_of nodes log = state_from nodes start log
+
+-- each step may stand after those before it
+abbrev pub AreSteps : List Node → LogState → List Entry → Type 0
+AreSteps nodes s [] = Unit {0}
+AreSteps nodes s (e ∷ es) = IsStep nodes s e × AreSteps nodes (after nodes s e) es
+
+abbrev pub IsLog : List Node → List Entry → Type 0
+IsLog nodes log = AreSteps nodes start log

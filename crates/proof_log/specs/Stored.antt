@@ -1,0 +1,124 @@
+-- What contracts see of a stored log, and when it stands over a list of terms.
+use Rattle.std.specs.Prelude.{◌≡◌, ℕ, suc, ◌+◌, ◌≤◌, Bool, true, false, List, ◌++◌, [], ◌∷◌, length, take, Option, Some, None, slice_index_or}
+use Rattle.cnf_base.specs.Literals.{Literal, positive_of}
+use Rattle.cnf_base.specs.Assignments.{fresh_bits}
+use Rattle.cnf_base.specs.Gates.{gates_clauses}
+use Rattle.smt_terms.specs.declared.node.Node.{Node}
+use Rattle.smt_terms.specs.Bits.{TermBits, bits_in, with_bits}
+use Rattle.bit_blast.specs.Blocks.{Block, EachShort}
+use Rattle.proof_log.specs.declared.entry.Entry.{Entry}
+use Rattle.proof_log.specs.declared.entry.Entry.TheVariants as step
+use Rattle.proof_log.specs.Logs.{Asserted, with_value, selector_clause, state_of, IsLog}
+
+-- the next variable, how many terms the log stands over, the bits of terms, the selectors of assertions by number, the
+-- steps, and the clauses of each position
+pub record LogValue : Type 0 where
+  pub next : ℕ
+  pub over : ℕ
+  pub bits : List TermBits
+  pub selectors : List (Option Literal)
+  pub entries : List Entry
+  pub clauses : List (List (List Literal))
+
+-- the selector of an assertion
+abbrev pub selector_in : List (Option Literal) → ℕ → Option Literal
+selector_in held a = slice_index_or held a None
+
+abbrev pub literal_of : Option Asserted → Option Literal
+literal_of None = None
+literal_of (Some r) = Some r.literal
+
+-- the steps are a log over these terms, and what is kept is what they leave
+pub record IsKept (nodes : List Node) (log : LogValue) : Type 0 where
+  pub steps : IsLog nodes log.entries
+  pub next : log.next ≡ (state_of nodes log.entries).next
+  pub bits : (t : ℕ) → bits_in log.bits t ≡ (state_of nodes log.entries).bits t
+  pub selectors : (a : ℕ) → selector_in log.selectors a ≡ literal_of ((state_of nodes log.entries).selectors a)
+  pub clauses : log.clauses ≡ (state_of nodes log.entries).clauses
+  pub short : EachShort log.bits
+
+-- these terms begin with those that the log stands over
+pub record Stands (nodes : List Node) (log : LogValue) : Type 0 where
+  pub within : log.over ≤ length nodes
+  pub kept : IsKept (take log.over nodes) log
+
+-- ---- what a stored step has
+
+pub record StepValue : Type 0 where
+  pub entry : Entry
+  pub clauses : List (List Literal)
+
+-- the clauses of a step: a chain has its own clause, another step those that were made with it
+abbrev pub clauses_of : Entry → List (List Literal) → List (List Literal)
+clauses_of (step.Node n) made = made
+clauses_of (step.Leaf t) made = made
+clauses_of (step.Encode t) made = made
+clauses_of (step.Selector a t) made = made
+clauses_of (step.Chain c hints) made = c ∷ []
+
+-- the steps in order, and the clauses of each position
+pub record StepsValue : Type 0 where
+  pub entries : List Entry
+  pub clauses : List (List (List Literal))
+
+-- one step more
+abbrev pub with_step : StepsValue → Entry → List (List Literal) → StepsValue
+with_step v e made = record { entries = v.entries ++ e ∷ []; clauses = v.clauses ++ clauses_of e made ∷ [] }
+
+-- ---- what a log is after a step over so many terms
+
+-- new variables for the bits of a term
+abbrev pub with_leaf : LogValue → ℕ → ℕ → ℕ → LogValue
+with_leaf l over t n = record {
+  next = l.next + n;
+  over = over;
+  bits = with_bits l.bits t (fresh_bits l.next n);
+  selectors = l.selectors;
+  entries = l.entries ++ step.Leaf t ∷ [];
+  clauses = l.clauses ++ [] ∷ [];
+}
+
+-- the circuit of a term
+abbrev pub with_block : LogValue → ℕ → ℕ → Block → LogValue
+with_block l over t b = record {
+  next = l.next + length b.gates;
+  over = over;
+  bits = with_bits l.bits t b.bits;
+  selectors = l.selectors;
+  entries = l.entries ++ step.Encode t ∷ [];
+  clauses = l.clauses ++ gates_clauses l.next b.gates ∷ [];
+}
+
+-- the term got this circuit, if there is one, else all is as before
+abbrev pub Encodes : Option Block → Bool → ℕ → ℕ → LogValue → LogValue → Type 0
+Encodes None done over t old new = (done ≡ false) × (new ≡ old)
+Encodes (Some b) done over t old new = (done ≡ true) × (new ≡ with_block old over t b)
+
+-- a variable for an assertion
+pub record IsSelected (old new : LogValue) (over a t : ℕ) (bit : Literal) : Type 0 where
+  pub next : new.next ≡ suc old.next
+  pub over : new.over ≡ over
+  pub bits : new.bits ≡ old.bits
+  pub selectors : (x : ℕ) → selector_in new.selectors x ≡ with_value (selector_in old.selectors) a (positive_of old.next) x
+  pub entries : new.entries ≡ old.entries ++ step.Selector a t ∷ []
+  pub clauses : new.clauses ≡ old.clauses ++ (selector_clause old.next bit ∷ []) ∷ []
+
+-- a step that makes no variable and no clause but a chain's own
+abbrev pub with_plain : LogValue → ℕ → Entry → LogValue
+with_plain l over e = record {
+  next = l.next;
+  over = over;
+  bits = l.bits;
+  selectors = l.selectors;
+  entries = l.entries ++ e ∷ [];
+  clauses = l.clauses ++ clauses_of e [] ∷ [];
+}
+
+-- ---- what a call tells
+
+-- the step was added at this position, over these terms
+pub record IsPushed (nodes : List Node) (old new : LogValue) (e : Entry) (p : ℕ) : Type 0 where
+  pub position : p ≡ suc (length old.entries)
+  pub entries : new.entries ≡ old.entries ++ e ∷ []
+  pub over : new.over ≡ length nodes
+  pub stands : Stands nodes new

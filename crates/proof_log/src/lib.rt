@@ -1,0 +1,23 @@
+//! The log of the steps of a proof.
+//!
+//! A step makes a term, gives a term bits, gives an assertion a selector, or adds a clause with a chain of hints. The
+//! definitions in `specs/` say which steps are valid, what they leave, and what each variable means under an
+//! interpretation of the declarations. The laws say that every clause of every log is true in every interpretation, that
+//! the bits of a term are those of its value and a selector is the value of its assertion's term, and that more steps and
+//! more terms keep all this. `Log::push` adds a step that is known to be valid, `Log::try_push` one that may not be. The
+//! crate stands on `bit_blast`, `hint_chain`, `smt_terms` and `cnf_base`.
+#![tactic(auto)]
+
+pub mod entry;
+mod fault;
+mod log;
+mod pushing;
+mod selectors;
+mod steps;
+mod trying;
+
+pub use fault::{Kept, PushError, StepFault, StepKind};
+pub use log::Log;
+
+#[cfg(test)]
+mod tests;

@@ -1,0 +1,147 @@
+//! Steps that are tried, kind by kind: what shows that one is not valid, or it is put into the log.
+
+ghost use Rattle.std.specs.Prelude.{◌≡◌, ◌≤◌, ◌↔◌, IsTrue, [], ◌∷◌, Some, OnErr, IfOk, MatchOption, Contains};
+ghost use Rattle.cnf_base.specs.Literals.{Literal};
+ghost use Rattle.cnf_base.specs.Assignments.{AreBelow};
+ghost use Rattle.smt_terms.specs.Bits.{bits_in};
+ghost use Rattle.proof_log.specs.declared.entry.Entry.TheVariants as step;
+ghost use Rattle.proof_log.specs.Stored.{Stands};
+ghost use Rattle.proof_log.specs.Faults.{Tried, IsGiven};
+
+use crate::entry::{AssertId, Entry, Hints};
+use crate::fault::Kept;
+use crate::log::Log;
+use crate::pushing::width_of;
+use cnf_base::{Clause, Lit};
+use hint_chain::follows;
+use smt_terms::node::{Op, TermId};
+use smt_terms::sort::Sort;
+use smt_terms::terms::Terms;
+use std::alloc::{AllocError, Global};
+
+/// Whether an operator is made by no step.
+pub(crate) fn is_given(op: &Op) -> bool
+    ensures { IsTrue result ↔ IsGiven op.now }
+{
+    matches!(op, Op::Constant { .. } | Op::Param { .. })
+}
+
+// The first variable of the literals that is not below this one.
+fn first_above(literals: &[Lit], next: u64) -> Option<u64>
+    ensures { MatchOption result (AreBelow next literals.now)
+        (λ x. (l : Literal) × Contains literals.now l × (l.variable ≡ x) × (next ≤ x)) }
+{
+    for l in literals {
+        if l.variable() >= next {
+            return Some(l.variable());
+        }
+    }
+    None
+}
+
+impl Log {
+    /// New variables for the bits of a declared Bool or word.
+    pub(crate) fn leaf(
+        &mut self,
+        alloc: Global,
+        terms: &Terms,
+        term: TermId,
+    ) -> Result<Option<Kept>, AllocError>
+        requires stands { Stands terms.now.nodes self.old }
+        ensures ok { IfOk result (Tried terms.now (step.Leaf term) self.old self.new) }
+        ensures err { OnErr result (self.new ≡ self.old) }
+    {
+        if term >= terms.len() || self.bits.of(term).is_some() {
+            return Ok(Some(Kept::Term(term)));
+        }
+        match width_of(&terms.node(term).op) {
+            None => Ok(Some(Kept::Term(term))),
+            Some(width) => {
+                self.put_leaf(alloc, terms, term, width)?;
+                Ok(None)
+            }
+        }
+    }
+
+    /// The circuit of a term.
+    pub(crate) fn encode(
+        &mut self,
+        alloc: Global,
+        terms: &Terms,
+        term: TermId,
+    ) -> Result<Option<Kept>, AllocError>
+        requires stands { Stands terms.now.nodes self.old }
+        ensures ok { IfOk result (Tried terms.now (step.Encode term) self.old self.new) }
+        ensures err { OnErr result (self.new ≡ self.old) }
+    {
+        if term >= terms.len() || self.bits.of(term).is_some() {
+            return Ok(Some(Kept::Term(term)));
+        }
+        if self.put_encode(alloc, terms, term)? {
+            return Ok(None);
+        }
+        Ok(Some(Kept::Term(term)))
+    }
+
+    /// A variable for an assertion, and the clause that it implies the bit of its term.
+    pub(crate) fn select(
+        &mut self,
+        alloc: Global,
+        terms: &Terms,
+        assertion: AssertId,
+        term: TermId,
+    ) -> Result<Option<Kept>, AllocError>
+        requires stands { Stands terms.now.nodes self.old }
+        ensures ok { IfOk result (Tried terms.now (step.Selector assertion term) self.old self.new) }
+        ensures err { OnErr result (self.new ≡ self.old) }
+    {
+        if let Some(selector) = self.selector(assertion) {
+            return Ok(Some(Kept::Variable(selector.variable())));
+        }
+        if term >= terms.len() || terms.sort(term) != Sort::Bool {
+            return Ok(Some(Kept::Term(term)));
+        }
+        match self.lone_bit(term) {
+            None => Ok(Some(Kept::Term(term))),
+            Some(bit) => {
+                self.put_selector(alloc, terms, assertion, term, bit)?;
+                Ok(None)
+            }
+        }
+    }
+
+    // The bit of a term that has one.
+    fn lone_bit(&self, term: TermId) -> Option<Lit>
+        ensures { MatchOption result ((l : Literal) → bits_in self.now.bits term ≡ Some (l ∷ []) → ⊥) (λ l. bits_in self.now.bits term ≡ Some (l ∷ [])) }
+    {
+        match self.bits.of(term) {
+            Some([bit]) => Some(*bit),
+            _ => None,
+        }
+    }
+
+    /// A clause that follows by a chain of hints.
+    pub(crate) fn chain(
+        &mut self,
+        alloc: Global,
+        terms: &Terms,
+        clause: Clause,
+        hints: Hints,
+    ) -> Result<Option<Kept>, AllocError>
+        requires stands { Stands terms.now.nodes self.old }
+        ensures ok { IfOk result (Tried terms.now (step.Chain clause hints) self.old self.new) }
+        ensures err { OnErr result (self.new ≡ self.old) }
+    {
+        if let Some(variable) = first_above(clause.literals(), self.next) {
+            return Ok(Some(Kept::Variable(variable)));
+        }
+        self.marks.reserve(self.next)?;
+        match follows(&self.steps, &clause, hints.as_slice(), &mut self.marks) {
+            Err(fault) => Ok(Some(Kept::Chain(fault))),
+            Ok(()) => {
+                self.put_plain(alloc, terms, Entry::Chain(clause, hints))?;
+                Ok(None)
+            }
+        }
+    }
+}

@@ -1,0 +1,37 @@
+-- Which lines a record is: the end of a check.
+use Rattle.std.specs.Prelude.{ℕ, suc, zero, ◌/◌, ◌%◌, ◌^◌, ◌==◌, Bool, List, [], ◌∷◌, map, length, Option, Some, None, IsSome, option_to_list}
+use Rattle.std.specs.List.{flat_map, AllByRecursion}
+use Rattle.smt_words.specs.Words.{WordValue}
+use Rattle.smt_values.specs.declared.value.Value.{Value}
+use Rattle.smt_values.specs.declared.value.Value.TheVariants as kept
+use Rattle.proof_text.specs.declared.line.WrittenValue.{WrittenValue}
+use Rattle.proof_text.specs.declared.line.WrittenValue.TheVariants as written
+use Rattle.proof_text.specs.declared.line.Line.{Line}
+use Rattle.proof_text.specs.declared.line.Line.TheVariants as line
+use Rattle.proof_text.specs.declared.record.Record.{Record}
+use Rattle.proof_text.specs.declared.record.Record.TheVariants.{Sat, Unsat}
+
+-- so many low binary digits of a number, the highest first
+unfoldable pub binary : ℕ → ℕ → List Bool
+binary zero x = []
+binary (suc n) x = ((x / 2 ^ n) % 2 == 1) ∷ binary n x
+
+-- a truth value, or a word by its digits
+abbrev pub written_value : Value → Option WrittenValue
+written_value (kept.Bool b) = Some (written.Bool b)
+written_value (kept.Word w) = Some (written.Word (binary w.width w.value))
+written_value (kept.Array a) = None
+written_value (kept.Fun f) = None
+
+abbrev pub value_lines : ℕ × Value → List Line
+value_lines p = map (line.Value p.0) (option_to_list (written_value p.1))
+
+-- each value has a written form
+abbrev pub AreWritten : Record → Type 0
+AreWritten (Sat values) = AllByRecursion (λ (p : ℕ × Value). IsSome (written_value p.1)) values
+AreWritten (Unsat p) = Unit {0}
+
+-- the lines of a record
+abbrev pub record_lines : Record → List Line
+record_lines (Sat values) = line.Sat (length values) ∷ flat_map value_lines values
+record_lines (Unsat p) = line.Unsat p ∷ []

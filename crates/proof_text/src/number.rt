@@ -1,0 +1,31 @@
+// Numbers in decimal.
+
+ghost use Rattle.std.specs.Prelude.{◌≡◌, ◌++◌, length, take, OnOk, OnErr};
+ghost use Rattle.std.specs.Fmt.{decimal};
+
+use smt_text::text::Text;
+use std::alloc::AllocError;
+
+/// Appends a number in decimal, without a needless zero. What of it is written where memory runs out stands behind
+/// what was there.
+pub(crate) fn push_number(out: &mut Text, n: u64) -> Result<(), AllocError>
+    ensures ok { OnOk result (out.new ≡ out.old ++ decimal n) }
+    ensures err { OnErr result (take (length out.old) out.new ≡ out.old) }
+{
+    if n >= 10 {
+        push_number(out, n / 10)?;
+    }
+    out.push(b'0' + (n % 10) as u8)
+}
+
+/// The same of a number that may need more than 64 bits.
+pub(crate) fn push_wide(out: &mut Text, n: u128) -> Result<(), AllocError>
+    ensures ok { OnOk result (out.new ≡ out.old ++ decimal n) }
+    ensures err { OnErr result (take (length out.old) out.new ≡ out.old) }
+{
+    if n <= u64::MAX as u128 {
+        return push_number(out, n as u64);
+    }
+    push_wide(out, n / 10)?;
+    out.push(b'0' + (n % 10) as u8)
+}

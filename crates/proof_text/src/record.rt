@@ -1,0 +1,141 @@
+// The lines of records.
+
+ghost use Rattle.std.specs.Prelude.{◌≡◌, ◌++◌, ◌≤◌, ◌∷◌, length, take, map, IsSome, IfSome, OnOk, OnErr};
+ghost use Rattle.std.specs.List.{flat_map, AllByRecursion};
+ghost use Rattle.proof_text.specs.Lines.{digit_of, value_text, line_text};
+ghost use Rattle.proof_text.specs.Records.{binary, written_value, value_lines, AreWritten, record_lines};
+
+use crate::write::{push_line, push_with_number, whole_or_none};
+use cnf_base::Pos;
+use smt_terms::sort::DeclId;
+use smt_text::text::Text;
+use smt_values::Value;
+use smt_words::Word;
+use std::alloc::AllocError;
+use std::marker::Model;
+
+/// The values of the live declarations, by their numbers.
+#[derive(Debug, Drop)]
+pub struct DeclaredValues {
+    items: Vec<(DeclId, Value)>,
+}
+
+impl Model for DeclaredValues {
+    ghost use Rattle.std.specs.Prelude.{List, ℕ};
+    ghost use Rattle.smt_values.specs.declared.value.Value.{Value};
+
+    ghost Value = { List (ℕ × Value) };
+
+    ghost view = { λ v. v.items.items };
+}
+
+impl DeclaredValues {
+    /// These values.
+    pub fn from_vec(items: Vec<(DeclId, Value)>) -> DeclaredValues
+        ensures { result ≡ items.items }
+    {
+        DeclaredValues { items }
+    }
+
+    /// The values, in order.
+    pub fn as_slice(&self) -> &[(DeclId, Value)]
+        ensures { result.now ≡ self.now }
+    {
+        self.items.as_slice()
+    }
+}
+
+/// What ends a check: a model's values, or the place of a refutation.
+#[derive(Debug, Drop)]
+pub enum Record {
+    Sat(DeclaredValues),
+    Unsat(Pos),
+}
+
+/// Appends so many low binary digits of a number, the highest first.
+fn push_digits(width: u32, number: u128, out: &mut Text) -> Result<(), AllocError>
+    requires { width ≤ 128 }
+    ensures ok { OnOk result (out.new ≡ out.old ++ map digit_of (binary width number)) }
+    ensures err { OnErr result (take (length out.old) out.new ≡ out.old) }
+{
+    if width == 0 {
+        return Ok(());
+    }
+    let rest = width - 1;
+    out.push(if (number >> rest) % 2 == 1 {
+        b'1'
+    } else {
+        b'0'
+    })?;
+    push_digits(rest, number, out)
+}
+
+fn push_word(word: Word, out: &mut Text) -> Result<(), AllocError>
+    ensures ok { OnOk result (out.new ≡ out.old ++ 35 ∷ (98 ∷ map digit_of (binary word.width word.value))) }
+    ensures err { OnErr result (take (length out.old) out.new ≡ out.old) }
+{
+    out.push_slice(b"#b")?;
+    push_digits(word.width(), word.value(), out)
+}
+
+fn push_value(value: &Value, out: &mut Text) -> Result<(), AllocError>
+    requires { IsSome (written_value value.now) }
+    ensures ok { OnOk result (IfSome (written_value value.now) (λ v. out.new ≡ out.old ++ value_text v)) }
+    ensures err { OnErr result (take (length out.old) out.new ≡ out.old) }
+{
+    match value {
+        Value::Bool(true) => out.push_slice(b"true"),
+        Value::Bool(false) => out.push_slice(b"false"),
+        Value::Word(word) => push_word(*word, out),
+        Value::Array(_) => unreachable!(),
+        Value::Fun(_) => unreachable!(),
+    }
+}
+
+fn push_declared(declaration: DeclId, value: &Value, out: &mut Text) -> Result<(), AllocError>
+    requires { IsSome (written_value value.now) }
+    ensures ok { OnOk result (out.new ≡ out.old ++ flat_map line_text (value_lines (declaration, value.now))) }
+    ensures err { OnErr result (take (length out.old) out.new ≡ out.old) }
+{
+    push_with_number(out, b"v", declaration as u64)?;
+    out.push(b' ')?;
+    push_value(value, out)?;
+    out.push(b'\n')
+}
+
+fn push_values(values: &DeclaredValues, out: &mut Text) -> Result<(), AllocError>
+    requires { AllByRecursion (λ p. IsSome (written_value p.1)) values.now }
+    ensures ok { OnOk result (out.new ≡ out.old ++ flat_map line_text (flat_map value_lines values.now)) }
+    ensures err { OnErr result (take (length out.old) out.new ≡ out.old) }
+{
+    for pair in values.as_slice() {
+        push_declared(pair.0, &pair.1, out)?;
+    }
+    Ok(())
+}
+
+fn push_record(record: &Record, out: &mut Text) -> Result<(), AllocError>
+    requires { AreWritten record.now }
+    ensures ok { OnOk result (out.new ≡ out.old ++ flat_map line_text (record_lines record.now)) }
+    ensures err { OnErr result (take (length out.old) out.new ≡ out.old) }
+{
+    match record {
+        Record::Sat(values) => {
+            push_line(out, b"sat", values.as_slice().len() as u64)?;
+            push_values(values, out)
+        }
+        Record::Unsat(pos) => push_line(out, b"unsat", *pos),
+    }
+}
+
+/// Appends the lines of a record.
+pub fn write_record(record: &Record, out: &mut Text) -> Result<(), AllocError>
+    // Arrays and tables of functions have no written form.
+    requires { AreWritten record.now }
+    ensures ok { OnOk result (out.new ≡ out.old ++ flat_map line_text (record_lines record.now)) }
+    ensures err { OnErr result (out.new ≡ out.old) }
+{
+    let before = out.len();
+    let written = push_record(record, out);
+    whole_or_none(out, before, written)
+}

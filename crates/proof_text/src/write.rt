@@ -1,0 +1,60 @@
+// The words of lines, each behind a space.
+
+ghost use Rattle.std.specs.Prelude.{◌≡◌, ◌++◌, ◌∷◌, [], length, take, OnOk, OnErr};
+ghost use Rattle.std.specs.Fmt.{decimal};
+
+use crate::number::{push_number, push_wide};
+use smt_text::text::Text;
+use std::alloc::AllocError;
+
+/// Gives what was written of it back where the rest of it failed.
+pub fn whole_or_none(
+    out: &mut Text,
+    before: usize,
+    written: Result<(), AllocError>,
+) -> Result<(), AllocError>
+    ensures value { result ≡ written }
+    ensures ok { OnOk result (out.new ≡ out.old) }
+    ensures err { OnErr result (out.new ≡ take before out.old) }
+{
+    if written.is_err() {
+        out.truncate(before);
+    }
+    written
+}
+
+/// Appends a space and a number.
+pub fn push_spaced(out: &mut Text, n: u64) -> Result<(), AllocError>
+    ensures ok { OnOk result (out.new ≡ out.old ++ 32 ∷ decimal n) }
+    ensures err { OnErr result (take (length out.old) out.new ≡ out.old) }
+{
+    out.push(b' ')?;
+    push_number(out, n)
+}
+
+/// The same of a number that may need more than 64 bits.
+pub fn push_spaced_wide(out: &mut Text, n: u128) -> Result<(), AllocError>
+    ensures ok { OnOk result (out.new ≡ out.old ++ 32 ∷ decimal n) }
+    ensures err { OnErr result (take (length out.old) out.new ≡ out.old) }
+{
+    out.push(b' ')?;
+    push_wide(out, n)
+}
+
+/// Appends a word, a space and a number.
+pub fn push_with_number(out: &mut Text, word: &[u8], n: u64) -> Result<(), AllocError>
+    ensures ok { OnOk result (out.new ≡ out.old ++ (word.now ++ 32 ∷ decimal n)) }
+    ensures err { OnErr result (take (length out.old) out.new ≡ out.old) }
+{
+    out.push_slice(word)?;
+    push_spaced(out, n)
+}
+
+/// Appends a line of a word and a number.
+pub fn push_line(out: &mut Text, word: &[u8], n: u64) -> Result<(), AllocError>
+    ensures ok { OnOk result (out.new ≡ out.old ++ (word.now ++ 32 ∷ decimal n ++ 10 ∷ [])) }
+    ensures err { OnErr result (take (length out.old) out.new ≡ out.old) }
+{
+    push_with_number(out, word, n)?;
+    out.push(b'\n')
+}

@@ -1,0 +1,13 @@
+//! The values of terms under an interpretation of the declarations.
+//!
+//! `Values::of` goes over a list of terms once, the lowest number first, and computes each term's value from those of its
+//! arguments. Its contract says that each is the value that the definition of `smt_terms` gives the term. The crate stands
+//! on the values and interpretations of `smt_values`.
+#![tactic(auto)]
+
+pub mod evaluate;
+#[cfg(test)]
+mod tests;
+pub mod values;
+
+pub use values::Values;
