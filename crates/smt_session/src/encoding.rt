@@ -1,0 +1,150 @@
+// The steps that give terms bits and assertions selectors.
+
+ghost use Rattle.std.specs.Prelude.{◌≡◌, ◌<◌, ℕ, All, IfOk, IsTrue, IsSome, length};
+ghost use Rattle.smt_terms.specs.Bits.{bits_in};
+ghost use Rattle.bit_blast.specs.Blocks.{block_of};
+ghost use Rattle.proof_log.specs.Logs.{constant_width};
+ghost use Rattle.smt_session.specs.Growing.{GrowsWith};
+
+use cnf_base::Lit;
+use proof_log::Log;
+use proof_log::entry::Entry;
+use scope_selectors::live::Live;
+use smt_terms::bits::Bits;
+use smt_terms::node::{Node, Op, TermId};
+use smt_terms::operator::Operator;
+use smt_terms::sort::Sort;
+use smt_terms::terms::Terms;
+use std::alloc::{AllocError, Global};
+
+/// Whether the operator is a declared Bool or word.
+fn is_constant(op: &Op) -> bool
+    ensures { IsTrue result → IsSome (constant_width op.now) }
+{
+    match op {
+        Op::Constant {
+            declaration: _,
+            sort,
+        } => !matches!(sort, Sort::Array(_, _)),
+        _ => false,
+    }
+}
+
+/// Whether both terms have bits, and equally many.
+fn are_alike(bits: &Bits, a: TermId, b: TermId) -> bool {
+    match (bits.of(a), bits.of(b)) {
+        (Some(first), Some(second)) => first.len() == second.len(),
+        _ => false,
+    }
+}
+
+/// Whether the node is one of the terms that scripts make, other than a constant, and its arguments have bits.
+fn has_circuit(node: &Node, bits: &Bits) -> bool
+    ensures { IsTrue result → (g : ℕ) → IsSome (block_of g (bits_in bits.now) node.now) }
+{
+    match &node.op {
+        Op::Word { width: _, value: _ } => node.args.as_slice().is_empty(),
+        Op::Plain(Operator::Bvnot) => match node.args.as_slice() {
+            [a] => bits.of(*a).is_some(),
+            _ => false,
+        },
+        Op::Plain(Operator::Equal | Operator::Bvadd | Operator::Bvand) => {
+            match node.args.as_slice() {
+                [a, b] => are_alike(bits, *a, *b),
+                _ => false,
+            }
+        }
+        _ => false,
+    }
+}
+
+/// Gives a term bits, unless it has them: false where there is no step for it.
+fn encode(
+    alloc: Global,
+    terms: &Terms,
+    log: &mut Log,
+    term: TermId,
+) -> Result<bool, AllocError>
+    requires { term < length terms.now.nodes }
+    ensures { IfOk result (λ _. GrowsWith terms.now.nodes log.old log.new) }
+{
+    if log.bits().of(term).is_some() {
+        return Ok(true);
+    }
+    let node = terms.node(term);
+    if is_constant(&node.op) {
+        log.push(alloc, terms, Entry::Leaf(term))?;
+        return Ok(true);
+    }
+    if has_circuit(node, log.bits()) {
+        log.push(alloc, terms, Entry::Encode(term))?;
+        return Ok(true);
+    }
+    Ok(false)
+}
+
+/// Gives each of the terms bits: false where there is no step for one of them.
+pub(crate) fn encode_all(
+    alloc: Global,
+    terms: &Terms,
+    log: &mut Log,
+    list: &[TermId],
+) -> Result<bool, AllocError> {
+    for term in list {
+        if !encode(alloc, terms, log, *term)? {
+            return Ok(false);
+        }
+    }
+    Ok(true)
+}
+
+/// Gives an assertion a selector, unless it has one: false where its term is no bit.
+fn select(
+    alloc: Global,
+    terms: &Terms,
+    log: &mut Log,
+    assertion: &Live,
+) -> Result<bool, AllocError> {
+    if log.selector(assertion.assertion).is_some() {
+        return Ok(true);
+    }
+    match log.bits().of(assertion.term) {
+        Some([_]) => {
+            let entry = Entry::Selector(assertion.assertion, assertion.term);
+            log.push(alloc, terms, entry)?;
+            Ok(true)
+        }
+        _ => Ok(false),
+    }
+}
+
+/// The selectors of the live assertions, where each has one.
+fn selectors(
+    alloc: Global,
+    log: &Log,
+    live: &[Live],
+) -> Result<Option<Vec<Lit>>, AllocError> {
+    let mut given = Vec::new(alloc);
+    for assertion in live {
+        match log.selector(assertion.assertion) {
+            Some(selector) => given.push(selector)?,
+            None => return Ok(None),
+        }
+    }
+    Ok(Some(given))
+}
+
+/// Gives each live assertion a selector, and gives the selectors: nothing where the term of one is no bit.
+pub(crate) fn select_all(
+    alloc: Global,
+    terms: &Terms,
+    log: &mut Log,
+    live: &[Live],
+) -> Result<Option<Vec<Lit>>, AllocError> {
+    for assertion in live {
+        if !select(alloc, terms, log, assertion)? {
+            return Ok(None);
+        }
+    }
+    selectors(alloc, log, live)
+}
