@@ -1,10 +1,14 @@
 // The steps that give terms bits and assertions selectors.
 
-ghost use Rattle.std.specs.Prelude.{◌≡◌, ◌<◌, ℕ, All, IfOk, IsTrue, IsSome, length};
+ghost use Rattle.std.specs.Prelude.{◌≡◌, ◌<◌, ℕ, All, IfOk, IfSome, IsTrue, IsSome, length};
+ghost use Rattle.scope_selectors.specs.declared.live.Live.{Live as LiveValue};
+ghost use Rattle.smt_terms.specs.declared.sort.Sort.TheVariants as sort;
+ghost use Rattle.smt_terms.specs.Terms.{sort_of};
 ghost use Rattle.smt_terms.specs.Bits.{bits_in};
 ghost use Rattle.bit_blast.specs.Blocks.{block_of};
 ghost use Rattle.proof_log.specs.Logs.{constant_width};
-ghost use Rattle.smt_session.specs.Growing.{GrowsWith};
+ghost use Rattle.proof_log.specs.Stored.{Stands};
+ghost use Rattle.smt_session.specs.Growing.{Grows, IsHeldTruth, AreSelectors};
 
 use cnf_base::Lit;
 use proof_log::Log;
@@ -65,8 +69,9 @@ fn encode(
     log: &mut Log,
     term: TermId,
 ) -> Result<bool, AllocError>
-    requires { term < length terms.now.nodes }
-    ensures { IfOk result (λ _. GrowsWith terms.now.nodes log.old log.new) }
+    requires held { term < length terms.now.nodes }
+    requires stands { Stands terms.now.nodes log.old }
+    ensures { IfOk result (λ _. Grows terms.now.nodes log.old log.new) }
 {
     if log.bits().of(term).is_some() {
         return Ok(true);
@@ -89,7 +94,11 @@ pub(crate) fn encode_all(
     terms: &Terms,
     log: &mut Log,
     list: &[TermId],
-) -> Result<bool, AllocError> {
+) -> Result<bool, AllocError>
+    requires held { All (λ t. t < length terms.now.nodes) list.now }
+    requires stands { Stands terms.now.nodes log.old }
+    ensures { IfOk result (λ _. Grows terms.now.nodes log.old log.new) }
+{
     for term in list {
         if !encode(alloc, terms, log, *term)? {
             return Ok(false);
@@ -104,7 +113,11 @@ fn select(
     terms: &Terms,
     log: &mut Log,
     assertion: &Live,
-) -> Result<bool, AllocError> {
+) -> Result<bool, AllocError>
+    requires truth { IsHeldTruth terms.now.nodes assertion.now }
+    requires stands { Stands terms.now.nodes log.old }
+    ensures { IfOk result (λ _. Grows terms.now.nodes log.old log.new) }
+{
     if log.selector(assertion.assertion).is_some() {
         return Ok(true);
     }
@@ -123,7 +136,9 @@ fn selectors(
     alloc: Global,
     log: &Log,
     live: &[Live],
-) -> Result<Option<Vec<Lit>>, AllocError> {
+) -> Result<Option<Vec<Lit>>, AllocError>
+    ensures { IfOk result (λ o. IfSome o (λ given. AreSelectors log.now live.now given.items)) }
+{
     let mut given = Vec::new(alloc);
     for assertion in live {
         match log.selector(assertion.assertion) {
@@ -140,7 +155,12 @@ pub(crate) fn select_all(
     terms: &Terms,
     log: &mut Log,
     live: &[Live],
-) -> Result<Option<Vec<Lit>>, AllocError> {
+) -> Result<Option<Vec<Lit>>, AllocError>
+    requires truths { All (IsHeldTruth terms.now.nodes) live.now }
+    requires stands { Stands terms.now.nodes log.old }
+    ensures grows { IfOk result (λ _. Grows terms.now.nodes log.old log.new) }
+    ensures given { IfOk result (λ o. IfSome o (λ given. AreSelectors log.new live.now given.items)) }
+{
     for assertion in live {
         if !select(alloc, terms, log, assertion)? {
             return Ok(None);

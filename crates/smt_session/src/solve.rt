@@ -1,5 +1,13 @@
 //! The search for the verdict of a check, behind a contract that another search can meet.
 
+ghost use Rattle.std.specs.Prelude.{◌≡◌, ◌<◌, ◌≤◌, ◌^◌, suc, IfOk, OnOk, length};
+ghost use Rattle.cnf_base.specs.Assignments.{AreBelow};
+ghost use Rattle.smt_terms.specs.Terms.{IsTermList};
+ghost use Rattle.plain_search.specs.Searches.{AreChains, AreChainsBelow, IsVerdict};
+ghost use Rattle.proof_log.specs.Stored.{Stands};
+ghost use Rattle.smt_session.specs.Growing.{Grows};
+ghost use Rattle.smt_session.specs.Searched.{AreOfLog, IsFound, Holds, Adds};
+
 use cnf_base::{ClauseId, Lit, Pos};
 use plain_search::{Chain, Held, Outcome, search};
 use proof_log::Log;
