@@ -1,0 +1,4 @@
+pub mod Searching
+pub mod Keeping
+pub mod Naming
+pub mod Blaming

@@ -1,5 +1,5 @@
 -- The assertion levels of a session (SMT-LIB 2.6, section 4.1.4, and the commands of section 4.2.2).
-use Rattle.std.specs.Prelude.{◌≡◌, ℕ, ◌+◌, ◌-◌, ◌<◌, ◌≤◌, ◌^◌, nat_le, if◌then◌else◌, ◌==◌, List, [], ◌∷◌, ◌++◌, filter, find, All, AllPairs, Option, Result, Ok, Err}
+use Rattle.std.specs.Prelude.{ℕ, ◌+◌, ◌-◌, ◌<◌, ◌≤◌, nat_le, if◌then◌else◌, ◌==◌, List, [], ◌∷◌, ◌++◌, filter, find, All, AllPairs, Option, Result, Ok, Err}
 use Rattle.std.specs.List.Sorted.{IsNonDecreasingBy}
 use Rattle.std.specs.Option.{option_and_then}
 use Rattle.scope_selectors.specs.declared.live.Live.{Live}

@@ -59,9 +59,15 @@ fn names_are_those_of_live_assertions(rt: HostRuntime) -> Result<(), Fail> {
     let unnamed = scopes.assert(2, None)?;
     scopes.push(1).ok().ok_or("a level")?;
     let b = scopes.assert(3, name(&rt, "b")?)?;
-    assert_eq!(rt; scopes.name(a).map(|text| text.as_slice()), Some(b"a".as_slice()));
+    assert_eq!(rt;
+        scopes.name(a).map(|text| text.as_slice()),
+        Some(b"a".as_slice())
+    );
     assert_eq!(rt; scopes.name(unnamed), None);
-    assert_eq!(rt; scopes.name(b).map(|text| text.as_slice()), Some(b"b".as_slice()));
+    assert_eq!(rt;
+        scopes.name(b).map(|text| text.as_slice()),
+        Some(b"b".as_slice())
+    );
     scopes.pop(1).ok().ok_or("a level")?;
     assert_eq!(rt; scopes.name(b), None);
     assert_eq!(rt; scopes.name(7), None);

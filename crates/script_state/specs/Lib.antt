@@ -1,0 +1,4 @@
+pub mod ErrorTexts
+pub mod Readings
+pub mod States
+pub mod Steps

@@ -1,0 +1,17 @@
+//! The deterministic part of a session: what each command of a script does to the declarations, the terms, the levels
+//! and the standing check, and how it is answered.
+//!
+//! [`state::State::apply`] takes a chunk of the script. Its answer and the new state are those of the step that the
+//! definitions in `specs/` give for the chunk's S-expression; a refused command leaves the state as it was. A solver and a
+//! checker of proofs drive the same state, so that a command is refused in both or in none. Known here are
+//! `declare-const` of words, `assert` over `=`, `bvadd`, `bvand`, `bvnot` and literals, and `check-sat`; every other
+//! chunk is answered as not supported. The crate stands on `smt_build` and `scope_selectors`, and on the crates that
+//! these stand on.
+#![tactic(auto)]
+
+pub mod answer;
+pub mod error_text;
+pub mod state;
+mod whole;
+#[cfg(test)]
+mod tests;

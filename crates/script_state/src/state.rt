@@ -1,0 +1,222 @@
+//! The state of a session, and its steps.
+
+ghost use Rattle.std.specs.Prelude.{◌≡◌, ◌+◌, ◌<◌, ◌≤◌, ◌^◌, Some, false, All, length, slice_get, OnErr};
+ghost use Rattle.std.specs.Option.{option_copied};
+ghost use Rattle.smt_text.specs.declared.chunk.ChunkKind.{ChunkKind as Kind};
+ghost use Rattle.smt_syntax.specs.Sexps.{Sexp, Sexps, signs_of};
+ghost use Rattle.smt_syntax.specs.Spans.{Stands, AllStand};
+ghost use Rattle.smt_syntax.specs.Commands.{name_of, spans_of, is_left_out};
+ghost use Rattle.smt_build.specs.Declaring.{declare};
+ghost use Rattle.smt_build.specs.Terms.{term_of};
+ghost use Rattle.script_state.specs.States.{no_state, concluded, IsState};
+ghost use Rattle.script_state.specs.Steps.{declaring, asserting, checking, obey, Answers, Applies};
+
+use crate::answer::{Answer, Verdict};
+use crate::error_text::ErrorText;
+use crate::whole::is_list;
+use scope_selectors::live::Live;
+use scope_selectors::scopes::Scopes;
+use smt_build::fault::BuildError;
+use smt_build::symbols::{LiveName, Symbols};
+use smt_syntax::command::{Command, SyntaxError, read_command};
+use smt_syntax::span::Span;
+use smt_terms::sort::{DeclId, Signature, Sort};
+use smt_terms::terms::Terms;
+use smt_text::chunk::{Chunk, ChunkKind};
+use smt_text::token::Tokens;
+use smt_text::tokens::{TokensError, tokens};
+use std::alloc::{AllocError, Global};
+use std::marker::Model;
+
+/// What is told of every chunk that is refused.
+const REFUSED: Answer = Answer::Refused(ErrorText::NotSupported);
+
+/// The declarations, the terms, the levels with their assertions, and the check that stands.
+#[derive(Drop)]
+pub struct State {
+    symbols: Symbols,
+    terms: Terms,
+    scopes: Scopes,
+    standing: Option<Verdict>,
+}
+
+impl Model for State {
+    ghost use Rattle.script_state.specs.States.{StateValue, IsState};
+
+    ghost Value = { StateValue };
+
+    ghost view = { λ s. record { symbols = s.symbols; terms = s.terms; scopes = s.scopes; standing = s.standing } };
+
+    ghost invariant = { λ s. IsState (record { symbols = s.symbols; terms = s.terms; scopes = s.scopes; standing = s.standing }) };
+}
+
+impl State {
+    /// Nothing declared, nothing asserted, one level, and no check that stands.
+    pub fn new(alloc: Global) -> State
+        ensures { result ≡ no_state }
+    {
+        State {
+            symbols: Symbols::new(alloc),
+            terms: Terms::new(alloc),
+            scopes: Scopes::new(alloc),
+            standing: None,
+        }
+    }
+
+    /// Makes the declaration of a command.
+    fn declare(
+        &mut self,
+        alloc: Global,
+        tokens: &Tokens<'_>,
+        command: &Command,
+    ) -> Result<Answer, AllocError>
+        requires { (es : Sexps) × AllStand (signs_of tokens.now) (spans_of command.now) es }
+        ensures { (es : Sexps) → AllStand (signs_of tokens.now) (spans_of command.now) es
+            → Answers (declaring self.old (declare self.old.symbols (name_of command.now) es)) result self.old self.new }
+    {
+        match self.symbols.declare(alloc, tokens, command) {
+            Ok(_) => {
+                self.standing = None;
+                Ok(Answer::Done)
+            }
+            Err(BuildError::NoMemory) => Err(AllocError),
+            Err(BuildError::Fault(_)) => Ok(REFUSED),
+        }
+    }
+
+    /// Asserts the term at the span.
+    fn assert(
+        &mut self,
+        alloc: Global,
+        tokens: &Tokens<'_>,
+        span: Span,
+    ) -> Result<Answer, AllocError>
+        requires stands { (e : Sexp) × Stands (signs_of tokens.now) span e }
+        requires assertions { self.old.scopes.made + 1 < 2 ^ 32 }
+        ensures { (e : Sexp) → Stands (signs_of tokens.now) span e
+            → Answers (asserting self.old (term_of self.old.symbols self.old.terms e)) result self.old self.new }
+    {
+        let len = self.terms.len();
+        let term = match self.symbols.elaborate(alloc, &mut self.terms, tokens, span) {
+            Ok(term) => term,
+            Err(BuildError::NoMemory) => return Err(AllocError),
+            Err(BuildError::Fault(_)) => return Ok(REFUSED),
+        };
+        if self.terms.sort(term) != Sort::Bool {
+            self.terms.cut(len);
+            return Ok(REFUSED);
+        }
+        match self.scopes.assert(term, None) {
+            Ok(_) => {
+                self.standing = None;
+                Ok(Answer::Done)
+            }
+            Err(_) => {
+                self.terms.cut(len);
+                Err(AllocError)
+            }
+        }
+    }
+
+    /// The live assertions are to be checked, and no check stands.
+    fn check(&mut self) -> Answer
+        ensures { Answers (checking self.old) (Ok result) self.old self.new }
+    {
+        self.standing = None;
+        Answer::Check
+    }
+
+    /// Does what the command says.
+    fn obey(
+        &mut self,
+        alloc: Global,
+        tokens: &Tokens<'_>,
+        command: &Command,
+    ) -> Result<Answer, AllocError>
+        requires arguments { (es : Sexps) × (is_left_out (name_of command.now) ≡ false → AllStand (signs_of tokens.now) (spans_of command.now) es) }
+        requires assertions { self.old.scopes.made + 1 < 2 ^ 32 }
+        ensures { (es : Sexps) → (is_left_out (name_of command.now) ≡ false → AllStand (signs_of tokens.now) (spans_of command.now) es)
+            → Answers (obey self.old (name_of command.now) es) result self.old self.new }
+    {
+        match command {
+            Command::DeclareConst { name: _, sort: _ } => self.declare(alloc, tokens, command),
+            Command::Assert { term } => self.assert(alloc, tokens, *term),
+            Command::CheckSat => Ok(self.check()),
+            _ => Ok(REFUSED),
+        }
+    }
+
+    /// Does what the chunk says, and gives its answer. Where it is refused, and for want of memory, the state is as before.
+    pub fn apply(&mut self, alloc: Global, chunk: &Chunk) -> Result<Answer, AllocError>
+        requires assertions { self.old.scopes.made + 1 < 2 ^ 32 }
+        ensures { Applies chunk.now result self.old self.new }
+    {
+        if chunk.kind != ChunkKind::Balanced {
+            return Ok(REFUSED);
+        }
+        let all = match tokens(alloc, chunk) {
+            Ok(all) => all,
+            Err(TokensError::NoMemory) => return Err(AllocError),
+            Err(TokensError::Bad(_)) => return Ok(REFUSED),
+        };
+        if !is_list(&all) {
+            return Ok(REFUSED);
+        }
+        match read_command(alloc, &all) {
+            Ok(command) => self.obey(alloc, &all, &command),
+            Err(SyntaxError::NoMemory) => Err(AllocError),
+            Err(SyntaxError::Fault(_)) => Ok(REFUSED),
+        }
+    }
+
+    /// The check that was begun last has this verdict, and stands until the next accepted command that changes the state.
+    pub fn conclude(&mut self, verdict: Verdict)
+        ensures { self.new ≡ concluded self.old verdict }
+    {
+        self.standing = Some(verdict);
+    }
+
+    /// The verdict of the check that stands, `None` exactly where none stands.
+    pub fn standing(&self) -> Option<Verdict>
+        ensures { result ≡ self.now.standing }
+    {
+        self.standing
+    }
+
+    /// The terms.
+    pub fn terms(&self) -> &Terms
+        ensures terms { result.now ≡ self.now.terms }
+        ensures state { IsState self.now }
+    {
+        &self.terms
+    }
+
+    /// How many assertions were ever made.
+    pub fn assertions_made(&self) -> u32
+        ensures { result ≡ self.now.scopes.made }
+    {
+        self.scopes.made()
+    }
+
+    /// The live assertions, in the order in which they were made.
+    pub fn live(&self) -> &[Live]
+        ensures live { result.now ≡ self.now.scopes.live }
+        ensures state { IsState self.now }
+    {
+        self.scopes.live()
+    }
+
+    /// The live names, in the order of their declarations.
+    pub fn declared(&self) -> &[LiveName]
+        ensures { result.now ≡ self.now.symbols.live }
+    {
+        self.symbols.live()
+    }
+
+    /// The signature of a declaration, `None` exactly where none of this number was made.
+    pub fn signature(&self, declaration: DeclId) -> Option<&Signature>
+        ensures { option_copied result ≡ slice_get self.now.symbols.signatures declaration }
+    {
+        self.symbols.signature(declaration)
+    }
+}

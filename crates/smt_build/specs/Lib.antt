@@ -1,0 +1,9 @@
+pub mod Literals
+pub mod Operators
+pub mod Names
+pub mod Sorts
+pub mod Declaring
+pub mod Building
+pub mod Terms
+pub mod TermReader
+pub mod Views

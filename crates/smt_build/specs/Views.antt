@@ -1,0 +1,59 @@
+-- What the reader of terms holds, without where it lies in memory, and what its calls answer.
+use Rattle.std.specs.Prelude.{◌≡◌, ℕ, List, [], ◌∷◌, map, reverse, Result, Ok, Err}
+use Rattle.smt_terms.specs.Terms.{TermsValue}
+use Rattle.smt_build.specs.declared.fault.BuildFault.{BuildFault}
+use Rattle.smt_build.specs.declared.fault.BuildError.{BuildError}
+use Rattle.smt_build.specs.declared.fault.BuildError.TheVariants.{NoMemory, Fault}
+use Rattle.smt_build.specs.declared.reader.Open.{Open as OpenList}
+use Rattle.smt_build.specs.declared.reader.Open.TheVariants as lists
+use Rattle.smt_build.specs.declared.reader.Part.{Part as ReadPart}
+use Rattle.smt_build.specs.declared.reader.Part.TheVariants as parts
+use Rattle.smt_build.specs.Building.{Built}
+use Rattle.smt_build.specs.TermReader.{Part, term, head, Open, started, application}
+
+abbrev pub part_of : ReadPart → Part
+part_of (parts.Term t) = term t
+part_of (parts.Head f) = head f.now
+
+abbrev pub open_of : OpenList → Open
+open_of lists.Started = started
+open_of (lists.Application f args) = application f.now args.items
+
+-- the open lists are kept with the innermost last
+abbrev pub stack_of : List OpenList → List Open
+stack_of lists = reverse (map open_of lists)
+
+-- A list opens as it is to, over all terms.
+abbrev pub Opens : (TermsValue → Result (Open × TermsValue) BuildFault) → Result OpenList BuildFault → Type 0
+Opens to (Ok f) = (s : TermsValue) → to s ≡ Ok (open_of f, s)
+Opens to (Err e) = (s : TermsValue) → to s ≡ Err e
+
+-- A part is taken as it is to be, over all terms.
+abbrev pub Takes : (TermsValue → Result (Open × TermsValue) BuildFault) → Result OpenList BuildError → Type 0
+Takes to (Ok f) = (s : TermsValue) → to s ≡ Ok (open_of f, s)
+Takes to (Err (Fault e)) = (s : TermsValue) → to s ≡ Err e
+Takes to (Err NoMemory) = Unit {0}
+
+-- A part is read as it is to be, with the terms then.
+abbrev pub Does : Result (Part × TermsValue) BuildFault → Result ReadPart BuildError → TermsValue → Type 0
+Does to (Ok p) terms = to ≡ Ok (part_of p, terms)
+Does to (Err (Fault e)) terms = to ≡ Err e
+Does to (Err NoMemory) terms = Unit {0}
+
+-- The list that opens is put on the stack, over all terms.
+abbrev pub OpensOn : (TermsValue → Result (Open × TermsValue) BuildFault) → Result (Unit {0}) BuildError → List Open → List Open → Type 0
+OpensOn to (Ok u) old new = (f : Open) × ((s : TermsValue) → to s ≡ Ok (f, s)) × (new ≡ f ∷ old)
+OpensOn to (Err (Fault e)) old new = (s : TermsValue) → to s ≡ Err e
+OpensOn to (Err NoMemory) old new = Unit {0}
+
+-- A part ends as it is to end, with the lists that are open and the terms then.
+abbrev pub Ends : Result ((Part × TermsValue) × List Open) BuildFault → Result ReadPart BuildError → List Open → TermsValue → Type 0
+Ends to (Ok p) st terms = to ≡ Ok ((part_of p, terms), st)
+Ends to (Err (Fault e)) st terms = to ≡ Err e
+Ends to (Err NoMemory) st terms = Unit {0}
+
+-- The answer is what is meant, with the terms then.
+abbrev pub Means : Built → Result ℕ BuildError → TermsValue → Type 0
+Means to (Ok t) terms = to ≡ Ok (t, terms)
+Means to (Err (Fault e)) terms = to ≡ Err e
+Means to (Err NoMemory) terms = Unit {0}
