@@ -1,2 +1,6 @@
 pub mod Lists
-pub mod Readings
+pub mod Declared
+pub mod Held
+pub mod Asserting
+pub mod Obeying
+pub mod Applying

@@ -1,5 +1,8 @@
 -- Tokens are one list in parentheses exactly where they spell one.
-use Rattle.std.proofs.Common.{◌≡◌, ◌≢◌, ℕ, zero, suc, ◌+◌, ◌<◌, ◌≤◌, true, false, List, [], ◌∷◌, ◌++◌, length, get_or, drop, refl, ap, sym, ◌∙◌, append_assoc, append-nil, add-one, sub-one, arith, false≢true}
+use Rattle.std.proofs.Common.{◌≡◌, ◌≢◌, ℕ, zero, suc, ◌+◌, ◌-◌, ◌<◌, ◌≤◌, true, false, List, [], ◌∷◌, ◌++◌, length, get_or, drop, refl, ap, sym, ◌∙◌, append_assoc, add-one, arith}
+use Rattle.std.specs.Prelude.{◌==◌}
+use Rattle.std.proofs.lemmas.Bool.{false≢true}
+use Rattle.std.proofs.lemmas.Bool.Decides.{nat_tests}
 use Rattle.std.proofs.lemmas.List.{drop_more, drop_all}
 use Rattle.smt_text.specs.declared.token.Token.{Token}
 use Rattle.smt_syntax.specs.Sexps.{Sign, open_paren, close_paren, word, Sexp, Sexps, atom, group, none, more, spelling, spellings, signs_in, sign_by}
@@ -11,6 +14,9 @@ abbrev Closed : ℕ → List Sign → Type 0
 Closed zero ts = ts ≡ []
 Closed (suc n) ts = (es : Sexps) × (rest : List Sign) × (ts ≡ spellings es ++ close_paren ∷ rest) × Closed n rest
 
+join : (es fs : Sexps) (rest : List Sign) → spellings es ++ close_paren ∷ (spellings fs ++ close_paren ∷ rest) ≡ ((spellings es ++ close_paren ∷ []) ++ spellings fs) ++ close_paren ∷ rest
+join es fs rest = sym (append_assoc (spellings es ++ close_paren ∷ []) (spellings fs) (close_paren ∷ rest) ∙ append_assoc (spellings es) (close_paren ∷ []) (spellings fs ++ close_paren ∷ rest))
+
 closed : (n : ℕ) (ts : List Sign) → closes n ts ≡ true → Closed n ts
 unfolding closes
 closed zero [] h = refl
@@ -19,7 +25,7 @@ closed (suc n) [] h = absurd (false≢true h)
 closed (suc n) (open_paren ∷ ls) h =
     let inner = closed (suc (suc n)) ls h in
     let outer = inner.3 in
-    (more (group inner.0) outer.0, outer.1, ap (λ r. open_paren ∷ r) (rw (inner.2, outer.2) (simp append_assoc)), outer.3)
+    (more (group inner.0) outer.0, outer.1, ap (λ r. open_paren ∷ r) (inner.2 ∙ ap (λ r. spellings inner.0 ++ close_paren ∷ r) outer.2 ∙ join inner.0 outer.0 outer.1), outer.3)
 closed (suc n) (close_paren ∷ ls) h = (none, ls, refl, closed n ls h)
 closed (suc n) (word k x ∷ ls) h =
     let tail = closed (suc n) ls h in
@@ -39,11 +45,11 @@ mutual
   unfolding closes
   closes-spelling : (n : ℕ) (e : Sexp) (rest : List Sign) → closes (suc n) (spelling e ++ rest) ≡ closes (suc n) rest
   closes-spelling n (atom k x) rest = refl
-  closes-spelling n (group es) rest = rw append_assoc (closes-spellings (suc n) es (close_paren ∷ rest))
+  closes-spelling n (group es) rest = ap (closes (suc (suc n))) (append_assoc (spellings es) (close_paren ∷ []) rest) ∙ closes-spellings (suc n) es (close_paren ∷ rest)
 
   closes-spellings : (n : ℕ) (es : Sexps) (rest : List Sign) → closes (suc n) (spellings es ++ rest) ≡ closes (suc n) rest
   closes-spellings n none rest = refl
-  closes-spellings n (more e es) rest = rw append_assoc (closes-spelling n e (spellings es ++ rest) ∙ closes-spellings n es rest)
+  closes-spellings n (more e es) rest = ap (closes (suc n)) (append_assoc (spelling e) (spellings es) rest) ∙ closes-spelling n e (spellings es ++ rest) ∙ closes-spellings n es rest
 
 listed : (es : Sexps) → is_list (spelling (group es)) ≡ true
 unfolding closes is_list
@@ -83,12 +89,20 @@ seen_more tokens i depth d after h c positive e =
       small = rw e (open_small depth (i + 1) l c.small);
     }
 
--- where tokens are left and none is open
-pub seen_early : (tokens : List Token) (i depth : ℕ) (d : Token) → i < length tokens → Seen tokens i depth → depth ≡ 0 → false ≡ closes 1 (signs_in tokens)
-unfolding closes
-seen_early tokens i depth d h c e = sym (c.same ∙ rw (e, drop_more tokens i d h) refl)
+some_left : {X : Type 0} (xs : List X) (i : ℕ) → i < length xs → (x : X) × (ys : List X) × (drop i xs ≡ x ∷ ys)
+some_left [] i h = absurd (omega (arith, h))
+some_left (x ∷ xs) zero h = (x, xs, refl)
+some_left (x ∷ xs) (suc i) h = some_left xs i (omega (arith, h))
 
-pub seen_all : (tokens : List Token) (i depth : ℕ) → length tokens ≤ i → Seen tokens i depth → (depth ≡ 0 → closes 1 (signs_in tokens) ≡ true) × (0 < depth → closes 1 (signs_in tokens) ≡ false)
+-- where tokens are left and none is open
+pub seen_early : (tokens : List Token) (i depth : ℕ) → i < length tokens → Seen tokens i depth → depth ≡ 0 → false ≡ closes 1 (signs_in tokens)
 unfolding closes
-seen_all tokens i zero h c = (λ e. c.same ∙ rw (drop_all i tokens h) refl, λ lt. absurd (omega (arith, lt)))
-seen_all tokens i (suc n) h c = (λ e. absurd (omega (arith, e)), λ lt. c.same ∙ rw (drop_all i tokens h) refl)
+seen_early tokens i depth h c e = let left = some_left tokens i h in sym (c.same ∙ rw (e, left.2) refl)
+
+closes_end : (depth : ℕ) → (depth == 0) ≡ closes depth []
+unfolding closes
+closes_end zero = refl
+closes_end (suc n) = grind (arith, nat_tests)
+
+pub seen_all : (tokens : List Token) (i depth : ℕ) → length tokens ≤ i → Seen tokens i depth → (depth == 0) ≡ closes 1 (signs_in tokens)
+seen_all tokens i depth h c = closes_end depth ∙ sym (rw (drop_all i tokens h) at c.same)

@@ -42,6 +42,11 @@ asserting s (Err f) = refuse s
 abbrev pub checking : StateValue → Step
 checking s = (Check, record { symbols = s.symbols; terms = s.terms; scopes = s.scopes; standing = None })
 
+-- what a command of this name does that has no arguments
+abbrev pub named_step : StateValue → CommandName → Step
+named_step s name.CheckSat = checking s
+named_step s _ = refuse s
+
 -- what a command of this name with these arguments does
 unfoldable pub obey : StateValue → CommandName → Sexps → Step
 obey s name.DeclareConst es = declaring s (declare s.symbols name.DeclareConst es)

@@ -1,15 +1,14 @@
 //! The state of a session, and its steps.
 
-ghost use Rattle.std.specs.Prelude.{◌≡◌, ◌+◌, ◌<◌, ◌≤◌, ◌^◌, Some, false, All, length, slice_get, OnErr};
+ghost use Rattle.std.specs.Prelude.{◌≡◌, ◌+◌, ◌<◌, ◌^◌, Ok, false, slice_get};
 ghost use Rattle.std.specs.Option.{option_copied};
-ghost use Rattle.smt_text.specs.declared.chunk.ChunkKind.{ChunkKind as Kind};
 ghost use Rattle.smt_syntax.specs.Sexps.{Sexp, Sexps, signs_of};
 ghost use Rattle.smt_syntax.specs.Spans.{Stands, AllStand};
 ghost use Rattle.smt_syntax.specs.Commands.{name_of, spans_of, is_left_out};
 ghost use Rattle.smt_build.specs.Declaring.{declare};
 ghost use Rattle.smt_build.specs.Terms.{term_of};
 ghost use Rattle.script_state.specs.States.{no_state, concluded, IsState};
-ghost use Rattle.script_state.specs.Steps.{declaring, asserting, checking, obey, Answers, Applies};
+ghost use Rattle.script_state.specs.Steps.{declaring, asserting, checking, named_step, obey, Answers, Applies};
 
 use crate::answer::{Answer, Verdict};
 use crate::error_text::ErrorText;
@@ -23,7 +22,7 @@ use smt_syntax::span::Span;
 use smt_terms::sort::{DeclId, Signature, Sort};
 use smt_terms::terms::Terms;
 use smt_text::chunk::{Chunk, ChunkKind};
-use smt_text::token::Tokens;
+use smt_text::token::{CommandName, Tokens};
 use smt_text::tokens::{TokensError, tokens};
 use std::alloc::{AllocError, Global};
 use std::marker::Model;
@@ -126,6 +125,16 @@ impl State {
         Answer::Check
     }
 
+    /// Does what a command says that was read by its name alone.
+    fn obey_name(&mut self, name: CommandName) -> Answer
+        ensures { Answers (named_step self.old name) (Ok result) self.old self.new }
+    {
+        match name {
+            CommandName::CheckSat => self.check(),
+            _ => REFUSED,
+        }
+    }
+
     /// Does what the command says.
     fn obey(
         &mut self,
@@ -142,6 +151,7 @@ impl State {
             Command::DeclareConst { name: _, sort: _ } => self.declare(alloc, tokens, command),
             Command::Assert { term } => self.assert(alloc, tokens, *term),
             Command::CheckSat => Ok(self.check()),
+            Command::NotSupported { name } => Ok(self.obey_name(*name)),
             _ => Ok(REFUSED),
         }
     }

@@ -1,6 +1,6 @@
 //! Whether tokens are one list in parentheses.
 
-ghost use Rattle.std.specs.Prelude.{◌≡◌, ◌+◌, ◌<◌, ◌≤◌, ◌^◌, ℕ, List, length};
+ghost use Rattle.std.specs.Prelude.{◌≡◌, ◌+◌, ◌<◌, ◌^◌, ℕ, List};
 ghost use Rattle.smt_syntax.specs.Sexps.{sign_by, signs_in, signs_of};
 ghost use Rattle.smt_syntax.specs.Depth.{open_after};
 ghost use Rattle.script_state.specs.Readings.{closes, is_list};
@@ -34,6 +34,7 @@ fn closes(tokens: &[Token<'_>]) -> bool
 }
 
 /// Whether the tokens are one list in parentheses.
+#[tactic(auto, unfolding(crate::specs::Readings::is_list))]
 fn is_list_of(tokens: &[Token<'_>]) -> bool
     ensures { result ≡ is_list (signs_in tokens.now) }
 {

@@ -7,3 +7,4 @@ pub mod Building
 pub mod Terms
 pub mod TermReader
 pub mod Views
+pub mod Steps

@@ -40,18 +40,6 @@ Does to (Ok p) terms = to ≡ Ok (part_of p, terms)
 Does to (Err (Fault e)) terms = to ≡ Err e
 Does to (Err NoMemory) terms = Unit {0}
 
--- The list that opens is put on the stack, over all terms.
-abbrev pub OpensOn : (TermsValue → Result (Open × TermsValue) BuildFault) → Result (Unit {0}) BuildError → List Open → List Open → Type 0
-OpensOn to (Ok u) old new = (f : Open) × ((s : TermsValue) → to s ≡ Ok (f, s)) × (new ≡ f ∷ old)
-OpensOn to (Err (Fault e)) old new = (s : TermsValue) → to s ≡ Err e
-OpensOn to (Err NoMemory) old new = Unit {0}
-
--- A part ends as it is to end, with the lists that are open and the terms then.
-abbrev pub Ends : Result ((Part × TermsValue) × List Open) BuildFault → Result ReadPart BuildError → List Open → TermsValue → Type 0
-Ends to (Ok p) st terms = to ≡ Ok ((part_of p, terms), st)
-Ends to (Err (Fault e)) st terms = to ≡ Err e
-Ends to (Err NoMemory) st terms = Unit {0}
-
 -- The answer is what is meant, with the terms then.
 abbrev pub Means : Built → Result ℕ BuildError → TermsValue → Type 0
 Means to (Ok t) terms = to ≡ Ok (t, terms)

@@ -55,7 +55,10 @@ fn declare_constant(
     if symbols.declaration(name.text).is_some() {
         return Err(BuildError::Fault(BuildFault::Declared));
     }
-    let value = sort_of(sort)?;
+    let value = match sort_of(sort) {
+        Ok(value) => value,
+        Err(fault) => return Err(BuildError::Fault(fault)),
+    };
     let number = symbols.add(alloc, name.text, constant_signature(alloc, value))?;
     Ok(number)
 }
@@ -70,13 +73,11 @@ impl Symbols {
     ) -> Result<DeclId, BuildError>
         ensures { (es : Sexps) → AllStand (signs_of tokens.now) (spans_of command.now) es → Declares (declare self.old (name_of command.now) es) result self.old self.new }
     {
+        let items = tokens.as_slice();
         match command {
-            Command::DeclareConst { name, sort } => declare_constant(
-                self,
-                alloc,
-                tokens_at(tokens.as_slice(), *name),
-                tokens_at(tokens.as_slice(), *sort),
-            ),
+            Command::DeclareConst { name, sort } => {
+                declare_constant(self, alloc, tokens_at(items, *name), tokens_at(items, *sort))
+            }
             _ => Err(BuildError::Fault(BuildFault::NotSupported)),
         }
     }

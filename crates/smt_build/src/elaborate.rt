@@ -3,12 +3,14 @@
 ghost use Rattle.std.specs.Prelude.{◌≡◌, [], OnErr};
 ghost use Rattle.smt_syntax.specs.Sexps.{sign_in, signs_in, signs_of, spelling, Sexp};
 ghost use Rattle.smt_syntax.specs.Spans.{Stands};
-ghost use Rattle.smt_syntax.specs.Walk.{run, ended, context_in};
+ghost use Rattle.smt_syntax.specs.Walk.{run, context_in};
+ghost use Rattle.smt_terms.specs.Terms.{TermsValue};
 ghost use Rattle.smt_build.specs.Names.{AreDeclared, no_symbols};
 ghost use Rattle.smt_build.specs.Building.{Grows, Builds};
 ghost use Rattle.smt_build.specs.Terms.{term_of};
-ghost use Rattle.smt_build.specs.TermReader.{opens, term_reader};
-ghost use Rattle.smt_build.specs.Views.{stack_of, Does, Ends, Means, OpensOn};
+ghost use Rattle.smt_build.specs.TermReader.{term_reader};
+ghost use Rattle.smt_build.specs.Steps.{opened, handed, step, Steps};
+ghost use Rattle.smt_build.specs.Views.{stack_of, part_of, Does, Means};
 
 use crate::declare::tokens_at;
 use crate::fault::{BuildError, BuildFault};
@@ -30,43 +32,65 @@ fn wanted(stack: &[Open<'_>]) -> Want
     }
 }
 
-/// A list opens.
-fn open_list(stack: &mut Vec<Open<'_>>) -> Result<(), BuildError>
-    ensures { OpensOn (opens (context_in (term_reader no_symbols) Want.Term (stack_of stack.old.items))) result (stack_of stack.old.items) (stack_of stack.new.items) }
+/// A list opens. `Some` is the part that ends the reading.
+fn open_list<'a>(stack: &mut Vec<Open<'a>>) -> Result<Option<Part<'a>>, BuildError>
+    ensures { (s : TermsValue) → Steps (opened (term_reader no_symbols) Want.Term (stack_of stack.old.items) s) result (stack_of stack.new.items) s }
 {
     match opens(wanted(stack)) {
         Err(fault) => Err(BuildError::Fault(fault)),
         Ok(list) => {
             stack.push(list)?;
-            Ok(())
+            Ok(None)
         }
     }
 }
 
-/// The part that a token ends.
-#[tactic(auto, unfolding(smt_syntax::specs::Walk::ended))]
-fn ended<'a>(
+/// Hands a part to its list.
+fn hand<'a>(
+    alloc: Global,
+    stack: &mut Vec<Open<'a>>,
+    part: Part<'a>,
+) -> Result<Option<Part<'a>>, BuildError>
+    ensures { (s : TermsValue) → Steps (handed (term_reader no_symbols) (stack_of stack.old.items) (part_of part.entry, s)) result (stack_of stack.new.items) s }
+{
+    let Some(list) = stack.pop() else {
+        return Ok(Some(part));
+    };
+    let list = takes(alloc, list, part)?;
+    stack.push(list)?;
+    Ok(None)
+}
+
+/// One token more.
+#[tactic(auto, unfolding(crate::specs::Steps::step))]
+fn step<'a>(
     alloc: Global,
     symbols: &Symbols,
     terms: &mut Terms,
     stack: &mut Vec<Open<'a>>,
     token: &Token<'a>,
-) -> Result<Part<'a>, BuildError>
+) -> Result<Option<Part<'a>>, BuildError>
     requires { AreDeclared symbols.now.signatures terms.old.nodes }
-    ensures ends { Ends (ended (term_reader symbols.now) Want.Term (stack_of stack.old.items) terms.old (sign_in token.now)) result (stack_of stack.new.items) terms.new }
+    ensures steps { Steps (step (term_reader symbols.now) Want.Term (stack_of stack.old.items) terms.old (sign_in token.now)) result (stack_of stack.new.items) terms.new }
     ensures grows { Grows symbols.now.signatures terms.old terms.new }
 {
     match token.kind {
-        TokenKind::Open => Err(BuildError::Fault(BuildFault::NotSupported)),
+        TokenKind::Open => open_list(stack),
         TokenKind::Close => match stack.pop() {
-            Some(list) => closes(symbols, terms, list),
             None => Err(BuildError::Fault(BuildFault::NotSupported)),
+            Some(list) => {
+                let part = closes(symbols, terms, list)?;
+                hand(alloc, stack, part)
+            }
         },
-        kind => at_word(alloc, symbols, terms, wanted(stack), kind, token.text),
+        kind => {
+            let part = at_word(alloc, symbols, terms, wanted(stack), kind, token.text)?;
+            hand(alloc, stack, part)
+        }
     }
 }
 
-/// Reads the term that the tokens begin with.
+/// Reads the part that the tokens begin with; after a fault or for want of memory more terms may be held.
 fn read_part<'a>(
     alloc: Global,
     symbols: &Symbols,
@@ -79,21 +103,15 @@ fn read_part<'a>(
 {
     let mut stack: Vec<Open<'a>> = Vec::new(alloc);
     for token in tokens {
-        if matches!(token.kind, TokenKind::Open) {
-            open_list(&mut stack)?;
-            continue;
+        match step(alloc, symbols, terms, &mut stack, token)? {
+            Some(part) => return Ok(part),
+            None => {}
         }
-        let part = ended(alloc, symbols, terms, &mut stack, token)?;
-        let Some(list) = stack.pop() else {
-            return Ok(part);
-        };
-        let list = takes(alloc, list, part)?;
-        stack.push(list)?;
     }
     Err(BuildError::Fault(BuildFault::NotSupported))
 }
 
-/// Reads a term; after a fault or for want of memory more terms may be held.
+/// Reads a term, in the same way.
 fn read_term(
     alloc: Global,
     symbols: &Symbols,
@@ -126,7 +144,8 @@ impl Symbols {
         ensures grows { Grows self.now.signatures terms.old terms.new }
     {
         let len = terms.len();
-        match read_term(alloc, self, terms, tokens_at(tokens.as_slice(), span)) {
+        let items = tokens_at(tokens.as_slice(), span);
+        match read_term(alloc, self, terms, items) {
             Ok(term) => Ok(term),
             Err(error) => {
                 terms.cut(len);

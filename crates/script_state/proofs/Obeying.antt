@@ -1,0 +1,77 @@
+-- What each command does, by its name and its arguments.
+use Rattle.std.proofs.Common.{◌≡◌, false, List, [], ◌∷◌, refl, sym, subst, Result, Ok, None}
+use Rattle.std.specs.declared.alloc.AllocError.{AllocError}
+use Rattle.smt_text.specs.declared.token.CommandName.{CommandName}
+use Rattle.smt_text.specs.declared.token.CommandName.TheVariants as name
+use Rattle.smt_syntax.specs.declared.span.Span.{Span}
+use Rattle.smt_syntax.specs.declared.command.Command.{Command}
+use Rattle.smt_syntax.specs.declared.command.Command.TheVariants as command
+use Rattle.smt_syntax.specs.Sexps.{Sign, Sexp, Sexps, none, more}
+use Rattle.smt_syntax.specs.Spans.{Stands, AllStand}
+use Rattle.smt_syntax.specs.Commands.{name_of, spans_of, is_left_out}
+use Rattle.smt_build.specs.Declaring.{declare, declare_parts}
+use Rattle.smt_build.specs.Terms.{term_of}
+use Rattle.script_state.specs.declared.answer.Answer.{Answer}
+use Rattle.script_state.specs.States.{StateValue}
+use Rattle.script_state.specs.Steps.{Step, declaring, asserting, checking, refuse, named_step, obey, Answers}
+
+module _ (s : StateValue) (signs : List Sign) (result : Result Answer AllocError) (new : StateValue) where
+  -- the arguments stand at the spans of a command that is not left out
+  abbrev pub HasArguments : Command → Sexps → Type 0
+  HasArguments k es = is_left_out (name_of k) ≡ false → AllStand signs (spans_of k) es
+
+  abbrev pub Obeys : Command → Type 0
+  Obeys k = (es : Sexps) → HasArguments k es → Answers (obey s (name_of k) es) result s new
+
+  pub obeys_declaration : (k : Command) (n t : Span) → k ≡ command.DeclareConst n t
+      → ((es : Sexps) → AllStand signs (spans_of k) es → Answers (declaring s (declare s.symbols (name_of k) es)) result s new)
+      → Obeys k
+  unfolding obey
+  obeys_declaration k n t e =
+      let P : Command → Type 0 = λ k. ((es : Sexps) → AllStand signs (spans_of k) es → Answers (declaring s (declare s.symbols (name_of k) es)) result s new) → Obeys k in
+      subst P (sym e) (λ ensures es stand. ensures es (stand refl))
+
+  one_argument : (span : Span) (es : Sexps) → AllStand signs (span ∷ []) es
+      → ((e : Sexp) → Stands signs span e → Answers (asserting s (term_of s.symbols s.terms e)) result s new)
+      → Answers (obey s name.Assert es) result s new
+  unfolding obey
+  one_argument span none stand ensures = absurd stand
+  one_argument span (more e none) stand ensures = ensures e stand.0
+  one_argument span (more e (more f es)) stand ensures = absurd stand.1
+
+  pub obeys_assertion : (k : Command) (span : Span) → k ≡ command.Assert span
+      → ((e : Sexp) → Stands signs span e → Answers (asserting s (term_of s.symbols s.terms e)) result s new)
+      → Obeys k
+  obeys_assertion k span e ensures = subst Obeys (sym e) (λ es stand. one_argument span es (stand refl) ensures)
+
+  no_argument : (es : Sexps) → AllStand signs [] es → Answers (checking s) result s new → Answers (obey s name.CheckSat es) result s new
+  unfolding obey
+  no_argument none stand ensures = ensures
+  no_argument (more e es) stand ensures = absurd stand
+
+  pub obeys_check : (k : Command) → k ≡ command.CheckSat → Answers (checking s) result s new → Obeys k
+  obeys_check k e ensures = subst Obeys (sym e) (λ es stand. no_argument es (stand refl) ensures)
+
+  left_out : (n : CommandName) (es : Sexps) → (is_left_out n ≡ false → AllStand signs [] es) → Answers (named_step s n) result s new → Answers (obey s n es) result s new
+  unfolding obey declare
+  left_out name.CheckSat es stand ensures = no_argument es (stand refl) ensures
+  left_out name.Assert none stand ensures = ensures
+  left_out name.Assert (more e es) stand ensures = absurd (stand refl)
+  left_out name.DeclareConst none stand ensures = ensures
+  left_out name.DeclareConst (more e es) stand ensures = absurd (stand refl)
+  left_out _ es stand ensures = ensures
+
+  pub obeys_left_out : (k : Command) (n : CommandName) → k ≡ command.NotSupported n → Answers (named_step s n) result s new → Obeys k
+  obeys_left_out k n e ensures = subst Obeys (sym e) (λ es stand. left_out n es stand ensures)
+
+module _ (s : StateValue) where
+  -- every other command is refused
+  pub obeys_other : (k : Command)
+      → ((span : Span) → k ≡ command.Assert span → ⊥) → (k ≡ command.CheckSat → ⊥) → ((n t : Span) → k ≡ command.DeclareConst n t → ⊥) → ((n : CommandName) → k ≡ command.NotSupported n → ⊥)
+      → (es : Sexps) → ◌≡◌ {A = Step} (obey s (name_of k) es) (refuse s)
+  unfolding obey
+  obeys_other (command.Assert span) a b c d es = absurd (a span refl)
+  obeys_other command.CheckSat a b c d es = absurd (b refl)
+  obeys_other (command.DeclareConst n t) a b c d es = absurd (c n t refl)
+  obeys_other (command.NotSupported n) a b c d es = absurd (d n refl)
+  obeys_other _ a b c d es = refl

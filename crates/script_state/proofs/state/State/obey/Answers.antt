@@ -1,0 +1,18 @@
+use Rattle.std.proofs.Common.{Ok}
+use Rattle.script_state.proofs.Obeying.{obeys_declaration, obeys_assertion, obeys_check, obeys_left_out, obeys_other}
+use Rattle.script_state.proofs.state.State.obey.Goals as goal
+
+pub returns-in-DeclareConst : goal.returns-in-DeclareConst
+returns-in-DeclareConst c = obeys_declaration _ _ _ _ _ _ _ c.in-DeclareConst.is c.declare.ensures
+
+pub returns-in-Assert : goal.returns-in-Assert
+returns-in-Assert c = obeys_assertion _ _ _ _ _ _ c.in-Assert.is c.assert.ensures
+
+pub returns-in-CheckSat : goal.returns-in-CheckSat
+returns-in-CheckSat c = obeys_check c.args.self.now _ (Ok c.check.result) c.check.new.self _ c.in-CheckSat.is c.check.ensures
+
+pub returns-in-NotSupported : goal.returns-in-NotSupported
+returns-in-NotSupported c = obeys_left_out c.args.self.now _ (Ok c.obey_name.result) c.obey_name.new.self _ _ c.in-NotSupported.is c.obey_name.ensures
+
+pub returns-in_default : goal.returns-in_default
+returns-in_default c = λ es stand. obeys_other c.args.self.now c.args.command.now c.in_default.not-Assert c.in_default.not-CheckSat c.in_default.not-DeclareConst c.in_default.not-NotSupported es
