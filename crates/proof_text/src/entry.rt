@@ -69,7 +69,7 @@ fn push_literal(literal: Lit, out: &mut Text) -> Result<(), AllocError>
 }
 
 fn push_literals(literals: &[Lit], out: &mut Text) -> Result<(), AllocError>
-    ensures ok { OnOk result (out.new ≡ out.old ++ spaced (map (λ l. literal_text (written_literal l)) literals.now)) }
+    ensures ok { OnOk result (out.new ≡ out.old ++ spaced (map literal_text (map written_literal literals.now))) }
     ensures err { OnErr result (take (length out.old) out.new ≡ out.old) }
 {
     for literal in literals {
@@ -88,7 +88,7 @@ fn push_hint(hint: ClauseId, out: &mut Text) -> Result<(), AllocError>
 }
 
 fn push_hints(hints: &[ClauseId], out: &mut Text) -> Result<(), AllocError>
-    ensures ok { OnOk result (out.new ≡ out.old ++ spaced (map (λ h. hint_text (written_hint h)) hints.now)) }
+    ensures ok { OnOk result (out.new ≡ out.old ++ spaced (map hint_text (map written_hint hints.now))) }
     ensures err { OnErr result (take (length out.old) out.new ≡ out.old) }
 {
     for hint in hints {

@@ -8,14 +8,8 @@ use smt_terms::operator::Operator;
 #[derive(Clone, Copy, Debug)]
 pub enum Head {
     Plain(Operator),
-    Word {
-        width: u64,
-        value: u128,
-    },
-    Extract {
-        high: u64,
-        low: u64,
-    },
+    Word { width: u64, value: u128 },
+    Extract { high: u64, low: u64 },
     ZeroExtend(u64),
     SignExtend(u64),
     RotateLeft(u64),

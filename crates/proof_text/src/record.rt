@@ -22,9 +22,9 @@ pub struct DeclaredValues {
 
 impl Model for DeclaredValues {
     ghost use Rattle.std.specs.Prelude.{List, ℕ};
-    ghost use Rattle.smt_values.specs.declared.value.Value.{Value};
+    ghost use Rattle.smt_values.specs.declared.value.Value.{Value as Held};
 
-    ghost Value = { List (ℕ × Value) };
+    ghost Value = { List (ℕ × Held) };
 
     ghost view = { λ v. v.items.items };
 }
@@ -103,25 +103,26 @@ fn push_declared(declaration: DeclId, value: &Value, out: &mut Text) -> Result<(
     out.push(b'\n')
 }
 
-fn push_values(values: &DeclaredValues, out: &mut Text) -> Result<(), AllocError>
+fn push_values(values: &[(DeclId, Value)], out: &mut Text) -> Result<(), AllocError>
     requires { AllByRecursion (λ p. IsSome (written_value p.1)) values.now }
     ensures ok { OnOk result (out.new ≡ out.old ++ flat_map line_text (flat_map value_lines values.now)) }
     ensures err { OnErr result (take (length out.old) out.new ≡ out.old) }
 {
-    for pair in values.as_slice() {
+    for pair in values {
         push_declared(pair.0, &pair.1, out)?;
     }
     Ok(())
 }
 
-fn push_record(record: &Record, out: &mut Text) -> Result<(), AllocError>
-    requires { AreWritten record.now }
-    ensures ok { OnOk result (out.new ≡ out.old ++ flat_map line_text (record_lines record.now)) }
+fn push_record(shown: &Record, out: &mut Text) -> Result<(), AllocError>
+    requires { AreWritten shown.now }
+    ensures ok { OnOk result (out.new ≡ out.old ++ flat_map line_text (record_lines shown.now)) }
     ensures err { OnErr result (take (length out.old) out.new ≡ out.old) }
 {
-    match record {
+    match shown {
         Record::Sat(values) => {
-            push_line(out, b"sat", values.as_slice().len() as u64)?;
+            let values = values.as_slice();
+            push_line(out, b"sat", values.len() as u64)?;
             push_values(values, out)
         }
         Record::Unsat(pos) => push_line(out, b"unsat", *pos),
@@ -129,13 +130,13 @@ fn push_record(record: &Record, out: &mut Text) -> Result<(), AllocError>
 }
 
 /// Appends the lines of a record.
-pub fn write_record(record: &Record, out: &mut Text) -> Result<(), AllocError>
+pub fn write_record(shown: &Record, out: &mut Text) -> Result<(), AllocError>
     // Arrays and tables of functions have no written form.
-    requires { AreWritten record.now }
-    ensures ok { OnOk result (out.new ≡ out.old ++ flat_map line_text (record_lines record.now)) }
+    requires { AreWritten shown.now }
+    ensures ok { OnOk result (out.new ≡ out.old ++ flat_map line_text (record_lines shown.now)) }
     ensures err { OnErr result (out.new ≡ out.old) }
 {
     let before = out.len();
-    let written = push_record(record, out);
+    let written = push_record(shown, out);
     whole_or_none(out, before, written)
 }

@@ -23,7 +23,10 @@ fn a_refutation_of_false_is_printed_in_five_lines(rt: HostRuntime) -> Result<(),
     )?;
     write_entry(&Entry::Chain(clause, Hints::from_vec(hints)), &mut out)?;
     write_record(&Record::Unsat(3), &mut out)?;
-    assert!(rt; out.as_slice() == b"smt_proof 1 cubes 0 budget 100000\ne 0\ns 0\nc -2 0 0.0 2.0\nunsat 3\n".as_slice());
+    assert!(rt;
+        out.as_slice()
+            == b"smt_proof 1 cubes 0 budget 100000\ne 0\ns 0\nc -2 0 0.0 2.0\nunsat 3\n".as_slice()
+    );
     Ok(())
 }
 

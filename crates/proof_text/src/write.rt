@@ -2,6 +2,7 @@
 
 ghost use Rattle.std.specs.Prelude.{◌≡◌, ◌++◌, ◌∷◌, [], length, take, OnOk, OnErr};
 ghost use Rattle.std.specs.Fmt.{decimal};
+ghost use Rattle.proof_text.specs.Lines.{joined, with_number};
 
 use crate::number::{push_number, push_wide};
 use smt_text::text::Text;
@@ -43,7 +44,7 @@ pub fn push_spaced_wide(out: &mut Text, n: u128) -> Result<(), AllocError>
 
 /// Appends a word, a space and a number.
 pub fn push_with_number(out: &mut Text, word: &[u8], n: u64) -> Result<(), AllocError>
-    ensures ok { OnOk result (out.new ≡ out.old ++ (word.now ++ 32 ∷ decimal n)) }
+    ensures ok { OnOk result (out.new ≡ out.old ++ joined (with_number word.now n)) }
     ensures err { OnErr result (take (length out.old) out.new ≡ out.old) }
 {
     out.push_slice(word)?;
@@ -52,7 +53,7 @@ pub fn push_with_number(out: &mut Text, word: &[u8], n: u64) -> Result<(), Alloc
 
 /// Appends a line of a word and a number.
 pub fn push_line(out: &mut Text, word: &[u8], n: u64) -> Result<(), AllocError>
-    ensures ok { OnOk result (out.new ≡ out.old ++ (word.now ++ 32 ∷ decimal n ++ 10 ∷ [])) }
+    ensures ok { OnOk result (out.new ≡ out.old ++ (joined (with_number word.now n) ++ 10 ∷ [])) }
     ensures err { OnErr result (take (length out.old) out.new ≡ out.old) }
 {
     push_with_number(out, word, n)?;

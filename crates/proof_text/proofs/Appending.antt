@@ -1,0 +1,94 @@
+-- What several appends make of a text.
+use Rattle.std.proofs.Common.{◌≡◌, ℕ, zero, suc, ◌+◌, ◌-◌, ◌*◌, ◌/◌, ◌%◌, ◌^◌, ◌<◌, ◌≤◌, Bool, true, false, cond, List, [], ◌∷◌, ◌++◌, length, take, map, refl, sym, ap, ◌∙◌, arith, append_assoc, eqb, eq-eqb, Option, Some, None, IfSome, IsSome, Result, Ok, Err, OnErr, length-append, ◌≢◌, codes}
+use Rattle.std.proofs.lemmas.Bool.Decides.{nat_tests}
+use Rattle.std.proofs.Math.Seq.{take-append_seam}
+use Rattle.std.proofs.lemmas.List.{append-nil, take-take}
+use Rattle.std.proofs.lemmas.List.Concat.{flat_map-append}
+use Rattle.std.proofs.lemmas.Fmt.{decimal_digit, decimal_step_wide}
+use Rattle.std.specs.Option.{option_map}
+use Rattle.std.specs.Fmt.{decimal}
+use Rattle.proof_text.specs.Lines.{spaced, joined, with_number, head_words, line_text, digit_of}
+use Rattle.proof_text.specs.Records.{binary}
+use Rattle.proof_text.specs.declared.line.Head.{Head}
+use Rattle.proof_text.specs.declared.line.Head.TheVariants.{Plain, Word, Extract, ZeroExtend, SignExtend, RotateLeft, RotateRight, Repeat, Apply}
+use Rattle.proof_text.specs.declared.line.Line.TheVariants.{Term, Header}
+
+-- a last digit
+pub last_digit : (out mid new : List ℕ) (n : ℕ) → 10 ≤ n → n < 10 ^ 64 → mid ≡ out ++ decimal (n / 10) → new ≡ mid ++ (48 + n % 10) ∷ [] → new ≡ out ++ decimal n
+last_digit out mid new n low high e f = f ∙ rw (e, decimal_step_wide n low high) (append_assoc out (decimal (n / 10)) ((48 + n % 10) ∷ []))
+
+-- the only digit
+pub one_digit : (out new : List ℕ) (n : ℕ) → n < 10 → new ≡ out ++ (48 + n % 10) ∷ [] → new ≡ out ++ decimal n
+one_digit out new n small f =
+    let same : n % 10 ≡ n = omega arith in
+    f ∙ rw (same, decimal_digit n small) refl
+
+-- the highest digit of so many
+pub binary_step : (width x : ℕ) → 0 < width → binary width x ≡ eqb ((x / 2 ^ (width - 1)) % 2) 1 ∷ binary (width - 1) x
+unfolding binary
+binary_step zero x h = absurd (omega arith)
+binary_step (suc n) x h = let same : suc n - 1 ≡ n = omega arith in rw same refl
+
+pub no_digits : (width x : ℕ) → width ≡ 0 → binary width x ≡ []
+unfolding binary
+no_digits zero x h = refl
+no_digits (suc n) x h = absurd (omega arith)
+
+pub digits_more : (out mid new : List ℕ) (width x b : ℕ) → 0 < width → b ≡ digit_of (eqb ((x / 2 ^ (width - 1)) % 2) 1) → mid ≡ out ++ b ∷ [] → new ≡ mid ++ map digit_of (binary (width - 1) x) → new ≡ out ++ map digit_of (binary width x)
+digits_more out mid new width x b h d e f =
+    f ∙ rw (e, binary_step width x h, d) (append_assoc out (digit_of (eqb ((x / 2 ^ (width - 1)) % 2) 1) ∷ []) (map digit_of (binary (width - 1) x)))
+
+pub digit_is_one : (x : ℕ) → x ≡ 1 → 49 ≡ digit_of (eqb x 1)
+digit_is_one x e = rw e refl
+
+pub digit_is_zero : (x : ℕ) → x ≢ 1 → 48 ≡ digit_of (eqb x 1)
+digit_is_zero x h = grind (arith, nat_tests)
+
+-- what was there stays in front
+pub kept_front : (old mid new more : List ℕ) → mid ≡ old ++ more → take (length mid) new ≡ mid → take (length old) new ≡ old
+kept_front old mid new more e h =
+    let longer : length old ≤ length mid = rw (e, length-append) (omega arith) in
+    let outer : take (length old) (take (length mid) new) ≡ take (length old) new = take-take (length old) (length mid) new longer in
+    sym outer ∙ rw (h, e) (take-append_seam old more)
+
+-- a word and a number
+pub number_behind : (out mid new w : List ℕ) (n : ℕ) → mid ≡ out ++ w → new ≡ mid ++ 32 ∷ decimal n → new ≡ out ++ joined (with_number w n)
+number_behind out mid new w n e f = f ∙ rw (e, append-nil (decimal n)) (append_assoc out w (32 ∷ decimal n))
+
+regroup : (out a b c d e : List ℕ) → ((out ++ (a ++ b)) ++ (c ++ d)) ++ e ≡ out ++ (a ++ ((b ++ (c ++ d)) ++ e))
+regroup out a b c d e = simp append_assoc
+
+pub header_words : (out a b new : List ℕ) (cubes budget : ℕ) → a ≡ out ++ joined (with_number (codes "smt_proof 1 cubes") cubes) → b ≡ a ++ joined (with_number (codes " budget") budget) → new ≡ b ++ 10 ∷ [] → new ≡ out ++ line_text (Header cubes budget)
+header_words out a b new cubes budget e f g =
+    g ∙ rw (f, e, append-nil (decimal cubes), append-nil (decimal budget)) (regroup out (codes "smt_proof 1 cubes") (32 ∷ decimal cubes) (codes " budget") (32 ∷ decimal budget) (10 ∷ []))
+
+pub chain_words : (out a b c d new : List ℕ) (ls hs : List (List ℕ)) → a ≡ out ++ 99 ∷ [] → b ≡ a ++ spaced ls → c ≡ b ++ 32 ∷ 48 ∷ [] → d ≡ c ++ spaced hs → new ≡ d ++ 10 ∷ [] → new ≡ out ++ (99 ∷ (spaced (ls ++ (48 ∷ []) ∷ hs) ++ 10 ∷ []))
+chain_words out a b c d new ls hs e f g h i = i ∙ rw (h, g, f, e, flat_map-append (λ w. 32 ∷ w) ls ((48 ∷ []) ∷ hs)) (simp append_assoc)
+
+head_spaced : (h : Head) → spaced (head_words h) ≡ 32 ∷ joined (head_words h)
+head_spaced (Plain op) = refl
+head_spaced (Word w x) = refl
+head_spaced (Extract i j) = refl
+head_spaced (ZeroExtend i) = refl
+head_spaced (SignExtend i) = refl
+head_spaced (RotateLeft i) = refl
+head_spaced (RotateRight i) = refl
+head_spaced (Repeat i) = refl
+head_spaced (Apply d) = refl
+
+regroup_term : (out a b c d : List ℕ) → ((out ++ a) ++ b) ++ c ++ d ≡ out ++ (a ++ ((b ++ c) ++ d))
+regroup_term out a b c d = simp append_assoc
+
+pub term_words : (o : Option Head) (args : List ℕ) (out a b c new : List ℕ) → a ≡ out ++ 116 ∷ 32 ∷ [] → IfSome o (λ h. b ≡ a ++ joined (head_words h)) → c ≡ b ++ spaced (map decimal args) → new ≡ c ++ 10 ∷ [] → IfSome (option_map (λ h. Term h args) o) (λ l. new ≡ out ++ line_text l)
+term_words None args out a b c new e f g h = tt
+term_words (Some k) args out a b c new e f g h =
+    h ∙ rw (g, f, e, flat_map-append (λ w. 32 ∷ w) (head_words k) (map decimal args), head_spaced k) (regroup_term out (116 ∷ 32 ∷ []) (joined (head_words k)) (spaced (map decimal args)) (10 ∷ []))
+
+-- where its arguments failed
+pub term_front : (o : Option Head) (out a b new : List ℕ) → IsSome o → a ≡ out ++ 116 ∷ 32 ∷ [] → IfSome o (λ h. b ≡ a ++ joined (head_words h)) → take (length b) new ≡ b → take (length out) new ≡ out
+term_front None out a b new some e f h = absurd (let k : ⊥ = cc in k)
+term_front (Some k) out a b new some e f h = kept_front out a new (116 ∷ 32 ∷ []) e (kept_front a b new (joined (head_words k)) f h)
+
+pub on_err : {T E P : Type 0} (r : Result T E) → P → OnErr r P
+on_err (Ok x) p = tt
+on_err (Err e) p = p

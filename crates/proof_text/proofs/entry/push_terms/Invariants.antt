@@ -1,0 +1,7 @@
+use Rattle.std.proofs.Common.{◌≡◌, ◌++◌, take, map}
+use Rattle.std.specs.Fmt.{decimal}
+use Rattle.proof_text.specs.Lines.{spaced}
+use Rattle.proof_text.proofs.entry.push_terms.Given as goal
+
+abbrev pub invariant-loop-term : goal.invariant-loop-term
+invariant-loop-term l = l.out ≡ l.fn.out ++ spaced (map decimal (take l.term-index l.terms))

@@ -1,0 +1,4 @@
+use Rattle.proof_text.proofs.number.+push_wide.Given as goal
+
+abbrev pub decreases-push_wide : goal.decreases-push_wide
+decreases-push_wide l = l.n
