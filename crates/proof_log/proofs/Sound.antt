@@ -31,7 +31,7 @@ use Rattle.hint_chain.proofs.Sound.{IsChain-follows}
 use Rattle.proof_log.specs.declared.entry.Entry.{Entry}
 use Rattle.proof_log.specs.declared.entry.Entry.TheVariants as step
 use Rattle.proof_log.specs.Logs.{Asserted, LogState, start, clause_at, with_value, with_row, plain_width, constant_width, IsStep, leaf_after, block_after, selector_clause, selector_after, after, state_from, state_of, AreSteps, IsLog}
-use Rattle.proof_log.specs.Meanings.{bits_number, leaf_mean, block_mean, mean_after, mean_from, meaning}
+use Rattle.proof_log.specs.Meanings.{bits_number, leaf_mean, block_mean, mean_after, mean_from, meaning, LogIsSound}
 use Rattle.proof_log.proofs.Growing.{each_append, each_get, clause_each}
 
 -- ---- what agrees below a variable
@@ -171,7 +171,7 @@ no_argument : (d : ℕ) (t s : Sort) (ss : List Sort) → op_rank (Constant d t)
 no_argument d t s [] e = refl
 no_argument d t s (x ∷ ss) e = let q : ⊥ = cc in absurd q
 
-leaf_sort : (op : Op) (ss : List Sort) (s : Sort) (n : ℕ) → op_rank op ss ≡ Ok s → constant_width op ≡ Some n → plain_width s ≡ Some n
+pub leaf_sort : (op : Op) (ss : List Sort) (s : Sort) (n : ℕ) → op_rank op ss ≡ Ok s → constant_width op ≡ Some n → plain_width s ≡ Some n
 leaf_sort (Constant d t) ss s n e w =
     let none = no_argument d t s ss e in
     let own = given_sort d t s n (subst (λ xs. op_rank (Constant d t) xs ≡ Ok s) none e) w in
@@ -214,16 +214,18 @@ module _ (M : Interpretation) (nodes : List Node) (all : IsTermList nodes) where
   each_bits n f bits h [] rows e =
       let q : [] ≡ rows = cc in
       subst (λ r. AllByRecursion (AreBelow n) r × EachIsBits f [] r []) q (tt, tt)
-  each_bits n f bits h (t ∷ ts) rows e = go (bits t) (all_bits bits ts) refl refl e
+  each_bits n f bits h (t ∷ ts) rows e = go (bits t) (all_bits bits ts) refl refl (λ bs q. each_bits n f bits h ts bs q) e
     where
-      go : (o : Option (List Literal)) (os : Option (List (List Literal))) → bits t ≡ o → all_bits bits ts ≡ os → with_first o os ≡ Some rows
+      go : (o : Option (List Literal)) (os : Option (List (List Literal))) → bits t ≡ o → all_bits bits ts ≡ os
+          → ((bs : List (List Literal)) → all_bits bits ts ≡ Some bs → AllByRecursion (AreBelow n) bs × EachIsBits f (map (sort_of nodes) ts) bs (map (value M nodes) ts))
+          → with_first o os ≡ Some rows
           → AllByRecursion (AreBelow n) rows × EachIsBits f (sort_of nodes t ∷ map (sort_of nodes) ts) rows (value M nodes t ∷ map (value M nodes) ts)
-      go None os p q e = let r : ⊥ = cc in absurd r
-      go (Some b) None p q e = let r : ⊥ = cc in absurd r
-      go (Some b) (Some bs) p q e =
+      go None os p q rest e = let r : ⊥ = cc in absurd r
+      go (Some b) None p q rest e = let r : ⊥ = cc in absurd r
+      go (Some b) (Some bs) p q rest e =
           let r : b ∷ bs ≡ rows = cc in
           let k = h t b p in
-          let ks = each_bits n f bits h ts bs q in
+          let ks = rest bs q in
           subst (λ w. AllByRecursion (AreBelow n) w × EachIsBits f (sort_of nodes t ∷ map (sort_of nodes) ts) w (value M nodes t ∷ map (value M nodes) ts)) r
           ((k.0, ks.0), (k.1, ks.1))
 
@@ -328,3 +330,10 @@ module _ (M : Interpretation) (nodes : List Node) (all : IsTermList nodes) where
 
   pub log_suits : (log : List Entry) → IsLog nodes log → Suits M nodes (state_of nodes log) (meaning M nodes log)
   log_suits log i = run_suits start (λ x. x == 1) log start_suits i
+
+pub log_is_sound : (nodes : List Node) (log : List Entry) → IsTermList nodes → IsLog nodes log → LogIsSound nodes log
+log_is_sound nodes log all i = record {
+  clauses = λ id c e M. let h = log_suits M nodes all log i in (clause_each (IsTrueBelow (state_of nodes log).next (meaning M nodes log)) (state_of nodes log).clauses id c h.clauses e).0;
+  bits = λ M t b e. ((log_suits M nodes all log i).bits t b e).1;
+  selectors = λ M a r e. ((log_suits M nodes all log i).selectors a r e).1;
+}

@@ -87,7 +87,7 @@ GivesMore {A} f g = (x : ℕ) (a : A) → f x ≡ Some a → g x ≡ Some a
 
 -- more steps keep the clauses, the bits, the selectors, and the meaning of the variables
 pub record StaysLog (nodes : List Node) (log more : List Entry) : Type 0 where
-  pub log : IsLog nodes log
+  pub steps : IsLog nodes log
   pub next : (state_of nodes log).next ≤ (state_of nodes (log ++ more)).next
   pub clauses : FindsMore (clause_at (state_of nodes log).clauses) (clause_at (state_of nodes (log ++ more)).clauses)
   pub bits : GivesMore (state_of nodes log).bits (state_of nodes (log ++ more)).bits
@@ -96,6 +96,6 @@ pub record StaysLog (nodes : List Node) (log more : List Entry) : Type 0 where
 
 -- more terms change neither what a log has nor what its variables mean
 pub record IsLogOver (nodes more : List Node) (log : List Entry) : Type 0 where
-  pub log : IsLog (nodes ++ more) log
+  pub steps : IsLog (nodes ++ more) log
   pub state : state_of (nodes ++ more) log ≡ state_of nodes log
   pub meaning : (M : Interpretation) → meaning M (nodes ++ more) log ≡ meaning M nodes log

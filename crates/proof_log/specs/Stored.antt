@@ -97,7 +97,7 @@ Encodes (Some b) done over t old new = (done ≡ true) × (new ≡ with_block ol
 -- a variable for an assertion
 pub record IsSelected (old new : LogValue) (over a t : ℕ) (bit : Literal) : Type 0 where
   pub next : new.next ≡ suc old.next
-  pub over : new.over ≡ over
+  pub terms : new.over ≡ over
   pub bits : new.bits ≡ old.bits
   pub selectors : (x : ℕ) → selector_in new.selectors x ≡ with_value (selector_in old.selectors) a (positive_of old.next) x
   pub entries : new.entries ≡ old.entries ++ step.Selector a t ∷ []

@@ -10,6 +10,7 @@
 
 pub mod entry;
 mod fault;
+mod laws;
 mod log;
 mod pushing;
 mod selectors;
@@ -17,6 +18,7 @@ mod steps;
 mod trying;
 
 pub use fault::{Kept, PushError, StepFault, StepKind};
+pub use laws::{logs_are_ordered, logs_are_sound, more_steps_keep_logs, more_terms_keep_logs};
 pub use log::Log;
 
 #[cfg(test)]

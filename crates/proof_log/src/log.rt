@@ -144,7 +144,10 @@ impl Log {
             Entry::Selector(assertion, term) => {
                 self.select(alloc, terms, assertion, term)?;
             }
-            other => self.put_plain(alloc, terms, other)?,
+            Entry::Chain(clause, hints) => {
+                self.put_plain(alloc, terms, Entry::Chain(clause, hints))?;
+            }
+            Entry::Node(node) => self.put_plain(alloc, terms, Entry::Node(node))?,
         }
         Ok(at)
     }

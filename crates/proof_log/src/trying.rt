@@ -1,6 +1,6 @@
 //! Steps that are tried, kind by kind: what shows that one is not valid, or it is put into the log.
 
-ghost use Rattle.std.specs.Prelude.{◌≡◌, ◌≤◌, ◌↔◌, IsTrue, [], ◌∷◌, Some, OnErr, IfOk, MatchOption, Contains};
+ghost use Rattle.std.specs.Prelude.{◌≡◌, ◌≤◌, ◌↔◌, IsTrue, [], ◌∷◌, Some, OnErr, IfOk, MatchOption, Contains, is_some};
 ghost use Rattle.cnf_base.specs.Literals.{Literal};
 ghost use Rattle.cnf_base.specs.Assignments.{AreBelow};
 ghost use Rattle.smt_terms.specs.Bits.{bits_in};
@@ -51,7 +51,10 @@ impl Log {
         ensures ok { IfOk result (Tried terms.now (step.Leaf term) self.old self.new) }
         ensures err { OnErr result (self.new ≡ self.old) }
     {
-        if term >= terms.len() || self.bits.of(term).is_some() {
+        if term >= terms.len() {
+            return Ok(Some(Kept::Term(term)));
+        }
+        if self.has_bits(term) {
             return Ok(Some(Kept::Term(term)));
         }
         match width_of(&terms.node(term).op) {
@@ -74,7 +77,10 @@ impl Log {
         ensures ok { IfOk result (Tried terms.now (step.Encode term) self.old self.new) }
         ensures err { OnErr result (self.new ≡ self.old) }
     {
-        if term >= terms.len() || self.bits.of(term).is_some() {
+        if term >= terms.len() {
+            return Ok(Some(Kept::Term(term)));
+        }
+        if self.has_bits(term) {
             return Ok(Some(Kept::Term(term)));
         }
         if self.put_encode(alloc, terms, term)? {
@@ -98,7 +104,10 @@ impl Log {
         if let Some(selector) = self.selector(assertion) {
             return Ok(Some(Kept::Variable(selector.variable())));
         }
-        if term >= terms.len() || terms.sort(term) != Sort::Bool {
+        if term >= terms.len() {
+            return Ok(Some(Kept::Term(term)));
+        }
+        if terms.sort(term) != Sort::Bool {
             return Ok(Some(Kept::Term(term)));
         }
         match self.lone_bit(term) {
@@ -107,6 +116,16 @@ impl Log {
                 self.put_selector(alloc, terms, assertion, term, bit)?;
                 Ok(None)
             }
+        }
+    }
+
+    // Whether a term has bits.
+    fn has_bits(&self, term: TermId) -> bool
+        ensures { result ≡ is_some (bits_in self.now.bits term) }
+    {
+        match self.bits.of(term) {
+            Some(_) => true,
+            None => false,
         }
     }
 

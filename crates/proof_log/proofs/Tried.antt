@@ -1,0 +1,228 @@
+-- What trying a step tells.
+use Rattle.std.proofs.Common.{◌≡◌, ℕ, zero, suc, ◌+◌, ◌<◌, ◌≤◌, Bool, true, false, List, [], ◌∷◌, ◌++◌, length, Option, Some, None, Result, Ok, Err, refl, sym, ap, ◌∙◌, subst, inl, inr, ⊎_elim, arith, length-append, position}
+use Rattle.std.specs.Prelude.{◌⊎◌, Contains, MatchOption, is_some}
+use Rattle.std.specs.List.{AllByRecursion}
+use Rattle.std.proofs.lemmas.List.Elements.{Contains-push, All-contains, All-from_recursion}
+use Rattle.cnf_base.specs.Literals.{Literal}
+use Rattle.cnf_base.specs.Assignments.{AreBelow}
+use Rattle.cnf_base.specs.declared.clause.ClauseId.{ClauseId}
+use Rattle.smt_terms.specs.declared.sort.Sort.TheVariants as sort
+use Rattle.smt_terms.specs.declared.node.Node.{Node}
+use Rattle.smt_terms.specs.declared.fault.MakeFault.{MakeFault}
+use Rattle.smt_terms.specs.Same.{same_node}
+use Rattle.smt_terms.specs.Nodes.{node_at}
+use Rattle.smt_terms.specs.Terms.{IsTermList, TermsValue, AreTerms, make, sort_of}
+use Rattle.smt_terms.specs.Bits.{bits_in}
+use Rattle.smt_terms.proofs.Made.{IsNew, IsMade, made, no_place, at_place}
+use Rattle.bit_blast.specs.Blocks.{Block, all_bits, block_of}
+use Rattle.hint_chain.specs.declared.fault.ChainFault.{ChainFault}
+use Rattle.hint_chain.specs.Chains.{IsChain}
+use Rattle.hint_chain.specs.Faults.{FirstFault}
+use Rattle.hint_chain.proofs.Exact.{IsChain-no_fault}
+use Rattle.proof_log.specs.declared.entry.Entry.{Entry}
+use Rattle.proof_log.specs.declared.entry.Entry.TheVariants as step
+use Rattle.proof_log.specs.declared.fault.StepFault.{StepFault}
+use Rattle.proof_log.specs.declared.fault.StepKind.TheVariants as kind
+use Rattle.proof_log.specs.declared.fault.Kept.{Kept}
+use Rattle.proof_log.specs.declared.fault.Kept.TheVariants as kept
+use Rattle.proof_log.specs.declared.fault.PushError.{PushError}
+use Rattle.proof_log.specs.declared.fault.PushError.TheVariants as push
+use Rattle.proof_log.specs.Logs.{Asserted, LogState, clause_at, constant_width, IsStep, IsLeaf, IsEncoding, IsSelector, after, state_of}
+use Rattle.proof_log.specs.Stored.{LogValue, selector_in, literal_of, IsKept, Stands, with_leaf, with_block, with_plain, Encodes, IsSelected, IsPushed}
+use Rattle.proof_log.specs.Faults.{IsGiven, with_node, IsNewNode, IsValid, terms_after, MakesNoTerm, kind_of, Shows, IsFault, NodeIsMade, Tried, Answers}
+use Rattle.proof_log.proofs.Standing.{stands_over, stands_all, kept_longer, kept_plain, kept_leaf, kept_block, kept_selector, leaf_small}
+
+pushed : (nodes : List Node) (old new : LogValue) (e : Entry) → new.entries ≡ old.entries ++ e ∷ [] → new.over ≡ length nodes → IsKept nodes new → IsPushed nodes old new e (suc (length old.entries))
+pushed nodes old new e es o k = record { position = refl; entries = es; over = o; stands = stands_all nodes new o k }
+
+-- ---- leaves
+
+pub not_some : {A : Type 0} (o : Option A) → is_some o ≡ false → o ≡ None
+not_some None e = refl
+not_some (Some x) e = let f : ⊥ = cc in absurd f
+
+pub leaf_done : (v : TermsValue) (old new : LogValue) (t n : ℕ) → AreTerms v → Stands v.nodes old → t < length v.nodes → is_some (bits_in old.bits t) ≡ false → constant_width (node_at v.nodes t).op ≡ Some n → new ≡ with_leaf old (length v.nodes) t n → Tried v (step.Leaf t) old new None
+leaf_done v old new t n all h within test w e =
+    let none = not_some (bits_in old.bits t) test in
+    let k = stands_over v.nodes old h in
+    let i : IsLeaf v.nodes (state_of v.nodes old.entries) t = record { term = within; new = sym (k.bits t) ∙ none; width = n; constant = w } in
+    (i, subst (λ l. IsPushed v.nodes old l (step.Leaf t) (suc (length old.entries))) (sym e) (pushed v.nodes old (with_leaf old (length v.nodes) t n) (step.Leaf t) refl refl (kept_leaf v.nodes old t n all.list k i w)))
+
+-- a term that has bits has no step that gives it some
+has_bits : (v : TermsValue) (old : LogValue) (t : ℕ) → Stands v.nodes old → is_some (bits_in old.bits t) ≡ true → (state_of v.nodes old.entries).bits t ≡ None → ⊥
+has_bits v old t h e n =
+    let k = stands_over v.nodes old h in
+    let q : true ≡ false = sym e ∙ ap is_some (k.bits t ∙ n) in
+    let f : ⊥ = cc in f
+
+pub leaf_past : (v : TermsValue) (old : LogValue) (t : ℕ) → length v.nodes ≤ t → Tried v (step.Leaf t) old old (Some (kept.Term t))
+leaf_past v old t le = ((λ i. let lt = i.term in omega arith), refl, refl)
+
+pub leaf_held : (v : TermsValue) (old : LogValue) (t : ℕ) → Stands v.nodes old → is_some (bits_in old.bits t) ≡ true → Tried v (step.Leaf t) old old (Some (kept.Term t))
+leaf_held v old t h e = ((λ i. has_bits v old t h e i.new), refl, refl)
+
+pub leaf_other : (v : TermsValue) (old : LogValue) (t : ℕ) → constant_width (node_at v.nodes t).op ≡ None → Tried v (step.Leaf t) old old (Some (kept.Term t))
+leaf_other v old t e = ((λ i. let w = i.constant in cc), refl, refl)
+
+-- ---- circuits
+
+pub encode_past : (v : TermsValue) (old : LogValue) (t : ℕ) → length v.nodes ≤ t → Tried v (step.Encode t) old old (Some (kept.Term t))
+encode_past v old t le = ((λ i. let lt = i.term in omega arith), refl, refl)
+
+pub encode_held : (v : TermsValue) (old : LogValue) (t : ℕ) → Stands v.nodes old → is_some (bits_in old.bits t) ≡ true → Tried v (step.Encode t) old old (Some (kept.Term t))
+encode_held v old t h e = ((λ i. has_bits v old t h e i.new), refl, refl)
+
+-- the block over what is kept is that over what the log has
+same_block : (nodes : List Node) (l : LogValue) (n : Node) → IsKept nodes l → block_of l.next (bits_in l.bits) n ≡ block_of (state_of nodes l.entries).next (state_of nodes l.entries).bits n
+same_block nodes l n k =
+    let s = state_of nodes l.entries in
+    let e : bits_in l.bits ≡ (state_of nodes l.entries).bits = λ i t. k.bits t i in
+    ap (λ x. block_of x (bits_in l.bits) n) k.next ∙ ap (λ f. block_of s.next f n) e
+
+encodes_true : (o : Option Block) (over t : ℕ) (old new : LogValue) → Encodes o true over t old new → (b : Block) × (o ≡ Some b) × (new ≡ with_block old over t b)
+encodes_true None over t old new h = let p = h.0 in let q : ⊥ = cc in absurd q
+encodes_true (Some b) over t old new h = (b, refl, h.1)
+
+encodes_false : (o : Option Block) (over t : ℕ) (old new : LogValue) → Encodes o false over t old new → (o ≡ None) × (new ≡ old)
+encodes_false None over t old new h = (refl, h.1)
+encodes_false (Some b) over t old new h = let p = h.0 in let q : ⊥ = cc in absurd q
+
+pub encode_done : (v : TermsValue) (old new : LogValue) (t : ℕ) (d : Bool) → AreTerms v → Stands v.nodes old → t < length v.nodes → is_some (bits_in old.bits t) ≡ false → Encodes (block_of old.next (bits_in old.bits) (node_at v.nodes t)) d (length v.nodes) t old new → d ≡ true → Tried v (step.Encode t) old new None
+encode_done v old new t d all h within test e is =
+    let none = not_some (bits_in old.bits t) test in
+    let k = stands_over v.nodes old h in
+    let b = encodes_true (block_of old.next (bits_in old.bits) (node_at v.nodes t)) (length v.nodes) t old new (subst (λ d. Encodes (block_of old.next (bits_in old.bits) (node_at v.nodes t)) d (length v.nodes) t old new) is e) in
+    let w = sym (same_block v.nodes old (node_at v.nodes t) k) ∙ b.1 in
+    let i : IsEncoding v.nodes (state_of v.nodes old.entries) t = record { term = within; new = sym (k.bits t) ∙ none; block = b.0; circuit = w } in
+    (i, subst (λ l. IsPushed v.nodes old l (step.Encode t) (suc (length old.entries))) (sym b.2) (pushed v.nodes old (with_block old (length v.nodes) t b.0) (step.Encode t) refl refl (kept_block v.nodes old t b.0 all.list k i w)))
+
+pub encode_none : (v : TermsValue) (old new : LogValue) (t : ℕ) (d : Bool) → Stands v.nodes old → Encodes (block_of old.next (bits_in old.bits) (node_at v.nodes t)) d (length v.nodes) t old new → d ≡ false → Tried v (step.Encode t) old new (Some (kept.Term t))
+encode_none v old new t d h e is =
+    let k = stands_over v.nodes old h in
+    let b = encodes_false (block_of old.next (bits_in old.bits) (node_at v.nodes t)) (length v.nodes) t old new (subst (λ d. Encodes (block_of old.next (bits_in old.bits) (node_at v.nodes t)) d (length v.nodes) t old new) is e) in
+    let w = sym (same_block v.nodes old (node_at v.nodes t) k) ∙ b.0 in
+    ((λ i. let c = i.circuit in cc), refl, b.1)
+
+-- ---- selectors
+
+none_of : (o : Option Asserted) → literal_of o ≡ None → o ≡ None
+none_of None e = refl
+none_of (Some r) e = let q : ⊥ = cc in absurd q
+
+some_of : (o : Option Asserted) (l : Literal) → literal_of o ≡ Some l → (r : Asserted) × (o ≡ Some r) × (r.literal ≡ l)
+some_of None l e = let q : ⊥ = cc in absurd q
+some_of (Some r) l e = let q : r.literal ≡ l = cc in (r, refl, q)
+
+pub select_done : (v : TermsValue) (old new : LogValue) (a t : ℕ) (bit : Literal) → AreTerms v → Stands v.nodes old → t < length v.nodes → sort_of v.nodes t ≡ sort.Bool → selector_in old.selectors a ≡ None → bits_in old.bits t ≡ Some (bit ∷ []) → IsSelected old new (length v.nodes) a t bit → Tried v (step.Selector a t) old new None
+select_done v old new a t bit all h within bool none e made =
+    let k = stands_over v.nodes old h in
+    let w = sym (k.bits t) ∙ e in
+    let i : IsSelector v.nodes (state_of v.nodes old.entries) a t = record { term = within; sort = bool; new = none_of _ (sym (k.selectors a) ∙ none); bit = bit; encoded = w } in
+    (i, pushed v.nodes old new (step.Selector a t) made.entries made.terms (kept_selector v.nodes old new a t bit k i w made))
+
+pub select_held : (v : TermsValue) (old : LogValue) (a t x : ℕ) (l : Literal) → Stands v.nodes old → selector_in old.selectors a ≡ Some l → x ≡ l.variable → Tried v (step.Selector a t) old old (Some (kept.Variable x))
+select_held v old a t x l h e q =
+    let k = stands_over v.nodes old h in
+    let r = some_of _ l (sym (k.selectors a) ∙ e) in
+    ((λ i. let n = i.new in let p = r.1 in cc), (r.0, r.1, ap (λ y. y.variable) r.2 ∙ sym q), refl)
+
+pub select_past : (v : TermsValue) (old : LogValue) (a t : ℕ) → length v.nodes ≤ t → Tried v (step.Selector a t) old old (Some (kept.Term t))
+select_past v old a t le = ((λ i. let lt = i.term in omega arith), refl, refl)
+
+pub select_other : (v : TermsValue) (old : LogValue) (a t : ℕ) → (sort_of v.nodes t ≡ sort.Bool → ⊥) → Tried v (step.Selector a t) old old (Some (kept.Term t))
+select_other v old a t ne = ((λ i. ne i.sort), refl, refl)
+
+pub select_none : (v : TermsValue) (old : LogValue) (a t : ℕ) → Stands v.nodes old → ((l : Literal) → bits_in old.bits t ≡ Some (l ∷ []) → ⊥) → Tried v (step.Selector a t) old old (Some (kept.Term t))
+select_none v old a t h no_bit = let k = stands_over v.nodes old h in ((λ i. no_bit i.bit (k.bits t ∙ i.encoded)), refl, refl)
+
+-- ---- chains
+
+same_step : (v : TermsValue) (old : LogValue) (c : List Literal) (hints : List ClauseId) → IsKept v.nodes old → AreBelow old.next c → IsChain (clause_at old.clauses) c hints → IsStep v.nodes (state_of v.nodes old.entries) (step.Chain c hints)
+same_step v old c hints k below chain =
+    (subst (λ n. AreBelow n c) k.next below, subst (λ cs. IsChain (clause_at cs) c hints) k.clauses chain)
+
+pub chain_done : (v : TermsValue) (old new : LogValue) (c : List Literal) (hints : List ClauseId) → Stands v.nodes old → AreBelow old.next c → IsChain (clause_at old.clauses) c hints → new ≡ with_plain old (length v.nodes) (step.Chain c hints) → Tried v (step.Chain c hints) old new None
+chain_done v old new c hints h below chain e =
+    let k = stands_over v.nodes old h in
+    let i = same_step v old c hints k below chain in
+    (i, subst (λ l. IsPushed v.nodes old l (step.Chain c hints) (suc (length old.entries))) (sym e) (pushed v.nodes old (with_plain old (length v.nodes) (step.Chain c hints)) (step.Chain c hints) refl refl (kept_plain v.nodes old (step.Chain c hints) k i refl)))
+
+below_at : (n : ℕ) (c : List Literal) (l : Literal) → AreBelow n c → Contains c l → l.variable < n
+below_at n c l h m = All-contains (λ k. k.variable < n) c l (All-from_recursion _ c h) m
+
+pub chain_above : (v : TermsValue) (old : LogValue) (c : List Literal) (hints : List ClauseId) (x : ℕ) → Stands v.nodes old → (l : Literal) × Contains c l × (l.variable ≡ x) × (old.next ≤ x) → Tried v (step.Chain c hints) old old (Some (kept.Variable x))
+chain_above v old c hints x h p =
+    let k = stands_over v.nodes old h in
+    let le : (state_of v.nodes old.entries).next ≤ x = subst (λ n. n ≤ x) k.next p.3 in
+    ((λ i. let lt = below_at (state_of v.nodes old.entries).next c p.0 i.0 p.1 in let e = p.2 in omega arith), (p.0, p.1, p.2, le), refl)
+
+pub chain_fault : (v : TermsValue) (old : LogValue) (c : List Literal) (hints : List ClauseId) (f : ChainFault) → Stands v.nodes old → AreBelow old.next c → FirstFault (clause_at old.clauses) c hints f → Tried v (step.Chain c hints) old old (Some (kept.Chain f))
+chain_fault v old c hints f h below fault =
+    let k = stands_over v.nodes old h in
+    let own = subst (λ cs. FirstFault (clause_at cs) c hints f) k.clauses fault in
+    ((λ i. IsChain-no_fault (clause_at (state_of v.nodes old.entries).clauses) c hints f i.1 own), (subst (λ n. AreBelow n c) k.next below, own), refl)
+
+-- ---- what follows from trying
+
+pub tried_valid : (v : TermsValue) (e : Entry) (old new : LogValue) (o : Option Kept) → IsValid v (state_of v.nodes old.entries) e → Tried v e old new o → IsPushed v.nodes old new e (suc (length old.entries))
+tried_valid v e old new None i h = h.1
+tried_valid v e old new (Some k) i h = absurd (h.0 i)
+
+pub plain_pushed : (v : TermsValue) (c : List Literal) (hints : List ClauseId) (old new : LogValue) → Stands v.nodes old → IsValid v (state_of v.nodes old.entries) (step.Chain c hints) → new ≡ with_plain old (length v.nodes) (step.Chain c hints) → IsPushed v.nodes old new (step.Chain c hints) (suc (length old.entries))
+plain_pushed v c hints old new h i e =
+    let k = stands_over v.nodes old h in
+    subst (λ l. IsPushed v.nodes old l (step.Chain c hints) (suc (length old.entries))) (sym e) (pushed v.nodes old (with_plain old (length v.nodes) (step.Chain c hints)) (step.Chain c hints) refl refl (kept_plain v.nodes old (step.Chain c hints) k i refl))
+
+-- the answer of a step that makes no term
+pub answered : (v : TermsValue) (e : Entry) (old new : LogValue) (o : Option Kept) (p : ℕ) (r : Result ℕ PushError) → MakesNoTerm e → p ≡ suc (length old.entries) → Tried v e old new o
+    → MatchOption o (r ≡ Ok p) (λ k. r ≡ Err (push.Fault (record { kind = kind_of e; kept = k }))) → Answers v v e old new r
+answered v e old new None p r m at h a =
+    subst (Answers v v e old new) (sym a) (h.0, same_terms v e m, subst (IsPushed v.nodes old new e) (sym at) h.1)
+  where
+    same_terms : (v : TermsValue) (e : Entry) → MakesNoTerm e → v ≡ terms_after v e
+    same_terms v (step.Node n) m = absurd m
+    same_terms v (step.Leaf t) m = refl
+    same_terms v (step.Encode t) m = refl
+    same_terms v (step.Selector a t) m = refl
+    same_terms v (step.Chain c hints) m = refl
+answered v e old new (Some k) p r m at h a =
+    subst (Answers v v e old new) (sym a) (record { invalid = h.0; kind = refl; shown = h.1 }, refl, h.2)
+
+pub answers_err : (v w : TermsValue) (e : Entry) (old new : LogValue) (x : PushError) → Answers v w e old new (Err x) → (w ≡ v) × (new ≡ old)
+answers_err v w e old new (push.Fault f) h = (h.1, h.2)
+answers_err v w e old new push.NoMemory h = h
+
+-- ---- terms
+
+pub node_given : (v : TermsValue) (n : Node) (old : LogValue) → IsGiven n.op → IsFault v (state_of v.nodes old.entries) (step.Node n) (record { kind = kind.Node; kept = kept.Operator })
+node_given v n old g = record { invalid = λ i. i.operator g; kind = refl; shown = g }
+
+pub node_held : (v : TermsValue) (n : Node) (old : LogValue) (t : ℕ) → position (same_node n) v.nodes ≡ Some t → IsFault v (state_of v.nodes old.entries) (step.Node n) (record { kind = kind.Node; kept = kept.Term t })
+node_held v n old t e = record { invalid = λ i. let p = i.new in cc; kind = refl; shown = e }
+
+pub node_fault : (v : TermsValue) (n : Node) (old : LogValue) (f : MakeFault) → make v n ≡ Err f → IsFault v (state_of v.nodes old.entries) (step.Node n) (record { kind = kind.Node; kept = kept.Make f })
+node_fault v n old f e = record { invalid = λ i. let p = sym i.made ∙ e in let q : ⊥ = cc in q; kind = refl; shown = e }
+
+-- a node that is new gets the next number
+pub new_node : (v w : TermsValue) (n : Node) (t : ℕ) → position (same_node n) v.nodes ≡ None → make v n ≡ Ok (t, w) → (t ≡ length v.nodes) × (w ≡ with_node v n)
+new_node v w n t e m =
+    let h = made v w n t m in
+    ⊎_elim
+    (λ same. let within : t < length v.nodes = subst (λ u. t < length u.nodes) same h.within in
+        absurd (no_place v.nodes n e t within (subst (λ u. node_at u.nodes t ≡ n) same h.node)))
+    (λ new. (new.number, new.pushed))
+    h.grown
+
+pub node_done : (v w : TermsValue) (n : Node) (old new : LogValue) (p : ℕ) → Stands v.nodes old → ¬ (IsGiven n.op) → position (same_node n) v.nodes ≡ None → (t : ℕ) × (make v n ≡ Ok (t, w)) → p ≡ suc (length old.entries) → new ≡ with_plain old (length w.nodes) (step.Node n) → Answers v w (step.Node n) old new (Ok p)
+node_done v w n old new p h given e m at x =
+    let q = new_node v w n m.0 e m.1 in
+    let made : make v n ≡ Ok (length v.nodes, with_node v n) = m.1 ∙ ap (λ k. Ok (k, w)) q.0 ∙ ap (λ u. Ok (length v.nodes, u)) q.1 in
+    let k = subst (λ u. IsKept u.nodes old) (sym q.1) (kept_longer v.nodes (n ∷ []) old (stands_over v.nodes old h)) in
+    let among : Contains w.nodes n = subst (λ u. Contains u.nodes n) (sym q.1) (Contains-push v.nodes n) in
+    (
+      record { operator = given; new = e; made = made },
+      q.1,
+      subst (IsPushed w.nodes old new (step.Node n)) (sym at)
+      (subst (λ l. IsPushed w.nodes old l (step.Node n) (suc (length old.entries))) (sym x)
+      (pushed w.nodes old (with_plain old (length w.nodes) (step.Node n)) (step.Node n) refl refl (kept_plain w.nodes old (step.Node n) k among refl))),
+    )

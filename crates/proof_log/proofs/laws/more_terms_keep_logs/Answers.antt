@@ -1,0 +1,5 @@
+use Rattle.proof_log.proofs.Staying.{log_over}
+use Rattle.proof_log.proofs.laws.more_terms_keep_logs.Goals as goal
+
+pub returns : goal.returns
+returns c = log_over

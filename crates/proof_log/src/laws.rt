@@ -1,0 +1,29 @@
+//! What the definitions of logs promise together.
+
+ghost use Rattle.std.specs.Prelude.{◌++◌, List};
+ghost use Rattle.smt_terms.specs.declared.node.Node.{Node};
+ghost use Rattle.smt_terms.specs.Terms.{IsTermList};
+ghost use Rattle.proof_log.specs.declared.entry.Entry.{Entry};
+ghost use Rattle.proof_log.specs.Logs.{IsLog};
+ghost use Rattle.proof_log.specs.Meanings.{LogIsSound, LogIsOrdered, StaysLog, IsLogOver};
+
+/// Every clause of every log is true in every interpretation, the bits of a term are those of its value, and the
+/// selector of an assertion is the value of its term.
+pub fn logs_are_sound()
+    ensures { (nodes : List Node) (log : List Entry) → IsTermList nodes → IsLog nodes log → LogIsSound nodes log }
+{}
+
+/// What a log names was made before: one step made each variable, and hints are of earlier positions.
+pub fn logs_are_ordered()
+    ensures { (nodes : List Node) (log : List Entry) → IsTermList nodes → IsLog nodes log → LogIsOrdered nodes log }
+{}
+
+/// The steps before a place are a log, whose clauses, bits, selectors and meaning stay.
+pub fn more_steps_keep_logs()
+    ensures { (nodes : List Node) (log more : List Entry) → IsLog nodes (log ++ more) → StaysLog nodes log more }
+{}
+
+/// A log is one over more terms too, with all that it has.
+pub fn more_terms_keep_logs()
+    ensures { (nodes more : List Node) (log : List Entry) → IsLog nodes log → IsLogOver nodes more log }
+{}
