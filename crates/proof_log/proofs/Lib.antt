@@ -1,7 +1,9 @@
 pub mod Growing
+mod Finding
 pub mod Sound
 pub mod Staying
-pub mod Ordered
 pub mod Selecting
+pub mod Ordered
 pub mod Standing
+pub mod Settled
 mod Tried

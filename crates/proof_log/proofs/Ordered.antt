@@ -18,6 +18,7 @@ use Rattle.proof_log.specs.Meanings.{meaning, Owns, LogIsOrdered}
 use Rattle.proof_log.proofs.Growing.{clause_each, clause_within}
 use Rattle.proof_log.proofs.Sound.{IsTrueBelow, log_suits}
 use Rattle.proof_log.proofs.Staying.{step_holds}
+use Rattle.proof_log.proofs.Selecting.{log_selects}
 
 -- ---- variables
 
@@ -122,7 +123,7 @@ log_is_ordered nodes log all i =
     record {
       clauses = λ id c e. (clause_each (IsTrueBelow s.next (meaning any_interpretation nodes log)) s.clauses id c h.clauses e).1;
       bits = λ t b e. (h.terms t b e, (h.bits t b e).0);
-      selectors = λ a r e. (h.selectors a r e).0;
+      selectors = λ a r e. let k = log_selects nodes log a r e in (k.0, (h.selectors a r e).0, k.1);
       owned = λ x lo hi. let k = owner nodes start log x lo hi in (k.0, record { step = k.1.step; from = k.1.from; upto = k.1.upto });
       once = λ x p q o r.
           ⊎_elim

@@ -32,7 +32,7 @@ block_same s t (Some b) = refl
 selector_made : (log : List Entry) (s : LogState) (a t : ℕ) (o : Option (List Literal)) → AreMadeIn log s.selectors → AreMadeIn (log ++ step.Selector a t ∷ []) (selector_after s a t o).selectors
 selector_made log s a t None h = more_made log (step.Selector a t) s.selectors h
 selector_made log s a t (Some []) h = more_made log (step.Selector a t) s.selectors h
-selector_made log s a t (Some (b ∷ bs)) h x r g =
+selector_made log s a t (Some (b ∷ bs)) h = λ x r g.
     let new : Asserted = record { literal = positive_of s.next; term = t } in
     let own : IsMadeIn (log ++ step.Selector a t ∷ []) a (record { literal = positive_of s.next; term = t }) = (refl, Contains-push log (step.Selector a t)) in
     ⊎_elim
@@ -50,7 +50,7 @@ step_made nodes log s (step.Selector a t) h = selector_made log s a t (s.bits t)
 step_made nodes log s (step.Chain c hints) h = more_made log (step.Chain c hints) s.selectors h
 
 steps_made : (nodes : List Node) (before : List Entry) (s : LogState) (log : List Entry) → AreMadeIn before s.selectors → AreMadeIn (before ++ log) (state_from nodes s log).selectors
-steps_made nodes before s [] h a r g = let k = h a r g in (k.0, Contains-append_left before [] (step.Selector a r.term) k.1)
+steps_made nodes before s [] h = λ a r g. let k = h a r g in (k.0, Contains-append_left before [] (step.Selector a r.term) k.1)
 steps_made nodes before s (e ∷ log) h =
     subst (λ l. AreMadeIn l (state_from nodes (after nodes s e) log).selectors) (append_assoc before (e ∷ []) log)
     (steps_made nodes (before ++ e ∷ []) (after nodes s e) log (step_made nodes before s e h))

@@ -6,13 +6,14 @@ use Rattle.std.proofs.lemmas.List.Elements.{Contains-push, All-contains, All-fro
 use Rattle.cnf_base.specs.Literals.{Literal}
 use Rattle.cnf_base.specs.Assignments.{AreBelow}
 use Rattle.cnf_base.specs.declared.clause.ClauseId.{ClauseId}
+use Rattle.cnf_base.proofs.Agreeing.{AreBelow-more}
 use Rattle.smt_terms.specs.declared.sort.Sort.TheVariants as sort
 use Rattle.smt_terms.specs.declared.node.Node.{Node}
 use Rattle.smt_terms.specs.declared.fault.MakeFault.{MakeFault}
 use Rattle.smt_terms.specs.Same.{same_node}
 use Rattle.smt_terms.specs.Nodes.{node_at}
 use Rattle.smt_terms.specs.Terms.{IsTermList, TermsValue, AreTerms, make, sort_of}
-use Rattle.smt_terms.specs.Bits.{bits_in}
+use Rattle.smt_terms.specs.Bits.{TermBits, bits_in}
 use Rattle.smt_terms.proofs.Made.{IsNew, IsMade, made, no_place, at_place}
 use Rattle.bit_blast.specs.Blocks.{Block, all_bits, block_of}
 use Rattle.hint_chain.specs.declared.fault.ChainFault.{ChainFault}
@@ -28,8 +29,8 @@ use Rattle.proof_log.specs.declared.fault.Kept.TheVariants as kept
 use Rattle.proof_log.specs.declared.fault.PushError.{PushError}
 use Rattle.proof_log.specs.declared.fault.PushError.TheVariants as push
 use Rattle.proof_log.specs.Logs.{Asserted, LogState, clause_at, constant_width, IsStep, IsLeaf, IsEncoding, IsSelector, after, state_of}
-use Rattle.proof_log.specs.Stored.{LogValue, selector_in, literal_of, IsKept, Stands, with_leaf, with_block, with_plain, Encodes, IsSelected, IsPushed}
-use Rattle.proof_log.specs.Faults.{IsGiven, with_node, IsNewNode, IsValid, terms_after, MakesNoTerm, kind_of, Shows, IsFault, NodeIsMade, Tried, Answers}
+use Rattle.proof_log.specs.Stored.{LogValue, StepsValue, with_step, selector_in, literal_of, IsKept, Stands, with_leaf, with_block, with_plain, Encodes, IsSelected, IsPushed}
+use Rattle.proof_log.specs.Faults.{IsGiven, with_node, IsNewNode, IsValid, terms_after, MakesNoTerm, kind_of, Shows, ShowsChain, IsFault, NodeIsMade, Tried, Answers}
 use Rattle.proof_log.proofs.Standing.{stands_over, stands_all, kept_longer, kept_plain, kept_leaf, kept_block, kept_selector, leaf_small}
 
 pushed : (nodes : List Node) (old new : LogValue) (e : Entry) → new.entries ≡ old.entries ++ e ∷ [] → new.over ≡ length nodes → IsKept nodes new → IsPushed nodes old new e (suc (length old.entries))
@@ -150,17 +151,30 @@ chain_done v old new c hints h below chain e =
 below_at : (n : ℕ) (c : List Literal) (l : Literal) → AreBelow n c → Contains c l → l.variable < n
 below_at n c l h m = All-contains (λ k. k.variable < n) c l (All-from_recursion _ c h) m
 
-pub chain_above : (v : TermsValue) (old : LogValue) (c : List Literal) (hints : List ClauseId) (x : ℕ) → Stands v.nodes old → (l : Literal) × Contains c l × (l.variable ≡ x) × (old.next ≤ x) → Tried v (step.Chain c hints) old old (Some (kept.Variable x))
-chain_above v old c hints x h p =
-    let k = stands_over v.nodes old h in
-    let le : (state_of v.nodes old.entries).next ≤ x = subst (λ n. n ≤ x) k.next p.3 in
-    ((λ i. let lt = below_at (state_of v.nodes old.entries).next c p.0 i.0 p.1 in let e = p.2 in omega arith), (p.0, p.1, p.2, le), refl)
+same_shown : (v : TermsValue) (old : LogValue) (c : List Literal) (hints : List ClauseId) (k : Kept) → IsKept v.nodes old → ShowsChain old.next old.clauses c hints k → Shows v (state_of v.nodes old.entries) (step.Chain c hints) k
+same_shown v old c hints k h s =
+    subst (λ n. ShowsChain n (state_of v.nodes old.entries).clauses c hints k) h.next (subst (λ rows. ShowsChain old.next rows c hints k) h.clauses s)
 
-pub chain_fault : (v : TermsValue) (old : LogValue) (c : List Literal) (hints : List ClauseId) (f : ChainFault) → Stands v.nodes old → AreBelow old.next c → FirstFault (clause_at old.clauses) c hints f → Tried v (step.Chain c hints) old old (Some (kept.Chain f))
-chain_fault v old c hints f h below fault =
-    let k = stands_over v.nodes old h in
-    let own = subst (λ cs. FirstFault (clause_at cs) c hints f) k.clauses fault in
-    ((λ i. IsChain-no_fault (clause_at (state_of v.nodes old.entries).clauses) c hints f i.1 own), (subst (λ n. AreBelow n c) k.next below, own), refl)
+-- what is shown leaves no chain
+no_chain : (next : ℕ) (rows : List (List (List Literal))) (c : List Literal) (hints : List ClauseId) (k : Kept) → ShowsChain next rows c hints k → AreBelow next c × IsChain (clause_at rows) c hints → ⊥
+no_chain next rows c hints kept.Operator s i = s
+no_chain next rows c hints (kept.Make f) s i = s
+no_chain next rows c hints (kept.Term u) s i = s
+no_chain next rows c hints (kept.Variable x) s i = let lt = below_at next c s.0 i.0 s.1 in let e = s.2 in let le = s.3 in omega arith
+no_chain next rows c hints (kept.Chain f) s i = IsChain-no_fault (clause_at rows) c hints f i.1 s.1
+
+pub chain_shown : (v : TermsValue) (old new : LogValue) (c : List Literal) (hints : List ClauseId) (o : Option Kept) (k : Kept) → Stands v.nodes old
+    → MatchOption o (AreBelow old.next c × IsChain (clause_at old.clauses) c hints) (ShowsChain old.next old.clauses c hints) → o ≡ Some k → new ≡ old → Tried v (step.Chain c hints) old new (Some k)
+chain_shown v old new c hints o k h m e same =
+    let s = state_of v.nodes old.entries in
+    let shown = same_shown v old c hints k (stands_over v.nodes old h) (subst (λ o. MatchOption o (AreBelow old.next c × IsChain (clause_at old.clauses) c hints) (ShowsChain old.next old.clauses c hints)) e m) in
+    (no_chain s.next s.clauses c hints k shown, shown, same)
+
+pub chain_found : (v : TermsValue) (old mid new : LogValue) (c : List Literal) (hints : List ClauseId) (o : Option Kept) (over : ℕ) → Stands v.nodes old
+    → MatchOption o (AreBelow old.next c × IsChain (clause_at old.clauses) c hints) (ShowsChain old.next old.clauses c hints) → o ≡ None → mid ≡ old → over ≡ length v.nodes → new ≡ with_plain mid over (step.Chain c hints) → Tried v (step.Chain c hints) old new None
+chain_found v old mid new c hints o over h m e same count put =
+    let i = subst (λ o. MatchOption o (AreBelow old.next c × IsChain (clause_at old.clauses) c hints) (ShowsChain old.next old.clauses c hints)) e m in
+    chain_done v old new c hints h i.0 i.1 (put ∙ ap (λ l. with_plain l over (step.Chain c hints)) same ∙ ap (λ n. with_plain old n (step.Chain c hints)) count)
 
 -- ---- what follows from trying
 
@@ -168,10 +182,10 @@ pub tried_valid : (v : TermsValue) (e : Entry) (old new : LogValue) (o : Option 
 tried_valid v e old new None i h = h.1
 tried_valid v e old new (Some k) i h = absurd (h.0 i)
 
-pub plain_pushed : (v : TermsValue) (c : List Literal) (hints : List ClauseId) (old new : LogValue) → Stands v.nodes old → IsValid v (state_of v.nodes old.entries) (step.Chain c hints) → new ≡ with_plain old (length v.nodes) (step.Chain c hints) → IsPushed v.nodes old new (step.Chain c hints) (suc (length old.entries))
-plain_pushed v c hints old new h i e =
+pub plain_pushed : (v : TermsValue) (c : List Literal) (hints : List ClauseId) (old new : LogValue) (over : ℕ) → Stands v.nodes old → IsValid v (state_of v.nodes old.entries) (step.Chain c hints) → over ≡ length v.nodes → new ≡ with_plain old over (step.Chain c hints) → IsPushed v.nodes old new (step.Chain c hints) (suc (length old.entries))
+plain_pushed v c hints old new over h i count e =
     let k = stands_over v.nodes old h in
-    subst (λ l. IsPushed v.nodes old l (step.Chain c hints) (suc (length old.entries))) (sym e) (pushed v.nodes old (with_plain old (length v.nodes) (step.Chain c hints)) (step.Chain c hints) refl refl (kept_plain v.nodes old (step.Chain c hints) k i refl))
+    subst (λ l. IsPushed v.nodes old l (step.Chain c hints) (suc (length old.entries))) (sym (e ∙ ap (λ n. with_plain old n (step.Chain c hints)) count)) (pushed v.nodes old (with_plain old (length v.nodes) (step.Chain c hints)) (step.Chain c hints) refl refl (kept_plain v.nodes old (step.Chain c hints) k i refl))
 
 -- the answer of a step that makes no term
 pub answered : (v : TermsValue) (e : Entry) (old new : LogValue) (o : Option Kept) (p : ℕ) (r : Result ℕ PushError) → MakesNoTerm e → p ≡ suc (length old.entries) → Tried v e old new o
@@ -209,7 +223,7 @@ new_node v w n t e m =
     let h = made v w n t m in
     ⊎_elim
     (λ same. let within : t < length v.nodes = subst (λ u. t < length u.nodes) same h.within in
-        absurd (no_place v.nodes n e t within (subst (λ u. node_at u.nodes t ≡ n) same h.node)))
+    absurd (no_place v.nodes n e t within (subst (λ u. node_at u.nodes t ≡ n) same h.node)))
     (λ new. (new.number, new.pushed))
     h.grown
 
@@ -218,11 +232,35 @@ node_done v w n old new p h given e m at x =
     let q = new_node v w n m.0 e m.1 in
     let made : make v n ≡ Ok (length v.nodes, with_node v n) = m.1 ∙ ap (λ k. Ok (k, w)) q.0 ∙ ap (λ u. Ok (length v.nodes, u)) q.1 in
     let k = subst (λ u. IsKept u.nodes old) (sym q.1) (kept_longer v.nodes (n ∷ []) old (stands_over v.nodes old h)) in
-    let among : Contains w.nodes n = subst (λ u. Contains u.nodes n) (sym q.1) (Contains-push v.nodes n) in
-    (
+    let among : Contains w.nodes n = subst (λ u. Contains u.nodes n) (sym q.1) (Contains-push v.nodes n) in (
       record { operator = given; new = e; made = made },
       q.1,
       subst (IsPushed w.nodes old new (step.Node n)) (sym at)
-      (subst (λ l. IsPushed w.nodes old l (step.Node n) (suc (length old.entries))) (sym x)
-      (pushed w.nodes old (with_plain old (length w.nodes) (step.Node n)) (step.Node n) refl refl (kept_plain w.nodes old (step.Node n) k among refl))),
+          (subst (λ l. IsPushed w.nodes old l (step.Node n) (suc (length old.entries))) (sym x)
+          (pushed w.nodes old (with_plain old (length w.nodes) (step.Node n)) (step.Node n) refl refl (kept_plain w.nodes old (step.Node n) k among refl))),
     )
+
+-- marks for the variables below b are marks for a clause below a
+pub room_for : (a b m : ℕ) (c : List Literal) → a ≡ b → a ≤ m → AreBelow b c → AreBelow m c
+room_for a b m c e le h = AreBelow-more b m (omega arith) c h
+
+pub no_some : {A : Type 0} (o : Option A) → ((x : A) → o ≡ Some x → ⊥) → o ≡ None
+no_some None h = refl
+no_some (Some x) h = absurd (h x refl)
+
+-- the log with one step more, part by part
+view_of : ℕ → ℕ → List TermBits → List (Option Literal) → StepsValue → LogValue
+view_of next over bits selectors s = record { next = next; over = over; bits = bits; selectors = selectors; entries = s.entries; clauses = s.clauses }
+
+pub node_new : (next before over count : ℕ) (bits : List TermBits) (selectors : List (Option Literal)) (s t : StepsValue) (old : LogValue) (n : Node)
+    → (let l : LogValue = record { next = next; over = before; bits = bits; selectors = selectors; entries = s.entries; clauses = s.clauses } in l) ≡ old
+    → t ≡ with_step s (step.Node n) [] → over ≡ count
+    → (let l : LogValue = record { next = next; over = over; bits = bits; selectors = selectors; entries = t.entries; clauses = t.clauses } in l) ≡ with_plain old count (step.Node n)
+unfolding view_of
+node_new next before over count bits selectors s t old n v e c =
+    ap (λ t. view_of next over bits selectors t) e ∙ ap (λ o. view_of next o bits selectors (with_step s (step.Node n) [])) c ∙ ap (λ l. with_plain l count (step.Node n)) v
+
+pub plain_added : (v : TermsValue) (e : Entry) (c : List Literal) (hints : List ClauseId) (old new : LogValue) (over p : ℕ) → e ≡ step.Chain c hints → Stands v.nodes old → IsValid v (state_of v.nodes old.entries) e → over ≡ length v.nodes → new ≡ with_plain old over (step.Chain c hints) → p ≡ suc (length old.entries) → IsPushed v.nodes old new e p
+plain_added v e c hints old new over p q h i count x at =
+    let k = plain_pushed v c hints old new over h (subst (IsValid v (state_of v.nodes old.entries)) q i) count x in
+    subst (λ e. IsPushed v.nodes old new e p) (sym q) (subst (IsPushed v.nodes old new (step.Chain c hints)) (sym at) k)

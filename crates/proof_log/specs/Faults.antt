@@ -114,19 +114,19 @@ ShowsSelector s a t (kept.Variable x) = (r : Asserted) × (s.selectors a ≡ Som
 ShowsSelector s a t (kept.Chain f) = ⊥
 
 -- a variable of the clause that no step made, or the first fault of the hints
-abbrev pub ShowsChain : LogState → List Literal → List ClauseId → Kept → Type 0
-ShowsChain s c hints kept.Operator = ⊥
-ShowsChain s c hints (kept.Make f) = ⊥
-ShowsChain s c hints (kept.Term u) = ⊥
-ShowsChain s c hints (kept.Variable x) = (l : Literal) × Contains c l × (l.variable ≡ x) × (s.next ≤ x)
-ShowsChain s c hints (kept.Chain f) = AreBelow s.next c × FirstFault (clause_at s.clauses) c hints f
+abbrev pub ShowsChain : ℕ → List (List (List Literal)) → List Literal → List ClauseId → Kept → Type 0
+ShowsChain next rows c hints kept.Operator = ⊥
+ShowsChain next rows c hints (kept.Make f) = ⊥
+ShowsChain next rows c hints (kept.Term u) = ⊥
+ShowsChain next rows c hints (kept.Variable x) = (l : Literal) × Contains c l × (l.variable ≡ x) × (next ≤ x)
+ShowsChain next rows c hints (kept.Chain f) = AreBelow next c × FirstFault (clause_at rows) c hints f
 
 abbrev pub Shows : TermsValue → LogState → Entry → Kept → Type 0
 Shows v s (step.Node n) k = ShowsNode v n k
 Shows v s (step.Leaf t) k = ShowsTerm t k
 Shows v s (step.Encode t) k = ShowsTerm t k
 Shows v s (step.Selector a t) k = ShowsSelector s a t k
-Shows v s (step.Chain c hints) k = ShowsChain s c hints k
+Shows v s (step.Chain c hints) k = ShowsChain s.next s.clauses c hints k
 
 -- the step is not valid, and the fault says of what kind it is and what shows it
 pub record IsFault (v : TermsValue) (s : LogState) (e : Entry) (f : StepFault) : Type 0 where

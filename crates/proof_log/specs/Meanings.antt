@@ -1,5 +1,5 @@
 -- What the variables of a log mean under an interpretation, and what is sound.
-use Rattle.std.specs.Prelude.{◌≡◌, ℕ, suc, ◌<◌, ◌≤◌, ◌==◌, Bool, true, List, [], ◌∷◌, ◌++◌, take, length, Option, Some, None, All, slice_get}
+use Rattle.std.specs.Prelude.{◌≡◌, ℕ, suc, ◌<◌, ◌≤◌, ◌==◌, Bool, true, List, [], ◌∷◌, ◌++◌, take, length, Option, Some, None, All, Contains, slice_get}
 use Rattle.cnf_base.specs.Literals.{Literal}
 use Rattle.cnf_base.specs.Clauses.{lit_true, clause_true, bit}
 use Rattle.cnf_base.specs.Assignments.{AgreeBelow, AreBelow, with_variable, with_number, with_gates}
@@ -70,11 +70,13 @@ pub record Owns (nodes : List Node) (log : List Entry) (p x : ℕ) : Type 0 wher
   pub upto : x < (state_of nodes (take (suc p) log)).next
 
 -- What is named was made before: the literals of clauses, bits and selectors are of variables that there are, each of
--- which but the first one step made, and the hints of the step at a position name earlier positions.
+-- which but the first one step made; a selector is a variable, and a step of the log made it; and the hints of the step
+-- at a position name earlier positions.
 pub record LogIsOrdered (nodes : List Node) (log : List Entry) : Type 0 where
   pub clauses : (id : ClauseId) (c : List Literal) → clause_at (state_of nodes log).clauses id ≡ Some c → AreBelow (state_of nodes log).next c
   pub bits : (t : ℕ) (b : List Literal) → (state_of nodes log).bits t ≡ Some b → (t < length nodes) × AreBelow (state_of nodes log).next b
-  pub selectors : (a : ℕ) (r : Asserted) → (state_of nodes log).selectors a ≡ Some r → r.literal.variable < (state_of nodes log).next
+  pub selectors : (a : ℕ) (r : Asserted) → (state_of nodes log).selectors a ≡ Some r →
+      (r.literal.positive ≡ true) × (r.literal.variable < (state_of nodes log).next) × Contains log (step.Selector a r.term)
   pub owned : (x : ℕ) → 1 < x → x < (state_of nodes log).next → (p : ℕ) × Owns nodes log p x
   pub once : (x p q : ℕ) → Owns nodes log p x → Owns nodes log q x → p ≡ q
   pub hints : (p : ℕ) (c : List Literal) (hints : List ClauseId) → slice_get log p ≡ Some (step.Chain c hints) → All (λ id. id.pos ≤ p) hints

@@ -1,14 +1,20 @@
 -- What contracts see of a stored log, and when it stands over a list of terms.
-use Rattle.std.specs.Prelude.{◌≡◌, ℕ, suc, ◌+◌, ◌≤◌, Bool, true, false, List, ◌++◌, [], ◌∷◌, length, take, Option, Some, None, slice_index_or}
+use Rattle.std.specs.Prelude.{◌≡◌, ℕ, suc, ◌+◌, ◌<◌, ◌≤◌, Contains, Bool, true, false, List, ◌++◌, [], ◌∷◌, length, take, Option, Some, None, slice_index_or}
 use Rattle.cnf_base.specs.Literals.{Literal, positive_of}
-use Rattle.cnf_base.specs.Assignments.{fresh_bits}
+use Rattle.cnf_base.specs.Clauses.{lit_true}
+use Rattle.cnf_base.specs.Assignments.{AreBelow, fresh_bits}
+use Rattle.cnf_base.specs.declared.clause.ClauseId.{ClauseId}
 use Rattle.cnf_base.specs.Gates.{gates_clauses}
 use Rattle.smt_terms.specs.declared.node.Node.{Node}
+use Rattle.smt_terms.specs.Terms.{sort_of}
+use Rattle.smt_terms.specs.Values.{Interpretation, is_true, value}
 use Rattle.smt_terms.specs.Bits.{TermBits, bits_in, with_bits}
 use Rattle.bit_blast.specs.Blocks.{Block, EachShort}
+use Rattle.bit_blast.specs.Meanings.{AreBitsOf}
 use Rattle.proof_log.specs.declared.entry.Entry.{Entry}
 use Rattle.proof_log.specs.declared.entry.Entry.TheVariants as step
-use Rattle.proof_log.specs.Logs.{Asserted, with_value, selector_clause, state_of, IsLog}
+use Rattle.proof_log.specs.Logs.{Asserted, clause_at, with_value, plain_width, selector_clause, state_of, IsLog}
+use Rattle.proof_log.specs.Meanings.{meaning, IsSound}
 
 -- the next variable, how many terms the log stands over, the bits of terms, the selectors of assertions by number, the
 -- steps, and the clauses of each position
@@ -41,6 +47,24 @@ pub record IsKept (nodes : List Node) (log : LogValue) : Type 0 where
 pub record Stands (nodes : List Node) (log : LogValue) : Type 0 where
   pub within : log.over ≤ length nodes
   pub kept : IsKept (take log.over nodes) log
+
+-- What a stored log has that stands over these terms: clauses that are sound, terms with the bits of their values, as
+-- many as their sorts have, and selectors that are variables and the values of the terms of their assertions.
+pub record IsSettled (nodes : List Node) (log : LogValue) : Type 0 where
+  pub kept : IsKept nodes log
+  pub next : 1 < log.next
+  pub clauses : (id : ClauseId) (c : List Literal) → clause_at log.clauses id ≡ Some c → AreBelow log.next c × IsSound nodes log.entries c
+  pub bits : (t : ℕ) (b : List Literal) → bits_in log.bits t ≡ Some b →
+      (t < length nodes)
+      × (plain_width (sort_of nodes t) ≡ Some (length b))
+      × AreBelow log.next b
+      × ((M : Interpretation) → AreBitsOf (meaning M nodes log.entries) (sort_of nodes t) b (value M nodes t))
+  pub selectors : (a : ℕ) (s : Literal) → selector_in log.selectors a ≡ Some s →
+      (t : ℕ)
+      × Contains log.entries (step.Selector a t)
+      × (s.positive ≡ true)
+      × (s.variable < log.next)
+      × ((M : Interpretation) → lit_true (meaning M nodes log.entries) s ≡ is_true (value M nodes t))
 
 -- ---- what a stored step has
 

@@ -2,10 +2,12 @@
 
 ghost use Rattle.std.specs.Prelude.{◌++◌, List};
 ghost use Rattle.smt_terms.specs.declared.node.Node.{Node};
-ghost use Rattle.smt_terms.specs.Terms.{IsTermList};
+ghost use Rattle.smt_terms.specs.Terms.{TermsValue, IsTermList};
 ghost use Rattle.proof_log.specs.declared.entry.Entry.{Entry};
-ghost use Rattle.proof_log.specs.Logs.{IsLog};
+ghost use Rattle.proof_log.specs.Logs.{LogState, IsStep, IsLog};
 ghost use Rattle.proof_log.specs.Meanings.{LogIsSound, LogIsOrdered, StaysLog, IsLogOver};
+ghost use Rattle.proof_log.specs.Stored.{LogValue, Stands, IsSettled};
+ghost use Rattle.proof_log.specs.Faults.{IsValid, terms_after};
 
 /// Every clause of every log is true in every interpretation, the bits of a term are those of its value, and the
 /// selector of an assertion is the value of its term.
@@ -26,4 +28,20 @@ pub fn more_steps_keep_logs()
 /// A log is one over more terms too, with all that it has.
 pub fn more_terms_keep_logs()
     ensures { (nodes more : List Node) (log : List Entry) → IsLog nodes log → IsLogOver nodes more log }
+{}
+
+/// A step that is valid may stand, over the terms after it.
+pub fn valid_steps_stand()
+    ensures { (terms : TermsValue) (state : LogState) (entry : Entry) →
+        IsValid terms state entry → IsStep (terms_after terms entry).nodes state entry }
+{}
+
+/// A stored log stands over more terms too.
+pub fn more_terms_keep_stored_logs()
+    ensures { (nodes more : List Node) (log : LogValue) → Stands nodes log → Stands (nodes ++ more) log }
+{}
+
+/// What a stored log has where it stands.
+pub fn stored_logs_are_settled()
+    ensures { (nodes : List Node) (log : LogValue) → IsTermList nodes → Stands nodes log → IsSettled nodes log }
 {}

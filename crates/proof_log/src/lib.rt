@@ -18,7 +18,10 @@ mod steps;
 mod trying;
 
 pub use fault::{Kept, PushError, StepFault, StepKind};
-pub use laws::{logs_are_ordered, logs_are_sound, more_steps_keep_logs, more_terms_keep_logs};
+pub use laws::{
+    logs_are_ordered, logs_are_sound, more_steps_keep_logs, more_terms_keep_logs,
+    more_terms_keep_stored_logs, stored_logs_are_settled, valid_steps_stand,
+};
 pub use log::Log;
 
 #[cfg(test)]

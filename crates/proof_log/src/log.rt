@@ -134,6 +134,7 @@ impl Log {
         ensures err { OnErr result (self.new ≡ self.old) }
     {
         let at = self.len();
+        let over = terms.len();
         match entry {
             Entry::Leaf(term) => {
                 self.leaf(alloc, terms, term)?;
@@ -145,9 +146,9 @@ impl Log {
                 self.select(alloc, terms, assertion, term)?;
             }
             Entry::Chain(clause, hints) => {
-                self.put_plain(alloc, terms, Entry::Chain(clause, hints))?;
+                self.put_plain(alloc, over, Entry::Chain(clause, hints))?;
             }
-            Entry::Node(node) => self.put_plain(alloc, terms, Entry::Node(node))?,
+            Entry::Node(node) => self.put_plain(alloc, over, Entry::Node(node))?,
         }
         Ok(at)
     }

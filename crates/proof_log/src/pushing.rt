@@ -143,18 +143,18 @@ impl Log {
         Ok(())
     }
 
-    /// A step that makes no variable and no clause but a chain's own.
+    /// A step that makes no variable and no clause but a chain's own, over so many terms.
     pub(crate) fn put_plain(
         &mut self,
         alloc: Global,
-        terms: &Terms,
+        over: u32,
         entry: Entry,
     ) -> Result<(), AllocError>
-        ensures ok { OnOk result (self.new ≡ with_plain self.old (length terms.now.nodes) entry) }
+        ensures ok { OnOk result (self.new ≡ with_plain self.old over entry) }
         ensures err { OnErr result (self.new ≡ self.old) }
     {
         self.steps.push(entry, Vec::new(alloc))?;
-        self.over = terms.len();
+        self.over = over;
         Ok(())
     }
 }

@@ -1,12 +1,15 @@
 //! Steps that are tried, kind by kind: what shows that one is not valid, or it is put into the log.
 
-ghost use Rattle.std.specs.Prelude.{◌≡◌, ◌≤◌, ◌↔◌, IsTrue, [], ◌∷◌, Some, OnErr, IfOk, MatchOption, Contains, is_some};
+ghost use Rattle.std.specs.Prelude.{◌≡◌, ◌≤◌, ◌≢◌, List, [], ◌∷◌, Some, OnErr, IfOk, MatchOption, MatchBool, Contains, is_some};
 ghost use Rattle.cnf_base.specs.Literals.{Literal};
 ghost use Rattle.cnf_base.specs.Assignments.{AreBelow};
+ghost use Rattle.cnf_base.specs.declared.clause.ClauseId.{ClauseId};
 ghost use Rattle.smt_terms.specs.Bits.{bits_in};
+ghost use Rattle.hint_chain.specs.Chains.{IsChain};
 ghost use Rattle.proof_log.specs.declared.entry.Entry.TheVariants as step;
+ghost use Rattle.proof_log.specs.Logs.{clause_at};
 ghost use Rattle.proof_log.specs.Stored.{Stands};
-ghost use Rattle.proof_log.specs.Faults.{Tried, IsGiven};
+ghost use Rattle.proof_log.specs.Faults.{Tried, IsGiven, ShowsChain};
 
 use crate::entry::{AssertId, Entry, Hints};
 use crate::fault::Kept;
@@ -21,9 +24,16 @@ use std::alloc::{AllocError, Global};
 
 /// Whether an operator is made by no step.
 pub(crate) fn is_given(op: &Op) -> bool
-    ensures { IsTrue result ↔ IsGiven op.now }
+    ensures { MatchBool result (IsGiven op.now) (¬ (IsGiven op.now)) }
 {
     matches!(op, Op::Constant { .. } | Op::Param { .. })
+}
+
+// Whether a sort is that of the truth values.
+fn is_bool(sort: Sort) -> bool
+    ensures { MatchBool result (sort ≡ Sort.Bool) (sort ≢ Sort.Bool) }
+{
+    matches!(sort, Sort::Bool)
 }
 
 // The first variable of the literals that is not below this one.
@@ -107,7 +117,7 @@ impl Log {
         if term >= terms.len() {
             return Ok(Some(Kept::Term(term)));
         }
-        if terms.sort(term) != Sort::Bool {
+        if !is_bool(terms.sort(term)) {
             return Ok(Some(Kept::Term(term)));
         }
         match self.lone_bit(term) {
@@ -151,16 +161,31 @@ impl Log {
         ensures ok { IfOk result (Tried terms.now (step.Chain clause hints) self.old self.new) }
         ensures err { OnErr result (self.new ≡ self.old) }
     {
+        let over = terms.len();
+        match self.unfounded(&clause, &hints)? {
+            Some(kept) => Ok(Some(kept)),
+            None => {
+                self.put_plain(alloc, over, Entry::Chain(clause, hints))?;
+                Ok(None)
+            }
+        }
+    }
+
+    // What shows that hints are no chain for a clause of this log.
+    fn unfounded(&mut self, clause: &Clause, hints: &Hints) -> Result<Option<Kept>, AllocError>
+        requires { (id : ClauseId) (h : List Literal) → clause_at self.old.clauses id ≡ Some h → AreBelow self.old.next h }
+        ensures ok { IfOk result (λ o. MatchOption o
+            (AreBelow self.old.next clause.now × IsChain (clause_at self.old.clauses) clause.now hints.now)
+            (ShowsChain self.old.next self.old.clauses clause.now hints.now)) }
+        ensures same { self.new ≡ self.old }
+    {
         if let Some(variable) = first_above(clause.literals(), self.next) {
             return Ok(Some(Kept::Variable(variable)));
         }
         self.marks.reserve(self.next)?;
-        match follows(&self.steps, &clause, hints.as_slice(), &mut self.marks) {
+        match follows(&self.steps, clause, hints.as_slice(), &mut self.marks) {
             Err(fault) => Ok(Some(Kept::Chain(fault))),
-            Ok(()) => {
-                self.put_plain(alloc, terms, Entry::Chain(clause, hints))?;
-                Ok(None)
-            }
+            Ok(()) => Ok(None),
         }
     }
 }

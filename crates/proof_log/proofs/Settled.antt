@@ -1,0 +1,54 @@
+-- What a stored log has that stands over a list of terms.
+use Rattle.std.proofs.Common.{◌≡◌, ℕ, suc, ◌<◌, Bool, List, [], ◌∷◌, ◌++◌, length, Option, Some, None, refl, sym, ap, ◌∙◌, subst}
+use Rattle.std.proofs.lemmas.List.Elements.{Contains-push}
+use Rattle.cnf_base.specs.Literals.{Literal}
+use Rattle.cnf_base.specs.Clauses.{lit_true}
+use Rattle.cnf_base.specs.Assignments.{AreBelow}
+use Rattle.smt_terms.specs.declared.node.Node.{Node}
+use Rattle.smt_terms.specs.Terms.{IsTermList, TermsValue, sort_of}
+use Rattle.smt_terms.specs.Values.{Interpretation, is_true, value}
+use Rattle.proof_log.specs.declared.entry.Entry.{Entry}
+use Rattle.proof_log.specs.declared.entry.Entry.TheVariants as step
+use Rattle.proof_log.specs.Logs.{Asserted, LogState, clause_at, IsStep, state_of}
+use Rattle.proof_log.specs.Meanings.{meaning}
+use Rattle.proof_log.specs.Stored.{LogValue, selector_in, literal_of, IsKept, Stands, IsSettled}
+use Rattle.proof_log.specs.Faults.{IsValid, terms_after}
+use Rattle.proof_log.proofs.Sound.{log_is_sound}
+use Rattle.proof_log.proofs.Ordered.{log_is_ordered}
+use Rattle.proof_log.proofs.Standing.{stands_over, bits_width, next_above, clauses_below, clause_is_sound}
+
+-- the state's selector behind a stored one
+stored_selector : (o : Option Asserted) (s : Literal) → literal_of o ≡ Some s → (r : Asserted) × (o ≡ Some r) × (r.literal ≡ s)
+stored_selector None s e = let q : ⊥ = cc in absurd q
+stored_selector (Some r) s e = let q : r.literal ≡ s = cc in (r, refl, q)
+
+pub stands_settled : (nodes : List Node) (l : LogValue) → IsTermList nodes → Stands nodes l → IsSettled nodes l
+stands_settled nodes l all h =
+    let k = stands_over nodes l h in
+    let sound = log_is_sound nodes l.entries all k.steps in
+    let ordered = log_is_ordered nodes l.entries all k.steps in
+    record {
+      kept = k;
+      next = next_above nodes l all k;
+      clauses = λ id c e. (clauses_below nodes l id c all k e, clause_is_sound nodes l id c all h e);
+      bits = λ t b e.
+          let own = sym (k.bits t) ∙ e in
+          let o = ordered.bits t b own in
+          (o.0, bits_width nodes l.entries t b all k.steps own, subst (λ n. AreBelow n b) (sym k.next) o.1, (λ M. sound.bits M t b own));
+      selectors = λ a s e.
+          let r = stored_selector ((state_of nodes l.entries).selectors a) s (sym (k.selectors a) ∙ e) in
+          let o = ordered.selectors a r.0 r.1 in (
+            r.0.term,
+            o.2,
+            ap (λ x. x.positive) (sym r.2) ∙ o.0,
+            subst (λ x. x.variable < l.next) r.2 (subst (λ n. r.0.literal.variable < n) (sym k.next) o.1),
+            (λ M. ap (λ x. lit_true (meaning M nodes l.entries) x) (sym r.2) ∙ sound.selectors M a r.0 r.1),
+          );
+    }
+
+pub valid_stands : (v : TermsValue) (s : LogState) (e : Entry) → IsValid v s e → IsStep (terms_after v e).nodes s e
+valid_stands v s (step.Node n) i = Contains-push v.nodes n
+valid_stands v s (step.Leaf t) i = i
+valid_stands v s (step.Encode t) i = i
+valid_stands v s (step.Selector a t) i = i
+valid_stands v s (step.Chain c hints) i = i
