@@ -2,3 +2,4 @@ pub mod Searching
 pub mod Keeping
 pub mod Naming
 pub mod Blaming
+pub mod Standing

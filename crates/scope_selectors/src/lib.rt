@@ -12,6 +12,7 @@
 mod blame;
 pub mod fault;
 mod find;
+pub mod laws;
 pub mod live;
 pub mod scopes;
 #[cfg(test)]

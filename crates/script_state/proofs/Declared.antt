@@ -1,11 +1,11 @@
 -- A declaration keeps those that were made.
-use Rattle.std.proofs.Common.{◌≡◌, ℕ, Bool, true, false, List, [], ◌∷◌, ◌++◌, length, refl, sym, ap, ◌∙◌, subst, arith, length-append, Option, Some, None, Result, Ok, Err}
+use Rattle.std.proofs.Common.{◌≡◌, ℕ, Bool, true, false, List, [], ◌∷◌, ◌++◌, refl, ap, ◌∙◌, subst, arith, length-append, Some, Result, Ok, Err}
 use Rattle.std.specs.Prelude.{slice_get, if◌then◌else◌, is_some}
 use Rattle.std.proofs.lemmas.List.{get_or_append_left}
 use Rattle.std.proofs.lemmas.Option.{slice_get_within, get_or_from_slice_get, slice_get-get_or}
 use Rattle.smt_text.specs.declared.token.CommandName.{CommandName}
 use Rattle.smt_text.specs.declared.token.CommandName.TheVariants as name
-use Rattle.smt_syntax.specs.Sexps.{Sexp, Sexps, atom, group, none, more}
+use Rattle.smt_syntax.specs.Sexps.{Sexps, atom, group, none, more}
 use Rattle.smt_syntax.specs.Walk.{◌>>=◌}
 use Rattle.smt_terms.specs.declared.sort.Sort.{Sort}
 use Rattle.smt_terms.specs.declared.sort.Signature.{Signature}
@@ -16,7 +16,7 @@ use Rattle.smt_build.specs.declared.fault.BuildFault.TheVariants.{Declared, Rese
 use Rattle.smt_build.specs.Names.{SymbolsValue, AreDeclared, declaration_of}
 use Rattle.smt_build.specs.Operators.{is_reserved}
 use Rattle.smt_build.specs.Sorts.{sort_in}
-use Rattle.smt_build.specs.Declaring.{Declaration, declare, declare_parts, declare_constant, constant, next}
+use Rattle.smt_build.specs.Declaring.{Declaration, declare, declare_parts, constant, next}
 
 -- one declaration more, if it is made
 abbrev OneMore : SymbolsValue → Declaration → Type 0

@@ -1,9 +1,9 @@
 -- The term that an S-expression means is held.
-use Rattle.std.proofs.Common.{◌≡◌, ℕ, ◌*◌, ◌<◌, Bool, true, false, List, [], ◌∷◌, length, refl, ap, ◌∙◌, subst, Option, Some, None, Result, Ok, Err}
+use Rattle.std.proofs.Common.{◌≡◌, ℕ, ◌*◌, ◌<◌, Bool, true, false, List, [], ◌∷◌, length, refl, subst, Option, Some, None, Result, Ok, Err}
 use Rattle.std.specs.Prelude.{nat_le, slice_get, if◌then◌else◌}
 use Rattle.smt_text.specs.declared.token.TokenKind.{TokenKind}
 use Rattle.smt_text.specs.declared.token.TokenKind.TheVariants as kind
-use Rattle.smt_syntax.specs.Sexps.{Sexp, Sexps, atom, group, none, more}
+use Rattle.smt_syntax.specs.Sexps.{Sexp, atom, group, more}
 use Rattle.smt_syntax.specs.Walk.{◌>>=◌}
 use Rattle.smt_terms.specs.declared.sort.Sort.{Sort}
 use Rattle.smt_terms.specs.declared.sort.Signature.{Signature}
@@ -20,7 +20,7 @@ use Rattle.smt_build.specs.declared.operators.Named.TheVariants.{Applies, LeftOu
 use Rattle.smt_build.specs.Literals.{bit_value, hexadecimal_value, value_in}
 use Rattle.smt_build.specs.Operators.{operator_named, is_left_out}
 use Rattle.smt_build.specs.Names.{SymbolsValue, declaration_of}
-use Rattle.smt_build.specs.Building.{Built, as_built, made, binary, hexadecimal, constant, declared_at, declared, applied, symbol_by, symbol_term, word_term, application_by, application}
+use Rattle.smt_build.specs.Building.{Built, as_built, made, constant, declared_at, declared, applied, symbol_by, symbol_term, word_term, application_by, application}
 use Rattle.smt_build.specs.Terms.{term_of, args_of}
 
 -- the number is one of the terms then

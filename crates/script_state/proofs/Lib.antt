@@ -4,3 +4,4 @@ pub mod Held
 pub mod Asserting
 pub mod Obeying
 pub mod Applying
+pub mod Deciding

@@ -1,5 +1,5 @@
 -- Tokens are one list in parentheses exactly where they spell one.
-use Rattle.std.proofs.Common.{◌≡◌, ◌≢◌, ℕ, zero, suc, ◌+◌, ◌-◌, ◌<◌, ◌≤◌, true, false, List, [], ◌∷◌, ◌++◌, length, get_or, drop, refl, ap, sym, ◌∙◌, append_assoc, add-one, arith}
+use Rattle.std.proofs.Common.{◌≡◌, ℕ, zero, suc, ◌+◌, ◌-◌, ◌<◌, ◌≤◌, true, false, List, [], ◌∷◌, ◌++◌, length, get_or, drop, refl, ap, sym, ◌∙◌, append_assoc, add-one, arith}
 use Rattle.std.specs.Prelude.{◌==◌}
 use Rattle.std.proofs.lemmas.Bool.{false≢true}
 use Rattle.std.proofs.lemmas.Bool.Decides.{nat_tests}
@@ -43,6 +43,7 @@ spells_list (word k x ∷ ls) h = absurd (false≢true h)
 
 mutual
   unfolding closes
+
   closes-spelling : (n : ℕ) (e : Sexp) (rest : List Sign) → closes (suc n) (spelling e ++ rest) ≡ closes (suc n) rest
   closes-spelling n (atom k x) rest = refl
   closes-spelling n (group es) rest = ap (closes (suc (suc n))) (append_assoc (spellings es) (close_paren ∷ []) rest) ∙ closes-spellings (suc n) es (close_paren ∷ rest)

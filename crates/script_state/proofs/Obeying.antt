@@ -1,5 +1,5 @@
 -- What each command does, by its name and its arguments.
-use Rattle.std.proofs.Common.{◌≡◌, false, List, [], ◌∷◌, refl, sym, subst, Result, Ok, None}
+use Rattle.std.proofs.Common.{◌≡◌, false, List, [], ◌∷◌, refl, sym, subst, Result}
 use Rattle.std.specs.declared.alloc.AllocError.{AllocError}
 use Rattle.smt_text.specs.declared.token.CommandName.{CommandName}
 use Rattle.smt_text.specs.declared.token.CommandName.TheVariants as name
@@ -9,7 +9,7 @@ use Rattle.smt_syntax.specs.declared.command.Command.TheVariants as command
 use Rattle.smt_syntax.specs.Sexps.{Sign, Sexp, Sexps, none, more}
 use Rattle.smt_syntax.specs.Spans.{Stands, AllStand}
 use Rattle.smt_syntax.specs.Commands.{name_of, spans_of, is_left_out}
-use Rattle.smt_build.specs.Declaring.{declare, declare_parts}
+use Rattle.smt_build.specs.Declaring.{declare}
 use Rattle.smt_build.specs.Terms.{term_of}
 use Rattle.script_state.specs.declared.answer.Answer.{Answer}
 use Rattle.script_state.specs.States.{StateValue}

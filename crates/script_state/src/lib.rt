@@ -11,7 +11,8 @@
 
 pub mod answer;
 pub mod error_text;
+pub mod laws;
 pub mod state;
-mod whole;
 #[cfg(test)]
 mod tests;
+mod whole;

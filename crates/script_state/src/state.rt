@@ -201,6 +201,13 @@ impl State {
         &self.terms
     }
 
+    /// The levels, the names of assertions, and their cores.
+    pub fn scopes(&self) -> &Scopes
+        ensures { result.now ≡ self.now.scopes }
+    {
+        &self.scopes
+    }
+
     /// How many assertions were ever made.
     pub fn assertions_made(&self) -> u32
         ensures { result ≡ self.now.scopes.made }

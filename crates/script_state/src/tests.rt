@@ -22,11 +22,7 @@ fn apply_as(
     Ok(state.apply(rt.alloc(), &chunk)?)
 }
 
-fn apply(
-    rt: &(impl Abort + AllocGlobal),
-    state: &mut State,
-    text: &[u8],
-) -> Result<Answer, Fail> {
+fn apply(rt: &(impl Abort + AllocGlobal), state: &mut State, text: &[u8]) -> Result<Answer, Fail> {
     apply_as(rt, state, ChunkKind::Balanced, text)
 }
 
@@ -60,8 +56,14 @@ fn the_first_script(rt: HostRuntime) -> Result<(), Fail> {
 #[test]
 fn what_is_not_supported_is_refused_and_forgotten(rt: HostRuntime) -> Result<(), Fail> {
     let mut state = State::new(rt.alloc());
-    assert_eq!(rt; apply(&rt, &mut state, b"(declare-const x (_ BitVec 8))")?, Answer::Done);
-    assert_eq!(rt; apply(&rt, &mut state, b"(assert (= x #x01))")?, Answer::Done);
+    assert_eq!(rt;
+        apply(&rt, &mut state, b"(declare-const x (_ BitVec 8))")?,
+        Answer::Done
+    );
+    assert_eq!(rt;
+        apply(&rt, &mut state, b"(assert (= x #x01))")?,
+        Answer::Done
+    );
     let terms = state.terms().len();
     let refused: [&[u8]; 22] = [
         b"(declare-sort S 0)",
@@ -100,23 +102,35 @@ fn what_is_not_supported_is_refused_and_forgotten(rt: HostRuntime) -> Result<(),
 #[test]
 fn text_that_is_no_command_is_refused(rt: HostRuntime) -> Result<(), Fail> {
     let mut state = State::new(rt.alloc());
-    assert_eq!(rt; apply_as(&rt, &mut state, ChunkKind::Unfinished, b"(check-sat")?, REFUSED);
+    assert_eq!(rt;
+        apply_as(&rt, &mut state, ChunkKind::Unfinished, b"(check-sat")?,
+        REFUSED
+    );
     assert_eq!(rt; apply_as(&rt, &mut state, ChunkKind::Stray, b")")?, REFUSED);
-    assert_eq!(rt; apply_as(&rt, &mut state, ChunkKind::Stray, b"check-sat")?, REFUSED);
+    assert_eq!(rt;
+        apply_as(&rt, &mut state, ChunkKind::Stray, b"check-sat")?,
+        REFUSED
+    );
     Ok(())
 }
 
 #[test]
 fn a_check_stands_until_the_next_accepted_command(rt: HostRuntime) -> Result<(), Fail> {
     let mut state = State::new(rt.alloc());
-    assert_eq!(rt; apply(&rt, &mut state, b"(declare-const x (_ BitVec 1))")?, Answer::Done);
+    assert_eq!(rt;
+        apply(&rt, &mut state, b"(declare-const x (_ BitVec 1))")?,
+        Answer::Done
+    );
     assert_eq!(rt; apply(&rt, &mut state, b"(check-sat)")?, Answer::Check);
     assert_eq!(rt; state.standing(), None);
     state.conclude(Verdict::Sat);
     assert_eq!(rt; state.standing(), Some(Verdict::Sat));
     assert_eq!(rt; apply(&rt, &mut state, b"(assert x)")?, REFUSED);
     assert_eq!(rt; state.standing(), Some(Verdict::Sat));
-    assert_eq!(rt; apply(&rt, &mut state, b"(assert (= x #b1))")?, Answer::Done);
+    assert_eq!(rt;
+        apply(&rt, &mut state, b"(assert (= x #b1))")?,
+        Answer::Done
+    );
     assert_eq!(rt; state.standing(), None);
     Ok(())
 }
@@ -124,8 +138,14 @@ fn a_check_stands_until_the_next_accepted_command(rt: HostRuntime) -> Result<(),
 #[test]
 fn widths_are_1_to_128(rt: HostRuntime) -> Result<(), Fail> {
     let mut state = State::new(rt.alloc());
-    assert_eq!(rt; apply(&rt, &mut state, b"(declare-const a (_ BitVec 1))")?, Answer::Done);
-    assert_eq!(rt; apply(&rt, &mut state, b"(declare-const b (_ BitVec 128))")?, Answer::Done);
+    assert_eq!(rt;
+        apply(&rt, &mut state, b"(declare-const a (_ BitVec 1))")?,
+        Answer::Done
+    );
+    assert_eq!(rt;
+        apply(&rt, &mut state, b"(declare-const b (_ BitVec 128))")?,
+        Answer::Done
+    );
     assert_eq!(rt; apply(&rt, &mut state, b"(assert (= a b))")?, REFUSED);
     assert_eq!(rt; state.terms().len(), 0);
     Ok(())
@@ -134,5 +154,8 @@ fn widths_are_1_to_128(rt: HostRuntime) -> Result<(), Fail> {
 #[test]
 fn texts_of_errors(rt: HostRuntime) {
     assert_eq!(rt; ErrorText::NotSupported.text(), b"not supported".as_slice());
-    assert_eq!(rt; ErrorText::WrongArguments.text(), b"wrong number or sorts of arguments".as_slice());
+    assert_eq!(rt;
+        ErrorText::WrongArguments.text(),
+        b"wrong number or sorts of arguments".as_slice()
+    );
 }

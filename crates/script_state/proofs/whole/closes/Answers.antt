@@ -1,4 +1,4 @@
-use Rattle.std.proofs.Common.{arith, ◌∙◌, sym}
+use Rattle.std.proofs.Common.{arith}
 use Rattle.script_state.proofs.Lists.{seen_none, seen_more, seen_early, seen_all}
 use Rattle.script_state.proofs.whole.closes.Goals as goal
 
