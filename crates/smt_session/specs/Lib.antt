@@ -1,3 +1,4 @@
 pub mod Growing
 pub mod Searched
 pub mod Responses
+pub mod Sessions

@@ -1,8 +1,8 @@
 // The values of the live declarations in an assignment of the log's variables.
 
-ghost use Rattle.std.specs.Prelude.{◌≡◌};
-ghost use Rattle.cnf_base.specs.Clauses.{lit_true};
-ghost use Rattle.plain_search.specs.Searches.{assignment};
+ghost use Rattle.std.specs.Prelude.{IsSome, IfOk, IfSome};
+ghost use Rattle.proof_text.specs.Records.{written_value, AreWritten};
+ghost use Rattle.proof_text.specs.declared.record.Record.TheVariants.{Sat};
 
 use cnf_base::Lit;
 use proof_log::Log;
@@ -16,9 +16,7 @@ use smt_words::Word;
 use std::alloc::{AllocError, Global};
 
 /// Whether a literal is true where the variables from 1 on have these values, and every further one is false.
-fn is_true(values: &[bool], literal: Lit) -> bool
-    ensures { result ≡ lit_true (assignment values.now) literal }
-{
+fn is_true(values: &[bool], literal: Lit) -> bool {
     let value = match values.get((literal.variable() - 1) as usize) {
         Some(value) => *value,
         None => false,
@@ -34,7 +32,7 @@ fn is_true(values: &[bool], literal: Lit) -> bool
 fn number(values: &[bool], bits: &[Lit]) -> u128 {
     let mut number = 0u128;
     for literal in bits.iter().rev() {
-        number = number << 1;
+        number = number.wrapping_add(number);
         if is_true(values, *literal) {
             number = number | 1;
         }
@@ -62,7 +60,9 @@ fn constant_number(
 }
 
 /// The Bool or the word of a number; nothing where the sort is another or the number is none of its.
-fn value_of(sort: Sort, number: u128) -> Option<Value> {
+fn value_of(sort: Sort, number: u128) -> Option<Value>
+    ensures { IfSome result (λ v. IsSome (written_value v)) }
+{
     match sort {
         Sort::Bool => Some(Value::Bool(number == 1)),
         Sort::Word(width) => match Word::new(width, number) {
@@ -80,8 +80,12 @@ fn value(
     log: &Log,
     values: &[bool],
     declaration: DeclId,
-) -> Option<Value> {
-    let signature = state.signature(declaration)?;
+) -> Option<Value>
+    ensures { IfSome result (λ v. IsSome (written_value v)) }
+{
+    let Some(signature) = state.signature(declaration) else {
+        return None
+    };
     if !signature.args.as_slice().is_empty() {
         return None;
     }
@@ -95,7 +99,9 @@ pub(crate) fn model(
     state: &State,
     log: &Log,
     values: &[bool],
-) -> Result<Option<DeclaredValues>, AllocError> {
+) -> Result<Option<DeclaredValues>, AllocError>
+    ensures { IfOk result (λ o. IfSome o (λ values. AreWritten (Sat values))) }
+{
     let mut items = Vec::new(alloc);
     for live in state.declared() {
         match value(alloc, state, log, values, live.declaration) {

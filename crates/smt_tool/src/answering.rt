@@ -32,7 +32,7 @@ pub(crate) fn end_status(refused: bool) -> Status
 }
 
 /// Answers a command. The error is the status of a run that ends here.
-pub(crate) fn answer<W: Sink, Q: Sink>(
+fn answer<W: Sink, Q: Sink>(
     alloc: Global,
     so_far: Answered,
     chunk: &Chunk,
@@ -62,7 +62,7 @@ pub(crate) fn answer<W: Sink, Q: Sink>(
 }
 
 /// Answers each whole command that is held.
-pub(crate) fn answer_held<W: Sink, Q: Sink>(
+fn answer_held<W: Sink, Q: Sink>(
     alloc: Global,
     so_far: Answered,
     framer: &mut Framer,
@@ -81,4 +81,46 @@ pub(crate) fn answer_held<W: Sink, Q: Sink>(
         so_far = answer(alloc, so_far, &chunk, answers, proof)?;
     }
     Ok(so_far)
+}
+
+/// Takes the next piece of the script, and answers each command that is then whole.
+pub(crate) fn answer_piece<W: Sink, Q: Sink>(
+    alloc: Global,
+    so_far: Answered,
+    framer: &mut Framer,
+    piece: &[u8],
+    answers: &mut W,
+    proof: &mut Q,
+) -> Result<Answered, Status>
+    ensures answers { AddsTo (W.written answers.old) (W.written answers.new) }
+    ensures proof { AddsTo (Q.written proof.old) (Q.written proof.new) }
+    ensures later { IsLater (counts 0 (W.faults answers.old) (Q.faults proof.old)) (counts 0 (W.faults answers.new) (Q.faults proof.new)) }
+    ensures stopped { IfErr result StopsWriting }
+    ensures cause { IfErr result (HasCause (counts 0 (W.faults answers.old) (Q.faults proof.old)) (counts 0 (W.faults answers.new) (Q.faults proof.new))) }
+{
+    framer.feed(piece)?;
+    answer_held(alloc, so_far, framer, answers, proof)
+}
+
+/// Answers what the end of the script closes, and tells whether an error was among the responses.
+pub(crate) fn answer_rest<W: Sink, Q: Sink>(
+    alloc: Global,
+    so_far: Answered,
+    framer: &mut Framer,
+    answers: &mut W,
+    proof: &mut Q,
+) -> Result<bool, Status>
+    ensures answers { AddsTo (W.written answers.old) (W.written answers.new) }
+    ensures proof { AddsTo (Q.written proof.old) (Q.written proof.new) }
+    ensures later { IsLater (counts 0 (W.faults answers.old) (Q.faults proof.old)) (counts 0 (W.faults answers.new) (Q.faults proof.new)) }
+    ensures stopped { IfErr result StopsWriting }
+    ensures cause { IfErr result (HasCause (counts 0 (W.faults answers.old) (Q.faults proof.old)) (counts 0 (W.faults answers.new) (Q.faults proof.new))) }
+{
+    match framer.finish()? {
+        Some(chunk) => {
+            let last = answer(alloc, so_far, &chunk, answers, proof)?;
+            Ok(last.refused)
+        }
+        None => Ok(so_far.refused),
+    }
 }

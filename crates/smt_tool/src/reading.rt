@@ -4,7 +4,7 @@ ghost use Rattle.std.specs.Prelude.{◌≡◌, ◌≢◌, ◌+◌, ◌<◌, ◌�
 ghost use Rattle.std.specs.Io.KnownBytes.{Keeps, IsAtEnd};
 ghost use Rattle.smt_tool.specs.Runs.{AddsTo, ReadsBytes, IsLater, HasCause, counts, input_limit, ReadsPiece, IsRead};
 
-use crate::answering::{Answered, answer, answer_held};
+use crate::answering::{Answered, answer_piece, answer_rest};
 use crate::status::Status;
 use smt_desk::stream::{Sink, Source};
 use smt_session::session::Session;
@@ -14,9 +14,6 @@ use std::alloc::Global;
 
 /// How many bytes of one input are read.
 const INPUT_LIMIT: u64 = 1 << 32;
-
-/// How many bytes are asked for at most in one read.
-const PIECE: usize = 1 << 16;
 
 /// Reads into the front of the buffer, no more bytes than may still be read, or one where none may.
 fn read_piece<S: Source>(script: &mut S, buffer: &mut [u8], left: u64) -> Result<usize, Status>
@@ -39,38 +36,34 @@ fn read_piece<S: Source>(script: &mut S, buffer: &mut [u8], left: u64) -> Result
 }
 
 /// Answers a script to its end, and tells whether an error was among the responses. The error is the status of a run
-/// that ends before.
+/// that ends before. The script is read into the buffer, piece by piece.
 pub(crate) fn answer_script<S: Source, W: Sink, Q: Sink>(
     alloc: Global,
     settings: Settings,
+    buffer: &mut [u8],
     script: &mut S,
     answers: &mut W,
     proof: &mut Q,
 ) -> Result<bool, Status>
+    requires { 0 < length buffer.old }
     ensures read { IsRead (S.left script.old) (S.left script.new) result }
     ensures answers { AddsTo (W.written answers.old) (W.written answers.new) }
     ensures proof { AddsTo (Q.written proof.old) (Q.written proof.new) }
     ensures later { IsLater (counts (S.faults script.old) (W.faults answers.old) (Q.faults proof.old)) (counts (S.faults script.new) (W.faults answers.new) (Q.faults proof.new)) }
     ensures cause { IfErr result (HasCause (counts (S.faults script.old) (W.faults answers.old) (Q.faults proof.old)) (counts (S.faults script.new) (W.faults answers.new) (Q.faults proof.new))) }
 {
-    let mut buffer = vec![in alloc; 0u8; PIECE]?;
     let mut framer = Framer::new(alloc);
-    let mut so_far = Answered {
-        session: Session::new(alloc, settings)?,
-        refused: false,
-    };
+    let session = Session::new(alloc, settings)?;
+    let refused = false;
+    let mut so_far = Answered { session, refused };
     let mut left = INPUT_LIMIT;
     'pieces: loop {
-        let size = read_piece(script, &mut buffer, left)?;
+        let size = read_piece(script, buffer, left)?;
         if size == 0 {
             break;
         }
         left -= size as u64;
-        framer.feed(&buffer[..size])?;
-        so_far = answer_held(alloc, so_far, &mut framer, answers, proof)?;
+        so_far = answer_piece(alloc, so_far, &mut framer, &buffer[..size], answers, proof)?;
     }
-    if let Some(chunk) = framer.finish()? {
-        so_far = answer(alloc, so_far, &chunk, answers, proof)?;
-    }
-    Ok(so_far.refused)
+    answer_rest(alloc, so_far, &mut framer, answers, proof)
 }

@@ -1,6 +1,6 @@
 // A run of the program over any source and any sinks.
 
-ghost use Rattle.std.specs.Prelude.{◌≡◌, ◌≢◌, ◌≤◌, ◌+◌, ◌⊎◌, ℕ, List, IfErr, OnOk, map};
+ghost use Rattle.std.specs.Prelude.{◌≡◌, ◌≢◌, ◌≤◌, ◌+◌, ◌⊎◌, ℕ, List, IfErr, IfOk, OnOk, length, map};
 ghost use Rattle.std.specs.Io.KnownBytes.{Appends, IsAtEnd};
 ghost use Rattle.smt_tool.specs.Words.{AreTaken};
 ghost use Rattle.smt_tool.specs.Runs.{AddsTo, BeginsWith, ReadsBytes, ReadsWithin, IsLater, HasCause, StopsWriting, counts, input_limit, header};
@@ -12,7 +12,7 @@ use crate::status::Status;
 use smt_desk::stream::{Sink, Source, write_whole};
 use smt_session::settings::Settings;
 use smt_text::text::Text;
-use std::alloc::Global;
+use std::alloc::{AllocError, Global};
 
 /// Writes the first line of a proof.
 fn open_proof<Q: Sink>(alloc: Global, _settings: &Settings, proof: &mut Q) -> Result<(), Status>
@@ -28,6 +28,16 @@ fn open_proof<Q: Sink>(alloc: Global, _settings: &Settings, proof: &mut Q) -> Re
         Ok(()) => Ok(()),
         Err(_) => Err(Status::WriteFault),
     }
+}
+
+/// How many bytes are asked for at most in one read.
+const PIECE: usize = 1 << 16;
+
+/// So many bytes.
+fn zeros(alloc: Global, size: usize) -> Result<Vec<u8>, AllocError>
+    ensures { IfOk result (λ v. length v.items ≡ size) }
+{
+    vec![in alloc; 0u8; size]
 }
 
 /// Writes the first line of a proof, and answers a script to its end.
@@ -52,7 +62,11 @@ fn solve<S: Source, W: Sink, Q: Sink>(
         Ok(()) => {}
         Err(status) => return status,
     }
-    match answer_script(alloc, settings, script, answers, proof) {
+    let mut buffer = match zeros(alloc, PIECE) {
+        Ok(buffer) => buffer,
+        Err(_) => return Status::NoMemory,
+    };
+    match answer_script(alloc, settings, &mut buffer, script, answers, proof) {
         Ok(refused) => end_status(refused),
         Err(status) => status,
     }
