@@ -1,0 +1,5 @@
+pub mod Taking
+pub mod Evaluating
+pub mod Stores
+pub mod Calling
+pub mod Suiting

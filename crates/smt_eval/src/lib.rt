@@ -5,7 +5,8 @@
 //! on the values and interpretations of `smt_values`.
 #![tactic(auto)]
 
-pub mod evaluate;
+mod arrays;
+mod evaluate;
 #[cfg(test)]
 mod tests;
 pub mod values;

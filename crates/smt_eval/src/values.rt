@@ -2,7 +2,7 @@
 
 ghost use Rattle.std.specs.Prelude.{◌≡◌, ◌<◌, length, IfOk};
 ghost use Rattle.smt_values.specs.Held.{interpretation_of};
-ghost use Rattle.smt_eval.specs.Evaluated.{AllSuit, AreValues, held_value};
+ghost use Rattle.smt_eval.specs.Evaluated.{AreSuited, AreValues, held_value};
 
 use crate::evaluate::evaluate;
 use smt_terms::node::TermId;
@@ -20,9 +20,9 @@ pub struct Values {
 
 impl Model for Values {
     ghost use Rattle.std.specs.Prelude.{List};
-    ghost use Rattle.smt_values.specs.declared.value.Value.{Value};
+    ghost use Rattle.smt_values.specs.declared.value.Value as held;
 
-    ghost Value = { List Value };
+    ghost Value = { List held.Value };
 
     ghost view = { λ v. v.values.items };
 }
@@ -30,8 +30,8 @@ impl Model for Values {
 impl Values {
     /// The value of each term under an interpretation.
     pub fn of(alloc: Global, terms: &Terms, interp: &Interp) -> Result<Values, AllocError>
-        requires suits { AllSuit terms.now.nodes interp.now }
-        ensures { IfOk result (AreValues (interpretation_of interp.now) terms.now.nodes) }
+        requires suited { AreSuited terms.now.nodes interp.now }
+        ensures { IfOk result (λ v. AreValues (interpretation_of interp.now) terms.now.nodes v) }
     {
         let mut values = Vec::new(alloc);
         let mut scalars = Vec::new(alloc);

@@ -1,5 +1,5 @@
 -- Array values: a default, and an element for each of finitely many indexes (SMT-LIB 2.6, theory ArraysEx).
-use Rattle.std.specs.Prelude.{◌≡◌, ℕ, ◌+◌, ◌<◌, ◌^◌, ◌==◌, nat_lt, if◌then◌else◌, List, [], ◌∷◌}
+use Rattle.std.specs.Prelude.{◌≡◌, ℕ, zero, suc, ◌<◌, ◌≤◌, ◌^◌, ◌==◌, nat_lt, if◌then◌else◌, List, [], ◌∷◌, Option, Some, None}
 use Rattle.std.specs.List.{AllByRecursion}
 use Rattle.smt_words.specs.Words.{WordValue, IsWidth}
 use Rattle.smt_terms.specs.Values.{Value, VArray}
@@ -14,14 +14,22 @@ pub record ArrayFields : Type 0 where
   pub default : WordValue
   pub entries : List Entry
 
--- the element at an index, where d is the default
-abbrev pub element_at : ℕ → List Entry → ℕ → ℕ
-element_at d [] i = d
-element_at d (e ∷ es) i = if e.0.value == i then e.1.value else element_at d es i
+-- the entry of an index
+abbrev pub entry_at : List Entry → ℕ → Option Entry
+entry_at [] i = None
+entry_at (e ∷ es) i = if e.0.value == i then Some e else entry_at es i
+
+-- the element of an entry, or the default
+abbrev pub element_of : ℕ → Option Entry → ℕ
+element_of d None = d
+element_of d (Some e) = e.1.value
+
+abbrev pub element_at : ArrayFields → ℕ → ℕ
+element_at a i = element_of a.default.value (entry_at a.entries i)
 
 -- the array of the theory
 abbrev pub array_value : ArrayFields → Value
-array_value a = VArray a.index a.default.width (element_at a.default.value a.entries)
+array_value a = VArray a.index a.default.width (element_at a)
 
 -- ---- arrays that code holds
 
@@ -56,4 +64,15 @@ entered [] f = f ∷ []
 entered (e ∷ es) f = if e.0.value == f.0.value then f ∷ es else if nat_lt f.0.value e.0.value then f ∷ e ∷ es else e ∷ entered es f
 
 abbrev pub with_element : ArrayFields → WordValue → WordValue → ArrayFields
-with_element a i x = record a { entries = entered a.entries (i, x) }
+with_element a i x = record { index = a.index; default = a.default; entries = entered a.entries (i, x) }
+
+-- an entry, if it has this index
+abbrev pub matching : ℕ → Option Entry → Option Entry
+matching i None = None
+matching i (Some e) = if e.0.value == i then Some e else None
+
+-- so many entries have a lower index, and no other
+abbrev pub Splits : List Entry → ℕ → ℕ → Type 0
+Splits es i zero = AllByRecursion (λ e. i ≤ e.0.value) es
+Splits [] i (suc p) = ⊥
+Splits (e ∷ es) i (suc p) = (e.0.value < i) × Splits es i p

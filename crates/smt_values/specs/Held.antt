@@ -1,8 +1,7 @@
 -- What values mean, and the interpretation that the values of declarations give.
-use Rattle.std.specs.Prelude.{◌≡◌, ℕ, ◌<◌, ◌^◌, List, [], ◌∷◌, length, slice_index_or, Option, Some, None}
+use Rattle.std.specs.Prelude.{◌≡◌, ℕ, List, slice_index_or, Option, Some, None}
 use Rattle.smt_terms.specs.declared.sort.Sort.{Sort}
 use Rattle.smt_terms.specs.declared.sort.Sort.TheVariants as sort
-use Rattle.smt_terms.specs.declared.sort.Signature.{Signature}
 use Rattle.smt_terms.specs.declared.scalar.Scalar.{Scalar}
 use Rattle.smt_terms.specs.declared.scalar.Scalar.TheVariants as scalar
 use Rattle.smt_terms.specs.Values as of
@@ -57,9 +56,16 @@ Suits (sort.Array n m) None = Unit {0}
 Suits sort.Bool v = Unit {0}
 Suits (sort.Word n) v = Unit {0}
 
--- a value of a sort
+-- a value of the kind that a sort has
 abbrev pub IsOfSort : Sort → Value → Type 0
 IsOfSort s (held.Bool b) = s ≡ sort.Bool
-IsOfSort s (held.Word w) = (s ≡ sort.Word w.width) × (w.value < 2 ^ w.width)
+IsOfSort s (held.Word w) = s ≡ sort.Word w.width
 IsOfSort s (held.Array a) = s ≡ sort.Array a.index a.default.width
 IsOfSort s (held.Fun t) = ⊥
+
+-- a table of a function
+abbrev pub IsFunction : (List of.Value → of.Value) → Value → Type 0
+IsFunction f (held.Bool b) = ⊥
+IsFunction f (held.Word w) = ⊥
+IsFunction f (held.Array a) = ⊥
+IsFunction f (held.Fun t) = (vs : List of.Value) → table_value t vs ≡ f vs

@@ -1,3 +1,5 @@
 pub mod Arrays
+pub mod Differences
 pub mod Tables
+pub mod Readings
 pub mod Held

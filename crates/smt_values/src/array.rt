@@ -1,9 +1,9 @@
 // Array values.
 
-ghost use Rattle.std.specs.Prelude.{◌≡◌, ◌<◌, ◌≤◌, ◌+◌, ◌^◌, ℕ, [], true, false, not, ◌==◌, length, IfOk, OnOk, OnErr, MatchOption};
+ghost use Rattle.std.specs.Prelude.{◌≡◌, ◌<◌, ◌≤◌, ◌^◌, ◌-◌, length, slice_get, is_some, IfOk, OnOk, OnErr};
 ghost use Rattle.smt_words.specs.Words.{IsWidth, word};
-ghost use Rattle.smt_terms.specs.Values.{all_below, first_below};
-ghost use Rattle.smt_values.specs.Arrays.{IsArray, IsOfWidth, element_at, constant_array, with_element};
+ghost use Rattle.smt_values.specs.Arrays.{IsArray, IsOfWidth, AreRising, Splits, matching, entry_at, element_at, constant_array, with_element, entered};
+ghost use Rattle.smt_values.specs.Differences.{agree, first_difference, holds, either_holds, IsFirstAmong, lesser, IsGap};
 
 use smt_words::Word;
 use std::alloc::{AllocError, Global};
@@ -28,8 +28,57 @@ impl Model for ArrayValue {
 }
 
 /// Where an index stands, or would stand, among rising ones.
-fn place_of(entries: &[(Word, Word)], number: u128) -> usize {
+fn place_of(entries: &[(Word, Word)], number: u128) -> usize
+    requires { AreRising entries.now }
+    ensures splits { Splits entries.now number result }
+    ensures within { result ≤ length entries.now }
+{
     entries.partition_point(|entry| entry.0.value() < number)
+}
+
+/// The entry of an index.
+fn entry_of(entries: &[(Word, Word)], number: u128) -> Option<(Word, Word)>
+    requires { AreRising entries.now }
+    ensures { result ≡ entry_at entries.now number }
+{
+    let place = place_of(entries, number);
+    match entries.get(place) {
+        Some(entry) => {
+            if entry.0.value() == number {
+                Some(*entry)
+            } else {
+                None
+            }
+        }
+        None => None,
+    }
+}
+
+/// Whether the entry at a place has this index.
+fn stands_at(entries: &[(Word, Word)], place: usize, number: u128) -> bool
+    ensures { result ≡ is_some (matching number (slice_get entries.now place)) }
+{
+    match entries.get(place) {
+        Some(entry) => entry.0.value() == number,
+        None => false,
+    }
+}
+
+/// Puts an entry in its place.
+fn enter(entries: &mut Vec<(Word, Word)>, index: Word, element: Word) -> Result<(), AllocError>
+    requires { AreRising entries.old.items }
+    ensures ok { OnOk result (entries.new.items ≡ entered entries.old.items (index, element)) }
+    ensures err { OnErr result (entries.new.items ≡ entries.old.items) }
+{
+    let number = index.value();
+    let place = place_of(entries.as_slice(), number);
+    let held = stands_at(entries.as_slice(), place, number);
+    if held {
+        entries[place] = (index, element);
+        return Ok(());
+    }
+    entries.insert(place, (index, element))?;
+    Ok(())
 }
 
 impl ArrayValue {
@@ -70,18 +119,10 @@ impl ArrayValue {
 
     /// The element at an index; takes no memory.
     pub fn at(&self, index: Word) -> Word
-        ensures { result ≡ word self.now.default.width (element_at self.now.default.value self.now.entries index.value) }
+        ensures { result ≡ word self.now.default.width (element_at self.now index.value) }
     {
-        let number = index.value();
-        let place = place_of(self.entries.as_slice(), number);
-        match self.entries.get(place) {
-            Some((held, element)) => {
-                if held.value() == number {
-                    *element
-                } else {
-                    self.default
-                }
-            }
+        match entry_of(self.entries.as_slice(), index.value()) {
+            Some(entry) => entry.1,
             None => self.default,
         }
     }
@@ -93,38 +134,30 @@ impl ArrayValue {
         ensures ok { OnOk result (self.new ≡ with_element self.old index element) }
         ensures err { OnErr result (self.new ≡ self.old) }
     {
-        let number = index.value();
-        let place = place_of(self.entries.as_slice(), number);
-        let held = match self.entries.get(place) {
-            Some((held, _)) => held.value() == number,
-            None => false,
-        };
-        if held {
-            self.entries[place] = (index, element);
-        } else {
-            self.entries.insert(place, (index, element))?;
-        }
-        Ok(())
+        enter(&mut self.entries, index, element)
     }
 
     /// An equal array.
     pub fn copy(&self) -> Result<ArrayValue, AllocError>
-        ensures { IfOk result (λ a. a ≡ self.now) }
+        ensures equal { IfOk result (λ a. a ≡ self.now) }
+        ensures array { IsArray self.now }
     {
+        let _index = self.index;
         self.clone()
     }
 
-    /// The least index at which two arrays of one sort differ; `None` exactly where they are equal, that is, agree at
-    /// every index. Takes no memory.
+    /// The least index at which two arrays of one sort differ; `None` exactly where they agree at every index. Takes no
+    /// memory.
     pub fn difference(&self, other: &ArrayValue) -> Option<Word>
         requires index { other.now.index ≡ self.now.index }
         requires element { other.now.default.width ≡ self.now.default.width }
+        ensures { result ≡ first_difference self.now other.now }
     {
-        let first = least(entry_difference(self, other), entry_difference(other, self));
-        if self.default == other.default {
-            first
+        let held = held_difference(self, other);
+        if self.default.value() == other.default().value() {
+            held
         } else {
-            least(first, gap(self, other))
+            least(held, gap(self, other))
         }
     }
 
@@ -132,13 +165,23 @@ impl ArrayValue {
     pub fn equal(&self, other: &ArrayValue) -> bool
         requires index { other.now.index ≡ self.now.index }
         requires element { other.now.default.width ≡ self.now.default.width }
+        ensures { result ≡ agree self.now other.now }
     {
         self.difference(other).is_none()
+    }
+
+    /// Whether an index is held.
+    fn holds(&self, number: u128) -> bool
+        ensures { result ≡ holds self.now.entries number }
+    {
+        entry_of(self.entries.as_slice(), number).is_some()
     }
 }
 
 /// The lesser of two indexes, where there are two.
-fn least(a: Option<Word>, b: Option<Word>) -> Option<Word> {
+fn least(a: Option<Word>, b: Option<Word>) -> Option<Word>
+    ensures { result ≡ lesser a b }
+{
     match a {
         None => b,
         Some(x) => match b {
@@ -149,34 +192,57 @@ fn least(a: Option<Word>, b: Option<Word>) -> Option<Word> {
 }
 
 /// The first index that one array holds and at which another differs from it.
-fn entry_difference(a: &ArrayValue, b: &ArrayValue) -> Option<Word> {
-    for (index, element) in a.entries.as_slice() {
-        if b.at(*index) != *element {
-            return Some(*index);
+fn entry_difference(a: &ArrayValue, b: &ArrayValue) -> Option<Word>
+    ensures { IsFirstAmong (holds a.now.entries) a.now b.now result }
+{
+    for entry in a.entries.as_slice() {
+        if b.at(entry.0).value() != entry.1.value() {
+            return Some(entry.0);
         }
     }
     None
 }
 
+/// The least index that one of two arrays holds and at which they differ.
+fn held_difference(a: &ArrayValue, b: &ArrayValue) -> Option<Word>
+    requires { b.now.index ≡ a.now.index }
+    ensures { IsFirstAmong (either_holds a.now b.now) a.now b.now result }
+{
+    let own = entry_difference(a, b);
+    let others = entry_difference(b, a);
+    least(own, others)
+}
+
+/// The greatest index of a width.
+fn last_index(width: u32) -> u128
+    requires { width ≤ 128 }
+    ensures { result ≡ 2 ^ width - 1 }
+{
+    if width == 0 {
+        return 0;
+    }
+    u128::MAX >> (128 - width)
+}
+
+/// Whether one of two arrays holds an index.
+fn either_holds(a: &ArrayValue, b: &ArrayValue, number: u128) -> bool
+    ensures { result ≡ either_holds a.now b.now number }
+{
+    a.holds(number) || b.holds(number)
+}
+
 /// The least index that neither of two arrays holds.
-fn gap(a: &ArrayValue, b: &ArrayValue) -> Option<Word> {
+fn gap(a: &ArrayValue, b: &ArrayValue) -> Option<Word>
+    ensures { IsGap a.now b.now result }
+{
+    let width = a.index_width();
+    let last = last_index(width);
     let mut number = 0;
-    while number < u128::MAX {
-        let Some(index) = Word::new(a.index, number) else {
+    while either_holds(a, b, number) {
+        if number == last {
             return None;
-        };
-        if !holds(a, number) && !holds(b, number) {
-            return Some(index);
         }
         number += 1;
     }
-    Word::new(a.index, number)
-}
-
-fn holds(a: &ArrayValue, number: u128) -> bool {
-    let place = place_of(a.entries.as_slice(), number);
-    match a.entries.get(place) {
-        Some((held, _)) => held.value() == number,
-        None => false,
-    }
+    Some(Word::new(width, number).unwrap())
 }

@@ -9,6 +9,9 @@
 
 pub mod array;
 pub mod interp;
+pub mod laws;
+mod order;
+mod scalars;
 pub mod table;
 #[cfg(test)]
 mod tests;

@@ -1,5 +1,9 @@
 //! Calls with ample memory.
 
+ghost use Rattle.std.specs.Prelude.{◌≡◌, ◌<◌};
+ghost use Rattle.smt_words.specs.Words.{word};
+ghost use Rattle.smt_values.specs.Arrays.{IsOfWidth};
+
 use crate::array::ArrayValue;
 use crate::interp::Interp;
 use crate::table::{FunTable, Scalars};
@@ -12,12 +16,16 @@ use std::test::Fail;
 
 fn byte(value: u128) -> Word
     requires { value < 256 }
+    ensures word { result ≡ word 8 value }
+    ensures width { IsOfWidth 8 result }
 {
     Word::new(8, value).unwrap()
 }
 
 fn bit(value: u128) -> Word
     requires { value < 2 }
+    ensures word { result ≡ word 1 value }
+    ensures width { IsOfWidth 1 result }
 {
     Word::new(1, value).unwrap()
 }
