@@ -10,30 +10,48 @@ fn name(rt: &impl AllocGlobal, text: &str) -> Result<Option<Text>, Fail> {
     Ok(Some(Text::from_slice(rt.alloc(), text.as_bytes())?))
 }
 
+fn assert_one(
+    rt: &impl Abort,
+    scopes: &mut Scopes,
+    term: u32,
+    name: Option<Text>,
+) -> Result<u32, Fail> {
+    assert!(rt; scopes.made() < 1000);
+    Ok(scopes.assert(term, name)?)
+}
+
 fn expect_live(rt: &impl Abort, scopes: &Scopes, expected: &[(u32, u32)]) {
     assert_eq!(rt; scopes.live().len(), expected.len());
-    for (i, live) in scopes.live().iter().enumerate() {
-        assert_eq!(rt; Some(&(live.assertion, live.term)), expected.get(i));
+    for (live, (assertion, term)) in scopes.live().iter().zip(expected) {
+        assert_eq!(rt; live.assertion, *assertion);
+        assert_eq!(rt; live.term, *term);
+    }
+}
+
+fn is_named(scopes: &Scopes, assertion: u32, name: &[u8]) -> bool {
+    match scopes.name(assertion) {
+        Some(text) => text.as_slice() == name,
+        None => false,
     }
 }
 
 #[test]
 fn levels_take_their_assertions_with_them(rt: HostRuntime) -> Result<(), Fail> {
     let mut scopes = Scopes::new(rt.alloc());
-    assert_eq!(rt; scopes.assert(5, None)?, 0);
+    assert_eq!(rt; assert_one(&rt, &mut scopes, 5, None)?, 0);
     assert_eq!(rt; scopes.push(2), Ok(()));
-    assert_eq!(rt; scopes.assert(7, None)?, 1);
-    assert_eq!(rt; scopes.assert(5, None)?, 2);
+    assert_eq!(rt; assert_one(&rt, &mut scopes, 7, None)?, 1);
+    assert_eq!(rt; assert_one(&rt, &mut scopes, 5, None)?, 2);
     expect_live(&rt, &scopes, &[(0, 5), (1, 7), (2, 5)]);
     assert_eq!(rt; scopes.pop(1), Ok(()));
     expect_live(&rt, &scopes, &[(0, 5)]);
-    assert_eq!(rt; scopes.assert(9, None)?, 3);
+    assert_eq!(rt; assert_one(&rt, &mut scopes, 9, None)?, 3);
     assert_eq!(rt; scopes.levels(), 1);
     assert_eq!(rt; scopes.pop(2), Err(OutOfRange { held: 1 }));
     expect_live(&rt, &scopes, &[(0, 5), (3, 9)]);
     scopes.reset();
     expect_live(&rt, &scopes, &[]);
-    assert_eq!(rt; scopes.assert(1, None)?, 4);
+    assert_eq!(rt; assert_one(&rt, &mut scopes, 1, None)?, 4);
     assert_eq!(rt; scopes.made(), 5);
     Ok(())
 }
@@ -55,22 +73,16 @@ fn a_million_levels_may_stand(rt: HostRuntime) -> Result<(), Fail> {
 #[test]
 fn names_are_those_of_live_assertions(rt: HostRuntime) -> Result<(), Fail> {
     let mut scopes = Scopes::new(rt.alloc());
-    let a = scopes.assert(1, name(&rt, "a")?)?;
-    let unnamed = scopes.assert(2, None)?;
+    let a = assert_one(&rt, &mut scopes, 1, name(&rt, "a")?)?;
+    let unnamed = assert_one(&rt, &mut scopes, 2, None)?;
     scopes.push(1).ok().ok_or("a level")?;
-    let b = scopes.assert(3, name(&rt, "b")?)?;
-    assert_eq!(rt;
-        scopes.name(a).map(|text| text.as_slice()),
-        Some(b"a".as_slice())
-    );
-    assert_eq!(rt; scopes.name(unnamed), None);
-    assert_eq!(rt;
-        scopes.name(b).map(|text| text.as_slice()),
-        Some(b"b".as_slice())
-    );
+    let b = assert_one(&rt, &mut scopes, 3, name(&rt, "b")?)?;
+    assert!(rt; is_named(&scopes, a, b"a"));
+    assert!(rt; scopes.name(unnamed).is_none());
+    assert!(rt; is_named(&scopes, b, b"b"));
     scopes.pop(1).ok().ok_or("a level")?;
-    assert_eq!(rt; scopes.name(b), None);
-    assert_eq!(rt; scopes.name(7), None);
+    assert!(rt; scopes.name(b).is_none());
+    assert!(rt; scopes.name(7).is_none());
     Ok(())
 }
 
@@ -80,10 +92,10 @@ fn names_are_those_of_live_assertions(rt: HostRuntime) -> Result<(), Fail> {
 fn a_core_is_named_and_in_order(rt: HostRuntime) -> Result<(), Fail> {
     let alloc = rt.alloc();
     let mut scopes = Scopes::new(alloc);
-    let a = scopes.assert(1, name(&rt, "a")?)?;
-    let unnamed = scopes.assert(2, None)?;
-    let b = scopes.assert(3, name(&rt, "b")?)?;
-    let c = scopes.assert(4, name(&rt, "c")?)?;
+    let a = assert_one(&rt, &mut scopes, 1, name(&rt, "a")?)?;
+    let unnamed = assert_one(&rt, &mut scopes, 2, None)?;
+    let b = assert_one(&rt, &mut scopes, 3, name(&rt, "b")?)?;
+    let c = assert_one(&rt, &mut scopes, 4, name(&rt, "c")?)?;
     let selectors = [
         (a, Lit::new(10, true)),
         (unnamed, Lit::new(11, true)),

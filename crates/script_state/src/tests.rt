@@ -19,6 +19,7 @@ fn apply_as(
         kind,
         text: Text::from_slice(rt.alloc(), text)?,
     };
+    assert!(rt; state.assertions_made() < 1000);
     Ok(state.apply(rt.alloc(), &chunk)?)
 }
 

@@ -89,7 +89,7 @@ module _ (signatures : List Signature) (old : TermsValue) (n : Node) (k : IsDecl
 
 -- ---- cutting
 
-take_front : {A : Type 0} (xs ys : List A) → take (length xs) (xs ++ ys) ≡ xs
+pub take_front : {A : Type 0} (xs ys : List A) → take (length xs) (xs ++ ys) ≡ xs
 take_front [] ys = refl
 take_front (x ∷ xs) ys = ap (λ l. x ∷ l) (take_front xs ys)
 

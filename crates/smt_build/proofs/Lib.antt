@@ -6,3 +6,4 @@ pub mod Spellings
 pub mod TermWalks
 pub mod Stepping
 pub mod Declarations
+pub mod Levels

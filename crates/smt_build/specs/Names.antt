@@ -1,5 +1,5 @@
 -- The declarations that were made, and the names that are live.
-use Rattle.std.specs.Prelude.{◌≡◌, ℕ, List, [], ◌∷◌, ◌++◌, length, map, slice_get, Option, Some, None, if◌then◌else◌, Vec}
+use Rattle.std.specs.Prelude.{◌≡◌, ℕ, ◌-◌, List, [], ◌∷◌, ◌++◌, length, map, replicate, take, slice_get, Option, Some, None, if◌then◌else◌, Vec}
 use Rattle.std.specs.declared.alloc.Global.{Global}
 use Rattle.std.specs.Str.{bytes_eq}
 use Rattle.smt_terms.specs.declared.sort.Signature.{Signature}
@@ -27,6 +27,22 @@ declaration_of (l ∷ ls) name = if bytes_eq name l.name then Some l.declaration
 -- one declaration more, under a name that is then live
 abbrev pub with_declaration : SymbolsValue → List ℕ → Signature → SymbolsValue
 with_declaration v x s = record { live = v.live ++ record { name = x; declaration = length v.signatures } ∷ []; signatures = v.signatures ++ s ∷ []; levels = v.levels }
+
+-- so many levels more, which begin with the names that are live
+abbrev pub pushed : SymbolsValue → ℕ → SymbolsValue
+pushed v n = record { live = v.live; signatures = v.signatures; levels = v.levels ++ replicate n (length v.live) }
+
+abbrev pub popped_to : SymbolsValue → ℕ → Option ℕ → SymbolsValue
+popped_to v levels None = v
+popped_to v levels (Some names) = record { live = take names v.live; signatures = v.signatures; levels = take levels v.levels }
+
+-- so many levels fewer, with the names that the first of them began with
+abbrev pub popped : SymbolsValue → ℕ → SymbolsValue
+popped v n = popped_to v (length v.levels - n) (slice_get v.levels (length v.levels - n))
+
+-- no levels and no names; the declarations stay counted
+abbrev pub emptied : SymbolsValue → SymbolsValue
+emptied v = record { live = []; signatures = v.signatures; levels = [] }
 
 -- each declaration that a term names was made, with the signature that the term gives it
 pub record AreDeclared (signatures : List Signature) (nodes : List Node) : Type 0 where

@@ -76,7 +76,12 @@ impl Symbols {
         let items = tokens.as_slice();
         match command {
             Command::DeclareConst { name, sort } => {
-                declare_constant(self, alloc, tokens_at(items, *name), tokens_at(items, *sort))
+                declare_constant(
+                    self,
+                    alloc,
+                    tokens_at(items, *name),
+                    tokens_at(items, *sort),
+                )
             }
             _ => Err(BuildError::Fault(BuildFault::NotSupported)),
         }

@@ -1,7 +1,7 @@
 // The declarations, and the names that are live.
 
-ghost use Rattle.std.specs.Prelude.{◌≡◌, None, OnOk, OnErr, IfOk, length, slice_get, option_copied};
-ghost use Rattle.smt_build.specs.Names.{no_symbols, declaration_of, with_declaration};
+ghost use Rattle.std.specs.Prelude.{◌≡◌, ◌≤◌, ◌++◌, None, OnOk, OnErr, IfOk, length, replicate, slice_get, option_copied};
+ghost use Rattle.smt_build.specs.Names.{no_symbols, declaration_of, with_declaration, pushed, popped, emptied};
 
 use indexmap::IndexMap;
 use smt_terms::sort::{DeclId, Signature};
@@ -33,6 +33,25 @@ impl Model for Symbols {
     ghost view = { λ s. record { live = s.live.items; signatures = s.signatures.items; levels = s.levels.items } };
 
     ghost invariant = { λ s. AreNumbers s.live.items s.numbers.entries };
+}
+
+/// Puts so many copies at the end.
+fn push_copies(items: &mut Vec<usize>, item: usize, count: u64) -> Result<(), AllocError>
+    ensures ok { OnOk result (items.new.items ≡ items.old.items ++ replicate count item) }
+    ensures err { OnErr result (items.new.items ≡ items.old.items) }
+{
+    let len = items.len();
+    let mut copies = 0u64;
+    while copies < count {
+        match items.push(item) {
+            Ok(()) => copies += 1,
+            Err(refused) => {
+                items.truncate(len);
+                return Err(AllocError::from(refused));
+            }
+        }
+    }
+    Ok(())
 }
 
 impl Symbols {
@@ -67,6 +86,45 @@ impl Symbols {
         ensures { result ≡ declaration_of self.now.live name.now }
     {
         self.numbers.get(name).copied()
+    }
+
+    /// How many levels are pushed.
+    pub fn levels(&self) -> usize
+        ensures { result ≡ length self.now.levels }
+    {
+        self.levels.len()
+    }
+
+    /// Begins so many levels.
+    pub fn push(&mut self, count: u64) -> Result<(), AllocError>
+        ensures ok { OnOk result (self.new ≡ pushed self.old count) }
+        ensures err { OnErr result (self.new ≡ self.old) }
+    {
+        let names = self.live.len();
+        push_copies(&mut self.levels, names, count)
+    }
+
+    /// Ends so many levels: the names that were declared in them are live no more. Takes no memory.
+    pub fn pop(&mut self, count: u64)
+        requires { count ≤ length self.old.levels }
+        ensures { self.new ≡ popped self.old count }
+    {
+        let len = self.levels.len() - count as usize;
+        if let Some(names) = self.levels.get(len) {
+            let names = *names;
+            self.live.truncate(names);
+            self.numbers.truncate(names);
+            self.levels.truncate(len);
+        }
+    }
+
+    /// Ends all levels and forgets all names; the numbers of declarations go on. Takes no memory.
+    pub fn reset(&mut self)
+        ensures { self.new ≡ emptied self.old }
+    {
+        self.live.clear();
+        self.numbers.clear();
+        self.levels.clear();
     }
 
     /// Makes the next declaration under a name that is not live.
