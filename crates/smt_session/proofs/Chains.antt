@@ -7,7 +7,7 @@ use Rattle.cnf_base.specs.Literals.{Literal}
 use Rattle.cnf_base.specs.Assignments.{AreBelow}
 use Rattle.cnf_base.specs.declared.clause.ClauseId.{ClauseId}
 use Rattle.smt_terms.specs.declared.node.Node.{Node}
-use Rattle.smt_terms.specs.Terms.{TermsValue}
+use Rattle.smt_terms.specs.Terms.{TermsValue, IsTermList}
 use Rattle.hint_chain.specs.Chains.{IsChain, FindsMore}
 use Rattle.plain_search.specs.declared.Held.{Held}
 use Rattle.plain_search.specs.declared.Chain.{Chain}
@@ -20,7 +20,7 @@ use Rattle.proof_log.specs.Faults.{IsValid}
 use Rattle.proof_log.specs.Stored.{LogValue, IsKept, Stands, IsPushed}
 use Rattle.proof_log.proofs.Growing.{clause_more}
 use Rattle.proof_log.proofs.Ordered.{steps_length}
-use Rattle.proof_log.proofs.Standing.{stands_over}
+use Rattle.proof_log.proofs.Standing.{stands_over, clauses_below}
 use Rattle.proof_log.proofs.Staying.{state_from-append}
 use Rattle.proof_text.specs.Entries.{entry_line}
 use Rattle.smt_session.specs.Growing.{AreLined, Grows}
@@ -101,7 +101,7 @@ chain_valid v old now chains k d learnt lt h =
     let c = get_or chains k d in
     let below : AreBelow now.next c.clause = subst (λ n. AreBelow n c.clause) (sym h.next) (learnt.below k d lt) in
     let known = h.knows learnt.held (λ i e within. (learnt.of_log i e within).known) in
-    let chain : IsChain (clause_at now.clauses) c.clause c.hints.items = learnt.chains k d lt (clause_at now.clauses) known in
+    let chain : IsChain (clause_at now.clauses) c.clause c.hints.items = learnt.derived k d lt (clause_at now.clauses) known in
     (subst (λ n. AreBelow n c.clause) kept.next below, subst (λ rows. IsChain (clause_at rows) c.clause c.hints.items) kept.clauses chain)
 
 pub pushed_next : (nodes : List Node) (old mid new : LogValue) (chains : List Chain) (k p : ℕ) (d : Chain) → k < length chains → Pushed nodes old mid (take k chains) → IsPushed nodes mid new (chain_step (get_or chains k d)) p → Pushed nodes old new (take (k + 1) chains)
@@ -115,3 +115,9 @@ pushed_grows nodes old new chains h = record { added = map chain_step chains; en
     lined : (cs : List Chain) → AreLined (map chain_step cs)
     lined [] = tt
     lined (c ∷ cs) = (refl, lined cs)
+
+-- one more clause of the log
+pub held_push : (nodes : List Node) (l : LogValue) (items : List Held) (id : ClauseId) (c d : List Literal) → IsTermList nodes → Stands nodes l → All (IsOfLog l) items → Some c ≡ clause_at l.clauses id → d ≡ c → All (IsOfLog l) (items ++ record { id = id; clause = d } ∷ [])
+held_push nodes l items id c d listed h all e same =
+    let known : clause_at l.clauses id ≡ Some d = sym e ∙ ap Some (sym same) in
+    All-push _ _ _ all (record { known = known; below = clauses_below nodes l id d listed (stands_over nodes l h) known })

@@ -1,3 +1,4 @@
 pub mod Stepping
 pub mod Longer
 pub mod Chains
+pub mod PairLemmas

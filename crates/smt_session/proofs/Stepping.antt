@@ -1,6 +1,7 @@
 -- The steps of a check are valid, and the log grows by them.
-use Rattle.std.proofs.Common.{◌≡◌, ℕ, ◌<◌, Bool, true, List, [], ◌∷◌, ◌++◌, length, Option, Some, None, refl, sym, ap, ◌∙◌, subst, append_assoc, append-nil}
+use Rattle.std.proofs.Common.{◌≡◌, ℕ, ◌<◌, ◌≤◌, arith, Bool, true, false, List, [], ◌∷◌, ◌++◌, length, Option, Some, None, refl, sym, ap, ◌∙◌, subst, append_assoc, append-nil}
 use Rattle.std.specs.Prelude.{is_some, IsSome}
+use Rattle.std.specs.Option.{option_map}
 use Rattle.cnf_base.specs.Literals.{Literal}
 use Rattle.smt_terms.specs.declared.sort.Sort.TheVariants as sort
 use Rattle.smt_terms.specs.declared.node.Node.{Node}
@@ -66,3 +67,18 @@ grows_more nodes a b c g h = record {
   lined = each_append (λ e. IsSome (entry_line e)) g.added h.added g.lined h.lined;
   stands = h.stands;
 }
+
+-- ---- what look-ups tell
+
+pub none_mapped : {A B : Type 0} (f : A → B) (r : Option A) (o : Option B) → option_map f r ≡ o → is_some r ≡ false → o ≡ None
+none_mapped f None o e h = sym e
+none_mapped f (Some x) o e h = let q : ⊥ = cc in absurd q
+
+pub none_is : {A : Type 0} (o : Option A) → is_some o ≡ false → o ≡ None
+none_is None h = refl
+none_is (Some x) h = let q : ⊥ = cc in absurd q
+
+pub one_of : {A : Type 0} (xs : List A) → 1 ≤ length xs → length xs < 2 → (x : A) × (xs ≡ x ∷ [])
+one_of [] h k = absurd (omega arith)
+one_of (x ∷ []) h k = (x, refl)
+one_of (x ∷ y ∷ xs) h k = absurd (omega arith)

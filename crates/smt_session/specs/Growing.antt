@@ -29,7 +29,7 @@ pub record IsHeldTruth (nodes : List Node) (a : Live) : Type 0 where
 -- the literal is the selector of one of these assertions
 pub record IsSelectorOf (log : LogValue) (live : List Live) (l : Literal) : Type 0 where
   pub assertion : Live
-  pub live : Contains live assertion
+  pub among : Contains live assertion
   pub selector : selector_in log.selectors assertion.assertion ≡ Some l
 
 abbrev pub AreSelectors : LogValue → List Live → List Literal → Type 0

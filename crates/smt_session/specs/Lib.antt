@@ -2,3 +2,4 @@ pub mod Growing
 pub mod Searched
 pub mod Responses
 pub mod Sessions
+pub mod Pairs

@@ -26,7 +26,7 @@ pub record IsFound (log : LogValue) (given : List Literal) (found : Outcome) : T
 pub record AreLearnt (log : LogValue) (chains : List Chain) : Type 0 where
   pub held : List Held
   pub of_log : All (IsOfLog log) held
-  pub chains : AreChains held (suc (length log.entries)) chains
+  pub derived : AreChains held (suc (length log.entries)) chains
   pub below : AreChainsBelow log.next chains
 
 -- the step that adds a learnt clause

@@ -11,7 +11,7 @@ use crate::model::model;
 use crate::reach::Reached;
 use crate::solve::{push_chains, solve};
 use cnf_base::Pos;
-use plain_search::Verdict as Found;
+use plain_search::{Outcome, Verdict as Found};
 use proof_log::Log;
 use proof_text::entry::write_entry;
 use proof_text::record::{Record, write_record};
@@ -49,9 +49,9 @@ fn check(
     let Some(given) = select_all(alloc, state.terms(), log, state.live())? else {
         return Ok(None)
     };
-    let outcome = solve(alloc, state.terms(), log, given.as_slice())?;
-    push_chains(alloc, state.terms(), log, outcome.chains.as_slice())?;
-    match outcome.verdict {
+    let Outcome { chains, verdict } = solve(alloc, state.terms(), log, given.as_slice())?;
+    push_chains(alloc, state.terms(), log, chains.as_slice())?;
+    match verdict {
         Found::Refuted => Ok(Some(Record::Unsat(log.len() - 1))),
         Found::Model(values) => match model(alloc, state, log, values.as_slice())? {
             Some(values) => Ok(Some(Record::Sat(values))),
@@ -93,7 +93,7 @@ pub(crate) struct Checked {
 
 /// Checks the live assertions, and prints the lines of the steps from a position on and of the record: nothing where there
 /// is no step for a term that is reached.
-pub(crate) fn checked(
+pub(crate) fn run_check(
     alloc: Global,
     state: &State,
     log: &mut Log,

@@ -5,10 +5,12 @@ ghost use Rattle.scope_selectors.specs.declared.live.Live.{Live as LiveValue};
 ghost use Rattle.smt_terms.specs.declared.sort.Sort.TheVariants as sort;
 ghost use Rattle.smt_terms.specs.Terms.{sort_of};
 ghost use Rattle.smt_terms.specs.Bits.{bits_in};
-ghost use Rattle.bit_blast.specs.Blocks.{block_of};
+ghost use Rattle.std.specs.Option.{option_map};
+ghost use Rattle.bit_blast.specs.Blocks.{all_bits, block_of};
 ghost use Rattle.proof_log.specs.Logs.{constant_width};
 ghost use Rattle.proof_log.specs.Stored.{Stands};
 ghost use Rattle.smt_session.specs.Growing.{Grows, IsHeldTruth, AreSelectors};
+ghost use Rattle.smt_session.specs.Pairs.{AreAlike, IsPair};
 
 use cnf_base::Lit;
 use proof_log::Log;
@@ -34,15 +36,41 @@ fn is_constant(op: &Op) -> bool
     }
 }
 
+/// How many bits a term has, if it has them.
+fn row_len(bits: &Bits, term: TermId) -> Option<usize>
+    ensures { result ≡ option_map (λ row. length row) (bits_in bits.now term) }
+{
+    match bits.of(term) {
+        Some(row) => Some(row.len()),
+        None => None,
+    }
+}
+
 /// Whether both terms have bits, and equally many.
-fn are_alike(bits: &Bits, a: TermId, b: TermId) -> bool {
-    match (bits.of(a), bits.of(b)) {
-        (Some(first), Some(second)) => first.len() == second.len(),
+fn are_alike(bits: &Bits, a: TermId, b: TermId) -> bool
+    ensures { IsTrue result → AreAlike (bits_in bits.now a) (bits_in bits.now b) }
+{
+    match row_len(bits, a) {
+        Some(first) => match row_len(bits, b) {
+            Some(second) => first == second,
+            None => false,
+        },
+        None => false,
+    }
+}
+
+/// Whether there are two arguments, which have bits, and equally many.
+fn has_pair(bits: &Bits, args: &[TermId]) -> bool
+    ensures { IsTrue result → IsPair (all_bits (bits_in bits.now) args.now) }
+{
+    match args {
+        [a, b] => are_alike(bits, *a, *b),
         _ => false,
     }
 }
 
 /// Whether the node is one of the terms that scripts make, other than a constant, and its arguments have bits.
+#[tactic(auto, using(crate::proofs::PairLemmas::pair_block))]
 fn has_circuit(node: &Node, bits: &Bits) -> bool
     ensures { IsTrue result → (g : ℕ) → IsSome (block_of g (bits_in bits.now) node.now) }
 {
@@ -52,12 +80,9 @@ fn has_circuit(node: &Node, bits: &Bits) -> bool
             [a] => bits.of(*a).is_some(),
             _ => false,
         },
-        Op::Plain(Operator::Equal | Operator::Bvadd | Operator::Bvand) => {
-            match node.args.as_slice() {
-                [a, b] => are_alike(bits, *a, *b),
-                _ => false,
-            }
-        }
+        Op::Plain(Operator::Equal) => has_pair(bits, node.args.as_slice()),
+        Op::Plain(Operator::Bvadd) => has_pair(bits, node.args.as_slice()),
+        Op::Plain(Operator::Bvand) => has_pair(bits, node.args.as_slice()),
         _ => false,
     }
 }

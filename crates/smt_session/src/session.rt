@@ -8,7 +8,7 @@ ghost use Rattle.smt_session.specs.Growing.{AreLined};
 ghost use Rattle.smt_session.specs.Responses.{Responds};
 ghost use Rattle.smt_session.specs.Sessions.{IsAnswered};
 
-use crate::check::checked;
+use crate::check::run_check;
 use crate::reach::Reached;
 use crate::response::{Response, Stop};
 use crate::settings::Settings;
@@ -75,7 +75,7 @@ fn answer_check<Q: Sink>(
     ensures failed { result ≡ Err Stop.Failed → Rose (Q.faults proof.old) (Q.faults proof.new) }
     ensures later { Q.faults proof.old ≤ Q.faults proof.new }
 {
-    match checked(alloc, state, log, *unwritten, reached)? {
+    match run_check(alloc, state, log, *unwritten, reached)? {
         Some(checked) => {
             write_lines(&checked.text, proof)?;
             *unwritten = log.len();

@@ -10,6 +10,8 @@ mod command_line;
 mod reading;
 mod running;
 mod status;
+#[cfg(test)]
+mod tests;
 mod words;
 
 use command_line::plan;
