@@ -1,5 +1,5 @@
 -- Learnt clauses that are added to a log, one after the other.
-use Rattle.std.proofs.Common.{◌≡◌, ℕ, zero, suc, ◌+◌, ◌<◌, List, [], ◌∷◌, ◌++◌, length, get_or, take, Option, Some, None, refl, sym, ap, ◌∙◌, subst, append_assoc, append-nil, arith, length-append}
+use Rattle.std.proofs.Common.{◌≡◌, ℕ, zero, suc, ◌+◌, ◌<◌, ◌≤◌, List, [], ◌∷◌, ◌++◌, length, get_or, take, Option, Some, None, refl, sym, ap, ◌∙◌, subst, append_assoc, append-nil, arith, length-append}
 use Rattle.std.specs.Prelude.{map, All, slice_get}
 use Rattle.std.proofs.lemmas.List.{take_more, map_more}
 use Rattle.std.proofs.lemmas.List.Elements.{All-push}
@@ -11,20 +11,23 @@ use Rattle.smt_terms.specs.Terms.{TermsValue, IsTermList}
 use Rattle.hint_chain.specs.Chains.{IsChain, FindsMore}
 use Rattle.plain_search.specs.declared.Held.{Held}
 use Rattle.plain_search.specs.declared.Chain.{Chain}
+use Rattle.plain_search.specs.declared.Outcome.{Outcome}
+use Rattle.scope_selectors.specs.declared.live.Live.{Live}
+use Rattle.std.specs.List.{AllByRecursion}
 use Rattle.plain_search.specs.Searches.{Knows, learnt_row, named}
 use Rattle.plain_search.proofs.Stages.{named-push}
 use Rattle.proof_log.specs.declared.entry.Entry.{Entry}
 use Rattle.proof_log.specs.declared.entry.Entry.TheVariants as step
-use Rattle.proof_log.specs.Logs.{LogState, start, clause_in, clause_at, after, state_of, IsStep}
+use Rattle.proof_log.specs.Logs.{Asserted, LogState, start, clause_in, clause_at, after, state_of, IsStep}
 use Rattle.proof_log.specs.Faults.{IsValid}
-use Rattle.proof_log.specs.Stored.{LogValue, IsKept, Stands, IsPushed}
+use Rattle.proof_log.specs.Stored.{LogValue, IsKept, Stands, IsPushed, literal_of}
 use Rattle.proof_log.proofs.Growing.{clause_more}
-use Rattle.proof_log.proofs.Ordered.{steps_length}
+use Rattle.proof_log.proofs.Ordered.{steps_length, log_is_ordered}
 use Rattle.proof_log.proofs.Standing.{stands_over, clauses_below}
 use Rattle.proof_log.proofs.Staying.{state_from-append}
 use Rattle.proof_text.specs.Entries.{entry_line}
-use Rattle.smt_session.specs.Growing.{AreLined, Grows}
-use Rattle.smt_session.specs.Searched.{IsOfLog, AreLearnt, chain_step}
+use Rattle.smt_session.specs.Growing.{AreLined, Grows, IsSelectorOf, AreSelectors}
+use Rattle.smt_session.specs.Searched.{IsOfLog, IsFound, AreLearnt, chain_step}
 
 -- the first of the learnt clauses are added
 pub record Pushed (nodes : List Node) (old now : LogValue) (chains : List Chain) : Type 0 where
@@ -82,12 +85,12 @@ pushed_more nodes old mid new chains c p h k =
       next = b.next ∙ h.next;
       knows = λ held known.
           let now : Knows (clause_at new.clauses) (held ++ named (suc (length old.entries)) chains) =
-          λ i d lt. ap (λ rows. clause_at rows (get_or (held ++ named (suc (length old.entries)) chains) i d).id) b.clauses ∙ clause_more mid.clauses ((c.clause ∷ []) ∷ []) _ _ (h.knows held known i d lt) in
+          λ i d lt. ap (λ rows. clause_at rows (get_or (held ++ named (suc (length old.entries)) chains) i d).id) b.clauses ∙ clause_more mid.clauses ((c.clause ∷ []) ∷ []) (get_or (held ++ named (suc (length old.entries)) chains) i d).id (get_or (held ++ named (suc (length old.entries)) chains) i d).clause (h.knows held known i d lt) in
           let last : clause_at new.clauses (record { pos = suc (length old.entries) + length chains; part = 0 }) ≡ Some c.clause =
-          ap (λ rows. clause_at rows (record { pos = suc (length old.entries) + length chains; part = 0 })) b.clauses ∙ found_last mid.clauses c.clause _ place in
+          ap (λ rows. clause_at rows (record { pos = suc (length old.entries) + length chains; part = 0 })) b.clauses ∙ found_last mid.clauses c.clause (suc (length old.entries) + length chains) place in
           subst (Knows (clause_at new.clauses))
           (append_assoc held (named (suc (length old.entries)) chains) (learnt_row (suc (length old.entries) + length chains) c ∷ []) ∙ ap (λ x. held ++ x) (sym (named-push (suc (length old.entries)) chains c)))
-          (All-push _ _ _ now last);
+          (All-push (λ (x : Held). clause_at new.clauses x.id ≡ Some x.clause) (held ++ named (suc (length old.entries)) chains) (learnt_row (suc (length old.entries) + length chains) c) now last);
     }
   where
     map-push : (cs : List Chain) → map chain_step (cs ++ c ∷ []) ≡ map chain_step cs ++ chain_step c ∷ []
@@ -120,4 +123,47 @@ pushed_grows nodes old new chains h = record { added = map chain_step chains; en
 pub held_push : (nodes : List Node) (l : LogValue) (items : List Held) (id : ClauseId) (c d : List Literal) → IsTermList nodes → Stands nodes l → All (IsOfLog l) items → Some c ≡ clause_at l.clauses id → d ≡ c → All (IsOfLog l) (items ++ record { id = id; clause = d } ∷ [])
 held_push nodes l items id c d listed h all e same =
     let known : clause_at l.clauses id ≡ Some d = sym e ∙ ap Some (sym same) in
-    All-push _ _ _ all (record { known = known; below = clauses_below nodes l id d listed (stands_over nodes l h) known })
+    All-push (IsOfLog l) items (record { id = id; clause = d }) all (record { known = known; below = clauses_below nodes l id d listed (stands_over nodes l h) known })
+
+-- the same of a copy of the next learnt clause
+pub copy_valid : (v : TermsValue) (old now : LogValue) (chains : List Chain) (k : ℕ) (d : Chain) (c : List Literal) (hints : List ClauseId) → c ≡ (get_or chains k d).clause → hints ≡ (get_or chains k d).hints.items → AreLearnt old chains → k < length chains → Pushed v.nodes old now (take k chains) → IsValid v (state_of v.nodes now.entries) (step.Chain c hints)
+copy_valid v old now chains k d c hints e f learnt lt h =
+    subst (λ x. IsValid v (state_of v.nodes now.entries) (step.Chain x hints)) (sym e)
+    (subst (λ y. IsValid v (state_of v.nodes now.entries) (step.Chain (get_or chains k d).clause y)) (sym f) (chain_valid v old now chains k d learnt lt h))
+
+pub copy_pushed : (nodes : List Node) (old mid new : LogValue) (chains : List Chain) (k p : ℕ) (d : Chain) (c : List Literal) (hints : List ClauseId) → c ≡ (get_or chains k d).clause → hints ≡ (get_or chains k d).hints.items → k < length chains → Pushed nodes old mid (take k chains) → IsPushed nodes mid new (step.Chain c hints) p → Pushed nodes old new (take (k + 1) chains)
+copy_pushed nodes old mid new chains k p d c hints e f lt h q =
+    pushed_next nodes old mid new chains k p d lt h
+    (subst (λ y. IsPushed nodes mid new (step.Chain (get_or chains k d).clause y) p) f (subst (λ x. IsPushed nodes mid new (step.Chain x hints) p) e q))
+
+take_all : {A : Type 0} (n : ℕ) (xs : List A) → length xs ≤ n → take n xs ≡ xs
+take_all zero [] h = refl
+take_all zero (x ∷ xs) h = absurd (omega arith)
+take_all (suc n) [] h = refl
+take_all (suc n) (x ∷ xs) h = ap (λ ys. x ∷ ys) (take_all n xs (omega arith))
+
+pub all_grow : (nodes : List Node) (old new : LogValue) (chains : List Chain) (n : ℕ) → length chains ≤ n → Pushed nodes old new (take n chains) → Grows nodes old new
+all_grow nodes old new chains n le h = pushed_grows nodes old new chains (subst (Pushed nodes old new) (take_all n chains le) h)
+
+pub learnt_of : (log : LogValue) (given : List Literal) (found : Outcome) → IsFound log given found → AreLearnt log found.chains.items
+learnt_of log given found f = record { held = f.held; of_log = f.of_log; derived = f.outcome.chains; below = f.outcome.below }
+
+-- ---- selectors
+
+some_literal : (o : Option Asserted) (l : Literal) → literal_of o ≡ Some l → (r : Asserted) × (o ≡ Some r) × (r.literal ≡ l)
+some_literal None l e = let q : ⊥ = cc in absurd q
+some_literal (Some r) l e = let q : r.literal ≡ l = cc in (r, refl, q)
+
+selector_below : (nodes : List Node) (l : LogValue) (live : List Live) (s : Literal) → IsTermList nodes → Stands nodes l → IsSelectorOf l live s → s.variable < l.next
+selector_below nodes l live s listed h i =
+    let k = stands_over nodes l h in
+    let r = some_literal _ s (sym (k.selectors i.assertion.assertion) ∙ i.selector) in
+    let lt = (log_is_ordered nodes l.entries listed k.steps).selectors i.assertion.assertion r.0 r.1 in
+    subst (λ n. s.variable < n) (sym k.next) (subst (λ (x : Literal). x.variable < (state_of nodes l.entries).next) r.2 lt)
+
+each_of : {A : Type 0} (P : A → Type 0) (xs : List A) → All P xs → AllByRecursion P xs
+each_of P [] h = tt
+each_of P (x ∷ xs) h = (h 0 x (omega arith), each_of P xs (λ k d lt. h (suc k) d (omega arith)))
+
+pub selectors_below : (nodes : List Node) (l : LogValue) (live : List Live) (given : List Literal) → IsTermList nodes → Stands nodes l → AreSelectors l live given → AreBelow l.next given
+selectors_below nodes l live given listed h all = each_of (λ s. s.variable < l.next) given (λ k d lt. selector_below nodes l live (get_or given k d) listed h (all k d lt))

@@ -35,7 +35,12 @@ use Rattle.smt_syntax.specs.Commands.{read}
 use Rattle.smt_build.specs.Declaring.{Declaration, declare}
 use Rattle.script_state.specs.declared.answer.Answer.{Answer}
 use Rattle.script_state.specs.States.{StateValue}
-use Rattle.script_state.specs.Steps.{Step, refuse, declaring, asserting, obey, obey_read, step, Applies}
+use Rattle.proof_log.specs.Stored.{LogValue, Stands}
+use Rattle.proof_log.proofs.Standing.{stands_longer}
+use Rattle.smt_session.specs.declared.response.Response.{Response}
+use Rattle.smt_session.specs.Responses.{Responds}
+use Rattle.smt_session.specs.Sessions.{SessionValue, IsAnswered}
+use Rattle.script_state.specs.Steps.{Step, refuse, declaring, asserting, obey, obey_read, step, Applies as AppliesTo}
 
 -- more terms may stand behind them
 abbrev pub Longer : TermsValue → TermsValue → Type 0
@@ -194,6 +199,15 @@ longer_step s None = longer_refuse s
 longer_step s (Some es) = longer_reading s (read (group es))
 
 -- a command makes terms behind those that stood, or none
-pub applied_longer : (chunk : Chunk) (r : Result Answer AllocError) (old new : StateValue) → Applies chunk r old new → Longer old.terms new.terms
+pub applied_longer : (chunk : Chunk) (r : Result Answer AllocError) (old new : StateValue) → AppliesTo chunk r old new → Longer old.terms new.terms
 applied_longer chunk (Ok a) old new h = subst (λ (to : Step). Longer old.terms to.1.terms) h.2 (longer_step old h.0)
 applied_longer chunk (Err e) old new h = subst (λ (s : StateValue). Longer old.terms s.terms) (sym h) (longer_none old.terms)
+
+-- a log that stood over the terms before a command stands over those behind it
+pub still_stands : (new : StateValue) (log : LogValue) (old : StateValue) (chunk : Chunk) (r : Result Answer AllocError) → Stands old.terms.nodes log → AppliesTo chunk r old new → Stands new.terms.nodes log
+still_stands new log old chunk r h a =
+    let l = applied_longer chunk r old new a in
+    subst (λ ns. Stands ns log) (sym l.1) (stands_longer old.terms.nodes l.0 log h)
+
+pub is_answered : (chunk : Chunk) (old new : SessionValue) (r : Response) (a : Answer) (mid : StateValue) → AppliesTo chunk (Ok a) old.state mid → Responds a chunk.line r mid new.state → IsAnswered chunk old new r
+is_answered chunk old new r a mid h k = record { answer = a; applied = mid; applies = h; responds = k }

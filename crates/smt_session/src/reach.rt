@@ -87,7 +87,8 @@ impl Reached {
         live: &[Live],
     ) -> Result<Vec<TermId>, AllocError>
         requires { All (IsHeldTruth terms.now.nodes) live.now }
-        ensures { IfOk result (λ list. All (λ t. t < length terms.now.nodes) list.items) }
+        ensures held { IfOk result (λ list. All (λ t. t < length terms.now.nodes) list.items) }
+        ensures listed { IsTermList terms.now.nodes }
     {
         let count = terms.len() as usize;
         if self.marks.len() < count {
