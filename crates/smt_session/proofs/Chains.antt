@@ -159,7 +159,7 @@ selector_below nodes l live s listed h i =
     let k = stands_over nodes l h in
     let r = some_literal _ s (sym (k.selectors i.assertion.assertion) ∙ i.selector) in
     let lt = (log_is_ordered nodes l.entries listed k.steps).selectors i.assertion.assertion r.0 r.1 in
-    subst (λ n. s.variable < n) (sym k.next) (subst (λ (x : Literal). x.variable < (state_of nodes l.entries).next) r.2 lt)
+    subst (λ n. s.variable < n) (sym k.next) (subst (λ (x : Literal). x.variable < (state_of nodes l.entries).next) r.2 lt.1)
 
 each_of : {A : Type 0} (P : A → Type 0) (xs : List A) → All P xs → AllByRecursion P xs
 each_of P [] h = tt

@@ -149,14 +149,13 @@ longer_argument symbols terms args es (Err e) h rest = tt
 
 module _ (symbols : SymbolsValue) where
   mutual
-    longer_term : (terms : TermsValue) (e : Sexp) → MakesLonger terms (term_of symbols terms e)
     unfolding term_of args_of
+    longer_term : (terms : TermsValue) (e : Sexp) → MakesLonger terms (term_of symbols terms e)
     longer_term terms (atom k x) = longer_word symbols terms k x
     longer_term terms (group (more (atom kind.Symbol f) es)) = longer_then symbols terms f (args_of symbols terms [] es) (longer_args terms [] es)
     longer_term terms (group _) = tt
 
     longer_args : (terms : TermsValue) (args : List ℕ) (es : Sexps) → AllLonger terms (args_of symbols terms args es)
-    unfolding term_of args_of
     longer_args terms args none = longer_none terms
     longer_args terms args (more e es) = longer_argument symbols terms args es (term_of symbols terms e) (longer_term terms e) (λ v xs. longer_args v xs es)
 

@@ -136,7 +136,6 @@ impl Session {
 
     /// Does what a command says, and answers it. A check's lines and record are written before. For want of numbers of
     /// assertions the answer is want of memory.
-    #[tactic(auto, using(crate::proofs::Longer::still_stands, crate::proofs::Longer::is_answered))]
     pub fn command<Q: Sink>(
         self,
         alloc: Global,

@@ -18,7 +18,7 @@ solve-requires-clause-given c =
     (selectors_below c.args.state.now.terms.nodes c.select_all.new.log _ _ listed grows.stands (rw c.in-Some.is at c.in_ok-given.ensures.given))
 
 pub push_chains-requires-clause-learnt : goal.push_chains-requires-clause-learnt
-push_chains-requires-clause-learnt c = rw (c.as_slice-3.ensures.value, c.in_ok-chains.chains-is) (learnt_of _ _ _ c.in_ok-chains.ensures)
+push_chains-requires-clause-learnt c = rw c.as_slice-3.ensures.value (learnt_of _ _ _ c.in_ok-chains.ensures)
 
 pub returns-in-Refuted-clause-grows : goal.returns-in-Refuted-clause-grows
 returns-in-Refuted-clause-grows c =
