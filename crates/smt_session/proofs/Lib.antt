@@ -1,0 +1,4 @@
+pub mod Stepping
+pub mod Longer
+pub mod Chains
+pub mod PairLemmas

@@ -1,0 +1,5 @@
+pub mod Growing
+pub mod Searched
+pub mod Responses
+pub mod Sessions
+pub mod Pairs

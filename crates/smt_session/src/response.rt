@@ -1,0 +1,102 @@
+// What a command is answered, and why it is not.
+
+ghost use Rattle.std.specs.Prelude.{◌≡◌, ◌++◌, IfOk, OnOk};
+ghost use Rattle.std.specs.Fmt.{decimal};
+ghost use Rattle.smt_session.specs.Responses.{silent, error_text, refusal_of, answer_of};
+
+use script_state::answer::Verdict;
+use script_state::error_text::ErrorText;
+use smt_text::text::Text;
+use std::alloc::{AllocError, Global};
+
+/// The text that answers a command, whether it is an error, and whether the run ends with it.
+#[derive(Debug, Drop)]
+pub struct Response {
+    pub text: Text,
+    pub error: bool,
+    pub ends: bool,
+}
+
+/// Why a session ended without a response.
+#[derive(Clone, Copy, Debug, PartialEq, Eq)]
+pub enum Stop {
+    /// The proof could not be written.
+    Failed,
+    NoMemory,
+}
+
+impl From<AllocError> for Stop {
+    ghost use Rattle.std.specs.Prelude.{◌≡◌};
+    ghost use Rattle.smt_session.specs.declared.response.Stop.TheVariants.{NoMemory};
+
+    ghost from_gives = { λ _ s. s ≡ NoMemory };
+
+    fn from(_error: AllocError) -> Stop {
+        Stop::NoMemory
+    }
+}
+
+/// Appends a number in decimal.
+fn push_decimal(alloc: Global, number: u64, out: &mut Text) -> Result<(), AllocError>
+    ensures { OnOk result (out.new ≡ out.old ++ decimal number) }
+{
+    let digits = format!(in alloc; "{number}")?;
+    out.push_slice(digits.as_bytes())
+}
+
+/// The text of an error, with the line of the command's first byte.
+fn refusal_text(alloc: Global, line: u64, error: ErrorText) -> Result<Text, AllocError>
+    ensures { IfOk result (λ t. t ≡ error_text line error) }
+{
+    let mut text = Text::from_slice(alloc, b"(error \"line ")?;
+    push_decimal(alloc, line, &mut text)?;
+    text.push_slice(b": ")?;
+    text.push_slice(error.text())?;
+    text.push_slice(b"\")\n")?;
+    Ok(text)
+}
+
+impl Response {
+    /// No text.
+    pub(crate) fn silent(alloc: Global) -> Response
+        ensures { result ≡ silent }
+    {
+        Response {
+            text: Text::new(alloc),
+            error: false,
+            ends: false,
+        }
+    }
+
+    /// An error.
+    pub(crate) fn refusal(
+        alloc: Global,
+        line: u64,
+        error: ErrorText,
+    ) -> Result<Response, AllocError>
+        ensures { IfOk result (λ r. r ≡ refusal_of line error) }
+    {
+        let text = refusal_text(alloc, line, error)?;
+        Ok(Response {
+            text,
+            error: true,
+            ends: false,
+        })
+    }
+
+    /// The verdict of a check.
+    pub(crate) fn verdict(alloc: Global, verdict: Verdict) -> Result<Response, AllocError>
+        ensures { IfOk result (λ r. r ≡ answer_of verdict) }
+    {
+        let text: &[u8] = match verdict {
+            Verdict::Sat => b"sat\n",
+            Verdict::Unsat => b"unsat\n",
+            Verdict::Unknown => b"unknown\n",
+        };
+        Ok(Response {
+            text: Text::from_slice(alloc, text)?,
+            error: false,
+            ends: false,
+        })
+    }
+}

@@ -1,0 +1,15 @@
+use Rattle.std.proofs.Common.{length}
+use Rattle.smt_tool.specs.Runs.{counts}
+use Rattle.smt_tool.proofs.Written.{Written, Progress}
+use Rattle.smt_tool.proofs.reading.answer_script.Given as goal
+
+abbrev pub invariant-pieces : goal.invariant-pieces
+invariant-pieces g l =
+    record {
+      read : Progress (length l.buffer) l.left (g.S.Source.left l.fn.script) (g.S.Source.left l.script);
+      written : Written (g.W.Sink.written l.fn.answers) (g.W.Sink.written l.answers) (g.Q.Sink.written l.fn.proof) (g.Q.Sink.written l.proof)
+          (counts (g.S.Source.faults l.fn.script) (g.W.Sink.faults l.fn.answers) (g.Q.Sink.faults l.fn.proof)) (counts (g.S.Source.faults l.script) (g.W.Sink.faults l.answers) (g.Q.Sink.faults l.proof));
+    }
+
+abbrev pub decreases-pieces : goal.decreases-pieces
+decreases-pieces g l = l.left

@@ -1,0 +1,126 @@
+// Commands and their answers.
+
+ghost use Rattle.std.specs.Prelude.{◌≡◌, ◌≤◌, if◌then◌else◌, None, Some, IfOk, IfErr, length};
+ghost use Rattle.std.specs.Io.KnownBytes.{Appends};
+ghost use Rattle.smt_text.specs.Framing.{first_chunk};
+ghost use Rattle.smt_tool.specs.Runs.{AddsTo, IsLater, HasCause, StopsWriting, counts};
+
+use crate::status::Status;
+use smt_desk::stream::{Sink, write_whole};
+use smt_session::response::Stop;
+use smt_session::session::Session;
+use smt_text::chunk::Chunk;
+use smt_text::framer::Framer;
+use std::alloc::Global;
+
+/// A session, and whether an error was among its responses.
+#[derive(Drop)]
+pub(crate) struct Answered {
+    pub(crate) session: Session,
+    pub(crate) refused: bool,
+}
+
+/// The status of a run that came to its end.
+pub(crate) fn end_status(refused: bool) -> Status
+    ensures { result ≡ (if refused then Status.Refused else Status.Done) }
+{
+    if refused {
+        Status::Refused
+    } else {
+        Status::Done
+    }
+}
+
+/// Answers a command. The error is the status of a run that ends here.
+fn answer<W: Sink, Q: Sink>(
+    alloc: Global,
+    so_far: Answered,
+    chunk: &Chunk,
+    answers: &mut W,
+    proof: &mut Q,
+) -> Result<Answered, Status>
+    ensures answers { AddsTo (W.written answers.old) (W.written answers.new) }
+    ensures proof { AddsTo (Q.written proof.old) (Q.written proof.new) }
+    ensures later { IsLater (counts 0 (W.faults answers.old) (Q.faults proof.old)) (counts 0 (W.faults answers.new) (Q.faults proof.new)) }
+    ensures stopped { IfErr result StopsWriting }
+    ensures cause { IfErr result (HasCause (counts 0 (W.faults answers.old) (Q.faults proof.old)) (counts 0 (W.faults answers.new) (Q.faults proof.new))) }
+{
+    let (session, response) = match so_far.session.command(alloc, chunk, proof) {
+        Ok(answered) => answered,
+        Err(Stop::Failed) => return Err(Status::WriteFault),
+        Err(Stop::NoMemory) => return Err(Status::NoMemory),
+    };
+    match write_whole(answers, response.text.as_slice()) {
+        Ok(()) => {}
+        Err(_) => return Err(Status::WriteFault),
+    }
+    let refused = so_far.refused || response.error;
+    if response.ends {
+        return Err(end_status(refused));
+    }
+    Ok(Answered { session, refused })
+}
+
+/// Answers each whole command that is held.
+fn answer_held<W: Sink, Q: Sink>(
+    alloc: Global,
+    so_far: Answered,
+    framer: &mut Framer,
+    answers: &mut W,
+    proof: &mut Q,
+) -> Result<Answered, Status>
+    ensures answers { AddsTo (W.written answers.old) (W.written answers.new) }
+    ensures proof { AddsTo (Q.written proof.old) (Q.written proof.new) }
+    ensures later { IsLater (counts 0 (W.faults answers.old) (Q.faults proof.old)) (counts 0 (W.faults answers.new) (Q.faults proof.new)) }
+    ensures stopped { IfErr result StopsWriting }
+    ensures cause { IfErr result (HasCause (counts 0 (W.faults answers.old) (Q.faults proof.old)) (counts 0 (W.faults answers.new) (Q.faults proof.new))) }
+    ensures held { IfOk result (λ _. first_chunk framer.new ≡ None) }
+{
+    let mut so_far = so_far;
+    'commands: while let Some(chunk) = framer.next()? {
+        so_far = answer(alloc, so_far, &chunk, answers, proof)?;
+    }
+    Ok(so_far)
+}
+
+/// Takes the next piece of the script, and answers each command that is then whole.
+pub(crate) fn answer_piece<W: Sink, Q: Sink>(
+    alloc: Global,
+    so_far: Answered,
+    framer: &mut Framer,
+    piece: &[u8],
+    answers: &mut W,
+    proof: &mut Q,
+) -> Result<Answered, Status>
+    ensures answers { AddsTo (W.written answers.old) (W.written answers.new) }
+    ensures proof { AddsTo (Q.written proof.old) (Q.written proof.new) }
+    ensures later { IsLater (counts 0 (W.faults answers.old) (Q.faults proof.old)) (counts 0 (W.faults answers.new) (Q.faults proof.new)) }
+    ensures stopped { IfErr result StopsWriting }
+    ensures cause { IfErr result (HasCause (counts 0 (W.faults answers.old) (Q.faults proof.old)) (counts 0 (W.faults answers.new) (Q.faults proof.new))) }
+{
+    framer.feed(piece)?;
+    answer_held(alloc, so_far, framer, answers, proof)
+}
+
+/// Answers what the end of the script closes, and tells whether an error was among the responses.
+pub(crate) fn answer_rest<W: Sink, Q: Sink>(
+    alloc: Global,
+    so_far: Answered,
+    framer: &mut Framer,
+    answers: &mut W,
+    proof: &mut Q,
+) -> Result<bool, Status>
+    ensures answers { AddsTo (W.written answers.old) (W.written answers.new) }
+    ensures proof { AddsTo (Q.written proof.old) (Q.written proof.new) }
+    ensures later { IsLater (counts 0 (W.faults answers.old) (Q.faults proof.old)) (counts 0 (W.faults answers.new) (Q.faults proof.new)) }
+    ensures stopped { IfErr result StopsWriting }
+    ensures cause { IfErr result (HasCause (counts 0 (W.faults answers.old) (Q.faults proof.old)) (counts 0 (W.faults answers.new) (Q.faults proof.new))) }
+{
+    match framer.finish()? {
+        Some(chunk) => {
+            let last = answer(alloc, so_far, &chunk, answers, proof)?;
+            Ok(last.refused)
+        }
+        None => Ok(so_far.refused),
+    }
+}

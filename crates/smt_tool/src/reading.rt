@@ -1,0 +1,69 @@
+// A script, read in pieces, each command answered before the next read.
+
+ghost use Rattle.std.specs.Prelude.{◌≡◌, ◌≢◌, ◌+◌, ◌<◌, ◌≤◌, ℕ, IfOk, IfErr, IfSome, OnOk, length};
+ghost use Rattle.std.specs.Io.KnownBytes.{Keeps, IsAtEnd};
+ghost use Rattle.smt_tool.specs.Runs.{AddsTo, ReadsBytes, IsLater, HasCause, counts, input_limit, ReadsPiece, IsRead};
+
+use crate::answering::{Answered, answer_piece, answer_rest};
+use crate::status::Status;
+use smt_desk::stream::{Sink, Source};
+use smt_session::session::Session;
+use smt_session::settings::Settings;
+use smt_text::framer::Framer;
+use std::alloc::Global;
+
+/// How many bytes of one input are read.
+const INPUT_LIMIT: u64 = 1 << 32;
+
+/// Reads into the front of the buffer, no more bytes than may still be read, or one where none may.
+fn read_piece<S: Source>(script: &mut S, buffer: &mut [u8], left: u64) -> Result<usize, Status>
+    requires { 0 < length buffer.old }
+    ensures within { IfOk result (λ n. n ≤ length buffer.new) }
+    ensures read { ReadsPiece left (S.left script.old) (S.left script.new) result }
+    ensures later { S.faults script.old ≤ S.faults script.new }
+    ensures cause { IfErr result (HasCause (counts (S.faults script.old) 0 0) (counts (S.faults script.new) 0 0)) }
+{
+    let wanted = left.max(1).min(buffer.len() as u64) as usize;
+    match script.read(&mut buffer[..wanted]) {
+        Ok(size) => {
+            if size as u64 > left {
+                return Err(Status::TooLong);
+            }
+            Ok(size)
+        }
+        Err(_) => Err(Status::ReadFault),
+    }
+}
+
+/// Answers a script to its end, and tells whether an error was among the responses. The error is the status of a run
+/// that ends before. The script is read into the buffer, piece by piece.
+pub(crate) fn answer_script<S: Source, W: Sink, Q: Sink>(
+    alloc: Global,
+    settings: Settings,
+    buffer: &mut [u8],
+    script: &mut S,
+    answers: &mut W,
+    proof: &mut Q,
+) -> Result<bool, Status>
+    requires { 0 < length buffer.old }
+    ensures read { IsRead (S.left script.old) (S.left script.new) result }
+    ensures answers { AddsTo (W.written answers.old) (W.written answers.new) }
+    ensures proof { AddsTo (Q.written proof.old) (Q.written proof.new) }
+    ensures later { IsLater (counts (S.faults script.old) (W.faults answers.old) (Q.faults proof.old)) (counts (S.faults script.new) (W.faults answers.new) (Q.faults proof.new)) }
+    ensures cause { IfErr result (HasCause (counts (S.faults script.old) (W.faults answers.old) (Q.faults proof.old)) (counts (S.faults script.new) (W.faults answers.new) (Q.faults proof.new))) }
+{
+    let mut framer = Framer::new(alloc);
+    let session = Session::new(alloc, settings)?;
+    let refused = false;
+    let mut so_far = Answered { session, refused };
+    let mut left = INPUT_LIMIT;
+    'pieces: loop {
+        let size = read_piece(script, buffer, left)?;
+        if size == 0 {
+            break;
+        }
+        left -= size as u64;
+        so_far = answer_piece(alloc, so_far, &mut framer, &buffer[..size], answers, proof)?;
+    }
+    answer_rest(alloc, so_far, &mut framer, answers, proof)
+}

@@ -1,0 +1,110 @@
+// A run of the program over any source and any sinks.
+
+ghost use Rattle.std.specs.Prelude.{◌≡◌, ◌≢◌, ◌≤◌, ◌+◌, ◌⊎◌, ℕ, List, IfErr, IfOk, OnOk, length, map};
+ghost use Rattle.std.specs.Io.KnownBytes.{Appends, IsAtEnd};
+ghost use Rattle.smt_tool.specs.Words.{AreTaken};
+ghost use Rattle.smt_tool.specs.Runs.{AddsTo, BeginsWith, ReadsBytes, ReadsWithin, IsLater, HasCause, StopsWriting, counts, input_limit, header};
+
+use crate::answering::end_status;
+use crate::command_line::plan;
+use crate::reading::answer_script;
+use crate::status::Status;
+use smt_desk::stream::{Sink, Source, write_whole};
+use smt_session::settings::Settings;
+use smt_text::text::Text;
+use std::alloc::{AllocError, Global};
+
+/// Writes the first line of a proof.
+fn open_proof<Q: Sink>(alloc: Global, _settings: &Settings, proof: &mut Q) -> Result<(), Status>
+    ensures ok { OnOk result (Appends (Q.written proof.old) (Q.written proof.new) header) }
+    ensures added { AddsTo (Q.written proof.old) (Q.written proof.new) }
+    ensures later { IsLater (counts 0 0 (Q.faults proof.old)) (counts 0 0 (Q.faults proof.new)) }
+    ensures stopped { IfErr result StopsWriting }
+    ensures cause { IfErr result (HasCause (counts 0 0 (Q.faults proof.old)) (counts 0 0 (Q.faults proof.new))) }
+{
+    let mut text = Text::new(alloc);
+    text.push_slice(b"smt_proof 1 cubes 0 budget 100000\n")?;
+    match write_whole(proof, text.as_slice()) {
+        Ok(()) => Ok(()),
+        Err(_) => Err(Status::WriteFault),
+    }
+}
+
+/// How many bytes are asked for at most in one read.
+const PIECE: usize = 1 << 16;
+
+/// So many bytes.
+fn zeros(alloc: Global, size: usize) -> Result<Vec<u8>, AllocError>
+    ensures { IfOk result (λ v. length v.items ≡ size) }
+{
+    vec![in alloc; 0u8; size]
+}
+
+/// Writes the first line of a proof, and answers a script to its end.
+fn solve<S: Source, W: Sink, Q: Sink>(
+    alloc: Global,
+    settings: Settings,
+    script: &mut S,
+    answers: &mut W,
+    proof: &mut Q,
+) -> Status
+    ensures usage { result ≢ Status.Usage }
+    ensures whole { (result ≡ Status.Done) ⊎ (result ≡ Status.Refused) → IsAtEnd (S.left script.new) }
+    ensures within { result ≢ Status.TooLong → ReadsWithin (S.left script.old) (S.left script.new) }
+    ensures too_long { result ≡ Status.TooLong → ReadsBytes (input_limit + 1) (S.left script.old) (S.left script.new) }
+    ensures answers { AddsTo (W.written answers.old) (W.written answers.new) }
+    ensures proof { AddsTo (Q.written proof.old) (Q.written proof.new) }
+    ensures header { result ≢ Status.WriteFault → result ≢ Status.NoMemory → BeginsWith header (Q.written proof.old) (Q.written proof.new) }
+    ensures later { IsLater (counts (S.faults script.old) (W.faults answers.old) (Q.faults proof.old)) (counts (S.faults script.new) (W.faults answers.new) (Q.faults proof.new)) }
+    ensures cause { HasCause (counts (S.faults script.old) (W.faults answers.old) (Q.faults proof.old)) (counts (S.faults script.new) (W.faults answers.new) (Q.faults proof.new)) result }
+{
+    match open_proof(alloc, &settings, proof) {
+        Ok(()) => {}
+        Err(status) => return status,
+    }
+    let mut buffer = match zeros(alloc, PIECE) {
+        Ok(buffer) => buffer,
+        Err(_) => return Status::NoMemory,
+    };
+    match answer_script(alloc, settings, &mut buffer, script, answers, proof) {
+        Ok(refused) => end_status(refused),
+        Err(status) => status,
+    }
+}
+
+/// Does what the words ask for: answers the script on `answers` and writes its proof to `proof_out`, each check's lines
+/// and record before its answer. No command reads `proof_in` yet.
+pub fn run<S: Source, P: Source, W: Sink, Q: Sink>(
+    alloc: Global,
+    words: &[&str],
+    script: &mut S,
+    proof_in: &mut P,
+    answers: &mut W,
+    proof_out: &mut Q,
+) -> Status
+    // The words come first: where they are not taken, nothing is read or written.
+    ensures usage { result ≡ Status.Usage → ¬ (AreTaken (map (λ w. w.now) words.now)) }
+    ensures usage_always { ¬ (AreTaken (map (λ w. w.now) words.now)) → result ≡ Status.Usage }
+    ensures untouched { result ≡ Status.Usage → (script.new ≡ script.old) × (answers.new ≡ answers.old) × (proof_out.new ≡ proof_out.old) }
+    ensures unread { proof_in.new ≡ proof_in.old }
+
+    // A run comes to its end only at the end of the script, of which it reads 2^32 bytes, and one more where there is one.
+    ensures whole { (result ≡ Status.Done) ⊎ (result ≡ Status.Refused) → IsAtEnd (S.left script.new) }
+    ensures within { result ≢ Status.Usage → result ≢ Status.TooLong → ReadsWithin (S.left script.old) (S.left script.new) }
+    ensures too_long { result ≡ Status.TooLong → ReadsBytes (input_limit + 1) (S.left script.old) (S.left script.new) }
+
+    // What is written stays, and the proof begins with its header.
+    ensures answers { AddsTo (W.written answers.old) (W.written answers.new) }
+    ensures proof { AddsTo (Q.written proof_out.old) (Q.written proof_out.new) }
+    ensures header { result ≢ Status.Usage → result ≢ Status.WriteFault → result ≢ Status.NoMemory → BeginsWith header (Q.written proof_out.old) (Q.written proof_out.new) }
+
+    // A fault is told only where a count rose.
+    ensures later { IsLater (counts (S.faults script.old) (W.faults answers.old) (Q.faults proof_out.old)) (counts (S.faults script.new) (W.faults answers.new) (Q.faults proof_out.new)) }
+    ensures cause { HasCause (counts (S.faults script.old) (W.faults answers.old) (Q.faults proof_out.old)) (counts (S.faults script.new) (W.faults answers.new) (Q.faults proof_out.new)) result }
+{
+    let _ = proof_in;
+    match plan(words) {
+        Ok(plan) => solve(alloc, plan.settings, script, answers, proof_out),
+        Err(_) => Status::Usage,
+    }
+}
