@@ -1,14 +1,14 @@
 -- Learnt clauses that are added to a log, one after the other.
 use Rattle.std.proofs.Common.{◌≡◌, ℕ, zero, suc, ◌+◌, ◌<◌, ◌≤◌, List, [], ◌∷◌, ◌++◌, length, get_or, take, Option, Some, None, refl, sym, ap, ◌∙◌, subst, append_assoc, append-nil, arith, length-append}
 use Rattle.std.specs.Prelude.{map, All, slice_get}
-use Rattle.std.proofs.lemmas.List.{take_more, map_more}
+use Rattle.std.proofs.lemmas.List.{take_more}
 use Rattle.std.proofs.lemmas.List.Elements.{All-push}
 use Rattle.cnf_base.specs.Literals.{Literal}
 use Rattle.cnf_base.specs.Assignments.{AreBelow}
 use Rattle.cnf_base.specs.declared.clause.ClauseId.{ClauseId}
 use Rattle.smt_terms.specs.declared.node.Node.{Node}
 use Rattle.smt_terms.specs.Terms.{TermsValue, IsTermList}
-use Rattle.hint_chain.specs.Chains.{IsChain, FindsMore}
+use Rattle.hint_chain.specs.Chains.{IsChain}
 use Rattle.plain_search.specs.declared.Held.{Held}
 use Rattle.plain_search.specs.declared.Chain.{Chain}
 use Rattle.plain_search.specs.declared.Outcome.{Outcome}
@@ -16,16 +16,14 @@ use Rattle.scope_selectors.specs.declared.live.Live.{Live}
 use Rattle.std.specs.List.{AllByRecursion}
 use Rattle.plain_search.specs.Searches.{Knows, learnt_row, named}
 use Rattle.plain_search.proofs.Stages.{named-push}
-use Rattle.proof_log.specs.declared.entry.Entry.{Entry}
 use Rattle.proof_log.specs.declared.entry.Entry.TheVariants as step
-use Rattle.proof_log.specs.Logs.{Asserted, LogState, start, clause_in, clause_at, after, state_of, IsStep}
+use Rattle.proof_log.specs.Logs.{Asserted, start, clause_in, clause_at, after, state_of}
 use Rattle.proof_log.specs.Faults.{IsValid}
-use Rattle.proof_log.specs.Stored.{LogValue, IsKept, Stands, IsPushed, literal_of}
+use Rattle.proof_log.specs.Stored.{LogValue, Stands, IsPushed, literal_of}
 use Rattle.proof_log.proofs.Growing.{clause_more}
 use Rattle.proof_log.proofs.Ordered.{steps_length, log_is_ordered}
 use Rattle.proof_log.proofs.Standing.{stands_over, clauses_below}
 use Rattle.proof_log.proofs.Staying.{state_from-append}
-use Rattle.proof_text.specs.Entries.{entry_line}
 use Rattle.smt_session.specs.Growing.{AreLined, Grows, IsSelectorOf, AreSelectors}
 use Rattle.smt_session.specs.Searched.{IsOfLog, IsFound, AreLearnt, chain_step}
 

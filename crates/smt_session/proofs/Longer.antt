@@ -25,7 +25,6 @@ use Rattle.smt_build.specs.Operators.{operator_named, is_left_out}
 use Rattle.smt_build.specs.Names.{SymbolsValue, declaration_of}
 use Rattle.smt_build.specs.Building.{Built, as_built, made, constant, declared_at, declared, applied, symbol_by, symbol_term, word_term, application_by, application}
 use Rattle.smt_build.specs.Terms.{term_of, args_of}
-
 use Rattle.std.specs.declared.alloc.AllocError.{AllocError}
 use Rattle.smt_text.specs.declared.chunk.Chunk.{Chunk}
 use Rattle.smt_text.specs.declared.token.CommandName.{CommandName}
@@ -150,6 +149,7 @@ longer_argument symbols terms args es (Err e) h rest = tt
 module _ (symbols : SymbolsValue) where
   mutual
     unfolding term_of args_of
+
     longer_term : (terms : TermsValue) (e : Sexp) → MakesLonger terms (term_of symbols terms e)
     longer_term terms (atom k x) = longer_word symbols terms k x
     longer_term terms (group (more (atom kind.Symbol f) es)) = longer_then symbols terms f (args_of symbols terms [] es) (longer_args terms [] es)

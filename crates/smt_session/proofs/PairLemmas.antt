@@ -1,6 +1,6 @@
 -- The circuits over two rows of equally many bits.
 use Rattle.std.proofs.Common.{◌≡◌, ℕ, Bool, true, List, [], ◌∷◌, length, get_or, Option, Some, None, refl, sym, ap, ◌∙◌, subst, ◌≤◌, ◌<◌, arith}
-use Rattle.std.specs.Prelude.{◌==◌, ◌⊎◌, IsSome, if◌then◌else◌}
+use Rattle.std.specs.Prelude.{◌⊎◌, IsSome, if◌then◌else◌}
 use Rattle.std.specs.Option.{option_map}
 use Rattle.std.proofs.Common.{⊎_elim}
 use Rattle.std.proofs.lemmas.Bool.{eq-eqb}

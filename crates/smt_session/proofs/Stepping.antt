@@ -1,5 +1,5 @@
 -- The steps of a check are valid, and the log grows by them.
-use Rattle.std.proofs.Common.{◌≡◌, ℕ, ◌<◌, ◌≤◌, arith, Bool, true, false, List, [], ◌∷◌, ◌++◌, length, Option, Some, None, refl, sym, ap, ◌∙◌, subst, append_assoc, append-nil}
+use Rattle.std.proofs.Common.{◌≡◌, ℕ, ◌<◌, ◌≤◌, arith, false, List, [], ◌∷◌, ◌++◌, length, Option, Some, None, refl, sym, ap, ◌∙◌, append_assoc, append-nil}
 use Rattle.std.specs.Prelude.{is_some, IsSome}
 use Rattle.std.specs.Option.{option_map}
 use Rattle.cnf_base.specs.Literals.{Literal}
@@ -8,7 +8,7 @@ use Rattle.smt_terms.specs.declared.node.Node.{Node}
 use Rattle.smt_terms.specs.Nodes.{node_at}
 use Rattle.smt_terms.specs.Terms.{TermsValue, sort_of}
 use Rattle.smt_terms.specs.Bits.{bits_in}
-use Rattle.bit_blast.specs.Blocks.{Block, block_of}
+use Rattle.bit_blast.specs.Blocks.{block_of}
 use Rattle.proof_log.specs.declared.entry.Entry.{Entry}
 use Rattle.proof_log.specs.declared.entry.Entry.TheVariants as step
 use Rattle.proof_log.specs.Logs.{Asserted, constant_width, state_of}
@@ -17,7 +17,7 @@ use Rattle.proof_log.specs.Stored.{LogValue, IsKept, Stands, IsPushed, selector_
 use Rattle.proof_log.proofs.Growing.{each_append}
 use Rattle.proof_log.proofs.Standing.{stands_over}
 use Rattle.proof_text.specs.Entries.{entry_line}
-use Rattle.smt_session.specs.Growing.{AreLined, Grows}
+use Rattle.smt_session.specs.Growing.{Grows}
 
 pub some_value : {A : Type 0} (o : Option A) → IsSome o → (x : A) × (o ≡ Some x)
 some_value None h = let f : ⊥ = cc in absurd f

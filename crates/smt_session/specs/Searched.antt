@@ -1,5 +1,5 @@
 -- What a search over a log has and answers.
-use Rattle.std.specs.Prelude.{◌≡◌, ℕ, suc, List, ◌++◌, Some, All, length}
+use Rattle.std.specs.Prelude.{◌≡◌, suc, List, Some, All, length}
 use Rattle.cnf_base.specs.Literals.{Literal}
 use Rattle.cnf_base.specs.Assignments.{AreBelow}
 use Rattle.plain_search.specs.declared.Held.{Held}

@@ -88,12 +88,7 @@ fn has_circuit(node: &Node, bits: &Bits) -> bool
 }
 
 /// Gives a term bits, unless it has them: false where there is no step for it.
-fn encode(
-    alloc: Global,
-    terms: &Terms,
-    log: &mut Log,
-    term: TermId,
-) -> Result<bool, AllocError>
+fn encode(alloc: Global, terms: &Terms, log: &mut Log, term: TermId) -> Result<bool, AllocError>
     requires held { term < length terms.now.nodes }
     requires stands { Stands terms.now.nodes log.old }
     ensures { IfOk result (λ _. Grows terms.now.nodes log.old log.new) }
@@ -133,12 +128,7 @@ pub(crate) fn encode_all(
 }
 
 /// Gives an assertion a selector, unless it has one: false where its term is no bit.
-fn select(
-    alloc: Global,
-    terms: &Terms,
-    log: &mut Log,
-    assertion: &Live,
-) -> Result<bool, AllocError>
+fn select(alloc: Global, terms: &Terms, log: &mut Log, assertion: &Live) -> Result<bool, AllocError>
     requires truth { IsHeldTruth terms.now.nodes assertion.now }
     requires stands { Stands terms.now.nodes log.old }
     ensures { IfOk result (λ _. Grows terms.now.nodes log.old log.new) }
@@ -157,11 +147,7 @@ fn select(
 }
 
 /// The selectors of the live assertions, where each has one.
-fn selectors(
-    alloc: Global,
-    log: &Log,
-    live: &[Live],
-) -> Result<Option<Vec<Lit>>, AllocError>
+fn selectors(alloc: Global, log: &Log, live: &[Live]) -> Result<Option<Vec<Lit>>, AllocError>
     ensures { IfOk result (λ o. IfSome o (λ given. AreSelectors log.now live.now given.items)) }
 {
     let mut given = Vec::new(alloc);

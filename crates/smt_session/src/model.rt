@@ -21,11 +21,7 @@ fn is_true(values: &[bool], literal: Lit) -> bool {
         Some(value) => *value,
         None => false,
     };
-    if literal.is_positive() {
-        value
-    } else {
-        !value
-    }
+    if literal.is_positive() { value } else { !value }
 }
 
 /// The number whose low bits are the values of the literals, the lowest first.
@@ -90,7 +86,10 @@ fn value(
         return None;
     }
     let sort = signature.value;
-    value_of(sort, constant_number(alloc, state.terms(), log, values, declaration, sort))
+    value_of(
+        sort,
+        constant_number(alloc, state.terms(), log, values, declaration, sort),
+    )
 }
 
 /// The values of the live declarations; nothing where one of them is no constant of a Bool or a word.

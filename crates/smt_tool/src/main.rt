@@ -18,9 +18,8 @@ use command_line::plan;
 use running::run;
 use smt_desk::files::{FileSink, FileSource, StandardInput, StandardOutput};
 use status::Status;
-use std::env;
-use std::io;
 use std::process::ExitCode;
+use std::{env, io};
 
 // The number of a status.
 fn exit_code(status: Status) -> ExitCode {

@@ -1,4 +1,4 @@
-use Rattle.std.proofs.Common.{◌≡◌, Option, None, sym, ◌∙◌, subst}
+use Rattle.std.proofs.Common.{◌≡◌, None, sym, ◌∙◌, subst}
 use Rattle.std.specs.Prelude.{IsSome}
 use Rattle.std.specs.Option.{option_copied}
 use Rattle.smt_terms.specs.Bits.{bits_in}
@@ -20,4 +20,4 @@ push-requires-then-has_circuit-clause-valid c =
     none_mapped _ c.of.result _ (subst (λ b. option_copied c.of.result ≡ bits_in b c.args.term) c.bits.ensures c.of.ensures) (sym c.is_some.ensures ∙ c.if-is_some.false) in
     encode_valid c.args.terms.now c.args.log.now c.args.term c.requires.stands c.requires.held new
     (subst (λ n. IsSome (block_of c.args.log.now.next (bits_in c.args.log.now.bits) n)) c.node-node.ensures.node
-      (subst (λ b. IsSome (block_of c.args.log.now.next (bits_in b) c.node-node.result.now)) c.bits-2.ensures (c.has_circuit.ensures c.if-has_circuit.true c.args.log.now.next)))
+    (subst (λ b. IsSome (block_of c.args.log.now.next (bits_in b) c.node-node.result.now)) c.bits-2.ensures (c.has_circuit.ensures c.if-has_circuit.true c.args.log.now.next)))

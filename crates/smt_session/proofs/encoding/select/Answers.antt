@@ -1,4 +1,4 @@
-use Rattle.std.proofs.Common.{◌≡◌, [], ◌∷◌, Some, sym, ap, ◌∙◌, subst}
+use Rattle.std.proofs.Common.{◌≡◌, Some, sym, ap, ◌∙◌, subst}
 use Rattle.smt_terms.specs.Bits.{bits_in}
 use Rattle.smt_session.proofs.Stepping.{none_is, one_of, select_valid}
 use Rattle.smt_session.proofs.encoding.select.Goals as goal

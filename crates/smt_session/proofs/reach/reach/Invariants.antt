@@ -1,4 +1,4 @@
-use Rattle.std.proofs.Common.{◌<◌, ◌≤◌, length}
+use Rattle.std.proofs.Common.{◌<◌, length}
 use Rattle.std.specs.Prelude.{All}
 use Rattle.smt_session.proofs.reach.reach.Given as goal
 
