@@ -160,10 +160,10 @@ fn a_file_is_read_whole_or_to_its_first_fault(rt: HostRuntime) -> Result<(), Fai
     pieces.push(Text::from_slice(alloc, b"0\n")?)?;
     let read = lines(alloc, pieces.as_slice())?;
     assert!(rt;
-        matches!(read, Ok(found) if matches!(found.as_slice(), [Line::Encode(0), Line::Selector(0)]))
+        matches!(&read, Ok(found) if matches!(found.as_slice(), [Line::Encode(0), Line::Selector(0)]))
     );
     pieces.push(Text::from_slice(alloc, b"e x\ne y\n")?)?;
     let stopped = lines(alloc, pieces.as_slice())?;
-    assert!(rt; matches!(stopped, Err(LineFault { line: 3 })));
+    assert!(rt; matches!(&stopped, Err(LineFault { line: 3 })));
     Ok(())
 }
