@@ -23,8 +23,37 @@ fn apply_as(
     Ok(state.apply(rt.alloc(), &chunk)?)
 }
 
-fn apply(rt: &(impl Abort + AllocGlobal), state: &mut State, text: &[u8]) -> Result<Answer, Fail> {
-    apply_as(rt, state, ChunkKind::Balanced, text)
+/// Each command is answered so.
+fn obey(
+    rt: &(impl Abort + AllocGlobal),
+    state: &mut State,
+    script: &[(&[u8], Answer)],
+) -> Result<(), Fail> {
+    for (text, answer) in script {
+        assert_eq!(rt; apply_as(rt, state, ChunkKind::Balanced, text)?, *answer);
+    }
+    Ok(())
+}
+
+/// Each command is refused.
+fn refuse(
+    rt: &(impl Abort + AllocGlobal),
+    state: &mut State,
+    commands: &[&[u8]],
+) -> Result<(), Fail> {
+    for text in commands {
+        assert_eq!(rt; apply_as(rt, state, ChunkKind::Balanced, text)?, REFUSED);
+    }
+    Ok(())
+}
+
+/// How many declarations, assertions and terms there are.
+fn counts(state: &State) -> (usize, usize, u32) {
+    (
+        state.declared().len(),
+        state.live().len(),
+        state.terms().len(),
+    )
 }
 
 /// A sum and a conjunction of two words of width 8; then the two are equal.
@@ -72,13 +101,9 @@ fn refused_commands() -> &'static [&'static [u8]] {
 #[test]
 fn the_first_script_is_done(rt: HostRuntime) -> Result<(), Fail> {
     let mut state = State::new(rt.alloc());
-    for (text, answer) in first_script() {
-        assert_eq!(rt; apply(&rt, &mut state, text)?, *answer);
-    }
-    assert_eq!(rt; state.declared().len(), 2);
-    assert_eq!(rt; state.live().len(), 4);
+    obey(&rt, &mut state, first_script())?;
     // x, y, their sum, #x0f, the equality; #xf0, the conjunction, the negation, the equality; #x1f, the equality; x = y
-    assert_eq!(rt; state.terms().len(), 12);
+    assert_eq!(rt; counts(&state), (2, 4, 12));
     let mut asserted = Vec::new(rt.alloc());
     for live in state.live() {
         asserted.push(live.term)?;
@@ -90,57 +115,45 @@ fn the_first_script_is_done(rt: HostRuntime) -> Result<(), Fail> {
 #[test]
 fn what_is_not_supported_is_refused_and_forgotten(rt: HostRuntime) -> Result<(), Fail> {
     let mut state = State::new(rt.alloc());
-    assert_eq!(rt;
-        apply(&rt, &mut state, b"(declare-const x (_ BitVec 8))")?,
-        Answer::Done
-    );
-    assert_eq!(rt;
-        apply(&rt, &mut state, b"(assert (= x #x01))")?,
-        Answer::Done
-    );
-    let terms = state.terms().len();
-    for text in refused_commands() {
-        assert_eq!(rt; apply(&rt, &mut state, text)?, REFUSED);
-        assert_eq!(rt; state.terms().len(), terms);
-        assert_eq!(rt; state.live().len(), 1);
-        assert_eq!(rt; state.declared().len(), 1);
-    }
-    assert_eq!(rt; apply(&rt, &mut state, b"(check-sat)")?, Answer::Check);
+    obey(
+        &rt,
+        &mut state,
+        &[
+            (b"(declare-const x (_ BitVec 8))", Answer::Done),
+            (b"(assert (= x #x01))", Answer::Done),
+        ],
+    )?;
+    let before = counts(&state);
+    refuse(&rt, &mut state, refused_commands())?;
+    assert_eq!(rt; counts(&state), before);
     Ok(())
 }
 
 #[test]
 fn text_that_is_no_command_is_refused(rt: HostRuntime) -> Result<(), Fail> {
     let mut state = State::new(rt.alloc());
-    assert_eq!(rt;
-        apply_as(&rt, &mut state, ChunkKind::Unfinished, b"(check-sat")?,
-        REFUSED
-    );
-    assert_eq!(rt; apply_as(&rt, &mut state, ChunkKind::Stray, b")")?, REFUSED);
-    assert_eq!(rt;
-        apply_as(&rt, &mut state, ChunkKind::Stray, b"check-sat")?,
-        REFUSED
-    );
+    let unfinished = apply_as(&rt, &mut state, ChunkKind::Unfinished, b"(check-sat")?;
+    assert_eq!(rt; unfinished, REFUSED);
+    let stray = apply_as(&rt, &mut state, ChunkKind::Stray, b"check-sat")?;
+    assert_eq!(rt; stray, REFUSED);
     Ok(())
 }
 
 #[test]
 fn a_check_stands_until_the_next_accepted_command(rt: HostRuntime) -> Result<(), Fail> {
     let mut state = State::new(rt.alloc());
-    assert_eq!(rt;
-        apply(&rt, &mut state, b"(declare-const x (_ BitVec 1))")?,
-        Answer::Done
-    );
-    assert_eq!(rt; apply(&rt, &mut state, b"(check-sat)")?, Answer::Check);
-    assert_eq!(rt; state.standing(), None);
+    obey(
+        &rt,
+        &mut state,
+        &[
+            (b"(declare-const x (_ BitVec 1))", Answer::Done),
+            (b"(check-sat)", Answer::Check),
+        ],
+    )?;
     state.conclude(Verdict::Sat);
+    refuse(&rt, &mut state, &[b"(assert x)"])?;
     assert_eq!(rt; state.standing(), Some(Verdict::Sat));
-    assert_eq!(rt; apply(&rt, &mut state, b"(assert x)")?, REFUSED);
-    assert_eq!(rt; state.standing(), Some(Verdict::Sat));
-    assert_eq!(rt;
-        apply(&rt, &mut state, b"(assert (= x #b1))")?,
-        Answer::Done
-    );
+    obey(&rt, &mut state, &[(b"(assert (= x #b1))", Answer::Done)])?;
     assert_eq!(rt; state.standing(), None);
     Ok(())
 }
@@ -148,16 +161,16 @@ fn a_check_stands_until_the_next_accepted_command(rt: HostRuntime) -> Result<(),
 #[test]
 fn widths_are_1_to_128(rt: HostRuntime) -> Result<(), Fail> {
     let mut state = State::new(rt.alloc());
-    assert_eq!(rt;
-        apply(&rt, &mut state, b"(declare-const a (_ BitVec 1))")?,
-        Answer::Done
-    );
-    assert_eq!(rt;
-        apply(&rt, &mut state, b"(declare-const b (_ BitVec 128))")?,
-        Answer::Done
-    );
-    assert_eq!(rt; apply(&rt, &mut state, b"(assert (= a b))")?, REFUSED);
-    assert_eq!(rt; state.terms().len(), 0);
+    obey(
+        &rt,
+        &mut state,
+        &[
+            (b"(declare-const a (_ BitVec 1))", Answer::Done),
+            (b"(declare-const b (_ BitVec 128))", Answer::Done),
+            (b"(assert (= a b))", REFUSED),
+        ],
+    )?;
+    assert_eq!(rt; counts(&state), (2, 0, 0));
     Ok(())
 }
 
