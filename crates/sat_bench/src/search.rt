@@ -1,14 +1,16 @@
 //! A search by decisions and unit propagation alone: at a conflict it goes back one level and decides the opposite literal
 //! (M. Davis, G. Logemann and D. Loveland, "A machine program for theorem-proving", 1962).
 
-ghost use Rattle.std.specs.Prelude.{◌≡◌, ◌<◌, ◌≤◌, ◌^◌, IfSome};
+ghost use Rattle.std.specs.Prelude.{◌≡◌, ◌<◌, ◌≤◌, ◌^◌, IfOk, OnOk, IfSome};
 ghost use Rattle.cnf_base.specs.Literals.{code_of};
 ghost use Rattle.cdcl_core.specs.Levels.{IsOpen};
 ghost use Rattle.cdcl_core.specs.Search.{literals_of, level_of, rows_of};
 ghost use Rattle.cdcl_core.specs.State.{IsSettled, IsConsistent};
+ghost use Rattle.cdcl_learn.specs.Rows.{AreDecidedFirst};
 ghost use Rattle.sat_bench.specs.Names.{AreFresh, HasRows};
 
 use crate::dimacs::Number;
+use crate::log::Log;
 use cdcl_core::{Trail, Watches};
 use cnf_base::{Clause, ClauseId, Lit};
 use std::alloc::{AllocError, Global};
@@ -21,12 +23,39 @@ pub struct Counts {
     pub propagations: u64,
 }
 
+impl Counts {
+    /// Nothing was done.
+    pub const fn new() -> Counts {
+        Counts {
+            conflicts: 0,
+            decisions: 0,
+            propagations: 0,
+        }
+    }
+
+    /// Counts the literals by which the trail grew.
+    pub fn propagate(&mut self, before: u64, now: u64) {
+        self.propagations = self.propagations.wrapping_add(now.wrapping_sub(before));
+    }
+}
+
 /// How the search ended.
 #[derive(Clone, Copy)]
 pub enum Answer {
     Satisfiable,
     Unsatisfiable,
     Unknown,
+}
+
+impl Answer {
+    /// As solvers print it.
+    pub const fn text(self) -> &'static str {
+        match self {
+            Answer::Satisfiable => "s SATISFIABLE",
+            Answer::Unsatisfiable => "s UNSATISFIABLE",
+            Answer::Unknown => "s UNKNOWN",
+        }
+    }
 }
 
 /// What was decided at a level.
@@ -36,25 +65,33 @@ pub struct Decision {
     flipped: bool,
 }
 
-// Holds the clauses, named by their places from 1 on.
+// Holds the clauses, named by their places from 1 on, and puts them into the log where `logs` is true: the next free place.
 pub fn load(
     alloc: Global,
     watches: &mut Watches,
     trail: &mut Trail,
+    log: &mut Log,
+    logs: bool,
     numbers: &[Number],
-) -> Result<(), AllocError>
+) -> Result<u64, AllocError>
     requires settled { IsSettled watches.old trail.old }
     requires fresh { AreFresh watches.old 1 }
     requires level { level_of trail.old ≡ 0 }
+    requires decided { AreDecidedFirst (literals_of trail.old) }
     ensures settled { IsSettled watches.new trail.new }
     ensures rows { rows_of trail.old ≤ rows_of trail.new }
     ensures level { level_of trail.new ≡ 0 }
+    ensures decided { OnOk result (AreDecidedFirst (literals_of trail.new)) }
+    ensures fresh { IfOk result (λ pos. AreFresh watches.new pos) }
 {
     let mut literals: Vec<Lit> = Vec::new(alloc);
     let mut pos = 1;
     for number in numbers {
         if number.variable == 0 {
             let clause = Clause::from_literals(alloc, literals.as_slice())?;
+            if logs {
+                log.give(&clause)?;
+            }
             watches.add(trail, ClauseId { pos, part: 0 }, clause)?;
             pos += 1;
             literals.clear();
@@ -62,7 +99,25 @@ pub fn load(
             literals.push(Lit::new(u64::from(number.variable), number.positive))?;
         }
     }
-    Ok(())
+    Ok(pos)
+}
+
+/// Whether every clause has a true literal.
+pub fn is_model(trail: &Trail, numbers: &[Number]) -> bool
+    requires { IsConsistent trail.now }
+{
+    let mut satisfied = false;
+    for number in numbers {
+        if number.variable == 0 {
+            if !satisfied {
+                return false;
+            }
+            satisfied = false;
+        } else if trail.value(Lit::new(u64::from(number.variable), number.positive)) == Some(true) {
+            satisfied = true;
+        }
+    }
+    true
 }
 
 // An open literal of a variable from `start` to `end`, and the variable.
@@ -129,18 +184,11 @@ pub fn search(
     requires variables { variables < 2 ^ 32 }
     requires rows { HasRows trail.old variables }
 {
-    let mut counts = Counts {
-        conflicts: 0,
-        decisions: 0,
-        propagations: 0,
-    };
+    let mut counts = Counts::new();
     let mut before = 0;
     for _ in 0..u64::MAX {
         let conflict = watches.propagate(trail);
-        let now = trail.literals().len();
-        counts.propagations = counts
-            .propagations
-            .wrapping_add((now as u64).wrapping_sub(before));
+        counts.propagate(before, trail.literals().len() as u64);
         match conflict {
             Some(_) => {
                 counts.conflicts = counts.conflicts.wrapping_add(1);
