@@ -92,7 +92,7 @@ fn the_first_unique_literal_is_learnt(rt: HostRuntime) -> Result<(), Fail> {
         return Err(Fail::from("no decision"));
     }
     let (clause, hints, level) = learn(rt.alloc(), &watches, &trail, id)?;
-    assert_eq!(rt; clause.literals(), [no(1), no(2)].as_slice());
+    assert_eq!(rt; clause.literals(), [no(2), no(1)].as_slice());
     assert_eq!(rt; level, 1);
     assert_eq!(rt; hints.len(), 4);
     Ok(())
@@ -106,7 +106,7 @@ fn the_last_clause_has_decisions_alone(rt: HostRuntime) -> Result<(), Fail> {
         return Err(Fail::from("no conflict"));
     };
     let (clause, hints) = final_clause(rt.alloc(), &watches, &trail, Clash::Held(id))?;
-    assert_eq!(rt; clause.literals(), [no(1), no(5)].as_slice());
+    assert_eq!(rt; clause.literals(), [no(5), no(1)].as_slice());
     assert_eq!(rt; hints.len(), 5);
     Ok(())
 }
@@ -125,7 +125,7 @@ fn a_given_literal_is_refuted(rt: HostRuntime) -> Result<(), Fail> {
         return Err(Fail::from("it is not false"));
     };
     let (clause, hints) = final_clause(rt.alloc(), &watches, &trail, Clash::Given(given))?;
-    assert_eq!(rt; clause.literals(), [no(1), no(7)].as_slice());
+    assert_eq!(rt; clause.literals(), [no(7), no(1)].as_slice());
     assert_eq!(rt; hints.len(), 2);
     Ok(())
 }

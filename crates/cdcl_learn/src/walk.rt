@@ -230,7 +230,8 @@ impl Walk {
         Ok(())
     }
 
-    /// The opposites of the marked literals.
+    /// The opposites of the marked literals, those that became true last first: they are open first after the search went back,
+    /// and the scan for a literal to watch begins with them.
     pub(crate) fn clause(&self, alloc: Global, rows: &[Row]) -> Result<Clause, AllocError>
         requires { length self.now.marks.items ≡ length rows.now }
         ensures each { IfOk result (λ c. (p : ℕ) → p < length rows.now → IsSet self.now.marks.items p → Contains c (negated (literal_at rows.now p))) }
@@ -242,6 +243,7 @@ impl Walk {
                 literals.push(rows[i].0.negated())?;
             }
         }
+        literals.reverse();
         Ok(Clause::from_vec(literals))
     }
 

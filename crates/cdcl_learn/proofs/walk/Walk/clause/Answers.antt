@@ -1,5 +1,6 @@
-use Rattle.std.proofs.Common.{length, get_or, false, ◌≡◌, ◌∙◌, sym, ap, arith}
+use Rattle.std.proofs.Common.{length, reverse, get_or, false, Contains, ◌≡◌, ◌∙◌, sym, ap, arith}
 use Rattle.std.proofs.lemmas.List.{get_or_default}
+use Rattle.std.proofs.lemmas.List.Sorted.{Contains-permutation, IsPermutation-reverse, IsPermutation-sym}
 use Rattle.cnf_base.specs.Literals.{negated}
 use Rattle.cdcl_core.specs.Levels.{Row}
 use Rattle.cdcl_core.specs.State.{no_row}
@@ -18,7 +19,13 @@ loop-i-preserved c =
       | else-index w ↦ rw w.literals-is (skip_collected c.args.rows.now c.args.self.now.marks.items c.loop-i.literals.items c.loop-i.i (λ s. unset c.index.result.now w.if-index.false (read ∙ s)) c.loop-i.invariant)
     ]
 
+pub returns-clause-each : goal.returns-clause-each
+returns-clause-each c = λ p h s.
+    rw (c.from_vec.ensures, c.reverse.ensures.items) (Contains-permutation c.loop-i.literals.items (reverse c.loop-i.literals.items) _ (IsPermutation-reverse c.loop-i.literals.items)
+    (c.loop-i.invariant.each p (omega (arith, h, c.loop-i.auto.i-end, c.loop-i-test.false)) s))
+
 pub returns-clause-only : goal.returns-clause-only
 returns-clause-only c = λ l h.
-    let o = c.loop-i.invariant.only l (rw c.from_vec.ensures at h) in
+    let back : Contains (reverse c.loop-i.literals.items) l = rw (c.from_vec.ensures, c.reverse.ensures.items) at h in
+    let o = c.loop-i.invariant.only l (Contains-permutation (reverse c.loop-i.literals.items) c.loop-i.literals.items l (IsPermutation-sym c.loop-i.literals.items (reverse c.loop-i.literals.items) (IsPermutation-reverse c.loop-i.literals.items)) back) in
     (o.0, (omega (arith, o.1.0, c.loop-i.auto.i-end), (o.1.1.0, o.1.1.1)))
