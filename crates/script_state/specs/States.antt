@@ -1,11 +1,14 @@
 -- The state of a session (SMT-LIB 2.6, section 4.1).
-use Rattle.std.specs.Prelude.{◌≡◌, ◌<◌, ◌^◌, length, All, Option, Some, None}
+use Rattle.std.specs.Prelude.{◌≡◌, ℕ, ◌<◌, ◌^◌, true, [], length, slice_get, All, Option, Some, None}
 use Rattle.smt_terms.specs.declared.sort.Sort.TheVariants as sort
-use Rattle.smt_terms.specs.Terms.{TermsValue, no_terms, sort_of}
+use Rattle.smt_terms.specs.declared.sort.Signature.{Signature}
+use Rattle.smt_terms.specs.Terms.{TermsValue, IsTermList, no_terms, sort_of}
 use Rattle.scope_selectors.specs.declared.live.Live.{Live}
-use Rattle.scope_selectors.specs.Scopes.{ScopesValue, no_scopes}
+use Rattle.scope_selectors.specs.Scopes.{ScopesValue, AreScopes, no_scopes}
 use Rattle.smt_build.specs.Names.{SymbolsValue, AreDeclared, no_symbols}
+use Rattle.smt_build.specs.declared.symbols.LiveName.{LiveName}
 use Rattle.script_state.specs.declared.answer.Verdict.{Verdict}
+use Rattle.script_state.specs.Plain.{is_plain, is_plain_sort}
 
 -- the names and declarations, the terms, the levels with their assertions, and the verdict of the check that stands
 pub record StateValue : Type 0 where
@@ -14,11 +17,27 @@ pub record StateValue : Type 0 where
   pub scopes : ScopesValue
   pub standing : Option Verdict
 
--- the terms name declarations as they were made, and each live assertion is a term of sort Bool
+-- each declaration that was made is live
+pub record AreAllLive (v : SymbolsValue) : Type 0 where
+  pub count : length v.live ≡ length v.signatures
+  pub each : (k : ℕ) (l : LiveName) → slice_get v.live k ≡ Some l → l.declaration ≡ k
+
+-- the signature of a constant that is a Bool or a word
+pub record IsPlainConstant (s : Signature) : Type 0 where
+  pub constant : s.args ≡ []
+  pub sort : is_plain_sort s.value ≡ true
+
+-- The terms are a list of well-sorted terms and name declarations as they were made, which are constants and live; each
+-- live assertion is a plain term of sort Bool.
 pub record IsState (v : StateValue) : Type 0 where
+  pub terms : IsTermList v.terms.nodes
+  pub scopes : AreScopes v.scopes
+  pub live : AreAllLive v.symbols
+  pub constants : All IsPlainConstant v.symbols.signatures
   pub declared : AreDeclared v.symbols.signatures v.terms.nodes
   pub held : All (λ (a : Live). a.term < length v.terms.nodes) v.scopes.live
   pub truths : All (λ (a : Live). sort_of v.terms.nodes a.term ≡ sort.Bool) v.scopes.live
+  pub plain : All (λ (a : Live). is_plain v.terms.nodes a.term ≡ true) v.scopes.live
 
 -- nothing declared, no terms, nothing asserted, and no check that stands
 abbrev pub no_state : StateValue
