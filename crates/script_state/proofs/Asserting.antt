@@ -1,5 +1,5 @@
 -- What stays a state.
-use Rattle.std.proofs.Common.{◌≡◌, ℕ, ◌<◌, ◌≤◌, ◌∙◌, Bool, true, false, refl, length, get_or, ap, sym, arith, length-append, Ok, None, Option}
+use Rattle.std.proofs.Common.{◌≡◌, ℕ, ◌<◌, ◌≤◌, ◌∙◌, Bool, true, false, refl, length, get_or, ap, arith, length-append, Ok, None, Option}
 use Rattle.std.specs.Prelude.{◌&&◌, All}
 use Rattle.std.proofs.lemmas.List.Elements.{All-push}
 use Rattle.smt_text.specs.declared.token.CommandName.{CommandName}

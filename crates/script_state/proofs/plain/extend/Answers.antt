@@ -1,4 +1,4 @@
-use Rattle.std.proofs.Common.{◌≡◌, ◌+◌, ap, arith, length-append}
+use Rattle.std.proofs.Common.{arith, length-append}
 use Rattle.script_state.proofs.Marking.{PlainSoFar, plain_more}
 use Rattle.script_state.proofs.plain.extend.Goals as goal
 

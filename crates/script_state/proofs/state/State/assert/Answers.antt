@@ -1,4 +1,4 @@
-use Rattle.std.proofs.Common.{◌≡◌, true, rules, sym, ◌∙◌}
+use Rattle.std.proofs.Common.{◌≡◌, true, sym, ◌∙◌}
 use Rattle.script_state.specs.States.{StateValue}
 use Rattle.script_state.proofs.Held.{term_is_built}
 use Rattle.script_state.proofs.Marking.{plain_grows}
