@@ -139,13 +139,13 @@ fn count(bytes: &[u8], word: &[u8]) -> usize {
 fn each_call_of_each_stream_fails_in_turn(rt: HostRuntime) {
     let alloc = rt.alloc();
     let (_, all_answers, all_proof) = run_bytewise(alloc, &[], &[], &[]);
-    // The stream, its last call, and the status where a call of it fails.
-    for (stream, last, stopped) in [
-        (0u8, 194u64, Status::ReadFault),
-        (1u8, 9u64, Status::WriteFault),
-        (2u8, 9u64, Status::WriteFault),
+    // The stream, how many calls a whole run makes of it, and the status where one of them fails.
+    for (stream, calls, stopped) in [
+        (0u8, 195u64, Status::ReadFault),
+        (1u8, 10u64, Status::WriteFault),
+        (2u8, 5u64, Status::WriteFault),
     ] {
-        for call in 0..last + 2 {
+        for call in 0..=calls {
             let failing = [call];
             let reads: &[u64] = if stream == 0 { &failing } else { &[] };
             let answering: &[u64] = if stream == 1 { &failing } else { &[] };
@@ -156,7 +156,7 @@ fn each_call_of_each_stream_fails_in_turn(rt: HostRuntime) {
                 && all_answers.starts_with(&answers)
                 && all_proof.starts_with(&proof)
                 && count(&answers, b"\n") <= count(&proof, b"sat ");
-            let right = if call > last { whole } else { front };
+            let right = if call < calls { front } else { whole };
             assert!(rt; right, "stream {stream}, call {call}");
         }
     }
