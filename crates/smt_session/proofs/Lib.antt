@@ -1,4 +1,6 @@
-pub mod Stepping
-pub mod Longer
+pub mod Marking
+pub mod Staying
+pub mod Validity
 pub mod Chains
-pub mod PairLemmas
+pub mod Turning
+pub mod Longer

@@ -1,6 +1,6 @@
 -- The terms that stand before a command stand behind it.
-use Rattle.std.proofs.Common.{◌≡◌, ℕ, ◌*◌, Bool, true, false, List, [], ◌∷◌, ◌++◌, length, refl, sym, ap, ◌∙◌, subst, append_assoc, append-nil, Option, Some, None, Result, Ok, Err}
-use Rattle.std.specs.Prelude.{nat_le, nat_lt, position, slice_get, if◌then◌else◌}
+use Rattle.std.proofs.Common.{◌≡◌, ℕ, zero, suc, ◌*◌, Bool, true, false, List, [], ◌∷◌, ◌++◌, length, refl, sym, ap, ◌∙◌, subst, append_assoc, append-nil, Option, Some, None, Result, Ok, Err}
+use Rattle.std.specs.Prelude.{nat_le, nat_lt, position, slice_get, ◌&&◌, if◌then◌else◌}
 use Rattle.smt_text.specs.declared.token.TokenKind.{TokenKind}
 use Rattle.smt_text.specs.declared.token.TokenKind.TheVariants as kind
 use Rattle.smt_syntax.specs.Sexps.{Sexp, Sexps, atom, group, none, more}
@@ -25,8 +25,6 @@ use Rattle.smt_build.specs.Operators.{operator_named, is_left_out}
 use Rattle.smt_build.specs.Names.{SymbolsValue, declaration_of}
 use Rattle.smt_build.specs.Building.{Built, as_built, made, constant, declared_at, declared, applied, symbol_by, symbol_term, word_term, application_by, application}
 use Rattle.smt_build.specs.Terms.{term_of, args_of}
-use Rattle.std.specs.declared.alloc.AllocError.{AllocError}
-use Rattle.smt_text.specs.declared.chunk.Chunk.{Chunk}
 use Rattle.smt_text.specs.declared.token.CommandName.{CommandName}
 use Rattle.smt_text.specs.declared.token.CommandName.TheVariants as name
 use Rattle.smt_syntax.specs.declared.command.SyntaxFault.{SyntaxFault}
@@ -36,10 +34,14 @@ use Rattle.script_state.specs.declared.answer.Answer.{Answer}
 use Rattle.script_state.specs.States.{StateValue}
 use Rattle.proof_log.specs.Stored.{LogValue, Stands}
 use Rattle.proof_log.proofs.Standing.{stands_longer}
-use Rattle.smt_session.specs.declared.response.Response.{Response}
-use Rattle.smt_session.specs.Responses.{Responds}
-use Rattle.smt_session.specs.Sessions.{SessionValue, IsAnswered}
-use Rattle.script_state.specs.Steps.{Step, refuse, declaring, asserting, obey, obey_read, step, Applies as AppliesTo}
+use Rattle.proof_log.specs.declared.entry.Entry.{Entry}
+use Rattle.proof_log.specs.declared.entry.Entry.TheVariants as entry
+use Rattle.proof_log.specs.Faults.{MakesNoTerm}
+use Rattle.accepted_proof.specs.Turns.{IsOfScript}
+use Rattle.script_state.specs.Plain.{is_plain}
+use Rattle.script_state.specs.Steps.{Step, refuse, declaring, asserting, obey, obey_read, step}
+use Rattle.smt_session.specs.Growing.{AreStepsFor}
+use Rattle.smt_session.specs.Sessions.{SessionValue, IsSession}
 
 -- more terms may stand behind them
 abbrev pub Longer : TermsValue → TermsValue → Type 0
@@ -161,22 +163,30 @@ module _ (symbols : SymbolsValue) where
 
 -- ---- steps
 
-abbrev StepsLonger : StateValue → Step → Type 0
-StepsLonger s to = Longer s.terms to.1.terms
+-- more assertions may have been made
+abbrev pub MoreMade : StateValue → StateValue → Type 0
+MoreMade s r = (behind : List ℕ) × (r.scopes.terms ≡ s.scopes.terms ++ behind)
+
+record StepsLonger (s : StateValue) (to : Step) : Type 0 where
+  pub terms : Longer s.terms to.1.terms
+  pub made : MoreMade s to.1
+
+none_made : (s r : StateValue) → r.scopes.terms ≡ s.scopes.terms → MoreMade s r
+none_made s r e = ([], e ∙ sym (append-nil s.scopes.terms))
 
 longer_refuse : (s : StateValue) → StepsLonger s (refuse s)
-longer_refuse s = longer_none s.terms
+longer_refuse s = record { terms = longer_none s.terms; made = none_made s s refl }
 
 longer_declaring : (s : StateValue) (d : Declaration) → StepsLonger s (declaring s d)
-longer_declaring s (Ok d) = longer_none s.terms
-longer_declaring s (Err f) = longer_none s.terms
+longer_declaring s (Ok d) = record { terms = longer_none s.terms; made = none_made s _ refl }
+longer_declaring s (Err f) = longer_refuse s
 
 longer_choice : (s : StateValue) (b : Bool) (x : Step) → StepsLonger s x → StepsLonger s (if b then x else refuse s)
 longer_choice s true x h = h
 longer_choice s false x h = longer_refuse s
 
 longer_asserting : (s : StateValue) (t : Built) → MakesLonger s.terms t → StepsLonger s (asserting s t)
-longer_asserting s (Ok t) h = longer_choice s (same_sort (sort_of t.1.nodes t.0) sort.Bool) _ h
+longer_asserting s (Ok t) h = longer_choice s (same_sort (sort_of t.1.nodes t.0) sort.Bool && is_plain t.1.nodes t.0) _ (record { terms = h; made = (t.0 ∷ [], refl) })
 longer_asserting s (Err f) h = longer_refuse s
 
 longer_command : (s : StateValue) (n : CommandName) (es : Sexps) → StepsLonger s (obey s n es)
@@ -185,7 +195,7 @@ longer_command s name.DeclareConst es = longer_declaring s (declare s.symbols na
 longer_command s name.Assert none = longer_refuse s
 longer_command s name.Assert (more e none) = longer_asserting s (term_of s.symbols s.terms e) (longer_term s.symbols s.terms e)
 longer_command s name.Assert (more e (more f es)) = longer_refuse s
-longer_command s name.CheckSat none = longer_none s.terms
+longer_command s name.CheckSat none = record { terms = longer_none s.terms; made = none_made s _ refl }
 longer_command s name.CheckSat (more e es) = longer_refuse s
 longer_command s _ es = longer_refuse s
 
@@ -197,16 +207,31 @@ longer_step : (s : StateValue) (es : Option Sexps) → StepsLonger s (step s es)
 longer_step s None = longer_refuse s
 longer_step s (Some es) = longer_reading s (read (group es))
 
--- a command makes terms behind those that stood, or none
-pub applied_longer : (chunk : Chunk) (r : Result Answer AllocError) (old new : StateValue) → AppliesTo chunk r old new → Longer old.terms new.terms
-applied_longer chunk (Ok a) old new h = subst (λ (to : Step). Longer old.terms to.1.terms) h.2 (longer_step old h.0)
-applied_longer chunk (Err e) old new h = subst (λ (s : StateValue). Longer old.terms s.terms) (sym h) (longer_none old.terms)
+-- a command makes terms and assertions behind those that stood, or none
+pub applied_longer : (old new : StateValue) (a : Answer) (es : Option Sexps) → ◌≡◌ {A = Step} (step old es) (a, new) → StepsLonger old (a, new)
+applied_longer old new a es e = subst (StepsLonger old) e (longer_step old es)
 
--- a log that stood over the terms before a command stands over those behind it
-pub still_stands : (new : StateValue) (log : LogValue) (old : StateValue) (chunk : Chunk) (r : Result Answer AllocError) → Stands old.terms.nodes log → AppliesTo chunk r old new → Stands new.terms.nodes log
-still_stands new log old chunk r h a =
-    let l = applied_longer chunk r old new a in
-    subst (λ ns. Stands ns log) (sym l.1) (stands_longer old.terms.nodes l.0 log h)
+made_more : (xs ys : List ℕ) (k x : ℕ) → slice_get xs k ≡ Some x → slice_get (xs ++ ys) k ≡ Some x
+made_more [] ys k x e = let q : ⊥ = cc in absurd q
+made_more (y ∷ xs) ys zero x e = e
+made_more (y ∷ xs) ys (suc k) x e = made_more xs ys k x e
 
-pub is_answered : (chunk : Chunk) (old new : SessionValue) (r : Response) (a : Answer) (mid : StateValue) → AppliesTo chunk (Ok a) old.state mid → Responds a chunk.line r mid new.state → IsAnswered chunk old new r
-is_answered chunk old new r a mid h k = record { answer = a; applied = mid; applies = h; responds = k }
+more_steps : (old new : StateValue) (es : List Entry) → MoreMade old new → AreStepsFor old es → AreStepsFor new es
+more_steps old new [] m h = tt
+more_steps old new (e ∷ es) m h = ((h.0.0, more_for e h.0.0 h.0.1), more_steps old new es m h.1)
+  where
+    more_for : (e : Entry) → MakesNoTerm e → IsOfScript old e → IsOfScript new e
+    more_for (entry.Node n) k i = absurd k
+    more_for (entry.Leaf t) k i = tt
+    more_for (entry.Encode t) k i = tt
+    more_for (entry.Selector a t) k i = ap (λ xs. slice_get xs a) m.1 ∙ made_more old.scopes.terms m.0 a t i
+    more_for (entry.Chain c hints) k i = tt
+
+-- what is a session before a command is one behind it
+pub still_session : (old new : StateValue) (log : LogValue) (a : Answer) (es : Option Sexps) → IsSession (record { state = old; log = log }) → ◌≡◌ {A = Step} (step old es) (a, new) → IsSession (record { state = new; log = log })
+still_session old new log a es h e =
+    let l = applied_longer old new a es e in
+    record {
+      stands = subst (λ ns. Stands ns log) (sym l.terms.1) (stands_longer old.terms.nodes l.terms.0 log h.stands);
+      each = more_steps old new log.entries l.made h.each;
+    }

@@ -1,5 +1,4 @@
 pub mod Growing
+pub mod Reaching
 pub mod Searched
-pub mod Responses
 pub mod Sessions
-pub mod Pairs

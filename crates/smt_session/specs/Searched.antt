@@ -1,5 +1,9 @@
 -- What a search over a log has and answers.
-use Rattle.std.specs.Prelude.{◌≡◌, suc, List, Some, All, length}
+use Rattle.std.specs.Prelude.{◌≡◌, ℕ, Bool, true, suc, List, Some, All, Contains, length}
+use Rattle.cnf_base.specs.Clauses.{lit_true, clause_true}
+use Rattle.cnf_base.specs.declared.clause.ClauseId.{ClauseId}
+use Rattle.smt_terms.specs.declared.node.Node.{Node}
+use Rattle.scope_selectors.specs.declared.live.Live.{Live}
 use Rattle.cnf_base.specs.Literals.{Literal}
 use Rattle.cnf_base.specs.Assignments.{AreBelow}
 use Rattle.plain_search.specs.declared.Held.{Held}
@@ -8,7 +12,7 @@ use Rattle.plain_search.specs.declared.Outcome.{Outcome}
 use Rattle.plain_search.specs.Searches.{AreChains, AreChainsBelow, IsOutcome}
 use Rattle.proof_log.specs.declared.entry.Entry.{Entry}
 use Rattle.proof_log.specs.declared.entry.Entry.TheVariants as step
-use Rattle.proof_log.specs.Logs.{clause_at}
+use Rattle.proof_log.specs.Logs.{Asserted, clause_at, state_of}
 use Rattle.proof_log.specs.Stored.{LogValue}
 
 -- a clause of the log, under its name, of variables that there are
@@ -20,6 +24,7 @@ pub record IsOfLog (log : LogValue) (h : Held) : Type 0 where
 pub record IsFound (log : LogValue) (given : List Literal) (found : Outcome) : Type 0 where
   pub held : List Held
   pub of_log : All (IsOfLog log) held
+  pub all : (id : ClauseId) (c : List Literal) → clause_at log.clauses id ≡ Some c → Contains held (record { id = id; clause = c })
   pub outcome : IsOutcome held given (suc (length log.entries)) log.next found
 
 -- learnt clauses that follow from clauses of the log, one after the other
@@ -32,3 +37,13 @@ pub record AreLearnt (log : LogValue) (chains : List Chain) : Type 0 where
 -- the step that adds a learnt clause
 abbrev pub chain_step : Chain → Entry
 chain_step c = step.Chain c.clause c.hints.items
+
+-- stub
+abbrev pub AreAllTrue : LogValue → (ℕ → Bool) → Type 0
+AreAllTrue log v = (id : ClauseId) (c : List Literal) → clause_at log.clauses id ≡ Some c → clause_true v c ≡ true
+
+pub record HasTrueSelector (nodes : List Node) (log : LogValue) (v : ℕ → Bool) (a : Live) : Type 0 where
+  pub selector : Asserted
+  pub made : (state_of nodes log.entries).selectors a.assertion ≡ Some selector
+  pub term : selector.term ≡ a.term
+  pub holds : lit_true v selector.literal ≡ true

@@ -4,7 +4,6 @@ ghost use Rattle.std.specs.Prelude.{◌≡◌, ◌++◌, All, IfOk, OnOk, map};
 ghost use Rattle.cnf_base.specs.Assignments.{AreBelow};
 ghost use Rattle.smt_terms.specs.Terms.{IsTermList};
 ghost use Rattle.proof_log.specs.Stored.{Stands};
-ghost use Rattle.smt_session.specs.Growing.{Grows};
 ghost use Rattle.smt_session.specs.Searched.{IsOfLog, IsFound, AreLearnt, chain_step};
 
 use cnf_base::{ClauseId, Lit, Pos};
@@ -88,7 +87,7 @@ pub(crate) fn push_chains(
 ) -> Result<(), AllocError>
     requires stands { Stands terms.now.nodes log.old }
     requires learnt { AreLearnt log.old chains.now }
-    ensures grows { OnOk result (Grows terms.now.nodes log.old log.new) }
+    ensures stands { OnOk result (Stands terms.now.nodes log.new) }
     ensures entries { OnOk result (log.new.entries ≡ log.old.entries ++ map chain_step chains.now) }
 {
     for chain in chains {
