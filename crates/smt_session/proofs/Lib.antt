@@ -1,4 +1,5 @@
 pub mod Stepping
 pub mod Longer
 pub mod Chains
+pub mod Holding
 pub mod PairLemmas
