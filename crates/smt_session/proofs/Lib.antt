@@ -2,5 +2,7 @@ pub mod Marking
 pub mod Staying
 pub mod Validity
 pub mod Chains
+pub mod Holding
 pub mod Turning
-pub mod Longer
+pub mod Going
+pub mod Printing

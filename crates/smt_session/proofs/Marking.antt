@@ -57,11 +57,11 @@ set_marks nodes marks t bound held plain are lt =
       };
       kept = λ u m. ⊎_elim (λ (e : u ≡ t). subst (λ x. IsMarked (set marks t true) x) (sym e) here) (λ (ne : u ≢ t). get_or-set_other marks t u true false ne ∙ m) (same_or_other u t);
       same = λ u le m. (let ne : u ≢ t = λ e. omega arith in sym (get_or-set_other marks t u true false ne) ∙ m);
-      given = All-from_recursion _ _ (here, tt);
+      given = All-from_recursion (IsMarked (set marks t true)) (t ∷ []) (here, tt);
     }
 
 pub marks_none : (nodes : List Node) (bound : ℕ) (marks : List Bool) → AreMarks nodes marks → Marks nodes bound marks marks []
-marks_none nodes bound marks are = record { marks = are; kept = λ t m. m; same = λ t le m. m; given = All-from_recursion _ _ tt }
+marks_none nodes bound marks are = record { marks = are; kept = λ t m. m; same = λ t le m. m; given = All-from_recursion (IsMarked marks) [] tt }
 
 -- one argument more
 pub marks_more : (nodes : List Node) (bound : ℕ) (old mid new : List Bool) (args : List ℕ) (k d : ℕ) → k < length args → Marks nodes bound old mid (take k args) → Marks nodes bound mid new (get_or args k d ∷ []) → Marks nodes bound old new (take (k + 1) args)

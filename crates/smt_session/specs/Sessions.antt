@@ -5,7 +5,7 @@ use Rattle.std.specs.Io.KnownBytes.{Appends}
 use Rattle.smt_text.specs.declared.chunk.Chunk.{Chunk}
 use Rattle.script_state.specs.declared.answer.Answer.{Answer}
 use Rattle.script_state.specs.Readings.{ReadsAs}
-use Rattle.script_state.specs.States.{StateValue}
+use Rattle.script_state.specs.States.{StateValue, IsState}
 use Rattle.proof_log.specs.declared.entry.Entry.{Entry}
 use Rattle.proof_log.specs.Stored.{LogValue, Stands}
 use Rattle.proof_text.specs.declared.record.Record.{Record}
@@ -20,8 +20,9 @@ pub record SessionValue : Type 0 where
   pub state : StateValue
   pub log : LogValue
 
--- the log stands over the terms of the commands, and its steps are for the script
+-- the commands left a state, the log stands over its terms, and the steps are for the script
 pub record IsSession (s : SessionValue) : Type 0 where
+  pub state : IsState s.state
   pub stands : Stands s.state.terms.nodes s.log
   pub each : AreStepsFor s.state s.log.entries
 
