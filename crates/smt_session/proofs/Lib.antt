@@ -6,3 +6,4 @@ pub mod Holding
 pub mod Turning
 pub mod Going
 pub mod Printing
+pub mod Responding

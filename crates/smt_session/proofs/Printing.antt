@@ -17,18 +17,23 @@ text_of es = flat_map line_text (step_lines es)
 pub record AreWrittenTo (es : List Entry) (from at : ℕ) (old new : List ℕ) : Type 0 where
   pub text : new ≡ old ++ text_of (take (at - from) (drop (from - 1) es))
 
-flat_map_append : {A B : Type 0} (f : A → List B) (xs ys : List A) → flat_map f (xs ++ ys) ≡ flat_map f xs ++ flat_map f ys
+pub flat_map_append : {A B : Type 0} (f : A → List B) (xs ys : List A) → flat_map f (xs ++ ys) ≡ flat_map f xs ++ flat_map f ys
 flat_map_append f [] ys = refl
 flat_map_append f (x ∷ xs) ys = ap (λ r. f x ++ r) (flat_map_append f xs ys) ∙ sym (append_assoc (f x) (flat_map f xs) (flat_map f ys))
 
 pub text_append : (xs ys : List Entry) → text_of (xs ++ ys) ≡ text_of xs ++ text_of ys
 text_append xs ys = ap (flat_map line_text) (flat_map_append (λ e. option_to_list (entry_line e)) xs ys) ∙ flat_map_append line_text (step_lines xs) (step_lines ys)
 
-taken : (es : List Entry) (f k : ℕ) (e : Entry) → slice_get es (f + k) ≡ Some e → take (suc k) (drop f es) ≡ take k (drop f es) ++ e ∷ []
-taken [] f k e h = let q : ⊥ = cc in absurd q
-taken (x ∷ es) zero zero e h = let q : x ≡ e = cc in ap (λ r. r ∷ []) q
-taken (x ∷ es) zero (suc k) e h = ap (λ r. x ∷ r) (taken es zero k e h)
-taken (x ∷ es) (suc f) k e h = taken es f k e h
+front : (es : List Entry) (k : ℕ) (e : Entry) → slice_get es k ≡ Some e → take (suc k) es ≡ take k es ++ e ∷ []
+front [] k e h = let q : ⊥ = cc in absurd q
+front (x ∷ es) zero e h = let q : x ≡ e = cc in ap (λ r. r ∷ []) q
+front (x ∷ es) (suc k) e h = ap (λ r. x ∷ r) (front es k e h)
+
+dropped : (es : List Entry) (f k n : ℕ) (e : Entry) → n ≡ f + k → slice_get es n ≡ Some e → slice_get (drop f es) k ≡ Some e
+dropped es zero k n e p h = let q : k ≡ n = omega arith in ap (slice_get es) q ∙ h
+dropped [] (suc f) k n e p h = let q : ⊥ = cc in absurd q
+dropped (x ∷ es) (suc f) k zero e p h = absurd (omega arith)
+dropped (x ∷ es) (suc f) k (suc n) e p h = dropped es f k n e (omega arith) h
 
 -- the text of a step that has a line
 text_one : (e : Entry) (o : Option Line) (old new : List ℕ) → IsSome o → IfSome o (λ l. new ≡ old ++ line_text l) → new ≡ old ++ flat_map line_text (option_to_list o ++ [])
@@ -54,7 +59,7 @@ written_none es from old =
 
 pub written_more : (es : List Entry) (from at : ℕ) (e : Entry) (old mid new : List ℕ) → 0 < from → from ≤ at → AreLined es → Some e ≡ entry_at es at → IfSome (entry_line e) (λ l. new ≡ mid ++ line_text l) → AreWrittenTo es from at old mid → AreWrittenTo es from (at + 1) old new
 written_more es from at e old mid new lt le h i k w =
-    let here : slice_get es ((from - 1) + (at - from)) ≡ Some e = (let q : (from - 1) + (at - from) ≡ at - 1 = omega arith in ap (slice_get es) q ∙ entry_of es at e (omega arith) (sym i)) in
+    let here : slice_get (drop (from - 1) es) (at - from) ≡ Some e = dropped es (from - 1) (at - from) (at - 1) e (omega arith) (entry_of es at e (omega arith) (sym i)) in
     let next : at + 1 - from ≡ suc (at - from) = omega arith in
     let rows = take (at - from) (drop (from - 1) es) in
     record {
@@ -63,11 +68,11 @@ written_more es from at e old mid new lt le h i k w =
           ∙ ap (λ r. r ++ text_of (e ∷ [])) w.text
           ∙ append_assoc old (text_of (take (at - from) (drop (from - 1) es))) (text_of (e ∷ []))
           ∙ ap (λ r. old ++ r) (sym (text_append (take (at - from) (drop (from - 1) es)) (e ∷ [])))
-          ∙ ap (λ r. old ++ text_of r) (sym (taken es (from - 1) (at - from) e here))
+          ∙ ap (λ r. old ++ text_of r) (sym (front (drop (from - 1) es) (at - from) e here))
           ∙ ap (λ n. old ++ text_of (take n (drop (from - 1) es))) (sym next);
     }
 
-take_all : {A : Type 0} (n : ℕ) (xs : List A) → length xs ≤ n → take n xs ≡ xs
+pub take_all : {A : Type 0} (n : ℕ) (xs : List A) → length xs ≤ n → take n xs ≡ xs
 take_all zero [] h = refl
 take_all zero (x ∷ xs) h = absurd (omega arith)
 take_all (suc n) [] h = refl

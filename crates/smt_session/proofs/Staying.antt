@@ -1,7 +1,9 @@
 -- Bits and selectors stay where a log grows.
-use Rattle.std.proofs.Common.{◌≡◌, ℕ, zero, suc, ◌<◌, List, [], ◌∷◌, ◌++◌, length, get_or, Option, Some, None, refl, sym, ap, ◌∙◌, subst, append_assoc, append-nil, arith}
+use Rattle.std.proofs.Common.{◌≡◌, ℕ, zero, suc, ◌+◌, ◌<◌, Bool, false, take, inl, inr, ⊎_elim, List, [], ◌∷◌, ◌++◌, length, get_or, Option, Some, None, refl, sym, ap, ◌∙◌, subst, append_assoc, append-nil, arith}
 use Rattle.std.specs.Prelude.{map, IsSome, is_some, Contains, All}
-use Rattle.std.proofs.lemmas.List.Elements.{All-weaker}
+use Rattle.std.specs.Option.{option_map}
+use Rattle.std.proofs.lemmas.Bool.{cases_lt}
+use Rattle.std.proofs.lemmas.List.{take_more}
 use Rattle.cnf_base.specs.Literals.{Literal}
 use Rattle.smt_terms.specs.declared.node.Node.{Node}
 use Rattle.smt_terms.specs.Bits.{TermBits, bits_in}
@@ -14,7 +16,8 @@ use Rattle.proof_log.specs.Stored.{LogValue, Stands, IsPushed, selector_in, lite
 use Rattle.proof_log.proofs.Growing.{each_append}
 use Rattle.proof_log.proofs.Standing.{stands_over}
 use Rattle.proof_log.proofs.Staying.{log_stays}
-use Rattle.smt_session.specs.Growing.{IsStepFor, Grows, HasBits, AreSelectors}
+use Rattle.smt_session.specs.Growing.{IsStepFor, AreStepsFor, Grows, HasBits, AreSelectors}
+use Rattle.smt_session.specs.Reaching.{is_marked, IsMarked}
 
 pub some_value : {A : Type 0} (o : Option A) → IsSome o → (x : A) × (o ≡ Some x)
 some_value None h = let f : ⊥ = cc in absurd f
@@ -107,3 +110,40 @@ selector_of l (a ∷ live) (g ∷ given) x (suc k) e lt at =
     let rest : map (λ (y : Live). selector_in l.selectors y.assertion) live ≡ map Some given = cc in
     let r = selector_of l live given x k rest (omega arith) at in
     (r.0, (suc r.1.0, omega (arith, r.1.1), r.1.2), r.2)
+
+-- what has no bits had none
+pub still_none : (s : StateValue) (old new : LogValue) (t : ℕ) → Stands s.terms.nodes old → Grows s old new → bits_in new.bits t ≡ None → bits_in old.bits t ≡ None
+still_none s old new t h g e =
+    none_of_not (bits_in old.bits t) (λ has. (let k : IsSome (bits_in new.bits t) = bits_stay s old new t h g has in let n : is_some (bits_in new.bits t) ≡ false = ap is_some e in let q : ⊥ = cc in q))
+
+-- what look-ups tell
+pub none_mapped : {A B : Type 0} (f : A → B) (r : Option A) (o : Option B) → option_map f r ≡ o → is_some r ≡ false → o ≡ None
+none_mapped f None o e h = sym e
+none_mapped f (Some x) o e h = let q : ⊥ = cc in absurd q
+
+-- the marked terms up to one have bits
+pub record AreEncoded (s : StateValue) (old new : LogValue) (marks : List Bool) (bound : ℕ) : Type 0 where
+  pub grows : Grows s old new
+  pub done : (t : ℕ) → t < bound → IsMarked marks t → HasBits new t
+
+pub encoded_more : (s : StateValue) (old mid new : LogValue) (marks : List Bool) (t : ℕ) → AreEncoded s old mid marks t → Grows s mid new → HasBits new t → AreEncoded s old new marks (t + 1)
+encoded_more s old mid new marks t h g here = record {
+  grows = grows_more s old mid new h.grows g;
+  done = λ u lt m. ⊎_elim (λ less. bits_stay s mid new u h.grows.stands g (h.done u less m)) (λ ge. (let q : t ≡ u = omega (arith, lt, ge) in subst (HasBits new) q here)) (cases_lt u t);
+}
+
+pub encoded_same : (s : StateValue) (old new : LogValue) (marks : List Bool) (t : ℕ) → AreEncoded s old new marks t → is_marked marks t ≡ false → AreEncoded s old new marks (t + 1)
+encoded_same s old new marks t h none = record {
+  grows = h.grows;
+  done = λ u lt m. ⊎_elim (λ less. h.done u less m) (λ ge. (let q : t ≡ u = omega (arith, lt, ge) in let e : is_marked marks u ≡ false = subst (λ x. is_marked marks x ≡ false) q none in let f : ⊥ = cc in absurd f)) (cases_lt u t);
+}
+
+-- one assertion more has its selector
+pub chosen_more : (s : StateValue) (mid new : LogValue) (live : List Live) (given more : List Literal) (k : ℕ) (a : Live) (x : Literal) → k < length live → a ≡ get_or live k a → Stands s.terms.nodes mid → Grows s mid new → AreSelectors mid (take k live) given → selector_in new.selectors a.assertion ≡ Some x → more ≡ given ++ x ∷ [] → AreSelectors new (take (k + 1) live) more
+chosen_more s mid new live given more k a x lt at h g chosen here e =
+    subst (AreSelectors new (take (k + 1) live)) (sym e)
+    (subst (λ ys. AreSelectors new ys (given ++ x ∷ [])) (sym (take_more live k a lt))
+    (selectors_push new (take k live) (get_or live k a) given x (selectors_stay s mid new (take k live) given h g chosen) (subst (λ (b : Live). selector_in new.selectors b.assertion ≡ Some x) at here)))
+
+pub grown_steps : (s : StateValue) (old new : LogValue) → AreStepsFor s old.entries → Grows s old new → AreStepsFor s new.entries
+grown_steps s old new each g = subst (AreStepsFor s) (sym g.entries) (each_append (IsStepFor s) old.entries g.added each g.each)

@@ -21,11 +21,19 @@ use Rattle.proof_log.proofs.Standing.{stands_over}
 use Rattle.proof_log.proofs.Staying.{state_from-append, steps_parts}
 use Rattle.proof_text.specs.Entries.{entry_line}
 use Rattle.plain_search.specs.declared.Chain.{Chain}
-use Rattle.plain_search.specs.Searches.{IsRefuted, IsAgainst as IsOpposed}
+use Rattle.plain_search.specs.declared.Outcome.{Outcome}
+use Rattle.plain_search.specs.declared.Verdict.TheVariants.{Refuted}
+use Rattle.plain_search.specs.Searches.{IsRefuted, IsVerdict}
+use Rattle.smt_values.specs.declared.value.Value.{Value}
+use Rattle.proof_text.specs.Records.{AreWritten}
+use Rattle.proof_text.specs.declared.record.Record.{Record}
+use Rattle.proof_text.specs.declared.record.Record.TheVariants.{Sat, Unsat}
+use Rattle.accepted_proof.specs.Models.{IsWrittenModel}
 use Rattle.accepted_proof.specs.Turns.{IsOfScript, AreStepsOf, with_step, with_steps, IsAgainst, IsRefutation}
 use Rattle.smt_session.specs.Growing.{IsStepFor, AreStepsFor, AreLined, Grows, AreSelectors}
-use Rattle.smt_session.specs.Searched.{HasTrueSelector, chain_step}
-use Rattle.smt_session.proofs.Staying.{some_literal, selector_of, selector_stays}
+use Rattle.smt_session.specs.Searched.{IsFound, HasTrueSelector, chain_step}
+use Rattle.smt_session.specs.Sessions.{IsChecked}
+use Rattle.smt_session.proofs.Staying.{some_literal, selector_of, selector_stays, grows_more}
 use Rattle.smt_session.proofs.Chains.{found_last}
 
 -- ---- the steps
@@ -131,3 +139,28 @@ true_selectors s l v (a ∷ live) (x ∷ given) listed h each known e all =
     let rest : map (λ (y : Live). selector_in l.selectors y.assertion) live ≡ map Some given = cc in
     let r = some_literal _ x (sym ((stands_over s.terms.nodes l h).selectors a.assertion) ∙ first) in
     (record { selector = r.0; made = r.1; term = selector_term s l a r.0 listed h each known.0 r.1; holds = ap (lit_true v) r.2 ∙ all.0 }, true_selectors s l v live given listed h each known.1 rest all.1)
+
+-- ---- what a check comes to
+
+chain_steps : (s : StateValue) (chains : List Chain) → AreStepsFor s (map chain_step chains)
+chain_steps s [] = tt
+chain_steps s (c ∷ cs) = ((tt, tt), chain_steps s cs)
+
+grows_by_chains : (s : StateValue) (old new : LogValue) (chains : List Chain) → new.entries ≡ old.entries ++ map chain_step chains → Stands s.terms.nodes new → Grows s old new
+grows_by_chains s old new chains e h = record { added = map chain_step chains; entries = e; each = chain_steps s chains; stands = h }
+
+pub model_checked : (s : StateValue) (old new : LogValue) (chains : List Chain) (values : List (ℕ × Value)) → new.entries ≡ old.entries ++ map chain_step chains → Stands s.terms.nodes new → AreWritten (Sat values) × IsWrittenModel s values → IsChecked s old new (Sat values)
+model_checked s old new chains values e h shown = record { grows = grows_by_chains s old new chains e h; shown = shown }
+
+pub refuted_checked : (s : StateValue) (old new : LogValue) (given : List Literal) (chains : List Chain) (p : ℕ) → Stands s.terms.nodes old → new.entries ≡ old.entries ++ map chain_step chains → Stands s.terms.nodes new → AreSelectors old s.scopes.live given → IsRefuted given chains → p ≡ length new.entries → IsChecked s old new (Unsat p)
+refuted_checked s old new given chains p before e h selectors refuted at = record {
+  grows = grows_by_chains s old new chains e h;
+  shown = subst (IsRefutation s s.terms.nodes new.entries) (sym at) (refutation s old new given chains before (grows_by_chains s old new chains e h) e selectors refuted);
+}
+
+pub found_refuted : (log : LogValue) (given : List Literal) (found : Outcome) → IsFound log given found → found.verdict ≡ Refuted → IsRefuted given found.chains.items
+found_refuted log given found f e = subst (IsVerdict f.held given found.chains.items) e f.outcome.verdict
+
+-- steps that lead from one log to another, and then a check
+pub checked_more : (s : StateValue) (old mid new : LogValue) (r : Record) → Grows s old mid → IsChecked s mid new r → IsChecked s old new r
+checked_more s old mid new r g c = record { grows = grows_more s old mid new g c.grows; shown = c.shown }

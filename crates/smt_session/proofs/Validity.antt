@@ -17,6 +17,9 @@ use Rattle.smt_terms.proofs.Widths.{sort_bounded}
 use Rattle.bit_blast.specs.Blocks.{block_of, block_over, all_bits, with_first}
 use Rattle.bit_blast.specs.Meanings.{IsRowOf, AreRowsOf}
 use Rattle.bit_blast.proofs.Existing.{op_there}
+use Rattle.script_state.specs.Plain.{is_plain, is_plain_op}
+use Rattle.script_state.specs.States.{StateValue, IsState}
+use Rattle.proof_log.specs.declared.entry.Entry.{Entry}
 use Rattle.proof_log.specs.declared.entry.Entry.TheVariants as step
 use Rattle.proof_log.specs.Logs.{Asserted, LogState, start, with_value, plain_width, constant_width, leaf_after, block_after, selector_after, state_of}
 use Rattle.proof_log.specs.Faults.{IsValid}
@@ -25,6 +28,7 @@ use Rattle.proof_log.proofs.Settled.{stands_settled}
 use Rattle.proof_log.proofs.Standing.{stands_over}
 use Rattle.proof_log.proofs.Staying.{state_from-append}
 use Rattle.smt_session.specs.Growing.{HasBits}
+use Rattle.smt_session.proofs.Marking.{plain_op}
 use Rattle.smt_session.proofs.Staying.{some_value, is_some_of}
 
 -- ---- rows of arguments
@@ -127,3 +131,27 @@ select_leaves v old new a t p i q =
     ∙ ap (λ r. literal_of (r.selectors a)) (state_from-append v.nodes start old.entries (step.Selector a t ∷ []))
     ∙ ap (λ o. literal_of ((selector_after s a t o).selectors a)) i.encoded
     ∙ ap literal_of (value_here s.selectors a (record { literal = positive_of s.next; term = t })))
+
+-- ---- plain terms
+
+-- what holds over the terms of a state holds over the terms that it shows
+pub valid_over : (s : StateValue) (v : TermsValue) (l : LogValue) (e : Entry) → v ≡ s.terms → IsValid s.terms (state_of s.terms.nodes l.entries) e → IsValid v (state_of v.nodes l.entries) e
+valid_over s v l e same i = subst (λ x. IsValid x (state_of x.nodes l.entries) e) (sym same) i
+
+pub pushed_over : (s : StateValue) (v : TermsValue) (old new : LogValue) (e : Entry) (p : ℕ) → v ≡ s.terms → IsPushed v.nodes old new e p → IsPushed s.terms.nodes old new e p
+pushed_over s v old new e p same q = subst (λ x. IsPushed x.nodes old new e p) same q
+
+here_op : (s : StateValue) (v : TermsValue) (t : ℕ) (n : Node) → IsState s → v ≡ s.terms → n ≡ node_at v.nodes t → t < length s.terms.nodes → is_plain s.terms.nodes t ≡ true → (n ≡ node_at s.terms.nodes t) × (is_plain_op n.op ≡ true)
+here_op s v t n is same e lt plain =
+    let here : n ≡ node_at s.terms.nodes t = e ∙ ap (λ x. node_at x.nodes t) same in
+    (here, subst (λ (m : Node). is_plain_op m.op ≡ true) (sym here) (plain_op s.terms.nodes t (is.terms t lt) plain))
+
+pub plain_leaf : (s : StateValue) (v : TermsValue) (l : LogValue) (t : ℕ) (n : Node) → IsState s → v ≡ s.terms → n ≡ node_at v.nodes t → Stands s.terms.nodes l → t < length s.terms.nodes → is_plain s.terms.nodes t ≡ true → bits_in l.bits t ≡ None → (is_plain_op n.op ≡ true → IsSome (constant_width n.op)) → IsValid s.terms (state_of s.terms.nodes l.entries) (step.Leaf t)
+plain_leaf s v l t n is same e h lt plain none width =
+    let o = here_op s v t n is same e lt plain in
+    leaf_valid s.terms l t h lt none (subst (λ (m : Node). IsSome (constant_width m.op)) o.0 (width o.1))
+
+pub plain_encode : (s : StateValue) (v : TermsValue) (l : LogValue) (t : ℕ) (n : Node) → IsState s → v ≡ s.terms → n ≡ node_at v.nodes t → Stands s.terms.nodes l → t < length s.terms.nodes → is_plain s.terms.nodes t ≡ true → bits_in l.bits t ≡ None → (is_plain_op n.op ≡ true → is_fixed n.op ≡ true) → All (HasBits l) (node_at s.terms.nodes t).args → IsValid s.terms (state_of s.terms.nodes l.entries) (step.Encode t)
+plain_encode s v l t n is same e h lt plain none fixed has =
+    let o = here_op s v t n is same e lt plain in
+    encode_valid s.terms l t is.terms h lt none (subst (λ (m : Node). is_fixed m.op ≡ true) o.0 (fixed o.1)) has

@@ -6,9 +6,12 @@ use Rattle.smt_terms.specs.Bits.{TermBits, bits_in}
 use Rattle.scope_selectors.specs.declared.live.Live.{Live}
 use Rattle.script_state.specs.Plain.{is_plain}
 
--- the term has a mark
+-- whether the term has a mark
+abbrev pub is_marked : List Bool → ℕ → Bool
+is_marked marks t = slice_index_or marks t false
+
 abbrev pub IsMarked : List Bool → ℕ → Type 0
-IsMarked marks t = slice_index_or marks t false ≡ true
+IsMarked marks t = is_marked marks t ≡ true
 
 -- a mark or none for each term, and only plain terms have one
 pub record AreMarks (nodes : List Node) (marks : List Bool) : Type 0 where

@@ -4,11 +4,10 @@ ghost use Rattle.std.specs.Prelude.{◌≡◌, ◌++◌, ◌-◌, ◌<◌, IfOk,
 ghost use Rattle.std.specs.List.{flat_map};
 ghost use Rattle.proof_text.specs.Lines.{line_text};
 ghost use Rattle.proof_text.specs.Records.{AreWritten, record_lines};
-ghost use Rattle.proof_log.specs.Stored.{Stands};
 ghost use Rattle.accepted_proof.specs.Answers.{step_lines};
 ghost use Rattle.accepted_proof.specs.Turns.{verdict_of};
-ghost use Rattle.smt_session.specs.Growing.{AreSelectors, AreLined, AreStepsFor};
-ghost use Rattle.smt_session.specs.Sessions.{IsChecked};
+ghost use Rattle.smt_session.specs.Growing.{AreSelectors, AreLined};
+ghost use Rattle.smt_session.specs.Sessions.{IsChecked, IsSession};
 
 use crate::encoding::{encode_all, select_all};
 use crate::model::model;
@@ -42,8 +41,7 @@ fn conclude(
     log: &mut Log,
     given: &[Lit],
 ) -> Result<Record, AllocError>
-    requires stands { Stands state.now.terms.nodes log.old }
-    requires each { AreStepsFor state.now log.old.entries }
+    requires session { IsSession (record { state = state.now; log = log.old }) }
     requires given { AreSelectors log.old state.now.scopes.live given.now }
     ensures { IfOk result (IsChecked state.now log.old log.new) }
 {
@@ -63,8 +61,7 @@ fn conclude(
 
 /// Gives what the live assertions reach its bits, searches for a verdict, and gives the record that shows it.
 fn check(alloc: Global, state: &State, log: &mut Log) -> Result<Record, AllocError>
-    requires stands { Stands state.now.terms.nodes log.old }
-    requires each { AreStepsFor state.now log.old.entries }
+    requires { IsSession (record { state = state.now; log = log.old }) }
     ensures { IfOk result (IsChecked state.now log.old log.new) }
 {
     let marks = reach(alloc, state, log)?;
@@ -82,7 +79,7 @@ fn write_steps(log: &Log, from: Pos, out: &mut Text) -> Result<(), AllocError>
     'steps: for at in from..log.len() {
         match log.entry(at) {
             Some(entry) => write_entry(entry, out)?,
-            None => {}
+            None => unreachable!(),
         }
     }
     Ok(())
@@ -114,8 +111,7 @@ pub(crate) fn run_check(
     state: &State,
     log: &mut Log,
 ) -> Result<Checked, AllocError>
-    requires stands { Stands state.now.terms.nodes log.old }
-    requires each { AreStepsFor state.now log.old.entries }
+    requires { IsSession (record { state = state.now; log = log.old }) }
     ensures checked { IfOk result (λ c. IsChecked state.now log.old log.new c.shown) }
     ensures text { IfOk result (λ c. c.text ≡ flat_map line_text (step_lines (drop (length log.old.entries) log.new.entries)) ++ flat_map line_text (record_lines c.shown)) }
 {

@@ -68,6 +68,25 @@ pub(crate) fn encode_all(
     Ok(())
 }
 
+/// Gives an assertion that has no selector one.
+fn add_selector(
+    alloc: Global,
+    state: &State,
+    log: &mut Log,
+    assertion: &Live,
+) -> Result<(), AllocError>
+    requires asserted { IsAsserted state.now assertion.now }
+    requires bits { HasBits log.old assertion.now.term }
+    requires stands { Stands state.now.terms.nodes log.old }
+    requires new { selector_in log.old.selectors assertion.now.assertion ≡ None }
+    ensures grows { IfOk result (λ _. Grows state.now log.old log.new) }
+    ensures selector { IfOk result (λ _. IsSome (selector_in log.new.selectors assertion.now.assertion)) }
+{
+    let entry = Entry::Selector(assertion.assertion, assertion.term);
+    log.push(alloc, state.terms(), entry)?;
+    Ok(())
+}
+
 /// Gives an assertion a selector, unless it has one, and gives the selector.
 fn select(
     alloc: Global,
@@ -84,8 +103,7 @@ fn select(
     if let Some(selector) = log.selector(assertion.assertion) {
         return Ok(selector);
     }
-    let entry = Entry::Selector(assertion.assertion, assertion.term);
-    log.push(alloc, state.terms(), entry)?;
+    add_selector(alloc, state, log, assertion)?;
     Ok(log.selector(assertion.assertion).unwrap())
 }
 

@@ -4,6 +4,9 @@ use Rattle.scope_selectors.specs.declared.live.Live.{Live}
 use Rattle.smt_session.specs.Reaching.{AreMarks, IsMarked, IsClosedAt}
 use Rattle.smt_session.proofs.reach.mark_below.Given as goal
 
+abbrev pub decreases-terms : goal.decreases-terms
+decreases-terms l = l.term
+
 abbrev pub invariant-terms : goal.invariant-terms
 invariant-terms l = record {
   within : l.term ≤ length l.terms.nodes;
