@@ -10,4 +10,4 @@
 
 mod laws;
 
-pub use laws::{accepted_proofs_are_right, answers_are_right};
+pub use laws::{accepted_proofs_are_right, answers_are_right, scripts_are_read_one_way};
