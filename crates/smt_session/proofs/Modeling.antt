@@ -9,7 +9,7 @@ use Rattle.std.proofs.lemmas.Option.{slice_get-get_or, slice_get_read, slice_get
 use Rattle.cnf_base.specs.Literals.{Literal}
 use Rattle.cnf_base.specs.Clauses.{lit_true, number}
 use Rattle.cnf_base.proofs.Numbers.{number_lt}
-use Rattle.smt_words.specs.Words.{word}
+use Rattle.smt_words.specs.Words.{WordValue, word}
 use Rattle.smt_terms.specs.declared.sort.Sort.{Sort}
 use Rattle.smt_terms.specs.declared.sort.Sort.TheVariants as sort
 use Rattle.smt_terms.specs.declared.sort.Signature.{Signature}
@@ -145,7 +145,7 @@ truth_value v log f d s u row l b terms stands found q bool at means =
     }
 
 -- the value of a word whose term has bits
-pub word_value : (v : TermsValue) (log : LogValue) (f : ℕ → Bool) (d : ℕ) (s : Sort) (n u : ℕ) (row : List Literal) (w : _) → AreTerms v → Stands v.nodes log
+pub word_value : (v : TermsValue) (log : LogValue) (f : ℕ → Bool) (d : ℕ) (s : Sort) (n u : ℕ) (row : List Literal) (w : WordValue) → AreTerms v → Stands v.nodes log
     → Some u ≡ position (same_node (leaf (Constant d s))) v.nodes → bits_in log.bits u ≡ Some row → s ≡ sort.Word n → w ≡ word (length row) (number f row) → IsValueIn v.nodes log f d s (held.Word w)
 word_value v log f d s n u row w terms stands found q is means =
     let width : length row ≡ n = width_is s n (length row) is (constant_row v log d s u row terms stands found q) in
