@@ -1,6 +1,7 @@
 -- A search is over every clause of a log.
-use Rattle.std.proofs.Common.{◌≡◌, ℕ, zero, suc, ◌+◌, ◌<◌, ◌≤◌, Bool, true, false, List, [], ◌∷◌, ◌++◌, length, Option, Some, None, refl, sym, ap, ◌∙◌, subst, inl, inr, ⊎_elim, arith}
-use Rattle.std.specs.Prelude.{◌⊎◌, All, Contains, slice_get}
+use Rattle.std.proofs.Common.{◌≡◌, ℕ, zero, suc, ◌+◌, ◌<◌, ◌≤◌, true, List, [], ◌∷◌, ◌++◌, length, Some, None, sym, ap, ◌∙◌, subst, ⊎_elim, arith}
+use Rattle.std.specs.Prelude.{Bool, Vec, All, Contains, slice_get}
+use Rattle.std.specs.declared.alloc.Global.{Global}
 use Rattle.std.proofs.lemmas.Bool.{cases_lt}
 use Rattle.std.proofs.lemmas.List.Elements.{All-contains, Contains-append_left, Contains-push}
 use Rattle.cnf_base.specs.Literals.{Literal}
@@ -11,7 +12,7 @@ use Rattle.smt_terms.specs.Terms.{IsTermList}
 use Rattle.plain_search.specs.declared.Held.{Held}
 use Rattle.plain_search.specs.declared.Outcome.{Outcome}
 use Rattle.plain_search.specs.declared.Verdict.TheVariants.{Model}
-use Rattle.plain_search.specs.Searches.{assignment, IsModel, IsVerdict}
+use Rattle.plain_search.specs.Searches.{assignment, IsVerdict}
 use Rattle.proof_log.specs.Logs.{start, clause_in, clause_at}
 use Rattle.proof_log.specs.Stored.{LogValue, Stands}
 use Rattle.proof_log.proofs.Growing.{get_within, clause_row, clause_within}
@@ -38,8 +39,8 @@ holding_more nodes log old now pos part c d listed stands h e same =
     let new : Held = record { id = record { pos = pos; part = part }; clause = d } in
     let more : (id : ClauseId) → IsHeld log now id → IsHeld log (now ++ new ∷ []) id = λ id k x q. Contains-append_left now (new ∷ []) (record { id = id; clause = x }) (k x q) in
     let own : IsHeld log (now ++ new ∷ []) (record { pos = pos; part = part }) = λ x q.
-        (let r : d ≡ x = same ∙ same_clause log.clauses (record { pos = pos; part = part }) c x (sym e) q in
-        subst (λ y. Contains (now ++ new ∷ []) (record { id = record { pos = pos; part = part }; clause = y })) r (Contains-push now new)) in
+    (let r : d ≡ x = same ∙ same_clause log.clauses (record { pos = pos; part = part }) c x (sym e) q in
+    subst (λ y. Contains (now ++ new ∷ []) (record { id = record { pos = pos; part = part }; clause = y })) r (Contains-push now new)) in
     record {
       of_log = held_push nodes log now (record { pos = pos; part = part }) c d listed stands h.of_log e same;
       kept = λ id k. more id (h.kept id k);
@@ -95,7 +96,7 @@ below_all nodes log now pos stands le h id c e =
 -- ---- what is found
 
 -- where a model is found, each clause of the log and each given literal is true
-pub found_true : (log : LogValue) (given : List Literal) (found : Outcome) (values : _) → IsFound log given found → found.verdict ≡ Model values
+pub found_true : (log : LogValue) (given : List Literal) (found : Outcome) (values : Vec Bool Global) → IsFound log given found → found.verdict ≡ Model values
     → AreAllTrue log (assignment values.items) × All (λ l. lit_true (assignment values.items) l ≡ true) given
 found_true log given found values f e =
     let m = subst (IsVerdict f.held given found.chains.items) e f.outcome.verdict in

@@ -3,6 +3,7 @@ pub mod Staying
 pub mod Validity
 pub mod Chains
 pub mod Holding
+pub mod Modeling
 pub mod Turning
 pub mod Going
 pub mod Printing
