@@ -6,5 +6,6 @@ pub mod Selecting
 pub mod Ordered
 pub mod Standing
 pub mod Settled
+pub mod Assigned
 mod Tried
 mod Worked

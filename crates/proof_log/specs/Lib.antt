@@ -2,3 +2,4 @@ pub mod Logs
 pub mod Meanings
 pub mod Stored
 pub mod Faults
+pub mod Assigned

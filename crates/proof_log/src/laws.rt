@@ -1,12 +1,15 @@
 //! What the definitions of logs promise together.
 
-ghost use Rattle.std.specs.Prelude.{◌++◌, List};
+ghost use Rattle.std.specs.Prelude.{◌++◌, ℕ, Bool, List};
 ghost use Rattle.smt_terms.specs.declared.node.Node.{Node};
 ghost use Rattle.smt_terms.specs.Terms.{TermsValue, IsTermList};
+ghost use Rattle.smt_terms.specs.Values.{Interpretation};
+ghost use Rattle.smt_terms.specs.Bits.{bits_in};
 ghost use Rattle.proof_log.specs.declared.entry.Entry.{Entry};
-ghost use Rattle.proof_log.specs.Logs.{LogState, IsStep, IsLog};
+ghost use Rattle.proof_log.specs.Logs.{LogState, IsStep, IsLog, state_of};
 ghost use Rattle.proof_log.specs.Meanings.{LogIsSound, LogIsOrdered, StaysLog, IsLogOver};
 ghost use Rattle.proof_log.specs.Stored.{LogValue, Stands, IsSettled};
+ghost use Rattle.proof_log.specs.Assigned.{Satisfies, AreValues};
 ghost use Rattle.proof_log.specs.Faults.{IsValid, terms_after};
 
 /// Every clause of every log is true in every interpretation, the bits of a term are those of its value, and the
@@ -44,4 +47,21 @@ pub fn more_terms_keep_stored_logs()
 /// What a stored log has where it stands.
 pub fn stored_logs_are_settled()
     ensures { (nodes : List Node) (log : LogValue) → IsTermList nodes → Stands nodes log → IsSettled nodes log }
+{}
+
+/// Where an assignment makes every clause of a log true, and the bits of each declared constant are those of its value in
+/// an interpretation, the bits of every term are those of its value, and each assertion whose selector is true is true.
+pub fn satisfied_logs_have_values()
+    ensures { (M : Interpretation) (nodes : List Node) (log : List Entry) (v : ℕ → Bool) →
+        IsTermList nodes → IsLog nodes log →
+        Satisfies M nodes (state_of nodes log).bits (state_of nodes log).clauses v →
+        AreValues M nodes (state_of nodes log).bits (state_of nodes log).selectors v }
+{}
+
+/// The same of a stored log.
+pub fn satisfied_stored_logs_have_values()
+    ensures { (M : Interpretation) (nodes : List Node) (log : LogValue) (v : ℕ → Bool) →
+        IsTermList nodes → Stands nodes log →
+        Satisfies M nodes (bits_in log.bits) log.clauses v →
+        AreValues M nodes (bits_in log.bits) (state_of nodes log.entries).selectors v }
 {}

@@ -3,3 +3,4 @@ pub mod Keeping
 pub mod Naming
 pub mod Blaming
 pub mod Standing
+pub mod Asserting

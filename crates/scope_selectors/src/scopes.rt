@@ -1,6 +1,6 @@
 //! The levels and their assertions.
 
-ghost use Rattle.std.specs.Prelude.{◌≡◌, ◌+◌, ◌<◌, ◌^◌, Ok, Err, length, OnOk, OnErr, IfOk, IfErr};
+ghost use Rattle.std.specs.Prelude.{◌≡◌, ◌+◌, ◌<◌, ◌^◌, Ok, Err, length, slice_get, OnOk, OnErr, IfOk, IfErr};
 ghost use Rattle.std.specs.Option.{option_copied};
 ghost use Rattle.scope_selectors.specs.Scopes.{AreScopes, no_scopes, pushed, popped, asserted, without_assertions, name_of};
 ghost use Rattle.scope_selectors.specs.Cores.{core_of};
@@ -24,6 +24,8 @@ pub struct Scopes {
     levels: u64,
     live: Vec<Live>,
     made: u32,
+    /// The term of each assertion that was ever made.
+    terms: Vec<TermId>,
 }
 
 impl Model for Scopes {
@@ -31,9 +33,9 @@ impl Model for Scopes {
 
     ghost Value = { ScopesValue };
 
-    ghost view = { λ s. record { levels = s.levels; live = s.live.items; made = s.made } };
+    ghost view = { λ s. record { levels = s.levels; live = s.live.items; made = s.made; terms = s.terms.items } };
 
-    ghost invariant = { λ s. AreScopes (record { levels = s.levels; live = s.live.items; made = s.made }) };
+    ghost invariant = { λ s. AreScopes (record { levels = s.levels; live = s.live.items; made = s.made; terms = s.terms.items }) };
 }
 
 impl Scopes {
@@ -45,6 +47,7 @@ impl Scopes {
             levels: 0,
             live: Vec::new(alloc),
             made: 0,
+            terms: Vec::new(alloc),
         }
     }
 
@@ -85,12 +88,14 @@ impl Scopes {
     {
         let assertion = self.made;
         let level = self.levels;
+        self.terms.reserve(1)?;
         self.live.push(Live {
             assertion,
             term,
             name,
             level,
         })?;
+        self.terms.push(term)?;
         self.made += 1;
         Ok(assertion)
     }
@@ -123,6 +128,13 @@ impl Scopes {
         ensures { result ≡ self.now.made }
     {
         self.made
+    }
+
+    /// The term of an assertion, live or not; `None` exactly where none of this number was made. Takes no memory.
+    pub fn term(&self, assertion: AssertId) -> Option<TermId>
+        ensures { result ≡ slice_get self.now.terms assertion }
+    {
+        self.terms.get(assertion as usize).copied()
     }
 
     /// The name of a live assertion; `None` exactly where it has none or is not live. Takes no memory.

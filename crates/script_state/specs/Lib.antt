@@ -1,4 +1,5 @@
 pub mod ErrorTexts
+pub mod Plain
 pub mod Readings
 pub mod States
 pub mod Steps

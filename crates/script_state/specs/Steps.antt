@@ -1,5 +1,5 @@
 -- What each command of a script does to the state of a session, and how it is answered (SMT-LIB 2.6, section 4.2).
-use Rattle.std.specs.Prelude.{◌≡◌, if◌then◌else◌, Option, Some, None, Result, Ok, Err}
+use Rattle.std.specs.Prelude.{◌≡◌, ◌&&◌, if◌then◌else◌, Option, Some, None, Result, Ok, Err}
 use Rattle.smt_text.specs.declared.token.CommandName.{CommandName}
 use Rattle.smt_text.specs.declared.token.CommandName.TheVariants as name
 use Rattle.std.specs.declared.alloc.AllocError.{AllocError}
@@ -17,6 +17,7 @@ use Rattle.smt_build.specs.Terms.{term_of}
 use Rattle.script_state.specs.declared.answer.Answer.{Answer}
 use Rattle.script_state.specs.declared.answer.Answer.TheVariants.{Done, Refused, Check}
 use Rattle.script_state.specs.declared.error_text.ErrorText.TheVariants.{NotSupported}
+use Rattle.script_state.specs.Plain.{is_plain}
 use Rattle.script_state.specs.States.{StateValue}
 use Rattle.script_state.specs.Readings.{ReadsAs}
 
@@ -33,9 +34,9 @@ abbrev pub declaring : StateValue → Declaration → Step
 declaring s (Ok d) = (Done, record { symbols = d.1; terms = s.terms; scopes = s.scopes; standing = None })
 declaring s (Err f) = refuse s
 
--- a term of sort Bool is asserted in the innermost level, and no check stands
+-- a plain term of sort Bool is asserted in the innermost level, and no check stands
 abbrev pub asserting : StateValue → Built → Step
-asserting s (Ok t) = if same_sort (sort_of t.1.nodes t.0) sort.Bool then (Done, record { symbols = s.symbols; terms = t.1; scopes = asserted s.scopes t.0 None; standing = None }) else refuse s
+asserting s (Ok t) = if same_sort (sort_of t.1.nodes t.0) sort.Bool && is_plain t.1.nodes t.0 then (Done, record { symbols = s.symbols; terms = t.1; scopes = asserted s.scopes t.0 None; standing = None }) else refuse s
 asserting s (Err f) = refuse s
 
 -- the live assertions are to be checked, and no check stands

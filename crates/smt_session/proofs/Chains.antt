@@ -19,12 +19,12 @@ use Rattle.plain_search.proofs.Stages.{named-push}
 use Rattle.proof_log.specs.declared.entry.Entry.TheVariants as step
 use Rattle.proof_log.specs.Logs.{Asserted, start, clause_in, clause_at, after, state_of}
 use Rattle.proof_log.specs.Faults.{IsValid}
-use Rattle.proof_log.specs.Stored.{LogValue, Stands, IsPushed, literal_of}
+use Rattle.proof_log.specs.Stored.{LogValue, Stands, IsPushed, selector_in, literal_of}
 use Rattle.proof_log.proofs.Growing.{clause_more}
 use Rattle.proof_log.proofs.Ordered.{steps_length, log_is_ordered}
 use Rattle.proof_log.proofs.Standing.{stands_over, clauses_below}
 use Rattle.proof_log.proofs.Staying.{state_from-append}
-use Rattle.smt_session.specs.Growing.{AreLined, Grows, IsSelectorOf, AreSelectors}
+use Rattle.smt_session.specs.Growing.{AreSelectors}
 use Rattle.smt_session.specs.Searched.{IsOfLog, IsFound, AreLearnt, chain_step}
 
 -- the first of the learnt clauses are added
@@ -57,7 +57,7 @@ behind nodes old new c hints h k e =
       clauses = b.clauses ∙ ap (λ x. x.clauses) s ∙ ap (λ x. x ++ (c ∷ []) ∷ []) (sym a.clauses);
     }
 
-positions : (nodes : List Node) (l : LogValue) → Stands nodes l → length l.clauses ≡ suc (length l.entries)
+pub positions : (nodes : List Node) (l : LogValue) → Stands nodes l → length l.clauses ≡ suc (length l.entries)
 positions nodes l h = ap length (stands_over nodes l h).clauses ∙ steps_length nodes start l.entries ∙ omega arith
 
 last_row : {A : Type 0} (xs : List A) (x : A) → slice_get (xs ++ x ∷ []) (length xs) ≡ Some x
@@ -65,7 +65,7 @@ last_row [] x = refl
 last_row (y ∷ xs) x = last_row xs x
 
 -- the clause that was added has the name of the next position
-found_last : (rows : List (List (List Literal))) (c : List Literal) (p : ℕ) → p ≡ length rows → clause_at (rows ++ (c ∷ []) ∷ []) (record { pos = p; part = 0 }) ≡ Some c
+pub found_last : (rows : List (List (List Literal))) (c : List Literal) (p : ℕ) → p ≡ length rows → clause_at (rows ++ (c ∷ []) ∷ []) (record { pos = p; part = 0 }) ≡ Some c
 found_last rows c p e = ap (λ o. clause_in o 0) (ap (slice_get (rows ++ (c ∷ []) ∷ [])) e ∙ last_row rows (c ∷ []))
 
 length-steps : (chains : List Chain) → length (map chain_step chains) ≡ length chains
@@ -109,14 +109,6 @@ pub pushed_next : (nodes : List Node) (old mid new : LogValue) (chains : List Ch
 pushed_next nodes old mid new chains k p d lt h q =
     subst (Pushed nodes old new) (sym (take_more chains k d lt)) (pushed_more nodes old mid new (take k chains) (get_or chains k d) p h q)
 
--- the log grew by the learnt clauses
-pub pushed_grows : (nodes : List Node) (old new : LogValue) (chains : List Chain) → Pushed nodes old new chains → Grows nodes old new
-pushed_grows nodes old new chains h = record { added = map chain_step chains; entries = h.entries; lined = lined chains; stands = h.stands }
-  where
-    lined : (cs : List Chain) → AreLined (map chain_step cs)
-    lined [] = tt
-    lined (c ∷ cs) = (refl, lined cs)
-
 -- one more clause of the log
 pub held_push : (nodes : List Node) (l : LogValue) (items : List Held) (id : ClauseId) (c d : List Literal) → IsTermList nodes → Stands nodes l → All (IsOfLog l) items → Some c ≡ clause_at l.clauses id → d ≡ c → All (IsOfLog l) (items ++ record { id = id; clause = d } ∷ [])
 held_push nodes l items id c d listed h all e same =
@@ -140,28 +132,31 @@ take_all zero (x ∷ xs) h = absurd (omega arith)
 take_all (suc n) [] h = refl
 take_all (suc n) (x ∷ xs) h = ap (λ ys. x ∷ ys) (take_all n xs (omega arith))
 
-pub all_grow : (nodes : List Node) (old new : LogValue) (chains : List Chain) (n : ℕ) → length chains ≤ n → Pushed nodes old new (take n chains) → Grows nodes old new
-all_grow nodes old new chains n le h = pushed_grows nodes old new chains (subst (Pushed nodes old new) (take_all n chains le) h)
+pub all_pushed : (nodes : List Node) (old new : LogValue) (chains : List Chain) (n : ℕ) → length chains ≤ n → Pushed nodes old new (take n chains) → Pushed nodes old new chains
+all_pushed nodes old new chains n le h = subst (Pushed nodes old new) (take_all n chains le) h
 
 pub learnt_of : (log : LogValue) (given : List Literal) (found : Outcome) → IsFound log given found → AreLearnt log found.chains.items
 learnt_of log given found f = record { held = f.held; of_log = f.of_log; derived = f.outcome.chains; below = f.outcome.below }
 
 -- ---- selectors
 
-some_literal : (o : Option Asserted) (l : Literal) → literal_of o ≡ Some l → (r : Asserted) × (o ≡ Some r) × (r.literal ≡ l)
+pub some_literal : (o : Option Asserted) (l : Literal) → literal_of o ≡ Some l → (r : Asserted) × (o ≡ Some r) × (r.literal ≡ l)
 some_literal None l e = let q : ⊥ = cc in absurd q
 some_literal (Some r) l e = let q : r.literal ≡ l = cc in (r, refl, q)
 
-selector_below : (nodes : List Node) (l : LogValue) (live : List Live) (s : Literal) → IsTermList nodes → Stands nodes l → IsSelectorOf l live s → s.variable < l.next
-selector_below nodes l live s listed h i =
+-- every selector is of a variable that there is
+pub selector_below : (nodes : List Node) (l : LogValue) (a : ℕ) (s : Literal) → IsTermList nodes → Stands nodes l → selector_in l.selectors a ≡ Some s → s.variable < l.next
+selector_below nodes l a s listed h e =
     let k = stands_over nodes l h in
-    let r = some_literal _ s (sym (k.selectors i.assertion.assertion) ∙ i.selector) in
-    let lt = (log_is_ordered nodes l.entries listed k.steps).selectors i.assertion.assertion r.0 r.1 in
+    let r = some_literal _ s (sym (k.selectors a) ∙ e) in
+    let lt = (log_is_ordered nodes l.entries listed k.steps).selectors a r.0 r.1 in
     subst (λ n. s.variable < n) (sym k.next) (subst (λ (x : Literal). x.variable < (state_of nodes l.entries).next) r.2 lt.1)
 
-each_of : {A : Type 0} (P : A → Type 0) (xs : List A) → All P xs → AllByRecursion P xs
-each_of P [] h = tt
-each_of P (x ∷ xs) h = (h 0 x (omega arith), each_of P xs (λ k d lt. h (suc k) d (omega arith)))
-
 pub selectors_below : (nodes : List Node) (l : LogValue) (live : List Live) (given : List Literal) → IsTermList nodes → Stands nodes l → AreSelectors l live given → AreBelow l.next given
-selectors_below nodes l live given listed h all = each_of (λ s. s.variable < l.next) given (λ k d lt. selector_below nodes l live (get_or given k d) listed h (all k d lt))
+selectors_below nodes l [] [] listed h e = tt
+selectors_below nodes l [] (g ∷ given) listed h e = let q : ⊥ = cc in absurd q
+selectors_below nodes l (a ∷ live) [] listed h e = let q : ⊥ = cc in absurd q
+selectors_below nodes l (a ∷ live) (g ∷ given) listed h e =
+    let first : selector_in l.selectors a.assertion ≡ Some g = cc in
+    let rest : map (λ (x : Live). selector_in l.selectors x.assertion) live ≡ map Some given = cc in
+    (selector_below nodes l a.assertion g listed h first, selectors_below nodes l live given listed h rest)

@@ -1,4 +1,10 @@
-pub mod Stepping
-pub mod Longer
+pub mod Marking
+pub mod Staying
+pub mod Validity
 pub mod Chains
-pub mod PairLemmas
+pub mod Holding
+pub mod Modeling
+pub mod Turning
+pub mod Going
+pub mod Printing
+pub mod Responding

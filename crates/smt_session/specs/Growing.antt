@@ -1,36 +1,46 @@
 -- A log that grows by the steps of a check.
-use Rattle.std.specs.Prelude.{◌≡◌, ◌<◌, List, ◌++◌, length, Some, IsSome, All, Contains}
+use Rattle.std.specs.Prelude.{◌≡◌, ◌<◌, ℕ, List, ◌++◌, length, map, slice_get, Some, IsSome}
 use Rattle.std.specs.List.{AllByRecursion}
 use Rattle.cnf_base.specs.Literals.{Literal}
 use Rattle.smt_terms.specs.declared.sort.Sort.TheVariants as sort
-use Rattle.smt_terms.specs.declared.node.Node.{Node}
 use Rattle.smt_terms.specs.Terms.{sort_of}
+use Rattle.smt_terms.specs.Bits.{bits_in}
 use Rattle.scope_selectors.specs.declared.live.Live.{Live}
+use Rattle.script_state.specs.States.{StateValue}
 use Rattle.proof_log.specs.declared.entry.Entry.{Entry}
+use Rattle.proof_log.specs.Faults.{MakesNoTerm}
 use Rattle.proof_log.specs.Stored.{LogValue, Stands, selector_in}
 use Rattle.proof_text.specs.Entries.{entry_line}
+use Rattle.accepted_proof.specs.Turns.{IsOfScript}
+
+-- the step makes no term, and an assertion that it names has the term that it has in the script
+abbrev pub IsStepFor : StateValue → Entry → Type 0
+IsStepFor s e = MakesNoTerm e × IsOfScript s e
+
+abbrev pub AreStepsFor : StateValue → List Entry → Type 0
+AreStepsFor s = AllByRecursion (IsStepFor s)
 
 -- each step has a line
 abbrev pub AreLined : List Entry → Type 0
 AreLined = AllByRecursion (λ e. IsSome (entry_line e))
 
--- the log has more steps, each of which has a line, and stands over the terms
-pub record Grows (nodes : List Node) (old new : LogValue) : Type 0 where
+-- the log has more steps, all of them for the script, and stands over its terms
+pub record Grows (s : StateValue) (old new : LogValue) : Type 0 where
   pub added : List Entry
   pub entries : new.entries ≡ old.entries ++ added
-  pub lined : AreLined added
-  pub stands : Stands nodes new
+  pub each : AreStepsFor s added
+  pub stands : Stands s.terms.nodes new
 
--- the assertion's term is held, and of sort Bool
-pub record IsHeldTruth (nodes : List Node) (a : Live) : Type 0 where
-  pub held : a.term < length nodes
-  pub truth : sort_of nodes a.term ≡ sort.Bool
+-- the term has bits
+abbrev pub HasBits : LogValue → ℕ → Type 0
+HasBits log t = IsSome (bits_in log.bits t)
 
--- the literal is the selector of one of these assertions
-pub record IsSelectorOf (log : LogValue) (live : List Live) (l : Literal) : Type 0 where
-  pub assertion : Live
-  pub among : Contains live assertion
-  pub selector : selector_in log.selectors assertion.assertion ≡ Some l
+-- the assertion's term is held, of sort Bool, and the one that the script has under the assertion's number
+pub record IsAsserted (s : StateValue) (a : Live) : Type 0 where
+  pub held : a.term < length s.terms.nodes
+  pub truth : sort_of s.terms.nodes a.term ≡ sort.Bool
+  pub known : slice_get s.scopes.terms a.assertion ≡ Some a.term
 
+-- these are the selectors of the assertions, in order
 abbrev pub AreSelectors : LogValue → List Live → List Literal → Type 0
-AreSelectors log live given = All (IsSelectorOf log live) given
+AreSelectors log live given = map (λ (a : Live). selector_in log.selectors a.assertion) live ≡ map Some given

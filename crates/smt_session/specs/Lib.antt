@@ -1,5 +1,5 @@
 pub mod Growing
+pub mod Reaching
 pub mod Searched
-pub mod Responses
+pub mod Modeled
 pub mod Sessions
-pub mod Pairs

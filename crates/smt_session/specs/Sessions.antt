@@ -1,36 +1,59 @@
 -- What contracts see of a session.
-use Rattle.std.specs.Prelude.{Ok}
+use Rattle.std.specs.Prelude.{◌≡◌, ℕ, Bool, false, List, ◌++◌, Option}
+use Rattle.std.specs.List.{flat_map}
+use Rattle.std.specs.Io.KnownBytes.{Appends}
 use Rattle.smt_text.specs.declared.chunk.Chunk.{Chunk}
 use Rattle.script_state.specs.declared.answer.Answer.{Answer}
-use Rattle.script_state.specs.Steps.{Applies}
-use Rattle.smt_session.specs.declared.response.Response.{Response}
-use Rattle.smt_session.specs.Responses.{Responds}
-use Rattle.script_state.specs.declared.answer.Verdict.{Verdict}
-use Rattle.script_state.specs.declared.answer.Verdict.TheVariants as verdict
-use Rattle.script_state.specs.States.{StateValue}
+use Rattle.script_state.specs.Readings.{ReadsAs}
+use Rattle.script_state.specs.States.{StateValue, IsState}
+use Rattle.proof_log.specs.declared.entry.Entry.{Entry}
 use Rattle.proof_log.specs.Stored.{LogValue, Stands}
 use Rattle.proof_text.specs.declared.record.Record.{Record}
-use Rattle.proof_text.specs.declared.record.Record.TheVariants.{Sat, Unsat}
-use Rattle.smt_session.specs.Growing.{AreLined}
+use Rattle.proof_text.specs.Lines.{line_text}
+use Rattle.accepted_proof.specs.Turns.{Turn, IsTurn, IsShown, HasProof, with_steps, concluded_by, state_after}
+use Rattle.accepted_proof.specs.Answers.{answer_text, is_error, is_refused, shown_lines, step_lines, turn_lines, turn_text}
+use Rattle.smt_session.specs.declared.response.Response.{Response}
+use Rattle.smt_session.specs.Growing.{AreStepsFor, Grows}
 
 -- the state of the commands, and the log of the checks
 pub record SessionValue : Type 0 where
   pub state : StateValue
   pub log : LogValue
 
--- the log stands over the terms of the commands, and each of its steps has a line
+-- the commands left a state, the log stands over its terms, and the steps are for the script
 pub record IsSession (s : SessionValue) : Type 0 where
+  pub state : IsState s.state
   pub stands : Stands s.state.terms.nodes s.log
-  pub lined : AreLined s.log.entries
+  pub each : AreStepsFor s.state s.log.entries
 
--- the verdict that a record shows
-abbrev pub verdict_of : Record → Verdict
-verdict_of (Sat values) = verdict.Sat
-verdict_of (Unsat p) = verdict.Unsat
+-- a text, which may be an error, and with which the run does not end
+abbrev pub response : List ℕ → Bool → Response
+response text error = record { text = text; error = error; ends = false }
 
--- The command is applied to the state, and the response is the one to what the state says.
-pub record IsAnswered (chunk : Chunk) (old new : SessionValue) (r : Response) : Type 0 where
-  pub answer : Answer
-  pub applied : StateValue
-  pub applies : Applies chunk (Ok answer) old.state applied
-  pub responds : Responds answer chunk.line r applied new.state
+-- the log grew by the steps of a check, which the record may end
+pub record IsChecked (s : StateValue) (old new : LogValue) (r : Record) : Type 0 where
+  pub grows : Grows s old new
+  pub shown : IsShown s s.terms.nodes new.entries r
+
+-- How what the state says of a command is answered, which begins on this line; and what the state and the log are then.
+pub record Responds (line : ℕ) (answer : Answer) (s s' : StateValue) (old new : LogValue) (r : Response) (written written' : Option (List ℕ)) : Type 0 where
+  pub steps : List Entry
+  pub shown : Option Record
+  pub proof : HasProof answer s old.entries steps shown
+  pub state : s' ≡ concluded_by (with_steps s steps) shown
+  pub log : new.entries ≡ old.entries ++ steps
+  pub lines : Appends written written' (flat_map line_text (step_lines steps ++ shown_lines shown))
+  pub text : r.text ≡ answer_text line answer shown
+  pub error : r.error ≡ is_error answer
+
+-- The command is applied, and what is answered and written is that of a turn which may follow.
+pub record IsAnswered (chunk : Chunk) (old new : SessionValue) (r : Response) (written written' : Option (List ℕ)) : Type 0 where
+  pub turn : Turn
+  pub line : turn.line ≡ chunk.line
+  pub reads : ReadsAs chunk turn.says
+  pub stands : IsTurn old.state old.log.entries turn
+  pub state : new.state ≡ state_after old.state turn
+  pub log : new.log.entries ≡ old.log.entries ++ turn.steps
+  pub lines : Appends written written' (flat_map line_text (turn_lines turn))
+  pub text : r.text ≡ turn_text turn
+  pub error : r.error ≡ is_refused turn

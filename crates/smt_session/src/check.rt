@@ -1,16 +1,19 @@
 // A check: its steps, its verdict, and its record.
 
-ghost use Rattle.std.specs.Prelude.{◌≡◌, ◌++◌, List, IfOk, IfSome, OnOk, length};
-ghost use Rattle.proof_text.specs.Records.{AreWritten};
-ghost use Rattle.proof_log.specs.Stored.{Stands};
-ghost use Rattle.smt_session.specs.Growing.{AreLined, Grows};
-ghost use Rattle.smt_session.specs.Sessions.{verdict_of};
+ghost use Rattle.std.specs.Prelude.{◌≡◌, ◌++◌, ◌-◌, ◌<◌, IfOk, OnOk, drop, length};
+ghost use Rattle.std.specs.List.{flat_map};
+ghost use Rattle.proof_text.specs.Lines.{line_text};
+ghost use Rattle.proof_text.specs.Records.{AreWritten, record_lines};
+ghost use Rattle.accepted_proof.specs.Answers.{step_lines};
+ghost use Rattle.accepted_proof.specs.Turns.{verdict_of};
+ghost use Rattle.smt_session.specs.Growing.{AreSelectors, AreLined};
+ghost use Rattle.smt_session.specs.Sessions.{IsChecked, IsSession};
 
 use crate::encoding::{encode_all, select_all};
 use crate::model::model;
-use crate::reach::Reached;
+use crate::reach::reach;
 use crate::solve::{push_chains, solve};
-use cnf_base::Pos;
+use cnf_base::{Lit, Pos};
 use plain_search::{Outcome, Verdict as Found};
 use proof_log::Log;
 use proof_text::entry::write_entry;
@@ -21,7 +24,7 @@ use smt_text::text::Text;
 use std::alloc::{AllocError, Global};
 
 /// The verdict that a record shows.
-fn verdict_of(shown: &Record) -> Verdict
+pub(crate) fn verdict_of(shown: &Record) -> Verdict
     ensures { result ≡ verdict_of shown.now }
 {
     match shown {
@@ -30,44 +33,53 @@ fn verdict_of(shown: &Record) -> Verdict
     }
 }
 
-/// Encodes what the live assertions reach, searches for a verdict, and gives the record that shows it: nothing where there
-/// is no step for a term that is reached.
-fn check(
+/// Searches for a verdict over the selectors of the live assertions, adds the clauses that the search learnt, and gives the
+/// record that shows the verdict.
+fn conclude(
     alloc: Global,
     state: &State,
     log: &mut Log,
-    reached: &mut Reached,
-) -> Result<Option<Record>, AllocError>
-    requires { Stands state.now.terms.nodes log.old }
-    ensures grows { IfOk result (λ _. Grows state.now.terms.nodes log.old log.new) }
-    ensures written { IfOk result (λ o. IfSome o AreWritten) }
+    given: &[Lit],
+) -> Result<Record, AllocError>
+    requires session { IsSession (record { state = state.now; log = log.old }) }
+    requires given { AreSelectors log.old state.now.scopes.live given.now }
+    ensures { IfOk result (IsChecked state.now log.old log.new) }
 {
-    let list = reached.reach(alloc, state.terms(), state.live())?;
-    if !encode_all(alloc, state.terms(), log, list.as_slice())? {
-        return Ok(None);
-    }
-    let Some(given) = select_all(alloc, state.terms(), log, state.live())? else {
-        return Ok(None)
-    };
-    let Outcome { chains, verdict } = solve(alloc, state.terms(), log, given.as_slice())?;
-    push_chains(alloc, state.terms(), log, chains.as_slice())?;
+    let Outcome { chains, verdict } = solve(alloc, state.terms(), log, given)?;
     match verdict {
-        Found::Refuted => Ok(Some(Record::Unsat(log.len() - 1))),
-        Found::Model(values) => match model(alloc, state, log, values.as_slice())? {
-            Some(values) => Ok(Some(Record::Sat(values))),
-            None => Ok(None),
-        },
+        Found::Model(values) => {
+            let values = model(alloc, state, log, values)?;
+            push_chains(alloc, state.terms(), log, chains.as_slice())?;
+            Ok(Record::Sat(values))
+        }
+        Found::Refuted => {
+            push_chains(alloc, state.terms(), log, chains.as_slice())?;
+            Ok(Record::Unsat(log.len() - 1))
+        }
     }
+}
+
+/// Gives what the live assertions reach its bits, searches for a verdict, and gives the record that shows it.
+fn check(alloc: Global, state: &State, log: &mut Log) -> Result<Record, AllocError>
+    requires { IsSession (record { state = state.now; log = log.old }) }
+    ensures { IfOk result (IsChecked state.now log.old log.new) }
+{
+    let marks = reach(alloc, state, log)?;
+    encode_all(alloc, state, log, marks.as_slice())?;
+    let given = select_all(alloc, state, log, state.live())?;
+    conclude(alloc, state, log, given.as_slice())
 }
 
 /// Appends the lines of the steps from a position on.
 fn write_steps(log: &Log, from: Pos, out: &mut Text) -> Result<(), AllocError>
-    requires { AreLined log.now.entries }
+    requires lined { AreLined log.now.entries }
+    requires from { 0 < from }
+    ensures { OnOk result (out.new ≡ out.old ++ flat_map line_text (step_lines (drop (from - 1) log.now.entries))) }
 {
     'steps: for at in from..log.len() {
         match log.entry(at) {
             Some(entry) => write_entry(entry, out)?,
-            None => {}
+            None => unreachable!(),
         }
     }
     Ok(())
@@ -76,7 +88,9 @@ fn write_steps(log: &Log, from: Pos, out: &mut Text) -> Result<(), AllocError>
 /// The lines of the steps from a position on, and of a record.
 fn lines(alloc: Global, log: &Log, from: Pos, shown: &Record) -> Result<Text, AllocError>
     requires lined { AreLined log.now.entries }
+    requires from { 0 < from }
     requires written { AreWritten shown.now }
+    ensures { IfOk result (λ t. t ≡ flat_map line_text (step_lines (drop (from - 1) log.now.entries)) ++ flat_map line_text (record_lines shown.now)) }
 {
     let mut out = Text::new(alloc);
     write_steps(log, from, &mut out)?;
@@ -84,33 +98,25 @@ fn lines(alloc: Global, log: &Log, from: Pos, shown: &Record) -> Result<Text, Al
     Ok(out)
 }
 
-/// What a check came to: the lines for the proof, and the verdict.
+/// The record of a check, and the lines of its steps and the record.
 #[derive(Drop)]
 pub(crate) struct Checked {
+    pub(crate) shown: Record,
     pub(crate) text: Text,
-    pub(crate) verdict: Verdict,
 }
 
-/// Checks the live assertions, and prints the lines of the steps from a position on and of the record: nothing where there
-/// is no step for a term that is reached.
+/// Checks the live assertions, and prints the lines of the check.
 pub(crate) fn run_check(
     alloc: Global,
     state: &State,
     log: &mut Log,
-    from: Pos,
-    reached: &mut Reached,
-) -> Result<Option<Checked>, AllocError>
-    requires stands { Stands state.now.terms.nodes log.old }
-    requires lined { AreLined log.old.entries }
-    ensures grows { IfOk result (λ _. Grows state.now.terms.nodes log.old log.new) }
-    ensures lined { IfOk result (λ _. AreLined log.new.entries) }
+) -> Result<Checked, AllocError>
+    requires { IsSession (record { state = state.now; log = log.old }) }
+    ensures checked { IfOk result (λ c. IsChecked state.now log.old log.new c.shown) }
+    ensures text { IfOk result (λ c. c.text ≡ flat_map line_text (step_lines (drop (length log.old.entries) log.new.entries)) ++ flat_map line_text (record_lines c.shown)) }
 {
-    match check(alloc, state, log, reached)? {
-        Some(shown) => {
-            let text = lines(alloc, log, from, &shown)?;
-            let verdict = verdict_of(&shown);
-            Ok(Some(Checked { text, verdict }))
-        }
-        None => Ok(None),
-    }
+    let from = log.len();
+    let shown = check(alloc, state, log)?;
+    let text = lines(alloc, log, from, &shown)?;
+    Ok(Checked { shown, text })
 }

@@ -1,181 +1,129 @@
 // The steps that give terms bits and assertions selectors.
 
-ghost use Rattle.std.specs.Prelude.{◌≡◌, ◌<◌, ℕ, All, IfOk, IfSome, IsTrue, IsSome, length};
+ghost use Rattle.std.specs.Prelude.{◌≡◌, ◌<◌, ℕ, All, IfOk, IsTrue, IsFalse, IsSome, None, Some, length, true};
 ghost use Rattle.scope_selectors.specs.declared.live.Live.{Live as LiveValue};
-ghost use Rattle.smt_terms.specs.declared.sort.Sort.TheVariants as sort;
-ghost use Rattle.smt_terms.specs.Terms.{sort_of};
 ghost use Rattle.smt_terms.specs.Bits.{bits_in};
-ghost use Rattle.std.specs.Option.{option_map};
-ghost use Rattle.bit_blast.specs.Blocks.{all_bits, block_of};
+ghost use Rattle.smt_terms.specs.Nodes.{node_at};
+ghost use Rattle.smt_terms.specs.Scalars.{is_fixed};
+ghost use Rattle.script_state.specs.Plain.{is_plain, is_plain_op};
 ghost use Rattle.proof_log.specs.Logs.{constant_width};
-ghost use Rattle.proof_log.specs.Stored.{Stands};
-ghost use Rattle.smt_session.specs.Growing.{Grows, IsHeldTruth, AreSelectors};
-ghost use Rattle.smt_session.specs.Pairs.{AreAlike, IsPair};
+ghost use Rattle.proof_log.specs.Stored.{Stands, selector_in};
+ghost use Rattle.smt_session.specs.Growing.{Grows, HasBits, IsAsserted, AreSelectors};
+ghost use Rattle.smt_session.specs.Reaching.{AreReached};
 
 use cnf_base::Lit;
 use proof_log::Log;
 use proof_log::entry::Entry;
 use scope_selectors::live::Live;
-use smt_terms::bits::Bits;
-use smt_terms::node::{Node, Op, TermId};
-use smt_terms::operator::Operator;
-use smt_terms::sort::Sort;
-use smt_terms::terms::Terms;
+use script_state::state::State;
+use smt_terms::node::{Op, TermId};
 use std::alloc::{AllocError, Global};
 
-/// Whether the operator is a declared Bool or word.
+/// Whether the operator is a declared constant.
 fn is_constant(op: &Op) -> bool
-    ensures { IsTrue result → IsSome (constant_width op.now) }
+    ensures constant { IsTrue result → is_plain_op op.now ≡ true → IsSome (constant_width op.now) }
+    ensures other { IsFalse result → is_plain_op op.now ≡ true → is_fixed op.now ≡ true }
 {
-    match op {
-        Op::Constant {
-            declaration: _,
-            sort,
-        } => !matches!(sort, Sort::Array(_, _)),
-        _ => false,
-    }
+    matches!(op, Op::Constant { .. })
 }
 
-/// How many bits a term has, if it has them.
-fn row_len(bits: &Bits, term: TermId) -> Option<usize>
-    ensures { result ≡ option_map (λ row. length row) (bits_in bits.now term) }
-{
-    match bits.of(term) {
-        Some(row) => Some(row.len()),
-        None => None,
-    }
-}
-
-/// Whether both terms have bits, and equally many.
-fn are_alike(bits: &Bits, a: TermId, b: TermId) -> bool
-    ensures { IsTrue result → AreAlike (bits_in bits.now a) (bits_in bits.now b) }
-{
-    match row_len(bits, a) {
-        Some(first) => match row_len(bits, b) {
-            Some(second) => first == second,
-            None => false,
-        },
-        None => false,
-    }
-}
-
-/// Whether there are two arguments, which have bits, and equally many.
-fn has_pair(bits: &Bits, args: &[TermId]) -> bool
-    ensures { IsTrue result → IsPair (all_bits (bits_in bits.now) args.now) }
-{
-    match args {
-        [a, b] => are_alike(bits, *a, *b),
-        _ => false,
-    }
-}
-
-/// Whether the node is one of the terms that scripts make, other than a constant, and its arguments have bits.
-#[tactic(auto, using(crate::proofs::PairLemmas::pair_block))]
-fn has_circuit(node: &Node, bits: &Bits) -> bool
-    ensures { IsTrue result → (g : ℕ) → IsSome (block_of g (bits_in bits.now) node.now) }
-{
-    match &node.op {
-        Op::Word { width: _, value: _ } => node.args.as_slice().is_empty(),
-        Op::Plain(Operator::Bvnot) => match node.args.as_slice() {
-            [a] => bits.of(*a).is_some(),
-            _ => false,
-        },
-        Op::Plain(Operator::Equal) => has_pair(bits, node.args.as_slice()),
-        Op::Plain(Operator::Bvadd) => has_pair(bits, node.args.as_slice()),
-        Op::Plain(Operator::Bvand) => has_pair(bits, node.args.as_slice()),
-        _ => false,
-    }
-}
-
-/// Gives a term bits, unless it has them: false where there is no step for it.
-fn encode(alloc: Global, terms: &Terms, log: &mut Log, term: TermId) -> Result<bool, AllocError>
-    requires held { term < length terms.now.nodes }
-    requires stands { Stands terms.now.nodes log.old }
-    ensures { IfOk result (λ _. Grows terms.now.nodes log.old log.new) }
+/// Gives a plain term bits, unless it has them.
+fn encode(alloc: Global, state: &State, log: &mut Log, term: TermId) -> Result<(), AllocError>
+    requires held { term < length state.now.terms.nodes }
+    requires plain { is_plain state.now.terms.nodes term ≡ true }
+    requires stands { Stands state.now.terms.nodes log.old }
+    requires arguments { bits_in log.old.bits term ≡ None → All (HasBits log.old) (node_at state.now.terms.nodes term).args }
+    ensures grows { IfOk result (λ _. Grows state.now log.old log.new) }
+    ensures bits { IfOk result (λ _. HasBits log.new term) }
 {
     if log.bits().of(term).is_some() {
-        return Ok(true);
+        return Ok(());
     }
-    let node = terms.node(term);
-    if is_constant(&node.op) {
+    let terms = state.terms();
+    if is_constant(&terms.node(term).op) {
         log.push(alloc, terms, Entry::Leaf(term))?;
-        return Ok(true);
+        return Ok(());
     }
-    if has_circuit(node, log.bits()) {
-        log.push(alloc, terms, Entry::Encode(term))?;
-        return Ok(true);
-    }
-    Ok(false)
+    log.push(alloc, terms, Entry::Encode(term))?;
+    Ok(())
 }
 
-/// Gives each of the terms bits: false where there is no step for one of them.
+/// Gives each marked term bits, and so each live assertion's.
 pub(crate) fn encode_all(
     alloc: Global,
-    terms: &Terms,
+    state: &State,
     log: &mut Log,
-    list: &[TermId],
-) -> Result<bool, AllocError>
-    requires held { All (λ t. t < length terms.now.nodes) list.now }
-    requires stands { Stands terms.now.nodes log.old }
-    ensures { IfOk result (λ _. Grows terms.now.nodes log.old log.new) }
+    marks: &[bool],
+) -> Result<(), AllocError>
+    requires reached { AreReached state.now.terms.nodes log.old.bits state.now.scopes.live marks.now }
+    requires stands { Stands state.now.terms.nodes log.old }
+    ensures grows { IfOk result (λ _. Grows state.now log.old log.new) }
+    ensures bits { IfOk result (λ _. All (λ (a : LiveValue). HasBits log.new a.term) state.now.scopes.live) }
 {
-    for term in list {
-        if !encode(alloc, terms, log, *term)? {
-            return Ok(false);
+    'terms: for term in 0..state.terms().len() {
+        if marks[term as usize] {
+            encode(alloc, state, log, term)?;
         }
     }
-    Ok(true)
+    Ok(())
 }
 
-/// Gives an assertion a selector, unless it has one: false where its term is no bit.
-fn select(alloc: Global, terms: &Terms, log: &mut Log, assertion: &Live) -> Result<bool, AllocError>
-    requires truth { IsHeldTruth terms.now.nodes assertion.now }
-    requires stands { Stands terms.now.nodes log.old }
-    ensures { IfOk result (λ _. Grows terms.now.nodes log.old log.new) }
+/// Gives an assertion that has no selector one.
+fn add_selector(
+    alloc: Global,
+    state: &State,
+    log: &mut Log,
+    assertion: &Live,
+) -> Result<(), AllocError>
+    requires asserted { IsAsserted state.now assertion.now }
+    requires bits { HasBits log.old assertion.now.term }
+    requires stands { Stands state.now.terms.nodes log.old }
+    requires new { selector_in log.old.selectors assertion.now.assertion ≡ None }
+    ensures grows { IfOk result (λ _. Grows state.now log.old log.new) }
+    ensures selector { IfOk result (λ _. IsSome (selector_in log.new.selectors assertion.now.assertion)) }
 {
-    if log.selector(assertion.assertion).is_some() {
-        return Ok(true);
-    }
-    match log.bits().of(assertion.term) {
-        Some([_]) => {
-            let entry = Entry::Selector(assertion.assertion, assertion.term);
-            log.push(alloc, terms, entry)?;
-            Ok(true)
-        }
-        _ => Ok(false),
-    }
+    let entry = Entry::Selector(assertion.assertion, assertion.term);
+    log.push(alloc, state.terms(), entry)?;
+    Ok(())
 }
 
-/// The selectors of the live assertions, where each has one.
-fn selectors(alloc: Global, log: &Log, live: &[Live]) -> Result<Option<Vec<Lit>>, AllocError>
-    ensures { IfOk result (λ o. IfSome o (λ given. AreSelectors log.now live.now given.items)) }
+/// Gives an assertion a selector, unless it has one, and gives the selector.
+fn select(
+    alloc: Global,
+    state: &State,
+    log: &mut Log,
+    assertion: &Live,
+) -> Result<Lit, AllocError>
+    requires asserted { IsAsserted state.now assertion.now }
+    requires bits { HasBits log.old assertion.now.term }
+    requires stands { Stands state.now.terms.nodes log.old }
+    ensures grows { IfOk result (λ _. Grows state.now log.old log.new) }
+    ensures selector { IfOk result (λ l. selector_in log.new.selectors assertion.now.assertion ≡ Some l) }
 {
-    let mut given = Vec::new(alloc);
-    for assertion in live {
-        match log.selector(assertion.assertion) {
-            Some(selector) => given.push(selector)?,
-            None => return Ok(None),
-        }
+    if let Some(selector) = log.selector(assertion.assertion) {
+        return Ok(selector);
     }
-    Ok(Some(given))
+    add_selector(alloc, state, log, assertion)?;
+    Ok(log.selector(assertion.assertion).unwrap())
 }
 
-/// Gives each live assertion a selector, and gives the selectors: nothing where the term of one is no bit.
+/// Gives each of the assertions a selector, and gives the selectors.
 pub(crate) fn select_all(
     alloc: Global,
-    terms: &Terms,
+    state: &State,
     log: &mut Log,
     live: &[Live],
-) -> Result<Option<Vec<Lit>>, AllocError>
-    requires truths { All (IsHeldTruth terms.now.nodes) live.now }
-    requires stands { Stands terms.now.nodes log.old }
-    ensures grows { IfOk result (λ _. Grows terms.now.nodes log.old log.new) }
-    ensures given { IfOk result (λ o. IfSome o (λ given. AreSelectors log.new live.now given.items)) }
+) -> Result<Vec<Lit>, AllocError>
+    requires asserted { All (IsAsserted state.now) live.now }
+    requires bits { All (λ (a : LiveValue). HasBits log.old a.term) live.now }
+    requires stands { Stands state.now.terms.nodes log.old }
+    ensures grows { IfOk result (λ _. Grows state.now log.old log.new) }
+    ensures given { IfOk result (λ given. AreSelectors log.new live.now given.items) }
 {
-    for assertion in live {
-        if !select(alloc, terms, log, assertion)? {
-            return Ok(None);
-        }
+    let mut given = Vec::new(alloc);
+    'live: for assertion in live {
+        let selector = select(alloc, state, log, assertion)?;
+        given.push(selector)?;
     }
-    selectors(alloc, log, live)
+    Ok(given)
 }

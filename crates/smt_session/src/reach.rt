@@ -1,101 +1,77 @@
-// Which terms a check reaches that no check reached before.
+// Which terms the live assertions reach that have no bits yet.
 
-ghost use Rattle.std.specs.Prelude.{◌<◌, ◌≤◌, ℕ, All, IfOk, length};
-ghost use Rattle.smt_terms.specs.Terms.{IsTermList};
-ghost use Rattle.smt_session.specs.Growing.{IsHeldTruth};
+ghost use Rattle.std.specs.Prelude.{◌≡◌, ◌<◌, ◌≤◌, ℕ, [], ◌∷◌, true, false, All, IfOk, length};
+ghost use Rattle.smt_terms.specs.Nodes.{node_at};
+ghost use Rattle.scope_selectors.specs.declared.live.Live.{Live as LiveValue};
+ghost use Rattle.script_state.specs.Plain.{is_plain};
+ghost use Rattle.smt_session.specs.Reaching.{AreMarks, AreReached, IsMarked, Marks};
 
+use proof_log::Log;
 use scope_selectors::live::Live;
+use script_state::state::State;
 use smt_terms::node::TermId;
 use smt_terms::terms::Terms;
 use std::alloc::{AllocError, Global};
 
-/// The terms that were reached so far, by their numbers.
-#[derive(Drop)]
-pub(crate) struct Reached {
-    marks: Vec<bool>,
-}
-
-/// Marks a term, and puts it at the end of the list if it had no mark.
-fn visit(marks: &mut [bool], list: &mut Vec<TermId>, term: TermId) -> Result<(), AllocError>
-    requires { term < length marks.old }
-    ensures { (n : ℕ) → term < n → All (λ t. t < n) list.old.items → All (λ t. t < n) list.new.items }
-{
-    if !marks[term as usize] {
-        marks[term as usize] = true;
-        list.push(term)?;
-    }
-    Ok(())
-}
-
-/// Visits the arguments of a term.
-fn visit_arguments(
-    terms: &Terms,
-    term: TermId,
-    marks: &mut [bool],
-    list: &mut Vec<TermId>,
-) -> Result<(), AllocError>
+/// Marks a plain term.
+fn mark(terms: &Terms, marks: &mut [bool], term: TermId)
     requires held { term < length terms.now.nodes }
-    requires room { length terms.now.nodes ≤ length marks.old }
-    requires list { All (λ t. t < length terms.now.nodes) list.old.items }
-    ensures { All (λ t. t < length terms.now.nodes) list.new.items }
+    requires plain { is_plain terms.now.nodes term ≡ true }
+    requires marks { AreMarks terms.now.nodes marks.old }
+    ensures { (bound : ℕ) → term < bound → Marks terms.now.nodes bound marks.old marks.new (term ∷ []) }
+{
+    marks[term as usize] = true;
+}
+
+/// Marks the arguments of a plain term.
+fn mark_arguments(terms: &Terms, marks: &mut [bool], term: TermId)
+    requires held { term < length terms.now.nodes }
+    requires plain { is_plain terms.now.nodes term ≡ true }
+    requires marks { AreMarks terms.now.nodes marks.old }
+    ensures { Marks terms.now.nodes term marks.old marks.new (node_at terms.now.nodes term).args }
 {
     let arguments = terms.node(term).args.as_slice();
-    for argument in arguments {
-        visit(marks, list, *argument)?;
+    'arguments: for argument in arguments {
+        mark(terms, marks, *argument);
     }
-    Ok(())
 }
 
-/// The terms that the live assertions reach and that have no mark yet.
-fn reach(
-    alloc: Global,
-    terms: &Terms,
-    live: &[Live],
-    marks: &mut [bool],
-) -> Result<Vec<TermId>, AllocError>
-    requires truths { All (IsHeldTruth terms.now.nodes) live.now }
-    requires room { length terms.now.nodes ≤ length marks.old }
-    ensures { IfOk result (λ list. All (λ t. t < length terms.now.nodes) list.items) }
+/// Marks the terms of assertions.
+fn mark_live(terms: &Terms, marks: &mut [bool], live: &[Live])
+    requires held { All (λ (a : LiveValue). a.term < length terms.now.nodes) live.now }
+    requires plain { All (λ (a : LiveValue). is_plain terms.now.nodes a.term ≡ true) live.now }
+    requires marks { AreMarks terms.now.nodes marks.old }
+    ensures marks { AreMarks terms.now.nodes marks.new }
+    ensures live { All (λ (a : LiveValue). IsMarked marks.new a.term) live.now }
 {
-    let mut list = Vec::new(alloc);
     'live: for assertion in live {
-        visit(marks, &mut list, assertion.term)?;
+        mark(terms, marks, assertion.term);
     }
-    // No term is in the list twice, so it has no more places than there are terms.
-    'list: for at in 0..terms.len() as usize {
-        if at >= list.len() {
-            break;
-        }
-        visit_arguments(terms, list[at], marks, &mut list)?;
-    }
-    Ok(list)
 }
 
-impl Reached {
-    /// None yet.
-    pub(crate) fn new(alloc: Global) -> Reached {
-        Reached {
-            marks: Vec::new(alloc),
+/// Marks what marked terms without bits have as arguments, from the last term to the first.
+fn mark_below(terms: &Terms, log: &Log, marks: &mut [bool], live: &[Live])
+    requires marks { AreMarks terms.now.nodes marks.old }
+    requires live { All (λ (a : LiveValue). IsMarked marks.old a.term) live.now }
+    ensures { AreReached terms.now.nodes log.now.bits live.now marks.new }
+{
+    let mut term = terms.len();
+    'terms: while term > 0 {
+        term -= 1;
+        if marks[term as usize] && log.bits().of(term).is_none() {
+            mark_arguments(terms, marks, term);
         }
     }
+}
 
-    /// The terms that the live assertions reach and that were not reached before, the lowest first.
-    pub(crate) fn reach(
-        &mut self,
-        alloc: Global,
-        terms: &Terms,
-        live: &[Live],
-    ) -> Result<Vec<TermId>, AllocError>
-        requires { All (IsHeldTruth terms.now.nodes) live.now }
-        ensures held { IfOk result (λ list. All (λ t. t < length terms.now.nodes) list.items) }
-        ensures listed { IsTermList terms.now.nodes }
-    {
-        let count = terms.len() as usize;
-        if self.marks.len() < count {
-            self.marks.resize(count, false)?;
-        }
-        let mut list = reach(alloc, terms, live, &mut self.marks)?;
-        list.sort()?;
-        Ok(list)
-    }
+/// A mark for each term that the live assertions reach and that has no bits yet.
+pub(crate) fn reach(alloc: Global, state: &State, log: &Log) -> Result<Vec<bool>, AllocError>
+    ensures { IfOk result (λ marks. AreReached state.now.terms.nodes log.now.bits state.now.scopes.live marks.items) }
+{
+    let terms = state.terms();
+    let mut marks = Vec::new(alloc);
+    marks.resize(terms.len() as usize, false)?;
+    mark_live(terms, &mut marks, state.live());
+    mark_below(terms, log, &mut marks, state.live());
+    Ok(marks)
 }

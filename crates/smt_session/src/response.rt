@@ -1,8 +1,9 @@
 // What a command is answered, and why it is not.
 
-ghost use Rattle.std.specs.Prelude.{◌≡◌, ◌++◌, IfOk, OnOk};
+ghost use Rattle.std.specs.Prelude.{◌≡◌, ◌++◌, [], true, false, IfOk, OnOk};
 ghost use Rattle.std.specs.Fmt.{decimal};
-ghost use Rattle.smt_session.specs.Responses.{silent, error_text, refusal_of, answer_of};
+ghost use Rattle.accepted_proof.specs.Answers.{error_text, verdict_text};
+ghost use Rattle.smt_session.specs.Sessions.{response};
 
 use script_state::answer::Verdict;
 use script_state::error_text::ErrorText;
@@ -59,7 +60,7 @@ fn refusal_text(alloc: Global, line: u64, error: ErrorText) -> Result<Text, Allo
 impl Response {
     /// No text.
     pub(crate) fn silent(alloc: Global) -> Response
-        ensures { result ≡ silent }
+        ensures { result ≡ response [] false }
     {
         Response {
             text: Text::new(alloc),
@@ -74,7 +75,7 @@ impl Response {
         line: u64,
         error: ErrorText,
     ) -> Result<Response, AllocError>
-        ensures { IfOk result (λ r. r ≡ refusal_of line error) }
+        ensures { IfOk result (λ r. r ≡ response (error_text line error) true) }
     {
         let text = refusal_text(alloc, line, error)?;
         Ok(Response {
@@ -86,7 +87,7 @@ impl Response {
 
     /// The verdict of a check.
     pub(crate) fn verdict(alloc: Global, verdict: Verdict) -> Result<Response, AllocError>
-        ensures { IfOk result (λ r. r ≡ answer_of verdict) }
+        ensures { IfOk result (λ r. r ≡ response (verdict_text verdict) false) }
     {
         let text: &[u8] = match verdict {
             Verdict::Sat => b"sat\n",

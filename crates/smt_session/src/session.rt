@@ -1,21 +1,16 @@
 // Sessions.
 
-ghost use Rattle.std.specs.Prelude.{◌≡◌, ◌≤◌, ℕ, List, Err, IfOk, false};
+ghost use Rattle.std.specs.Prelude.{◌≡◌, ◌≤◌, ℕ, List, [], Err, IfOk, OnOk, false};
 ghost use Rattle.std.specs.Io.KnownBytes.{Appends};
 ghost use Rattle.smt_desk.specs.Faults.{Rose};
-ghost use Rattle.proof_log.specs.Stored.{Stands};
-ghost use Rattle.smt_session.specs.Growing.{AreLined};
-ghost use Rattle.smt_session.specs.Responses.{Responds};
-ghost use Rattle.smt_session.specs.Sessions.{IsAnswered};
+ghost use Rattle.script_state.specs.States.{no_state};
+ghost use Rattle.smt_session.specs.Sessions.{IsAnswered, IsSession, Responds};
 
-use crate::check::run_check;
-use crate::reach::Reached;
+use crate::check::{run_check, verdict_of};
 use crate::response::{Response, Stop};
 use crate::settings::Settings;
-use cnf_base::Pos;
 use proof_log::Log;
 use script_state::answer::Answer;
-use script_state::error_text::ErrorText;
 use script_state::state::State;
 use smt_desk::stream::{Sink, write_whole};
 use smt_text::chunk::Chunk;
@@ -28,9 +23,6 @@ use std::marker::Model;
 pub struct Session {
     state: State,
     log: Log,
-    /// The first position of the log whose line is not written.
-    unwritten: Pos,
-    reached: Reached,
     settings: Settings,
 }
 
@@ -46,6 +38,7 @@ impl Model for Session {
 
 /// Writes the lines of a check.
 fn write_lines<Q: Sink>(text: &Text, proof: &mut Q) -> Result<(), Stop>
+    ensures ok { OnOk result (Appends (Q.written proof.old) (Q.written proof.new) text.now) }
     ensures written { (bytes : List ℕ) × Appends (Q.written proof.old) (Q.written proof.new) bytes }
     ensures failed { result ≡ Err Stop.Failed → Rose (Q.faults proof.old) (Q.faults proof.new) }
     ensures later { Q.faults proof.old ≤ Q.faults proof.new }
@@ -62,31 +55,22 @@ fn answer_check<Q: Sink>(
     line: u64,
     state: &mut State,
     log: &mut Log,
-    unwritten: &mut Pos,
-    reached: &mut Reached,
     proof: &mut Q,
 ) -> Result<Response, Stop>
-    requires stands { Stands state.old.terms.nodes log.old }
-    requires lined { AreLined log.old.entries }
-    ensures stands { IfOk result (λ _. Stands state.new.terms.nodes log.new) }
-    ensures lined { IfOk result (λ _. AreLined log.new.entries) }
-    ensures response { IfOk result (λ r. Responds Answer.Check line r state.old state.new) }
+    requires { IsSession (record { state = state.old; log = log.old }) }
+    ensures session { IfOk result (λ _. IsSession (record { state = state.new; log = log.new })) }
+    ensures response { IfOk result (λ r. Responds line Answer.Check state.old state.new log.old log.new r (Q.written proof.old) (Q.written proof.new)) }
+    ensures ends { IfOk result (λ r. r.ends ≡ false) }
     ensures written { (bytes : List ℕ) × Appends (Q.written proof.old) (Q.written proof.new) bytes }
     ensures failed { result ≡ Err Stop.Failed → Rose (Q.faults proof.old) (Q.faults proof.new) }
     ensures later { Q.faults proof.old ≤ Q.faults proof.new }
 {
-    match run_check(alloc, state, log, *unwritten, reached)? {
-        Some(checked) => {
-            write_lines(&checked.text, proof)?;
-            *unwritten = log.len();
-            state.conclude(checked.verdict);
-            Ok(Response::verdict(alloc, checked.verdict)?)
-        }
-        None => {
-            *reached = Reached::new(alloc);
-            Ok(Response::refusal(alloc, line, ErrorText::NotSupported)?)
-        }
-    }
+    let checked = run_check(alloc, state, log)?;
+    let verdict = verdict_of(&checked.shown);
+    let response = Response::verdict(alloc, verdict)?;
+    write_lines(&checked.text, proof)?;
+    state.conclude(verdict);
+    Ok(response)
 }
 
 /// Answers what the state says of a command.
@@ -96,15 +80,12 @@ fn respond<Q: Sink>(
     answer: Answer,
     state: &mut State,
     log: &mut Log,
-    unwritten: &mut Pos,
-    reached: &mut Reached,
     proof: &mut Q,
 ) -> Result<Response, Stop>
-    requires stands { Stands state.old.terms.nodes log.old }
-    requires lined { AreLined log.old.entries }
-    ensures stands { IfOk result (λ _. Stands state.new.terms.nodes log.new) }
-    ensures lined { IfOk result (λ _. AreLined log.new.entries) }
-    ensures response { IfOk result (λ r. Responds answer line r state.old state.new) }
+    requires { IsSession (record { state = state.old; log = log.old }) }
+    ensures session { IfOk result (λ _. IsSession (record { state = state.new; log = log.new })) }
+    ensures response { IfOk result (λ r. Responds line answer state.old state.new log.old log.new r (Q.written proof.old) (Q.written proof.new)) }
+    ensures ends { IfOk result (λ r. r.ends ≡ false) }
     ensures written { (bytes : List ℕ) × Appends (Q.written proof.old) (Q.written proof.new) bytes }
     ensures failed { result ≡ Err Stop.Failed → Rose (Q.faults proof.old) (Q.faults proof.new) }
     ensures later { Q.faults proof.old ≤ Q.faults proof.new }
@@ -112,19 +93,19 @@ fn respond<Q: Sink>(
     match answer {
         Answer::Done => Ok(Response::silent(alloc)),
         Answer::Refused(error) => Ok(Response::refusal(alloc, line, error)?),
-        Answer::Check => answer_check(alloc, line, state, log, unwritten, reached, proof),
+        Answer::Check => answer_check(alloc, line, state, log, proof),
     }
 }
 
 impl Session {
     /// No command yet.
-    pub fn new(alloc: Global, settings: Settings) -> Result<Session, AllocError> {
+    pub fn new(alloc: Global, settings: Settings) -> Result<Session, AllocError>
+        ensures fresh { IfOk result (λ s. (s.state ≡ no_state) × (s.log.entries ≡ [])) }
+    {
         let log = Log::new(alloc)?;
         Ok(Session {
             state: State::new(alloc),
-            unwritten: log.len(),
             log,
-            reached: Reached::new(alloc),
             settings,
         })
     }
@@ -142,7 +123,7 @@ impl Session {
         chunk: &Chunk,
         proof: &mut Q,
     ) -> Result<(Session, Response), Stop>
-        ensures answered { IfOk result (λ r. IsAnswered chunk.now self r.0 r.1) }
+        ensures answered { IfOk result (λ r. IsAnswered chunk.now self r.0 r.1 (Q.written proof.old) (Q.written proof.new)) }
         ensures written { (lines : List ℕ) × Appends (Q.written proof.old) (Q.written proof.new) lines }
         ensures failed { result ≡ Err Stop.Failed → Rose (Q.faults proof.old) (Q.faults proof.new) }
         ensures later { Q.faults proof.old ≤ Q.faults proof.new }
@@ -151,29 +132,16 @@ impl Session {
         let Session {
             mut state,
             mut log,
-            mut unwritten,
-            mut reached,
             settings,
         } = self;
         if state.assertions_made() == u32::MAX {
             return Err(Stop::NoMemory);
         }
         let answer = state.apply(alloc, chunk)?;
-        let response = respond(
-            alloc,
-            chunk.line,
-            answer,
-            &mut state,
-            &mut log,
-            &mut unwritten,
-            &mut reached,
-            proof,
-        )?;
+        let response = respond(alloc, chunk.line, answer, &mut state, &mut log, proof)?;
         let session = Session {
             state,
             log,
-            unwritten,
-            reached,
             settings,
         };
         Ok((session, response))

@@ -2,10 +2,10 @@
 
 ghost use Rattle.std.specs.Prelude.{◌≡◌, ◌++◌, All, IfOk, OnOk, map};
 ghost use Rattle.cnf_base.specs.Assignments.{AreBelow};
+ghost use Rattle.cnf_base.specs.declared.clause.ClauseId.{ClauseId};
 ghost use Rattle.smt_terms.specs.Terms.{IsTermList};
 ghost use Rattle.proof_log.specs.Stored.{Stands};
-ghost use Rattle.smt_session.specs.Growing.{Grows};
-ghost use Rattle.smt_session.specs.Searched.{IsOfLog, IsFound, AreLearnt, chain_step};
+ghost use Rattle.smt_session.specs.Searched.{IsOfLog, IsHeld, IsFound, AreLearnt, chain_step};
 
 use cnf_base::{ClauseId, Lit, Pos};
 use plain_search::{Chain, Held, Outcome, search};
@@ -20,7 +20,7 @@ const LAST_POSITION: u64 = 1 << 62;
 /// Variables that a search may name are below this one.
 const LAST_VARIABLE: u64 = 1 << 63;
 
-/// Puts the clauses of a position at the end.
+/// Puts the clauses of a position at the end. A position with more clauses than there are names is want of names.
 fn hold(
     alloc: Global,
     terms: &Terms,
@@ -31,7 +31,9 @@ fn hold(
     requires listed { IsTermList terms.now.nodes }
     requires stands { Stands terms.now.nodes log.now }
     requires held { All (IsOfLog log.now) held.old.items }
-    ensures { OnOk result (All (IsOfLog log.now) held.new.items) }
+    ensures of_log { OnOk result (All (IsOfLog log.now) held.new.items) }
+    ensures position { OnOk result ((id : ClauseId) → id.pos ≡ pos → IsHeld log.now held.new.items id) }
+    ensures kept { OnOk result ((id : ClauseId) → IsHeld log.now held.old.items id → IsHeld log.now held.new.items id) }
 {
     'parts: for part in 0..u32::MAX {
         let id = ClauseId { pos, part };
@@ -41,14 +43,15 @@ fn hold(
         let clause = clause.copy(alloc)?;
         held.push(Held { id, clause })?;
     }
-    Ok(())
+    Err(AllocError)
 }
 
 /// The clauses of a log, with their names.
 fn clauses(alloc: Global, terms: &Terms, log: &Log) -> Result<Vec<Held>, AllocError>
     requires listed { IsTermList terms.now.nodes }
     requires stands { Stands terms.now.nodes log.now }
-    ensures { IfOk result (λ held. All (IsOfLog log.now) held.items) }
+    ensures of_log { IfOk result (λ held. All (IsOfLog log.now) held.items) }
+    ensures all { IfOk result (λ held. (id : ClauseId) → IsHeld log.now held.items id) }
 {
     let mut held = Vec::new(alloc);
     'positions: for pos in 0..log.len() {
@@ -88,7 +91,7 @@ pub(crate) fn push_chains(
 ) -> Result<(), AllocError>
     requires stands { Stands terms.now.nodes log.old }
     requires learnt { AreLearnt log.old chains.now }
-    ensures grows { OnOk result (Grows terms.now.nodes log.old log.new) }
+    ensures stands { OnOk result (Stands terms.now.nodes log.new) }
     ensures entries { OnOk result (log.new.entries ≡ log.old.entries ++ map chain_step chains.now) }
 {
     for chain in chains {

@@ -1,2 +1,6 @@
 pub mod Parts
 pub mod Written
+pub mod Turning
+pub mod Begun
+pub mod OneTurn
+pub mod Telling

@@ -6,7 +6,7 @@ use Rattle.std.proofs.KnownBytes.{Appends-nil, Appends-trans, Consumes-nil, Cons
 use Rattle.smt_desk.specs.Faults.{Rose}
 use Rattle.smt_tool.specs.declared.status.Status.{Status}
 use Rattle.smt_tool.specs.declared.status.Status.TheVariants.{Done, Refused, Usage, ReadFault, WriteFault, NoMemory, TooLong}
-use Rattle.smt_tool.specs.Runs.{AddsTo, BeginsWith, ReadsBytes, Counts, IsLater, HasCause, StopsWriting, input_limit, ReadsWithin, header}
+use Rattle.smt_tool.specs.Runs.{AddsTo, BeginsWith, ReadsBytes, Counts, IsLater, HasCause, StopsWriting, input_limit, ReadsWithin}
 
 pub adds_none : (a : Option (List ℕ)) → AddsTo a a
 adds_none a = ([], Appends-nil a)

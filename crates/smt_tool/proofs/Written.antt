@@ -1,7 +1,7 @@
 -- What a part of a run read and wrote, and that no count fell.
 use Rattle.std.proofs.Common.{◌≡◌, ℕ, ◌+◌, ◌-◌, ◌<◌, ◌≤◌, Bool, List, Option, ◌⊎◌, ⊎_elim, sym, subst, arith}
 use Rattle.std.specs.Prelude.{Result, Ok, Err, IfErr}
-use Rattle.std.specs.Io.KnownBytes.{IsAtEnd}
+use Rattle.std.specs.Io.KnownBytes.{Consumes, IsAtEnd}
 use Rattle.smt_desk.specs.Faults.{Rose}
 use Rattle.smt_tool.specs.declared.status.Status.{Status}
 use Rattle.smt_tool.specs.declared.status.Status.TheVariants.{Done, Refused, Usage, ReadFault, WriteFault, NoMemory, TooLong}
@@ -58,6 +58,16 @@ read_failed size left a b c ReadFault p q = within_more size left 0 a b c p (ome
 read_failed size left a b c WriteFault p q = absurd q
 read_failed size left a b c NoMemory p q = absurd q
 read_failed size left a b c TooLong p q = reads_more (input_limit - left) 1 (input_limit + 1) a b c p.read q.1 (omega (arith, q.0))
+
+-- the bytes of a read that failed
+pub piece_read : (left : ℕ) (b c : Option (List ℕ)) (s : Status) → ReadsPiece left b c (Err s) → (bytes : List ℕ) × Consumes b c bytes
+piece_read left b c Done q = absurd q
+piece_read left b c Refused q = absurd q
+piece_read left b c Usage q = absurd q
+piece_read left b c ReadFault q = (q.0, q.1)
+piece_read left b c WriteFault q = absurd q
+piece_read left b c NoMemory q = absurd q
+piece_read left b c TooLong q = (q.1.0, q.1.1)
 
 -- what is answered behind the end of the script
 pub read_whole : (old new : Option (List ℕ)) (r : Result Bool Status) → IfErr r StopsWriting → ReadsWithin old new → IsAtEnd new → IsRead old new r

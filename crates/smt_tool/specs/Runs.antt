@@ -1,5 +1,5 @@
 -- What a run reads and writes, and why it ends.
-use Rattle.std.specs.Prelude.{◌≡◌, ◌⊎◌, ℕ, ◌+◌, ◌^◌, ◌≤◌, Bool, List, ◌++◌, Option, Result, Ok, Err, [], ◌∷◌, codes, length}
+use Rattle.std.specs.Prelude.{◌≡◌, ◌⊎◌, ℕ, ◌+◌, ◌^◌, ◌≤◌, Bool, List, ◌++◌, Option, Result, Ok, Err, length}
 use Rattle.std.specs.Io.KnownBytes.{Appends, Consumes, IsAtEnd}
 use Rattle.smt_desk.specs.Faults.{Rose}
 use Rattle.smt_tool.specs.declared.status.Status.{Status}
@@ -75,7 +75,3 @@ IsRead old new (Err ReadFault) = ReadsWithin old new
 IsRead old new (Err WriteFault) = ReadsWithin old new
 IsRead old new (Err NoMemory) = ReadsWithin old new
 IsRead old new (Err TooLong) = ReadsBytes (input_limit + 1) old new
-
--- the first line of a proof that is searched without cubes
-abbrev pub header : List ℕ
-header = codes "smt_proof 1 cubes 0 budget 100000" ++ 10 ∷ []

@@ -1,9 +1,9 @@
 // Commands and their answers.
 
-ghost use Rattle.std.specs.Prelude.{◌≡◌, ◌≤◌, if◌then◌else◌, None, Some, IfOk, IfErr, length};
-ghost use Rattle.std.specs.Io.KnownBytes.{Appends};
-ghost use Rattle.smt_text.specs.Framing.{first_chunk};
+ghost use Rattle.std.specs.Prelude.{◌≡◌, if◌then◌else◌, [], ◌∷◌, IfOk, IfErr, option_to_list};
+ghost use Rattle.smt_text.specs.Framing.{last_chunk};
 ghost use Rattle.smt_tool.specs.Runs.{AddsTo, IsLater, HasCause, StopsWriting, counts};
+ghost use Rattle.smt_tool.specs.Adding.{moment_of, streams, with_piece, Advances, BreaksAt, AdvancesWithin, BreaksWithin, AddsLast};
 
 use crate::status::Status;
 use smt_desk::stream::{Sink, write_whole};
@@ -39,6 +39,8 @@ fn answer<W: Sink, Q: Sink>(
     answers: &mut W,
     proof: &mut Q,
 ) -> Result<Answered, Status>
+    ensures turn { IfOk result (λ r. Advances (moment_of so_far.session) so_far.refused r (streams (W.written answers.old) (Q.written proof.old)) (streams (W.written answers.new) (Q.written proof.new)) (chunk.now ∷ [])) }
+    ensures broken { IfErr result (λ _. BreaksAt (moment_of so_far.session) (streams (W.written answers.old) (Q.written proof.old)) (streams (W.written answers.new) (Q.written proof.new)) (chunk.now ∷ [])) }
     ensures answers { AddsTo (W.written answers.old) (W.written answers.new) }
     ensures proof { AddsTo (Q.written proof.old) (Q.written proof.new) }
     ensures later { IsLater (counts 0 (W.faults answers.old) (Q.faults proof.old)) (counts 0 (W.faults answers.new) (Q.faults proof.new)) }
@@ -69,12 +71,13 @@ fn answer_held<W: Sink, Q: Sink>(
     answers: &mut W,
     proof: &mut Q,
 ) -> Result<Answered, Status>
+    ensures turns { IfOk result (λ r. AdvancesWithin framer.old framer.new (moment_of so_far.session) so_far.refused r (streams (W.written answers.old) (Q.written proof.old)) (streams (W.written answers.new) (Q.written proof.new))) }
+    ensures broken { IfErr result (λ _. BreaksWithin framer.old (moment_of so_far.session) (streams (W.written answers.old) (Q.written proof.old)) (streams (W.written answers.new) (Q.written proof.new))) }
     ensures answers { AddsTo (W.written answers.old) (W.written answers.new) }
     ensures proof { AddsTo (Q.written proof.old) (Q.written proof.new) }
     ensures later { IsLater (counts 0 (W.faults answers.old) (Q.faults proof.old)) (counts 0 (W.faults answers.new) (Q.faults proof.new)) }
     ensures stopped { IfErr result StopsWriting }
     ensures cause { IfErr result (HasCause (counts 0 (W.faults answers.old) (Q.faults proof.old)) (counts 0 (W.faults answers.new) (Q.faults proof.new))) }
-    ensures held { IfOk result (λ _. first_chunk framer.new ≡ None) }
 {
     let mut so_far = so_far;
     'commands: while let Some(chunk) = framer.next()? {
@@ -92,6 +95,8 @@ pub(crate) fn answer_piece<W: Sink, Q: Sink>(
     answers: &mut W,
     proof: &mut Q,
 ) -> Result<Answered, Status>
+    ensures turns { IfOk result (λ r. AdvancesWithin (with_piece framer.old piece.now) framer.new (moment_of so_far.session) so_far.refused r (streams (W.written answers.old) (Q.written proof.old)) (streams (W.written answers.new) (Q.written proof.new))) }
+    ensures broken { IfErr result (λ _. BreaksWithin (with_piece framer.old piece.now) (moment_of so_far.session) (streams (W.written answers.old) (Q.written proof.old)) (streams (W.written answers.new) (Q.written proof.new))) }
     ensures answers { AddsTo (W.written answers.old) (W.written answers.new) }
     ensures proof { AddsTo (Q.written proof.old) (Q.written proof.new) }
     ensures later { IsLater (counts 0 (W.faults answers.old) (Q.faults proof.old)) (counts 0 (W.faults answers.new) (Q.faults proof.new)) }
@@ -110,6 +115,8 @@ pub(crate) fn answer_rest<W: Sink, Q: Sink>(
     answers: &mut W,
     proof: &mut Q,
 ) -> Result<bool, Status>
+    ensures turns { IfOk result (λ r. AddsLast (moment_of so_far.session) so_far.refused (streams (W.written answers.old) (Q.written proof.old)) (streams (W.written answers.new) (Q.written proof.new)) (option_to_list (last_chunk framer.old)) r) }
+    ensures broken { IfErr result (λ _. BreaksAt (moment_of so_far.session) (streams (W.written answers.old) (Q.written proof.old)) (streams (W.written answers.new) (Q.written proof.new)) (option_to_list (last_chunk framer.old))) }
     ensures answers { AddsTo (W.written answers.old) (W.written answers.new) }
     ensures proof { AddsTo (Q.written proof.old) (Q.written proof.new) }
     ensures later { IsLater (counts 0 (W.faults answers.old) (Q.faults proof.old)) (counts 0 (W.faults answers.new) (Q.faults proof.new)) }

@@ -1,8 +1,10 @@
 //! Answers scripts of SMT-LIB 2.6 over words, and writes the proof of each answer.
 //!
 //! `plan` reads the words, `run` does what they ask for over any source and any sinks, and `main` hands it standard
-//! input, standard output and the proof file. The contract of `run` says when each status comes, how much of the script
-//! is read, and that a fault is told only where a count rose. The crate stands on `smt_session`, `smt_text` and `smt_desk`.
+//! input, standard output and the proof file. The contract of `run` says that whatever was answered stands beside an
+//! accepted proof and is right: each `sat` has a written model, and where there is an `unsat` there is none. It says when
+//! each status comes, how much of the script is read, and that a fault is told only where a count rose. The crate stands on
+//! `smt_session`, `accepted_proof`, `smt_text` and `smt_desk`.
 #![tactic(auto)]
 
 mod answering;

@@ -1,8 +1,9 @@
 // A script, read in pieces, each command answered before the next read.
 
-ghost use Rattle.std.specs.Prelude.{◌≡◌, ◌≢◌, ◌+◌, ◌<◌, ◌≤◌, ℕ, IfOk, IfErr, IfSome, OnOk, length};
-ghost use Rattle.std.specs.Io.KnownBytes.{Keeps, IsAtEnd};
-ghost use Rattle.smt_tool.specs.Runs.{AddsTo, ReadsBytes, IsLater, HasCause, counts, input_limit, ReadsPiece, IsRead};
+ghost use Rattle.std.specs.Prelude.{◌<◌, ◌≤◌, IfOk, IfErr, IfSome, MatchResult, length, take};
+ghost use Rattle.std.specs.Io.KnownBytes.{Consumes};
+ghost use Rattle.smt_tool.specs.Runs.{AddsTo, IsLater, HasCause, counts, ReadsPiece, IsRead};
+ghost use Rattle.smt_tool.specs.Adding.{streams, AnswersAll, AnswersFront};
 
 use crate::answering::{Answered, answer_piece, answer_rest};
 use crate::status::Status;
@@ -19,6 +20,7 @@ const INPUT_LIMIT: u64 = 1 << 32;
 fn read_piece<S: Source>(script: &mut S, buffer: &mut [u8], left: u64) -> Result<usize, Status>
     requires { 0 < length buffer.old }
     ensures within { IfOk result (λ n. n ≤ length buffer.new) }
+    ensures bytes { IfOk result (λ n. Consumes (S.left script.old) (S.left script.new) (take n buffer.new)) }
     ensures read { ReadsPiece left (S.left script.old) (S.left script.new) result }
     ensures later { S.faults script.old ≤ S.faults script.new }
     ensures cause { IfErr result (HasCause (counts (S.faults script.old) 0 0) (counts (S.faults script.new) 0 0)) }
@@ -47,6 +49,9 @@ pub(crate) fn answer_script<S: Source, W: Sink, Q: Sink>(
 ) -> Result<bool, Status>
     requires { 0 < length buffer.old }
     ensures read { IsRead (S.left script.old) (S.left script.new) result }
+    ensures turns { IfSome (S.left script.old) (λ text. MatchResult result
+        (λ refused. AnswersAll text (streams (W.written answers.old) (Q.written proof.old)) (streams (W.written answers.new) (Q.written proof.new)) refused)
+        (λ _. AnswersFront text (streams (W.written answers.old) (Q.written proof.old)) (streams (W.written answers.new) (Q.written proof.new)))) }
     ensures answers { AddsTo (W.written answers.old) (W.written answers.new) }
     ensures proof { AddsTo (Q.written proof.old) (Q.written proof.new) }
     ensures later { IsLater (counts (S.faults script.old) (W.faults answers.old) (Q.faults proof.old)) (counts (S.faults script.new) (W.faults answers.new) (Q.faults proof.new)) }

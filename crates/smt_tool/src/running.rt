@@ -1,14 +1,17 @@
 // A run of the program over any source and any sinks.
 
-ghost use Rattle.std.specs.Prelude.{◌≡◌, ◌≢◌, ◌≤◌, ◌+◌, ◌⊎◌, ℕ, List, IfErr, IfOk, OnOk, length, map};
+ghost use Rattle.std.specs.Prelude.{◌≡◌, ◌≢◌, ◌+◌, ◌++◌, ◌⊎◌, ℕ, List, IfErr, IfOk, OnOk, length, map};
 ghost use Rattle.std.specs.Io.KnownBytes.{Appends, IsAtEnd};
+ghost use Rattle.accepted_proof.specs.Answers.{header_text};
 ghost use Rattle.smt_tool.specs.Words.{AreTaken};
-ghost use Rattle.smt_tool.specs.Runs.{AddsTo, BeginsWith, ReadsBytes, ReadsWithin, IsLater, HasCause, StopsWriting, counts, input_limit, header};
+ghost use Rattle.smt_tool.specs.Runs.{AddsTo, BeginsWith, ReadsBytes, ReadsWithin, IsLater, HasCause, StopsWriting, counts, input_limit};
+ghost use Rattle.smt_tool.specs.Beside.{Told, IsBeside, IsAllAnswered, IsPrefix, IsShort, IsWithoutFault};
 
 use crate::answering::end_status;
 use crate::command_line::plan;
 use crate::reading::answer_script;
 use crate::status::Status;
+use accepted_proof::answers_are_right;
 use smt_desk::stream::{Sink, Source, write_whole};
 use smt_session::settings::Settings;
 use smt_text::text::Text;
@@ -16,8 +19,8 @@ use std::alloc::{AllocError, Global};
 
 /// Writes the first line of a proof.
 fn open_proof<Q: Sink>(alloc: Global, _settings: &Settings, proof: &mut Q) -> Result<(), Status>
-    ensures ok { OnOk result (Appends (Q.written proof.old) (Q.written proof.new) header) }
-    ensures added { AddsTo (Q.written proof.old) (Q.written proof.new) }
+    ensures ok { OnOk result (Appends (Q.written proof.old) (Q.written proof.new) header_text) }
+    ensures added { (bytes : List ℕ) × (rest : List ℕ) × Appends (Q.written proof.old) (Q.written proof.new) bytes × (header_text ≡ bytes ++ rest) }
     ensures later { IsLater (counts 0 0 (Q.faults proof.old)) (counts 0 0 (Q.faults proof.new)) }
     ensures stopped { IfErr result StopsWriting }
     ensures cause { IfErr result (HasCause (counts 0 0 (Q.faults proof.old)) (counts 0 0 (Q.faults proof.new))) }
@@ -49,15 +52,19 @@ fn solve<S: Source, W: Sink, Q: Sink>(
     proof: &mut Q,
 ) -> Status
     ensures usage { result ≢ Status.Usage }
-    ensures whole { (result ≡ Status.Done) ⊎ (result ≡ Status.Refused) → IsAtEnd (S.left script.new) }
+    ensures beside { Told (S.left script.old) (W.written answers.old) (W.written answers.new) (Q.written proof.old) (Q.written proof.new) IsBeside }
+    ensures whole { (result ≡ Status.Done) ⊎ (result ≡ Status.Refused) → Told (S.left script.old) (W.written answers.old) (W.written answers.new) (Q.written proof.old) (Q.written proof.new) (IsAllAnswered result) }
+    ensures prefix { Told (S.left script.old) (W.written answers.old) (W.written answers.new) (Q.written proof.old) (Q.written proof.new) (λ text answered proved. IsPrefix text answered) }
+    ensures at_end { (result ≡ Status.Done) ⊎ (result ≡ Status.Refused) → IsAtEnd (S.left script.new) }
     ensures within { result ≢ Status.TooLong → ReadsWithin (S.left script.old) (S.left script.new) }
     ensures too_long { result ≡ Status.TooLong → ReadsBytes (input_limit + 1) (S.left script.old) (S.left script.new) }
     ensures answers { AddsTo (W.written answers.old) (W.written answers.new) }
     ensures proof { AddsTo (Q.written proof.old) (Q.written proof.new) }
-    ensures header { result ≢ Status.WriteFault → result ≢ Status.NoMemory → BeginsWith header (Q.written proof.old) (Q.written proof.new) }
+    ensures header { result ≢ Status.WriteFault → result ≢ Status.NoMemory → BeginsWith header_text (Q.written proof.old) (Q.written proof.new) }
     ensures later { IsLater (counts (S.faults script.old) (W.faults answers.old) (Q.faults proof.old)) (counts (S.faults script.new) (W.faults answers.new) (Q.faults proof.new)) }
     ensures cause { HasCause (counts (S.faults script.old) (W.faults answers.old) (Q.faults proof.old)) (counts (S.faults script.new) (W.faults answers.new) (Q.faults proof.new)) result }
 {
+    answers_are_right();
     match open_proof(alloc, &settings, proof) {
         Ok(()) => {}
         Err(status) => return status,
@@ -88,15 +95,27 @@ pub fn run<S: Source, P: Source, W: Sink, Q: Sink>(
     ensures untouched { result ≡ Status.Usage → (script.new ≡ script.old) × (answers.new ≡ answers.old) × (proof_out.new ≡ proof_out.old) }
     ensures unread { proof_in.new ≡ proof_in.old }
 
+    // After every status the answers that were written whole stand beside a proof that is accepted to the last of their
+    // checks, and they are right: each `sat` has a model, and where there is an `unsat` there is none.
+    ensures beside { Told (S.left script.old) (W.written answers.old) (W.written answers.new) (Q.written proof_out.old) (Q.written proof_out.new) IsBeside }
+    // At the end of a run all is answered, the proof is accepted, and the status tells whether an error is among the answers.
+    ensures whole { (result ≡ Status.Done) ⊎ (result ≡ Status.Refused) → Told (S.left script.old) (W.written answers.old) (W.written answers.new) (Q.written proof_out.old) (Q.written proof_out.new) (IsAllAnswered result) }
+    // What was answered before a stop is a front of the answers to the first commands.
+    ensures prefix { Told (S.left script.old) (W.written answers.old) (W.written answers.new) (Q.written proof_out.old) (Q.written proof_out.new) (λ text answered proved. IsPrefix text answered) }
+    // Without a fault a script that is told and not too long is answered whole, but for want of memory.
+    ensures complete { AreTaken (map (λ w. w.now) words.now) → IsShort (S.left script.old)
+        → IsWithoutFault (counts (S.faults script.old) (W.faults answers.old) (Q.faults proof_out.old)) (counts (S.faults script.new) (W.faults answers.new) (Q.faults proof_out.new))
+        → (result ≡ Status.Done) ⊎ ((result ≡ Status.Refused) ⊎ (result ≡ Status.NoMemory)) }
+
     // A run comes to its end only at the end of the script, of which it reads 2^32 bytes, and one more where there is one.
-    ensures whole { (result ≡ Status.Done) ⊎ (result ≡ Status.Refused) → IsAtEnd (S.left script.new) }
+    ensures at_end { (result ≡ Status.Done) ⊎ (result ≡ Status.Refused) → IsAtEnd (S.left script.new) }
     ensures within { result ≢ Status.Usage → result ≢ Status.TooLong → ReadsWithin (S.left script.old) (S.left script.new) }
     ensures too_long { result ≡ Status.TooLong → ReadsBytes (input_limit + 1) (S.left script.old) (S.left script.new) }
 
     // What is written stays, and the proof begins with its header.
     ensures answers { AddsTo (W.written answers.old) (W.written answers.new) }
     ensures proof { AddsTo (Q.written proof_out.old) (Q.written proof_out.new) }
-    ensures header { result ≢ Status.Usage → result ≢ Status.WriteFault → result ≢ Status.NoMemory → BeginsWith header (Q.written proof_out.old) (Q.written proof_out.new) }
+    ensures header { result ≢ Status.Usage → result ≢ Status.WriteFault → result ≢ Status.NoMemory → BeginsWith header_text (Q.written proof_out.old) (Q.written proof_out.new) }
 
     // A fault is told only where a count rose.
     ensures later { IsLater (counts (S.faults script.old) (W.faults answers.old) (Q.faults proof_out.old)) (counts (S.faults script.new) (W.faults answers.new) (Q.faults proof_out.new)) }

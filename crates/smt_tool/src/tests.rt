@@ -111,6 +111,57 @@ fn a_proof_that_fails_at_once(rt: HostRuntime) {
     assert!(rt; proof.bytes().is_empty());
 }
 
+// What a run of the first script answers and proves, its bytes one by one, where these calls fail.
+fn run_bytewise(
+    alloc: Global,
+    reads: &[u64],
+    answering: &[u64],
+    proving: &[u64],
+) -> (Status, Vec<u8>, Vec<u8>) {
+    let mut script = MemSource::new(FIRST, 1, reads);
+    let mut answers = MemSink::new(alloc, 1, answering);
+    let mut proof = MemSink::new(alloc, 50, proving);
+    let status = solve(alloc, &mut script, &mut answers, &mut proof);
+    (status, answers.into_bytes(), proof.into_bytes())
+}
+
+fn count(bytes: &[u8], word: &[u8]) -> usize {
+    let mut found = 0usize;
+    for at in 0..bytes.len() {
+        if bytes[at..].starts_with(word) {
+            found = found.saturating_add(1);
+        }
+    }
+    found
+}
+
+#[test]
+fn each_call_of_each_stream_fails_in_turn(rt: HostRuntime) {
+    let alloc = rt.alloc();
+    let (_, all_answers, all_proof) = run_bytewise(alloc, &[], &[], &[]);
+    // The stream, how many calls a whole run makes of it, and the status where one of them fails.
+    for (stream, calls, stopped) in [
+        (0u8, 195u64, Status::ReadFault),
+        (1u8, 10u64, Status::WriteFault),
+        (2u8, 5u64, Status::WriteFault),
+    ] {
+        for call in 0..=calls {
+            let failing = [call];
+            let reads: &[u64] = if stream == 0 { &failing } else { &[] };
+            let answering: &[u64] = if stream == 1 { &failing } else { &[] };
+            let proving: &[u64] = if stream == 2 { &failing } else { &[] };
+            let (status, answers, proof) = run_bytewise(alloc, reads, answering, proving);
+            let whole = status == Status::Done && answers == all_answers && proof == all_proof;
+            let front = status == stopped
+                && all_answers.starts_with(&answers)
+                && all_proof.starts_with(&proof)
+                && count(&answers, b"\n") <= count(&proof, b"sat ");
+            let right = if call < calls { front } else { whole };
+            assert!(rt; right, "stream {stream}, call {call}");
+        }
+    }
+}
+
 #[test]
 fn words(rt: HostRuntime) {
     assert!(rt; plan(&["solve", "proof"]).is_ok());

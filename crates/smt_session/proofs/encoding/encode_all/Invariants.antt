@@ -1,5 +1,5 @@
-use Rattle.smt_session.specs.Growing.{Grows}
+use Rattle.smt_session.proofs.Staying.{AreEncoded}
 use Rattle.smt_session.proofs.encoding.encode_all.Given as goal
 
-abbrev pub invariant-loop-term : goal.invariant-loop-term
-invariant-loop-term l = Grows l.terms.nodes l.fn.log l.log
+abbrev pub invariant-terms : goal.invariant-terms
+invariant-terms l = AreEncoded l.state l.fn.log l.log l.marks l.term

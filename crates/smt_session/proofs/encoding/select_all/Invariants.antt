@@ -1,5 +1,9 @@
-use Rattle.smt_session.specs.Growing.{Grows}
+use Rattle.std.proofs.Common.{take}
+use Rattle.smt_session.specs.Growing.{Grows, AreSelectors}
 use Rattle.smt_session.proofs.encoding.select_all.Given as goal
 
-abbrev pub invariant-loop-assertion : goal.invariant-loop-assertion
-invariant-loop-assertion l = Grows l.terms.nodes l.fn.log l.log
+abbrev pub invariant-live : goal.invariant-live
+invariant-live l = record {
+  grows : Grows l.state l.fn.log l.log;
+  chosen : AreSelectors l.log (take l.assertion-index l.live) l.given.items
+}

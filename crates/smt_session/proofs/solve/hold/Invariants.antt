@@ -1,6 +1,5 @@
-use Rattle.std.specs.Prelude.{All}
-use Rattle.smt_session.specs.Searched.{IsOfLog}
+use Rattle.smt_session.proofs.Holding.{Holding}
 use Rattle.smt_session.proofs.solve.hold.Given as goal
 
 abbrev pub invariant-parts : goal.invariant-parts
-invariant-parts l = All (IsOfLog l.log) l.held.items
+invariant-parts l = Holding l.log l.fn.held.items l.held.items l.pos l.part

@@ -1,5 +1,5 @@
 use Rattle.std.proofs.Common.{ap, ◌∙◌}
-use Rattle.smt_session.proofs.Chains.{copy_valid, copy_pushed, all_grow}
+use Rattle.smt_session.proofs.Chains.{copy_valid, copy_pushed, all_pushed}
 use Rattle.smt_session.proofs.solve.push_chains.Goals as goal
 
 pub push-requires-clause-valid : goal.push-requires-clause-valid
@@ -16,5 +16,7 @@ loop-chain-preserved c =
     (c.from_vec-hints.ensures ∙ c.in_ok-from_slice.ensures.items ∙ c.as_slice.ensures.value ∙ ap (λ x. x.hints.items) c.chain-item.is)
     c.loop-chain-test.true c.loop-chain.invariant c.in_ok-push.ensures.pushed
 
-pub returns-clause-grows : goal.returns-clause-grows
-returns-clause-grows c = all_grow c.args.terms.now.nodes c.args.log.now c.loop-chain.log c.args.chains.now c.loop-chain.chain-index c.loop-chain-test.false c.loop-chain.invariant
+pub returns : goal.returns
+returns c =
+    let h = all_pushed c.args.terms.now.nodes c.args.log.now c.loop-chain.log c.args.chains.now c.loop-chain.chain-index c.loop-chain-test.false c.loop-chain.invariant in
+    record { stands = h.stands; entries = h.entries }

@@ -1,7 +1,12 @@
-use Rattle.std.proofs.Common.{◌<◌, length, inr, arith}
+use Rattle.std.proofs.Common.{◌<◌, ◌++◌, [], length, take, refl, inr, append-nil, arith}
 use Rattle.std.proofs.lemmas.Result.{err_from_is_err_and}
+use Rattle.std.proofs.KnownBytes.{Consumes-nil, Consumes-trans}
+use Rattle.smt_text.proofs.Cuts.{Begins-append}
+use Rattle.smt_text.proofs.Driver.{framed_none}
 use Rattle.smt_tool.proofs.Parts.{adds_more}
-use Rattle.smt_tool.proofs.Written.{Progress-none, Progress-more, Progress-resize, Written-none, Written-more, within_none, within_more, read_stopped, read_failed, read_whole}
+use Rattle.smt_tool.proofs.Written.{Progress-none, Progress-more, Progress-resize, Written-none, Written-more, within_none, within_more, read_stopped, read_failed, read_whole, piece_read}
+use Rattle.smt_tool.proofs.Turning.{Advances-none, Advances-trans, Begins-trans, held_none, held_stop, held_more, held_behind}
+use Rattle.smt_tool.proofs.Telling.{front_told, rest_told}
 use Rattle.smt_tool.proofs.reading.answer_script.Goals as goal
 
 pub returns-in_err-session-clause-read : goal.returns-in_err-session-clause-read
@@ -10,7 +15,40 @@ returns-in_err-session-clause-read g c =
     rw p.1 (read_stopped _ _ p.0 (inr p.2) (within_none _))
 
 pub pieces-init : goal.pieces-init
-pieces-init g c = record { read = Progress-none _ _ c.requires; written = Written-none _ _ _ }
+pieces-init g c =
+    let fresh = c.in_ok-session.ensures.fresh in
+    let framed = framed_none _ [] c.new-framer.ensures refl in
+    record {
+      read = Progress-none _ _ c.requires;
+      written = Written-none _ _ _;
+      text = [];
+      consumed = Consumes-nil (g.S.Source.left c.args.script.now);
+      chunks = [];
+      begins = framed.0;
+      ends = framed.1;
+      advances = Advances-none _ _ _ _ (λ i. record { state = fresh.0 i; log = fresh.1 i }) refl;
+    }
+
+pub returns-in_err-session-clause-turns : goal.returns-in_err-session-clause-turns
+returns-in_err-session-clause-turns g c =
+    let p = err_from_is_err_and c.from_residual.result c.from_residual.ensures.1 in
+    rw p.1 (front_told _ _ [] _ _ (Consumes-nil (g.S.Source.left c.args.script.now)) (held_none _ _ _))
+
+pub returns-in_err-size-clause-turns : goal.returns-in_err-size-clause-turns
+returns-in_err-size-clause-turns g c =
+    let p = err_from_is_err_and c.from_residual-in_err-size.result c.from_residual-in_err-size.ensures.1 in
+    let inv = c.pieces.invariant in
+    let more = piece_read _ _ _ _ c.in_err-size.ensures.read in
+    rw p.1 (front_told _ _ (inv.text ++ more.0) _ _ (Consumes-trans _ (g.S.Source.left c.pieces.script) _ _ _ inv.consumed more.1)
+    (held_more (record { line = 1; bytes = inv.text }) more.0 _ _ _ (held_stop _ _ _ _ _ _ _ _ inv.begins inv.advances)))
+
+pub returns-in_err-so_far-clause-turns : goal.returns-in_err-so_far-clause-turns
+returns-in_err-so_far-clause-turns g c =
+    let p = err_from_is_err_and c.from_residual-in_err-so_far.result c.from_residual-in_err-so_far.ensures.1 in
+    let inv = c.pieces.invariant in
+    let piece = take c.in_ok-size.size c.read_piece.new.buffer in
+    rw p.1 (front_told _ _ (inv.text ++ piece) _ _ (Consumes-trans _ (g.S.Source.left c.pieces.script) _ _ _ inv.consumed c.in_ok-size.ensures.bytes)
+    (held_behind _ _ _ _ _ _ _ _ _ (Begins-append _ _ _ piece inv.begins) inv.advances c.in_err-so_far.ensures.broken))
 
 pub returns-in_err-size-clause-read : goal.returns-in_err-size-clause-read
 returns-in_err-size-clause-read g c =
@@ -35,6 +73,12 @@ pieces-preserved g c =
       read =
           Progress-resize _ _ _ _ _ room
           (Progress-more _ _ _ _ _ _ c.pieces.invariant.read c.in_ok-size.ensures.read.0 c.in_ok-size.ensures.read.1);
+      text = c.pieces.invariant.text ++ take c.in_ok-size.size c.read_piece.new.buffer;
+      consumed = Consumes-trans _ (g.S.Source.left c.pieces.script) _ _ _ c.pieces.invariant.consumed c.in_ok-size.ensures.bytes;
+      chunks = c.pieces.invariant.chunks ++ c.in_ok-so_far.ensures.turns.chunks;
+      begins = Begins-trans _ _ _ _ _ (Begins-append _ _ _ (take c.in_ok-size.size c.read_piece.new.buffer) c.pieces.invariant.begins) c.in_ok-so_far.ensures.turns.begins;
+      ends = c.in_ok-so_far.ensures.turns.ends;
+      advances = Advances-trans _ _ _ _ _ _ _ _ _ c.pieces.invariant.advances c.in_ok-so_far.ensures.turns.advances;
       written =
           Written-more _ _ _ _ _ _ _ _ _ c.pieces.invariant.written c.in_ok-so_far.ensures.answers c.in_ok-so_far.ensures.proof
           (record { script = c.read_piece.ensures.later; answers = c.answer_piece.ensures.later.answers; proof = c.answer_piece.ensures.later.proof });
@@ -45,6 +89,13 @@ returns-clause-read g c =
     read_whole _ _ _ c.answer_rest.ensures.stopped
     (within_more _ _ _ _ _ _ c.pieces.invariant.read c.in_ok-size.ensures.read.0 c.in_ok-size.ensures.read.1)
     (c.in_ok-size.ensures.read.2 c.if-size-eq0.true)
+
+pub returns-clause-turns : goal.returns-clause-turns
+returns-clause-turns g c =
+    let inv = c.pieces.invariant in
+    let all = Consumes-trans _ (g.S.Source.left c.pieces.script) _ _ _ inv.consumed c.in_ok-size.ensures.bytes in
+    let all' = rw (c.if-size-eq0.true, append-nil) at all in
+    rest_told _ _ inv.text _ _ _ _ inv.chunks _ _ all' (c.in_ok-size.ensures.read.2 c.if-size-eq0.true) inv.begins inv.ends inv.advances c.answer_rest.ensures.turns c.answer_rest.ensures.broken
 
 pub returns-clause-answers : goal.returns-clause-answers
 returns-clause-answers g c = adds_more _ _ _ c.pieces.invariant.written.answers c.answer_rest.ensures.answers

@@ -1,5 +1,10 @@
-use Rattle.std.proofs.Common.{length}
+use Rattle.std.proofs.Common.{◌≡◌, ℕ, false, List, length, None}
+use Rattle.std.specs.Io.KnownBytes.{Consumes}
+use Rattle.smt_text.specs.declared.chunk.Chunk.{Chunk}
+use Rattle.smt_text.specs.Framing.{first_chunk}
+use Rattle.smt_text.specs.Script.{Begins}
 use Rattle.smt_tool.specs.Runs.{counts}
+use Rattle.smt_tool.specs.Adding.{opening, streams, Advances}
 use Rattle.smt_tool.proofs.Written.{Written, Progress}
 use Rattle.smt_tool.proofs.reading.answer_script.Given as goal
 
@@ -9,6 +14,12 @@ invariant-pieces g l =
       read : Progress (length l.buffer) l.left (g.S.Source.left l.fn.script) (g.S.Source.left l.script);
       written : Written (g.W.Sink.written l.fn.answers) (g.W.Sink.written l.answers) (g.Q.Sink.written l.fn.proof) (g.Q.Sink.written l.proof)
           (counts (g.S.Source.faults l.fn.script) (g.W.Sink.faults l.fn.answers) (g.Q.Sink.faults l.fn.proof)) (counts (g.S.Source.faults l.script) (g.W.Sink.faults l.answers) (g.Q.Sink.faults l.proof));
+      text : List ℕ;
+      consumed : Consumes (g.S.Source.left l.fn.script) (g.S.Source.left l.script) text;
+      chunks : List Chunk;
+      begins : Begins (record { line = 1; bytes = text }) chunks l.framer;
+      ends : first_chunk l.framer ≡ None;
+      advances : Advances opening false l.so_far (streams (g.W.Sink.written l.fn.answers) (g.Q.Sink.written l.fn.proof)) (streams (g.W.Sink.written l.answers) (g.Q.Sink.written l.proof)) chunks;
     }
 
 abbrev pub decreases-pieces : goal.decreases-pieces

@@ -1,15 +1,17 @@
-use Rattle.std.proofs.Common.{ap, subst, Ok}
-use Rattle.script_state.specs.Steps.{Applies}
-use Rattle.smt_session.specs.Sessions.{SessionValue}
-use Rattle.smt_session.proofs.Longer.{still_stands, is_answered}
+use Rattle.std.proofs.Common.{subst}
+use Rattle.smt_session.specs.Sessions.{SessionValue, IsAnswered}
+use Rattle.smt_session.proofs.Going.{still_session}
+use Rattle.smt_session.proofs.Responding.{is_answered}
 use Rattle.smt_session.proofs.session.Session.command.Goals as goal
 
-pub respond-requires-clause-stands : goal.respond-requires-clause-stands
-respond-requires-clause-stands g c =
-    still_stands c.apply.new.self c.self.inside.log c.self.inside.state c.args.chunk.now (Ok c.in_ok-answer.answer) c.self.invariant.stands c.in_ok-answer.ensures
+pub respond-requires : goal.respond-requires
+respond-requires g c =
+    still_session c.self.inside.state c.apply.new.self c.self.inside.log c.in_ok-answer.answer c.in_ok-answer.ensures.0 c.self.invariant c.in_ok-answer.ensures.2
 
 pub returns-clause-answered : goal.returns-clause-answered
 returns-clause-answered g c =
-    is_answered c.args.chunk.now c.args.self _ c.in_ok-response.response c.in_ok-answer.answer c.apply.new.self
-    (subst (λ s. Applies c.args.chunk.now (Ok c.in_ok-answer.answer) s c.apply.new.self) (ap (λ (s : SessionValue). s.state) c.self.view_is) c.in_ok-answer.ensures)
-    c.in_ok-response.ensures.response
+    subst
+    (λ (o : SessionValue). IsAnswered c.args.chunk.now o (record { state = c.respond.new.state; log = c.respond.new.log }) c.in_ok-response.response (g.Q.Sink.written c.args.proof.now) (g.Q.Sink.written c.respond.new.proof))
+    c.self.view_is
+    (is_answered c.args.chunk.now c.self.inside.state c.apply.new.self c.respond.new.state c.self.inside.log c.respond.new.log c.in_ok-answer.answer c.in_ok-answer.ensures.0 c.in_ok-response.response
+    (g.Q.Sink.written c.args.proof.now) (g.Q.Sink.written c.respond.new.proof) c.in_ok-answer.ensures.1 c.in_ok-answer.ensures.2 c.in_ok-response.ensures.response)

@@ -1,0 +1,61 @@
+-- Proofs of scripts, and what stands beside answers.
+use Rattle.std.specs.Prelude.{◌≡◌, ◌⊎◌, ℕ, ◌==◌, Bool, true, not, List, [], ◌∷◌, ◌++◌, map, Option}
+use Rattle.std.specs.List.{list_all, list_any}
+use Rattle.smt_text.specs.declared.chunk.Chunk.{Chunk}
+use Rattle.smt_text.specs.Framing.{Held}
+use Rattle.smt_text.specs.Script.{AreChunks, Begins}
+use Rattle.smt_syntax.specs.Sexps.{Sexps}
+use Rattle.script_state.specs.Readings.{ReadsAs}
+use Rattle.script_state.specs.States.{no_state}
+use Rattle.accepted_proof.specs.Turns.{Turn, AreTurns}
+use Rattle.accepted_proof.specs.Answers.{answers_of, is_refused, proof_of}
+
+-- each chunk is the command of a turn
+abbrev pub AreRead : List Chunk → List Turn → Type 0
+AreRead [] [] = Unit {0}
+AreRead [] (t ∷ ts) = ⊥
+AreRead (c ∷ cs) [] = ⊥
+AreRead (c ∷ cs) (t ∷ ts) = (t.line ≡ c.line) × ReadsAs c t.says × AreRead cs ts
+
+-- the line and the reading of each command
+abbrev pub readings_of : List Turn → List (ℕ × Option Sexps)
+readings_of turns = map (λ (t : Turn). (t.line, t.says)) turns
+
+-- The proof is one of the script: its header, and for each check the lines of valid steps and of a record, and nothing more.
+pub record Accepted (script proof : List ℕ) (turns : List Turn) : Type 0 where
+  pub chunks : List Chunk
+  pub cut : AreChunks script chunks
+  pub read : AreRead chunks turns
+  pub run : AreTurns no_state [] turns
+  pub lines : proof ≡ proof_of turns
+
+-- the first chunks of a text
+abbrev pub IsFront : List ℕ → List Chunk → Type 0
+IsFront text chunks = ((rest : Held) × Begins (record { line = 1; bytes = text }) chunks rest) ⊎ AreChunks text chunks
+
+-- no line ends there
+abbrev pub without_end : List ℕ → Type 0
+without_end bytes = list_all (λ b. not (b == 10)) bytes ≡ true
+
+-- The answers that were written whole are those of the first commands of the script, and the proof is accepted to the last
+-- of their checks.
+pub record StandsBeside (script answers proof : List ℕ) : Type 0 where
+  pub chunks : List Chunk
+  pub turns : List Turn
+  pub more : List ℕ
+  pub begun : List ℕ
+  pub front : IsFront script chunks
+  pub read : AreRead chunks turns
+  pub run : AreTurns no_state [] turns
+  pub lines : proof ≡ proof_of turns ++ more
+  pub texts : answers ≡ answers_of turns ++ begun
+  pub unfinished : without_end begun
+
+-- the answers are those to the whole script, and the proof is accepted
+pub record IsWhole (script answers proof : List ℕ) (turns : List Turn) : Type 0 where
+  pub accepted : Accepted script proof turns
+  pub texts : answers ≡ answers_of turns
+
+-- whether an error is among the answers
+abbrev pub has_error : List Turn → Bool
+has_error turns = list_any is_refused turns

@@ -1,0 +1,5 @@
+pub mod Models
+pub mod Turns
+pub mod Right
+pub mod Answers
+pub mod Accepted

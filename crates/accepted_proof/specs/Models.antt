@@ -1,0 +1,38 @@
+-- Models of the live assertions (SMT-LIB 2.6, section 4.2.5: what `sat` and `unsat` say).
+use Rattle.std.specs.Prelude.{◌≡◌, ℕ, ◌==◌, true, if◌then◌else◌, List, [], ◌∷◌, map, slice_get, All, Option, Some, None}
+use Rattle.smt_terms.specs.declared.sort.Signature.{Signature}
+use Rattle.smt_terms.specs.Values.{HasSort, Interpretation, is_true, value}
+use Rattle.smt_values.specs.declared.value.Value.{Value}
+use Rattle.smt_values.specs.Held.{meaning, constant_of, function_of}
+use Rattle.smt_build.specs.declared.symbols.LiveName.{LiveName}
+use Rattle.scope_selectors.specs.declared.live.Live.{Live}
+use Rattle.script_state.specs.States.{StateValue}
+
+-- an interpretation under which each live assertion is true
+abbrev pub IsModel : StateValue → Interpretation → Type 0
+IsModel s M = All (λ (a : Live). is_true (value M s.terms.nodes a.term) ≡ true) s.scopes.live
+
+abbrev pub HasNoModel : StateValue → Type 0
+HasNoModel s = (M : Interpretation) → IsModel s M → ⊥
+
+-- ---- written models
+
+-- the value that is written for a declaration
+abbrev pub value_for : List (ℕ × Value) → ℕ → Option Value
+value_for [] d = None
+value_for (p ∷ ps) d = if d == p.0 then Some p.1 else value_for ps d
+
+-- the interpretation that the values of declarations give; a declaration without one has false or zero
+abbrev pub interpretation_of : List (ℕ × Value) → Interpretation
+interpretation_of values = record { constants = λ d. constant_of (value_for values d); functions = λ d. function_of (value_for values d) }
+
+-- the declaration is a constant, and the value is of its sort
+abbrev pub IsOfSignature : Value → Option Signature → Type 0
+IsOfSignature v None = ⊥
+IsOfSignature v (Some s) = (s.args ≡ []) × HasSort s.value (meaning v)
+
+-- a value of its sort for each live declaration, in the order of the declarations, under which each live assertion is true
+pub record IsWrittenModel (s : StateValue) (values : List (ℕ × Value)) : Type 0 where
+  pub listed : map (λ (p : ℕ × Value). p.0) values ≡ map (λ (l : LiveName). l.declaration) s.symbols.live
+  pub sorted : All (λ (p : ℕ × Value). IsOfSignature p.1 (slice_get s.symbols.signatures p.0)) values
+  pub model : IsModel s (interpretation_of values)

@@ -1,0 +1,107 @@
+-- A command with its answer, and for a check the steps and the record that stand in the proof.
+use Rattle.std.specs.Prelude.{◌≡◌, ℕ, List, [], ◌∷◌, ◌++◌, slice_get, Contains, Option, Some, None, IsSome}
+use Rattle.std.specs.List.{AllByRecursion}
+use Rattle.cnf_base.specs.Literals.{Literal, negated}
+use Rattle.smt_terms.specs.declared.node.Node.{Node}
+use Rattle.smt_syntax.specs.Sexps.{Sexps}
+use Rattle.smt_build.specs.Names.{IsDeclared}
+use Rattle.scope_selectors.specs.declared.live.Live.{Live}
+use Rattle.script_state.specs.declared.answer.Answer.{Answer}
+use Rattle.script_state.specs.declared.answer.Answer.TheVariants.{Done, Refused, Check}
+use Rattle.script_state.specs.declared.answer.Verdict.{Verdict}
+use Rattle.script_state.specs.declared.answer.Verdict.TheVariants as verdict
+use Rattle.script_state.specs.States.{StateValue, concluded}
+use Rattle.script_state.specs.Steps.{step}
+use Rattle.proof_log.specs.declared.entry.Entry.{Entry}
+use Rattle.proof_log.specs.declared.entry.Entry.TheVariants as entry
+use Rattle.proof_log.specs.Logs.{Asserted, clause_at, state_of}
+use Rattle.proof_log.specs.Faults.{IsValid, terms_after}
+use Rattle.proof_text.specs.Entries.{entry_line}
+use Rattle.proof_text.specs.Records.{AreWritten}
+use Rattle.proof_text.specs.declared.record.Record.{Record}
+use Rattle.proof_text.specs.declared.record.Record.TheVariants.{Sat, Unsat}
+use Rattle.accepted_proof.specs.Models.{IsWrittenModel}
+
+-- ---- steps of a check
+
+-- what a step names of the script is as the script has it: an assertion with its term, a declaration with its signature
+abbrev pub IsOfScript : StateValue → Entry → Type 0
+IsOfScript s (entry.Node n) = IsDeclared s.symbols.signatures n.op
+IsOfScript s (entry.Leaf t) = Unit {0}
+IsOfScript s (entry.Encode t) = Unit {0}
+IsOfScript s (entry.Selector a t) = slice_get s.scopes.terms a ≡ Some t
+IsOfScript s (entry.Chain c hints) = Unit {0}
+
+-- the terms after a step
+abbrev pub with_step : StateValue → Entry → StateValue
+with_step s e = record { symbols = s.symbols; terms = terms_after s.terms e; scopes = s.scopes; standing = s.standing }
+
+abbrev pub with_steps : StateValue → List Entry → StateValue
+with_steps s [] = s
+with_steps s (e ∷ es) = with_steps (with_step s e) es
+
+-- each step is valid against the terms and the log before it, and has a line
+abbrev pub AreStepsOf : StateValue → List Entry → List Entry → Type 0
+AreStepsOf s log [] = Unit {0}
+AreStepsOf s log (e ∷ es) = IsValid s.terms (state_of s.terms.nodes log) e × IsOfScript s e × IsSome (entry_line e) × AreStepsOf (with_step s e) (log ++ e ∷ []) es
+
+-- ---- records
+
+-- the literal is the negated selector of a live assertion
+pub record IsAgainst (s : StateValue) (nodes : List Node) (log : List Entry) (l : Literal) : Type 0 where
+  pub assertion : Live
+  pub live : Contains s.scopes.live assertion
+  pub selector : Asserted
+  pub made : (state_of nodes log).selectors assertion.assertion ≡ Some selector
+  pub negation : l ≡ negated selector.literal
+
+-- the first clause of the position has negated selectors of live assertions alone
+pub record IsRefutation (s : StateValue) (nodes : List Node) (log : List Entry) (p : ℕ) : Type 0 where
+  pub clause : List Literal
+  pub stands : clause_at (state_of nodes log).clauses (record { pos = p; part = 0 }) ≡ Some clause
+  pub against : AllByRecursion (IsAgainst s nodes log) clause
+
+-- the record may end a check of the live assertions, over these terms and this log
+abbrev pub IsShown : StateValue → List Node → List Entry → Record → Type 0
+IsShown s nodes log (Sat values) = AreWritten (Sat values) × IsWrittenModel s values
+IsShown s nodes log (Unsat p) = IsRefutation s nodes log p
+
+-- the verdict that a record shows
+abbrev pub verdict_of : Record → Verdict
+verdict_of (Sat values) = verdict.Sat
+verdict_of (Unsat p) = verdict.Unsat
+
+-- ---- turns
+
+-- the line on which the command begins, what it reads as, its answer, and the steps and the record of its check
+pub record Turn : Type 0 where
+  pub line : ℕ
+  pub says : Option Sexps
+  pub answer : Answer
+  pub steps : List Entry
+  pub shown : Option Record
+
+-- a check has steps and a record, and no other command has
+abbrev pub HasProof : Answer → StateValue → List Entry → List Entry → Option Record → Type 0
+HasProof Done s log steps shown = (steps ≡ []) × (shown ≡ None)
+HasProof (Refused e) s log steps shown = (steps ≡ []) × (shown ≡ None)
+HasProof Check s log steps None = ⊥
+HasProof Check s log steps (Some r) = AreStepsOf s log steps × IsShown s (with_steps s steps).terms.nodes (log ++ steps) r
+
+-- the turn may follow in this state, with this log
+pub record IsTurn (s : StateValue) (log : List Entry) (t : Turn) : Type 0 where
+  pub answer : t.answer ≡ (step s t.says).0
+  pub proof : HasProof t.answer (step s t.says).1 log t.steps t.shown
+
+-- a check that has a record stands with its verdict
+abbrev pub concluded_by : StateValue → Option Record → StateValue
+concluded_by s None = s
+concluded_by s (Some r) = concluded s (verdict_of r)
+
+abbrev pub state_after : StateValue → Turn → StateValue
+state_after s t = concluded_by (with_steps (step s t.says).1 t.steps) t.shown
+
+-- the turns may follow one after the other
+abbrev pub AreTurns : StateValue → List Entry → List Turn → Type 0
+AreTurns s log [] = Unit {0}
+AreTurns s log (t ∷ ts) = IsTurn s log t × AreTurns (state_after s t) (log ++ t.steps) ts

@@ -1,0 +1,41 @@
+-- A session goes on over the terms and the assertions that a command leaves.
+use Rattle.std.proofs.Common.{◌≡◌, ℕ, List, [], ◌∷◌, ◌++◌, refl, sym, subst, Some, Option}
+use Rattle.std.specs.Prelude.{slice_get}
+use Rattle.smt_syntax.specs.Sexps.{Sexps}
+use Rattle.script_state.specs.declared.answer.Answer.{Answer}
+use Rattle.script_state.specs.States.{StateValue, IsState}
+use Rattle.script_state.specs.Steps.{Step, step}
+use Rattle.script_state.proofs.Keeping.{Keeps, GoesOn, step_goes_on}
+use Rattle.proof_log.specs.declared.entry.Entry.{Entry}
+use Rattle.proof_log.specs.declared.entry.Entry.TheVariants as entry
+use Rattle.proof_log.specs.Faults.{MakesNoTerm}
+use Rattle.proof_log.specs.Stored.{LogValue, Stands}
+use Rattle.proof_log.proofs.Standing.{stands_longer}
+use Rattle.accepted_proof.specs.Turns.{IsOfScript}
+use Rattle.smt_session.specs.Growing.{AreStepsFor}
+use Rattle.smt_session.specs.Sessions.{SessionValue, IsSession}
+
+more_for : (old new : StateValue) → ((a t : ℕ) → slice_get old.scopes.terms a ≡ Some t → slice_get new.scopes.terms a ≡ Some t) → (e : Entry) → MakesNoTerm e → IsOfScript old e → IsOfScript new e
+more_for old new more (entry.Node n) k i = absurd k
+more_for old new more (entry.Leaf t) k i = tt
+more_for old new more (entry.Encode t) k i = tt
+more_for old new more (entry.Selector a t) k i = more a t i
+more_for old new more (entry.Chain c hints) k i = tt
+
+-- steps for a script are for one with more assertions
+pub more_steps : (old new : StateValue) (es : List Entry) → ((a t : ℕ) → slice_get old.scopes.terms a ≡ Some t → slice_get new.scopes.terms a ≡ Some t) → AreStepsFor old es → AreStepsFor new es
+more_steps old new [] more h = tt
+more_steps old new (e ∷ es) more h = ((h.0.0, more_for old new more e h.0.0 h.0.1), more_steps old new es more h.1)
+
+goes_on : (old new : StateValue) (a : Answer) (es : Option Sexps) → IsState old → ◌≡◌ {A = Step} (step old es) (a, new) → GoesOn old new
+goes_on old new a es is e = subst (λ (to : Step). GoesOn old to.1) e (step_goes_on old is es)
+
+-- what is a session before a command is one behind it
+pub still_session : (old new : StateValue) (log : LogValue) (a : Answer) (es : Option Sexps) → IsSession (record { state = old; log = log }) → ◌≡◌ {A = Step} (step old es) (a, new) → IsSession (record { state = new; log = log })
+still_session old new log a es h e =
+    let g = goes_on old new a es h.state e in
+    record {
+      state = g.state;
+      stands = subst (λ ns. Stands ns log) (sym g.keeps.nodes) (stands_longer old.terms.nodes g.keeps.behind log h.stands);
+      each = more_steps old new log.entries g.keeps.assertions h.each;
+    }

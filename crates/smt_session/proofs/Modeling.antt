@@ -1,0 +1,312 @@
+-- The values of declarations are a model of the live assertions.
+use Rattle.std.proofs.Common.{◌≡◌, ℕ, zero, suc, ◌+◌, ◌*◌, ◌%◌, ◌^◌, ◌<◌, Bool, true, false, List, [], ◌∷◌, ◌++◌, length, get_or, map, take, Some, None, Ok, refl, sym, ap, ◌∙◌, subst, arith}
+use Rattle.std.specs.Prelude.{◌==◌, if◌then◌else◌, All, IsSome, position, slice_get, slice_index_or, unwrap_or}
+use Rattle.std.specs.List.{AllByRecursion}
+use Rattle.std.proofs.lemmas.Nat.{mod-mul-add}
+use Rattle.std.proofs.lemmas.Bool.{eqb-true, eq-eqb}
+use Rattle.std.proofs.lemmas.List.{take_more}
+use Rattle.std.proofs.lemmas.Option.{slice_get-get_or, slice_get_read, slice_get_within}
+use Rattle.cnf_base.specs.Literals.{Literal}
+use Rattle.cnf_base.specs.Clauses.{lit_true, number}
+use Rattle.cnf_base.proofs.Numbers.{number_lt}
+use Rattle.smt_words.specs.Words.{WordValue, word}
+use Rattle.smt_terms.specs.declared.sort.Sort.{Sort}
+use Rattle.smt_terms.specs.declared.sort.Sort.TheVariants as sort
+use Rattle.smt_terms.specs.declared.sort.Signature.{Signature}
+use Rattle.smt_terms.specs.declared.node.Op.{Op}
+use Rattle.smt_terms.specs.declared.node.Op.TheVariants.{Plain, Word, Extract, ZeroExtend, SignExtend, RotateLeft, RotateRight, Repeat, Constant, Apply, Param}
+use Rattle.smt_terms.specs.declared.node.Node.{Node}
+use Rattle.smt_terms.specs.Nodes.{leaf, node_at}
+use Rattle.smt_terms.specs.Same.{same_node}
+use Rattle.smt_terms.specs.Terms.{TermsValue, IsSort, IsTermList, AreTerms, op_rank, sort_of, constant_signature, declaration_of, signature_of}
+use Rattle.smt_terms.specs.Values as of
+use Rattle.smt_terms.specs.Values.{HasSort, Interpretation, is_true, default_of, read_at, value}
+use Rattle.smt_terms.specs.Bits.{bits_in}
+use Rattle.smt_terms.proofs.Typing.{constant_sort_ok, default_has_sort, value_is}
+use Rattle.smt_terms.proofs.Made.{no_place, at_place}
+use Rattle.bit_blast.specs.Assigned.{assigned, IsLongAsWord}
+use Rattle.bit_blast.specs.Meanings.{AreBitsOf}
+use Rattle.smt_values.specs.declared.value.Value.{Value}
+use Rattle.smt_values.specs.declared.value.Value.TheVariants as held
+use Rattle.smt_values.specs.Held.{meaning, IsOfSort, constant_of}
+use Rattle.smt_build.specs.declared.symbols.LiveName.{LiveName}
+use Rattle.script_state.specs.Plain.{is_plain_sort}
+use Rattle.script_state.specs.States.{StateValue, IsState}
+use Rattle.plain_search.specs.Searches.{assignment}
+use Rattle.proof_log.specs.Logs.{plain_width, constant_width}
+use Rattle.proof_log.specs.Stored.{LogValue, Stands}
+use Rattle.proof_log.proofs.Assigned.{stored_values}
+use Rattle.proof_log.proofs.Settled.{stands_settled}
+use Rattle.proof_text.specs.Records.{written_value, AreWritten}
+use Rattle.proof_text.specs.declared.record.Record.TheVariants.{Sat}
+use Rattle.accepted_proof.specs.Models.{IsModel, value_for, interpretation_of, IsOfSignature, IsWrittenModel}
+use Rattle.smt_session.specs.Searched.{AreAllTrue, HasTrueSelector}
+use Rattle.smt_session.specs.Modeled.{IsValueIn, IsDeclaredValue, AreDeclaredValues}
+
+-- ---- declared constants
+
+constant_rank : (d : ℕ) (t s : Sort) (ss : List Sort) → op_rank (Constant d t) ss ≡ Ok s → (ss ≡ []) × (t ≡ s)
+constant_rank d t s [] e = (refl, constant_sort_ok t s e)
+constant_rank d t s (x ∷ ss) e = let q : ⊥ = cc in absurd q
+
+no_items : {A B : Type 0} (f : A → B) (xs : List A) → map f xs ≡ [] → xs ≡ []
+no_items f [] e = refl
+no_items f (x ∷ xs) e = let q : ⊥ = cc in absurd q
+
+node_parts : (n : Node) (o : Op) → n.op ≡ o → n.args ≡ [] → n ≡ leaf o
+node_parts n o e f = λ i. record { op = e i; args = f i }
+
+-- the term of a declared constant has its sort and no arguments
+pub constant_term : (nodes : List Node) (t d : ℕ) (s : Sort) → IsTermList nodes → t < length nodes → (node_at nodes t).op ≡ Constant d s → (node_at nodes t ≡ leaf (Constant d s)) × (sort_of nodes t ≡ s)
+constant_term nodes t d s all lt e =
+    let r = constant_rank d s (sort_of nodes t) (map (sort_of nodes) (node_at nodes t).args) (subst (λ o. op_rank o (map (sort_of nodes) (node_at nodes t).args) ≡ Ok (sort_of nodes t)) e (all t lt).rank) in
+    (node_parts (node_at nodes t) (Constant d s) e (no_items (sort_of nodes) (node_at nodes t).args r.0), sym r.1)
+
+constant_of_width : (o : Op) (n : ℕ) → constant_width o ≡ Some n → (d : ℕ) × (s : Sort) × (o ≡ Constant d s) × (plain_width s ≡ Some n)
+constant_of_width (Constant d s) n e = (d, s, refl, e)
+constant_of_width (Plain o) n e = let q : ⊥ = cc in absurd q
+constant_of_width (Word m x) n e = let q : ⊥ = cc in absurd q
+constant_of_width (Extract i j) n e = let q : ⊥ = cc in absurd q
+constant_of_width (ZeroExtend i) n e = let q : ⊥ = cc in absurd q
+constant_of_width (SignExtend i) n e = let q : ⊥ = cc in absurd q
+constant_of_width (RotateLeft i) n e = let q : ⊥ = cc in absurd q
+constant_of_width (RotateRight i) n e = let q : ⊥ = cc in absurd q
+constant_of_width (Repeat i) n e = let q : ⊥ = cc in absurd q
+constant_of_width (Apply d s) n e = let q : ⊥ = cc in absurd q
+constant_of_width (Param k s) n e = let q : ⊥ = cc in absurd q
+
+-- ---- the value of one constant
+
+written_of : (s : Sort) (x : Value) → is_plain_sort s ≡ true → IsOfSort s x → IsSome (written_value x)
+written_of s (held.Bool b) p h = refl
+written_of s (held.Word w) p h = refl
+written_of s (held.Array a) p h = let q : is_plain_sort s ≡ false = ap is_plain_sort h in let f : ⊥ = cc in absurd f
+written_of s (held.Fun f) p h = absurd h
+
+-- a constant whose term has no bits
+pub unset_value : (nodes : List Node) (log : LogValue) (v : ℕ → Bool) (d : ℕ) (s : Sort) (x : Value) → is_plain_sort s ≡ true → meaning x ≡ default_of s → IsOfSort s x
+    → ((t : ℕ) (b : List Literal) → (node_at nodes t).op ≡ Constant d s → bits_in log.bits t ≡ Some b → ⊥) → IsValueIn nodes log v d s x
+unset_value nodes log v d s x plain means of_sort none = record {
+  sorted = subst (HasSort s) (sym means) (default_has_sort s);
+  written = written_of s x plain of_sort;
+  bits = λ t b e q. absurd (none t b e q);
+}
+
+-- no term is the constant's
+pub no_constant : (v : TermsValue) (log : LogValue) (d : ℕ) (s : Sort) → AreTerms v → Stands v.nodes log → None ≡ position (same_node (leaf (Constant d s))) v.nodes
+    → (t : ℕ) (b : List Literal) → (node_at v.nodes t).op ≡ Constant d s → bits_in log.bits t ≡ Some b → ⊥
+no_constant v log d s terms stands none t b e q =
+    let lt = ((stands_settled v.nodes log terms.list stands).bits t b q).0 in
+    no_place v.nodes (leaf (Constant d s)) (sym none) t lt (constant_term v.nodes t d s terms.list lt e).0
+
+-- the constant's term is the one that is found
+pub same_constant : (v : TermsValue) (log : LogValue) (d : ℕ) (s : Sort) (u : ℕ) → AreTerms v → Stands v.nodes log → Some u ≡ position (same_node (leaf (Constant d s))) v.nodes
+    → (t : ℕ) (b : List Literal) → (node_at v.nodes t).op ≡ Constant d s → bits_in log.bits t ≡ Some b → t ≡ u
+same_constant v log d s u terms stands found t b e q =
+    let lt = ((stands_settled v.nodes log terms.list stands).bits t b q).0 in
+    let k = at_place v.nodes (leaf (Constant d s)) u (sym found) in
+    terms.different t u lt k.0 ((constant_term v.nodes t d s terms.list lt e).0 ∙ sym k.1)
+
+-- the bits of the constant's term are as many as its sort has
+pub constant_row : (v : TermsValue) (log : LogValue) (d : ℕ) (s : Sort) (u : ℕ) (row : List Literal) → AreTerms v → Stands v.nodes log → Some u ≡ position (same_node (leaf (Constant d s))) v.nodes
+    → bits_in log.bits u ≡ Some row → plain_width s ≡ Some (length row)
+constant_row v log d s u row terms stands found q =
+    let k = at_place v.nodes (leaf (Constant d s)) u (sym found) in
+    let own = (constant_term v.nodes u d s terms.list k.0 (ap (λ n. n.op) k.1)).1 in
+    subst (λ r. plain_width r ≡ Some (length row)) own ((stands_settled v.nodes log terms.list stands).bits u row q).1
+
+same_bits_there : (log : LogValue) (t u : ℕ) (b row : List Literal) → t ≡ u → bits_in log.bits u ≡ Some row → bits_in log.bits t ≡ Some b → row ≡ b
+same_bits_there log t u b row e p q = let r : Some row ≡ Some b = sym p ∙ ap (bits_in log.bits) (sym e) ∙ q in cc
+
+one_literal : (row : List Literal) (l : Literal) → 1 ≡ length row → l ≡ get_or row 0 l → row ≡ l ∷ []
+one_literal [] l n e = absurd (omega arith)
+one_literal (k ∷ []) l n e = ap (λ x. x ∷ []) (sym e)
+one_literal (k ∷ m ∷ row) l n e = absurd (omega arith)
+
+width_is : (s : Sort) (n k : ℕ) → s ≡ sort.Word n → plain_width s ≡ Some k → k ≡ n
+width_is s n k e w = let q : Some n ≡ Some k = sym (ap plain_width e) ∙ w in cc
+
+pub truth_is : (s : Sort) (k : ℕ) → s ≡ sort.Bool → plain_width s ≡ Some k → 1 ≡ k
+truth_is s k e w = let q : Some 1 ≡ Some k = sym (ap plain_width e) ∙ w in cc
+
+pub no_bits_there : (log : LogValue) (t u : ℕ) (b : List Literal) → t ≡ u → bits_in log.bits u ≡ None → bits_in log.bits t ≡ Some b → ⊥
+no_bits_there log t u b e p q = let r : None ≡ Some b = sym p ∙ ap (bits_in log.bits) (sym e) ∙ q in let f : ⊥ = cc in f
+
+-- the value of a Bool whose term has a bit
+pub truth_value : (v : TermsValue) (log : LogValue) (f : ℕ → Bool) (d : ℕ) (s : Sort) (u : ℕ) (row : List Literal) (l : Literal) (b : Bool) → AreTerms v → Stands v.nodes log
+    → Some u ≡ position (same_node (leaf (Constant d s))) v.nodes → bits_in log.bits u ≡ Some row → s ≡ sort.Bool → l ≡ get_or row 0 l → b ≡ lit_true f l → IsValueIn v.nodes log f d s (held.Bool b)
+truth_value v log f d s u row l b terms stands found q bool at means =
+    let only = one_literal row l (truth_is s (length row) bool (constant_row v log d s u row terms stands found q)) at in
+    record {
+      sorted = subst (λ r. HasSort r (of.VBool b)) (sym bool) (b, refl);
+      written = refl;
+      bits = λ t c e p. subst (λ r. AreBitsOf f r c (of.VBool b)) (sym bool)
+          (l, sym (same_bits_there log t u c row (same_constant v log d s u terms stands found t c e p) q p) ∙ only, ap of.VBool means);
+    }
+
+-- the value of a word whose term has bits
+pub word_value : (v : TermsValue) (log : LogValue) (f : ℕ → Bool) (d : ℕ) (s : Sort) (n u : ℕ) (row : List Literal) (w : WordValue) → AreTerms v → Stands v.nodes log
+    → Some u ≡ position (same_node (leaf (Constant d s))) v.nodes → bits_in log.bits u ≡ Some row → s ≡ sort.Word n → w ≡ word (length row) (number f row) → IsValueIn v.nodes log f d s (held.Word w)
+word_value v log f d s n u row w terms stands found q is means =
+    let width : length row ≡ n = width_is s n (length row) is (constant_row v log d s u row terms stands found q) in
+    let own : meaning (held.Word w) ≡ of.VWord n (number f row) = ap (λ x. of.VWord x.width x.value) means ∙ ap (λ k. of.VWord k (number f row)) width in
+    record {
+      sorted = subst (λ r. HasSort r (meaning (held.Word w))) (sym is) (number f row, own, subst (λ k. number f row < 2 ^ k) width (number_lt f row));
+      written = refl;
+      bits = λ t c e p.
+          (let same : row ≡ c = same_bits_there log t u c row (same_constant v log d s u terms stands found t c e p) q p in
+          subst (λ r. AreBitsOf f r c (meaning (held.Word w))) (sym is)
+          (subst (λ x. AreBitsOf f (sort.Word n) x (meaning (held.Word w))) same (width, own)));
+    }
+
+-- a plain sort that is not Bool is that of words
+pub plain_word : (s : Sort) → is_plain_sort s ≡ true → (s ≡ sort.Bool → ⊥) → (n : ℕ) × (s ≡ sort.Word n)
+plain_word sort.Bool p h = absurd (h refl)
+plain_word (sort.Word n) p h = (n, refl)
+plain_word (sort.Array n m) p h = let q : ⊥ = cc in absurd q
+
+-- the bits of a word's term are as many as a word has
+pub word_long : (s : Sort) (n : ℕ) (row : List Literal) → s ≡ sort.Word n → IsSort s → plain_width s ≡ Some (length row) → IsLongAsWord row
+word_long s n row is bounded w =
+    let width = width_is s n (length row) is w in
+    let range : IsSort (sort.Word n) = subst IsSort is bounded in
+    (omega (arith, width, range.0), omega (arith, width, range.1))
+
+-- ---- the values of all
+
+each_push : {A : Type 0} (P : A → Type 0) (xs : List A) (x : A) → AllByRecursion P xs → P x → AllByRecursion P (xs ++ x ∷ [])
+each_push P [] x h k = (k, tt)
+each_push P (y ∷ xs) x h k = (h.0, each_push P xs x h.1 k)
+
+map_push : {A B : Type 0} (f : A → B) (xs : List A) (x : A) → map f (xs ++ x ∷ []) ≡ map f xs ++ f x ∷ []
+map_push f [] x = refl
+map_push f (y ∷ xs) x = ap (λ r. f y ∷ r) (map_push f xs x)
+
+pub items_more : (s : StateValue) (log : LogValue) (v : ℕ → Bool) (live : List LiveName) (items : List (ℕ × Value)) (l : LiveName) (x : Value) → AreDeclaredValues s log v live items
+    → IsDeclaredValue s.symbols.signatures s.terms.nodes log v (l.declaration, x) → AreDeclaredValues s log v (live ++ l ∷ []) (items ++ (l.declaration, x) ∷ [])
+items_more s log v live items l x h k = record {
+  listed = map_push (λ (p : ℕ × Value). p.0) items (l.declaration, x) ∙ ap (λ r. r ++ l.declaration ∷ []) h.listed ∙ sym (map_push (λ (y : LiveName). y.declaration) live l);
+  each = each_push (IsDeclaredValue s.symbols.signatures s.terms.nodes log v) items (l.declaration, x) h.each k;
+}
+
+-- a live declaration has its signature
+pub live_declared : (s : StateValue) (k : ℕ) (l : LiveName) → IsState s → slice_get s.symbols.live k ≡ Some l → (g : Signature) × (slice_get s.symbols.signatures l.declaration ≡ Some g) × (g.args ≡ []) × (is_plain_sort g.value ≡ true) × IsSort g.value
+live_declared s k l h e =
+    let none : Signature = constant_signature sort.Bool in
+    let own : l.declaration ≡ k = h.live.each k l e in
+    let lt : l.declaration < length s.symbols.signatures = omega (arith, own, slice_get_within s.symbols.live k l e, h.live.count) in
+    let plain = h.constants l.declaration (constant_signature sort.Bool) lt in
+    (get_or s.symbols.signatures l.declaration none, slice_get-get_or s.symbols.signatures l.declaration none lt, plain.constant, plain.sort, plain.widths)
+
+-- the value of the next live declaration
+declared_value : (s : StateValue) (log : LogValue) (v : ℕ → Bool) (k : ℕ) (l : LiveName) (g : Signature) (x : Value) → IsState s → slice_get s.symbols.live k ≡ Some l
+    → slice_get s.symbols.signatures l.declaration ≡ Some g → IsValueIn s.terms.nodes log v l.declaration g.value x → IsDeclaredValue s.symbols.signatures s.terms.nodes log v (l.declaration, x)
+declared_value s log v k l g x state e declared is =
+    let plain = live_declared s k l state e in
+    let same : Some plain.0 ≡ Some g = sym plain.1 ∙ declared in
+    let own : plain.0 ≡ g = cc in
+    record { signature = g; declared = declared; constant = ap (λ y. y.args) (sym own) ∙ plain.2; value = is }
+
+pub items_next : (s : StateValue) (log : LogValue) (v : ℕ → Bool) (live : List LiveName) (items : List (ℕ × Value)) (k : ℕ) (l : LiveName) (g : Signature) (x : Value) → IsState s → live ≡ s.symbols.live → k < length live → l ≡ get_or live k l
+    → slice_get s.symbols.signatures l.declaration ≡ Some g → IsValueIn s.terms.nodes log v l.declaration g.value x → AreDeclaredValues s log v (take k s.symbols.live) items → AreDeclaredValues s log v (take (k + 1) s.symbols.live) (items ++ (l.declaration, x) ∷ [])
+items_next s log v live items k l g x state same lt at declared is h =
+    let within : k < length s.symbols.live = subst (λ ls. k < length ls) same lt in
+    let item : l ≡ get_or s.symbols.live k l = subst (λ ls. l ≡ get_or ls k l) same at in
+    let found = slice_get_read s.symbols.live (length s.symbols.live) k l refl within item in
+    let front : take (k + 1) s.symbols.live ≡ take k s.symbols.live ++ l ∷ [] = take_more s.symbols.live k l within ∙ ap (λ y. take k s.symbols.live ++ y ∷ []) (sym item) in
+    subst (λ ls. AreDeclaredValues s log v ls (items ++ (l.declaration, x) ∷ [])) (sym front)
+    (items_more s log v (take k s.symbols.live) items l x h (declared_value s log v k l g x state found declared is))
+
+-- ---- the model
+
+value_found : (P : ℕ × Value → Type 0) (values : List (ℕ × Value)) (d k : ℕ) → AllByRecursion P values → slice_get (map (λ (p : ℕ × Value). p.0) values) k ≡ Some d → (x : Value) × (value_for values d ≡ Some x) × P (d, x)
+value_found P [] d k h e = let q : ⊥ = cc in absurd q
+value_found P (p ∷ ps) d k h e = go (d == p.0) refl k (λ j q. value_found P ps d j h.1 q) e
+  where
+    go : (b : Bool) → (d == p.0) ≡ b → (k : ℕ) → ((j : ℕ) → slice_get (map (λ (p : ℕ × Value). p.0) ps) j ≡ Some d → (x : Value) × (value_for ps d ≡ Some x) × P (d, x))
+        → slice_get (p.0 ∷ map (λ (p : ℕ × Value). p.0) ps) k ≡ Some d → (x : Value) × ((if b then Some p.1 else value_for ps d) ≡ Some x) × P (d, x)
+    go true q k rest e = (p.1, refl, subst (λ y. P (y, p.1)) (sym (eqb-true d p.0 q)) h.0)
+    go false q zero rest e = let r : p.0 ≡ d = cc in let t : (d == p.0) ≡ true = eq-eqb d p.0 (sym r) in let f : ⊥ = cc in absurd f
+    go false q (suc k) rest e = rest k e
+
+mod_small : (x w : ℕ) → x < w → x % w ≡ x
+mod_small x w lt = let e : x ≡ 0 * w + x = omega arith in ap (λ z. z % w) e ∙ mod-mul-add 0 w x lt
+
+read_same : (s : Sort) (n : ℕ) (x : of.Value) → plain_width s ≡ Some n → HasSort s x → read_at s x ≡ x
+read_same sort.Bool n x w h = subst (λ y. read_at sort.Bool y ≡ y) (sym h.1) refl
+read_same (sort.Word m) n x w h = subst (λ y. read_at (sort.Word m) y ≡ y) (sym h.1) (ap (of.VWord m) (mod_small h.0 (2 ^ m) h.2))
+read_same (sort.Array m k) n x w h = let q : ⊥ = cc in absurd q
+
+module _ (s : StateValue) (log : LogValue) (v : ℕ → Bool) (values : List (ℕ × Value)) (state : IsState s) (stands : Stands s.terms.nodes log) (items : AreDeclaredValues s log v s.symbols.live values) where
+  -- the bits of a declared constant are those of its value
+  constant_bits : (t n : ℕ) (b : List Literal) → constant_width (node_at s.terms.nodes t).op ≡ Some n → bits_in log.bits t ≡ Some b → AreBitsOf v (sort_of s.terms.nodes t) b (value (interpretation_of values) s.terms.nodes t)
+  constant_bits t n b w e =
+      let nodes = s.terms.nodes in
+      let M = interpretation_of values in
+      let lt = ((stands_settled s.terms.nodes log state.terms stands).bits t b e).0 in
+      let c = constant_of_width (node_at nodes t).op n w in
+      let d = c.0 in
+      let own = constant_term nodes t d c.1 state.terms lt c.2 in
+      let declared : slice_get s.symbols.signatures c.0 ≡ Some (constant_signature c.1) = state.declared.each t d (ap declaration_of c.2) ∙ ap (λ o. Some (signature_of o)) c.2 in
+      let within : c.0 < length s.symbols.live = omega (arith, state.live.count, slice_get_within s.symbols.signatures d (constant_signature c.1) declared) in
+      let name = live_at d within in
+      let found = value_found (IsDeclaredValue s.symbols.signatures nodes log v) values d d items.each (ap (λ xs. slice_get xs d) items.listed ∙ name) in
+      let g = found.2.signature in
+      let same : Some found.2.signature ≡ Some (constant_signature c.1) = sym found.2.declared ∙ declared in
+      let sorts : found.2.signature.value ≡ c.1 = let r : found.2.signature ≡ constant_signature c.1 = cc in ap (λ x. x.value) r in
+      let x = found.0 in
+      let is : IsValueIn s.terms.nodes log v c.0 c.1 found.0 = subst (λ r. IsValueIn nodes log v d r x) sorts found.2.value in
+      let reads : value (interpretation_of values) s.terms.nodes t ≡ meaning found.0 =
+      value_is M nodes t (state.terms t lt)
+      ∙ ap (λ o. of.op_value M o (map (value M nodes) (node_at nodes t).args)) c.2
+      ∙ ap (λ o. read_at c.1 (constant_of o)) found.1
+      ∙ read_same c.1 n (meaning x) c.3 is.sorted in
+      subst (λ r. AreBitsOf v r b (value M nodes t)) (sym own.1)
+      (subst (AreBitsOf v c.1 b) (sym reads) (is.bits t b c.2 e))
+    where
+      live_at : (d : ℕ) → d < length s.symbols.live → slice_get (map (λ (l : LiveName). l.declaration) s.symbols.live) d ≡ Some d
+      live_at d lt = names s.symbols.live d (λ l q. state.live.each d l q) lt
+        where
+          names : (live : List LiveName) (k : ℕ) → ((l : LiveName) → slice_get live k ≡ Some l → l.declaration ≡ d) → k < length live → slice_get (map (λ (l : LiveName). l.declaration) live) k ≡ Some d
+          names [] k h lt = absurd (omega arith)
+          names (l ∷ live) zero h lt = ap Some (h l refl)
+          names (l ∷ live) (suc k) h lt = names live k h (omega (arith, lt))
+
+  model_of : AreAllTrue log v → All (HasTrueSelector s.terms.nodes log v) s.scopes.live → IsModel s (interpretation_of values)
+  model_of true_clauses selected k a lt =
+      let M = interpretation_of values in
+      let h = stored_values M s.terms.nodes log v state.terms stands (record { clauses = true_clauses; constants = constant_bits }) in
+      let r = selected k a lt in
+      subst (λ t. is_true (value M s.terms.nodes t) ≡ true) r.term (h.selectors _ r.selector r.made r.holds)
+
+  sorted_of : (xs : List (ℕ × Value)) → AllByRecursion (IsDeclaredValue s.symbols.signatures s.terms.nodes log v) xs → All (λ (p : ℕ × Value). IsOfSignature p.1 (slice_get s.symbols.signatures p.0)) xs
+  sorted_of [] h k d lt = absurd (omega (arith, lt))
+  sorted_of (p ∷ ps) h zero d lt = subst (IsOfSignature p.1) (sym h.0.declared) (h.0.constant, h.0.value.sorted)
+  sorted_of (p ∷ ps) h (suc k) d lt = sorted_of ps h.1 k d (omega (arith, lt))
+
+  written_all : (xs : List (ℕ × Value)) → AllByRecursion (IsDeclaredValue s.symbols.signatures s.terms.nodes log v) xs → AreWritten (Sat xs)
+  written_all [] h = tt
+  written_all (p ∷ ps) h = (h.0.value.written, written_all ps h.1)
+
+  pub written_model : AreAllTrue log v → All (HasTrueSelector s.terms.nodes log v) s.scopes.live → AreWritten (Sat values) × IsWrittenModel s values
+  written_model true_clauses selected = (written_all values items.each, record { listed = items.listed; sorted = sorted_of values items.each; model = model_of true_clauses selected })
+
+-- ---- assignments
+
+same_at : (values : List Bool) (x : ℕ) → slice_index_or values x false ≡ unwrap_or (slice_get values x) false
+same_at [] x = refl
+same_at (b ∷ values) zero = refl
+same_at (b ∷ values) (suc x) = same_at values x
+
+pub same_assignment : (values : List Bool) → assignment values ≡ assigned values
+same_assignment values = λ i x. at x i
+  where
+    at : (x : ℕ) → assignment values x ≡ assigned values x
+    at zero = refl
+    at (suc x) = same_at values x
+
+pub model_written : (s : StateValue) (log : LogValue) (values given : List Bool) (items : List (ℕ × Value)) → given ≡ values → IsState s → Stands s.terms.nodes log → AreDeclaredValues s log (assigned given) s.symbols.live items
+    → AreAllTrue log (assignment values) → All (HasTrueSelector s.terms.nodes log (assignment values)) s.scopes.live → AreWritten (Sat items) × IsWrittenModel s items
+model_written s log values given items e state stands h true_clauses selected =
+    let same : assignment values ≡ assigned given = same_assignment values ∙ ap assigned (sym e) in
+    written_model s log (assigned given) items state stands h (subst (AreAllTrue log) same true_clauses) (subst (λ f. All (HasTrueSelector s.terms.nodes log f) s.scopes.live) same selected)

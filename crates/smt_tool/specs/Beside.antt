@@ -1,0 +1,64 @@
+-- What stands in the answers and in the proof of a run.
+use Rattle.std.specs.Prelude.{◌≡◌, ◌⊎◌, ℕ, ◌≤◌, if◌then◌else◌, List, [], ◌++◌, Option, Some, IfSome, length}
+use Rattle.smt_desk.specs.Faults.{Rose}
+use Rattle.smt_text.specs.declared.chunk.Chunk.{Chunk}
+use Rattle.script_state.specs.States.{no_state}
+use Rattle.accepted_proof.specs.Turns.{Turn, AreTurns}
+use Rattle.accepted_proof.specs.Right.{AreRight}
+use Rattle.accepted_proof.specs.Answers.{answers_of, header_text}
+use Rattle.accepted_proof.specs.Accepted.{AreRead, IsFront, StandsBeside, IsWhole, has_error}
+use Rattle.smt_tool.specs.declared.status.Status.{Status}
+use Rattle.smt_tool.specs.declared.status.Status.TheVariants.{Done, Refused}
+use Rattle.smt_tool.specs.Runs.{Counts, input_limit}
+
+-- Where the script, the answers and the proof were told before, there are bytes that were added to the answers and to the
+-- proof, such that P.
+abbrev pub Told : Option (List ℕ) → Option (List ℕ) → Option (List ℕ) → Option (List ℕ) → Option (List ℕ) → (List ℕ → List ℕ → List ℕ → Type 0) → Type 0
+Told script answers answers' proof proof' P =
+    IfSome script (λ text. IfSome answers (λ a. IfSome proof (λ p.
+    (answered : List ℕ) × (proved : List ℕ) × (answers' ≡ Some (a ++ answered)) × (proof' ≡ Some (p ++ proved)) × P text answered proved)))
+
+-- nothing was answered, and the proof has a front of its header alone
+pub record IsUnbegun (answered proved : List ℕ) : Type 0 where
+  pub answers : answered ≡ []
+  pub rest : List ℕ
+  pub header : header_text ≡ proved ++ rest
+
+-- The answers that were written whole stand beside a proof that is accepted to the last of their checks, and they are
+-- right: each `sat` has a model, and where there is an `unsat` there is none.
+pub record IsBesideProof (text answered proved : List ℕ) : Type 0 where
+  pub beside : StandsBeside text answered proved
+  pub right : AreRight no_state beside.turns
+
+abbrev pub IsBeside : List ℕ → List ℕ → List ℕ → Type 0
+IsBeside text answered proved = IsUnbegun answered proved ⊎ IsBesideProof text answered proved
+
+-- The answers are those to the whole script, the proof is accepted, the answers are right, and the status tells whether an
+-- error is among them.
+pub record IsAllAnswered (status : Status) (text answered proved : List ℕ) : Type 0 where
+  pub turns : List Turn
+  pub whole : IsWhole text answered proved turns
+  pub right : AreRight no_state turns
+  pub status_is : status ≡ (if has_error turns then Refused else Done)
+
+-- the answers are a front of those to the first commands of the script
+pub record IsPrefix (text answered : List ℕ) : Type 0 where
+  pub chunks : List Chunk
+  pub turns : List Turn
+  pub rest : List ℕ
+  pub front : IsFront text chunks
+  pub read : AreRead chunks turns
+  pub run : AreTurns no_state [] turns
+  pub answers : answers_of turns ≡ answered ++ rest
+
+-- a script that is told, and not too long
+pub record IsShort (script : Option (List ℕ)) : Type 0 where
+  pub text : List ℕ
+  pub told : script ≡ Some text
+  pub short : length text ≤ input_limit
+
+-- no count of faults rose
+pub record IsWithoutFault (old new : Counts) : Type 0 where
+  pub script : ¬ (Rose old.script new.script)
+  pub answers : ¬ (Rose old.answers new.answers)
+  pub proof : ¬ (Rose old.proof new.proof)
