@@ -1,6 +1,5 @@
 pub mod Lists
 pub mod Declared
-pub mod Held
 pub mod Asserting
 pub mod Obeying
 pub mod Applying

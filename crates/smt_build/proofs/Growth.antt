@@ -31,6 +31,13 @@ grows_both signatures a b c p q = record {
   declared = λ h. q.declared (p.declared h);
 }
 
+-- terms grow, whatever is declared
+abbrev pub AllGrow : TermsValue → TermsValue → Type 0
+AllGrow old new = (signatures : List Signature) → Grows signatures old new
+
+pub all_grow : (a b c : TermsValue) → AllGrow a b → AllGrow b c → AllGrow a c
+all_grow a b c p q signatures = grows_both signatures a b c (p signatures) (q signatures)
+
 -- ---- what a node may name
 
 pub none_declared : (signatures : List Signature) → AreDeclared signatures []

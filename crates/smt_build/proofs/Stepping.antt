@@ -18,11 +18,11 @@ use Rattle.smt_build.specs.declared.reader.Open.{Open as OpenList}
 use Rattle.smt_build.specs.declared.reader.Part.{Part as ReadPart}
 use Rattle.smt_build.specs.declared.reader.Part.TheVariants as parts
 use Rattle.smt_build.specs.Names.{SymbolsValue, no_symbols}
-use Rattle.smt_build.specs.Building.{Built, Builds}
+use Rattle.smt_build.specs.Building.{Built, Builds, Means}
 use Rattle.smt_build.specs.Terms.{term_of}
 use Rattle.smt_build.specs.TermReader.{Part, term, Open, term_reader, takes, closes, at_word}
 use Rattle.smt_build.specs.Steps.{Step, ends, goes, handed, step, Steps}
-use Rattle.smt_build.specs.Views.{part_of, open_of, stack_of, Does, Takes, Means}
+use Rattle.smt_build.specs.Views.{part_of, open_of, stack_of, Does, Takes}
 use Rattle.smt_build.proofs.TermWalks.{as_part, walk-term}
 
 -- ---- a step is what the machine does with a token

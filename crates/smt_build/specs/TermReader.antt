@@ -9,7 +9,7 @@ use Rattle.smt_build.specs.declared.fault.BuildFault.TheVariants.{NotSupported}
 use Rattle.smt_build.specs.declared.reader.Want.{Want}
 use Rattle.smt_build.specs.declared.reader.Want.TheVariants as want
 use Rattle.smt_build.specs.Names.{SymbolsValue}
-use Rattle.smt_build.specs.Building.{word_term, application as applied}
+use Rattle.smt_build.specs.Applying.{word_term, application as applied}
 
 -- what a part of a list was read as
 pub data Part : Type 0 where

@@ -8,7 +8,8 @@ use Rattle.smt_terms.specs.Terms.{TermsValue}
 use Rattle.smt_build.specs.declared.fault.BuildFault.{BuildFault}
 use Rattle.smt_build.specs.declared.fault.BuildFault.TheVariants.{NotSupported}
 use Rattle.smt_build.specs.Names.{SymbolsValue}
-use Rattle.smt_build.specs.Building.{Built, word_term, application}
+use Rattle.smt_build.specs.Building.{Built}
+use Rattle.smt_build.specs.Applying.{word_term, application}
 
 module _ (symbols : SymbolsValue) where
   unfoldable mutual

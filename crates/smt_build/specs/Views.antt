@@ -1,5 +1,5 @@
 -- What the reader of terms holds, without where it lies in memory, and what its calls answer.
-use Rattle.std.specs.Prelude.{◌≡◌, ℕ, List, map, reverse, Result, Ok, Err}
+use Rattle.std.specs.Prelude.{◌≡◌, List, map, reverse, Result, Ok, Err}
 use Rattle.smt_terms.specs.Terms.{TermsValue}
 use Rattle.smt_build.specs.declared.fault.BuildFault.{BuildFault}
 use Rattle.smt_build.specs.declared.fault.BuildError.{BuildError}
@@ -8,7 +8,6 @@ use Rattle.smt_build.specs.declared.reader.Open.{Open as OpenList}
 use Rattle.smt_build.specs.declared.reader.Open.TheVariants as lists
 use Rattle.smt_build.specs.declared.reader.Part.{Part as ReadPart}
 use Rattle.smt_build.specs.declared.reader.Part.TheVariants as parts
-use Rattle.smt_build.specs.Building.{Built}
 use Rattle.smt_build.specs.TermReader.{Part, term, head, Open, started, application}
 
 abbrev pub part_of : ReadPart → Part
@@ -39,9 +38,3 @@ abbrev pub Does : Result (Part × TermsValue) BuildFault → Result ReadPart Bui
 Does to (Ok p) terms = to ≡ Ok (part_of p, terms)
 Does to (Err (Fault e)) terms = to ≡ Err e
 Does to (Err NoMemory) terms = Unit {0}
-
--- The answer is what is meant, with the terms then.
-abbrev pub Means : Built → Result ℕ BuildError → TermsValue → Type 0
-Means to (Ok t) terms = to ≡ Ok (t, terms)
-Means to (Err (Fault e)) terms = to ≡ Err e
-Means to (Err NoMemory) terms = Unit {0}

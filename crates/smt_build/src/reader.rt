@@ -78,6 +78,7 @@ pub fn takes<'a>(alloc: Global, list: Open<'a>, part: Part<'a>) -> Result<Open<'
 /// A list closes.
 #[tactic(auto, unfolding(crate::specs::TermReader::closes))]
 pub fn closes<'a>(
+    alloc: Global,
     symbols: &Symbols,
     terms: &mut Terms,
     list: Open<'a>,
@@ -87,7 +88,7 @@ pub fn closes<'a>(
 {
     match list {
         Open::Application(name, args) => {
-            let term = application(symbols, terms, name, args)?;
+            let term = application(alloc, symbols, terms, name, args)?;
             Ok(Part::Term(term))
         }
         Open::Started => Err(BuildError::Fault(BuildFault::NotSupported)),

@@ -1,7 +1,7 @@
 use Rattle.std.proofs.Common.{rules, ◌≡◌}
 use Rattle.smt_terms.specs.declared.sort.Sort.TheVariants as sort
 use Rattle.script_state.specs.States.{StateValue}
-use Rattle.script_state.proofs.Held.{term_is_held}
+use Rattle.smt_build.proofs.Longer.{term_is_held}
 use Rattle.script_state.proofs.Asserting.{asserted_state}
 use Rattle.script_state.proofs.state.State.assert.Goals as goal
 
