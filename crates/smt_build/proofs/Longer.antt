@@ -1,5 +1,5 @@
 -- The terms that stand before a reading stand behind it, and the term that is read is one of them.
-use Rattle.std.proofs.Common.{◌≡◌, ℕ, ◌*◌, ◌<◌, ◌≤◌, Bool, true, false, List, [], ◌∷◌, ◌++◌, length, refl, sym, ap, ◌∙◌, subst, append_assoc, append-nil, length-append, arith, Option, Some, None, Result, Ok, Err}
+use Rattle.std.proofs.Common.{◌≡◌, ℕ, ◌*◌, ◌^◌, ◌<◌, ◌≤◌, Bool, true, false, List, [], ◌∷◌, ◌++◌, length, refl, sym, ap, ◌∙◌, subst, append_assoc, append-nil, length-append, arith, Option, Some, None, Result, Ok, Err}
 use Rattle.std.specs.Prelude.{nat_le, nat_lt, position, slice_get, if◌then◌else◌}
 use Rattle.smt_text.specs.declared.token.TokenKind.{TokenKind}
 use Rattle.smt_text.specs.declared.token.TokenKind.TheVariants as kind
@@ -9,6 +9,7 @@ use Rattle.smt_terms.specs.declared.sort.Sort.{Sort}
 use Rattle.smt_terms.specs.declared.sort.Signature.{Signature}
 use Rattle.smt_terms.specs.declared.operator.Operator.{Operator}
 use Rattle.smt_terms.specs.declared.operator.Operator.TheVariants.{True, Not, And, Equal, Concat}
+use Rattle.smt_terms.specs.declared.node.Op.{Op}
 use Rattle.smt_terms.specs.declared.node.Op.TheVariants.{Plain, Word, Constant}
 use Rattle.smt_terms.specs.declared.node.Node.{Node}
 use Rattle.smt_terms.specs.declared.fault.MakeFault.{MakeFault}
@@ -23,13 +24,14 @@ use Rattle.smt_build.specs.declared.fault.BuildFault.TheVariants.{WrongSort, Wid
 use Rattle.smt_build.specs.declared.operators.Arity.{Arity}
 use Rattle.smt_build.specs.declared.operators.Arity.TheVariants.{Ranked, LeftAssociative, RightAssociative, Chainable, Pairwise, Joining}
 use Rattle.smt_build.specs.declared.operators.Named.{Named}
-use Rattle.smt_build.specs.declared.operators.Named.TheVariants.{Applies, LeftOut}
-use Rattle.smt_build.specs.Literals.{bit_value, hexadecimal_value, value_in}
+use Rattle.smt_build.specs.declared.operators.Named.TheVariants.{Applies, Indexed, LeftOut}
+use Rattle.smt_build.specs.Literals.{bit_value, hexadecimal_value, value_in, width_of_numeral, number_of}
 use Rattle.smt_build.specs.Operators.{operator_named}
 use Rattle.smt_build.specs.Names.{SymbolsValue, declaration_of}
 use Rattle.smt_build.specs.Building.{Built, as_built, made, constant, declared_at, declared}
 use Rattle.smt_build.specs.Grouping.{each, of_two, left, right, Chain, next_equal, chain, chained, Listed, apart, apart_from, all_apart, all_true, joins_within, by_arity, are_taken, grouped, operation}
-use Rattle.smt_build.specs.Applying.{applied, symbol_by, symbol_term, word_term, application_by, application}
+use Rattle.smt_build.specs.Applying.{applied, symbol_by, symbol_term, word_term, application_by, application, indexed_term}
+use Rattle.smt_build.specs.Indices.{Indices, one, two, many, Head, plain, indexed, indexed_in, head_in, is_word_name, word_by, word_in, word_of, known, with_indices, first_width, indexed_by, indexed_application}
 use Rattle.smt_build.specs.Terms.{term_of, args_of}
 
 -- more terms may stand behind them
@@ -242,6 +244,7 @@ keeps_operation o Joining terms args = keeps_grouped o Joining terms args
 
 keeps_applied : (terms : TermsValue) (named : Named) (args : List ℕ) → Keeps terms (applied terms named args)
 keeps_applied terms LeftOut args = tt
+keeps_applied terms (Indexed k) args = tt
 keeps_applied terms (Applies o arity) args = keeps_operation o arity terms args
 
 keeps_symbol_by : (symbols : SymbolsValue) (terms : TermsValue) (named : Option Named) (d : Option ℕ) → Keeps terms (symbol_by symbols terms named d)
@@ -267,9 +270,44 @@ keeps_application_by : (terms : TermsValue) (named : Option Named) (d : Option �
 keeps_application_by terms (Some named) d args = keeps_applied terms named args
 keeps_application_by terms None d args = tt
 
-keeps_application : (symbols : SymbolsValue) (terms : TermsValue) (f args : List ℕ) → Keeps terms (application symbols terms f args)
+keeps_indexed_by : (terms : TermsValue) (op : Option Op) (args : List ℕ) → Keeps terms (indexed_by terms op args)
+keeps_indexed_by terms None args = tt
+keeps_indexed_by terms (Some op) args = keeps_made terms (node_of op args)
+
+keeps_indexed : (symbols : SymbolsValue) (terms : TermsValue) (f : List ℕ) (is : Indices) (named : Option Named) (args : List ℕ) → Keeps terms (indexed_application symbols terms f is named args)
+keeps_indexed symbols terms f is (Some (Indexed k)) args = keeps_indexed_by terms (with_indices k is (first_width terms args)) args
+keeps_indexed symbols terms f is (Some (Applies o arity)) args = tt
+keeps_indexed symbols terms f is (Some LeftOut) args = tt
+keeps_indexed symbols terms f is None args = tt
+
+keeps_application : (symbols : SymbolsValue) (terms : TermsValue) (f : Head) (args : List ℕ) → Keeps terms (application symbols terms f args)
 unfolding application
-keeps_application symbols terms f args = keeps_application_by terms (operator_named f) (declaration_of symbols.live f) args
+keeps_application symbols terms (plain f) args = keeps_application_by terms (operator_named f) (declaration_of symbols.live f) args
+keeps_application symbols terms (indexed f is) args = keeps_indexed symbols terms f is (operator_named f) args
+
+keeps_word_by : (terms : TermsValue) (n : ℕ) (x : Option ℕ) → Keeps terms (word_by terms n x)
+keeps_word_by terms n None = tt
+keeps_word_by terms n (Some x) = keeps_if terms (nat_lt x (2 ^ n)) LiteralTooWide _ (keeps_made terms (leaf (Word n x)))
+
+keeps_word_in : (terms : TermsValue) (digits : List ℕ) (n : Option ℕ) → Keeps terms (word_in terms digits n)
+keeps_word_in terms digits None = tt
+keeps_word_in terms digits (Some n) = keeps_word_by terms n (number_of digits)
+
+keeps_word_of : (terms : TermsValue) (f : List ℕ) (is : Indices) → Keeps terms (word_of terms f is)
+keeps_word_of terms [] is = tt
+keeps_word_of terms (b ∷ []) is = tt
+keeps_word_of terms (b ∷ v ∷ digits) (one n) = keeps_word_in terms digits (width_of_numeral n)
+keeps_word_of terms (b ∷ v ∷ digits) (two n m) = tt
+keeps_word_of terms (b ∷ v ∷ digits) many = tt
+
+keeps_indexed_term : (symbols : SymbolsValue) (terms : TermsValue) (h : Head) → Keeps terms (indexed_term symbols terms h)
+unfolding indexed_term
+keeps_indexed_term symbols terms (plain f) = tt
+keeps_indexed_term symbols terms (indexed f is) = keeps_if terms (is_word_name f) (known symbols f) _ (keeps_word_of terms f is)
+
+keeps_then : {A : Type 0} (terms : TermsValue) (r : Result A BuildFault) (f : A → Built) → ((a : A) → Keeps terms (f a)) → Keeps terms (r >>= f)
+keeps_then terms (Ok a) f h = h a
+keeps_then terms (Err e) f h = tt
 
 module _ (symbols : SymbolsValue) where
   mutual
@@ -277,7 +315,9 @@ module _ (symbols : SymbolsValue) where
 
     pub keeps_term : (terms : TermsValue) (e : Sexp) → Keeps terms (term_of symbols terms e)
     keeps_term terms (atom k x) = keeps_word symbols terms k x
-    keeps_term terms (group (more (atom kind.Symbol f) es)) = lists_bind terms (args_of symbols terms [] es) _ (lengthens_args terms [] es) (λ r. keeps_application symbols r.1 f r.0)
+    keeps_term terms (group (more (atom kind.Symbol f) es)) = lists_bind terms (args_of symbols terms [] es) _ (lengthens_args terms [] es) (λ r. keeps_application symbols r.1 (plain f) r.0)
+    keeps_term terms (group (more (atom kind.Underscore l) es)) = keeps_then terms (indexed_in es) _ (λ h. keeps_indexed_term symbols terms h)
+    keeps_term terms (group (more (group x) es)) = keeps_then terms (head_in x) _ (λ f. lists_bind terms (args_of symbols terms [] es) _ (lengthens_args terms [] es) (λ r. keeps_application symbols r.1 f r.0))
     keeps_term terms (group _) = tt
 
     lengthens_args : (terms : TermsValue) (args : List ℕ) (es : Sexps) → Lengthens terms (args_of symbols terms args es)

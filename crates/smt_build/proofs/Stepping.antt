@@ -141,6 +141,9 @@ not_head : (b : Built) (q : ReadPart) (now : TermsValue) → as_part b ≡ Ok (p
 not_head (Err f) q now k n = cc
 not_head (Ok r) (parts.Term t) now k n = n t refl
 not_head (Ok r) (parts.Head f) now k n = let p : ◌≡◌ {A = Part × TermsValue} (term r.0, r.1) (part_of (parts.Head f), now) = cc in let a : ◌≡◌ {A = Part} (term r.0) (part_of (parts.Head f)) = ap (λ q. q.0) p in cc
+not_head (Ok r) parts.Mark now k n = let p : ◌≡◌ {A = Part × TermsValue} (term r.0, r.1) (part_of parts.Mark, now) = cc in let a : ◌≡◌ {A = Part} (term r.0) (part_of parts.Mark) = ap (λ q. q.0) p in cc
+not_head (Ok r) (parts.Name f) now k n = let p : ◌≡◌ {A = Part × TermsValue} (term r.0, r.1) (part_of (parts.Name f), now) = cc in let a : ◌≡◌ {A = Part} (term r.0) (part_of (parts.Name f)) = ap (λ q. q.0) p in cc
+not_head (Ok r) (parts.Index i) now k n = let p : ◌≡◌ {A = Part × TermsValue} (term r.0, r.1) (part_of (parts.Index i), now) = cc in let a : ◌≡◌ {A = Part} (term r.0) (part_of (parts.Index i)) = ap (λ q. q.0) p in cc
 
 module _ (symbols : SymbolsValue) (old : TermsValue) (tokens : List Token) (e : Sexp) (l : signs_in tokens ≡ spelling e) where
   walked : (to : Result (Part × TermsValue) BuildFault) → run (term_reader symbols) want.Term [] old (signs_in tokens) ≡ to → as_part (term_of symbols old e) ≡ to

@@ -5,6 +5,7 @@ pub mod Sorts
 pub mod Declaring
 pub mod Building
 pub mod Grouping
+pub mod Indices
 pub mod Applying
 pub mod Terms
 pub mod TermReader

@@ -4,8 +4,9 @@ use Rattle.std.specs.Str.{bytes_eq}
 use Rattle.smt_text.specs.Lexicon.{reserved_kind}
 use Rattle.smt_terms.specs.declared.operator.Operator.TheVariants.{True, False, Not, And, Or, Xor, Implies, Ite, Equal, Bvnot, Bvneg, Bvadd, Bvsub, Bvmul, Bvand, Bvor, Bvxor, Bvnand, Bvnor, Bvxnor, Bvudiv, Bvurem, Bvsdiv, Bvsrem, Bvsmod, Bvshl, Bvlshr, Bvashr, Bvult, Bvule, Bvugt, Bvuge, Bvslt, Bvsle, Bvsgt, Bvsge, Bvcomp, Concat}
 use Rattle.smt_build.specs.declared.operators.Arity.TheVariants.{Ranked, LeftAssociative, RightAssociative, Chainable, Pairwise, Joining}
+use Rattle.smt_build.specs.declared.operators.Family.TheVariants as family
 use Rattle.smt_build.specs.declared.operators.Named.{Named}
-use Rattle.smt_build.specs.declared.operators.Named.TheVariants.{Applies, LeftOut}
+use Rattle.smt_build.specs.declared.operators.Named.TheVariants.{Applies, Indexed, LeftOut}
 
 -- the operators of Core, FixedSizeBitVectors and ArraysEx, a line for each name
 abbrev pub operators : List (List ℕ × Named)
@@ -49,12 +50,12 @@ operators =
     ∷ (codes "bvsge", Applies Bvsge Ranked)
     ∷ (codes "bvcomp", Applies Bvcomp Ranked)
     ∷ (codes "concat", Applies Concat Joining)
-    ∷ (codes "extract", LeftOut)
-    ∷ (codes "zero_extend", LeftOut)
-    ∷ (codes "sign_extend", LeftOut)
-    ∷ (codes "rotate_left", LeftOut)
-    ∷ (codes "rotate_right", LeftOut)
-    ∷ (codes "repeat", LeftOut)
+    ∷ (codes "extract", Indexed family.Extract)
+    ∷ (codes "zero_extend", Indexed family.ZeroExtend)
+    ∷ (codes "sign_extend", Indexed family.SignExtend)
+    ∷ (codes "rotate_left", Indexed family.RotateLeft)
+    ∷ (codes "rotate_right", Indexed family.RotateRight)
+    ∷ (codes "repeat", Indexed family.Repeat)
     ∷ (codes "select", LeftOut)
     ∷ (codes "store", LeftOut)
     ∷ []

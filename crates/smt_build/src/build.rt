@@ -5,10 +5,14 @@ ghost use Rattle.smt_terms.specs.Nodes.{leaf};
 ghost use Rattle.smt_terms.specs.declared.sort.Signature.{Signature as SignatureValue};
 ghost use Rattle.smt_build.specs.Names.{AreDeclared, declaration_of};
 ghost use Rattle.smt_build.specs.Building.{made, binary, hexadecimal, constant, declared, declared_at, Builds, Means, Grows};
-ghost use Rattle.smt_build.specs.Applying.{applied, symbol_term, word_term, application};
+ghost use Rattle.smt_build.specs.Applying.{applied, symbol_term, word_term, application_by, application, indexed_term};
+ghost use Rattle.smt_build.specs.Indices.{indexed};
+ghost use Rattle.smt_build.specs.Operators.{operator_named};
+ghost use Rattle.smt_build.specs.Views.{head_of, indices_of};
 
 use crate::fault::{BuildError, BuildFault};
 use crate::grouping::operation;
+use crate::indices::{Head, Indices, indexed_application, is_word_name, known, word_of};
 use crate::literal::{binary_number, hexadecimal_number};
 use crate::making::made;
 use crate::operators::{Named, operator_named};
@@ -111,6 +115,7 @@ fn applied(
 {
     match named {
         Named::LeftOut => Err(BuildError::Fault(BuildFault::NotSupported)),
+        Named::Indexed(_) => Err(BuildError::Fault(BuildFault::WrongSort)),
         Named::Applies(operator, arity) => operation(alloc, terms, operator, arity, args),
     }
 }
@@ -154,16 +159,15 @@ pub fn word_term(
     }
 }
 
-/// The term of a name and the arguments that it is applied to.
-#[tactic(auto, unfolding(crate::specs::Applying::application))]
-pub fn application(
+/// The term of a name without indices and the arguments that it is applied to.
+fn plain_application(
     alloc: Global,
     symbols: &Symbols,
     terms: &mut Terms,
     name: &[u8],
     args: Vec<TermId>,
 ) -> Result<TermId, BuildError>
-    ensures means { Means (application symbols.now terms.old name.now args.items) result terms.new }
+    ensures means { Means (application_by terms.old (operator_named name.now) (declaration_of symbols.now.live name.now) args.items) result terms.new }
     ensures grows { (signatures : List SignatureValue) → Grows signatures terms.old terms.new }
 {
     match operator_named(name) {
@@ -175,5 +179,42 @@ pub fn application(
                 Err(BuildError::Fault(BuildFault::UnknownSymbol))
             }
         }
+    }
+}
+
+/// The term of a name and the arguments that it is applied to.
+#[tactic(auto, unfolding(crate::specs::Applying::application))]
+pub fn application(
+    alloc: Global,
+    symbols: &Symbols,
+    terms: &mut Terms,
+    head: Head<'_>,
+    args: Vec<TermId>,
+) -> Result<TermId, BuildError>
+    ensures means { Means (application symbols.now terms.old (head_of head.entry) args.items) result terms.new }
+    ensures grows { (signatures : List SignatureValue) → Grows signatures terms.old terms.new }
+{
+    match head {
+        Head::Plain(name) => plain_application(alloc, symbols, terms, name, args),
+        Head::Indexed(name, indices) => indexed_application(symbols, terms, name, indices, args),
+    }
+}
+
+/// The term of a name with indices.
+#[tactic(auto, unfolding(crate::specs::Applying::indexed_term))]
+pub fn indexed_term(
+    alloc: Global,
+    symbols: &Symbols,
+    terms: &mut Terms,
+    name: &[u8],
+    indices: Indices<'_>,
+) -> Result<TermId, BuildError>
+    ensures means { Means (indexed_term symbols.now terms.old (indexed name.now (indices_of indices.entry))) result terms.new }
+    ensures grows { (signatures : List SignatureValue) → Grows signatures terms.old terms.new }
+{
+    if is_word_name(name) {
+        word_of(alloc, terms, name, indices)
+    } else {
+        Err(BuildError::Fault(known(symbols, name)))
     }
 }

@@ -17,7 +17,7 @@ use smt_terms::terms::Terms;
 use std::alloc::Global;
 
 /// The sort of a term, if it is held.
-fn held_sort(terms: &Terms, term: TermId) -> Option<Sort>
+pub(crate) fn held_sort(terms: &Terms, term: TermId) -> Option<Sort>
     ensures { result ≡ held_sort terms.now.nodes term }
 {
     if term < terms.len() {
@@ -72,7 +72,7 @@ fn are_words(terms: &Terms, first: TermId, rest: &[TermId]) -> bool
     true
 }
 
-fn width_in(held: Option<Sort>) -> u32
+pub(crate) fn width_in(held: Option<Sort>) -> u32
     ensures { result ≡ width_in held }
 {
     match held {

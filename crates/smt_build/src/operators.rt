@@ -24,11 +24,24 @@ pub enum Arity {
     Joining,
 }
 
+/// Operators with indices.
+#[derive(Clone, Copy, Debug)]
+pub enum Family {
+    Extract,
+    ZeroExtend,
+    SignExtend,
+    RotateLeft,
+    RotateRight,
+    Repeat,
+}
+
 /// What an operator's name stands for.
 #[derive(Clone, Copy, Debug)]
 pub enum Named {
     /// An operator on so many arguments.
     Applies(Operator, Arity),
+    /// An operator with indices.
+    Indexed(Family),
     /// An operator that is known and not supported.
     LeftOut,
 }
@@ -101,12 +114,12 @@ const OPERATORS: [(&[u8], Named); 47] = [
     (b"bvsge", Named::Applies(Operator::Bvsge, Arity::Ranked)),
     (b"bvcomp", Named::Applies(Operator::Bvcomp, Arity::Ranked)),
     (b"concat", Named::Applies(Operator::Concat, Arity::Joining)),
-    (b"extract", Named::LeftOut),
-    (b"zero_extend", Named::LeftOut),
-    (b"sign_extend", Named::LeftOut),
-    (b"rotate_left", Named::LeftOut),
-    (b"rotate_right", Named::LeftOut),
-    (b"repeat", Named::LeftOut),
+    (b"extract", Named::Indexed(Family::Extract)),
+    (b"zero_extend", Named::Indexed(Family::ZeroExtend)),
+    (b"sign_extend", Named::Indexed(Family::SignExtend)),
+    (b"rotate_left", Named::Indexed(Family::RotateLeft)),
+    (b"rotate_right", Named::Indexed(Family::RotateRight)),
+    (b"repeat", Named::Indexed(Family::Repeat)),
     (b"select", Named::LeftOut),
     (b"store", Named::LeftOut),
 ];

@@ -84,7 +84,7 @@ fn given(
 }
 
 /// Terms, each with its number and with how many terms are then held.
-const MADE: [(&[u8], u32, u32); 16] = [
+const MADE: [(&[u8], u32, u32); 20] = [
     (b"(assert true)", 0, 1),
     (b"(assert (not false))", 1, 2),
     (b"(assert (and p q p))", 3, 4),
@@ -105,10 +105,22 @@ const MADE: [(&[u8], u32, u32); 16] = [
         5,
         6,
     ),
+    (b"(assert (= x (_ bv42 8)))", 2, 3),
+    (b"(assert (= ((_ extract 3 0) x) #xf))", 3, 4),
+    (
+        b"(assert (= ((_ rotate_left 18446744073709551617) x) ((_ rotate_left 1) x)))",
+        2,
+        3,
+    ),
+    (
+        b"(assert (= ((_ zero_extend 1) x) ((_ repeat 1) #b000000000)))",
+        4,
+        5,
+    ),
 ];
 
 /// Commands that are refused, each with its first fault.
-const REFUSED: [(&[u8], BuildFault); 31] = [
+const REFUSED: [(&[u8], BuildFault); 52] = [
     (b"(declare-const bvadd Int)", BuildFault::Reserved),
     (b"(declare-const |let| Int)", BuildFault::Reserved),
     (b"(declare-const |x| Int)", BuildFault::Declared),
@@ -149,6 +161,33 @@ const REFUSED: [(&[u8], BuildFault); 31] = [
     ),
     (b"(assert (= 5 z))", BuildFault::NotSupported),
     (b"(assert (let ((z w)) z))", BuildFault::NotSupported),
+    (b"(assert (= x (_ bv256 8)))", BuildFault::LiteralTooWide),
+    (b"(assert (= x (_ bv256 0)))", BuildFault::Width),
+    (b"(assert (= x (_ bv5 129)))", BuildFault::Width),
+    (b"(assert (= x (_ bv01 8)))", BuildFault::UnknownSymbol),
+    (b"(assert (_ bv5 8 8))", BuildFault::WrongSort),
+    (b"(assert (_ nope 1))", BuildFault::UnknownSymbol),
+    (b"(assert (_ x 1))", BuildFault::WrongSort),
+    (b"(assert ((_ extract 8 0) x))", BuildFault::WrongSort),
+    (b"(assert ((_ extract 0 1) x))", BuildFault::WrongSort),
+    (b"(assert ((_ extract 3) x))", BuildFault::WrongSort),
+    (b"(assert (extract x))", BuildFault::WrongSort),
+    (b"(assert ((_ bvadd 1) x x))", BuildFault::WrongSort),
+    (b"(assert ((_ bv5 8) x))", BuildFault::WrongSort),
+    (b"(assert ((_ f 1) x))", BuildFault::UnknownSymbol),
+    (b"(assert ((_ zero_extend 121) x))", BuildFault::Width),
+    (
+        b"(assert ((_ zero_extend 18446744073709551616) x))",
+        BuildFault::Width,
+    ),
+    (b"(assert ((_ repeat 0) x))", BuildFault::Width),
+    (b"(assert ((_ repeat 1) p))", BuildFault::WrongSort),
+    (b"(assert ((_ zero_extend 121) p))", BuildFault::WrongSort),
+    (
+        b"(assert ((_ extract 340282366920938463463374607431768211456 0) x))",
+        BuildFault::WrongSort,
+    ),
+    (b"(assert ((as const S) z))", BuildFault::NotSupported),
 ];
 
 /// Terms that are refused where three terms may be held, each with its first fault.
