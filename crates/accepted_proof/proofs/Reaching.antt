@@ -7,9 +7,9 @@ use Rattle.smt_terms.specs.declared.node.Node.{Node}
 use Rattle.smt_terms.specs.Terms.{TermsValue, IsTermList}
 use Rattle.smt_build.specs.Building.{Grows}
 use Rattle.smt_build.proofs.Growth.{grows_none, made_grows, none_declared}
+use Rattle.smt_build.proofs.Longer.{list_made}
 use Rattle.script_state.specs.States.{StateValue, IsState, no_state}
 use Rattle.script_state.specs.Steps.{step}
-use Rattle.script_state.proofs.Held.{list_made}
 use Rattle.script_state.proofs.Asserting.{grown_state, standing_state}
 use Rattle.script_state.proofs.Keeping.{step_goes_on}
 use Rattle.proof_log.specs.declared.entry.Entry.{Entry}

@@ -10,6 +10,7 @@ use Rattle.smt_text.specs.declared.token.CommandName.TheVariants as name
 use Rattle.smt_syntax.specs.Sexps.{Sexp, Sexps, atom, group, none, more}
 use Rattle.smt_syntax.specs.Walk.{◌>>=◌}
 use Rattle.smt_terms.specs.declared.sort.Sort.{Sort}
+use Rattle.smt_terms.specs.declared.sort.Sort.TheVariants as sort
 use Rattle.smt_terms.specs.declared.sort.Signature.{Signature}
 use Rattle.smt_terms.specs.declared.node.Node.{Node}
 use Rattle.smt_terms.specs.Terms.{IsSort, constant_signature}
@@ -30,12 +31,12 @@ abbrev IsPlainIf : Result Sort BuildFault → Type 0
 IsPlainIf (Ok s) = (is_plain_sort s ≡ true) × IsSort s
 IsPlainIf (Err f) = Unit {0}
 
-plain_named : (b : Bool) (f g : BuildFault) → IsPlainIf (if b then Err f else Err g)
-plain_named true f g = tt
-plain_named false f g = tt
+plain_truth : (b : Bool) (f : BuildFault) → IsPlainIf (if b then Ok sort.Bool else Err f)
+plain_truth true f = (refl, tt)
+plain_truth false f = tt
 
 plain_atom : (k : TokenKind) (x : List ℕ) → IsPlainIf (sort_named k x)
-plain_atom kind.Symbol x = plain_named (bytes_eq x _) NotSupported UnknownSymbol
+plain_atom kind.Symbol x = plain_truth (bytes_eq x _) UnknownSymbol
 plain_atom _ x = tt
 
 plain_width : (n : ℕ) → IsPlainIf (word_of_width (if nat_le 1 n && nat_le n 128 then Some n else None))

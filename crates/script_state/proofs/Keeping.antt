@@ -13,11 +13,11 @@ use Rattle.scope_selectors.specs.Scopes.{asserted}
 use Rattle.smt_build.specs.Building.{Built, Grows}
 use Rattle.smt_build.specs.Declaring.{Declaration, declare}
 use Rattle.smt_build.specs.Terms.{term_of}
+use Rattle.smt_build.proofs.Longer.{GoOn, term_longer, term_is_held}
 use Rattle.script_state.specs.declared.answer.Answer.TheVariants.{Done}
 use Rattle.script_state.specs.States.{StateValue, RestValue, with_terms, IsState, Fit}
 use Rattle.script_state.specs.Steps.{Step, declaring, asserting, checking, obey, obey_read, refuse, step}
 use Rattle.script_state.proofs.Declared.{declared_kept, get_longer}
-use Rattle.script_state.proofs.Held.{term_is_built}
 use Rattle.script_state.proofs.Marking.{plain_grows}
 use Rattle.script_state.proofs.Asserting.{is_plain_truth, standing_state, declared_state, grown_state, asserted_state}
 
@@ -66,11 +66,11 @@ module _ (s : StateValue) (is : IsState s) where
   by_command name.Assert (more x none) = by_asserting (term_of s.symbols s.terms x) asserts where
     asserts : (t : ℕ) (w : TermsValue) → term_of s.symbols s.terms x ≡ Ok (t, w) → is_plain_truth w t ≡ true → Goes (Done, record { symbols = s.symbols; terms = w; scopes = asserted s.scopes t None; standing = None })
     asserts t w e plain =
-        let built = term_is_built s.symbols s.terms w x t e in
-        let grown = grown_state s w built.1.grows is (built.1.list is.terms) in
+        let on : GoOn s.symbols.signatures s.terms w = term_longer s.symbols s.terms w x t e in
+        let grown = grown_state s w on.grows is (on.list is.terms) in
         record {
-          state = asserted_state (record { symbols = s.symbols; terms = w; scopes = s.scopes; standing = s.standing }) t (asserted s.scopes t None) grown built.0 plain refl;
-          keeps = record { behind = built.1.grows.behind; nodes = built.1.grows.nodes; signatures = λ d r e. e; assertions = λ a u e. get_longer s.scopes.terms (t ∷ []) a u e };
+          state = asserted_state (record { symbols = s.symbols; terms = w; scopes = s.scopes; standing = s.standing }) t (asserted s.scopes t None) grown (term_is_held s.symbols s.terms w x t e) plain refl;
+          keeps = record { behind = on.grows.behind; nodes = on.grows.nodes; signatures = λ d r e. e; assertions = λ a u e. get_longer s.scopes.terms (t ∷ []) a u e };
         }
   by_command name.Assert (more e (more f es)) = by_refusal
   by_command name.CheckSat none = by_check

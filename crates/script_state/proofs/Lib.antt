@@ -1,6 +1,5 @@
 pub mod Lists
 pub mod Declared
-pub mod Held
 pub mod Marking
 pub mod Asserting
 pub mod Keeping

@@ -80,15 +80,12 @@ fn refused_commands() -> &'static [&'static [u8]] {
         b"(declare-const let (_ BitVec 8))",
         b"(declare-const z (_ BitVec 0))",
         b"(declare-const z (_ BitVec 129))",
-        b"(declare-const z Bool)",
         b"(declare-const z (_ BitVec 8) 1)",
         b"(assert (bvadd x #x02))",
         b"(assert x)",
         b"(assert (= x #x005))",
         b"(assert (= (bvadd x #x03) nope))",
         b"(assert (= (bvnot (bvadd x #x04)) (bvand x)))",
-        b"(assert (= x x x))",
-        b"(assert true)",
         b"(assert (! (= x #x06) :named a))",
         b"(assert)",
         b"(check-sat x)",
@@ -171,6 +168,23 @@ fn widths_are_1_to_128(rt: HostRuntime) -> Result<(), Fail> {
         ],
     )?;
     assert_eq!(rt; counts(&state), (2, 0, 0));
+    Ok(())
+}
+
+#[test]
+fn truths_are_declared_and_compared(rt: HostRuntime) -> Result<(), Fail> {
+    let mut state = State::new(rt.alloc());
+    obey(
+        &rt,
+        &mut state,
+        &[
+            (b"(declare-const p Bool)", Answer::Done),
+            (b"(assert p)", Answer::Done),
+            (b"(assert (= p true p))", Answer::Done),
+        ],
+    )?;
+    // p; true, the two equalities, both
+    assert_eq!(rt; counts(&state), (1, 2, 5));
     Ok(())
 }
 

@@ -31,6 +31,13 @@ grows_both signatures a b c p q = record {
   declared = λ h. q.declared (p.declared h);
 }
 
+-- terms grow, whatever is declared
+abbrev pub AllGrow : TermsValue → TermsValue → Type 0
+AllGrow old new = (signatures : List Signature) → Grows signatures old new
+
+pub all_grow : (a b c : TermsValue) → AllGrow a b → AllGrow b c → AllGrow a c
+all_grow a b c p q signatures = grows_both signatures a b c (p signatures) (q signatures)
+
 -- ---- what a node may name
 
 pub none_declared : (signatures : List Signature) → AreDeclared signatures []
@@ -44,6 +51,10 @@ operator_declared signatures o = record { each = λ d e. absurd (let z : ⊥ = c
 
 pub word_declared : (signatures : List Signature) (n x : ℕ) → IsDeclared signatures (Word n x)
 word_declared signatures n x = record { each = λ d e. absurd (let z : ⊥ = cc in z) }
+
+-- no declaration is named
+pub names_none : (signatures : List Signature) (op : Op) → declaration_of op ≡ None → IsDeclared signatures op
+names_none signatures op none = record { each = λ d e. absurd (let z : ⊥ = cc in z) }
 
 pub constant_declared : (signatures : List Signature) (d : ℕ) (s : Signature) → slice_get signatures d ≡ Some s → s.args ≡ [] → IsDeclared signatures (Constant d s.value)
 constant_declared signatures d s e f = record { each = λ c g. let p : d ≡ c = cc in subst (λ k. slice_get signatures k ≡ Some (constant_signature s.value)) p (e ∙ ap Some (λ i. record { args = f i; value = s.value })) }

@@ -7,3 +7,5 @@ pub mod TermWalks
 pub mod Stepping
 pub mod Declarations
 pub mod Levels
+pub mod Folds
+pub mod Longer

@@ -18,11 +18,11 @@ use Rattle.smt_build.specs.declared.reader.Open.{Open as OpenList}
 use Rattle.smt_build.specs.declared.reader.Part.{Part as ReadPart}
 use Rattle.smt_build.specs.declared.reader.Part.TheVariants as parts
 use Rattle.smt_build.specs.Names.{SymbolsValue, no_symbols}
-use Rattle.smt_build.specs.Building.{Built, Builds}
+use Rattle.smt_build.specs.Building.{Built, Builds, Means}
 use Rattle.smt_build.specs.Terms.{term_of}
 use Rattle.smt_build.specs.TermReader.{Part, term, Open, term_reader, takes, closes, at_word}
 use Rattle.smt_build.specs.Steps.{Step, ends, goes, handed, step, Steps}
-use Rattle.smt_build.specs.Views.{part_of, open_of, stack_of, Does, Takes, Means}
+use Rattle.smt_build.specs.Views.{part_of, open_of, stack_of, Does, Takes}
 use Rattle.smt_build.proofs.TermWalks.{as_part, walk-term}
 
 -- ---- a step is what the machine does with a token
@@ -141,6 +141,9 @@ not_head : (b : Built) (q : ReadPart) (now : TermsValue) → as_part b ≡ Ok (p
 not_head (Err f) q now k n = cc
 not_head (Ok r) (parts.Term t) now k n = n t refl
 not_head (Ok r) (parts.Head f) now k n = let p : ◌≡◌ {A = Part × TermsValue} (term r.0, r.1) (part_of (parts.Head f), now) = cc in let a : ◌≡◌ {A = Part} (term r.0) (part_of (parts.Head f)) = ap (λ q. q.0) p in cc
+not_head (Ok r) parts.Mark now k n = let p : ◌≡◌ {A = Part × TermsValue} (term r.0, r.1) (part_of parts.Mark, now) = cc in let a : ◌≡◌ {A = Part} (term r.0) (part_of parts.Mark) = ap (λ q. q.0) p in cc
+not_head (Ok r) (parts.Name f) now k n = let p : ◌≡◌ {A = Part × TermsValue} (term r.0, r.1) (part_of (parts.Name f), now) = cc in let a : ◌≡◌ {A = Part} (term r.0) (part_of (parts.Name f)) = ap (λ q. q.0) p in cc
+not_head (Ok r) (parts.Index i) now k n = let p : ◌≡◌ {A = Part × TermsValue} (term r.0, r.1) (part_of (parts.Index i), now) = cc in let a : ◌≡◌ {A = Part} (term r.0) (part_of (parts.Index i)) = ap (λ q. q.0) p in cc
 
 module _ (symbols : SymbolsValue) (old : TermsValue) (tokens : List Token) (e : Sexp) (l : signs_in tokens ≡ spelling e) where
   walked : (to : Result (Part × TermsValue) BuildFault) → run (term_reader symbols) want.Term [] old (signs_in tokens) ≡ to → as_part (term_of symbols old e) ≡ to

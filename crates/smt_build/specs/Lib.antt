@@ -4,6 +4,9 @@ pub mod Names
 pub mod Sorts
 pub mod Declaring
 pub mod Building
+pub mod Grouping
+pub mod Indices
+pub mod Applying
 pub mod Terms
 pub mod TermReader
 pub mod Views

@@ -1,61 +1,61 @@
 -- The operators that scripts name, and the names that nothing is declared with.
-use Rattle.std.specs.Prelude.{ℕ, Bool, false, ◌||◌, nat_lt, List, [], ◌∷◌, codes, is_some, Option, Some, None, if◌then◌else◌}
+use Rattle.std.specs.Prelude.{ℕ, Bool, ◌||◌, List, [], ◌∷◌, codes, is_some, Option, Some, None, if◌then◌else◌}
 use Rattle.std.specs.Str.{bytes_eq}
 use Rattle.smt_text.specs.Lexicon.{reserved_kind}
-use Rattle.smt_terms.specs.declared.operator.Operator.TheVariants.{Equal, Bvnot, Bvadd, Bvand}
-use Rattle.smt_build.specs.declared.operators.Arity.{Arity}
-use Rattle.smt_build.specs.declared.operators.Arity.TheVariants.{Ranked, LeftAssociative, Chained}
+use Rattle.smt_terms.specs.declared.operator.Operator.TheVariants.{True, False, Not, And, Or, Xor, Implies, Ite, Equal, Bvnot, Bvneg, Bvadd, Bvsub, Bvmul, Bvand, Bvor, Bvxor, Bvnand, Bvnor, Bvxnor, Bvudiv, Bvurem, Bvsdiv, Bvsrem, Bvsmod, Bvshl, Bvlshr, Bvashr, Bvult, Bvule, Bvugt, Bvuge, Bvslt, Bvsle, Bvsgt, Bvsge, Bvcomp, Concat}
+use Rattle.smt_build.specs.declared.operators.Arity.TheVariants.{Ranked, LeftAssociative, RightAssociative, Chainable, Pairwise, Joining}
+use Rattle.smt_build.specs.declared.operators.Family.TheVariants as family
 use Rattle.smt_build.specs.declared.operators.Named.{Named}
-use Rattle.smt_build.specs.declared.operators.Named.TheVariants.{Applies, LeftOut}
+use Rattle.smt_build.specs.declared.operators.Named.TheVariants.{Applies, Indexed, LeftOut}
 
 -- the operators of Core, FixedSizeBitVectors and ArraysEx, a line for each name
 abbrev pub operators : List (List ℕ × Named)
 operators =
-    (codes "=", Applies Equal Chained)
+    (codes "true", Applies True Ranked)
+    ∷ (codes "false", Applies False Ranked)
+    ∷ (codes "not", Applies Not Ranked)
+    ∷ (codes "and", Applies And LeftAssociative)
+    ∷ (codes "or", Applies Or LeftAssociative)
+    ∷ (codes "xor", Applies Xor LeftAssociative)
+    ∷ (codes "=>", Applies Implies RightAssociative)
+    ∷ (codes "ite", Applies Ite Ranked)
+    ∷ (codes "=", Applies Equal Chainable)
+    ∷ (codes "distinct", Applies Equal Pairwise)
     ∷ (codes "bvnot", Applies Bvnot Ranked)
+    ∷ (codes "bvneg", Applies Bvneg Ranked)
     ∷ (codes "bvadd", Applies Bvadd LeftAssociative)
+    ∷ (codes "bvsub", Applies Bvsub Ranked)
+    ∷ (codes "bvmul", Applies Bvmul LeftAssociative)
     ∷ (codes "bvand", Applies Bvand LeftAssociative)
-    ∷ (codes "true", LeftOut)
-    ∷ (codes "false", LeftOut)
-    ∷ (codes "not", LeftOut)
-    ∷ (codes "and", LeftOut)
-    ∷ (codes "or", LeftOut)
-    ∷ (codes "xor", LeftOut)
-    ∷ (codes "=>", LeftOut)
-    ∷ (codes "ite", LeftOut)
-    ∷ (codes "distinct", LeftOut)
-    ∷ (codes "bvneg", LeftOut)
-    ∷ (codes "bvsub", LeftOut)
-    ∷ (codes "bvmul", LeftOut)
-    ∷ (codes "bvor", LeftOut)
-    ∷ (codes "bvxor", LeftOut)
-    ∷ (codes "bvnand", LeftOut)
-    ∷ (codes "bvnor", LeftOut)
-    ∷ (codes "bvxnor", LeftOut)
-    ∷ (codes "bvudiv", LeftOut)
-    ∷ (codes "bvurem", LeftOut)
-    ∷ (codes "bvsdiv", LeftOut)
-    ∷ (codes "bvsrem", LeftOut)
-    ∷ (codes "bvsmod", LeftOut)
-    ∷ (codes "bvshl", LeftOut)
-    ∷ (codes "bvlshr", LeftOut)
-    ∷ (codes "bvashr", LeftOut)
-    ∷ (codes "bvult", LeftOut)
-    ∷ (codes "bvule", LeftOut)
-    ∷ (codes "bvugt", LeftOut)
-    ∷ (codes "bvuge", LeftOut)
-    ∷ (codes "bvslt", LeftOut)
-    ∷ (codes "bvsle", LeftOut)
-    ∷ (codes "bvsgt", LeftOut)
-    ∷ (codes "bvsge", LeftOut)
-    ∷ (codes "bvcomp", LeftOut)
-    ∷ (codes "concat", LeftOut)
-    ∷ (codes "extract", LeftOut)
-    ∷ (codes "zero_extend", LeftOut)
-    ∷ (codes "sign_extend", LeftOut)
-    ∷ (codes "rotate_left", LeftOut)
-    ∷ (codes "rotate_right", LeftOut)
-    ∷ (codes "repeat", LeftOut)
+    ∷ (codes "bvor", Applies Bvor LeftAssociative)
+    ∷ (codes "bvxor", Applies Bvxor LeftAssociative)
+    ∷ (codes "bvnand", Applies Bvnand Ranked)
+    ∷ (codes "bvnor", Applies Bvnor Ranked)
+    ∷ (codes "bvxnor", Applies Bvxnor Ranked)
+    ∷ (codes "bvudiv", Applies Bvudiv Ranked)
+    ∷ (codes "bvurem", Applies Bvurem Ranked)
+    ∷ (codes "bvsdiv", Applies Bvsdiv Ranked)
+    ∷ (codes "bvsrem", Applies Bvsrem Ranked)
+    ∷ (codes "bvsmod", Applies Bvsmod Ranked)
+    ∷ (codes "bvshl", Applies Bvshl Ranked)
+    ∷ (codes "bvlshr", Applies Bvlshr Ranked)
+    ∷ (codes "bvashr", Applies Bvashr Ranked)
+    ∷ (codes "bvult", Applies Bvult Ranked)
+    ∷ (codes "bvule", Applies Bvule Ranked)
+    ∷ (codes "bvugt", Applies Bvugt Ranked)
+    ∷ (codes "bvuge", Applies Bvuge Ranked)
+    ∷ (codes "bvslt", Applies Bvslt Ranked)
+    ∷ (codes "bvsle", Applies Bvsle Ranked)
+    ∷ (codes "bvsgt", Applies Bvsgt Ranked)
+    ∷ (codes "bvsge", Applies Bvsge Ranked)
+    ∷ (codes "bvcomp", Applies Bvcomp Ranked)
+    ∷ (codes "concat", Applies Concat Joining)
+    ∷ (codes "extract", Indexed family.Extract)
+    ∷ (codes "zero_extend", Indexed family.ZeroExtend)
+    ∷ (codes "sign_extend", Indexed family.SignExtend)
+    ∷ (codes "rotate_left", Indexed family.RotateLeft)
+    ∷ (codes "rotate_right", Indexed family.RotateRight)
+    ∷ (codes "repeat", Indexed family.Repeat)
     ∷ (codes "select", LeftOut)
     ∷ (codes "store", LeftOut)
     ∷ []
@@ -71,9 +71,3 @@ operator_named = look_up operators
 -- nothing is declared with a reserved word or an operator's name
 unfoldable pub is_reserved : List ℕ → Bool
 is_reserved name = is_some (reserved_kind name) || is_some (operator_named name)
-
--- more than two arguments are not supported
-abbrev pub is_left_out : Arity → ℕ → Bool
-is_left_out Ranked count = false
-is_left_out LeftAssociative count = nat_lt 2 count
-is_left_out Chained count = nat_lt 2 count

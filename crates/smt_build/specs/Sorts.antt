@@ -5,13 +5,13 @@ use Rattle.smt_text.specs.declared.token.TokenKind.{TokenKind}
 use Rattle.smt_text.specs.declared.token.TokenKind.TheVariants as kind
 use Rattle.smt_syntax.specs.Sexps.{Sexp, Sexps, atom, group, none, more}
 use Rattle.smt_terms.specs.declared.sort.Sort.{Sort}
-use Rattle.smt_terms.specs.declared.sort.Sort.TheVariants.{Word}
+use Rattle.smt_terms.specs.declared.sort.Sort.TheVariants.{Bool, Word}
 use Rattle.smt_build.specs.declared.fault.BuildFault.{BuildFault}
 use Rattle.smt_build.specs.declared.fault.BuildFault.TheVariants.{UnknownSymbol, Width, NotSupported}
 use Rattle.smt_build.specs.Literals.{width_of_numeral}
 
 abbrev pub sort_named : TokenKind → List ℕ → Result Sort BuildFault
-sort_named kind.Symbol x = if bytes_eq x (codes "Bool") then Err NotSupported else Err UnknownSymbol
+sort_named kind.Symbol x = if bytes_eq x (codes "Bool") then Ok Bool else Err UnknownSymbol
 sort_named _ x = Err NotSupported
 
 abbrev pub word_of_width : Option ℕ → Result Sort BuildFault

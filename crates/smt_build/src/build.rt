@@ -1,47 +1,27 @@
 // The terms of words and of applications.
 
 ghost use Rattle.std.specs.Prelude.{◌≡◌, ◌*◌, Some, slice_get, List};
-ghost use Rattle.smt_terms.specs.Nodes.{leaf, node_of};
-ghost use Rattle.smt_terms.specs.Terms.{Agrees};
+ghost use Rattle.smt_terms.specs.Nodes.{leaf};
 ghost use Rattle.smt_terms.specs.declared.sort.Signature.{Signature as SignatureValue};
-ghost use Rattle.smt_build.specs.Names.{AreDeclared, IsDeclared, declaration_of};
-ghost use Rattle.smt_build.specs.Building.{fault_of, made, binary, hexadecimal, constant, declared, declared_at, applied, symbol_term, word_term, application, Builds, Grows};
+ghost use Rattle.smt_build.specs.Names.{AreDeclared, declaration_of};
+ghost use Rattle.smt_build.specs.Building.{made, binary, hexadecimal, constant, declared, declared_at, Builds, Means, Grows};
+ghost use Rattle.smt_build.specs.Applying.{applied, symbol_term, word_term, application_by, application, indexed_term};
+ghost use Rattle.smt_build.specs.Indices.{indexed};
+ghost use Rattle.smt_build.specs.Operators.{operator_named};
+ghost use Rattle.smt_build.specs.Views.{head_of, indices_of};
 
 use crate::fault::{BuildError, BuildFault};
+use crate::grouping::operation;
+use crate::indices::{Head, Indices, indexed_application, is_word_name, known, word_of};
 use crate::literal::{binary_number, hexadecimal_number};
-use crate::operators::{Named, is_left_out, operator_named};
+use crate::making::made;
+use crate::operators::{Named, operator_named};
 use crate::symbols::Symbols;
-use smt_terms::fault::{MakeError, MakeFault};
-use smt_terms::list::Arguments;
 use smt_terms::node::{Node, Op, TermId};
 use smt_terms::sort::{DeclId, Signature};
 use smt_terms::terms::Terms;
 use smt_text::token::TokenKind;
 use std::alloc::Global;
-
-fn fault_of(fault: MakeFault) -> BuildFault
-    ensures { result ≡ fault_of fault }
-{
-    match fault {
-        MakeFault::WrongSort(_) => BuildFault::WrongSort,
-        MakeFault::WidthOutOfRange(_) => BuildFault::Width,
-        MakeFault::TermLimit => BuildFault::TermLimit,
-    }
-}
-
-/// The term of a node.
-#[tactic(auto, unfolding(crate::specs::Building::made))]
-fn made(terms: &mut Terms, node: Node) -> Result<TermId, BuildError>
-    requires { Agrees terms.old.nodes node.op }
-    ensures builds { Builds (made terms.old node) result terms.old terms.new }
-    ensures grows { (signatures : List SignatureValue) → IsDeclared signatures node.op → Grows signatures terms.old terms.new }
-{
-    match terms.make(node) {
-        Ok(term) => Ok(term),
-        Err(MakeError::NoMemory) => Err(BuildError::NoMemory),
-        Err(MakeError::Fault(fault)) => Err(BuildError::Fault(fault_of(fault))),
-    }
-}
 
 /// The term of a literal.
 fn literal(
@@ -123,25 +103,25 @@ fn declared(
     constant(alloc, symbols, terms, declaration, signature)
 }
 
-/// The term of an operator and its arguments.
-fn applied(terms: &mut Terms, named: Named, args: Arguments) -> Result<TermId, BuildError>
-    ensures builds { Builds (applied terms.old named args) result terms.old terms.new }
+/// The term of an operator's name and its arguments.
+fn applied(
+    alloc: Global,
+    terms: &mut Terms,
+    named: Named,
+    args: Vec<TermId>,
+) -> Result<TermId, BuildError>
+    ensures means { Means (applied terms.old named args.items) result terms.new }
     ensures grows { (signatures : List SignatureValue) → Grows signatures terms.old terms.new }
 {
     match named {
         Named::LeftOut => Err(BuildError::Fault(BuildFault::NotSupported)),
-        Named::Applies(operator, arity) => {
-            if is_left_out(arity, args.as_slice().len()) {
-                return Err(BuildError::Fault(BuildFault::NotSupported));
-            }
-            let op = Op::Plain(operator);
-            made(terms, Node { op, args })
-        }
+        Named::Indexed(_) => Err(BuildError::Fault(BuildFault::WrongSort)),
+        Named::Applies(operator, arity) => operation(alloc, terms, operator, arity, args),
     }
 }
 
 /// The term of a symbol.
-#[tactic(auto, unfolding(crate::specs::Building::symbol_term))]
+#[tactic(auto, unfolding(crate::specs::Applying::symbol_term))]
 fn symbol_term(
     alloc: Global,
     symbols: &Symbols,
@@ -149,17 +129,17 @@ fn symbol_term(
     name: &[u8],
 ) -> Result<TermId, BuildError>
     requires { AreDeclared symbols.now.signatures terms.old.nodes }
-    ensures builds { Builds (symbol_term symbols.now terms.old name.now) result terms.old terms.new }
+    ensures means { Means (symbol_term symbols.now terms.old name.now) result terms.new }
     ensures grows { Grows symbols.now.signatures terms.old terms.new }
 {
     match operator_named(name) {
-        Some(named) => applied(terms, named, Arguments::none(alloc)),
+        Some(named) => applied(alloc, terms, named, Vec::new(alloc)),
         None => declared(alloc, symbols, terms, name),
     }
 }
 
 /// The term of a word.
-#[tactic(auto, unfolding(crate::specs::Building::word_term))]
+#[tactic(auto, unfolding(crate::specs::Applying::word_term))]
 pub fn word_term(
     alloc: Global,
     symbols: &Symbols,
@@ -168,7 +148,7 @@ pub fn word_term(
     text: &[u8],
 ) -> Result<TermId, BuildError>
     requires { AreDeclared symbols.now.signatures terms.old.nodes }
-    ensures builds { Builds (word_term symbols.now terms.old kind text.now) result terms.old terms.new }
+    ensures means { Means (word_term symbols.now terms.old kind text.now) result terms.new }
     ensures grows { Grows symbols.now.signatures terms.old terms.new }
 {
     match (kind, text) {
@@ -179,19 +159,19 @@ pub fn word_term(
     }
 }
 
-/// The term of a name and the arguments that it is applied to.
-#[tactic(auto, unfolding(crate::specs::Building::application))]
-pub fn application(
+/// The term of a name without indices and the arguments that it is applied to.
+fn plain_application(
+    alloc: Global,
     symbols: &Symbols,
     terms: &mut Terms,
     name: &[u8],
     args: Vec<TermId>,
 ) -> Result<TermId, BuildError>
-    ensures builds { Builds (application symbols.now terms.old name.now args.items) result terms.old terms.new }
+    ensures means { Means (application_by terms.old (operator_named name.now) (declaration_of symbols.now.live name.now) args.items) result terms.new }
     ensures grows { (signatures : List SignatureValue) → Grows signatures terms.old terms.new }
 {
     match operator_named(name) {
-        Some(named) => applied(terms, named, Arguments::from_vec(args)),
+        Some(named) => applied(alloc, terms, named, args),
         None => {
             if symbols.declaration(name).is_some() {
                 Err(BuildError::Fault(BuildFault::WrongSort))
@@ -199,5 +179,42 @@ pub fn application(
                 Err(BuildError::Fault(BuildFault::UnknownSymbol))
             }
         }
+    }
+}
+
+/// The term of a name and the arguments that it is applied to.
+#[tactic(auto, unfolding(crate::specs::Applying::application))]
+pub fn application(
+    alloc: Global,
+    symbols: &Symbols,
+    terms: &mut Terms,
+    head: Head<'_>,
+    args: Vec<TermId>,
+) -> Result<TermId, BuildError>
+    ensures means { Means (application symbols.now terms.old (head_of head.entry) args.items) result terms.new }
+    ensures grows { (signatures : List SignatureValue) → Grows signatures terms.old terms.new }
+{
+    match head {
+        Head::Plain(name) => plain_application(alloc, symbols, terms, name, args),
+        Head::Indexed(name, indices) => indexed_application(symbols, terms, name, indices, args),
+    }
+}
+
+/// The term of a name with indices.
+#[tactic(auto, unfolding(crate::specs::Applying::indexed_term))]
+pub fn indexed_term(
+    alloc: Global,
+    symbols: &Symbols,
+    terms: &mut Terms,
+    name: &[u8],
+    indices: Indices<'_>,
+) -> Result<TermId, BuildError>
+    ensures means { Means (indexed_term symbols.now terms.old (indexed name.now (indices_of indices.entry))) result terms.new }
+    ensures grows { (signatures : List SignatureValue) → Grows signatures terms.old terms.new }
+{
+    if is_word_name(name) {
+        word_of(alloc, terms, name, indices)
+    } else {
+        Err(BuildError::Fault(known(symbols, name)))
     }
 }

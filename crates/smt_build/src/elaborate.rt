@@ -6,11 +6,11 @@ ghost use Rattle.smt_syntax.specs.Spans.{Stands};
 ghost use Rattle.smt_syntax.specs.Walk.{run, context_in};
 ghost use Rattle.smt_terms.specs.Terms.{TermsValue};
 ghost use Rattle.smt_build.specs.Names.{AreDeclared, no_symbols};
-ghost use Rattle.smt_build.specs.Building.{Grows, Builds};
+ghost use Rattle.smt_build.specs.Building.{Grows, Builds, Means};
 ghost use Rattle.smt_build.specs.Terms.{term_of};
 ghost use Rattle.smt_build.specs.TermReader.{term_reader};
 ghost use Rattle.smt_build.specs.Steps.{opened, handed, step, Steps};
-ghost use Rattle.smt_build.specs.Views.{stack_of, part_of, Does, Means};
+ghost use Rattle.smt_build.specs.Views.{stack_of, part_of, Does};
 
 use crate::declare::tokens_at;
 use crate::fault::{BuildError, BuildFault};
@@ -79,7 +79,7 @@ fn step<'a>(
         TokenKind::Close => match stack.pop() {
             None => Err(BuildError::Fault(BuildFault::NotSupported)),
             Some(list) => {
-                let part = closes(symbols, terms, list)?;
+                let part = closes(alloc, symbols, terms, list)?;
                 hand(alloc, stack, part)
             }
         },

@@ -4,8 +4,9 @@
 //! makes the declaration that a command asks for, and its `elaborate` gives the number of the term that an S-expression
 //! means over the live names; each tells the first fault, and then all is as before. The meaning is defined by recursion
 //! over the S-expression; the code reads its tokens from left to right with a stack of open lists, and is proved to give
-//! the same. Constants of word sorts are declared, and `=`, `bvadd` and `bvand` of two arguments, `bvnot`, and binary and
-//! hexadecimal literals are read; other operators and forms of the standard are told as not supported. The crate stands
+//! the same. Constants of Bool and of word sorts are declared. All operators of Core, of FixedSizeBitVectors and of the
+//! logic QF_BV are read, those on two or more arguments grouped, chained or held pairwise as the standard says, and so are
+//! literals, `(_ bvX n)` and names with indices; other forms of the standard are told as not supported. The crate stands
 //! on `smt_syntax`, `smt_terms` and `indexmap`.
 #![tactic(auto)]
 
@@ -13,7 +14,10 @@ pub mod build;
 pub mod declare;
 pub mod elaborate;
 pub mod fault;
+mod grouping;
+pub mod indices;
 pub mod literal;
+mod making;
 pub mod operators;
 pub mod reader;
 pub mod sorts;

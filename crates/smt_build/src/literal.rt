@@ -1,7 +1,7 @@
 // The values of literals.
 
-ghost use Rattle.std.specs.Prelude.{◌≡◌, ◌<◌, ◌≤◌, length};
-ghost use Rattle.smt_build.specs.Literals.{bit_value, hexadecimal_value, decimal_value, value_in, width_of_numeral};
+ghost use Rattle.std.specs.Prelude.{◌≡◌, ◌<◌, ◌≤◌, ◌%◌, length};
+ghost use Rattle.smt_build.specs.Literals.{bit_value, hexadecimal_value, decimal_value, value_in, width_of_numeral, number_of, index_of, turn_of};
 
 /// The value of a binary digit.
 fn bit_value(digit: u8) -> u8
@@ -75,4 +75,65 @@ pub fn width_of_numeral(digits: &[u8]) -> Option<u32>
         }
     }
     if value == 0 { None } else { Some(value) }
+}
+
+/// The number of a numeral, `None` from 2^128 on.
+pub fn number_of(digits: &[u8]) -> Option<u128>
+    ensures { result ≡ number_of digits.now }
+{
+    let mut value = 0u128;
+    for digit in digits {
+        let digit = u128::from(decimal_value(*digit));
+        if value > (u128::MAX - digit) / 10 {
+            return None;
+        }
+        value = 10 * value + digit;
+    }
+    Some(value)
+}
+
+/// The index that a numeral gives, the greatest one from 2^64 on.
+pub fn index_of(digits: &[u8]) -> u64
+    ensures { result ≡ index_of digits.now }
+{
+    match number_of(digits) {
+        None => u64::MAX,
+        Some(number) => {
+            if number < 1 << 64 {
+                number as u64
+            } else {
+                u64::MAX
+            }
+        }
+    }
+}
+
+/// What is left of a numeral's number modulo a width.
+fn number_modulo(digits: &[u8], width: u32) -> u32
+    requires { 1 ≤ width }
+    ensures { result ≡ value_in 10 decimal_value digits.now % width }
+{
+    let width = u64::from(width);
+    let mut rest = 0u64;
+    for digit in digits {
+        rest = (10 * rest + u64::from(decimal_value(*digit))) % width;
+    }
+    rest as u32
+}
+
+/// The index of a rotation of a word, from 2^64 on modulo the width.
+pub fn turn_of(width: u32, digits: &[u8]) -> u64
+    requires { 1 ≤ width }
+    ensures { result ≡ turn_of width digits.now }
+{
+    match number_of(digits) {
+        None => u64::from(number_modulo(digits, width)),
+        Some(number) => {
+            if number < 1 << 64 {
+                number as u64
+            } else {
+                u64::from(number_modulo(digits, width))
+            }
+        }
+    }
 }

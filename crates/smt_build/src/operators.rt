@@ -3,7 +3,7 @@
 ghost use Rattle.std.specs.Prelude.{◌≡◌, map};
 ghost use Rattle.std.specs.List.{list_any};
 ghost use Rattle.std.specs.Str.{bytes_eq};
-ghost use Rattle.smt_build.specs.Operators.{look_up, operator_named, is_reserved, is_left_out};
+ghost use Rattle.smt_build.specs.Operators.{look_up, operator_named, is_reserved};
 
 use smt_terms::operator::Operator;
 
@@ -12,10 +12,27 @@ use smt_terms::operator::Operator;
 pub enum Arity {
     /// As many as its rank says.
     Ranked,
-    /// Two or more, grouped from the left.
+    /// Two or more of one sort, grouped from the left.
     LeftAssociative,
-    /// Two or more, holding of each two neighbours.
-    Chained,
+    /// Two or more of one sort, grouped from the right.
+    RightAssociative,
+    /// Two or more of one sort, holding of each two neighbours.
+    Chainable,
+    /// Two or more of one sort, holding of no two of them.
+    Pairwise,
+    /// Two or more words, joined from the left.
+    Joining,
+}
+
+/// Operators with indices.
+#[derive(Clone, Copy, Debug)]
+pub enum Family {
+    Extract,
+    ZeroExtend,
+    SignExtend,
+    RotateLeft,
+    RotateRight,
+    Repeat,
 }
 
 /// What an operator's name stands for.
@@ -23,63 +40,86 @@ pub enum Arity {
 pub enum Named {
     /// An operator on so many arguments.
     Applies(Operator, Arity),
+    /// An operator with indices.
+    Indexed(Family),
     /// An operator that is known and not supported.
     LeftOut,
 }
 
 /// The names of the operators of Core, FixedSizeBitVectors and ArraysEx.
 const OPERATORS: [(&[u8], Named); 47] = [
-    (b"=", Named::Applies(Operator::Equal, Arity::Chained)),
+    (b"true", Named::Applies(Operator::True, Arity::Ranked)),
+    (b"false", Named::Applies(Operator::False, Arity::Ranked)),
+    (b"not", Named::Applies(Operator::Not, Arity::Ranked)),
+    (
+        b"and",
+        Named::Applies(Operator::And, Arity::LeftAssociative),
+    ),
+    (b"or", Named::Applies(Operator::Or, Arity::LeftAssociative)),
+    (
+        b"xor",
+        Named::Applies(Operator::Xor, Arity::LeftAssociative),
+    ),
+    (
+        b"=>",
+        Named::Applies(Operator::Implies, Arity::RightAssociative),
+    ),
+    (b"ite", Named::Applies(Operator::Ite, Arity::Ranked)),
+    (b"=", Named::Applies(Operator::Equal, Arity::Chainable)),
+    (
+        b"distinct",
+        Named::Applies(Operator::Equal, Arity::Pairwise),
+    ),
     (b"bvnot", Named::Applies(Operator::Bvnot, Arity::Ranked)),
+    (b"bvneg", Named::Applies(Operator::Bvneg, Arity::Ranked)),
     (
         b"bvadd",
         Named::Applies(Operator::Bvadd, Arity::LeftAssociative),
+    ),
+    (b"bvsub", Named::Applies(Operator::Bvsub, Arity::Ranked)),
+    (
+        b"bvmul",
+        Named::Applies(Operator::Bvmul, Arity::LeftAssociative),
     ),
     (
         b"bvand",
         Named::Applies(Operator::Bvand, Arity::LeftAssociative),
     ),
-    (b"true", Named::LeftOut),
-    (b"false", Named::LeftOut),
-    (b"not", Named::LeftOut),
-    (b"and", Named::LeftOut),
-    (b"or", Named::LeftOut),
-    (b"xor", Named::LeftOut),
-    (b"=>", Named::LeftOut),
-    (b"ite", Named::LeftOut),
-    (b"distinct", Named::LeftOut),
-    (b"bvneg", Named::LeftOut),
-    (b"bvsub", Named::LeftOut),
-    (b"bvmul", Named::LeftOut),
-    (b"bvor", Named::LeftOut),
-    (b"bvxor", Named::LeftOut),
-    (b"bvnand", Named::LeftOut),
-    (b"bvnor", Named::LeftOut),
-    (b"bvxnor", Named::LeftOut),
-    (b"bvudiv", Named::LeftOut),
-    (b"bvurem", Named::LeftOut),
-    (b"bvsdiv", Named::LeftOut),
-    (b"bvsrem", Named::LeftOut),
-    (b"bvsmod", Named::LeftOut),
-    (b"bvshl", Named::LeftOut),
-    (b"bvlshr", Named::LeftOut),
-    (b"bvashr", Named::LeftOut),
-    (b"bvult", Named::LeftOut),
-    (b"bvule", Named::LeftOut),
-    (b"bvugt", Named::LeftOut),
-    (b"bvuge", Named::LeftOut),
-    (b"bvslt", Named::LeftOut),
-    (b"bvsle", Named::LeftOut),
-    (b"bvsgt", Named::LeftOut),
-    (b"bvsge", Named::LeftOut),
-    (b"bvcomp", Named::LeftOut),
-    (b"concat", Named::LeftOut),
-    (b"extract", Named::LeftOut),
-    (b"zero_extend", Named::LeftOut),
-    (b"sign_extend", Named::LeftOut),
-    (b"rotate_left", Named::LeftOut),
-    (b"rotate_right", Named::LeftOut),
-    (b"repeat", Named::LeftOut),
+    (
+        b"bvor",
+        Named::Applies(Operator::Bvor, Arity::LeftAssociative),
+    ),
+    (
+        b"bvxor",
+        Named::Applies(Operator::Bvxor, Arity::LeftAssociative),
+    ),
+    (b"bvnand", Named::Applies(Operator::Bvnand, Arity::Ranked)),
+    (b"bvnor", Named::Applies(Operator::Bvnor, Arity::Ranked)),
+    (b"bvxnor", Named::Applies(Operator::Bvxnor, Arity::Ranked)),
+    (b"bvudiv", Named::Applies(Operator::Bvudiv, Arity::Ranked)),
+    (b"bvurem", Named::Applies(Operator::Bvurem, Arity::Ranked)),
+    (b"bvsdiv", Named::Applies(Operator::Bvsdiv, Arity::Ranked)),
+    (b"bvsrem", Named::Applies(Operator::Bvsrem, Arity::Ranked)),
+    (b"bvsmod", Named::Applies(Operator::Bvsmod, Arity::Ranked)),
+    (b"bvshl", Named::Applies(Operator::Bvshl, Arity::Ranked)),
+    (b"bvlshr", Named::Applies(Operator::Bvlshr, Arity::Ranked)),
+    (b"bvashr", Named::Applies(Operator::Bvashr, Arity::Ranked)),
+    (b"bvult", Named::Applies(Operator::Bvult, Arity::Ranked)),
+    (b"bvule", Named::Applies(Operator::Bvule, Arity::Ranked)),
+    (b"bvugt", Named::Applies(Operator::Bvugt, Arity::Ranked)),
+    (b"bvuge", Named::Applies(Operator::Bvuge, Arity::Ranked)),
+    (b"bvslt", Named::Applies(Operator::Bvslt, Arity::Ranked)),
+    (b"bvsle", Named::Applies(Operator::Bvsle, Arity::Ranked)),
+    (b"bvsgt", Named::Applies(Operator::Bvsgt, Arity::Ranked)),
+    (b"bvsge", Named::Applies(Operator::Bvsge, Arity::Ranked)),
+    (b"bvcomp", Named::Applies(Operator::Bvcomp, Arity::Ranked)),
+    (b"concat", Named::Applies(Operator::Concat, Arity::Joining)),
+    (b"extract", Named::Indexed(Family::Extract)),
+    (b"zero_extend", Named::Indexed(Family::ZeroExtend)),
+    (b"sign_extend", Named::Indexed(Family::SignExtend)),
+    (b"rotate_left", Named::Indexed(Family::RotateLeft)),
+    (b"rotate_right", Named::Indexed(Family::RotateRight)),
+    (b"repeat", Named::Indexed(Family::Repeat)),
     (b"select", Named::LeftOut),
     (b"store", Named::LeftOut),
 ];
@@ -166,14 +206,4 @@ pub fn is_reserved(name: &[u8]) -> bool
     ensures { result ≡ is_reserved name.now }
 {
     is_among(&RESERVED, name) || operator_named(name).is_some()
-}
-
-/// Whether an operator on so many arguments is not supported.
-pub fn is_left_out(arity: Arity, count: usize) -> bool
-    ensures { result ≡ is_left_out arity count }
-{
-    match arity {
-        Arity::Ranked => false,
-        Arity::LeftAssociative | Arity::Chained => count > 2,
-    }
 }

@@ -16,7 +16,7 @@ fn sort_named(kind: TokenKind, name: &[u8]) -> Result<Sort, BuildFault>
     match kind {
         TokenKind::Symbol => {
             if name == b"Bool".as_slice() {
-                Err(BuildFault::NotSupported)
+                Ok(Sort::Bool)
             } else {
                 Err(BuildFault::UnknownSymbol)
             }

@@ -18,6 +18,10 @@ const X: &[u8] = b"(declare-const x (_ BitVec 8))";
 
 const Y: &[u8] = b"(declare-const |y| (_ BitVec 8))";
 
+const P: &[u8] = b"(declare-const p Bool)";
+
+const Q: &[u8] = b"(declare-const q Bool)";
+
 /// No terms yet.
 fn no_terms(alloc: Global, symbols: &Symbols, limit: u32) -> Terms
     requires { limit ≤ 2 ^ 24 }
@@ -61,7 +65,7 @@ fn declared(
     done(rt, symbols, &mut terms, text)
 }
 
-/// What a command gives where x and y are words of width 8, and how many terms are held then.
+/// What a command gives where x and y are words of width 8 and p and q are truth values, and how many terms are held then.
 fn given(
     rt: &(impl Abort + AllocGlobal),
     limit: u32,
@@ -72,48 +76,143 @@ fn given(
     let mut symbols = Symbols::new(rt.alloc());
     let _x = declared(rt, &mut symbols, X)?;
     let _y = declared(rt, &mut symbols, Y)?;
+    let _p = declared(rt, &mut symbols, P)?;
+    let _q = declared(rt, &mut symbols, Q)?;
     let mut terms = no_terms(rt.alloc(), &symbols, limit);
     let number = done(rt, &mut symbols, &mut terms, text)?;
     Ok((number, terms.len()))
 }
 
-fn refuses(rt: &(impl Abort + AllocGlobal), text: &[u8], fault: BuildFault) -> Result<(), Fail> {
-    assert!(rt; given(rt, 100, text)? == (Err(BuildError::Fault(fault)), 0));
+/// Terms, each with its number and with how many terms are then held.
+const MADE: [(&[u8], u32, u32); 20] = [
+    (b"(assert true)", 0, 1),
+    (b"(assert (not false))", 1, 2),
+    (b"(assert (and p q p))", 3, 4),
+    (b"(assert (|xor| p q))", 2, 3),
+    (b"(assert (=> p q p))", 3, 4),
+    (b"(assert (= (=> p q p) (=> q p)))", 4, 5),
+    (b"(assert (= x y x))", 4, 5),
+    (b"(assert (= x y))", 2, 3),
+    (b"(assert (distinct p q))", 3, 4),
+    (b"(assert (distinct x y #x00))", 10, 11),
+    (b"(assert (ite p q p))", 2, 3),
+    (b"(assert (bvult x y))", 2, 3),
+    (b"(assert (= (bvcomp x y) #b1))", 4, 5),
+    (b"(assert (= (bvadd x y x) (bvadd x y)))", 4, 5),
+    (b"(assert (= (concat x y #b1) (concat x y #b0)))", 7, 8),
+    (
+        b"(assert (= (bvand |x| (bvnot y)) (bvadd (bvnot y) x)))",
+        5,
+        6,
+    ),
+    (b"(assert (= x (_ bv42 8)))", 2, 3),
+    (b"(assert (= ((_ extract 3 0) x) #xf))", 3, 4),
+    (
+        b"(assert (= ((_ rotate_left 18446744073709551617) x) ((_ rotate_left 1) x)))",
+        2,
+        3,
+    ),
+    (
+        b"(assert (= ((_ zero_extend 1) x) ((_ repeat 1) #b000000000)))",
+        4,
+        5,
+    ),
+];
+
+/// Commands that are refused, each with its first fault.
+const REFUSED: [(&[u8], BuildFault); 52] = [
+    (b"(declare-const bvadd Int)", BuildFault::Reserved),
+    (b"(declare-const |let| Int)", BuildFault::Reserved),
+    (b"(declare-const |x| Int)", BuildFault::Declared),
+    (b"(declare-const z Int)", BuildFault::UnknownSymbol),
+    (b"(declare-const z (_ BitVec 129))", BuildFault::Width),
+    (b"(assert (= x z))", BuildFault::UnknownSymbol),
+    (b"(assert |let|)", BuildFault::UnknownSymbol),
+    (b"(assert (x x))", BuildFault::WrongSort),
+    (b"(assert (= x #b1))", BuildFault::WrongSort),
+    (b"(assert (bvnot x x))", BuildFault::WrongSort),
+    (b"(assert and)", BuildFault::WrongSort),
+    (b"(assert (and p))", BuildFault::WrongSort),
+    (b"(assert (and p q x))", BuildFault::WrongSort),
+    (b"(assert (true p))", BuildFault::WrongSort),
+    (b"(assert (=> x p q))", BuildFault::WrongSort),
+    (b"(assert (=> p))", BuildFault::WrongSort),
+    (b"(assert (= x y p))", BuildFault::WrongSort),
+    (b"(assert (distinct x))", BuildFault::WrongSort),
+    (b"(assert (distinct x y p))", BuildFault::WrongSort),
+    (b"(assert (bvsub x y x))", BuildFault::WrongSort),
+    (b"(assert (bvult x y x))", BuildFault::WrongSort),
+    (b"(assert (ite p x q))", BuildFault::WrongSort),
+    (b"(assert (ite x x x))", BuildFault::WrongSort),
+    (b"(assert (concat x p))", BuildFault::WrongSort),
+    (b"(assert (= (bvadd x p) z))", BuildFault::WrongSort),
+    (b"(assert (= z (bvadd x p)))", BuildFault::UnknownSymbol),
+    (
+        b"(assert (concat x x x x x x x x x x x x x x x x y))",
+        BuildFault::Width,
+    ),
+    (
+        b"(assert (concat x x x x x x x x x x x x x x x x y p))",
+        BuildFault::WrongSort,
+    ),
+    (
+        b"(assert (f #x000000000000000000000000000000000))",
+        BuildFault::LiteralTooWide,
+    ),
+    (b"(assert (= 5 z))", BuildFault::NotSupported),
+    (b"(assert (let ((z w)) z))", BuildFault::NotSupported),
+    (b"(assert (= x (_ bv256 8)))", BuildFault::LiteralTooWide),
+    (b"(assert (= x (_ bv256 0)))", BuildFault::Width),
+    (b"(assert (= x (_ bv5 129)))", BuildFault::Width),
+    (b"(assert (= x (_ bv01 8)))", BuildFault::UnknownSymbol),
+    (b"(assert (_ bv5 8 8))", BuildFault::WrongSort),
+    (b"(assert (_ nope 1))", BuildFault::UnknownSymbol),
+    (b"(assert (_ x 1))", BuildFault::WrongSort),
+    (b"(assert ((_ extract 8 0) x))", BuildFault::WrongSort),
+    (b"(assert ((_ extract 0 1) x))", BuildFault::WrongSort),
+    (b"(assert ((_ extract 3) x))", BuildFault::WrongSort),
+    (b"(assert (extract x))", BuildFault::WrongSort),
+    (b"(assert ((_ bvadd 1) x x))", BuildFault::WrongSort),
+    (b"(assert ((_ bv5 8) x))", BuildFault::WrongSort),
+    (b"(assert ((_ f 1) x))", BuildFault::UnknownSymbol),
+    (b"(assert ((_ zero_extend 121) x))", BuildFault::Width),
+    (
+        b"(assert ((_ zero_extend 18446744073709551616) x))",
+        BuildFault::Width,
+    ),
+    (b"(assert ((_ repeat 0) x))", BuildFault::Width),
+    (b"(assert ((_ repeat 1) p))", BuildFault::WrongSort),
+    (b"(assert ((_ zero_extend 121) p))", BuildFault::WrongSort),
+    (
+        b"(assert ((_ extract 340282366920938463463374607431768211456 0) x))",
+        BuildFault::WrongSort,
+    ),
+    (b"(assert ((as const S) z))", BuildFault::NotSupported),
+];
+
+/// Terms that are refused where three terms may be held, each with its first fault.
+const FULL: [(&[u8], BuildFault); 3] = [
+    (b"(assert (= (bvnot x) (bvadd x y)))", BuildFault::TermLimit),
+    (b"(assert (and p q x))", BuildFault::WrongSort),
+    (b"(assert (and p q p))", BuildFault::TermLimit),
+];
+
+#[test]
+fn terms_are_made_in_their_order(rt: HostRuntime) -> Result<(), Fail> {
+    for (text, number, count) in &MADE {
+        assert!(rt; given(&rt, 100, text)? == (Ok(*number), *count));
+    }
     Ok(())
 }
 
 #[test]
-fn terms_are_made_arguments_first_from_left_to_right(rt: HostRuntime) -> Result<(), Fail> {
-    let sum = b"(assert (= (bvadd x y) #x2A))";
-    assert!(rt; given(&rt, 100, sum)? == (Ok(4), 5));
-    let shared = b"(assert (= (bvand |x| (bvnot y)) (bvadd (bvnot y) x)))";
-    assert!(rt; given(&rt, 100, shared)? == (Ok(5), 6));
-    assert!(rt; given(&rt, 100, b"(declare-const z (_ BitVec 128))")? == (Ok(2), 0));
-    Ok(())
-}
-
-#[test]
-fn a_refused_declaration_tells_its_first_fault(rt: HostRuntime) -> Result<(), Fail> {
-    refuses(&rt, b"(declare-const bvadd Int)", BuildFault::Reserved)?;
-    refuses(&rt, b"(declare-const |let| Int)", BuildFault::Reserved)?;
-    refuses(&rt, b"(declare-const |x| Int)", BuildFault::Declared)?;
-    refuses(&rt, b"(declare-const z Int)", BuildFault::UnknownSymbol)?;
-    refuses(&rt, b"(declare-const z (_ BitVec 129))", BuildFault::Width)?;
-    refuses(&rt, b"(declare-const z Bool)", BuildFault::NotSupported)
-}
-
-#[test]
-fn a_refused_term_tells_its_first_fault(rt: HostRuntime) -> Result<(), Fail> {
-    refuses(&rt, b"(assert (= x z))", BuildFault::UnknownSymbol)?;
-    refuses(&rt, b"(assert (x x))", BuildFault::WrongSort)?;
-    refuses(&rt, b"(assert (= x #b1))", BuildFault::WrongSort)?;
-    refuses(&rt, b"(assert (bvnot x x))", BuildFault::WrongSort)?;
-    let wide = b"(assert (f #x000000000000000000000000000000000))";
-    refuses(&rt, wide, BuildFault::LiteralTooWide)?;
-    refuses(&rt, b"(assert (bvadd x x x))", BuildFault::NotSupported)?;
-    refuses(&rt, b"(assert (let ((z w)) z))", BuildFault::NotSupported)?;
-    let full = given(&rt, 2, b"(assert (= (bvnot x) (bvadd x x)))")?;
-    assert!(rt; full == (Err(BuildError::Fault(BuildFault::TermLimit)), 0));
+fn a_refused_command_tells_its_first_fault(rt: HostRuntime) -> Result<(), Fail> {
+    for (text, fault) in &REFUSED {
+        assert!(rt; given(&rt, 100, text)? == (Err(BuildError::Fault(*fault)), 0));
+    }
+    for (text, fault) in &FULL {
+        assert!(rt; given(&rt, 3, text)? == (Err(BuildError::Fault(*fault)), 0));
+    }
     Ok(())
 }
 

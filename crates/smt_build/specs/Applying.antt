@@ -1,0 +1,53 @@
+-- The terms of symbols, of words and of applications.
+use Rattle.std.specs.Prelude.{ℕ, List, [], ◌∷◌, Option, Some, None, Err, if◌then◌else◌}
+use Rattle.smt_text.specs.declared.token.TokenKind.{TokenKind}
+use Rattle.smt_text.specs.declared.token.TokenKind.TheVariants as kind
+use Rattle.smt_terms.specs.Terms.{TermsValue}
+use Rattle.smt_build.specs.declared.fault.BuildFault.{BuildFault}
+use Rattle.smt_build.specs.declared.fault.BuildFault.TheVariants.{UnknownSymbol, WrongSort, NotSupported}
+use Rattle.smt_build.specs.declared.operators.Named.{Named}
+use Rattle.smt_build.specs.declared.operators.Named.TheVariants.{Applies, Indexed, LeftOut}
+use Rattle.smt_build.specs.Operators.{operator_named}
+use Rattle.smt_build.specs.Names.{SymbolsValue, declaration_of}
+use Rattle.smt_build.specs.Building.{Built, binary, hexadecimal, declared}
+use Rattle.smt_build.specs.Grouping.{operation}
+use Rattle.smt_build.specs.Indices.{Head, plain, indexed, is_word_name, word_of, known, indexed_application}
+
+-- the term of an operator's name and its arguments
+abbrev pub applied : TermsValue → Named → List ℕ → Built
+applied terms LeftOut args = Err NotSupported
+applied terms (Indexed k) args = Err WrongSort
+applied terms (Applies o arity) args = operation o arity terms args
+
+abbrev pub symbol_by : SymbolsValue → TermsValue → Option Named → Option ℕ → Built
+symbol_by symbols terms (Some named) d = applied terms named []
+symbol_by symbols terms None d = declared symbols terms d
+
+-- the term of a symbol
+unfoldable pub symbol_term : SymbolsValue → TermsValue → List ℕ → Built
+symbol_term symbols terms x = symbol_by symbols terms (operator_named x) (declaration_of symbols.live x)
+
+-- the term of a word; behind two bytes a literal has its digits
+unfoldable pub word_term : SymbolsValue → TermsValue → TokenKind → List ℕ → Built
+word_term symbols terms kind.Symbol x = symbol_term symbols terms x
+word_term symbols terms kind.Binary (a ∷ b ∷ digits) = binary terms digits
+word_term symbols terms kind.Hexadecimal (a ∷ b ∷ digits) = hexadecimal terms digits
+word_term symbols terms _ x = Err NotSupported
+
+abbrev pub not_applied : Option ℕ → BuildFault
+not_applied None = UnknownSymbol
+not_applied (Some d) = WrongSort
+
+abbrev pub application_by : TermsValue → Option Named → Option ℕ → List ℕ → Built
+application_by terms (Some named) d args = applied terms named args
+application_by terms None d args = Err (not_applied d)
+
+-- the term of a name and the terms that it is applied to
+unfoldable pub application : SymbolsValue → TermsValue → Head → List ℕ → Built
+application symbols terms (plain f) args = application_by terms (operator_named f) (declaration_of symbols.live f) args
+application symbols terms (indexed f is) args = indexed_application symbols terms f is (operator_named f) args
+
+-- the term of a name with indices
+unfoldable pub indexed_term : SymbolsValue → TermsValue → Head → Built
+indexed_term symbols terms (plain f) = Err NotSupported
+indexed_term symbols terms (indexed f is) = if is_word_name f then word_of terms f is else Err (known symbols f)
