@@ -1,5 +1,5 @@
 -- Learnt clauses that are added to a log, one after the other.
-use Rattle.std.proofs.Common.{◌≡◌, ℕ, zero, suc, ◌+◌, ◌<◌, ◌≤◌, List, [], ◌∷◌, ◌++◌, length, get_or, take, Option, Some, None, refl, sym, ap, ◌∙◌, subst, append_assoc, append-nil, arith, length-append}
+use Rattle.std.proofs.Common.{◌≡◌, ℕ, suc, ◌+◌, ◌<◌, ◌≤◌, List, [], ◌∷◌, ◌++◌, length, get_or, take, Some, refl, sym, ap, ◌∙◌, subst, append_assoc, append-nil, arith, length-append}
 use Rattle.std.specs.Prelude.{map, All, slice_get}
 use Rattle.std.proofs.lemmas.List.{take_more}
 use Rattle.std.proofs.lemmas.List.Elements.{All-push}
@@ -16,9 +16,9 @@ use Rattle.scope_selectors.specs.declared.live.Live.{Live}
 use Rattle.plain_search.specs.Searches.{Knows, learnt_row, named}
 use Rattle.plain_search.proofs.Stages.{named-push}
 use Rattle.proof_log.specs.declared.entry.Entry.TheVariants as step
-use Rattle.proof_log.specs.Logs.{Asserted, start, clause_in, clause_at, after, state_of}
+use Rattle.proof_log.specs.Logs.{start, clause_in, clause_at, after, state_of}
 use Rattle.proof_log.specs.Faults.{IsValid}
-use Rattle.proof_log.specs.Stored.{LogValue, Stands, IsPushed, selector_in, literal_of}
+use Rattle.proof_log.specs.Stored.{LogValue, Stands, IsPushed, selector_in}
 use Rattle.proof_log.proofs.Growing.{clause_more}
 use Rattle.proof_log.proofs.Ordered.{steps_length, log_is_ordered}
 use Rattle.proof_log.proofs.Standing.{stands_over, clauses_below}

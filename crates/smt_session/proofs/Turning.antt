@@ -26,7 +26,6 @@ use Rattle.plain_search.specs.declared.Verdict.TheVariants.{Refuted}
 use Rattle.plain_search.specs.Searches.{IsRefuted, IsVerdict}
 use Rattle.smt_values.specs.declared.value.Value.{Value}
 use Rattle.proof_text.specs.Records.{AreWritten}
-use Rattle.proof_text.specs.declared.record.Record.{Record}
 use Rattle.proof_text.specs.declared.record.Record.TheVariants.{Sat, Unsat}
 use Rattle.accepted_proof.specs.Models.{IsWrittenModel}
 use Rattle.accepted_proof.specs.Turns.{AreStepsOf, with_step, with_steps, IsAgainst, IsRefutation}
