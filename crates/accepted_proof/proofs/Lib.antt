@@ -1,1 +1,4 @@
 
+pub mod Once
+pub mod Judging
+pub mod Completing

@@ -22,7 +22,7 @@ pub record Accepted (script proof : List ℕ) (turns : List Turn) : Type 0 where
   pub cut : AreChunks script chunks
   pub read : AreRead chunks turns
   pub run : AreTurns no_state [] turns
-  pub proof : proof ≡ proof_of turns
+  pub lines : proof ≡ proof_of turns
 
 -- the first chunks of a text
 abbrev pub IsFront : List ℕ → List Chunk → Type 0
@@ -42,14 +42,14 @@ pub record StandsBeside (script answers proof : List ℕ) : Type 0 where
   pub front : IsFront script chunks
   pub read : AreRead chunks turns
   pub run : AreTurns no_state [] turns
-  pub proof : proof ≡ proof_of turns ++ more
-  pub answers : answers ≡ answers_of turns ++ begun
+  pub lines : proof ≡ proof_of turns ++ more
+  pub texts : answers ≡ answers_of turns ++ begun
   pub unfinished : without_end begun
 
 -- the answers are those to the whole script, and the proof is accepted
 pub record IsWhole (script answers proof : List ℕ) (turns : List Turn) : Type 0 where
   pub accepted : Accepted script proof turns
-  pub answers : answers ≡ answers_of turns
+  pub texts : answers ≡ answers_of turns
 
 -- whether an error is among the answers
 abbrev pub has_error : List Turn → Bool

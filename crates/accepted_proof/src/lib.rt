@@ -9,5 +9,6 @@
 #![tactic(auto)]
 
 mod laws;
+pub mod refusal;
 
 pub use laws::{accepted_proofs_are_right, answers_are_right};
