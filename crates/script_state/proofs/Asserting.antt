@@ -1,15 +1,64 @@
--- What an assertion keeps.
-use Rattle.std.proofs.Common.{◌≡◌, ℕ, ◌<◌, ◌≤◌, ◌∙◌, length, get_or, ap, arith, length-append, None}
-use Rattle.std.specs.Prelude.{All}
+-- What stays a state.
+use Rattle.std.proofs.Common.{◌≡◌, ℕ, ◌<◌, ◌≤◌, ◌∙◌, Bool, true, false, refl, length, get_or, ap, arith, length-append, Ok, None, Option}
+use Rattle.std.specs.Prelude.{◌&&◌, All}
 use Rattle.std.proofs.lemmas.List.Elements.{All-push}
+use Rattle.smt_text.specs.declared.token.CommandName.{CommandName}
+use Rattle.smt_syntax.specs.Sexps.{Sexps}
 use Rattle.smt_terms.specs.declared.sort.Sort.TheVariants as sort
-use Rattle.smt_terms.specs.Terms.{TermsValue, sort_of}
+use Rattle.smt_terms.specs.Same.{same_sort, sort_same}
+use Rattle.smt_terms.specs.Terms.{TermsValue, IsTermList, sort_of}
 use Rattle.smt_terms.proofs.Growing.{sort_longer}
 use Rattle.scope_selectors.specs.declared.live.Live.{Live}
 use Rattle.scope_selectors.specs.Scopes.{ScopesValue, asserted}
+use Rattle.scope_selectors.proofs.Asserting.{one_more}
 use Rattle.smt_build.specs.Building.{Grows}
+use Rattle.smt_build.specs.Names.{SymbolsValue}
+use Rattle.smt_build.specs.Declaring.{declare}
+use Rattle.script_state.specs.declared.answer.Verdict.{Verdict}
+use Rattle.script_state.specs.Plain.{is_plain}
 use Rattle.script_state.specs.States.{StateValue, IsState}
+use Rattle.script_state.proofs.Marking.{plain_longer}
+use Rattle.script_state.proofs.Declared.{declared_kept}
 
+and_true : (a b : Bool) → (a && b) ≡ true → (a ≡ true) × (b ≡ true)
+and_true true b e = (refl, e)
+and_true false b e = absurd (let z : ⊥ = cc in z)
+
+abbrev with_terms : StateValue → TermsValue → StateValue
+with_terms v w = record { symbols = v.symbols; terms = w; scopes = v.scopes; standing = v.standing }
+
+abbrev stands_as : StateValue → Option Verdict → StateValue
+stands_as v o = record { symbols = v.symbols; terms = v.terms; scopes = v.scopes; standing = o }
+
+-- whatever check stands
+pub standing_state : (v : StateValue) (o : Option Verdict) → IsState v → IsState (stands_as v o)
+standing_state v o is = record {
+  terms = is.terms;
+  scopes = is.scopes;
+  live = is.live;
+  constants = is.constants;
+  declared = is.declared;
+  held = is.held;
+  truths = is.truths;
+  plain = is.plain;
+}
+
+-- one declaration more
+pub declared_state : (v : StateValue) (w : SymbolsValue) (n : CommandName) (es : Sexps) (d : ℕ) → declare v.symbols n es ≡ Ok (d, w) → IsState v → IsState (record { symbols = w; terms = v.terms; scopes = v.scopes; standing = None })
+declared_state v w n es d e is =
+    let kept = declared_kept v.symbols w n es d v.terms.nodes e in
+    record {
+      terms = is.terms;
+      scopes = is.scopes;
+      live = kept.live is.live;
+      constants = kept.constants is.constants;
+      declared = kept.declared is.declared;
+      held = is.held;
+      truths = is.truths;
+      plain = is.plain;
+    }
+
+-- more terms
 module _ (v : StateValue) (w : TermsValue) (grows : Grows v.symbols.signatures v.terms w) (is : IsState v) where
   longer : length v.terms.nodes ≤ length w.nodes
   longer = omega (arith, simp length-append at (ap length grows.nodes))
@@ -20,12 +69,37 @@ module _ (v : StateValue) (w : TermsValue) (grows : Grows v.symbols.signatures v
   still_true : All (λ (a : Live). sort_of w.nodes a.term ≡ sort.Bool) v.scopes.live
   still_true k d lt = rw grows.nodes (sort_longer v.terms.nodes grows.behind (get_or v.scopes.live k d).term (is.held k d lt) ∙ is.truths k d lt)
 
-  -- one more term of sort Bool is asserted
-  pub asserted_state : (t : ℕ) (scopes : ScopesValue) → t < length w.nodes → sort_of w.nodes t ≡ sort.Bool → scopes ≡ asserted v.scopes t None → IsState (record { symbols = v.symbols; terms = w; scopes = scopes; standing = None })
-  asserted_state t scopes lt truth e =
-      let new : Live = record { assertion = v.scopes.made; term = t; name = None; level = v.scopes.levels } in
-      rw e (record {
-        declared = grows.declared is.declared;
-        held = All-push (λ (a : Live). a.term < length w.nodes) v.scopes.live new still_held lt;
-        truths = All-push (λ (a : Live). sort_of w.nodes a.term ≡ sort.Bool) v.scopes.live new still_true truth;
-      })
+  still_plain : All (λ (a : Live). is_plain w.nodes a.term ≡ true) v.scopes.live
+  still_plain k d lt = rw grows.nodes (plain_longer v.terms.nodes grows.behind (get_or v.scopes.live k d).term (is.held k d lt) ∙ is.plain k d lt)
+
+  pub grown_state : IsTermList w.nodes → IsState (with_terms v w)
+  grown_state list = record {
+    terms = list;
+    scopes = is.scopes;
+    live = is.live;
+    constants = is.constants;
+    declared = grows.declared is.declared;
+    held = still_held;
+    truths = still_true;
+    plain = still_plain;
+  }
+
+-- the term can be asserted
+abbrev pub is_plain_truth : TermsValue → ℕ → Bool
+is_plain_truth w t = same_sort (sort_of w.nodes t) sort.Bool && is_plain w.nodes t
+
+-- one assertion more, of a plain term of sort Bool
+pub asserted_state : (v : StateValue) (t : ℕ) (scopes : ScopesValue) → IsState v → t < length v.terms.nodes → is_plain_truth v.terms t ≡ true → scopes ≡ asserted v.scopes t None → IsState (record { symbols = v.symbols; terms = v.terms; scopes = scopes; standing = None })
+asserted_state v t scopes is lt both e =
+    let new : Live = record { assertion = v.scopes.made; term = t; name = None; level = v.scopes.levels } in
+    let parts = and_true (same_sort (sort_of v.terms.nodes t) sort.Bool) (is_plain v.terms.nodes t) both in
+    rw e (record {
+      terms = is.terms;
+      scopes = one_more v.scopes t None is.scopes;
+      live = is.live;
+      constants = is.constants;
+      declared = is.declared;
+      held = All-push (λ (a : Live). a.term < length v.terms.nodes) v.scopes.live new is.held lt;
+      truths = All-push (λ (a : Live). sort_of v.terms.nodes a.term ≡ sort.Bool) v.scopes.live new is.truths (sort_same _ _ parts.0);
+      plain = All-push (λ (a : Live). is_plain v.terms.nodes a.term ≡ true) v.scopes.live new is.plain parts.1;
+    })

@@ -1,6 +1,6 @@
 -- A chunk reads one way, and a step makes one assertion at most.
 use Rattle.std.proofs.Common.{◌≡◌, ◌+◌, ◌≤◌, Bool, true, false, refl, sym, ap, ◌∙◌, inl, inr, arith, Option, Some, None, Result, Ok, Err}
-use Rattle.std.specs.Prelude.{if◌then◌else◌}
+use Rattle.std.specs.Prelude.{◌&&◌, if◌then◌else◌}
 use Rattle.smt_text.specs.declared.chunk.Chunk.{Chunk}
 use Rattle.smt_text.specs.declared.token.CommandName.{CommandName}
 use Rattle.smt_text.specs.declared.token.CommandName.TheVariants as name
@@ -15,6 +15,7 @@ use Rattle.smt_terms.specs.Terms.{sort_of}
 use Rattle.smt_build.specs.Building.{Built}
 use Rattle.smt_build.specs.Declaring.{Declaration, declare}
 use Rattle.smt_build.specs.Terms.{term_of}
+use Rattle.script_state.specs.Plain.{is_plain}
 use Rattle.script_state.specs.Readings.{ReadsAs}
 use Rattle.script_state.specs.States.{StateValue}
 use Rattle.script_state.specs.Steps.{Step, declaring, asserting, obey, obey_read, refuse, step}
@@ -52,7 +53,7 @@ by_choice s true x h = h
 by_choice s false x h = makes_none s
 
 by_asserting : (s : StateValue) (t : Built) → MakesOne s (asserting s t)
-by_asserting s (Ok t) = by_choice s (same_sort (sort_of t.1.nodes t.0) sort.Bool) _ (omega arith)
+by_asserting s (Ok t) = by_choice s (same_sort (sort_of t.1.nodes t.0) sort.Bool && is_plain t.1.nodes t.0) _ (omega arith)
 by_asserting s (Err f) = omega arith
 
 by_command : (s : StateValue) (n : CommandName) (es : Sexps) → MakesOne s (obey s n es)

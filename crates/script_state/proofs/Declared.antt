@@ -1,43 +1,93 @@
--- A declaration keeps those that were made.
-use Rattle.std.proofs.Common.{◌≡◌, ℕ, Bool, true, false, List, [], ◌∷◌, ◌++◌, refl, ap, ◌∙◌, subst, arith, length-append, Some, Result, Ok, Err}
-use Rattle.std.specs.Prelude.{slice_get, if◌then◌else◌, is_some}
-use Rattle.std.proofs.lemmas.List.{get_or_append_left}
-use Rattle.std.proofs.lemmas.Option.{slice_get_within, get_or_from_slice_get, slice_get-get_or}
+-- A declaration keeps those that were made, and is a constant that is a word.
+use Rattle.std.proofs.Common.{◌≡◌, ℕ, zero, suc, Bool, true, false, List, [], ◌∷◌, ◌++◌, length, refl, sym, ap, ◌∙◌, subst, inl, inr, ⊎_elim, arith, length-append, Option, Some, None, Result, Ok, Err}
+use Rattle.std.specs.Prelude.{◌⊎◌, slice_get, if◌then◌else◌, is_some, All}
+use Rattle.std.specs.Str.{bytes_eq}
+use Rattle.std.proofs.lemmas.List.Elements.{All-push}
+use Rattle.smt_text.specs.declared.token.TokenKind.{TokenKind}
+use Rattle.smt_text.specs.declared.token.TokenKind.TheVariants as kind
 use Rattle.smt_text.specs.declared.token.CommandName.{CommandName}
 use Rattle.smt_text.specs.declared.token.CommandName.TheVariants as name
-use Rattle.smt_syntax.specs.Sexps.{Sexps, atom, group, none, more}
+use Rattle.smt_syntax.specs.Sexps.{Sexp, Sexps, atom, group, none, more}
 use Rattle.smt_syntax.specs.Walk.{◌>>=◌}
 use Rattle.smt_terms.specs.declared.sort.Sort.{Sort}
 use Rattle.smt_terms.specs.declared.sort.Signature.{Signature}
 use Rattle.smt_terms.specs.declared.node.Node.{Node}
 use Rattle.smt_terms.specs.Terms.{constant_signature}
 use Rattle.smt_build.specs.declared.fault.BuildFault.{BuildFault}
-use Rattle.smt_build.specs.declared.fault.BuildFault.TheVariants.{Declared, Reserved}
-use Rattle.smt_build.specs.Names.{SymbolsValue, AreDeclared, declaration_of}
+use Rattle.smt_build.specs.declared.fault.BuildFault.TheVariants.{Declared, Reserved, UnknownSymbol, NotSupported}
+use Rattle.smt_build.specs.declared.symbols.LiveName.{LiveName}
+use Rattle.smt_build.specs.Literals.{width_of_numeral}
+use Rattle.smt_build.specs.Names.{SymbolsValue, AreDeclared, declaration_of, with_declaration}
 use Rattle.smt_build.specs.Operators.{is_reserved}
-use Rattle.smt_build.specs.Sorts.{sort_in}
+use Rattle.smt_build.specs.Sorts.{sort_named, word_of_width, width_sort, named_sort, indexed_sort, listed_sort, sort_in}
 use Rattle.smt_build.specs.Declaring.{Declaration, declare, declare_parts, constant, next}
+use Rattle.script_state.specs.Plain.{is_plain_sort}
+use Rattle.script_state.specs.States.{AreAllLive, IsPlainConstant}
 
--- one declaration more, if it is made
+-- ---- sorts
+
+abbrev IsPlainIf : Result Sort BuildFault → Type 0
+IsPlainIf (Ok s) = is_plain_sort s ≡ true
+IsPlainIf (Err f) = Unit {0}
+
+plain_named : (b : Bool) (f g : BuildFault) → IsPlainIf (if b then Err f else Err g)
+plain_named true f g = tt
+plain_named false f g = tt
+
+plain_atom : (k : TokenKind) (x : List ℕ) → IsPlainIf (sort_named k x)
+plain_atom kind.Symbol x = plain_named (bytes_eq x _) NotSupported UnknownSymbol
+plain_atom _ x = tt
+
+plain_width : (o : Option ℕ) → IsPlainIf (word_of_width o)
+plain_width (Some n) = refl
+plain_width None = tt
+
+plain_numeral : (k : TokenKind) (n : List ℕ) → IsPlainIf (width_sort k n)
+plain_numeral kind.Numeral n = plain_width (width_of_numeral n)
+plain_numeral _ n = tt
+
+plain_word_if : (b : Bool) (r : Result Sort BuildFault) (f : BuildFault) → IsPlainIf r → IsPlainIf (if b then r else Err f)
+plain_word_if true r f h = h
+plain_word_if false r f h = tt
+
+plain_word : (j : TokenKind) (b : List ℕ) (k : TokenKind) (n : List ℕ) → IsPlainIf (named_sort j b k n)
+plain_word kind.Symbol b k n = plain_word_if (bytes_eq b _) (width_sort k n) NotSupported (plain_numeral k n)
+plain_word _ b k n = tt
+
+plain_indexed : (i j : TokenKind) (b : List ℕ) (k : TokenKind) (n : List ℕ) → IsPlainIf (indexed_sort i j b k n)
+plain_indexed kind.Underscore j b k n = plain_word j b k n
+plain_indexed _ j b k n = tt
+
+plain_listed : (es : Sexps) → IsPlainIf (listed_sort es)
+plain_listed (more (atom i l) (more (atom j b) (more (atom k n) none))) = plain_indexed i j b k n
+plain_listed _ = tt
+
+plain_sort : (e : Sexp) → IsPlainIf (sort_in e)
+plain_sort (atom k x) = plain_atom k x
+plain_sort (group es) = plain_listed es
+
+-- ---- declarations
+
+-- one constant more that is a Bool or a word, if it is made
 abbrev OneMore : SymbolsValue → Declaration → Type 0
-OneMore v (Ok d) = (s : Signature) × (d.1.signatures ≡ v.signatures ++ s ∷ [])
+OneMore v (Ok d) = (x : List ℕ) × (s : Sort) × (is_plain_sort s ≡ true) × (d.1 ≡ with_declaration v x (constant_signature s))
 OneMore v (Err f) = Unit {0}
 
 more_unless : (v : SymbolsValue) (b : Bool) (f : BuildFault) (d : Declaration) → OneMore v d → OneMore v (if b then Err f else d)
 more_unless v true f d h = tt
 more_unless v false f d h = h
 
-more_next : (v : SymbolsValue) (x : List ℕ) (s : Result Sort BuildFault) → OneMore v (s >>= next v x)
-more_next v x (Ok s) = (constant_signature s, refl)
-more_next v x (Err f) = tt
+more_next : (v : SymbolsValue) (x : List ℕ) (s : Result Sort BuildFault) → IsPlainIf s → OneMore v (s >>= next v x)
+more_next v x (Ok s) h = (x, s, h, refl)
+more_next v x (Err f) h = tt
 
-more_constant : (v : SymbolsValue) (x : List ℕ) (s : Result Sort BuildFault) → OneMore v (constant v x s)
-more_constant v x s = more_unless v (is_reserved x) Reserved _ (more_unless v (is_some (declaration_of v.live x)) Declared _ (more_next v x s))
+more_constant : (v : SymbolsValue) (x : List ℕ) (s : Result Sort BuildFault) → IsPlainIf s → OneMore v (constant v x s)
+more_constant v x s h = more_unless v (is_reserved x) Reserved _ (more_unless v (is_some (declaration_of v.live x)) Declared _ (more_next v x s h))
 
 more_parts : (v : SymbolsValue) (es : Sexps) → OneMore v (declare_parts v es)
 more_parts v none = tt
 more_parts v (more x none) = tt
-more_parts v (more (atom k x) (more s none)) = more_constant v x (sort_in s)
+more_parts v (more (atom k x) (more s none)) = more_constant v x (sort_in s) (plain_sort s)
 more_parts v (more (group xs) (more s none)) = tt
 more_parts v (more x (more s (more t es))) = tt
 
@@ -46,15 +96,50 @@ unfolding declare
 more_declared v name.DeclareConst es = more_parts v es
 more_declared v _ es = tt
 
-get_longer : {X : Type 0} (xs ys : List X) (i : ℕ) (x : X) → slice_get xs i ≡ Some x → slice_get (xs ++ ys) i ≡ Some x
-get_longer xs ys i x e =
-    let within = slice_get_within xs i x e in
-    slice_get-get_or (xs ++ ys) i x (omega (arith, length-append xs ys, within))
-    ∙ ap Some (get_or_append_left xs ys x i within ∙ get_or_from_slice_get xs i x x e)
+-- ---- what stays
 
--- what terms name is still declared
-pub still_declared : (v w : SymbolsValue) (n : CommandName) (es : Sexps) (d : ℕ) (nodes : List Node) → declare v n es ≡ Ok (d, w) → AreDeclared v.signatures nodes → AreDeclared w.signatures nodes
-still_declared v w n es d nodes e are =
+pub get_longer : {X : Type 0} (xs ys : List X) (i : ℕ) (x : X) → slice_get xs i ≡ Some x → slice_get (xs ++ ys) i ≡ Some x
+get_longer [] ys i x e = absurd (let z : ⊥ = cc in z)
+get_longer (y ∷ xs) ys zero x e = e
+get_longer (y ∷ xs) ys (suc i) x e = get_longer xs ys i x e
+
+get_pushed : {X : Type 0} (xs : List X) (x : X) (k : ℕ) (y : X) → slice_get (xs ++ x ∷ []) k ≡ Some y → (slice_get xs k ≡ Some y) ⊎ ((k ≡ length xs) × (x ≡ y))
+get_pushed [] x zero y e = inr (refl, cc)
+get_pushed [] x (suc k) y e = absurd (let z : ⊥ = cc in z)
+get_pushed (z ∷ xs) x zero y e = inl e
+get_pushed (z ∷ xs) x (suc k) y e = ⊎_elim (λ h. inl h) (λ h. inr (ap suc h.0, h.1)) (get_pushed xs x k y e)
+
+module _ (v : SymbolsValue) (x : List ℕ) (s : Signature) (are : AreAllLive v) where
+  abbrev last : LiveName
+  last = record { name = x; declaration = length v.signatures }
+
+  live_each : (k : ℕ) (l : LiveName) → slice_get (v.live ++ last ∷ []) k ≡ Some l → l.declaration ≡ k
+  live_each k l e =
+      ⊎_elim
+      (λ old. are.each k l old)
+      (λ new. subst (λ (m : LiveName). m.declaration ≡ k) new.1 (sym are.count ∙ sym new.0))
+      (get_pushed v.live last k l e)
+
+  live_more : AreAllLive (with_declaration v x s)
+  live_more = record { count = omega (arith, length-append v.live (last ∷ []), length-append v.signatures (s ∷ []), are.count); each = live_each }
+
+-- what a declaration leaves of what is known of declarations
+pub record AreKept (v w : SymbolsValue) (nodes : List Node) : Type 0 where
+  pub live : AreAllLive v → AreAllLive w
+  pub constants : All IsPlainConstant v.signatures → All IsPlainConstant w.signatures
+  pub declared : AreDeclared v.signatures nodes → AreDeclared w.signatures nodes
+  pub longer : (d : ℕ) (s : Signature) → slice_get v.signatures d ≡ Some s → slice_get w.signatures d ≡ Some s
+
+kept_more : (v : SymbolsValue) (x : List ℕ) (s : Sort) (nodes : List Node) → is_plain_sort s ≡ true → AreKept v (with_declaration v x (constant_signature s)) nodes
+kept_more v x s nodes plain = record {
+  live = live_more v x (constant_signature s);
+  constants = λ are. All-push IsPlainConstant v.signatures (constant_signature s) are (record { constant = refl; sort = plain });
+  declared = λ are. record { each = λ t k named. get_longer v.signatures (constant_signature s ∷ []) k _ (are.each t k named) };
+  longer = λ d r e. get_longer v.signatures (constant_signature s ∷ []) d r e;
+}
+
+pub declared_kept : (v w : SymbolsValue) (n : CommandName) (es : Sexps) (d : ℕ) (nodes : List Node) → declare v n es ≡ Ok (d, w) → AreKept v w nodes
+declared_kept v w n es d nodes e =
     let P : Declaration → Type 0 = OneMore v in
-    let longer : OneMore v (Ok (d, w)) = subst P e (more_declared v n es) in
-    record { each = λ t k named. rw longer.1 (get_longer v.signatures (longer.0 ∷ []) k _ (are.each t k named)) }
+    let m : OneMore v (Ok (d, w)) = subst P e (more_declared v n es) in
+    subst (λ (u : SymbolsValue). AreKept v u nodes) (sym m.3) (kept_more v m.0 m.1 nodes m.2)

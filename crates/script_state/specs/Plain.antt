@@ -1,6 +1,6 @@
 -- Terms that a check can decide: declared Bools and words, and the operators of the theories Core and FixedSizeBitVectors
 -- over them (SMT-LIB 2.6).
-use Rattle.std.specs.Prelude.{ℕ, Bool, true, false, ◌&&◌, List}
+use Rattle.std.specs.Prelude.{◌≡◌, ℕ, ◌<◌, ◌≤◌, Bool, true, false, ◌&&◌, List, length, slice_index_or}
 use Rattle.std.specs.List.{list_all}
 use Rattle.smt_terms.specs.declared.sort.Sort.{Sort}
 use Rattle.smt_terms.specs.declared.sort.Sort.TheVariants as sort
@@ -39,3 +39,10 @@ is_plain_op (Param k s) = false
 -- the operator of the term is plain, and so are its arguments
 abbrev pub is_plain : List Node → ℕ → Bool
 is_plain nodes t = at_term false (λ u op args. is_plain_op op && list_all (λ b. b) args) nodes t
+
+-- ---- how it is kept
+
+-- for each of the first terms, whether it is plain
+pub record HavePlain (nodes : List Node) (marks : List Bool) : Type 0 where
+  pub within : length marks ≤ length nodes
+  pub each : (t : ℕ) → t < length marks → slice_index_or marks t false ≡ is_plain nodes t

@@ -1,5 +1,5 @@
 -- The state of a session (SMT-LIB 2.6, section 4.1).
-use Rattle.std.specs.Prelude.{◌≡◌, ℕ, ◌<◌, ◌^◌, true, [], length, slice_get, All, Option, Some, None}
+use Rattle.std.specs.Prelude.{◌≡◌, ℕ, ◌<◌, ◌^◌, Bool, true, List, [], length, slice_get, All, Option, Some, None}
 use Rattle.smt_terms.specs.declared.sort.Sort.TheVariants as sort
 use Rattle.smt_terms.specs.declared.sort.Signature.{Signature}
 use Rattle.smt_terms.specs.Terms.{TermsValue, IsTermList, no_terms, sort_of}
@@ -8,7 +8,7 @@ use Rattle.scope_selectors.specs.Scopes.{ScopesValue, AreScopes, no_scopes}
 use Rattle.smt_build.specs.Names.{SymbolsValue, AreDeclared, no_symbols}
 use Rattle.smt_build.specs.declared.symbols.LiveName.{LiveName}
 use Rattle.script_state.specs.declared.answer.Verdict.{Verdict}
-use Rattle.script_state.specs.Plain.{is_plain, is_plain_sort}
+use Rattle.script_state.specs.Plain.{is_plain, is_plain_sort, HavePlain}
 
 -- the names and declarations, the terms, the levels with their assertions, and the verdict of the check that stands
 pub record StateValue : Type 0 where
@@ -46,3 +46,21 @@ no_state = record { symbols = no_symbols; terms = no_terms (2 ^ 24); scopes = no
 -- a check with this verdict stands
 abbrev pub concluded : StateValue → Verdict → StateValue
 concluded s v = record { symbols = s.symbols; terms = s.terms; scopes = s.scopes; standing = Some v }
+
+-- ---- a state and its terms apart
+
+-- what a state has beside its terms, and for each of the first terms whether it is plain
+pub record RestValue : Type 0 where
+  pub symbols : SymbolsValue
+  pub scopes : ScopesValue
+  pub standing : Option Verdict
+  pub marks : List Bool
+
+-- the state that has these terms
+abbrev pub with_terms : RestValue → TermsValue → StateValue
+with_terms r terms = record { symbols = r.symbols; terms = terms; scopes = r.scopes; standing = r.standing }
+
+-- the terms and the rest are those of a state
+pub record Fit (terms : TermsValue) (r : RestValue) : Type 0 where
+  pub state : IsState (with_terms r terms)
+  pub marks : HavePlain terms.nodes r.marks

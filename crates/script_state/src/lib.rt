@@ -12,6 +12,7 @@
 pub mod answer;
 pub mod error_text;
 pub mod laws;
+mod plain;
 pub mod state;
 #[cfg(test)]
 mod tests;

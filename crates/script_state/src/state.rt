@@ -7,11 +7,12 @@ ghost use Rattle.smt_syntax.specs.Spans.{Stands, AllStand};
 ghost use Rattle.smt_syntax.specs.Commands.{name_of, spans_of, is_left_out};
 ghost use Rattle.smt_build.specs.Declaring.{declare};
 ghost use Rattle.smt_build.specs.Terms.{term_of};
-ghost use Rattle.script_state.specs.States.{no_state, concluded, IsState};
+ghost use Rattle.script_state.specs.States.{no_state, concluded, with_terms, IsState, Fit};
 ghost use Rattle.script_state.specs.Steps.{declaring, asserting, checking, named_step, obey, Answers, Applies};
 
 use crate::answer::{Answer, Verdict};
 use crate::error_text::ErrorText;
+use crate::plain::{cut, is_plain_truth};
 use crate::whole::is_list;
 use scope_selectors::live::Live;
 use scope_selectors::scopes::Scopes;
@@ -19,7 +20,7 @@ use smt_build::fault::BuildError;
 use smt_build::symbols::{LiveName, Symbols};
 use smt_syntax::command::{Command, SyntaxError, read_command};
 use smt_syntax::span::Span;
-use smt_terms::sort::{DeclId, Signature, Sort};
+use smt_terms::sort::{DeclId, Signature};
 use smt_terms::terms::Terms;
 use smt_text::chunk::{Chunk, ChunkKind};
 use smt_text::token::{CommandName, Tokens};
@@ -37,16 +38,36 @@ pub struct State {
     terms: Terms,
     scopes: Scopes,
     standing: Option<Verdict>,
+    /// For each of the first terms whether it is plain.
+    plain: Vec<bool>,
 }
 
 impl Model for State {
+    ghost use Rattle.script_state.specs.Plain.{HavePlain};
     ghost use Rattle.script_state.specs.States.{StateValue, IsState};
 
     ghost Value = { StateValue };
 
     ghost view = { λ s. record { symbols = s.symbols; terms = s.terms; scopes = s.scopes; standing = s.standing } };
 
-    ghost invariant = { λ s. IsState (record { symbols = s.symbols; terms = s.terms; scopes = s.scopes; standing = s.standing }) };
+    ghost invariant = { λ s. IsState (record { symbols = s.symbols; terms = s.terms; scopes = s.scopes; standing = s.standing }) × HavePlain s.terms.nodes s.plain.items };
+}
+
+/// What a state has beside its terms.
+#[derive(Drop)]
+pub struct Rest {
+    symbols: Symbols,
+    scopes: Scopes,
+    standing: Option<Verdict>,
+    plain: Vec<bool>,
+}
+
+impl Model for Rest {
+    ghost use Rattle.script_state.specs.States.{RestValue};
+
+    ghost Value = { RestValue };
+
+    ghost view = { λ r. record { symbols = r.symbols; scopes = r.scopes; standing = r.standing; marks = r.plain.items } };
 }
 
 impl State {
@@ -59,6 +80,7 @@ impl State {
             terms: Terms::new(alloc),
             scopes: Scopes::new(alloc),
             standing: None,
+            plain: Vec::new(alloc),
         }
     }
 
@@ -101,18 +123,25 @@ impl State {
             Err(BuildError::NoMemory) => return Err(AllocError),
             Err(BuildError::Fault(_)) => return Ok(REFUSED),
         };
-        if self.terms.sort(term) != Sort::Bool {
-            self.terms.cut(len);
-            return Ok(REFUSED);
+        match is_plain_truth(&self.terms, &mut self.plain, term) {
+            Ok(true) => {}
+            Ok(false) => {
+                cut(&mut self.terms, &mut self.plain, len);
+                return Ok(REFUSED);
+            }
+            Err(error) => {
+                cut(&mut self.terms, &mut self.plain, len);
+                return Err(error);
+            }
         }
         match self.scopes.assert(term, None) {
             Ok(_) => {
                 self.standing = None;
                 Ok(Answer::Done)
             }
-            Err(_) => {
-                self.terms.cut(len);
-                Err(AllocError)
+            Err(error) => {
+                cut(&mut self.terms, &mut self.plain, len);
+                Err(error)
             }
         }
     }
@@ -184,6 +213,47 @@ impl State {
         ensures { self.new ≡ concluded self.old verdict }
     {
         self.standing = Some(verdict);
+    }
+
+    /// The terms, and the rest of the state. More terms may be made before they are put together again.
+    pub fn into_parts(self) -> (Terms, Rest)
+        ensures state { self ≡ with_terms result.1 result.0 }
+        ensures fit { Fit result.0 result.1 }
+    {
+        let State {
+            symbols,
+            terms,
+            scopes,
+            standing,
+            plain,
+        } = self;
+        let rest = Rest {
+            symbols,
+            scopes,
+            standing,
+            plain,
+        };
+        (terms, rest)
+    }
+
+    /// The state of these terms and the rest.
+    pub fn from_parts(terms: Terms, rest: Rest) -> State
+        requires { Fit terms rest }
+        ensures { result ≡ with_terms rest terms }
+    {
+        let Rest {
+            symbols,
+            scopes,
+            standing,
+            plain,
+        } = rest;
+        State {
+            symbols,
+            terms,
+            scopes,
+            standing,
+            plain,
+        }
     }
 
     /// The verdict of the check that stands, `None` exactly where none stands.

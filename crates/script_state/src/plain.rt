@@ -1,0 +1,122 @@
+//! Which terms are plain, kept for the first terms.
+
+ghost use Rattle.std.specs.Prelude.{◌≡◌, ◌<◌, ◌≤◌, ◌&&◌, false, OnOk, IfOk, length, slice_index_or};
+ghost use Rattle.std.specs.List.{list_all, AllByRecursion};
+ghost use Rattle.smt_terms.specs.Same.{same_sort};
+ghost use Rattle.smt_terms.specs.Terms.{AreTerms, cut_at, sort_of};
+ghost use Rattle.script_state.specs.Plain.{is_plain_sort, is_plain_operator, is_plain_op, is_plain, HavePlain};
+
+use smt_terms::node::{Node, Op, TermId};
+use smt_terms::operator::Operator;
+use smt_terms::sort::Sort;
+use smt_terms::terms::Terms;
+use std::alloc::AllocError;
+
+/// Whether a sort is that of a Bool or of a word.
+fn is_plain_sort(sort: Sort) -> bool
+    ensures { result ≡ is_plain_sort sort }
+{
+    !matches!(sort, Sort::Array(_, _))
+}
+
+/// Whether an operator is one over Bools and words.
+fn is_plain_operator(operator: Operator) -> bool
+    ensures { result ≡ is_plain_operator operator }
+{
+    !matches!(
+        operator,
+        Operator::Select | Operator::Store | Operator::Witness
+    )
+}
+
+/// Whether what a term is made by is plain.
+fn is_plain_op(op: &Op) -> bool
+    ensures { result ≡ is_plain_op op.now }
+{
+    match op {
+        Op::Plain(operator) => is_plain_operator(*operator),
+        Op::Constant {
+            declaration: _,
+            sort,
+        } => is_plain_sort(*sort),
+        Op::Apply {
+            declaration: _,
+            signature: _,
+        } => false,
+        Op::Param { place: _, sort: _ } => false,
+        _ => true,
+    }
+}
+
+/// Whether a term is kept as plain.
+fn is_marked(marks: &[bool], term: TermId) -> bool
+    ensures { result ≡ slice_index_or marks.now term false }
+{
+    match marks.get(term as usize) {
+        Some(mark) => *mark,
+        None => false,
+    }
+}
+
+/// Whether each term is kept as plain.
+fn are_marked(marks: &[bool], args: &[TermId]) -> bool
+    ensures { result ≡ list_all (λ a. slice_index_or marks.now a false) args.now }
+{
+    for arg in args {
+        if !is_marked(marks, *arg) {
+            return false;
+        }
+    }
+    true
+}
+
+/// Whether the operator is plain, and each argument is kept as plain.
+fn is_marked_node(marks: &[bool], node: &Node) -> bool
+    ensures { result ≡ (is_plain_op node.now.op && list_all (λ a. slice_index_or marks.now a false) node.now.args) }
+{
+    is_plain_op(&node.op) && are_marked(marks, node.args.as_slice())
+}
+
+/// Keeps of each term whether it is plain.
+fn extend(marks: &mut Vec<bool>, terms: &Terms) -> Result<(), AllocError>
+    requires { HavePlain terms.now.nodes marks.old.items }
+    ensures marks { HavePlain terms.now.nodes marks.new.items }
+    ensures all { OnOk result (length marks.new.items ≡ length terms.now.nodes) }
+{
+    let count = terms.len();
+    let first = marks.len() as u32;
+    for term in first..count {
+        let plain = is_marked_node(marks, terms.node(term));
+        marks.push(plain)?;
+    }
+    Ok(())
+}
+
+/// Whether a term is plain and of sort Bool.
+pub(crate) fn is_plain_truth(
+    terms: &Terms,
+    marks: &mut Vec<bool>,
+    term: TermId,
+) -> Result<bool, AllocError>
+    requires held { term < length terms.now.nodes }
+    requires marks { HavePlain terms.now.nodes marks.old.items }
+    ensures plain { IfOk result (λ b. b ≡ (same_sort (sort_of terms.now.nodes term) Sort.Bool && is_plain terms.now.nodes term)) }
+    ensures marks { HavePlain terms.now.nodes marks.new.items }
+{
+    if terms.sort(term) != Sort::Bool {
+        return Ok(false);
+    }
+    extend(marks, terms)?;
+    Ok(is_marked(marks, term))
+}
+
+/// Forgets the terms from this number on.
+pub(crate) fn cut(terms: &mut Terms, marks: &mut Vec<bool>, len: u32)
+    requires len { len ≤ length terms.old.nodes }
+    requires marks { HavePlain terms.old.nodes marks.old.items }
+    ensures terms { terms.new ≡ cut_at terms.old len }
+    ensures marks { HavePlain terms.new.nodes marks.new.items }
+{
+    terms.cut(len);
+    marks.truncate(len as usize);
+}
