@@ -1,16 +1,8 @@
 -- A proof without a bad line is that of turns which may follow one after the other.
-use Rattle.std.proofs.Common.{◌≡◌, ℕ, suc, ◌+◌, Bool, true, false, List, [], ◌∷◌, ◌++◌, map, length, flat_map, slice_get, Option, Some, None, refl, sym, ap, ap₂, ◌∙◌, subst, inl, inr, append_assoc, append-nil}
-use Rattle.std.specs.Prelude.{if◌then◌else◌, All, Contains, IsSome, option_to_list}
+use Rattle.std.proofs.Common.{◌≡◌, ℕ, suc, true, false, List, [], ◌∷◌, ◌++◌, map, length, flat_map, slice_get, Option, Some, None, refl, sym, ap, ap₂, ◌∙◌, subst, inl, inr, append_assoc, append-nil}
+use Rattle.std.specs.Prelude.{All, IsSome, option_to_list}
 use Rattle.std.specs.List.{AllByRecursion}
-use Rattle.std.specs.Option.{option_map}
-use Rattle.std.proofs.lemmas.List.Elements.{All-head, All-tail}
 use Rattle.std.proofs.lemmas.List.{map-append}
-use Rattle.cnf_base.specs.Literals.{Literal}
-use Rattle.smt_terms.specs.declared.node.Node.{Node}
-use Rattle.smt_terms.specs.Values.{Interpretation}
-use Rattle.scope_selectors.specs.Scopes.{ScopesValue}
-use Rattle.smt_build.specs.Names.{SymbolsValue}
-use Rattle.script_state.specs.declared.answer.Verdict.{Verdict}
 use Rattle.smt_syntax.specs.Sexps.{Sexps}
 use Rattle.smt_values.specs.declared.value.Value.{Value}
 use Rattle.smt_build.specs.declared.symbols.LiveName.{LiveName}
@@ -19,27 +11,23 @@ use Rattle.script_state.specs.declared.answer.Answer.TheVariants as answer
 use Rattle.script_state.specs.States.{StateValue, concluded}
 use Rattle.script_state.specs.Steps.{step}
 use Rattle.proof_log.specs.declared.entry.Entry.{Entry}
-use Rattle.proof_log.specs.declared.entry.Entry.TheVariants as entry
 use Rattle.proof_text.specs.declared.line.WrittenValue.{WrittenValue}
-use Rattle.proof_text.specs.declared.line.Head.{Head}
 use Rattle.proof_text.specs.declared.line.Line.{Line}
 use Rattle.proof_text.specs.declared.line.Line.TheVariants as line
 use Rattle.proof_text.specs.declared.record.Record.{Record}
 use Rattle.proof_text.specs.declared.record.Record.TheVariants as shown
-use Rattle.proof_text.specs.Entries.{head_of, entry_line}
 use Rattle.proof_text.specs.Records.{written_value, value_lines, record_lines}
-use Rattle.accepted_proof.specs.declared.refusal.Refusal.{Refusal}
-use Rattle.accepted_proof.specs.Models.{interpretation_of, IsModel, IsOfSignature, IsWrittenModel}
-use Rattle.accepted_proof.specs.Turns.{Turn, IsTurn, AreTurns, AreStepsOf, IsShown, IsAgainst, IsRefutation, HasProof, with_step, with_steps, verdict_of, concluded_by, state_after}
-use Rattle.accepted_proof.specs.Answers.{shown_lines, step_lines, turn_lines}
-use Rattle.accepted_proof.specs.Judged.{Owed, Nothing, Steps, Values, Over, Judging, stepped, valued, closed, owed_by, commanded, is_idle, reach, ending, IsStepOf, StepsBy, Goes, AtStep, IsValueOf, MovesBy, Moves, Judged}
+use Rattle.accepted_proof.specs.Models.{interpretation_of, IsModel, IsOfSignature}
+use Rattle.accepted_proof.specs.Turns.{Turn, AreTurns, AreStepsOf, IsShown, HasProof, with_step, with_steps, verdict_of}
+use Rattle.accepted_proof.specs.Answers.{step_lines, turn_lines}
+use Rattle.accepted_proof.specs.Judged.{Owed, Nothing, Steps, Values, Over, Judging, owed_by, commanded, is_idle, ending, StepsBy, Goes, AtStep, MovesBy, Judged}
 use Rattle.std.proofs.lemmas.List.Elements.{All-cons, All-nil}
 use Rattle.smt_text.specs.declared.chunk.Chunk.{Chunk}
 use Rattle.script_state.specs.Readings.{ReadsAs}
 use Rattle.accepted_proof.specs.declared.refusal.RuleName.{RuleName}
 use Rattle.accepted_proof.specs.Accepted.{AreRead}
-use Rattle.accepted_proof.specs.Judged.{AtValue, Decides, refused, ReadEach}
-use Rattle.accepted_proof.proofs.Judging.{place, lines_before, Keeping, shown_back, reach_here, reach_on, From, from_judged, judged_from}
+use Rattle.accepted_proof.specs.Judged.{AtValue, refused, ReadEach}
+use Rattle.accepted_proof.proofs.Following.{place, lines_before, Keeping, shown_back, reach_here, reach_on, From, from_judged, judged_from}
 
 -- ---- what is still to come
 
@@ -167,7 +155,7 @@ step_completes j l k chunks ls (inl x) h =
     let assoc = append_assoc j.log (e ∷ []) after.steps in
     let last = with_steps (with_step j.state e) after.steps in
     let own : lines_before after.rest (step_lines (e ∷ after.steps) ++ record_lines after.shown) ≡ Some l ∷ lines_before after.rest (step_lines after.steps ++ record_lines after.shown) =
-        ap (λ o. lines_before after.rest ((option_to_list o ++ step_lines after.steps) ++ record_lines after.shown)) x.1.written in
+    ap (λ o. lines_before after.rest ((option_to_list o ++ step_lines after.steps) ++ record_lines after.shown)) x.1.written in
     record {
       steps = e ∷ after.steps;
       shown = after.shown;
@@ -226,7 +214,7 @@ value_completes j k next left values d w chunks ls (inl x) h =
     let v = x.0 in
     let after = goes_completes j k left (values ++ (d, v) ∷ []) chunks ls x.2 h in
     let own : lines_before after.rest (flat_map value_lines ((d, v) ∷ after.more)) ≡ Some (line.Value d w) ∷ lines_before after.rest (flat_map value_lines after.more) =
-        ap (λ o. lines_before after.rest (map (line.Value d) (option_to_list o) ++ flat_map value_lines after.more)) x.1.written in
+    ap (λ o. lines_before after.rest (map (line.Value d) (option_to_list o) ++ flat_map value_lines after.more)) x.1.written in
     record {
       more = (d, v) ∷ after.more;
       names = ap₂ (λ a b. a ∷ b) x.1.declaration after.names;

@@ -1,4 +1,4 @@
-
 pub mod Once
-pub mod Judging
+pub mod Following
 pub mod Completing
+pub mod Good

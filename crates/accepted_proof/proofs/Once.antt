@@ -1,7 +1,7 @@
 -- What is judged of a proof is one thing.
 use Rattle.std.proofs.Common.{◌≡◌, ℕ, zero, suc, ◌+◌, ◌*◌, ◌<◌, ◌/◌, ◌%◌, ◌^◌, Bool, true, false, List, [], ◌∷◌, ◌++◌, map, slice_get, Option, Some, None, refl, sym, ap, ap₂, ◌∙◌, subst, arith, one-add, mod-eq_of_lt}
-use Rattle.std.specs.Prelude.{◌⊎◌, ◌==◌, if◌then◌else◌}
-use Rattle.std.proofs.Common.{inl, inr, ⊎_elim}
+use Rattle.std.specs.Prelude.{◌==◌}
+use Rattle.std.proofs.Common.{inl, inr}
 use Rattle.std.specs.Option.{option_map, option_and_then}
 use Rattle.std.proofs.lemmas.Nat.{mod-pow-add}
 use Rattle.cnf_base.specs.Literals.{Literal}
@@ -23,8 +23,6 @@ use Rattle.smt_build.specs.declared.symbols.LiveName.{LiveName}
 use Rattle.script_state.specs.States.{StateValue}
 use Rattle.proof_log.specs.declared.entry.Entry.{Entry}
 use Rattle.proof_log.specs.declared.entry.Entry.TheVariants as entry
-use Rattle.proof_text.specs.declared.list.WrittenLiteral.{WrittenLiteral}
-use Rattle.proof_text.specs.declared.list.WrittenHint.{WrittenHint}
 use Rattle.proof_text.specs.declared.line.Head.{Head}
 use Rattle.proof_text.specs.declared.line.Head.TheVariants as head
 use Rattle.proof_text.specs.declared.line.WrittenValue.{WrittenValue}
@@ -33,11 +31,10 @@ use Rattle.proof_text.specs.declared.line.Line.{Line}
 use Rattle.proof_text.specs.declared.line.Line.TheVariants as line
 use Rattle.proof_text.specs.Entries.{head_of, written_literal, written_hint, entry_line}
 use Rattle.proof_text.specs.Records.{binary, written_value}
-use Rattle.accepted_proof.specs.declared.refusal.RuleName.{RuleName}
 use Rattle.accepted_proof.specs.declared.refusal.Refusal.{Refusal}
 use Rattle.accepted_proof.specs.Models.{IsOfSignature}
 use Rattle.accepted_proof.specs.Turns.{IsOfScript}
-use Rattle.accepted_proof.specs.Judged.{Owed, Nothing, Steps, Values, Over, Judging, refused, stepped, Decides, IsStepOf, StepsBy, Goes, AtStep, IsValueOf, AtValue, MovesBy, Moves, reach, Judged}
+use Rattle.accepted_proof.specs.Judged.{Owed, Nothing, Steps, Values, Over, Judging, stepped, Decides, StepsBy, Goes, AtStep, AtValue, MovesBy, reach, no_judging, Judged, JudgedProof}
 
 -- ---- steps
 
@@ -283,3 +280,11 @@ judged_once [] j cs o p a b = a ∙ sym b
 judged_once (l ∷ ls) j cs o p a b =
     let e = moved_once (reach j cs).0.owed (reach j cs).0 l a.0 b.0 a.1 b.1 in
     judged_once ls b.0 (reach j cs).1 o p (subst (λ k. Judged k (reach j cs).1 ls o) e a.2) b.2
+
+-- the same of whole proofs
+pub proof_judged_once : (cs : List (Option Sexps)) (ls : List (Option Line)) (o p : Option Refusal) → JudgedProof cs ls o → JudgedProof cs ls p → o ≡ p
+proof_judged_once cs [] o p a b = a ∙ sym b
+proof_judged_once cs (l ∷ ls) o p (inl x) (inl y) = judged_once ls no_judging cs o p x.1 y.1
+proof_judged_once cs (l ∷ ls) o p (inl x) (inr y) = absurd (y.0 x.0)
+proof_judged_once cs (l ∷ ls) o p (inr x) (inl y) = absurd (x.0 y.0)
+proof_judged_once cs (l ∷ ls) o p (inr x) (inr y) = x.1 ∙ sym y.1

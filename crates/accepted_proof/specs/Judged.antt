@@ -86,13 +86,13 @@ rule_of (line.Chain clause hints) = rule.Chain
 rule_of _ = rule.Line
 
 -- the line is that of a step which is valid here
-pub record IsStepOf (j : Judging) (l : Line) (e : Entry) : Type 0 where
+pub record IsStepOf (s : StateValue) (log : List Entry) (l : Line) (e : Entry) : Type 0 where
   pub written : entry_line e ≡ Some l
-  pub script : IsOfScript j.state e
-  pub valid : IsValid j.state.terms (state_of j.state.terms.nodes j.log) e
+  pub script : IsOfScript s e
+  pub valid : IsValid s.terms (state_of s.terms.nodes log) e
 
 abbrev pub StepsBy : Judging → Line → Judging → Type 0
-StepsBy j l k = ((e : Entry) × IsStepOf j l e × (k ≡ stepped j e)) ⊎ (((e : Entry) → IsStepOf j l e → ⊥) × (k ≡ refused j (rule_of l)))
+StepsBy j l k = ((e : Entry) × IsStepOf j.state j.log l e × (k ≡ stepped j e)) ⊎ (((e : Entry) → IsStepOf j.state j.log l e → ⊥) × (k ≡ refused j (rule_of l)))
 
 -- the next value is owed, or all are there, and then each live assertion has to be true under them
 abbrev pub Goes : Judging → List LiveName → List (ℕ × Value) → Judging → Type 0
@@ -112,14 +112,14 @@ AtStep j (line.Value d w) k = k ≡ refused j rule.Line
 AtStep j (line.Unsat p) k = Decides (IsRefutation j.state j.state.terms.nodes j.log p) (closed j (shown.Unsat p)) (refused j rule.Unsat) k
 
 -- the value is of the sort of the name's declaration, and written so
-pub record IsValueOf (j : Judging) (next : LiveName) (d : ℕ) (w : WrittenValue) (v : Value) : Type 0 where
+pub record IsValueOf (s : StateValue) (next : LiveName) (d : ℕ) (w : WrittenValue) (v : Value) : Type 0 where
   pub declaration : d ≡ next.declaration
   pub written : written_value v ≡ Some w
-  pub sorted : IsOfSignature v (slice_get j.state.symbols.signatures d)
+  pub sorted : IsOfSignature v (slice_get s.symbols.signatures d)
 
 -- a line where the value of a name is owed
 abbrev pub AtValue : Judging → LiveName → List LiveName → List (ℕ × Value) → Line → Judging → Type 0
-AtValue j next left values (line.Value d w) k = ((v : Value) × IsValueOf j next d w v × Goes j left (values ++ (d, v) ∷ []) k) ⊎ (((v : Value) → IsValueOf j next d w v → ⊥) × (k ≡ refused j rule.Sat))
+AtValue j next left values (line.Value d w) k = ((v : Value) × IsValueOf j.state next d w v × Goes j left (values ++ (d, v) ∷ []) k) ⊎ (((v : Value) → IsValueOf j.state next d w v → ⊥) × (k ≡ refused j rule.Sat))
 AtValue j next left values _ k = k ≡ refused j rule.Line
 
 abbrev pub MovesBy : Owed → Judging → Option Line → Judging → Type 0

@@ -11,7 +11,7 @@ use Rattle.script_state.specs.declared.answer.Answer.TheVariants.{Done, Refused,
 use Rattle.script_state.specs.declared.answer.Verdict.{Verdict}
 use Rattle.script_state.specs.declared.answer.Verdict.TheVariants as verdict
 use Rattle.script_state.specs.States.{StateValue, concluded}
-use Rattle.script_state.specs.Steps.{Step, step}
+use Rattle.script_state.specs.Steps.{step}
 use Rattle.proof_log.specs.declared.entry.Entry.{Entry}
 use Rattle.proof_log.specs.declared.entry.Entry.TheVariants as entry
 use Rattle.proof_log.specs.Logs.{Asserted, clause_at, state_of}

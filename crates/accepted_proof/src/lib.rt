@@ -8,7 +8,12 @@
 //! `proof_log` and `proof_text`, and on the crates that these stand on.
 #![tactic(auto)]
 
+mod judging;
 mod laws;
 pub mod refusal;
 
+pub use judging::{
+    accepted_proofs_are_judged, judged_proofs_are_accepted, proofs_are_judged_one_way,
+    the_rest_is_judged_as_the_whole,
+};
 pub use laws::{accepted_proofs_are_right, answers_are_right};

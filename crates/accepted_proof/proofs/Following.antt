@@ -1,5 +1,5 @@
 -- The lines of turns that may follow have no bad one.
-use Rattle.std.proofs.Common.{◌≡◌, ℕ, suc, ◌+◌, Bool, true, false, List, [], ◌∷◌, ◌++◌, map, length, flat_map, slice_get, Option, Some, None, refl, sym, ap, ◌∙◌, subst, inl, inr, append_assoc, append-nil}
+use Rattle.std.proofs.Common.{◌≡◌, ℕ, suc, ◌+◌, Bool, true, false, List, [], ◌∷◌, ◌++◌, map, length, flat_map, slice_get, Option, Some, None, refl, sym, ap, ◌∙◌, subst, inl, append_assoc, append-nil}
 use Rattle.std.specs.Prelude.{if◌then◌else◌, All, Contains, IsSome, option_to_list}
 use Rattle.std.specs.List.{AllByRecursion}
 use Rattle.std.specs.Option.{option_map}
@@ -20,7 +20,6 @@ use Rattle.script_state.specs.States.{StateValue, concluded}
 use Rattle.script_state.specs.Steps.{step}
 use Rattle.proof_log.specs.declared.entry.Entry.{Entry}
 use Rattle.proof_log.specs.declared.entry.Entry.TheVariants as entry
-use Rattle.proof_text.specs.declared.line.WrittenValue.{WrittenValue}
 use Rattle.proof_text.specs.declared.line.Head.{Head}
 use Rattle.proof_text.specs.declared.line.Line.{Line}
 use Rattle.proof_text.specs.declared.line.Line.TheVariants as line
@@ -30,9 +29,9 @@ use Rattle.proof_text.specs.Entries.{head_of, entry_line}
 use Rattle.proof_text.specs.Records.{written_value, value_lines, record_lines}
 use Rattle.accepted_proof.specs.declared.refusal.Refusal.{Refusal}
 use Rattle.accepted_proof.specs.Models.{interpretation_of, IsModel, IsOfSignature, IsWrittenModel}
-use Rattle.accepted_proof.specs.Turns.{Turn, IsTurn, AreTurns, AreStepsOf, IsShown, IsAgainst, IsRefutation, HasProof, with_step, with_steps, verdict_of, concluded_by, state_after}
+use Rattle.accepted_proof.specs.Turns.{Turn, AreTurns, AreStepsOf, IsShown, IsAgainst, IsRefutation, HasProof, with_step, with_steps, verdict_of, concluded_by, state_after}
 use Rattle.accepted_proof.specs.Answers.{shown_lines, step_lines, turn_lines}
-use Rattle.accepted_proof.specs.Judged.{Owed, Nothing, Steps, Values, Over, Judging, stepped, valued, closed, owed_by, commanded, is_idle, reach, ending, IsStepOf, StepsBy, Goes, AtStep, IsValueOf, MovesBy, Moves, Judged}
+use Rattle.accepted_proof.specs.Judged.{Owed, Nothing, Steps, Values, Judging, stepped, valued, closed, owed_by, commanded, is_idle, reach, ending, IsStepOf, StepsBy, Goes, AtStep, IsValueOf, Moves, Judged}
 
 -- ---- one line more
 
@@ -178,12 +177,15 @@ values_judged (x ∷ left) (p ∷ more) values s log o n cs ls e sorted written 
     let names : map (λ (p : ℕ × Value). p.0) more ≡ map (λ (l : LiveName). l.declaration) left = cc in
     let w = some_value (written_value p.1) written.0 in
     let after = values_judged left more (values ++ p ∷ []) s log (Values x left values) (n + 1) cs ls names
-        (All-tail (λ (p : ℕ × Value). IsOfSignature p.1 (slice_get s.symbols.signatures p.0)) p more sorted) written.1
-        (subst (λ vs. IsModel s (interpretation_of vs)) (sym (append_assoc values (p ∷ []) more)) model) rest in
-    let is_value : IsValueOf (place s log (Values x left values) (n + 1)) x p.0 w.0 p.1 = record { declaration = d; written = w.1; sorted = All-head (λ (p : ℕ × Value). IsOfSignature p.1 (slice_get s.symbols.signatures p.0)) p more sorted } in
-    let k = valued (place s log o n) x left values in
-    (k, refl, subst (λ w. Judged k cs (lines_before ls (map (line.Value p.0) (option_to_list w) ++ flat_map value_lines more)) None) (sym w.1)
-        (judged_line k after.0 cs (Some (line.Value p.0 w.0)) (lines_before ls (flat_map value_lines more)) None refl (inl (p.1, is_value, after.1)) after.2))
+    (All-tail (λ (p : ℕ × Value). IsOfSignature p.1 (slice_get s.symbols.signatures p.0)) p more sorted) written.1
+    (subst (λ vs. IsModel s (interpretation_of vs)) (sym (append_assoc values (p ∷ []) more)) model) rest in
+    let is_value : IsValueOf s x p.0 w.0 p.1 = record { declaration = d; written = w.1; sorted = All-head (λ (p : ℕ × Value). IsOfSignature p.1 (slice_get s.symbols.signatures p.0)) p more sorted } in
+    let k = valued (place s log o n) x left values in (
+      k,
+      refl,
+      subst (λ w. Judged k cs (lines_before ls (map (line.Value p.0) (option_to_list w) ++ flat_map value_lines more)) None) (sym w.1)
+          (judged_line k after.0 cs (Some (line.Value p.0 w.0)) (lines_before ls (flat_map value_lines more)) None refl (inl (p.1, is_value, after.1)) after.2),
+    )
 
 -- ---- checks
 
@@ -213,9 +215,9 @@ steps_judged (e ∷ es) r s log n cs ls a h rest =
     let j = place s log Steps n in
     let assoc = sym (append_assoc log (e ∷ []) es) in
     let after = steps_judged es r (with_step s e) (log ++ e ∷ []) (n + 1) cs ls a.3
-        (subst (λ l. IsShown (with_steps s (e ∷ es)) (with_steps s (e ∷ es)).terms.nodes l r) assoc h)
-        (subst (λ l. Rest (concluded (with_steps s (e ∷ es)) (verdict_of r)) l cs ls) assoc rest) in
-    let is_step_of : IsStepOf j w.0 e = record { written = w.1; script = a.1; valid = a.0 } in
+    (subst (λ l. IsShown (with_steps s (e ∷ es)) (with_steps s (e ∷ es)).terms.nodes l r) assoc h)
+    (subst (λ l. Rest (concluded (with_steps s (e ∷ es)) (verdict_of r)) l cs ls) assoc rest) in
+    let is_step_of : IsStepOf s log w.0 e = record { written = w.1; script = a.1; valid = a.0 } in
     subst (λ o. Judged j cs (lines_before ls ((option_to_list o ++ step_lines es) ++ record_lines r)) None) (sym w.1)
     (judged_line j (stepped j e) cs (Some w.0) (lines_before ls (step_lines es ++ record_lines r)) None refl (steps_by j w.0 (stepped j e) (line_steps e w.0 w.1) (inl (e, is_step_of, refl))) after)
 
@@ -271,5 +273,5 @@ turns_judged Good keeps (t ∷ ts) s log n g h =
     let rest : Rest (state_after s t) (log ++ t.steps) (map (λ (t : Turn). t.says) ts) (map Some (flat_map turn_lines ts)) = λ m. turns_judged Good keeps ts (state_after s t) (log ++ t.steps) m gs h.1 in
     let lines = map Some (flat_map turn_lines ts) in
     let j = at_command s log n t.says t.answer (map (λ (t : Turn). t.says) ts) (lines_before lines (turn_lines t)) h.0.answer
-        (turn_judged t.answer t.steps t.shown (step s t.says).1 log n (map (λ (t : Turn). t.says) ts) lines p rest) in
+    (turn_judged t.answer t.steps t.shown (step s t.says).1 log n (map (λ (t : Turn). t.says) ts) lines p rest) in
     subst (λ ls. Judged (place s log Nothing n) (map (λ (t : Turn). t.says) (t ∷ ts)) ls None) (sym (map-append Some (turn_lines t) (flat_map turn_lines ts))) j
