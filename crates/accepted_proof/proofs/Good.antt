@@ -1,12 +1,12 @@
 -- Commands, steps and ends of checks lead from states to states, and steps keep the models of the live assertions.
-use Rattle.std.proofs.Common.{◌≡◌, ◌<◌, List, [], ◌∷◌, ◌++◌, length, get_or, refl, sym, ap, ◌∙◌, arith}
+use Rattle.std.proofs.Common.{◌≡◌, ◌<◌, List, [], ◌∷◌, ◌++◌, length, get_or, sym, ap, ◌∙◌}
 use Rattle.smt_terms.specs.Terms.{IsTermList}
 use Rattle.smt_terms.specs.Values.{Interpretation, is_true, value}
 use Rattle.smt_terms.proofs.Evaluating.{value_longer}
 use Rattle.scope_selectors.specs.declared.live.Live.{Live}
 use Rattle.smt_build.specs.Building.{Grows}
-use Rattle.smt_build.proofs.Growth.{grows_none, made_grows, none_declared}
-use Rattle.script_state.specs.States.{StateValue, IsState, no_state}
+use Rattle.smt_build.proofs.Growth.{grows_none, made_grows}
+use Rattle.script_state.specs.States.{StateValue, IsState}
 use Rattle.script_state.proofs.Held.{list_made}
 use Rattle.script_state.proofs.Asserting.{grown_state, standing_state}
 use Rattle.script_state.proofs.Keeping.{step_state}
@@ -66,26 +66,4 @@ states_keep = record {
   ends = λ s v is. standing_state s (Some v) is;
   models = model_steps;
   back = models_back;
-}
-
--- ---- where a script begins
-
-pub first_state : IsState no_state
-first_state = record {
-  terms = λ t lt. absurd (omega (arith, lt));
-  scopes = record {
-    numbered = λ i j d lt below. absurd (omega (arith, below));
-    made = λ k d lt. absurd (omega (arith, lt));
-    counted = refl;
-    known = λ k d lt. absurd (omega (arith, lt));
-    leveled = λ i j d le lt. absurd (omega (arith, lt));
-    standing = λ k d lt. absurd (omega (arith, lt));
-    within = omega arith;
-  };
-  live = record { count = refl; each = λ k l e. absurd (let z : ⊥ = cc in z) };
-  constants = λ k d lt. absurd (omega (arith, lt));
-  declared = none_declared [];
-  held = λ k d lt. absurd (omega (arith, lt));
-  truths = λ k d lt. absurd (omega (arith, lt));
-  plain = λ k d lt. absurd (omega (arith, lt));
 }

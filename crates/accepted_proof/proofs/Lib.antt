@@ -1,3 +1,9 @@
+-- Lemmas of the laws on answers and proofs.
+pub mod Reaching
+pub mod Refuting
+pub mod Answering
+pub mod Reading
+-- Lemmas of the laws on judging.
 pub mod Once
 pub mod Following
 pub mod Completing

@@ -1,9 +1,10 @@
 -- Proofs of scripts, and what stands beside answers.
-use Rattle.std.specs.Prelude.{◌≡◌, ◌⊎◌, ℕ, ◌==◌, Bool, true, not, List, [], ◌∷◌, ◌++◌}
+use Rattle.std.specs.Prelude.{◌≡◌, ◌⊎◌, ℕ, ◌==◌, Bool, true, not, List, [], ◌∷◌, ◌++◌, map, Option}
 use Rattle.std.specs.List.{list_all, list_any}
 use Rattle.smt_text.specs.declared.chunk.Chunk.{Chunk}
 use Rattle.smt_text.specs.Framing.{Held}
 use Rattle.smt_text.specs.Script.{AreChunks, Begins}
+use Rattle.smt_syntax.specs.Sexps.{Sexps}
 use Rattle.script_state.specs.Readings.{ReadsAs}
 use Rattle.script_state.specs.States.{no_state}
 use Rattle.accepted_proof.specs.Turns.{Turn, AreTurns}
@@ -15,6 +16,10 @@ AreRead [] [] = Unit {0}
 AreRead [] (t ∷ ts) = ⊥
 AreRead (c ∷ cs) [] = ⊥
 AreRead (c ∷ cs) (t ∷ ts) = (t.line ≡ c.line) × ReadsAs c t.says × AreRead cs ts
+
+-- the line and the reading of each command
+abbrev pub readings_of : List Turn → List (ℕ × Option Sexps)
+readings_of turns = map (λ (t : Turn). (t.line, t.says)) turns
 
 -- The proof is one of the script: its header, and for each check the lines of valid steps and of a record, and nothing more.
 pub record Accepted (script proof : List ℕ) (turns : List Turn) : Type 0 where

@@ -1,6 +1,6 @@
 -- A declaration keeps those that were made, and is a constant that is a word.
-use Rattle.std.proofs.Common.{◌≡◌, ℕ, zero, suc, Bool, true, false, List, [], ◌∷◌, ◌++◌, length, refl, sym, ap, ◌∙◌, subst, inl, inr, ⊎_elim, arith, length-append, Option, Some, None, Result, Ok, Err}
-use Rattle.std.specs.Prelude.{◌⊎◌, slice_get, if◌then◌else◌, is_some, All}
+use Rattle.std.proofs.Common.{◌≡◌, ℕ, zero, suc, Bool, true, false, List, [], ◌∷◌, ◌++◌, length, refl, sym, ap, ◌∙◌, subst, inl, inr, ⊎_elim, arith, leb-true, length-append, Some, None, Result, Ok, Err}
+use Rattle.std.specs.Prelude.{◌&&◌, nat_le, ◌⊎◌, slice_get, if◌then◌else◌, is_some, All}
 use Rattle.std.specs.Str.{bytes_eq}
 use Rattle.std.proofs.lemmas.List.Elements.{All-push}
 use Rattle.smt_text.specs.declared.token.TokenKind.{TokenKind}
@@ -12,11 +12,11 @@ use Rattle.smt_syntax.specs.Walk.{◌>>=◌}
 use Rattle.smt_terms.specs.declared.sort.Sort.{Sort}
 use Rattle.smt_terms.specs.declared.sort.Signature.{Signature}
 use Rattle.smt_terms.specs.declared.node.Node.{Node}
-use Rattle.smt_terms.specs.Terms.{constant_signature}
+use Rattle.smt_terms.specs.Terms.{IsSort, constant_signature}
 use Rattle.smt_build.specs.declared.fault.BuildFault.{BuildFault}
 use Rattle.smt_build.specs.declared.fault.BuildFault.TheVariants.{Declared, Reserved, UnknownSymbol, NotSupported}
 use Rattle.smt_build.specs.declared.symbols.LiveName.{LiveName}
-use Rattle.smt_build.specs.Literals.{width_of_numeral}
+use Rattle.smt_build.specs.Literals.{decimal_value, value_in}
 use Rattle.smt_build.specs.Names.{SymbolsValue, AreDeclared, declaration_of, with_declaration}
 use Rattle.smt_build.specs.Operators.{is_reserved}
 use Rattle.smt_build.specs.Sorts.{sort_named, word_of_width, width_sort, named_sort, indexed_sort, listed_sort, sort_in}
@@ -27,7 +27,7 @@ use Rattle.script_state.specs.States.{AreAllLive, IsPlainConstant}
 -- ---- sorts
 
 abbrev IsPlainIf : Result Sort BuildFault → Type 0
-IsPlainIf (Ok s) = is_plain_sort s ≡ true
+IsPlainIf (Ok s) = (is_plain_sort s ≡ true) × IsSort s
 IsPlainIf (Err f) = Unit {0}
 
 plain_named : (b : Bool) (f g : BuildFault) → IsPlainIf (if b then Err f else Err g)
@@ -38,12 +38,15 @@ plain_atom : (k : TokenKind) (x : List ℕ) → IsPlainIf (sort_named k x)
 plain_atom kind.Symbol x = plain_named (bytes_eq x _) NotSupported UnknownSymbol
 plain_atom _ x = tt
 
-plain_width : (o : Option ℕ) → IsPlainIf (word_of_width o)
-plain_width (Some n) = refl
-plain_width None = tt
+plain_width : (n : ℕ) → IsPlainIf (word_of_width (if nat_le 1 n && nat_le n 128 then Some n else None))
+plain_width n = go (nat_le 1 n) (nat_le n 128) refl refl where
+  go : (a b : Bool) → nat_le 1 n ≡ a → nat_le n 128 ≡ b → IsPlainIf (word_of_width (if a && b then Some n else None))
+  go true true p q = (refl, (leb-true 1 n p, leb-true n 128 q))
+  go true false p q = tt
+  go false b p q = tt
 
 plain_numeral : (k : TokenKind) (n : List ℕ) → IsPlainIf (width_sort k n)
-plain_numeral kind.Numeral n = plain_width (width_of_numeral n)
+plain_numeral kind.Numeral n = plain_width (value_in 10 decimal_value n)
 plain_numeral _ n = tt
 
 plain_word_if : (b : Bool) (r : Result Sort BuildFault) (f : BuildFault) → IsPlainIf r → IsPlainIf (if b then r else Err f)
@@ -70,7 +73,7 @@ plain_sort (group es) = plain_listed es
 
 -- one constant more that is a Bool or a word, if it is made
 abbrev OneMore : SymbolsValue → Declaration → Type 0
-OneMore v (Ok d) = (x : List ℕ) × (s : Sort) × (is_plain_sort s ≡ true) × (d.1 ≡ with_declaration v x (constant_signature s))
+OneMore v (Ok d) = (x : List ℕ) × (s : Sort) × ((is_plain_sort s ≡ true) × IsSort s) × (d.1 ≡ with_declaration v x (constant_signature s))
 OneMore v (Err f) = Unit {0}
 
 more_unless : (v : SymbolsValue) (b : Bool) (f : BuildFault) (d : Declaration) → OneMore v d → OneMore v (if b then Err f else d)
@@ -130,10 +133,10 @@ pub record AreKept (v w : SymbolsValue) (nodes : List Node) : Type 0 where
   pub declared : AreDeclared v.signatures nodes → AreDeclared w.signatures nodes
   pub longer : (d : ℕ) (s : Signature) → slice_get v.signatures d ≡ Some s → slice_get w.signatures d ≡ Some s
 
-kept_more : (v : SymbolsValue) (x : List ℕ) (s : Sort) (nodes : List Node) → is_plain_sort s ≡ true → AreKept v (with_declaration v x (constant_signature s)) nodes
+kept_more : (v : SymbolsValue) (x : List ℕ) (s : Sort) (nodes : List Node) → (is_plain_sort s ≡ true) × IsSort s → AreKept v (with_declaration v x (constant_signature s)) nodes
 kept_more v x s nodes plain = record {
   live = live_more v x (constant_signature s);
-  constants = λ are. All-push IsPlainConstant v.signatures (constant_signature s) are (record { constant = refl; sort = plain });
+  constants = λ are. All-push IsPlainConstant v.signatures (constant_signature s) are (record { constant = refl; sort = plain.0; widths = plain.1 });
   declared = λ are. record { each = λ t k named. get_longer v.signatures (constant_signature s ∷ []) k _ (are.each t k named) };
   longer = λ d r e. get_longer v.signatures (constant_signature s ∷ []) d r e;
 }

@@ -2,7 +2,7 @@
 use Rattle.std.specs.Prelude.{◌≡◌, ℕ, ◌<◌, ◌^◌, Bool, true, List, [], length, slice_get, All, Option, Some, None}
 use Rattle.smt_terms.specs.declared.sort.Sort.TheVariants as sort
 use Rattle.smt_terms.specs.declared.sort.Signature.{Signature}
-use Rattle.smt_terms.specs.Terms.{TermsValue, IsTermList, no_terms, sort_of}
+use Rattle.smt_terms.specs.Terms.{TermsValue, IsSort, IsTermList, no_terms, sort_of}
 use Rattle.scope_selectors.specs.declared.live.Live.{Live}
 use Rattle.scope_selectors.specs.Scopes.{ScopesValue, AreScopes, no_scopes}
 use Rattle.smt_build.specs.Names.{SymbolsValue, AreDeclared, no_symbols}
@@ -22,10 +22,11 @@ pub record AreAllLive (v : SymbolsValue) : Type 0 where
   pub count : length v.live ≡ length v.signatures
   pub each : (k : ℕ) (l : LiveName) → slice_get v.live k ≡ Some l → l.declaration ≡ k
 
--- the signature of a constant that is a Bool or a word
+-- the signature of a constant that is a Bool, or a word of 1 to 128 bits
 pub record IsPlainConstant (s : Signature) : Type 0 where
   pub constant : s.args ≡ []
   pub sort : is_plain_sort s.value ≡ true
+  pub widths : IsSort s.value
 
 -- The terms are a list of well-sorted terms and name declarations as they were made, which are constants and live; each
 -- live assertion is a plain term of sort Bool.
