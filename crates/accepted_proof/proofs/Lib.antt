@@ -3,3 +3,8 @@ pub mod Reaching
 pub mod Refuting
 pub mod Answering
 pub mod Reading
+-- Lemmas of the laws on judging.
+pub mod Once
+pub mod Following
+pub mod Completing
+pub mod Good

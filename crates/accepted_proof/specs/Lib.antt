@@ -3,3 +3,4 @@ pub mod Turns
 pub mod Right
 pub mod Answers
 pub mod Accepted
+pub mod Judged

@@ -3,11 +3,18 @@
 //! The definitions in `specs/` say what the turns of a script are: each command with its answer, and for each check the
 //! valid steps and the record that stand in the proof. They say what text the answers and the proof are, when a proof is
 //! accepted, and what is right of answers in the words of SMT-LIB alone: a `sat` stands beside a model of the live
-//! assertions, and where there is an `unsat` they have none. The laws say that accepted proofs are right. A solver proves
+//! assertions, and where there is an `unsat` they have none. They say what is judged of a proof line by line: its first bad
+//! line and the rule of that, or that it has none. The laws say that accepted proofs are right. A solver proves
 //! that what it writes is accepted, a checker that it tells accepted proofs from others. The crate stands on `script_state`,
 //! `proof_log` and `proof_text`, and on the crates that these stand on.
 #![tactic(auto)]
 
+mod judging;
 mod laws;
+pub mod refusal;
 
+pub use judging::{
+    accepted_proofs_are_judged, judged_proofs_are_accepted, proofs_are_judged_one_way,
+    the_rest_is_judged_as_the_whole,
+};
 pub use laws::{accepted_proofs_are_right, answers_are_right, scripts_are_read_one_way};

@@ -1,0 +1,69 @@
+-- Commands, steps and ends of checks lead from states to states, and steps keep the models of the live assertions.
+use Rattle.std.proofs.Common.{◌≡◌, ◌<◌, List, [], ◌∷◌, ◌++◌, length, get_or, sym, ap, ◌∙◌}
+use Rattle.smt_terms.specs.Terms.{IsTermList}
+use Rattle.smt_terms.specs.Values.{Interpretation, is_true, value}
+use Rattle.smt_terms.proofs.Evaluating.{value_longer}
+use Rattle.scope_selectors.specs.declared.live.Live.{Live}
+use Rattle.smt_build.specs.Building.{Grows}
+use Rattle.smt_build.proofs.Growth.{grows_none, made_grows}
+use Rattle.script_state.specs.States.{StateValue, IsState}
+use Rattle.script_state.proofs.Held.{list_made}
+use Rattle.script_state.proofs.Asserting.{grown_state, standing_state}
+use Rattle.script_state.proofs.Keeping.{step_state}
+use Rattle.proof_log.specs.declared.entry.Entry.{Entry}
+use Rattle.proof_log.specs.declared.entry.Entry.TheVariants as entry
+use Rattle.proof_log.specs.Logs.{state_of}
+use Rattle.proof_log.specs.Faults.{IsValid, terms_after, with_node}
+use Rattle.std.specs.Prelude.{Some}
+use Rattle.accepted_proof.specs.Models.{IsModel}
+use Rattle.accepted_proof.specs.Turns.{IsOfScript, with_step, with_steps, AreStepsOf}
+use Rattle.accepted_proof.proofs.Following.{Keeping}
+
+pub step_grows : (s : StateValue) (log : List Entry) (e : Entry) → IsValid s.terms (state_of s.terms.nodes log) e → IsOfScript s e → Grows s.symbols.signatures s.terms (terms_after s.terms e)
+step_grows s log (entry.Node n) valid of = made_grows s.symbols.signatures s.terms n of (length s.terms.nodes) (with_node s.terms n) valid.made
+step_grows s log (entry.Leaf t) valid of = grows_none s.symbols.signatures s.terms
+step_grows s log (entry.Encode t) valid of = grows_none s.symbols.signatures s.terms
+step_grows s log (entry.Selector a t) valid of = grows_none s.symbols.signatures s.terms
+step_grows s log (entry.Chain c hints) valid of = grows_none s.symbols.signatures s.terms
+
+pub step_list : (s : StateValue) (log : List Entry) (e : Entry) → IsState s → IsValid s.terms (state_of s.terms.nodes log) e → IsTermList (terms_after s.terms e).nodes
+step_list s log (entry.Node n) is valid = list_made s.terms (with_node s.terms n) n (length s.terms.nodes) valid.made is.terms
+step_list s log (entry.Leaf t) is valid = is.terms
+step_list s log (entry.Encode t) is valid = is.terms
+step_list s log (entry.Selector a t) is valid = is.terms
+step_list s log (entry.Chain c hints) is valid = is.terms
+
+good_step : (s : StateValue) (log : List Entry) (e : Entry) → IsState s → IsValid s.terms (state_of s.terms.nodes log) e → IsOfScript s e → IsState (with_step s e)
+good_step s log e is valid of = grown_state s (terms_after s.terms e) (step_grows s log e valid of) is (step_list s log e is valid)
+
+good_steps : (s : StateValue) (log steps : List Entry) → IsState s → AreStepsOf s log steps → IsState (with_steps s steps)
+good_steps s log [] is are = is
+good_steps s log (e ∷ es) is are = good_steps (with_step s e) (log ++ e ∷ []) es (good_step s log e is are.0 are.1) are.3
+
+same_value : (s : StateValue) (log : List Entry) (e : Entry) (M : Interpretation) (a : Live) → IsValid s.terms (state_of s.terms.nodes log) e → IsOfScript s e → a.term < length s.terms.nodes → is_true (value M (terms_after s.terms e).nodes a.term) ≡ is_true (value M s.terms.nodes a.term)
+same_value s log e M a valid of lt =
+    let grows = step_grows s log e valid of in
+    ap (λ ns. is_true (value M ns a.term)) grows.nodes ∙ ap is_true (value_longer M s.terms.nodes grows.behind a.term lt)
+
+model_step : (s : StateValue) (log : List Entry) (e : Entry) (M : Interpretation) → IsState s → IsValid s.terms (state_of s.terms.nodes log) e → IsOfScript s e → IsModel s M → IsModel (with_step s e) M
+model_step s log e M is valid of h = λ k d lt. same_value s log e M (get_or s.scopes.live k d) valid of (is.held k d lt) ∙ h k d lt
+
+model_back : (s : StateValue) (log : List Entry) (e : Entry) (M : Interpretation) → IsState s → IsValid s.terms (state_of s.terms.nodes log) e → IsOfScript s e → IsModel (with_step s e) M → IsModel s M
+model_back s log e M is valid of h = λ k d lt. sym (same_value s log e M (get_or s.scopes.live k d) valid of (is.held k d lt)) ∙ h k d lt
+
+model_steps : (s : StateValue) (log steps : List Entry) (M : Interpretation) → IsState s → AreStepsOf s log steps → IsModel s M → IsModel (with_steps s steps) M
+model_steps s log [] M is are h = h
+model_steps s log (e ∷ es) M is are h = model_steps (with_step s e) (log ++ e ∷ []) es M (good_step s log e is are.0 are.1) are.3 (model_step s log e M is are.0 are.1 h)
+
+models_back : (s : StateValue) (log steps : List Entry) (M : Interpretation) → IsState s → AreStepsOf s log steps → IsModel (with_steps s steps) M → IsModel s M
+models_back s log [] M is are h = h
+models_back s log (e ∷ es) M is are h = model_back s log e M is are.0 are.1 (models_back (with_step s e) (log ++ e ∷ []) es M (good_step s log e is are.0 are.1) are.3 h)
+
+pub states_keep : Keeping IsState
+states_keep = record {
+  commands = λ s says is. step_state s says is;
+  steps = good_steps;
+  ends = λ s v is. standing_state s (Some v) is;
+  models = model_steps;
+  back = models_back;
+}

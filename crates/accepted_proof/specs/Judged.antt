@@ -1,0 +1,180 @@
+-- What is judged of the lines of a proof, one after the other: the first bad line and its rule, or that there is none.
+use Rattle.std.specs.Prelude.{◌≡◌, ◌⊎◌, ◌≤◌, ◌+◌, ℕ, Bool, true, false, if◌then◌else◌, List, [], ◌∷◌, ◌++◌, length, slice_get, Option, Some, None}
+use Rattle.smt_text.specs.declared.chunk.Chunk.{Chunk}
+use Rattle.smt_syntax.specs.Sexps.{Sexps}
+use Rattle.smt_values.specs.declared.value.Value.{Value}
+use Rattle.smt_build.specs.declared.symbols.LiveName.{LiveName}
+use Rattle.script_state.specs.declared.answer.Answer.{Answer}
+use Rattle.script_state.specs.declared.answer.Answer.TheVariants as answer
+use Rattle.script_state.specs.States.{StateValue, no_state, concluded}
+use Rattle.script_state.specs.Readings.{ReadsAs}
+use Rattle.script_state.specs.Steps.{step}
+use Rattle.proof_log.specs.declared.entry.Entry.{Entry}
+use Rattle.proof_log.specs.Logs.{state_of}
+use Rattle.proof_log.specs.Faults.{IsValid}
+use Rattle.proof_text.specs.declared.line.WrittenValue.{WrittenValue}
+use Rattle.proof_text.specs.declared.line.Line.{Line}
+use Rattle.proof_text.specs.declared.line.Line.TheVariants as line
+use Rattle.proof_text.specs.Entries.{entry_line}
+use Rattle.proof_text.specs.declared.record.Record.{Record}
+use Rattle.proof_text.specs.declared.record.Record.TheVariants as shown
+use Rattle.proof_text.specs.Records.{written_value}
+use Rattle.accepted_proof.specs.declared.refusal.RuleName.{RuleName}
+use Rattle.accepted_proof.specs.declared.refusal.RuleName.TheVariants as rule
+use Rattle.accepted_proof.specs.declared.refusal.Refusal.{Refusal}
+use Rattle.accepted_proof.specs.Models.{interpretation_of, IsModel, IsOfSignature}
+use Rattle.accepted_proof.specs.Turns.{IsOfScript, IsRefutation, with_step, verdict_of}
+
+-- ---- where the judging stands
+
+-- What is owed of the check that stands open: nothing, since none does; its steps and its record; the values of a model,
+-- of which the next is that of a name, the further ones those of others, and some are there. Or a line was refused.
+pub data Owed : Type 0 where
+  Nothing Steps : Owed
+  Values : (next : LiveName) (left : List LiveName) (values : List (ℕ × Value)) → Owed
+  Over : (refusal : Refusal) → Owed
+
+-- the state of the commands, the log, what is owed, and the number of the line that is read next
+pub record Judging : Type 0 where
+  pub state : StateValue
+  pub log : List Entry
+  pub owed : Owed
+  pub line : ℕ
+
+-- behind the header, which is line 1
+abbrev pub no_judging : Judging
+no_judging = record { state = no_state; log = []; owed = Nothing; line = 2 }
+
+-- ---- where it goes
+
+-- the line is refused by this rule
+abbrev pub refused : Judging → RuleName → Judging
+refused j r = record { state = j.state; log = j.log; owed = Over (record { line = j.line; rule = r }); line = j.line }
+
+abbrev pub stepped : Judging → Entry → Judging
+stepped j e = record { state = with_step j.state e; log = j.log ++ e ∷ []; owed = Steps; line = j.line + 1 }
+
+abbrev pub valued : Judging → LiveName → List LiveName → List (ℕ × Value) → Judging
+valued j next left values = record { state = j.state; log = j.log; owed = Values next left values; line = j.line + 1 }
+
+-- the check ends with this record
+abbrev pub closed : Judging → Record → Judging
+closed j r = record { state = concluded j.state (verdict_of r); log = j.log; owed = Nothing; line = j.line + 1 }
+
+abbrev pub owed_by : Answer → Owed
+owed_by answer.Done = Nothing
+owed_by (answer.Refused e) = Nothing
+owed_by answer.Check = Steps
+
+-- a command that is refused is passed over, and a check owes its steps and its record
+abbrev pub commanded : Judging → Option Sexps → Judging
+commanded j says = record { state = (step j.state says).1; log = j.log; owed = owed_by (step j.state says).0; line = j.line }
+
+-- ---- lines
+
+-- the one, where this holds, else the other
+abbrev pub Decides : Type 0 → Judging → Judging → Judging → Type 0
+Decides P one other k = (P × (k ≡ one)) ⊎ ((P → ⊥) × (k ≡ other))
+
+-- the rule of a step's line
+abbrev pub rule_of : Line → RuleName
+rule_of (line.Term head args) = rule.Node
+rule_of (line.Leaf t) = rule.Leaf
+rule_of (line.Encode t) = rule.Encode
+rule_of (line.Selector a) = rule.Selector
+rule_of (line.Chain clause hints) = rule.Chain
+rule_of _ = rule.Line
+
+-- the line is that of a step which is valid here
+pub record IsStepOf (s : StateValue) (log : List Entry) (l : Line) (e : Entry) : Type 0 where
+  pub written : entry_line e ≡ Some l
+  pub script : IsOfScript s e
+  pub valid : IsValid s.terms (state_of s.terms.nodes log) e
+
+abbrev pub StepsBy : Judging → Line → Judging → Type 0
+StepsBy j l k = ((e : Entry) × IsStepOf j.state j.log l e × (k ≡ stepped j e)) ⊎ (((e : Entry) → IsStepOf j.state j.log l e → ⊥) × (k ≡ refused j (rule_of l)))
+
+-- the next value is owed, or all are there, and then each live assertion has to be true under them
+abbrev pub Goes : Judging → List LiveName → List (ℕ × Value) → Judging → Type 0
+Goes j [] values k = Decides (IsModel j.state (interpretation_of values)) (closed j (shown.Sat values)) (refused j rule.Sat) k
+Goes j (next ∷ left) values k = k ≡ valued j next left values
+
+-- a line of a check, before its record's end
+abbrev pub AtStep : Judging → Line → Judging → Type 0
+AtStep j (line.Header cubes budget) k = k ≡ refused j rule.Line
+AtStep j (line.Term head args) k = StepsBy j (line.Term head args) k
+AtStep j (line.Leaf t) k = StepsBy j (line.Leaf t) k
+AtStep j (line.Encode t) k = StepsBy j (line.Encode t) k
+AtStep j (line.Selector a) k = StepsBy j (line.Selector a) k
+AtStep j (line.Chain clause hints) k = StepsBy j (line.Chain clause hints) k
+AtStep j (line.Sat count) k = ((count ≡ length j.state.symbols.live) × Goes j j.state.symbols.live [] k) ⊎ ((count ≡ length j.state.symbols.live → ⊥) × (k ≡ refused j rule.Sat))
+AtStep j (line.Value d w) k = k ≡ refused j rule.Line
+AtStep j (line.Unsat p) k = Decides (IsRefutation j.state j.state.terms.nodes j.log p) (closed j (shown.Unsat p)) (refused j rule.Unsat) k
+
+-- the value is of the sort of the name's declaration, and written so
+pub record IsValueOf (s : StateValue) (next : LiveName) (d : ℕ) (w : WrittenValue) (v : Value) : Type 0 where
+  pub declaration : d ≡ next.declaration
+  pub written : written_value v ≡ Some w
+  pub sorted : IsOfSignature v (slice_get s.symbols.signatures d)
+
+-- a line where the value of a name is owed
+abbrev pub AtValue : Judging → LiveName → List LiveName → List (ℕ × Value) → Line → Judging → Type 0
+AtValue j next left values (line.Value d w) k = ((v : Value) × IsValueOf j.state next d w v × Goes j left (values ++ (d, v) ∷ []) k) ⊎ (((v : Value) → IsValueOf j.state next d w v → ⊥) × (k ≡ refused j rule.Sat))
+AtValue j next left values _ k = k ≡ refused j rule.Line
+
+abbrev pub MovesBy : Owed → Judging → Option Line → Judging → Type 0
+MovesBy Nothing j l k = k ≡ refused j rule.End
+MovesBy Steps j None k = k ≡ refused j rule.Line
+MovesBy Steps j (Some l) k = AtStep j l k
+MovesBy (Values next left values) j None k = k ≡ refused j rule.Line
+MovesBy (Values next left values) j (Some l) k = AtValue j next left values l k
+MovesBy (Over r) j l k = k ≡ j
+
+-- one line more, which is none of a proof where there is None
+abbrev pub Moves : Judging → Option Line → Judging → Type 0
+Moves j l k = MovesBy j.owed j l k
+
+-- ---- whole proofs
+
+abbrev pub is_idle : Owed → Bool
+is_idle Nothing = true
+is_idle Steps = false
+is_idle (Values next left values) = false
+is_idle (Over r) = false
+
+-- the commands up to the next check are done
+abbrev pub reach : Judging → List (Option Sexps) → Judging × List (Option Sexps)
+reach j [] = (j, [])
+reach j (c ∷ cs) = if is_idle j.owed then reach (commanded j c) cs else (j, c ∷ cs)
+
+-- what is judged where the text ends
+abbrev pub ending : Owed → ℕ → Option Refusal
+ending Nothing n = None
+ending Steps n = Some (record { line = n; rule = rule.End })
+ending (Values next left values) n = Some (record { line = n; rule = rule.End })
+ending (Over r) n = Some r
+
+-- what is judged of the lines that follow, where these commands follow: the first bad line, if there is one
+abbrev pub Judged : Judging → List (Option Sexps) → List (Option Line) → Option Refusal → Type 0
+Judged j cs [] o = o ≡ ending (reach j cs).0.owed (reach j cs).0.line
+Judged j cs (l ∷ ls) o = (k : Judging) × Moves (reach j cs).0 l k × Judged k (reach j cs).1 ls o
+
+-- the line is a header, with its numbers in range
+abbrev pub IsHeader : Option Line → Type 0
+IsHeader (Some (line.Header cubes budget)) = (cubes ≤ 10) × (budget ≤ 1000000000)
+IsHeader _ = ⊥
+
+abbrev pub bad_header : Refusal
+bad_header = record { line = 1; rule = rule.Header }
+
+-- what is judged of all lines of a proof, where these are the commands of the script
+abbrev pub JudgedProof : List (Option Sexps) → List (Option Line) → Option Refusal → Type 0
+JudgedProof cs [] o = o ≡ Some bad_header
+JudgedProof cs (l ∷ ls) o = (IsHeader l × Judged no_judging cs ls o) ⊎ ((IsHeader l → ⊥) × (o ≡ Some bad_header))
+
+-- each chunk reads as this
+abbrev pub ReadEach : List Chunk → List (Option Sexps) → Type 0
+ReadEach [] [] = Unit {0}
+ReadEach [] (s ∷ ss) = ⊥
+ReadEach (c ∷ cs) [] = ⊥
+ReadEach (c ∷ cs) (s ∷ ss) = ReadsAs c s × ReadEach cs ss
