@@ -1,4 +1,4 @@
-"""Runs sat_bench beside minisat and cadical, and prints a table (argument: the program, as `rt run` built it)."""
+"""Runs sat_bench beside minisat and cadical, and prints tables (argument: the program, as `rt run` built it)."""
 import os
 import re
 import subprocess
@@ -16,6 +16,8 @@ INSTANCES = [
     ("pigeonhole 9", ["pigeons.py", "9"]),
     ("product of 8 bits commutes", ["product.py", "8"]),
 ]
+# How often each is run; the least seconds count.
+TIMES = 3
 # For memory alone: many literals.
 LARGE = ["random3.py", "200000", "800000", "1"]
 
@@ -41,25 +43,75 @@ def count(text, word):
     return int(found.group(1)) if found else 0
 
 
-def row(name, solver, output, seconds, memory):
-    verdict = "unsatisfiable" if "UNSATISFIABLE" in output else "satisfiable" if "SATISFIABLE" in output else "-"
-    propagations = count(output, "propagations")
-    rate = propagations / seconds / 1e6 if seconds else 0
-    print(f"| {name} | {solver} | {verdict} | {count(output, 'conflicts')} | {propagations} | {rate:.1f} | {seconds:.2f} | {memory / 1024:.1f} |", flush=True)
+def verdict_of(output):
+    return "unsatisfiable" if "UNSATISFIABLE" in output else "satisfiable" if "SATISFIABLE" in output else "-"
+
+
+class Solver:
+    """A program with its arguments; `source` tells whether it reads standard input."""
+
+    def __init__(self, name, command, source):
+        self.name, self.command, self.source = name, command, source
+
+    def run(self, path):
+        return run(self.command, path) if self.source else run([*self.command, path])
+
+
+def measure(name, solvers, path, times):
+    """Runs each solver on the instance so many times, in turn, and prints the least seconds of each: they are returned."""
+    best = {}
+    for _ in range(times):
+        for solver in solvers:
+            output, seconds, memory = solver.run(path)
+            if solver.name not in best or seconds < best[solver.name][1]:
+                best[solver.name] = (output, seconds, memory)
+    for solver in solvers:
+        output, seconds, memory = best[solver.name]
+        propagations = count(output, "propagations")
+        rate = f"{propagations / seconds / 1e6:.1f}" if seconds else "-"
+        print(f"| {name} | {solver.name} | {verdict_of(output)} | {count(output, 'conflicts')} | {propagations} | {rate} | {seconds:.2f} | {memory / 1024:.1f} |", flush=True)
+    return {solver: found[1] for solver, found in best.items()}
+
+
+def verify(name, path):
+    """Runs the solver's own check, and prints its answer and the packed hints."""
+    output, seconds, memory = run([PROGRAM], path)
+    counted, _, _ = run([PROGRAM, "--measure"], path)
+    agrees = "yes" if "c verified" in output else "NO"
+    print(f"| {name} | {verdict_of(output)} | {agrees} | {count(counted, 'hints')} | {seconds:.2f} | {memory / 1024:.1f} |", flush=True)
+
+
+def summary(ratios):
+    for other, values in ratios.items():
+        values = sorted(values)
+        print(f"Seconds of sat_bench to those of {other}: median {values[len(values) // 2]:.2f}, worst {values[-1]:.2f}")
 
 
 def main():
-    print("| instance | solver | answer | conflicts | propagations | million propagations a second | seconds | MB |")
-    print("|---|---|---|---|---|---|---|---|")
+    solvers = [
+        Solver("sat_bench", [PROGRAM, "--measure"], True),
+        Solver("sat_bench --plain", [PROGRAM, "--plain"], True),
+        Solver("minisat", ["minisat", "-verb=1"], False),
+        Solver("cadical", ["cadical"], False),
+    ]
+    ratios = {"minisat": [], "cadical": []}
     with tempfile.TemporaryDirectory() as folder:
-        for name, arguments in INSTANCES:
-            path = generate(folder, arguments)
-            row(name, "sat_bench", *run([PROGRAM, "--measure"], path))
-            row(name, "minisat", *run(["minisat", "-verb=1", path]))
-            row(name, "cadical", *run(["cadical", path]))
+        instances = [(name, generate(folder, arguments)) for name, arguments in INSTANCES]
+        print("| instance | solver | answer | conflicts | propagations | million propagations a second | seconds | MB |")
+        print("|---|---|---|---|---|---|---|---|")
+        for name, path in instances:
+            seconds = measure(name, solvers, path, TIMES)
+            for other, values in ratios.items():
+                values.append(seconds["sat_bench"] / max(seconds[other], 0.01))
+        print()
+        summary(ratios)
+        print("\n| instance | answer | verified | hints | seconds | MB |")
+        print("|---|---|---|---|---|---|")
+        for name, path in instances:
+            verify(name, path)
         path = generate(folder, LARGE)
         literals = 3 * int(LARGE[2])
-        _, _, held = run([PROGRAM], path)
+        _, _, held = run([PROGRAM, "--hold"], path)
         _, _, read = run([PROGRAM, "--read"], path)
         print(f"\nBytes a held literal, of {literals} literals: {(held - read) * 1024 / literals:.0f}")
 

@@ -1,7 +1,11 @@
-//! Reads a DIMACS text from standard input and searches it by conflict-driven clause learning: it prints the answer, and
-//! whether its own reading of the clauses agrees, the chains of what it learnt or the model. With `--measure` it prints what it
-//! counted instead, and with `--plain` it does so for a search by decisions and unit propagation alone. With `--read` it
-//! stops before it holds a clause, and with `--hold` after, so that the memory of the clauses can be told.
+//! A satisfiability solver: it reads a DIMACS text from standard input, searches it by conflict-driven clause learning, and
+//! prints the answer and whether its own check agrees: after "unsatisfiable" `hint_chain` reads the chain of each learnt
+//! clause, after "satisfiable" each clause is to have a true literal. With `--measure` it prints what it counted instead,
+//! and with `--plain` it does so for a search by decisions and unit propagation alone. With `--read` it stops before it
+//! holds a clause, and with `--hold` after, so that the memory of the clauses can be told.
+//!
+//! Of the search it is proved that it is safe: each call's condition holds. The answers rest on the checks, and on the
+//! contracts of `cdcl_core`, `cdcl_learn` and `hint_chain`.
 #![tactic(auto)]
 
 mod cdcl;
