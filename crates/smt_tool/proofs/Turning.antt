@@ -1,6 +1,6 @@
 -- Turns after turns.
 use Rattle.std.proofs.Common.{◌≡◌, ℕ, Bool, true, false, List, [], ◌∷◌, ◌++◌, Option, Some, None, refl, sym, ap, ◌∙◌, subst, append_assoc, append-nil, inl, inr, ◌⊎◌, ⊎_elim}
-use Rattle.std.specs.Prelude.{◌||◌}
+use Rattle.std.specs.Prelude.{◌||◌, Result, Ok, Err, IfOk, IfErr, option_to_list}
 use Rattle.std.specs.List.{flat_map, list_any}
 use Rattle.std.proofs.lemmas.Grind.{flat_map-append}
 use Rattle.std.proofs.lemmas.List.Folds.{list_any-append}
@@ -14,6 +14,7 @@ use Rattle.proof_text.specs.Lines.{line_text}
 use Rattle.accepted_proof.specs.Turns.{Turn, AreTurns, state_after}
 use Rattle.accepted_proof.specs.Answers.{answers_of, turn_text, turn_lines, is_refused}
 use Rattle.accepted_proof.specs.Accepted.{AreRead, has_error, without_end}
+use Rattle.smt_tool.specs.declared.status.Status.{Status}
 use Rattle.smt_tool.specs.declared.answering.Answered.{Answered}
 use Rattle.smt_tool.specs.Adding.{Moment, moment_of, after, Follow, Streams, lines_of, Adds, Advances, Breaks, BreaksAt, AdvancesWithin, BreaksWithin, IsFrontOf, AddsLast, with_piece}
 
@@ -165,3 +166,20 @@ held_behind h mid m r cur a b c cs f p w = record {
   all = (w.all.0, rw (append_assoc cs w.chunks w.next) (Begins-trans h mid w.all.0 cs (w.chunks ++ w.next) f w.all.1));
   breaks = Advances-breaks m r cur a b c cs w.chunks w.next p w.breaks;
 }
+
+-- ---- what is held after a piece is what was held before, and the piece
+
+same_held : (f h : Held) (piece : List ℕ) → f.line ≡ h.line → f.bytes ≡ h.bytes ++ piece → f ≡ with_piece h piece
+same_held f h piece l b = (λ i. record { line = l i; bytes = b i })
+
+pub fed_advances : (f h rest : Held) (piece : List ℕ) (m : Moment) (b : Bool) (s t : Streams) (r : Result Answered Status) → f.line ≡ h.line → f.bytes ≡ h.bytes ++ piece → IfOk r (λ x. AdvancesWithin f rest m b x s t) → IfOk r (λ x. AdvancesWithin (with_piece h piece) rest m b x s t)
+fed_advances f h rest piece m b s t (Ok x) k l p = subst (λ (y : Held). AdvancesWithin y rest m b x s t) (same_held f h piece k l) p
+fed_advances f h rest piece m b s t (Err e) k l p = tt
+
+pub fed_breaks : (f h : Held) (piece : List ℕ) (m : Moment) (s t : Streams) (r : Result Answered Status) → f.line ≡ h.line → f.bytes ≡ h.bytes ++ piece → IfErr r (λ _. BreaksWithin f m s t) → IfErr r (λ _. BreaksWithin (with_piece h piece) m s t)
+fed_breaks f h piece m s t (Ok x) k l p = tt
+fed_breaks f h piece m s t (Err e) k l p = subst (λ (y : Held). BreaksWithin y m s t) (same_held f h piece k l) p
+
+-- the end of the script closes nothing
+pub last_none : (m : Moment) (b : Bool) (s : Streams) (o : Option Chunk) → o ≡ None → AddsLast m b s s (option_to_list o) b
+last_none m b s o e = rw e (record { turns = []; adds = Adds-none m s; refused_is = or_false b })
