@@ -10,4 +10,7 @@
 
 mod laws;
 
-pub use laws::{accepted_proofs_are_right, answers_are_right, scripts_are_read_one_way};
+pub use laws::{
+    accepted_proofs_are_right, answers_are_right, answers_beside_proofs_are_right,
+    scripts_are_read_one_way,
+};
