@@ -4,7 +4,7 @@ ghost use Rattle.std.specs.Prelude.{◌≡◌, ℕ, List, []};
 ghost use Rattle.script_state.specs.States.{no_state};
 ghost use Rattle.accepted_proof.specs.Turns.{Turn, AreTurns};
 ghost use Rattle.accepted_proof.specs.Right.{AreRight};
-ghost use Rattle.accepted_proof.specs.Accepted.{Accepted, readings_of};
+ghost use Rattle.accepted_proof.specs.Accepted.{Accepted, StandsBeside, readings_of};
 
 /// Where turns follow one after the other, each `sat` stands beside a model of the assertions that are live there, and
 /// where there is an `unsat` they have none.
@@ -15,6 +15,11 @@ pub fn answers_are_right()
 /// What an accepted proof shows is right, whoever wrote it.
 pub fn accepted_proofs_are_right()
     ensures { (script proof : List ℕ) (turns : List Turn) → Accepted script proof turns → AreRight no_state turns }
+{}
+
+/// What stands beside answers is right, also where a run ended early.
+pub fn answers_beside_proofs_are_right()
+    ensures { (script answers proof : List ℕ) (beside : StandsBeside script answers proof) → AreRight no_state beside.turns }
 {}
 
 /// The commands of a script are read in one way: the turns of two accepted proofs begin on the same lines and say the same.

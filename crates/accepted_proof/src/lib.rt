@@ -17,4 +17,7 @@ pub use judging::{
     accepted_proofs_are_judged, judged_proofs_are_accepted, proofs_are_judged_one_way,
     the_rest_is_judged_as_the_whole,
 };
-pub use laws::{accepted_proofs_are_right, answers_are_right, scripts_are_read_one_way};
+pub use laws::{
+    accepted_proofs_are_right, answers_are_right, answers_beside_proofs_are_right,
+    scripts_are_read_one_way,
+};
