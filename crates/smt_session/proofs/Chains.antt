@@ -1,5 +1,5 @@
 -- Learnt clauses that are added to a log, one after the other.
-use Rattle.std.proofs.Common.{◌≡◌, ℕ, zero, suc, ◌+◌, ◌<◌, ◌≤◌, List, [], ◌∷◌, ◌++◌, length, get_or, take, Option, Some, None, refl, sym, ap, ◌∙◌, subst, append_assoc, append-nil, arith, length-append}
+use Rattle.std.proofs.Common.{◌≡◌, ℕ, suc, ◌+◌, ◌<◌, ◌≤◌, List, [], ◌∷◌, ◌++◌, length, get_or, take, Some, refl, sym, ap, ◌∙◌, subst, append_assoc, append-nil, arith, length-append}
 use Rattle.std.specs.Prelude.{map, All, slice_get}
 use Rattle.std.proofs.lemmas.List.{take_more}
 use Rattle.std.proofs.lemmas.List.Elements.{All-push}
@@ -13,19 +13,20 @@ use Rattle.plain_search.specs.declared.Held.{Held}
 use Rattle.plain_search.specs.declared.Chain.{Chain}
 use Rattle.plain_search.specs.declared.Outcome.{Outcome}
 use Rattle.scope_selectors.specs.declared.live.Live.{Live}
-use Rattle.std.specs.List.{AllByRecursion}
 use Rattle.plain_search.specs.Searches.{Knows, learnt_row, named}
 use Rattle.plain_search.proofs.Stages.{named-push}
 use Rattle.proof_log.specs.declared.entry.Entry.TheVariants as step
-use Rattle.proof_log.specs.Logs.{Asserted, start, clause_in, clause_at, after, state_of}
+use Rattle.proof_log.specs.Logs.{start, clause_in, clause_at, after, state_of}
 use Rattle.proof_log.specs.Faults.{IsValid}
-use Rattle.proof_log.specs.Stored.{LogValue, Stands, IsPushed, selector_in, literal_of}
+use Rattle.proof_log.specs.Stored.{LogValue, Stands, IsPushed, selector_in}
 use Rattle.proof_log.proofs.Growing.{clause_more}
 use Rattle.proof_log.proofs.Ordered.{steps_length, log_is_ordered}
 use Rattle.proof_log.proofs.Standing.{stands_over, clauses_below}
 use Rattle.proof_log.proofs.Staying.{state_from-append}
 use Rattle.smt_session.specs.Growing.{AreSelectors}
 use Rattle.smt_session.specs.Searched.{IsOfLog, IsFound, AreLearnt, chain_step}
+use Rattle.smt_session.proofs.Printing.{take_all}
+use Rattle.smt_session.proofs.Staying.{some_literal}
 
 -- the first of the learnt clauses are added
 pub record Pushed (nodes : List Node) (old now : LogValue) (chains : List Chain) : Type 0 where
@@ -126,12 +127,6 @@ copy_pushed nodes old mid new chains k p d c hints e f lt h q =
     pushed_next nodes old mid new chains k p d lt h
     (subst (λ y. IsPushed nodes mid new (step.Chain (get_or chains k d).clause y) p) f (subst (λ x. IsPushed nodes mid new (step.Chain x hints) p) e q))
 
-take_all : {A : Type 0} (n : ℕ) (xs : List A) → length xs ≤ n → take n xs ≡ xs
-take_all zero [] h = refl
-take_all zero (x ∷ xs) h = absurd (omega arith)
-take_all (suc n) [] h = refl
-take_all (suc n) (x ∷ xs) h = ap (λ ys. x ∷ ys) (take_all n xs (omega arith))
-
 pub all_pushed : (nodes : List Node) (old new : LogValue) (chains : List Chain) (n : ℕ) → length chains ≤ n → Pushed nodes old new (take n chains) → Pushed nodes old new chains
 all_pushed nodes old new chains n le h = subst (Pushed nodes old new) (take_all n chains le) h
 
@@ -139,10 +134,6 @@ pub learnt_of : (log : LogValue) (given : List Literal) (found : Outcome) → Is
 learnt_of log given found f = record { held = f.held; of_log = f.of_log; derived = f.outcome.chains; below = f.outcome.below }
 
 -- ---- selectors
-
-pub some_literal : (o : Option Asserted) (l : Literal) → literal_of o ≡ Some l → (r : Asserted) × (o ≡ Some r) × (r.literal ≡ l)
-some_literal None l e = let q : ⊥ = cc in absurd q
-some_literal (Some r) l e = let q : r.literal ≡ l = cc in (r, refl, q)
 
 -- every selector is of a variable that there is
 pub selector_below : (nodes : List Node) (l : LogValue) (a : ℕ) (s : Literal) → IsTermList nodes → Stands nodes l → selector_in l.selectors a ≡ Some s → s.variable < l.next

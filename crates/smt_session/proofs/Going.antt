@@ -1,11 +1,11 @@
 -- A session goes on over the terms and the assertions that a command leaves.
-use Rattle.std.proofs.Common.{◌≡◌, ℕ, List, [], ◌∷◌, ◌++◌, refl, sym, subst, Some, Option}
+use Rattle.std.proofs.Common.{◌≡◌, ℕ, List, [], ◌∷◌, sym, subst, Some, Option}
 use Rattle.std.specs.Prelude.{slice_get}
 use Rattle.smt_syntax.specs.Sexps.{Sexps}
 use Rattle.script_state.specs.declared.answer.Answer.{Answer}
 use Rattle.script_state.specs.States.{StateValue, IsState}
 use Rattle.script_state.specs.Steps.{Step, step}
-use Rattle.script_state.proofs.Keeping.{Keeps, GoesOn, step_goes_on}
+use Rattle.script_state.proofs.Keeping.{GoesOn, step_goes_on}
 use Rattle.proof_log.specs.declared.entry.Entry.{Entry}
 use Rattle.proof_log.specs.declared.entry.Entry.TheVariants as entry
 use Rattle.proof_log.specs.Faults.{MakesNoTerm}
@@ -13,7 +13,7 @@ use Rattle.proof_log.specs.Stored.{LogValue, Stands}
 use Rattle.proof_log.proofs.Standing.{stands_longer}
 use Rattle.accepted_proof.specs.Turns.{IsOfScript}
 use Rattle.smt_session.specs.Growing.{AreStepsFor}
-use Rattle.smt_session.specs.Sessions.{SessionValue, IsSession}
+use Rattle.smt_session.specs.Sessions.{IsSession}
 
 more_for : (old new : StateValue) → ((a t : ℕ) → slice_get old.scopes.terms a ≡ Some t → slice_get new.scopes.terms a ≡ Some t) → (e : Entry) → MakesNoTerm e → IsOfScript old e → IsOfScript new e
 more_for old new more (entry.Node n) k i = absurd k

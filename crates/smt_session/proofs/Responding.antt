@@ -9,7 +9,7 @@ use Rattle.script_state.specs.declared.answer.Answer.{Answer}
 use Rattle.script_state.specs.declared.answer.Answer.TheVariants.{Done, Refused, Check}
 use Rattle.script_state.specs.declared.error_text.ErrorText.{ErrorText}
 use Rattle.script_state.specs.Readings.{ReadsAs}
-use Rattle.script_state.specs.States.{StateValue, IsState, concluded}
+use Rattle.script_state.specs.States.{StateValue, concluded}
 use Rattle.script_state.specs.Steps.{Step, step}
 use Rattle.script_state.proofs.Asserting.{standing_state}
 use Rattle.proof_log.specs.declared.entry.Entry.{Entry}
@@ -20,8 +20,7 @@ use Rattle.proof_text.specs.Records.{record_lines}
 use Rattle.accepted_proof.specs.Turns.{IsShown, HasProof, with_steps, concluded_by, verdict_of}
 use Rattle.accepted_proof.specs.Answers.{error_text, verdict_text, step_lines}
 use Rattle.smt_session.specs.declared.response.Response.{Response}
-use Rattle.smt_session.specs.Growing.{Grows}
-use Rattle.smt_session.specs.Sessions.{SessionValue, IsSession, IsChecked, Responds, IsAnswered, response}
+use Rattle.smt_session.specs.Sessions.{IsSession, IsChecked, Responds, IsAnswered, response}
 use Rattle.smt_session.proofs.Going.{more_steps}
 use Rattle.smt_session.proofs.Printing.{flat_map_append}
 use Rattle.smt_session.proofs.Staying.{grown_steps}

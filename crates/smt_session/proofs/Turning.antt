@@ -1,8 +1,8 @@
 -- The steps of a check are those of a turn, and its record is one that may end it.
-use Rattle.std.proofs.Common.{◌≡◌, ℕ, zero, suc, ◌+◌, ◌<◌, ◌≤◌, List, [], ◌∷◌, ◌++◌, length, get_or, drop, Option, Some, None, refl, sym, ap, ◌∙◌, subst, append_assoc, arith, length-append}
-use Rattle.std.specs.Prelude.{map, slice_get, Contains, All, IsSome, Bool, true}
+use Rattle.std.proofs.Common.{◌≡◌, ℕ, suc, List, [], ◌∷◌, ◌++◌, length, Option, Some, refl, sym, ap, ◌∙◌, subst, append_assoc, arith, length-append}
+use Rattle.std.specs.Prelude.{map, slice_get, Contains, IsSome, Bool, true}
 use Rattle.std.specs.List.{AllByRecursion}
-use Rattle.std.proofs.lemmas.List.Elements.{All-contains, All-from_recursion, All-head, All-tail, recursion_from_All}
+use Rattle.std.proofs.lemmas.List.Elements.{All-contains, All-from_recursion, recursion_from_All}
 use Rattle.cnf_base.specs.Literals.{Literal, negated}
 use Rattle.cnf_base.specs.Clauses.{lit_true}
 use Rattle.cnf_base.proofs.Codes.{negated-negated}
@@ -13,9 +13,9 @@ use Rattle.scope_selectors.specs.declared.live.Live.{Live}
 use Rattle.script_state.specs.States.{StateValue}
 use Rattle.proof_log.specs.declared.entry.Entry.{Entry}
 use Rattle.proof_log.specs.declared.entry.Entry.TheVariants as step
-use Rattle.proof_log.specs.Logs.{Asserted, LogState, start, clause_at, IsStep, after, state_of, AreSteps, IsLog}
+use Rattle.proof_log.specs.Logs.{Asserted, LogState, start, clause_at, IsStep, state_of, AreSteps, IsLog}
 use Rattle.proof_log.specs.Faults.{IsValid, MakesNoTerm}
-use Rattle.proof_log.specs.Stored.{LogValue, Stands, selector_in, literal_of}
+use Rattle.proof_log.specs.Stored.{LogValue, Stands, selector_in}
 use Rattle.proof_log.proofs.Ordered.{steps_length, log_is_ordered}
 use Rattle.proof_log.proofs.Standing.{stands_over}
 use Rattle.proof_log.proofs.Staying.{state_from-append, steps_parts}
@@ -26,14 +26,13 @@ use Rattle.plain_search.specs.declared.Verdict.TheVariants.{Refuted}
 use Rattle.plain_search.specs.Searches.{IsRefuted, IsVerdict}
 use Rattle.smt_values.specs.declared.value.Value.{Value}
 use Rattle.proof_text.specs.Records.{AreWritten}
-use Rattle.proof_text.specs.declared.record.Record.{Record}
 use Rattle.proof_text.specs.declared.record.Record.TheVariants.{Sat, Unsat}
 use Rattle.accepted_proof.specs.Models.{IsWrittenModel}
-use Rattle.accepted_proof.specs.Turns.{IsOfScript, AreStepsOf, with_step, with_steps, IsAgainst, IsRefutation}
+use Rattle.accepted_proof.specs.Turns.{AreStepsOf, with_step, with_steps, IsAgainst, IsRefutation}
 use Rattle.smt_session.specs.Growing.{IsStepFor, AreStepsFor, AreLined, Grows, AreSelectors}
 use Rattle.smt_session.specs.Searched.{IsFound, HasTrueSelector, chain_step}
 use Rattle.smt_session.specs.Sessions.{IsChecked}
-use Rattle.smt_session.proofs.Staying.{some_literal, selector_of, selector_stays, grows_more}
+use Rattle.smt_session.proofs.Staying.{some_literal, selector_of, selector_stays}
 use Rattle.smt_session.proofs.Chains.{found_last}
 
 -- ---- the steps
@@ -160,7 +159,3 @@ refuted_checked s old new given chains p before e h selectors refuted at = recor
 
 pub found_refuted : (log : LogValue) (given : List Literal) (found : Outcome) → IsFound log given found → found.verdict ≡ Refuted → IsRefuted given found.chains.items
 found_refuted log given found f e = subst (IsVerdict f.held given found.chains.items) e f.outcome.verdict
-
--- steps that lead from one log to another, and then a check
-pub checked_more : (s : StateValue) (old mid new : LogValue) (r : Record) → Grows s old mid → IsChecked s mid new r → IsChecked s old new r
-checked_more s old mid new r g c = record { grows = grows_more s old mid new g c.grows; shown = c.shown }

@@ -1,6 +1,6 @@
 -- The steps that give plain terms bits and assertions selectors are valid.
-use Rattle.std.proofs.Common.{◌≡◌, ℕ, ◌+◌, ◌<◌, ◌≤◌, Bool, true, false, List, [], ◌∷◌, ◌++◌, length, Option, Some, None, refl, sym, ap, ◌∙◌, subst, arith}
-use Rattle.std.specs.Prelude.{◌==◌, if◌then◌else◌, map, IsSome, All}
+use Rattle.std.proofs.Common.{◌≡◌, ℕ, ◌<◌, true, List, [], ◌∷◌, length, Option, Some, None, refl, sym, ap, ◌∙◌, subst, arith}
+use Rattle.std.specs.Prelude.{if◌then◌else◌, map, IsSome, All}
 use Rattle.std.specs.List.{AllByRecursion}
 use Rattle.std.proofs.lemmas.Bool.{eq-eqb}
 use Rattle.std.proofs.lemmas.List.Elements.{recursion_from_All}
@@ -21,9 +21,9 @@ use Rattle.script_state.specs.Plain.{is_plain, is_plain_op}
 use Rattle.script_state.specs.States.{StateValue, IsState}
 use Rattle.proof_log.specs.declared.entry.Entry.{Entry}
 use Rattle.proof_log.specs.declared.entry.Entry.TheVariants as step
-use Rattle.proof_log.specs.Logs.{Asserted, LogState, start, with_value, plain_width, constant_width, leaf_after, block_after, selector_after, state_of}
+use Rattle.proof_log.specs.Logs.{Asserted, start, with_value, plain_width, constant_width, leaf_after, block_after, selector_after, state_of}
 use Rattle.proof_log.specs.Faults.{IsValid}
-use Rattle.proof_log.specs.Stored.{LogValue, IsKept, Stands, IsPushed, selector_in, literal_of}
+use Rattle.proof_log.specs.Stored.{LogValue, Stands, IsPushed, selector_in, literal_of}
 use Rattle.proof_log.proofs.Settled.{stands_settled}
 use Rattle.proof_log.proofs.Standing.{stands_over}
 use Rattle.proof_log.proofs.Staying.{state_from-append}

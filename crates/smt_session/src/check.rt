@@ -106,11 +106,7 @@ pub(crate) struct Checked {
 }
 
 /// Checks the live assertions, and prints the lines of the check.
-pub(crate) fn run_check(
-    alloc: Global,
-    state: &State,
-    log: &mut Log,
-) -> Result<Checked, AllocError>
+pub(crate) fn run_check(alloc: Global, state: &State, log: &mut Log) -> Result<Checked, AllocError>
     requires { IsSession (record { state = state.now; log = log.old }) }
     ensures checked { IfOk result (λ c. IsChecked state.now log.old log.new c.shown) }
     ensures text { IfOk result (λ c. c.text ≡ flat_map line_text (step_lines (drop (length log.old.entries) log.new.entries)) ++ flat_map line_text (record_lines c.shown)) }

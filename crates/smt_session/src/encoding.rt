@@ -88,12 +88,7 @@ fn add_selector(
 }
 
 /// Gives an assertion a selector, unless it has one, and gives the selector.
-fn select(
-    alloc: Global,
-    state: &State,
-    log: &mut Log,
-    assertion: &Live,
-) -> Result<Lit, AllocError>
+fn select(alloc: Global, state: &State, log: &mut Log, assertion: &Live) -> Result<Lit, AllocError>
     requires asserted { IsAsserted state.now assertion.now }
     requires bits { HasBits log.old assertion.now.term }
     requires stands { Stands state.now.terms.nodes log.old }

@@ -1,6 +1,6 @@
-use Rattle.std.proofs.Common.{◌≡◌, ◌+◌, ◌<◌, false, length, get_or, sym, ap, ◌∙◌, subst, arith}
+use Rattle.std.proofs.Common.{◌≡◌, ◌+◌, ◌<◌, length, get_or, sym, ap, subst, arith}
 use Rattle.smt_terms.specs.Nodes.{node_at}
-use Rattle.smt_session.specs.Reaching.{is_marked, IsMarked}
+use Rattle.smt_session.specs.Reaching.{IsMarked}
 use Rattle.smt_session.proofs.Marking.{earlier_arguments}
 use Rattle.smt_session.proofs.Staying.{AreEncoded, still_none, encoded_more, encoded_same}
 use Rattle.smt_session.proofs.encoding.encode_all.Goals as goal
@@ -20,8 +20,8 @@ encode-requires-clause-arguments c = λ none k d lt.
 pub terms-preserved : goal.terms-preserved
 terms-preserved c =
     elim c.if-marks-term.branch [
-      then-marks-term+in_ok-encode w ↦ subst (λ l. AreEncoded c.args.state.now c.args.log.now l c.args.marks.now (c.terms.term + 1)) (sym w.log-is)
+      | then-marks-term+in_ok-encode w ↦ subst (λ l. AreEncoded c.args.state.now c.args.log.now l c.args.marks.now (c.terms.term + 1)) (sym w.log-is)
           (encoded_more c.args.state.now c.args.log.now c.terms.log w.encode.new.log c.args.marks.now c.terms.term c.terms.invariant w.in_ok-encode.ensures.grows w.in_ok-encode.ensures.bits)
-    | else-marks-term w ↦ subst (λ l. AreEncoded c.args.state.now c.args.log.now l c.args.marks.now (c.terms.term + 1)) (sym w.log-is)
+      | else-marks-term w ↦ subst (λ l. AreEncoded c.args.state.now c.args.log.now l c.args.marks.now (c.terms.term + 1)) (sym w.log-is)
           (encoded_same c.args.state.now c.args.log.now c.terms.log c.args.marks.now c.terms.term c.terms.invariant w.if-marks-term.false)
     ]

@@ -5,5 +5,5 @@ use Rattle.smt_session.proofs.encoding.select_all.Given as goal
 abbrev pub invariant-live : goal.invariant-live
 invariant-live l = record {
   grows : Grows l.state l.fn.log l.log;
-  chosen : AreSelectors l.log (take l.assertion-index l.live) l.given.items
+  chosen : AreSelectors l.log (take l.assertion-index l.live) l.given.items;
 }

@@ -12,5 +12,5 @@ invariant-terms l = record {
   within : l.term ≤ length l.terms.nodes;
   marks : AreMarks l.terms.nodes l.marks;
   asserted : All (λ (a : Live). IsMarked l.marks a.term) l.live;
-  closed : (t : ℕ) → l.term ≤ t → IsClosedAt l.terms.nodes l.log.bits l.marks t
+  closed : (t : ℕ) → l.term ≤ t → IsClosedAt l.terms.nodes l.log.bits l.marks t;
 }

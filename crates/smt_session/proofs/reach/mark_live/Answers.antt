@@ -1,4 +1,4 @@
-use Rattle.std.proofs.Common.{◌≡◌, suc, length, take, refl, subst, arith}
+use Rattle.std.proofs.Common.{suc, take, subst, arith}
 use Rattle.std.specs.Prelude.{All}
 use Rattle.std.proofs.lemmas.List.Elements.{All-more, All-weaker}
 use Rattle.scope_selectors.specs.declared.live.Live.{Live}
