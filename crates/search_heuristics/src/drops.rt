@@ -16,7 +16,7 @@ pub const fn drops_are_due(conflicts: u64, held: u64) -> bool {
     held > 3_000 + conflicts / 2_000 * 100
 }
 
-/// The places of the worse half of the row by glue, without those of glue 2 or less, or of at most two literals.
+/// The places of the worse half of the row by glue, rounded down, without those of glue 2 or less, or of at most two literals.
 pub fn worse_half(alloc: Global, row: &[Learnt]) -> Result<Vec<usize>, AllocError> {
     let mut ranks: Vec<u64> = Vec::new(alloc);
     for place in 0..row.len() {
@@ -26,7 +26,7 @@ pub fn worse_half(alloc: Global, row: &[Learnt]) -> Result<Vec<usize>, AllocErro
         }
     }
     ranks.sort_unstable();
-    let kept = ranks.len() / 2;
+    let kept = ranks.len() - ranks.len() / 2;
     let mut places = Vec::new(alloc);
     for rank in &ranks[kept..] {
         places.push((*rank % (1 << 32)) as usize)?;
