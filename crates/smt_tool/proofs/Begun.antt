@@ -1,7 +1,6 @@
 -- The end of a line stands at the end of an answer alone.
-use Rattle.std.proofs.Common.{◌≡◌, ◌≢◌, ℕ, zero, suc, cond, ◌/◌, ◌+◌, ◌<◌, ◌≤◌, ◌^◌, ◌%◌, Bool, true, false, not, List, [], ◌∷◌, ◌++◌, length, take, drop, codes, Option, Some, None, refl, sym, ap, ◌∙◌, subst, append_assoc, append-nil, arith, rules, tests, eqb, nat_lt, length-append, take-append-drop}
+use Rattle.std.proofs.Common.{◌≡◌, ℕ, zero, suc, cond, ◌/◌, ◌+◌, ◌<◌, ◌≤◌, ◌%◌, Bool, true, false, not, List, [], ◌∷◌, ◌++◌, length, take, drop, codes, Option, Some, None, refl, sym, ◌∙◌, append_assoc, arith, rules, tests, eqb, nat_lt, length-append, take-append-drop}
 use Rattle.std.specs.Prelude.{◌&&◌}
-use Rattle.std.specs.List.{list_all}
 use Rattle.std.specs.Fmt.{decimal}
 use Rattle.std.specs.Fmt.{digits, digits_onto, digit_glyph}
 use Rattle.std.proofs.lemmas.List.{take-append-le}
@@ -13,8 +12,7 @@ use Rattle.script_state.specs.declared.error_text.ErrorText.TheVariants.{Unfinis
 use Rattle.script_state.specs.ErrorTexts.{text_of}
 use Rattle.proof_text.specs.declared.record.Record.{Record}
 use Rattle.proof_text.specs.declared.record.Record.TheVariants.{Sat, Unsat}
-use Rattle.accepted_proof.specs.Turns.{Turn}
-use Rattle.accepted_proof.specs.Answers.{answer_text, turn_text, error_text}
+use Rattle.accepted_proof.specs.Answers.{answer_text, error_text}
 use Rattle.accepted_proof.specs.Accepted.{without_end}
 
 append_without : (xs ys : List ℕ) → without_end xs → without_end ys → without_end (xs ++ ys)

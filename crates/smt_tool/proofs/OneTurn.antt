@@ -1,19 +1,16 @@
 -- One command and its answer.
-use Rattle.std.proofs.Common.{◌≡◌, ℕ, ◌<◌, ◌^◌, Bool, false, List, [], ◌∷◌, ◌++◌, length, take, drop, Option, refl, sym, ap, ◌∙◌, subst, append-nil, inl, inr, take-append-drop}
+use Rattle.std.proofs.Common.{◌≡◌, ℕ, ◌<◌, List, [], ◌∷◌, length, take, drop, Option, refl, sym, ap, ◌∙◌, subst, append-nil, inl, inr, take-append-drop}
 use Rattle.std.specs.Prelude.{◌||◌}
 use Rattle.std.specs.List.{flat_map}
-use Rattle.std.proofs.lemmas.List.Concat.{flat_map-cons}
 use Rattle.std.specs.Io.KnownBytes.{Appends}
 use Rattle.std.proofs.KnownBytes.{Appends-nil}
 use Rattle.smt_text.specs.declared.chunk.Chunk.{Chunk}
 use Rattle.proof_text.specs.Lines.{line_text}
-use Rattle.accepted_proof.specs.Turns.{Turn}
 use Rattle.accepted_proof.specs.Answers.{answers_of, turn_text, turn_lines, is_refused}
-use Rattle.accepted_proof.specs.Accepted.{has_error, without_end}
 use Rattle.smt_session.specs.declared.response.Response.{Response}
 use Rattle.smt_session.specs.Sessions.{SessionValue, IsAnswered}
 use Rattle.smt_tool.specs.declared.answering.Answered.{Answered}
-use Rattle.smt_tool.specs.Adding.{Moment, moment_of, after, Follow, Streams, streams, lines_of, Adds, Advances, Breaks, BreaksAt}
+use Rattle.smt_tool.specs.Adding.{Moment, moment_of, Follow, streams, lines_of, Advances, BreaksAt}
 use Rattle.smt_tool.proofs.Turning.{Follow-none, or_false}
 use Rattle.smt_tool.proofs.Begun.{answer_front}
 

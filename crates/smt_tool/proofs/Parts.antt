@@ -1,12 +1,11 @@
 -- One part of a run after another.
-use Rattle.std.proofs.Common.{◌≡◌, ℕ, ◌+◌, ◌-◌, ◌^◌, ◌≤◌, List, [], ◌++◌, length, Option, Some, None, refl, sym, ap, ◌∙◌, subst, inl, inr, arith, ◌⊎◌, ⊎_elim, length-append}
-use Rattle.std.specs.Prelude.{Result, Ok, Err}
-use Rattle.std.specs.Io.KnownBytes.{Appends, Consumes}
+use Rattle.std.proofs.Common.{◌≡◌, ℕ, ◌+◌, ◌≤◌, List, [], ◌++◌, length, Option, refl, ap, ◌∙◌, inl, inr, arith, ⊎_elim, length-append}
+use Rattle.std.specs.Io.KnownBytes.{Appends}
 use Rattle.std.proofs.KnownBytes.{Appends-nil, Appends-trans, Consumes-nil, Consumes-trans}
 use Rattle.smt_desk.specs.Faults.{Rose}
 use Rattle.smt_tool.specs.declared.status.Status.{Status}
 use Rattle.smt_tool.specs.declared.status.Status.TheVariants.{Done, Refused, Usage, ReadFault, WriteFault, NoMemory, TooLong}
-use Rattle.smt_tool.specs.Runs.{AddsTo, BeginsWith, ReadsBytes, Counts, IsLater, HasCause, StopsWriting, input_limit, ReadsWithin}
+use Rattle.smt_tool.specs.Runs.{AddsTo, BeginsWith, ReadsBytes, Counts, IsLater, HasCause}
 
 pub adds_none : (a : Option (List ℕ)) → AddsTo a a
 adds_none a = ([], Appends-nil a)

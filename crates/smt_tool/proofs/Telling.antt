@@ -1,5 +1,5 @@
 -- What was added, where bytes are told.
-use Rattle.std.proofs.Common.{◌≡◌, ◌⊎◌, ℕ, Bool, false, List, [], ◌∷◌, ◌++◌, Option, Some, None, refl, sym, ap, ◌∙◌, subst, append_assoc, append-nil, inl, inr, ⊎_elim}
+use Rattle.std.proofs.Common.{◌≡◌, ℕ, Bool, false, List, [], ◌++◌, Option, Some, None, refl, sym, ap, ◌∙◌, subst, append_assoc, append-nil, inl, inr, ⊎_elim}
 use Rattle.std.specs.Prelude.{◌||◌, Result, Ok, Err, IfOk, IfErr, MatchResult, IfSome, if◌then◌else◌, option_to_list}
 use Rattle.std.specs.Io.KnownBytes.{Appends, Consumes, IsAtEnd}
 use Rattle.std.proofs.lemmas.Grind.{flat_map-append}
@@ -12,13 +12,13 @@ use Rattle.script_state.specs.States.{no_state}
 use Rattle.accepted_proof.specs.Turns.{Turn, AreTurns}
 use Rattle.accepted_proof.specs.Right.{AreRight}
 use Rattle.accepted_proof.specs.Answers.{answers_of, turn_text, is_refused, header_text, proof_of}
-use Rattle.accepted_proof.specs.Accepted.{StandsBeside, IsWhole, IsFront, has_error}
+use Rattle.accepted_proof.specs.Accepted.{IsFront, has_error}
 use Rattle.smt_tool.specs.declared.status.Status.{Status}
 use Rattle.smt_tool.specs.declared.status.Status.TheVariants.{Done, Refused}
 use Rattle.smt_tool.specs.declared.answering.Answered.{Answered}
-use Rattle.smt_tool.specs.Adding.{Moment, moment_of, opening, after, Streams, streams, lines_of, Adds, Advances, Breaks, BreaksAt, BreaksWithin, AddsLast, AnswersAll, AnswersFront}
-use Rattle.smt_tool.specs.Beside.{Told, IsUnbegun, IsBesideProof, IsBeside, IsAllAnswered, IsPrefix}
-use Rattle.smt_tool.proofs.Turning.{Follow-none, Follow-append, Adds-trans, Advances-breaks}
+use Rattle.smt_tool.specs.Adding.{moment_of, opening, Streams, streams, lines_of, Advances, Breaks, BreaksAt, BreaksWithin, AddsLast, AnswersAll, AnswersFront}
+use Rattle.smt_tool.specs.Beside.{Told, IsBesideProof, IsBeside, IsAllAnswered, IsPrefix}
+use Rattle.smt_tool.proofs.Turning.{Follow-append, Adds-trans, Advances-breaks}
 
 -- what answers to turns that follow one another are
 abbrev pub RightLaw : Type 0

@@ -1,7 +1,7 @@
 -- Turns after turns.
-use Rattle.std.proofs.Common.{◌≡◌, ℕ, Bool, true, false, List, [], ◌∷◌, ◌++◌, Option, Some, None, refl, sym, ap, ◌∙◌, subst, append_assoc, append-nil, inl, inr, ◌⊎◌, ⊎_elim}
+use Rattle.std.proofs.Common.{◌≡◌, ℕ, Bool, true, false, List, [], ◌∷◌, ◌++◌, Option, Some, None, refl, sym, ap, ◌∙◌, subst, append_assoc, append-nil, ⊎_elim}
 use Rattle.std.specs.Prelude.{◌||◌, Result, Ok, Err, IfOk, IfErr, option_to_list}
-use Rattle.std.specs.List.{flat_map, list_any}
+use Rattle.std.specs.List.{flat_map}
 use Rattle.std.proofs.lemmas.Grind.{flat_map-append}
 use Rattle.std.proofs.lemmas.List.Folds.{list_any-append}
 use Rattle.std.specs.Io.KnownBytes.{Appends}
@@ -13,10 +13,10 @@ use Rattle.smt_text.proofs.Cuts.{Begins-push, Begins-append}
 use Rattle.proof_text.specs.Lines.{line_text}
 use Rattle.accepted_proof.specs.Turns.{Turn, AreTurns, state_after}
 use Rattle.accepted_proof.specs.Answers.{answers_of, turn_text, turn_lines, is_refused}
-use Rattle.accepted_proof.specs.Accepted.{AreRead, has_error, without_end}
+use Rattle.accepted_proof.specs.Accepted.{AreRead, has_error}
 use Rattle.smt_tool.specs.declared.status.Status.{Status}
 use Rattle.smt_tool.specs.declared.answering.Answered.{Answered}
-use Rattle.smt_tool.specs.Adding.{Moment, moment_of, after, Follow, Streams, lines_of, Adds, Advances, Breaks, BreaksAt, AdvancesWithin, BreaksWithin, IsFrontOf, AddsLast, with_piece}
+use Rattle.smt_tool.specs.Adding.{Moment, moment_of, after, Follow, Streams, lines_of, Adds, Advances, Breaks, BreaksAt, AdvancesWithin, BreaksWithin, AddsLast, with_piece}
 
 pub after-append : (m : Moment) (ts us : List Turn) → after m (ts ++ us) ≡ after (after m ts) us
 after-append m [] us = refl

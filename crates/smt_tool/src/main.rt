@@ -1,4 +1,4 @@
-//! Answers scripts of SMT-LIB 2.6 over words, and writes the proof of each answer.
+//! Answers scripts of SMT-LIB 2.6 over truth values and words, and writes the proof of each answer.
 //!
 //! `plan` reads the words, `run` does what they ask for over any source and any sinks, and `main` hands it standard
 //! input, standard output and the proof file. The contract of `run` says that whatever was answered stands beside an
