@@ -7,7 +7,7 @@ use Rattle.scope_selectors.specs.declared.live.Live.{Live}
 use Rattle.smt_build.specs.Building.{Grows}
 use Rattle.smt_build.proofs.Growth.{grows_none, made_grows}
 use Rattle.script_state.specs.States.{StateValue, IsState}
-use Rattle.script_state.proofs.Held.{list_made}
+use Rattle.smt_build.proofs.Longer.{list_made}
 use Rattle.script_state.proofs.Asserting.{grown_state, standing_state}
 use Rattle.script_state.proofs.Keeping.{step_state}
 use Rattle.proof_log.specs.declared.entry.Entry.{Entry}
