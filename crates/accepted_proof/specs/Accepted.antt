@@ -1,4 +1,4 @@
--- Proofs of scripts, and what stands beside answers.
+-- Proofs of scripts (a script is a sequence of commands: SMT-LIB 2.6, section 3.9), and what stands beside answers.
 use Rattle.std.specs.Prelude.{◌≡◌, ◌⊎◌, ℕ, ◌==◌, Bool, true, not, List, [], ◌∷◌, ◌++◌, map, Option}
 use Rattle.std.specs.List.{list_all, list_any}
 use Rattle.smt_text.specs.declared.chunk.Chunk.{Chunk}

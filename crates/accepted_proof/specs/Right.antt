@@ -1,4 +1,4 @@
--- What answers say, without a word of how they were found.
+-- What answers say (SMT-LIB 2.6, section 4.2.5), without a word of how they were found.
 use Rattle.std.specs.Prelude.{List, [], ◌∷◌, Option, Some, None}
 use Rattle.script_state.specs.States.{StateValue}
 use Rattle.script_state.specs.Steps.{step}

@@ -1,4 +1,6 @@
--- A command with its answer, and for a check the steps and the record that stand in the proof.
+-- A command with its answer (SMT-LIB 2.6, sections 4.1.1 and 4.2), and for a check the steps and the record that stand in
+-- the proof. A step adds what later ones may name; chains are those of LRAT (Cruz-Filipe, Heule, Hunt, Kaufmann and
+-- Schneider-Kamp 2017) without deletions.
 use Rattle.std.specs.Prelude.{◌≡◌, ℕ, List, [], ◌∷◌, ◌++◌, slice_get, Contains, Option, Some, None, IsSome}
 use Rattle.std.specs.List.{AllByRecursion}
 use Rattle.cnf_base.specs.Literals.{Literal, negated}
