@@ -5,7 +5,8 @@ usage: words.py [PROGRAM] [COUNT] [SEED]    (default: the program that `rt run` 
 
 Each script declares two words of one width from 1 to 6 and a Bool, and asserts one to three random terms over all
 operators of Core, of FixedSizeBitVectors and of QF_BV (SMT-LIB 2.6). The meanings below are written from the standard
-and share nothing with the solver. Where the answer is `sat` the model in the proof file must make the assertions true.
+and share nothing with the solver. Where the answer is `sat` the model in the proof file must make the assertions true,
+and the replayer of tests/rows must accept each proof file.
 """
 import pathlib
 import random
@@ -13,7 +14,10 @@ import subprocess
 import sys
 import tempfile
 
-PROGRAM = pathlib.Path(__file__).resolve().parents[2] / "crates/smt_tool/out/smt_tool"
+HERE = pathlib.Path(__file__).resolve().parent
+PROGRAM = HERE.parents[1] / "crates/smt_tool/out/smt_tool"
+sys.path.insert(0, str(HERE.parent / "rows"))
+import reference
 
 
 def signed(n, x):
@@ -205,6 +209,15 @@ def model_of(proof):
     return held
 
 
+def accepted(script, proof, verdict):
+    """Whether the replayer accepts the proof file, with this verdict alone; it says why where it does not."""
+    try:
+        return reference.check(script, proof.read_text()) == [verdict]
+    except reference.Refused as why:
+        print(why)
+        return False
+
+
 def wrong(program, source, folder):
     width = source.randint(1, 6)
     maker = Maker(source, width)
@@ -220,6 +233,8 @@ def wrong(program, source, folder):
         return "answered %r for %r\n%s" % (ran.stdout, wanted, script)
     if wanted == "sat\n" and not all(f(model_of(proof)) for _, f in terms):
         return "the model is none\n%s" % script
+    if not accepted(script, proof, wanted.strip()):
+        return "the proof is refused\n%s" % script
     return None
 
 

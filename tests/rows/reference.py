@@ -3,174 +3,47 @@
 
 usage: reference.py SCRIPT PROOF
 
-Reads a script of words (declare-const, assert, check-sat; =, bvadd, bvand, bvnot; #b and #x literals) and the proof
-file that the solver wrote for it, and replays every line by the rules of the format. Prints the verdict of each record
-and `accepted N`, or `refused line L: why`. It shares no code with the solver or its checker.
+Reads a script over Bools and words (declare-const, assert, check-sat, with all operators of Core and of words) and the
+proof file that the solver wrote for it, and replays every line by the rules of the format. Prints the verdict of each
+record and `accepted N`, or `refused line L: why`. It shares no code with the solver or its checker. terms.py reads the
+script and has the values of terms, circuits.py has the gates of each operator.
 """
-import re
+import collections
 import sys
 
-
-class Refused(Exception):
-    pass
-
-
-def need(holds, why):
-    if not holds:
-        raise Refused(why)
-
-
-# ---- the script
-
-TOKEN = re.compile(r'\s+|;[^\n]*|(\(|\)|"(?:[^"]|"")*"|\|[^|\\]*\||[^\s()";|]+)')
-DECIMAL = re.compile(r"0|[1-9][0-9]*")
-
-
-def expressions(text):
-    stack = [[]]
-    for token in (m.group(1) for m in TOKEN.finditer(text)):
-        if token is None:
-            continue
-        if token == "(":
-            stack.append([])
-        elif token == ")":
-            need(len(stack) > 1, "script")
-            done = stack.pop()
-            stack[-1].append(done)
-        else:
-            stack[-1].append(token[1:-1] if token.startswith("|") else token)
-    return stack[0]
-
-
-class Terms:
-    """Different nodes, each numbered by its place: (operator, numbers, arguments)."""
-
-    def __init__(self):
-        self.nodes, self.sorts, self.number = [], [], {}
-
-    def make(self, op, numbers, args):
-        key = (op, tuple(numbers), tuple(args))
-        if key not in self.number:
-            self.number[key] = len(self.nodes)
-            self.nodes.append(key)
-            self.sorts.append(self.rank(op, numbers, [self.sorts[a] for a in args]))
-        return self.number[key]
-
-    @staticmethod
-    def rank(op, numbers, sorts):
-        if op in ("const", "word"):
-            return numbers[1] if op == "const" else numbers[0]
-        if op == "=":
-            need(len(sorts) == 2 and sorts[0] == sorts[1], "rank of =")
-            return 0  # 0 stands for Bool
-        if op == "bvnot":
-            need(len(sorts) == 1 and sorts[0] > 0, "rank of bvnot")
-            return sorts[0]
-        need(op in ("bvadd", "bvand") and len(sorts) == 2 and sorts[0] == sorts[1] > 0, "rank of " + op)
-        return sorts[0]
-
-
-class Script:
-    """The commands, one at a time. A command out of the profile is skipped, as the session does."""
-
-    def __init__(self, text):
-        self.commands = expressions(text)
-        self.terms, self.names, self.widths, self.asserted = Terms(), {}, [], []
-
-    def term(self, e):
-        if isinstance(e, str):
-            if e.startswith("#x"):
-                return self.terms.make("word", (4 * len(e[2:]), int(e[2:], 16)), ())
-            if e.startswith("#b"):
-                return self.terms.make("word", (len(e[2:]), int(e[2:], 2)), ())
-            need(e in self.names, "unknown symbol " + e)
-            d = self.names[e]
-            return self.terms.make("const", (d, self.widths[d]), ())
-        need(e and e[0] in ("=", "bvadd", "bvand", "bvnot"), "operator")
-        return self.terms.make(e[0], (), [self.term(a) for a in e[1:]])
-
-    def checks(self):
-        """Runs the commands, and yields at each check."""
-        for c in self.commands:
-            match c:
-                case ["declare-const", str(name), ["_", "BitVec", width]]:
-                    self.names[name] = len(self.widths)
-                    self.widths.append(int(width))
-                case ["assert", e]:
-                    held = len(self.terms.nodes)
-                    try:
-                        t = self.term(e)
-                        need(self.terms.sorts[t] == 0, "assert of a word")
-                        self.asserted.append(t)
-                    except Refused:
-                        self.cut(held)
-                case ["check-sat"]:
-                    yield
-
-    def cut(self, held):
-        for key in self.terms.nodes[held:]:
-            del self.terms.number[key]
-        del self.terms.nodes[held:], self.terms.sorts[held:]
+from circuits import CIRCUITS, Circuit
+from terms import BOOL, NUMERAL, Refused, Script, need
 
 
 # ---- the log
 
 class Log:
+    """The clauses of each entry, the bits of terms and the selectors of assertions."""
+
     def __init__(self, script):
         self.script, self.terms = script, script.terms
         self.next, self.bits, self.selectors = 2, {}, {}
         self.rows = [[[1]]]
 
-    def gate(self, clauses, shape):
-        g = self.next
-        self.next += 1
-        kind, *i = shape
-        if kind == "and":
-            a, b = i
-            clauses += [[-g, a], [-g, b], [g, -a, -b]]
-        elif kind == "xor":
-            a, b = i
-            clauses += [[-g, a, b], [-g, -a, -b], [g, -a, b], [g, a, -b]]
-        else:
-            c, a, b = i
-            clauses += [[-g, -c, a], [g, -c, -a], [-g, c, b], [g, c, -b]]
-        return g
-
-    def circuit(self, clauses, op, numbers, args):
-        if op == "word":
-            return [1 if numbers[1] >> k & 1 else -1 for k in range(numbers[0])]
-        if op == "bvnot":
-            return [-l for l in args[0]]
-        if op == "bvand":
-            return [self.gate(clauses, ("and", a, b)) for a, b in zip(*args)]
-        if op == "bvadd":
-            out, c = [], -1
-            for a, b in zip(*args):
-                x = self.gate(clauses, ("xor", a, b))
-                out.append(self.gate(clauses, ("xor", x, c)))
-                c = self.gate(clauses, ("ite", x, c, a))
-            return out
-        e = 1
-        for a, b in zip(*args):
-            x = self.gate(clauses, ("xor", a, b))
-            e = self.gate(clauses, ("and", e, -x))
-        return [e]
+    def node(self, t):
+        need(t < len(self.terms.nodes) and t not in self.bits, "no such term, or it has bits")
+        return self.terms.nodes[t]
 
     def leaf(self, t):
-        need(t < len(self.terms.nodes) and t not in self.bits, "f: no such term, or it has bits")
-        op, numbers, _ = self.terms.nodes[t]
+        op, _, _ = self.node(t)
         need(op == "const", "f: no constant")
-        self.bits[t] = list(range(self.next, self.next + numbers[1]))
-        self.next += numbers[1]
+        width = 1 if self.terms.sorts[t] == BOOL else self.terms.sorts[t]
+        self.bits[t] = list(range(self.next, self.next + width))
+        self.next += width
         self.rows.append([])
 
     def encode(self, t):
-        need(t < len(self.terms.nodes) and t not in self.bits, "e: no such term, or it has bits")
-        op, numbers, args = self.terms.nodes[t]
-        need(op != "const" and all(a in self.bits for a in args), "e: arguments without bits")
-        clauses = []
-        self.bits[t] = self.circuit(clauses, op, numbers, [self.bits[a] for a in args])
-        self.rows.append(clauses)
+        op, numbers, args = self.node(t)
+        need(op in CIRCUITS and all(a in self.bits for a in args), "e: no circuit, or arguments without bits")
+        circuit = Circuit(self.next)
+        self.bits[t] = CIRCUITS[op](circuit, *numbers, *(self.bits[a] for a in args))
+        self.next = circuit.next
+        self.rows.append(circuit.clauses)
 
     def selector(self, a):
         need(a < len(self.script.asserted), "s: no such assertion")
@@ -180,8 +53,7 @@ class Log:
         self.rows.append([[-self.next, self.bits[t][0]]])
         self.next += 1
 
-    def clause(self, name):
-        pos, part = name
+    def clause(self, pos, part):
         need(pos < len(self.rows) and part < len(self.rows[pos]), "no such clause")
         return self.rows[pos][part]
 
@@ -193,7 +65,7 @@ class Log:
             need(hints, "c: no hint")
             true = {-l for l in clause}
             for k, h in enumerate(hints):
-                still_open = {l for l in self.clause(h) if -l not in true}
+                still_open = {l for l in self.clause(*h) if -l not in true}
                 if k + 1 == len(hints):
                     need(not still_open, "c: the last hint is not false")
                 else:
@@ -202,72 +74,86 @@ class Log:
         self.rows.append([clause])
 
 
-def value(terms, model, t):
-    op, numbers, args = terms.nodes[t]
-    v = [value(terms, model, a) for a in args]
-    mask = (1 << (terms.sorts[t] or 1)) - 1
-    return {"const": lambda: model.get(numbers[0], 0) if numbers else 0, "word": lambda: numbers[1],
-            "=": lambda: int(v[0] == v[1]), "bvnot": lambda: mask - v[0], "bvadd": lambda: v[0] + v[1] & mask,
-            "bvand": lambda: v[0] & v[1]}[op]()
-
-
 # ---- the proof
 
-def numbers_of(words):
-    for w in words:
-        need(DECIMAL.fullmatch(w.removeprefix("-")), "line: no number")
+def numbers_of(words, count):
+    need(len(words) == count and all(NUMERAL.fullmatch(w) for w in words), "line: other numbers are due")
     return [int(w) for w in words]
 
 
+def literals_of(words):
+    numbers_of([w.removeprefix("-") for w in words], len(words))
+    return [int(w) for w in words]
+
+
+def step(log, kind, words):
+    """A line that adds to the log."""
+    if kind == "c":
+        need("0" in words, "line: a clause without an end")
+        end = words.index("0")
+        log.chain(literals_of(words[:end]), [numbers_of(w.split("."), 2) for w in words[end + 1:]])
+    else:
+        steps = {"f": log.leaf, "e": log.encode, "s": log.selector}
+        need(kind in steps, "line: unknown kind")
+        steps[kind](*numbers_of(words, 1))
+
+
+def record(log, kind, words, lines):
+    (n,) = numbers_of(words, 1)
+    if kind == "sat":
+        sat_record(log.script, n, lines)
+    else:
+        need(all(l < 0 and -l in log.selectors for l in log.clause(n, 0)), "unsat: another literal")
+
+
+def value_of(word, sort):
+    if sort == BOOL:
+        need(word in ("true", "false"), "sat: no truth value")
+        return int(word == "true")
+    need(word.startswith("#b") and len(word) == sort + 2 and set(word[2:]) <= {"0", "1"}, "sat: no word of its width")
+    return int(word[2:], 2)
+
+
 def sat_record(script, count, lines):
-    need(count == len(script.widths), "sat: not every declaration")
-    model = {}
-    for d in range(count):
+    need(count == len(script.sorts), "sat: not every declaration")
+    model = []
+    for d, sort in enumerate(script.sorts):
         need(lines, "end")
-        n, line = lines.pop(0)
-        got = re.fullmatch(r"v (0|[1-9][0-9]*) #b([01]+)", line)
-        need(got and int(got[1]) == d and len(got[2]) == script.widths[d], "sat: a value, line %d" % n)
-        model[d] = int(got[2], 2)
-    need(all(value(script.terms, model, t) == 1 for t in script.asserted), "sat: an assertion is false")
+        n, line = lines.popleft()
+        beginning = "v %d " % d
+        need(line.startswith(beginning), "sat: another value is due, line %d" % n)
+        model.append(value_of(line.removeprefix(beginning), sort))
+    values = script.terms.values(model)
+    need(all(values[t] == 1 for t in script.asserted), "sat: an assertion is false")
 
 
 def check(script_text, proof):
+    """The verdicts of a proof's records, where it is accepted."""
     need(proof.endswith("\n"), "an unfinished line")
-    lines = list(enumerate(proof[:-1].split("\n"), 1))
-    need(lines.pop(0)[1] == "smt_proof 1 cubes 0 budget 100000", "header")
+    lines = collections.deque(enumerate(proof[:-1].split("\n"), 1))
+    need(lines.popleft()[1] == "smt_proof 1 cubes 0 budget 100000", "header")
     script = Script(script_text)
     log, verdicts = Log(script), []
     for _ in script.checks():
-        while True:
+        kind = None
+        while kind not in ("sat", "unsat"):
             need(lines, "end")
-            n, line = lines.pop(0)
+            n, line = lines.popleft()
+            kind, *words = line.split(" ")
             try:
-                kind, *words = line.split(" ")
-                if kind in ("f", "e", "s"):
-                    (number,) = numbers_of(words)
-                    {"f": log.leaf, "e": log.encode, "s": log.selector}[kind](number)
-                elif kind == "c":
-                    end = words.index("0")
-                    log.chain(numbers_of(words[:end]), [tuple(numbers_of(w.split("."))) for w in words[end + 1:]])
-                elif kind == "sat":
-                    sat_record(script, *numbers_of(words), lines)
-                    verdicts.append("sat")
-                    break
-                elif kind == "unsat":
-                    (p,) = numbers_of(words)
-                    need(all(l < 0 and -l in log.selectors for l in log.clause((p, 0))), "unsat: another literal")
-                    verdicts.append("unsat")
-                    break
+                if kind in ("sat", "unsat"):
+                    record(log, kind, words, lines)
                 else:
-                    need(False, "line: unknown kind")
+                    step(log, kind, words)
             except Refused as why:
                 raise Refused("line %d: %s" % (n, why)) from why
+        verdicts.append(kind)
     need(not lines, "text after the last record")
     return verdicts
 
 
 def main():
-    script, proof = (open(p, encoding="latin-1").read() for p in sys.argv[1:3])
+    script, proof = (open(p, encoding="latin-1", newline="").read() for p in sys.argv[1:3])
     try:
         verdicts = check(script, proof)
     except Refused as why:

@@ -1,0 +1,322 @@
+"""Scripts as the replayer reads them: tokens, commands, the term list and the values of terms.
+
+Read are `declare-const` of Bools and words, `assert` and `check-sat`, with all operators of Core and of words. Any
+other chunk, and any with a fault, leaves everything as it was.
+"""
+import functools
+import itertools
+import re
+import sys
+
+sys.setrecursionlimit(100000)
+sys.set_int_max_str_digits(0)
+
+
+class Refused(Exception):
+    pass
+
+
+def need(holds, why):
+    if not holds:
+        raise Refused(why)
+
+
+# ---- chunks and tokens
+
+OUTSIDE = re.compile(r"[ \t\r\n]+|;[^\n]*|\)|[^ \t\r\n();]+")
+INSIDE = re.compile(r'[ \t\r\n]+|;[^\n]*|(\(|\)|"(?:[^"]|"")*"(?!")|\|[^|]*\||[^ \t\r\n()";|]+)')
+NUMERAL = re.compile(r"0|[1-9][0-9]*")
+SYMBOL = re.compile(r"(?![0-9])[a-zA-Z0-9~!@$%^&*_+=<>.?/-]+")
+QUOTED = re.compile(r"\|[^|\\]*\|")
+OTHER = re.compile(r'(?:0|[1-9][0-9]*)\.[0-9]+|#x[0-9a-fA-F]+|#b[01]+|:[a-zA-Z0-9~!@$%^&*_+=<>.?/-]+|"(?:[^"]|"")*"')
+RESERVED = set("""
+    ! _ as BINARY DECIMAL exists HEXADECIMAL forall let match NUMERAL par STRING
+    set-logic set-option get-option set-info get-info declare-const declare-fun define-fun define-sort assert push pop
+    check-sat check-sat-assuming get-model get-value get-unsat-core get-unsat-assumptions echo reset reset-assertions
+    exit get-assertions get-assignment get-proof declare-sort define-fun-rec define-funs-rec declare-datatype
+    declare-datatypes
+""".split())
+
+
+def token(text):
+    """A token by one spelling. A quoted symbol keeps its bars where without them it would be another token."""
+    need(any(form.fullmatch(text) for form in (NUMERAL, SYMBOL, QUOTED, OTHER)), "bad token")
+    plain = text[1:-1]
+    return plain if QUOTED.fullmatch(text) and SYMBOL.fullmatch(plain) and plain not in RESERVED else text
+
+
+def chunks(text):
+    """The balanced chunks, each a list of pieces; other text is passed over."""
+    at = 0
+    while at < len(text):
+        if text[at] != "(":
+            at = OUTSIDE.match(text, at).end()
+            continue
+        depth, pieces = 0, []
+        while not pieces or depth:
+            found = INSIDE.match(text, at)
+            if not found:
+                return
+            at = found.end()
+            if found[1]:
+                depth += {"(": 1, ")": -1}.get(found[1], 0)
+                pieces.append(found[1])
+        yield pieces
+
+
+def expression(pieces):
+    """The nested lists that the pieces of a balanced chunk spell."""
+    stack = [[]]
+    for piece in pieces:
+        if piece == "(":
+            stack.append([])
+        elif piece == ")":
+            done = stack.pop()
+            stack[-1].append(done)
+        else:
+            stack[-1].append(token(piece))
+    return stack[0][0]
+
+
+# ---- operators: sorts
+
+BOOL = 0  # as a sort; a word's sort is its width
+BINARY = "bvadd bvsub bvmul bvand bvor bvxor bvnand bvnor bvxnor bvudiv bvurem bvsdiv bvsrem bvsmod bvshl bvlshr bvashr"
+ORDERS = "bvult bvule bvugt bvuge bvslt bvsle bvsgt bvsge"
+
+# from a name's numbers and the sorts of its arguments to the sort of its result, None where it does not take them
+SORTS = {name: sort for names, sort in {
+    "true false": lambda: BOOL,
+    "not": lambda p: BOOL if p == BOOL else None,
+    "and or xor =>": lambda p, q: BOOL if p == q == BOOL else None,
+    "ite": lambda p, a, b: a if p == BOOL and a == b else None,
+    "=": lambda a, b: BOOL if a == b else None,
+    "bvnot bvneg": lambda a: a or None,
+    BINARY: lambda a, b: a if a == b != BOOL else None,
+    ORDERS: lambda a, b: BOOL if a == b != BOOL else None,
+    "bvcomp": lambda a, b: 1 if a == b != BOOL else None,
+    "concat": lambda a, b: a + b if BOOL not in (a, b) else None,
+    "extract": lambda i, j, a: i - j + 1 if a > i >= j else None,
+    "zero_extend sign_extend": lambda i, a: a + i if a != BOOL else None,
+    "rotate_left rotate_right": lambda i, a: a or None,
+    "repeat": lambda i, a: a * i or None,
+}.items() for name in names.split()}
+NUMBERS = {"extract": 2, "zero_extend": 1, "sign_extend": 1, "rotate_left": 1, "rotate_right": 1, "repeat": 1}
+GROUPED = set("and or xor bvand bvor bvxor bvadd bvmul concat => = distinct".split())
+TAKEN = RESERVED | set(SORTS) | {"distinct", "select", "store"}
+
+
+def sort_of(op, numbers, sorts):
+    need(op in SORTS and len(numbers) == NUMBERS.get(op, 0), "no operator " + op)
+    need(len(numbers) + len(sorts) == SORTS[op].__code__.co_argcount, "number of arguments of " + op)
+    sort = SORTS[op](*numbers, *sorts)
+    need(sort is not None and 0 <= sort <= 128, "sorts of arguments, or width, of " + op)
+    return sort
+
+
+# ---- operators: values (a truth value is 0 or 1)
+
+def signed(n, a):
+    return a - (1 << n) if a >> n - 1 else a
+
+
+def quotient(n, a, b):
+    return a // b if b else (1 << n) - 1
+
+
+def remainder(n, a, b):
+    return a % b if b else a
+
+
+def signed_quotient(n, a, b):
+    q = quotient(n, abs(signed(n, a)), abs(signed(n, b)))
+    return q if a >> n - 1 == b >> n - 1 else -q
+
+
+def signed_remainder(n, a, b):
+    u = remainder(n, abs(signed(n, a)), abs(signed(n, b)))
+    return -u if a >> n - 1 else u
+
+
+def modulus(n, a, b):
+    """The remainder of the absolute values, moved to where the divisor's sign is."""
+    u = remainder(n, abs(signed(n, a)), abs(signed(n, b)))
+    if u == 0:
+        return u
+    return {(0, 0): u, (1, 0): -u + b, (0, 1): u + b, (1, 1): -u}[a >> n - 1, b >> n - 1]
+
+
+def turned(n, i, a):
+    return a << i % n | a >> n - i % n
+
+
+# from the width of the last argument, the numbers of the name and the arguments, to a number that counts modulo 2 to
+# the result's width
+VALUES = {
+    "true": lambda n: 1, "false": lambda n: 0, "not": lambda n, p: 1 - p,
+    "and": lambda n, p, q: p & q, "or": lambda n, p, q: p | q, "xor": lambda n, p, q: p ^ q,
+    "=>": lambda n, p, q: 1 - p | q,
+    "ite": lambda n, p, a, b: a if p else b, "=": lambda n, a, b: a == b,
+    "bvnot": lambda n, a: ~a, "bvneg": lambda n, a: -a,
+    "bvadd": lambda n, a, b: a + b, "bvsub": lambda n, a, b: a - b, "bvmul": lambda n, a, b: a * b,
+    "bvand": lambda n, a, b: a & b, "bvor": lambda n, a, b: a | b, "bvxor": lambda n, a, b: a ^ b,
+    "bvnand": lambda n, a, b: ~(a & b), "bvnor": lambda n, a, b: ~(a | b), "bvxnor": lambda n, a, b: ~(a ^ b),
+    "bvudiv": quotient, "bvurem": remainder,
+    "bvsdiv": signed_quotient, "bvsrem": signed_remainder, "bvsmod": modulus,
+    "bvshl": lambda n, a, b: a << min(b, n), "bvlshr": lambda n, a, b: a >> min(b, n),
+    "bvashr": lambda n, a, b: signed(n, a) >> min(b, n),
+    "bvult": lambda n, a, b: a < b, "bvule": lambda n, a, b: a <= b,
+    "bvugt": lambda n, a, b: a > b, "bvuge": lambda n, a, b: a >= b,
+    "bvslt": lambda n, a, b: signed(n, a) < signed(n, b), "bvsle": lambda n, a, b: signed(n, a) <= signed(n, b),
+    "bvsgt": lambda n, a, b: signed(n, a) > signed(n, b), "bvsge": lambda n, a, b: signed(n, a) >= signed(n, b),
+    "bvcomp": lambda n, a, b: a == b, "concat": lambda n, a, b: a << n | b,
+    "extract": lambda n, i, j, a: a >> j,
+    "zero_extend": lambda n, i, a: a, "sign_extend": lambda n, i, a: signed(n, a),
+    "rotate_left": turned, "rotate_right": lambda n, i, a: turned(n, -i, a),
+    "repeat": lambda n, i, a: sum(a << n * k for k in range(i)),
+}
+
+
+# ---- terms
+
+class Terms:
+    """Different nodes, each numbered by its place: (operator, numbers, arguments)."""
+
+    def __init__(self):
+        self.nodes, self.sorts, self.number = [], [], {}
+
+    def leaf(self, op, numbers, sort):
+        return self.hold((op, numbers, ()), sort)
+
+    def apply(self, op, numbers, args):
+        return self.hold((op, tuple(numbers), tuple(args)), sort_of(op, numbers, [self.sorts[a] for a in args]))
+
+    def hold(self, node, sort):
+        if node not in self.number:
+            need(len(self.nodes) < 1 << 24, "too many terms")
+            self.number[node] = len(self.nodes)
+            self.nodes.append(node)
+            self.sorts.append(sort)
+        return self.number[node]
+
+    def cut(self, held):
+        for node in self.nodes[held:]:
+            del self.number[node]
+        del self.nodes[held:], self.sorts[held:]
+
+    def values(self, model):
+        """The value of each term, where the model gives that of each declaration."""
+        held = []
+        for (op, numbers, args), sort in zip(self.nodes, self.sorts):
+            if op in ("const", "word"):
+                held.append(model[numbers[0]] if op == "const" else numbers[1])
+            else:
+                width = self.sorts[args[-1]] if args else 0
+                held.append(VALUES[op](width, *numbers, *(held[a] for a in args)) % (1 << max(sort, 1)))
+        return held
+
+
+# ---- scripts
+
+def number(text):
+    need(isinstance(text, str) and NUMERAL.fullmatch(text), "no numeral")
+    return int(text)
+
+
+def width_of(text):
+    n = number(text)
+    need(1 <= n <= 128, "width")
+    return n
+
+
+class Script:
+    """The commands, one at a time. What has a fault or is not read is skipped, as the session does."""
+
+    def __init__(self, text):
+        self.text = text
+        self.terms, self.names, self.sorts, self.asserted = Terms(), {}, [], []
+
+    def checks(self):
+        """Runs the commands, and yields at each check."""
+        for pieces in chunks(self.text):
+            held = len(self.terms.nodes)
+            try:
+                match expression(pieces):
+                    case ["declare-const", name, sort]:
+                        self.declare(name, sort)
+                    case ["assert", e]:
+                        t = self.term(e)
+                        need(self.terms.sorts[t] == BOOL, "assert of a word")
+                        self.asserted.append(t)
+                    case ["check-sat"]:
+                        yield
+            except Refused:
+                self.terms.cut(held)
+
+    def declare(self, name, sort):
+        need(isinstance(name, str) and (SYMBOL.fullmatch(name) or QUOTED.fullmatch(name)), "no symbol")
+        need(name.strip("|") not in TAKEN and name not in self.names, "reserved, or declared before")
+        match sort:
+            case "Bool":
+                declared = BOOL
+            case ["_", "BitVec", width]:
+                declared = width_of(width)
+            case _:
+                raise Refused("sort")
+        self.names[name] = len(self.sorts)
+        self.sorts.append(declared)
+
+    def term(self, e):
+        match e:
+            case str():
+                return self.symbol(e)
+            case ["_", str(name), width] if name.startswith("bv"):
+                return self.word(width_of(width), number(name[2:]))
+            case [["_", str(name), *numbers], _, *_]:
+                return self.indexed(name, [number(i) for i in numbers], [self.term(a) for a in e[1:]])
+            case [str(name), _, *_]:
+                return self.application(name, [self.term(a) for a in e[1:]])
+        raise Refused("no term")
+
+    def symbol(self, e):
+        if e.startswith(("#x", "#b")):
+            n = len(e[2:]) * (4 if e[1] == "x" else 1)
+            need(n <= 128, "literal too wide")
+            return self.word(n, int(e[2:], 16 if e[1] == "x" else 2))
+        if e in ("true", "false"):
+            return self.terms.apply(e, (), ())
+        need(e in self.names, "unknown symbol " + e)
+        d = self.names[e]
+        return self.terms.leaf("const", (d, self.sorts[d]), self.sorts[d])
+
+    def word(self, n, x):
+        need(x < 1 << n, "literal too wide")
+        return self.terms.leaf("word", (n, x), n)
+
+    def indexed(self, name, numbers, args):
+        need(numbers, "no index")
+        if name.startswith("rotate_") and numbers[0] >= 1 << 64:
+            numbers = [numbers[0] % (self.terms.sorts[args[0]] or 1), *numbers[1:]]
+        return self.terms.apply(name, numbers, args)
+
+    def application(self, name, args):
+        """The term of an operator, grouped by twos where it takes any number of arguments from two on."""
+        if name not in GROUPED:
+            return self.terms.apply(name, (), args)
+        need(len(args) > 1, "number of arguments of " + name)
+        if name == "=>":
+            return functools.reduce(lambda b, a: self.two(name, a, b), reversed(args))
+        if name == "=":
+            return self.from_the_left("and", [self.two("=", a, b) for a, b in zip(args, args[1:])])
+        if name == "distinct":
+            return self.from_the_left("and", [self.apart(a, b) for a, b in itertools.combinations(args, 2)])
+        return self.from_the_left(name, args)
+
+    def two(self, name, a, b):
+        return self.terms.apply(name, (), (a, b))
+
+    def apart(self, a, b):
+        return self.terms.apply("not", (), (self.two("=", a, b),))
+
+    def from_the_left(self, name, args):
+        return functools.reduce(lambda a, b: self.two(name, a, b), args)
