@@ -1,0 +1,445 @@
+// The checker.
+
+ghost use Rattle.std.specs.Prelude.{◌≡◌, ◌+◌, ◌<◌, ◌^◌, drop, length, ℕ, true, false, not, List, Option, Some, None, Ok, Err, IfOk, MatchResult, MatchOption};
+ghost use Rattle.smt_syntax.specs.Sexps.{Sexps};
+ghost use Rattle.script_state.specs.Readings.{ReadsAs};
+ghost use Rattle.proof_text.specs.Lines.{IsLine};
+ghost use Rattle.proof_text.specs.declared.line.Line.TheVariants as line;
+ghost use Rattle.accepted_proof.specs.Judged as judged;
+ghost use Rattle.accepted_proof.specs.Judged.{IsHeader, bad_header, no_judging, commanded, is_idle, ending, refused, StepsBy, Goes, AtStep, MovesBy, Moves};
+ghost use Rattle.proof_checker.specs.Checkers.{line_in, IsRead, answer_by, at_end, closed_with, gone_on, IsOwedValues};
+
+use crate::due::Due;
+use crate::models::{declared_value, is_model};
+use crate::refutations::is_refutation;
+use crate::steps::take_step;
+use accepted_proof::refusal::{Refusal, RuleName};
+use cnf_base::Pos;
+use proof_log::Log;
+use proof_text::line::{Line, WrittenValue};
+use proof_text::reader::LineFault;
+use script_state::answer::{Answer, Verdict};
+use script_state::state::State;
+use smt_terms::sort::DeclId;
+use smt_text::chunk::Chunk;
+use smt_values::Value;
+use std::alloc::{AllocError, Global};
+use std::marker::Model;
+
+/// The state of a script's commands, the log of its checks, and what is owed.
+#[derive(Drop)]
+pub struct Checker {
+    state: State,
+    log: Log,
+    due: Due,
+    /// The values of a model that is not whole yet.
+    values: Vec<(DeclId, Value)>,
+    /// The number of the line that is read next.
+    line: u64,
+    verdicts: Vec<Verdict>,
+}
+
+impl Model for Checker {
+    ghost use Rattle.accepted_proof.specs.Judged.{Judging};
+    ghost use Rattle.proof_checker.specs.Checkers.{owed_of, IsOpen};
+    ghost use Rattle.proof_log.specs.Stored.{Stands};
+
+    ghost Value = { Judging };
+
+    ghost view = { λ c. record { state = c.state; log = c.log.entries; owed = owed_of c.due c.state.symbols.live c.values.items; line = c.line } };
+
+    ghost invariant = { λ c. Stands c.state.terms.nodes c.log × IsOpen c.due c.state.symbols.live c.values.items };
+}
+
+/// Whether the line is a header, with its numbers in range.
+fn is_header(line: &Line) -> bool {
+    match line {
+        Line::Header { cubes, budget } => *cubes <= 10 && *budget <= 1_000_000_000,
+        _ => false,
+    }
+}
+
+/// The rule of a step's line.
+fn rule_of(line: &Line) -> RuleName
+    ensures { result ≡ judged.rule_of line.now }
+{
+    match line {
+        Line::Term { head: _, args: _ } => RuleName::Node,
+        Line::Leaf(_) => RuleName::Leaf,
+        Line::Encode(_) => RuleName::Encode,
+        Line::Selector(_) => RuleName::Selector,
+        Line::Chain { clause: _, hints: _ } => RuleName::Chain,
+        _ => RuleName::Line,
+    }
+}
+
+impl Checker {
+    /// A checker behind the first line of a proof, or the refusal of a first line that is no header.
+    pub fn new(
+        alloc: Global,
+        first: &Result<Line, LineFault>,
+    ) -> Result<Result<Checker, Refusal>, AllocError>
+        ensures { IfOk result (λ r. MatchResult r
+            (λ c. IsHeader (line_in first.now) × (c ≡ no_judging))
+            (λ f. (IsHeader (line_in first.now) → ⊥) × (f ≡ bad_header))) }
+    {
+        let whole = match first {
+            Ok(line) => is_header(line),
+            Err(_) => false,
+        };
+        if !whole {
+            return Ok(Err(Refusal {
+                line: 1,
+                rule: RuleName::Header,
+            }));
+        }
+        let log = Log::new(alloc)?;
+        Ok(Ok(Checker {
+            state: State::new(alloc),
+            log,
+            due: Due::Nothing,
+            values: Vec::new(alloc),
+            line: 2,
+            verdicts: Vec::new(alloc),
+        }))
+    }
+
+    /// Whether a record is owed, or a line was refused.
+    pub fn owes(&self) -> bool
+        ensures { result ≡ not (is_idle self.now.owed) }
+    {
+        self.due != Due::Nothing
+    }
+
+    /// The verdicts of the records so far.
+    pub fn verdicts(&self) -> &[Verdict] {
+        self.verdicts.as_slice()
+    }
+
+    /// Does a command of the script, and tells whether it is a check, whose steps and record are owed then. For want of
+    /// numbers of assertions the answer is want of memory.
+    pub fn command(self, alloc: Global, chunk: &Chunk) -> Result<(Checker, bool), AllocError>
+        requires { is_idle self.owed ≡ true }
+        ensures command { IfOk result (λ r. (says : Option Sexps) × ReadsAs chunk.now says × (r.0 ≡ commanded self says)) }
+        ensures check { IfOk result (λ r. r.1 ≡ not (is_idle r.0.owed)) }
+    {
+        let Checker {
+            mut state,
+            log,
+            due: _,
+            values,
+            line,
+            verdicts,
+        } = self;
+        if state.assertions_made() == u32::MAX {
+            return Err(AllocError);
+        }
+        let check = match state.apply(alloc, chunk)? {
+            Answer::Check => true,
+            Answer::Done | Answer::Refused(_) => false,
+        };
+        let checker = Checker {
+            state,
+            log,
+            due: if check { Due::Steps } else { Due::Nothing },
+            values,
+            line,
+            verdicts,
+        };
+        Ok((checker, check))
+    }
+
+    // The next line is refused.
+    fn refuse(self, rule: RuleName) -> Checker
+        ensures { result ≡ refused self rule }
+    {
+        let Checker {
+            state,
+            log,
+            due: _,
+            values,
+            line,
+            verdicts,
+        } = self;
+        Checker {
+            state,
+            log,
+            due: Due::Over(Refusal { line, rule }),
+            values,
+            line,
+            verdicts,
+        }
+    }
+
+    // The check ends with a record of this verdict.
+    fn close(self, verdict: Verdict) -> Result<Checker, AllocError>
+        requires { self.line + 1 < 2 ^ 64 }
+        ensures { IfOk result (λ c. c ≡ closed_with self verdict) }
+    {
+        let Checker {
+            mut state,
+            log,
+            due: _,
+            values,
+            line,
+            mut verdicts,
+        } = self;
+        verdicts.push(verdict)?;
+        state.conclude(verdict);
+        Ok(Checker {
+            state,
+            log,
+            due: Due::Nothing,
+            values,
+            line: line + 1,
+            verdicts,
+        })
+    }
+
+    // A step's line.
+    fn step(self, alloc: Global, line: &Line) -> Result<Checker, AllocError>
+        requires steps { self.owed ≡ judged.Steps }
+        requires written { IsLine line.now }
+        requires more { self.line + 1 < 2 ^ 64 }
+        ensures { IfOk result (λ c. StepsBy self line.now c) }
+    {
+        let Checker {
+            state,
+            mut log,
+            due: _,
+            values,
+            line: number,
+            verdicts,
+        } = self;
+        let (state, taken) = take_step(alloc, state, &mut log, line)?;
+        let checker = Checker {
+            state,
+            log,
+            due: Due::Steps,
+            values,
+            line: number,
+            verdicts,
+        };
+        if taken {
+            Ok(checker.go_on())
+        } else {
+            Ok(checker.refuse(rule_of(line)))
+        }
+    }
+
+    // The line was one of a proof.
+    fn go_on(self) -> Checker
+        requires more { self.line + 1 < 2 ^ 64 }
+        ensures { result ≡ gone_on self }
+    {
+        let Checker {
+            state,
+            log,
+            due,
+            values,
+            line,
+            verdicts,
+        } = self;
+        Checker {
+            state,
+            log,
+            due,
+            values,
+            line: line + 1,
+            verdicts,
+        }
+    }
+
+    // The next value of a model is owed, or all are there, and are judged.
+    fn go_to_values(self, alloc: Global, values: Vec<(DeclId, Value)>) -> Result<Checker, AllocError>
+        requires more { self.line + 1 < 2 ^ 64 }
+        ensures { IfOk result (λ c. Goes self (drop (length values.items) self.state.symbols.live) values.items c) }
+    {
+        let Checker {
+            state,
+            log,
+            due: _,
+            values: _,
+            line,
+            verdicts,
+        } = self;
+        let whole = values.len() >= state.declared().len();
+        let holds = !whole || is_model(alloc, &state, values.as_slice())?;
+        let checker = Checker {
+            state,
+            log,
+            due: if whole { Due::Steps } else { Due::Values },
+            values,
+            line,
+            verdicts,
+        };
+        if !holds {
+            return Ok(checker.refuse(RuleName::Sat));
+        }
+        if whole {
+            return checker.close(Verdict::Sat);
+        }
+        Ok(checker.go_on())
+    }
+
+    // The line that begins a model.
+    fn begin_values(self, alloc: Global, count: u64) -> Result<Checker, AllocError>
+        requires more { self.line + 1 < 2 ^ 64 }
+        ensures { IfOk result (λ c. AtStep self (line.Sat count) c) }
+    {
+        if self.state.declared().len() as u64 != count {
+            return Ok(self.refuse(RuleName::Sat));
+        }
+        self.go_to_values(alloc, Vec::new(alloc))
+    }
+
+    // The line of a refutation.
+    fn refute(self, alloc: Global, pos: Pos) -> Result<Checker, AllocError>
+        requires more { self.line + 1 < 2 ^ 64 }
+        ensures { IfOk result (λ c. AtStep self (line.Unsat pos) c) }
+    {
+        if is_refutation(alloc, &self.state, &self.log, pos)? {
+            self.close(Verdict::Unsat)
+        } else {
+            Ok(self.refuse(RuleName::Unsat))
+        }
+    }
+
+    // A line where steps and a record are owed.
+    fn at_step(self, alloc: Global, line: &Line) -> Result<Checker, AllocError>
+        requires steps { self.owed ≡ judged.Steps }
+        requires written { IsLine line.now }
+        requires more { self.line + 1 < 2 ^ 64 }
+        ensures { IfOk result (λ c. AtStep self line.now c) }
+    {
+        match line {
+            Line::Header { cubes: _, budget: _ } => Ok(self.refuse(RuleName::Line)),
+            Line::Term { head: _, args: _ } => self.step(alloc, line),
+            Line::Leaf(_) => self.step(alloc, line),
+            Line::Encode(_) => self.step(alloc, line),
+            Line::Selector(_) => self.step(alloc, line),
+            Line::Chain { clause: _, hints: _ } => self.step(alloc, line),
+            Line::Sat(count) => self.begin_values(alloc, *count),
+            Line::Value { declaration: _, value: _ } => Ok(self.refuse(RuleName::Line)),
+            Line::Unsat(pos) => self.refute(alloc, *pos),
+        }
+    }
+
+    // The value of a declaration, where the values of a model are owed.
+    fn value(
+        self,
+        alloc: Global,
+        declaration: u64,
+        written: &WrittenValue,
+    ) -> Result<Checker, AllocError>
+        requires values { IsOwedValues self.owed }
+        requires more { self.line + 1 < 2 ^ 64 }
+        ensures { IfOk result (λ c. MovesBy self.owed self (Some (line.Value declaration written.now)) c) }
+    {
+        let next = self.state.declared()[self.values.len()].declaration;
+        let Some(value) = declared_value(&self.state, next, declaration, written) else {
+            return Ok(self.refuse(RuleName::Sat))
+        };
+        let Checker {
+            state,
+            log,
+            due,
+            mut values,
+            line,
+            verdicts,
+        } = self;
+        values.push((next, value))?;
+        let checker = Checker {
+            state,
+            log,
+            due: Due::Steps,
+            values: Vec::new(alloc),
+            line,
+            verdicts,
+        };
+        checker.go_to_values(alloc, values)
+    }
+
+    // A line where the values of a model are owed.
+    fn at_value(self, alloc: Global, line: &Line) -> Result<Checker, AllocError>
+        requires values { IsOwedValues self.owed }
+        requires more { self.line + 1 < 2 ^ 64 }
+        ensures { IfOk result (λ c. MovesBy self.owed self (Some line.now) c) }
+    {
+        match line {
+            Line::Value { declaration, value } => self.value(alloc, *declaration, value),
+            _ => Ok(self.refuse(RuleName::Line)),
+        }
+    }
+
+    // A whole line of a proof.
+    fn whole_line(self, alloc: Global, line: &Line) -> Result<Checker, AllocError>
+        requires written { IsLine line.now }
+        requires more { self.line + 1 < 2 ^ 64 }
+        ensures { IfOk result (λ c. Moves self (Some line.now) c) }
+    {
+        match self.due {
+            Due::Nothing => Ok(self.refuse(RuleName::End)),
+            Due::Steps => self.at_step(alloc, line),
+            Due::Values => self.at_value(alloc, line),
+            Due::Over(_) => Ok(self),
+        }
+    }
+
+    // A line that is none of a proof.
+    fn bad_line(self) -> Checker
+        ensures { Moves self None result }
+    {
+        match self.due {
+            Due::Nothing => self.refuse(RuleName::End),
+            Due::Steps => self.refuse(RuleName::Line),
+            Due::Values => self.refuse(RuleName::Line),
+            Due::Over(_) => self,
+        }
+    }
+
+    // What a line is answered.
+    fn told(&self) -> Result<(), Refusal>
+        ensures { result ≡ answer_by self.now.owed }
+    {
+        match self.due {
+            Due::Over(refusal) => Err(refusal),
+            _ => Ok(()),
+        }
+    }
+
+    /// Judges the next line. After a refusal every further line and the end are answered the same. For want of numbers of
+    /// lines the answer is want of memory.
+    pub fn line(
+        self,
+        alloc: Global,
+        line: &Result<Line, LineFault>,
+    ) -> Result<(Checker, Result<(), Refusal>), AllocError>
+        requires { IsRead line.now }
+        ensures moves { IfOk result (λ r. Moves self (line_in line.now) r.0) }
+        ensures told { IfOk result (λ r. r.1 ≡ answer_by r.0.owed) }
+    {
+        if self.line == u64::MAX {
+            return Err(AllocError);
+        }
+        let checker = match line {
+            Ok(line) => self.whole_line(alloc, line)?,
+            Err(_) => self.bad_line(),
+        };
+        let told = checker.told();
+        Ok((checker, told))
+    }
+
+    /// Judges the end of the text.
+    pub fn end(self) -> (Checker, Result<(), Refusal>)
+        ensures told { MatchResult result.1 (λ _. ending self.owed self.line ≡ None) (λ r. ending self.owed self.line ≡ Some r) }
+        ensures end { result.0 ≡ at_end self (ending self.owed self.line) }
+    {
+        let checker = match self.due {
+            Due::Steps | Due::Values => self.refuse(RuleName::End),
+            Due::Nothing | Due::Over(_) => self,
+        };
+        let told = checker.told();
+        (checker, told)
+    }
+}

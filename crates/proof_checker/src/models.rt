@@ -1,0 +1,101 @@
+// Models.
+
+ghost use Rattle.std.specs.Prelude.{◌≡◌, ℕ, IfOk, MatchBool, MatchOption};
+ghost use Rattle.smt_values.specs.declared.value.Value.{Value as Held};
+ghost use Rattle.smt_values.specs.Held.{set_for};
+ghost use Rattle.smt_build.specs.declared.symbols.LiveName.{LiveName as Name};
+ghost use Rattle.accepted_proof.specs.Models.{value_for, interpretation_of, IsModel};
+ghost use Rattle.accepted_proof.specs.Judged.{IsValueOf};
+
+use proof_text::line::WrittenValue;
+use script_state::state::State;
+use smt_eval::Values;
+use smt_terms::sort::{DeclId, Sort};
+use smt_values::{Interp, Value};
+use smt_words::Word;
+use std::alloc::{AllocError, Global};
+
+/// The interpretation that the values of declarations give.
+fn interp_of(alloc: Global, values: &[(DeclId, Value)]) -> Result<Interp, AllocError>
+    ensures { IfOk result (λ m. (d : ℕ) → set_for m d ≡ value_for values.now d) }
+{
+    let mut interp = Interp::new(alloc);
+    for done in 0..values.len() {
+        let value = &values[values.len() - 1 - done];
+        interp.set(value.0, value.1.copy()?)?;
+    }
+    Ok(interp)
+}
+
+/// Whether each live assertion is true under the values.
+pub fn is_model(
+    alloc: Global,
+    state: &State,
+    values: &[(DeclId, Value)],
+) -> Result<bool, AllocError>
+    ensures { IfOk result (λ b. MatchBool b
+        (IsModel state.now (interpretation_of values.now))
+        (IsModel state.now (interpretation_of values.now) → ⊥)) }
+{
+    let interp = interp_of(alloc, values)?;
+    let evaluated = Values::of(alloc, state.terms(), &interp)?;
+    for assertion in state.live() {
+        if !matches!(evaluated.get(assertion.term), Value::Bool(true)) {
+            return Ok(false);
+        }
+    }
+    Ok(true)
+}
+
+/// The number of these binary digits, the highest first.
+fn number(digits: &[bool]) -> u128 {
+    let mut number = 0u128;
+    for digit in digits {
+        number = number.wrapping_add(number);
+        if *digit {
+            number = number | 1;
+        }
+    }
+    number
+}
+
+/// The value of this sort that is written so; nothing where there is none.
+fn value_of(sort: Sort, written: &WrittenValue) -> Option<Value> {
+    match sort {
+        Sort::Bool => match written {
+            WrittenValue::Bool(holds) => Some(Value::Bool(*holds)),
+            WrittenValue::Word(_) => None,
+        },
+        Sort::Word(width) => match written {
+            WrittenValue::Bool(_) => None,
+            WrittenValue::Word(digits) => word_of(width, digits.as_slice()),
+        },
+        Sort::Array(_, _) => None,
+    }
+}
+
+fn word_of(width: u32, digits: &[bool]) -> Option<Value> {
+    if digits.len() != width as usize {
+        return None;
+    }
+    match Word::new(width, number(digits)) {
+        Some(word) => Some(Value::Word(word)),
+        None => None,
+    }
+}
+
+/// The value that is written for a declaration, where it is the next one.
+pub fn declared_value(
+    state: &State,
+    next: DeclId,
+    declaration: u64,
+    written: &WrittenValue,
+) -> Option<Value> {
+    if declaration != next as u64 {
+        return None;
+    }
+    match state.signature(next) {
+        Some(signature) => value_of(signature.value, written),
+        None => None,
+    }
+}
