@@ -4,6 +4,7 @@ use Rattle.smt_values.specs.declared.value.Value.{Value}
 use Rattle.cnf_base.specs.Literals.{Literal, negated, code_of}
 use Rattle.scope_selectors.specs.declared.live.Live.{Live}
 use Rattle.script_state.specs.declared.answer.Verdict.{Verdict}
+use Rattle.smt_syntax.specs.Sexps.{Sexps}
 use Rattle.script_state.specs.States.{StateValue, concluded}
 use Rattle.proof_log.specs.Stored.{LogValue, Stands, selector_in}
 use Rattle.accepted_proof.specs.Turns.{with_step}
@@ -18,9 +19,18 @@ use Rattle.proof_text.specs.declared.reader.LineFault.{LineFault}
 use Rattle.proof_text.specs.Lines.{IsLine}
 use Rattle.accepted_proof.specs.declared.refusal.Refusal.{Refusal}
 use Rattle.accepted_proof.specs.Judged as judged
-use Rattle.accepted_proof.specs.Judged.{Owed, Judging}
+use Rattle.accepted_proof.specs.Judged.{Owed, Judging, no_judging, refused}
 use Rattle.proof_checker.specs.declared.due.Due.{Due}
 use Rattle.proof_checker.specs.declared.due.Due.TheVariants.{Nothing, Steps, Values, Over}
+
+-- what a chunk says, as `ReadsAs` has it
+abbrev pub Says : Type 0
+Says = Option Sexps
+
+-- what is judged, and the verdicts of the records so far
+pub record CheckerValue : Type 0 where
+  pub judging : Judging
+  pub verdicts : List Verdict
 
 -- the line, if it is one
 abbrev pub line_in : Result Line LineFault → Option Line
@@ -51,10 +61,31 @@ answer_by judged.Steps = Ok tt
 answer_by (judged.Values next left values) = Ok tt
 answer_by (judged.Over r) = Err r
 
--- where it stands at the end of the text
-abbrev pub at_end : Judging → Option Refusal → Judging
-at_end j None = j
-at_end j (Some r) = record { state = j.state; log = j.log; owed = judged.Over r; line = j.line }
+-- nothing is judged yet
+abbrev pub no_records : CheckerValue
+no_records = record { judging = no_judging; verdicts = [] }
+
+-- it is judged otherwise, with the same verdicts
+abbrev pub judged_so : CheckerValue → Judging → CheckerValue
+judged_so c j = record { judging = j; verdicts = c.verdicts }
+
+-- the verdicts, and that of a record which ended the check, since nothing is owed then
+abbrev pub and_shown : List Verdict → Owed → Option Verdict → List Verdict
+and_shown told judged.Nothing (Some v) = told ++ v ∷ []
+and_shown told judged.Nothing None = told
+and_shown told judged.Steps v = told
+and_shown told (judged.Values next left values) v = told
+and_shown told (judged.Over r) v = told
+
+-- it is judged as may be, and a record that ends the check adds its verdict
+pub record GoesTo (To : Judging → Type 0) (old new : CheckerValue) : Type 0 where
+  pub judged : To new.judging
+  pub verdicts : new.verdicts ≡ and_shown old.verdicts new.judging.owed new.judging.state.standing
+
+-- how it is judged at the end of the text
+abbrev pub at_end : CheckerValue → Option Refusal → CheckerValue
+at_end c None = c
+at_end c (Some r) = record { judging = record { state = c.judging.state; log = c.judging.log; owed = judged.Over r; line = c.judging.line }; verdicts = c.verdicts }
 
 -- the step is the chain that is written so
 abbrev pub IsChainOf : List WrittenLiteral → List WrittenHint → Entry → Type 0
@@ -85,8 +116,8 @@ abbrev pub gone_on : Judging → Judging
 gone_on j = record { state = j.state; log = j.log; owed = j.owed; line = j.line + 1 }
 
 -- the check ends with this verdict
-abbrev pub closed_with : Judging → Verdict → Judging
-closed_with j v = record { state = concluded j.state v; log = j.log; owed = judged.Nothing; line = j.line + 1 }
+abbrev pub closed_with : CheckerValue → Verdict → CheckerValue
+closed_with c v = record { judging = record { state = concluded c.judging.state v; log = c.judging.log; owed = judged.Nothing; line = c.judging.line + 1 }; verdicts = c.verdicts ++ v ∷ [] }
 
 -- values of a model are owed
 abbrev pub IsOwedValues : Owed → Type 0

@@ -1,13 +1,12 @@
 // The checker.
 
-ghost use Rattle.std.specs.Prelude.{◌≡◌, ◌+◌, ◌<◌, ◌^◌, drop, length, ℕ, true, false, not, List, Option, Some, None, Ok, Err, IfOk, MatchResult, MatchOption};
-ghost use Rattle.smt_syntax.specs.Sexps.{Sexps};
+ghost use Rattle.std.specs.Prelude.{◌≡◌, ◌+◌, ◌<◌, ◌^◌, drop, length, true, not, Some, None, IfOk, MatchBool, MatchResult};
 ghost use Rattle.script_state.specs.Readings.{ReadsAs};
 ghost use Rattle.proof_text.specs.Lines.{IsLine};
 ghost use Rattle.proof_text.specs.declared.line.Line.TheVariants as line;
 ghost use Rattle.accepted_proof.specs.Judged as judged;
-ghost use Rattle.accepted_proof.specs.Judged.{IsHeader, bad_header, no_judging, commanded, is_idle, ending, refused, StepsBy, Goes, AtStep, MovesBy, Moves};
-ghost use Rattle.proof_checker.specs.Checkers.{line_in, IsRead, answer_by, at_end, closed_with, gone_on, IsOwedValues};
+ghost use Rattle.accepted_proof.specs.Judged.{IsHeader, bad_header, commanded, is_idle, ending, refused, StepsBy, Goes, AtStep, MovesBy, Moves};
+ghost use Rattle.proof_checker.specs.Checkers.{Says, line_in, IsRead, no_records, judged_so, GoesTo, answer_by, at_end, closed_with, gone_on, IsOwedValues};
 
 use crate::due::Due;
 use crate::models::{declared_value, is_model};
@@ -26,7 +25,7 @@ use smt_values::Value;
 use std::alloc::{AllocError, Global};
 use std::marker::Model;
 
-/// The state of a script's commands, the log of its checks, and what is owed.
+/// The state of a script's commands, the log of its checks, what is owed, and the verdicts so far.
 #[derive(Drop)]
 pub struct Checker {
     state: State,
@@ -40,21 +39,22 @@ pub struct Checker {
 }
 
 impl Model for Checker {
-    ghost use Rattle.accepted_proof.specs.Judged.{Judging};
-    ghost use Rattle.proof_checker.specs.Checkers.{owed_of, IsOpen};
+    ghost use Rattle.proof_checker.specs.Checkers.{CheckerValue, owed_of, IsOpen};
     ghost use Rattle.proof_log.specs.Stored.{Stands};
 
-    ghost Value = { Judging };
+    ghost Value = { CheckerValue };
 
-    ghost view = { λ c. record { state = c.state; log = c.log.entries; owed = owed_of c.due c.state.symbols.live c.values.items; line = c.line } };
+    ghost view = { λ c. record { judging = record { state = c.state; log = c.log.entries; owed = owed_of c.due c.state.symbols.live c.values.items; line = c.line }; verdicts = c.verdicts.items } };
 
     ghost invariant = { λ c. Stands c.state.terms.nodes c.log × IsOpen c.due c.state.symbols.live c.values.items };
 }
 
 /// Whether the line is a header, with its numbers in range.
-fn is_header(line: &Line) -> bool {
-    match line {
-        Line::Header { cubes, budget } => *cubes <= 10 && *budget <= 1_000_000_000,
+fn is_header(first: &Result<Line, LineFault>) -> bool
+    ensures { MatchBool result (IsHeader (line_in first.now) → ⊥) (IsHeader (line_in first.now)) }
+{
+    match first {
+        Ok(Line::Header { cubes, budget }) => *cubes <= 10 && *budget <= 1_000_000_000,
         _ => false,
     }
 }
@@ -80,14 +80,10 @@ impl Checker {
         first: &Result<Line, LineFault>,
     ) -> Result<Result<Checker, Refusal>, AllocError>
         ensures { IfOk result (λ r. MatchResult r
-            (λ c. IsHeader (line_in first.now) × (c ≡ no_judging))
+            (λ c. IsHeader (line_in first.now) × (c ≡ no_records))
             (λ f. (IsHeader (line_in first.now) → ⊥) × (f ≡ bad_header))) }
     {
-        let whole = match first {
-            Ok(line) => is_header(line),
-            Err(_) => false,
-        };
-        if !whole {
+        if !is_header(first) {
             return Ok(Err(Refusal {
                 line: 1,
                 rule: RuleName::Header,
@@ -106,22 +102,24 @@ impl Checker {
 
     /// Whether a record is owed, or a line was refused.
     pub fn owes(&self) -> bool
-        ensures { result ≡ not (is_idle self.now.owed) }
+        ensures { result ≡ not (is_idle self.now.judging.owed) }
     {
         self.due != Due::Nothing
     }
 
-    /// The verdicts of the records so far.
-    pub fn verdicts(&self) -> &[Verdict] {
+    /// The verdicts of the records that were accepted, in order.
+    pub fn verdicts(&self) -> &[Verdict]
+        ensures { result.now ≡ self.now.verdicts }
+    {
         self.verdicts.as_slice()
     }
 
     /// Does a command of the script, and tells whether it is a check, whose steps and record are owed then. For want of
     /// numbers of assertions the answer is want of memory.
     pub fn command(self, alloc: Global, chunk: &Chunk) -> Result<(Checker, bool), AllocError>
-        requires { is_idle self.owed ≡ true }
-        ensures command { IfOk result (λ r. (says : Option Sexps) × ReadsAs chunk.now says × (r.0 ≡ commanded self says)) }
-        ensures check { IfOk result (λ r. r.1 ≡ not (is_idle r.0.owed)) }
+        requires { is_idle self.judging.owed ≡ true }
+        ensures command { IfOk result (λ r. (says : Says) × ReadsAs chunk.now says × (r.0 ≡ judged_so self (commanded self.judging says))) }
+        ensures check { IfOk result (λ r. r.1 ≡ not (is_idle r.0.judging.owed)) }
     {
         let Checker {
             mut state,
@@ -151,7 +149,7 @@ impl Checker {
 
     // The next line is refused.
     fn refuse(self, rule: RuleName) -> Checker
-        ensures { result ≡ refused self rule }
+        ensures { result ≡ judged_so self (refused self.judging rule) }
     {
         let Checker {
             state,
@@ -171,9 +169,32 @@ impl Checker {
         }
     }
 
+    // The line was one of a proof.
+    fn go_on(self) -> Checker
+        requires more { self.judging.line + 1 < 2 ^ 64 }
+        ensures { result ≡ judged_so self (gone_on self.judging) }
+    {
+        let Checker {
+            state,
+            log,
+            due,
+            values,
+            line,
+            verdicts,
+        } = self;
+        Checker {
+            state,
+            log,
+            due,
+            values,
+            line: line + 1,
+            verdicts,
+        }
+    }
+
     // The check ends with a record of this verdict.
     fn close(self, verdict: Verdict) -> Result<Checker, AllocError>
-        requires { self.line + 1 < 2 ^ 64 }
+        requires more { self.judging.line + 1 < 2 ^ 64 }
         ensures { IfOk result (λ c. c ≡ closed_with self verdict) }
     {
         let Checker {
@@ -198,15 +219,15 @@ impl Checker {
 
     // A step's line.
     fn step(self, alloc: Global, line: &Line) -> Result<Checker, AllocError>
-        requires steps { self.owed ≡ judged.Steps }
+        requires steps { self.judging.owed ≡ judged.Steps }
         requires written { IsLine line.now }
-        requires more { self.line + 1 < 2 ^ 64 }
-        ensures { IfOk result (λ c. StepsBy self line.now c) }
+        requires more { self.judging.line + 1 < 2 ^ 64 }
+        ensures { IfOk result (λ c. GoesTo (StepsBy self.judging line.now) self c) }
     {
         let Checker {
             state,
             mut log,
-            due: _,
+            due,
             values,
             line: number,
             verdicts,
@@ -215,7 +236,7 @@ impl Checker {
         let checker = Checker {
             state,
             log,
-            due: Due::Steps,
+            due,
             values,
             line: number,
             verdicts,
@@ -227,33 +248,14 @@ impl Checker {
         }
     }
 
-    // The line was one of a proof.
-    fn go_on(self) -> Checker
-        requires more { self.line + 1 < 2 ^ 64 }
-        ensures { result ≡ gone_on self }
-    {
-        let Checker {
-            state,
-            log,
-            due,
-            values,
-            line,
-            verdicts,
-        } = self;
-        Checker {
-            state,
-            log,
-            due,
-            values,
-            line: line + 1,
-            verdicts,
-        }
-    }
-
     // The next value of a model is owed, or all are there, and are judged.
-    fn go_to_values(self, alloc: Global, values: Vec<(DeclId, Value)>) -> Result<Checker, AllocError>
-        requires more { self.line + 1 < 2 ^ 64 }
-        ensures { IfOk result (λ c. Goes self (drop (length values.items) self.state.symbols.live) values.items c) }
+    fn go_to_values(
+        self,
+        alloc: Global,
+        values: Vec<(DeclId, Value)>,
+    ) -> Result<Checker, AllocError>
+        requires more { self.judging.line + 1 < 2 ^ 64 }
+        ensures { IfOk result (λ c. GoesTo (Goes self.judging (drop (length values.items) self.judging.state.symbols.live) values.items) self c) }
     {
         let Checker {
             state,
@@ -284,8 +286,8 @@ impl Checker {
 
     // The line that begins a model.
     fn begin_values(self, alloc: Global, count: u64) -> Result<Checker, AllocError>
-        requires more { self.line + 1 < 2 ^ 64 }
-        ensures { IfOk result (λ c. AtStep self (line.Sat count) c) }
+        requires more { self.judging.line + 1 < 2 ^ 64 }
+        ensures { IfOk result (λ c. GoesTo (AtStep self.judging (line.Sat count)) self c) }
     {
         if self.state.declared().len() as u64 != count {
             return Ok(self.refuse(RuleName::Sat));
@@ -295,8 +297,8 @@ impl Checker {
 
     // The line of a refutation.
     fn refute(self, alloc: Global, pos: Pos) -> Result<Checker, AllocError>
-        requires more { self.line + 1 < 2 ^ 64 }
-        ensures { IfOk result (λ c. AtStep self (line.Unsat pos) c) }
+        requires more { self.judging.line + 1 < 2 ^ 64 }
+        ensures { IfOk result (λ c. GoesTo (AtStep self.judging (line.Unsat pos)) self c) }
     {
         if is_refutation(alloc, &self.state, &self.log, pos)? {
             self.close(Verdict::Unsat)
@@ -307,10 +309,10 @@ impl Checker {
 
     // A line where steps and a record are owed.
     fn at_step(self, alloc: Global, line: &Line) -> Result<Checker, AllocError>
-        requires steps { self.owed ≡ judged.Steps }
+        requires steps { self.judging.owed ≡ judged.Steps }
         requires written { IsLine line.now }
-        requires more { self.line + 1 < 2 ^ 64 }
-        ensures { IfOk result (λ c. AtStep self line.now c) }
+        requires more { self.judging.line + 1 < 2 ^ 64 }
+        ensures { IfOk result (λ c. GoesTo (AtStep self.judging line.now) self c) }
     {
         match line {
             Line::Header { cubes: _, budget: _ } => Ok(self.refuse(RuleName::Line)),
@@ -332,9 +334,9 @@ impl Checker {
         declaration: u64,
         written: &WrittenValue,
     ) -> Result<Checker, AllocError>
-        requires values { IsOwedValues self.owed }
-        requires more { self.line + 1 < 2 ^ 64 }
-        ensures { IfOk result (λ c. MovesBy self.owed self (Some (line.Value declaration written.now)) c) }
+        requires values { IsOwedValues self.judging.owed }
+        requires more { self.judging.line + 1 < 2 ^ 64 }
+        ensures { IfOk result (λ c. GoesTo (MovesBy self.judging.owed self.judging (Some (line.Value declaration written.now))) self c) }
     {
         let next = self.state.declared()[self.values.len()].declaration;
         let Some(value) = declared_value(&self.state, next, declaration, written) else {
@@ -343,7 +345,7 @@ impl Checker {
         let Checker {
             state,
             log,
-            due,
+            due: _,
             mut values,
             line,
             verdicts,
@@ -362,9 +364,9 @@ impl Checker {
 
     // A line where the values of a model are owed.
     fn at_value(self, alloc: Global, line: &Line) -> Result<Checker, AllocError>
-        requires values { IsOwedValues self.owed }
-        requires more { self.line + 1 < 2 ^ 64 }
-        ensures { IfOk result (λ c. MovesBy self.owed self (Some line.now) c) }
+        requires values { IsOwedValues self.judging.owed }
+        requires more { self.judging.line + 1 < 2 ^ 64 }
+        ensures { IfOk result (λ c. GoesTo (MovesBy self.judging.owed self.judging (Some line.now)) self c) }
     {
         match line {
             Line::Value { declaration, value } => self.value(alloc, *declaration, value),
@@ -375,8 +377,8 @@ impl Checker {
     // A whole line of a proof.
     fn whole_line(self, alloc: Global, line: &Line) -> Result<Checker, AllocError>
         requires written { IsLine line.now }
-        requires more { self.line + 1 < 2 ^ 64 }
-        ensures { IfOk result (λ c. Moves self (Some line.now) c) }
+        requires more { self.judging.line + 1 < 2 ^ 64 }
+        ensures { IfOk result (λ c. GoesTo (Moves self.judging (Some line.now)) self c) }
     {
         match self.due {
             Due::Nothing => Ok(self.refuse(RuleName::End)),
@@ -388,7 +390,7 @@ impl Checker {
 
     // A line that is none of a proof.
     fn bad_line(self) -> Checker
-        ensures { Moves self None result }
+        ensures { GoesTo (Moves self.judging None) self result }
     {
         match self.due {
             Due::Nothing => self.refuse(RuleName::End),
@@ -400,7 +402,7 @@ impl Checker {
 
     // What a line is answered.
     fn told(&self) -> Result<(), Refusal>
-        ensures { result ≡ answer_by self.now.owed }
+        ensures { result ≡ answer_by self.now.judging.owed }
     {
         match self.due {
             Due::Over(refusal) => Err(refusal),
@@ -416,8 +418,8 @@ impl Checker {
         line: &Result<Line, LineFault>,
     ) -> Result<(Checker, Result<(), Refusal>), AllocError>
         requires { IsRead line.now }
-        ensures moves { IfOk result (λ r. Moves self (line_in line.now) r.0) }
-        ensures told { IfOk result (λ r. r.1 ≡ answer_by r.0.owed) }
+        ensures moves { IfOk result (λ r. GoesTo (Moves self.judging (line_in line.now)) self r.0) }
+        ensures told { IfOk result (λ r. r.1 ≡ answer_by r.0.judging.owed) }
     {
         if self.line == u64::MAX {
             return Err(AllocError);
@@ -432,8 +434,8 @@ impl Checker {
 
     /// Judges the end of the text.
     pub fn end(self) -> (Checker, Result<(), Refusal>)
-        ensures told { MatchResult result.1 (λ _. ending self.owed self.line ≡ None) (λ r. ending self.owed self.line ≡ Some r) }
-        ensures end { result.0 ≡ at_end self (ending self.owed self.line) }
+        ensures told { MatchResult result.1 (λ _. ending self.judging.owed self.judging.line ≡ None) (λ r. ending self.judging.owed self.judging.line ≡ Some r) }
+        ensures end { result.0 ≡ at_end self (ending self.judging.owed self.judging.line) }
     {
         let checker = match self.due {
             Due::Steps | Due::Values => self.refuse(RuleName::End),

@@ -6,9 +6,12 @@
 //! say that it moves as the definitions of `accepted_proof` judge. It shares nothing with search or session.
 #![tactic(auto)]
 
+pub mod checker;
 mod due;
 
 mod lines;
 mod models;
 mod refutations;
 mod steps;
+#[cfg(test)]
+mod tests;
