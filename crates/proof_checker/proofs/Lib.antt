@@ -1,1 +1,3 @@
 pub mod Lining
+pub mod Against
+pub mod Valued

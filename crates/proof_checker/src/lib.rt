@@ -7,7 +7,6 @@
 #![tactic(auto)]
 
 mod due;
-
 mod lines;
 mod models;
 mod refutations;
