@@ -25,7 +25,8 @@ fn interp_of(alloc: Global, values: &[(DeclId, Value)]) -> Result<Interp, AllocE
 {
     let mut interp = Interp::new(alloc);
     for done in 0..values.len() {
-        let value = &values[values.len() - 1 - done];
+        let place = values.len() - 1 - done;
+        let value = &values[place];
         interp.set(value.0, value.1.copy()?)?;
     }
     Ok(interp)
