@@ -8,7 +8,6 @@
 
 pub mod checker;
 mod due;
-
 mod lines;
 mod models;
 mod refutations;
