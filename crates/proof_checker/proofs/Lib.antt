@@ -1,0 +1,4 @@
+pub mod Against
+pub mod Lining
+pub mod Moving
+pub mod Valued

@@ -1,0 +1,125 @@
+-- What contracts see of a checker, and of the lines that it is given.
+use Rattle.std.specs.Prelude.{◌≡◌, ◌<◌, ◌==◌, ℕ, Bool, false, List, [], ◌∷◌, ◌++◌, ◌+◌, drop, length, map, Option, Some, None, Result, Ok, Err}
+use Rattle.smt_values.specs.declared.value.Value.{Value}
+use Rattle.cnf_base.specs.Literals.{Literal, negated, code_of}
+use Rattle.scope_selectors.specs.declared.live.Live.{Live}
+use Rattle.script_state.specs.declared.answer.Verdict.{Verdict}
+use Rattle.smt_syntax.specs.Sexps.{Sexps}
+use Rattle.script_state.specs.States.{StateValue, concluded}
+use Rattle.proof_log.specs.Stored.{LogValue, Stands, selector_in}
+use Rattle.accepted_proof.specs.Turns.{with_step}
+use Rattle.smt_build.specs.declared.symbols.LiveName.{LiveName}
+use Rattle.proof_log.specs.declared.entry.Entry.{Entry}
+use Rattle.proof_log.specs.declared.entry.Entry.TheVariants as step
+use Rattle.proof_text.specs.declared.list.WrittenLiteral.{WrittenLiteral}
+use Rattle.proof_text.specs.declared.list.WrittenHint.{WrittenHint}
+use Rattle.proof_text.specs.Entries.{written_literal, written_hint}
+use Rattle.proof_text.specs.declared.line.Line.{Line}
+use Rattle.proof_text.specs.declared.reader.LineFault.{LineFault}
+use Rattle.proof_text.specs.Lines.{IsLine}
+use Rattle.accepted_proof.specs.declared.refusal.Refusal.{Refusal}
+use Rattle.accepted_proof.specs.Judged as judged
+use Rattle.accepted_proof.specs.Judged.{Owed, Judging, no_judging, refused}
+use Rattle.proof_checker.specs.declared.due.Due.{Due}
+use Rattle.proof_checker.specs.declared.due.Due.TheVariants.{Nothing, Steps, Values, Over}
+
+-- what a chunk says, as `ReadsAs` has it
+abbrev pub Says : Type 0
+Says = Option Sexps
+
+-- what is judged, and the verdicts of the records so far
+pub record CheckerValue : Type 0 where
+  pub judging : Judging
+  pub verdicts : List Verdict
+
+-- the line, if it is one
+abbrev pub line_in : Result Line LineFault → Option Line
+line_in (Ok l) = Some l
+line_in (Err f) = None
+
+-- a line that was read has numbers in range
+abbrev pub IsRead : Result Line LineFault → Type 0
+IsRead (Ok l) = IsLine l
+IsRead (Err f) = Unit {0}
+
+-- the values of these names are owed
+abbrev pub values_owed : List LiveName → List (ℕ × Value) → Owed
+values_owed [] values = judged.Steps
+values_owed (next ∷ left) values = judged.Values next left values
+
+-- what is owed, where these names are live and these values are there
+abbrev pub owed_of : Due → List LiveName → List (ℕ × Value) → Owed
+owed_of Nothing live values = judged.Nothing
+owed_of Steps live values = judged.Steps
+owed_of Values live values = values_owed (drop (length values) live) values
+owed_of (Over r) live values = judged.Over r
+
+-- what a line is answered
+abbrev pub answer_by : Owed → Result (Unit {0}) Refusal
+answer_by judged.Nothing = Ok tt
+answer_by judged.Steps = Ok tt
+answer_by (judged.Values next left values) = Ok tt
+answer_by (judged.Over r) = Err r
+
+-- nothing is judged yet
+abbrev pub no_records : CheckerValue
+no_records = record { judging = no_judging; verdicts = [] }
+
+-- it is judged otherwise, with the same verdicts
+abbrev pub judged_so : CheckerValue → Judging → CheckerValue
+judged_so c j = record { judging = j; verdicts = c.verdicts }
+
+-- the verdicts, and that of a record which ended the check, since nothing is owed then
+abbrev pub and_shown : List Verdict → Owed → Option Verdict → List Verdict
+and_shown told judged.Nothing (Some v) = told ++ v ∷ []
+and_shown told judged.Nothing None = told
+and_shown told judged.Steps v = told
+and_shown told (judged.Values next left values) v = told
+and_shown told (judged.Over r) v = told
+
+-- it is judged as may be, and a record that ends the check adds its verdict
+pub record GoesTo (To : Judging → Type 0) (old new : CheckerValue) : Type 0 where
+  pub judged : To new.judging
+  pub verdicts : new.verdicts ≡ and_shown old.verdicts new.judging.owed new.judging.state.standing
+
+-- how it is judged at the end of the text
+abbrev pub at_end : CheckerValue → Option Refusal → CheckerValue
+at_end c None = c
+at_end c (Some r) = record { judging = record { state = c.judging.state; log = c.judging.log; owed = judged.Over r; line = c.judging.line }; verdicts = c.verdicts }
+
+-- the step is the chain that is written so
+abbrev pub IsChainOf : List WrittenLiteral → List WrittenHint → Entry → Type 0
+IsChainOf literals hints (step.Chain c names) = (map written_literal c ≡ literals) × (map written_hint names ≡ hints)
+IsChainOf literals hints _ = ⊥
+
+-- the step was added
+pub record IsTaken (old : StateValue) (log : LogValue) (e : Entry) (new : StateValue) (longer : LogValue) : Type 0 where
+  pub state : new ≡ with_step old e
+  pub entries : longer.entries ≡ log.entries ++ e ∷ []
+  pub stands : Stands new.terms.nodes longer
+
+abbrev pub is_code : Option Literal → ℕ → Bool
+is_code None q = false
+is_code (Some l) q = code_of (negated l) == q
+
+-- the code is that of the negated selector of the assertion
+abbrev pub is_against : List (Option Literal) → Live → ℕ → Bool
+is_against selectors a q = is_code (selector_in selectors a.assertion) q
+
+-- where values are owed, the one of some name is
+abbrev pub IsOpen : Due → List LiveName → List (ℕ × Value) → Type 0
+IsOpen Values live values = length values < length live
+IsOpen _ live values = Unit {0}
+
+-- the next line, with all else the same
+abbrev pub gone_on : Judging → Judging
+gone_on j = record { state = j.state; log = j.log; owed = j.owed; line = j.line + 1 }
+
+-- the check ends with this verdict
+abbrev pub closed_with : CheckerValue → Verdict → CheckerValue
+closed_with c v = record { judging = record { state = concluded c.judging.state v; log = c.judging.log; owed = judged.Nothing; line = c.judging.line + 1 }; verdicts = c.verdicts ++ v ∷ [] }
+
+-- values of a model are owed
+abbrev pub IsOwedValues : Owed → Type 0
+IsOwedValues (judged.Values next left values) = Unit {0}
+IsOwedValues _ = ⊥

@@ -1,0 +1,132 @@
+// Models.
+
+ghost use Rattle.std.specs.Prelude.{◌≡◌, ◌<◌, ◌≤◌, ◌^◌, ℕ, length, Some, IfOk, MatchBool, MatchOption};
+ghost use Rattle.smt_words.specs.Words.{IsWidth};
+ghost use Rattle.smt_terms.specs.Terms.{IsSort};
+ghost use Rattle.smt_terms.specs.Values.{HasSort, is_true};
+ghost use Rattle.smt_values.specs.declared.value.Value.{Value as Held};
+ghost use Rattle.smt_values.specs.Held.{meaning, set_for};
+ghost use Rattle.proof_text.specs.Records.{binary, written_value};
+ghost use Rattle.smt_build.specs.declared.symbols.LiveName.{LiveName as Name};
+ghost use Rattle.accepted_proof.specs.Models.{value_for, interpretation_of, IsModel};
+ghost use Rattle.accepted_proof.specs.Judged.{IsValueOf};
+
+use proof_text::line::WrittenValue;
+use script_state::state::State;
+use smt_eval::Values;
+use smt_terms::sort::{DeclId, Sort};
+use smt_values::{Interp, Value};
+use smt_words::Word;
+use std::alloc::{AllocError, Global};
+
+/// The interpretation that the values of declarations give.
+fn interp_of(alloc: Global, values: &[(DeclId, Value)]) -> Result<Interp, AllocError>
+    ensures { IfOk result (λ m. (d : ℕ) → set_for m d ≡ value_for values.now d) }
+{
+    let mut interp = Interp::new(alloc);
+    for done in 0..values.len() {
+        let place = values.len() - 1 - done;
+        let value = &values[place];
+        interp.set(value.0, value.1.copy()?)?;
+    }
+    Ok(interp)
+}
+
+/// Whether a value is true.
+fn is_true(value: &Value) -> bool
+    ensures { result ≡ is_true (meaning value.now) }
+{
+    match value {
+        Value::Bool(holds) => *holds,
+        Value::Word(_) => false,
+        Value::Array(_) => false,
+        Value::Fun(_) => false,
+    }
+}
+
+/// Whether each live assertion is true under the values.
+pub fn is_model(
+    alloc: Global,
+    state: &State,
+    values: &[(DeclId, Value)],
+) -> Result<bool, AllocError>
+    ensures { IfOk result (λ b. MatchBool b
+        (IsModel state.now (interpretation_of values.now))
+        (IsModel state.now (interpretation_of values.now) → ⊥)) }
+{
+    let interp = interp_of(alloc, values)?;
+    let evaluated = Values::of(alloc, state.terms(), &interp)?;
+    for assertion in state.live() {
+        if !is_true(evaluated.get(assertion.term)) {
+            return Ok(false);
+        }
+    }
+    Ok(true)
+}
+
+/// The number of these binary digits, the highest first.
+fn number(digits: &[bool]) -> u128
+    requires { length digits.now ≤ 128 }
+    ensures small { result < 2 ^ length digits.now }
+    ensures digits { binary (length digits.now) result ≡ digits.now }
+{
+    let mut number = 0u128;
+    for digit in digits {
+        number = 2 * number + if *digit { 1 } else { 0 };
+    }
+    number
+}
+
+/// The word of this width that is written so; nothing where it has more digits or fewer.
+fn word_of(width: u32, digits: &[bool]) -> Option<Value>
+    requires { IsWidth width }
+    ensures { MatchOption result
+        ((v : Held) → HasSort (Sort.Word width) (meaning v) → written_value v ≡ Some (WrittenValue.Word digits.now) → ⊥)
+        (λ v. HasSort (Sort.Word width) (meaning v) × (written_value v ≡ Some (WrittenValue.Word digits.now))) }
+{
+    if digits.len() != width as usize {
+        return None;
+    }
+    Some(Value::Word(Word::new(width, number(digits)).unwrap()))
+}
+
+/// The value of this sort that is written so; nothing where there is none.
+fn value_of(sort: Sort, written: &WrittenValue) -> Option<Value>
+    requires { IsSort sort }
+    ensures { MatchOption result
+        ((v : Held) → HasSort sort (meaning v) → written_value v ≡ Some written.now → ⊥)
+        (λ v. HasSort sort (meaning v) × (written_value v ≡ Some written.now)) }
+{
+    match sort {
+        Sort::Bool => match written {
+            WrittenValue::Bool(holds) => Some(Value::Bool(*holds)),
+            WrittenValue::Word(_) => None,
+        },
+        Sort::Word(width) => match written {
+            WrittenValue::Bool(_) => None,
+            WrittenValue::Word(digits) => word_of(width, digits.as_slice()),
+        },
+        Sort::Array(_, _) => None,
+    }
+}
+
+/// The value that is written for a declaration, where it is the next one.
+pub fn declared_value(
+    state: &State,
+    next: DeclId,
+    declaration: u64,
+    written: &WrittenValue,
+) -> Option<Value>
+    ensures { MatchOption result
+        ((name : Name) (v : Held) → name.declaration ≡ next → IsValueOf state.now name declaration written.now v → ⊥)
+        (λ v. (name : Name) → name.declaration ≡ next → IsValueOf state.now name declaration written.now v) }
+{
+    let _live = state.live();
+    if declaration != next as u64 {
+        return None;
+    }
+    match state.signature(next) {
+        Some(signature) => value_of(signature.value, written),
+        None => None,
+    }
+}

@@ -1,0 +1,56 @@
+// Refutations.
+
+ghost use Rattle.std.specs.Prelude.{◌≡◌, ◌==◌, ◌&&◌, ℕ, true, IfOk, MatchBool};
+ghost use Rattle.std.specs.List.{list_any, list_all};
+ghost use Rattle.std.specs.Ordering.{nat_cmp};
+ghost use Rattle.std.specs.BTreeSet.{contains};
+ghost use Rattle.cnf_base.specs.Literals.{code_of};
+ghost use Rattle.proof_log.specs.Stored.{Stands};
+ghost use Rattle.accepted_proof.specs.Turns.{IsRefutation};
+ghost use Rattle.proof_checker.specs.Checkers.{is_against};
+
+use cnf_base::{ClauseId, Lit, Pos};
+use proof_log::Log;
+use scope_selectors::live::Live;
+use script_state::state::State;
+use std::alloc::{AllocError, Global};
+use std::collections::BTreeSet;
+
+/// The codes of the negated selectors of these assertions.
+fn codes_of(alloc: Global, log: &Log, live: &[Live]) -> Result<BTreeSet<u64>, AllocError>
+    ensures { IfOk result (λ codes. (q : ℕ) → contains nat_cmp codes q ≡ list_any (λ a. is_against log.now.selectors a q) live.now) }
+{
+    let mut codes = BTreeSet::new(alloc);
+    for assertion in live {
+        if let Some(selector) = log.selector(assertion.assertion) {
+            codes.insert(selector.negated().code())?;
+        }
+    }
+    Ok(codes)
+}
+
+/// Whether each literal is of one of these codes.
+fn are_among(literals: &[Lit], codes: &BTreeSet<u64>) -> bool
+    ensures { result ≡ list_all (λ l. contains nat_cmp codes.now (code_of l)) literals.now }
+{
+    for literal in literals {
+        if !codes.contains(&literal.code()) {
+            return false;
+        }
+    }
+    true
+}
+
+/// Whether the first clause of a position has negated selectors of live assertions alone.
+pub fn is_refutation(alloc: Global, state: &State, log: &Log, pos: Pos) -> Result<bool, AllocError>
+    requires { Stands state.now.terms.nodes log.now }
+    ensures { IfOk result (λ b. MatchBool b
+        (IsRefutation state.now state.now.terms.nodes log.now.entries pos)
+        (IsRefutation state.now state.now.terms.nodes log.now.entries pos → ⊥)) }
+{
+    let Some(clause) = log.clause(ClauseId { pos, part: 0 }) else {
+        return Ok(false)
+    };
+    let codes = codes_of(alloc, log, state.live())?;
+    Ok(are_among(clause.literals(), &codes))
+}
