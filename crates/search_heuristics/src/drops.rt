@@ -13,7 +13,7 @@ pub struct Learnt {
 
 /// Whether more learnt clauses are held than so many conflicts ask for.
 pub const fn drops_are_due(conflicts: u64, held: u64) -> bool {
-    held > 3_000 + conflicts / 2_000 * 100
+    held > 1_000 + conflicts / 2_000 * 60
 }
 
 // The worth of a learnt clause, the best first.

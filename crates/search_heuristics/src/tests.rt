@@ -77,7 +77,7 @@ fn the_worse_half_goes(rt: HostRuntime) -> Result<(), Fail> {
         worse_half(rt.alloc(), &ties)?.as_slice(),
         [2, 0].as_slice()
     );
-    assert!(rt; drops_are_due(4_000, 3_201));
-    assert!(rt; !drops_are_due(4_000, 3_200));
+    assert!(rt; drops_are_due(4_000, 1_121));
+    assert!(rt; !drops_are_due(4_000, 1_120));
     Ok(())
 }
