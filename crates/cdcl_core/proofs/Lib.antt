@@ -14,6 +14,7 @@ pub mod Ranks
 pub mod Hanging
 pub mod Arrivals
 pub mod Adding
+pub mod Finding
 pub mod Fixing
 pub mod Growing
 pub mod Freeing

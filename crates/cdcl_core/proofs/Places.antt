@@ -1,12 +1,12 @@
 -- What each call on linked places leaves of them.
-use Rattle.std.proofs.Common.{ℕ, take, zero, suc, ◌≡◌, ◌≢◌, ◌-◌, ◌<◌, ◌≤◌, List, [], ◌∷◌, ◌++◌, length, replicate, map, refl, sym, ◌∙◌, ap, subst, arith}
-use Rattle.std.proofs.Math.ListN.{get_or, set}
+use Rattle.std.proofs.Common.{ℕ, take, zero, suc, ◌≡◌, ◌≢◌, ◌+◌, ◌-◌, ◌^◌, ◌<◌, ◌≤◌, List, [], ◌∷◌, ◌++◌, length, replicate, map, refl, sym, ◌∙◌, ap, subst, arith}
+use Rattle.std.proofs.Math.ListN.{get_or, set, length-set}
 use Rattle.std.proofs.Math.Seq.{map-set_same}
 use Rattle.std.specs.List.{sum_by}
-use Rattle.std.proofs.lemmas.List.{get_or-map, length-map, get_or_default, map-set, map-append, append-nil, take_all}
+use Rattle.std.proofs.lemmas.List.{get_or-map, length-map, get_or_default, map-set, map-append, append-nil, take_all, length-append, length-replicate}
 use Rattle.cdcl_core.specs.declared.lists.Place.{Place}
 use Rattle.cdcl_core.specs.Lists.{Lists}
-use Rattle.cdcl_core.specs.Tables.{nexts, literals, shown, IsWell}
+use Rattle.cdcl_core.specs.Tables.{nexts, literals, shown, IsWell, AreFew}
 use Rattle.cdcl_core.specs.Chains.{follow, IsChain, lists_of, times, IsLinked, first_of, rest_of}
 use Rattle.cdcl_core.proofs.Moves.{moved_by, exchanged_by, first_by, place_within, popped, pushed, grown, chain_at}
 
@@ -167,3 +167,31 @@ first_none ps rs V i p e w h r z =
     let root : get_or rs i 0 ≡ 0 = sym (get_or_default rs i p 0 hir) ∙ (sym r ∙ z) in
     let c : IsChain ns (get_or rs i 0) (get_or (lists_of ns rs) i []) = chain_at ns rs i w hir in
     rw (← el) (chain_empty ns (get_or (lists_of ns rs) i []) (rw root at c))
+
+pub few_set : (ps : List Place) (rs : List ℕ) (p i j a b : ℕ) (x : Place) → AreFew ps rs → AreFew (set ps p x) (set (set rs i a) j b)
+few_set ps rs p i j a b x f = record { places = rw length-set f.places; lists = rw (length-set, length-set) f.lists }
+
+pub few_lists : (ps : List Place) (rs : List ℕ) (i j a b : ℕ) → AreFew ps rs → AreFew ps (set (set rs i a) j b)
+few_lists ps rs i j a b f = record { places = f.places; lists = rw (length-set, length-set) f.lists }
+
+pub few_list : (ps : List Place) (rs : List ℕ) (i a : ℕ) → AreFew ps rs → AreFew ps (set rs i a)
+few_list ps rs i a f = record { places = f.places; lists = rw length-set f.lists }
+
+pub few_place : (ps : List Place) (rs : List ℕ) (p : ℕ) (x : Place) → AreFew ps rs → AreFew (set ps p x) rs
+few_place ps rs p x f = record { places = rw length-set f.places; lists = f.lists }
+
+pub few_push : (ps : List Place) (rs : List ℕ) (p i a : ℕ) (x : Place) → AreFew ps rs → AreFew (set ps p x) (set rs i a)
+few_push ps rs p i a x f = record { places = rw length-set f.places; lists = rw length-set f.lists }
+
+-- a table that became as long as asked for is no longer
+pub few_after : {X : Type 0} (xs ys : List X) (n m : ℕ) (d : X) → ys ≡ take n xs ++ replicate (n - m) d → m ≡ length xs → m < n → n ≤ 2 ^ 32 → length ys ≤ 2 ^ 32
+few_after xs ys n m d e em lt small =
+    let len : length ys ≡ length xs + (n - m) = rw (resized xs ys n m d e em lt, length-append, length-replicate) refl in
+    omega (arith, len, em, lt, small)
+
+-- a list has a number of 4 bytes
+pub list_small : (ps : List Place) (rs : List ℕ) (V : Lists) (i : ℕ) → shown ps rs ≡ V → AreFew ps rs → i < length V.lists → i < 2 ^ 32
+list_small ps rs V i e f h = let l : length V.lists ≡ length rs = (lists_length ps rs V e).0 in omega (arith, l, f.lists, h)
+
+pub place_small : (ps : List Place) (rs : List ℕ) (V : Lists) (i : ℕ) → shown ps rs ≡ V → AreFew ps rs → i < length V.literals → i < 2 ^ 32
+place_small ps rs V i e f h = let l : length V.literals ≡ length ps = (lists_length ps rs V e).1 in omega (arith, l, f.places, h)

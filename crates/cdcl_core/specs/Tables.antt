@@ -1,5 +1,5 @@
 -- The tables behind linked places.
-use Rattle.std.specs.Prelude.{ℕ, List, map}
+use Rattle.std.specs.Prelude.{ℕ, ◌≤◌, ◌^◌, List, map, length}
 use Rattle.cdcl_core.specs.declared.lists.Place.{Place}
 use Rattle.cdcl_core.specs.Lists.{Lists}
 use Rattle.cdcl_core.specs.Chains.{lists_of, IsLinked}
@@ -15,3 +15,8 @@ shown ps rs = record { lists = lists_of (nexts ps) rs; literals = literals ps }
 
 abbrev pub IsWell : List Place → List ℕ → Type 0
 IsWell ps rs = IsLinked (nexts ps) rs
+
+-- the numbers of places and of lists take 4 bytes
+pub record AreFew (ps : List Place) (rs : List ℕ) : Type 0 where
+  pub places : length ps ≤ 2 ^ 32
+  pub lists : length rs ≤ 2 ^ 32

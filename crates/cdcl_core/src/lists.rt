@@ -6,18 +6,21 @@ ghost use Rattle.cdcl_core.specs.Chains.{first_of, rest_of, times};
 use std::alloc::{AllocError, Global};
 use std::marker::Model;
 
+// There are no more lists than this, and no more places, so that a number of either takes 4 bytes.
+const MOST: usize = 0x1_0000_0000;
+
 /// What stands at a place: the literal's code that it watches, and the place that follows in its list.
 #[derive(Clone, Copy)]
 struct Place {
-    literal: usize,
-    next: usize,
+    literal: u32,
+    next: u32,
 }
 
 /// Lists of places, and the literal of each place. A place stands in at most one list.
 #[derive(Drop)]
 pub(crate) struct WatchLists {
     places: Vec<Place>,
-    heads: Vec<usize>,
+    heads: Vec<u32>,
 }
 
 impl Model for WatchLists {
@@ -25,11 +28,11 @@ impl Model for WatchLists {
 
     ghost Value = { Lists };
 
-    ghost use Rattle.cdcl_core.specs.Tables.{shown, IsWell};
+    ghost use Rattle.cdcl_core.specs.Tables.{shown, IsWell, AreFew};
 
     ghost view = { λ s. shown s.places.items s.heads.items };
 
-    ghost invariant = { λ s. IsWell s.places.items s.heads.items };
+    ghost invariant = { λ s. IsWell s.places.items s.heads.items × AreFew s.places.items s.heads.items };
 }
 
 impl WatchLists {
@@ -50,16 +53,21 @@ impl WatchLists {
         requires { place < length self.now.literals }
         ensures { result ≡ slice_index self.now.literals place }
     {
-        self.places[place].literal
+        self.places[place].literal as usize
     }
 
     /// Gives a place another literal.
     #[inline(always)]
     pub(crate) fn set_literal(&mut self, place: usize, literal: usize)
-        requires { place < length self.old.literals }
+        requires place { place < length self.old.literals }
+        requires literal { literal < length self.old.lists }
         ensures { self.new ≡ record { lists = self.old.lists; literals = slice_set self.old.literals place literal } }
     {
-        self.places[place].literal = literal;
+        let next = self.places[place].next;
+        self.places[place] = Place {
+            literal: literal as u32,
+            next,
+        };
     }
 
     /// The first place of a list, or 0 where it is empty.
@@ -70,7 +78,7 @@ impl WatchLists {
         ensures once { (q : ℕ) → sum_by (times q) self.now.lists ≤ 1 }
         ensures empty { result ≡ 0 → slice_index_or self.now.lists list [] ≡ [] }
     {
-        self.heads[list]
+        self.heads[list] as usize
     }
 
     /// Moves the first place of the list `from` to the front of the list `to`.
@@ -83,8 +91,8 @@ impl WatchLists {
         ensures { self.new ≡ record { lists = slice_set (slice_set self.old.lists from (rest_of (slice_index_or self.old.lists from []))) to (first_of (slice_index_or self.old.lists from []) ∷ slice_index_or self.old.lists to []); literals = self.old.literals } }
     {
         let place = self.heads[from];
-        let after = self.places[place].next;
-        self.places[place].next = self.heads[to];
+        let after = self.places[place as usize].next;
+        self.places[place as usize].next = self.heads[to];
         self.heads[from] = after;
         self.heads[to] = place;
     }
@@ -108,7 +116,7 @@ impl WatchLists {
         ensures { self.new ≡ record { lists = slice_set self.old.lists list (rest_of (slice_index_or self.old.lists list [])); literals = self.old.literals } }
     {
         let place = self.heads[list];
-        self.heads[list] = self.places[place].next;
+        self.heads[list] = self.places[place as usize].next;
     }
 
     /// Puts a place that stands in no list to the front of one.
@@ -120,7 +128,7 @@ impl WatchLists {
         ensures { self.new ≡ record { lists = slice_set self.old.lists list (place ∷ slice_index_or self.old.lists list []); literals = self.old.literals } }
     {
         self.places[place].next = self.heads[list];
-        self.heads[list] = place;
+        self.heads[list] = place as u32;
     }
 
     /// Has at least `count` lists: the new ones are empty.
@@ -129,6 +137,9 @@ impl WatchLists {
         ensures err { OnErr result (self.new ≡ self.old) }
     {
         if self.heads.len() < count {
+            if count > MOST {
+                return Err(AllocError);
+            }
             self.heads.resize(count, 0)?;
         }
         Ok(())
@@ -140,6 +151,9 @@ impl WatchLists {
         ensures err { OnErr result (self.new ≡ self.old) }
     {
         if self.places.len() < count {
+            if count > MOST {
+                return Err(AllocError);
+            }
             self.places.resize(
                 count,
                 Place {

@@ -8,6 +8,7 @@ ghost use Rattle.cdcl_core.specs.Search.{clause_of};
 ghost use Rattle.cdcl_core.specs.State.{IsNew, IsSettled};
 
 use crate::lists::WatchLists;
+use crate::trail::Trail;
 use cnf_base::{Clause, ClauseId};
 use std::alloc::{AllocError, Global};
 use std::collections::BTreeMap;
@@ -67,5 +68,19 @@ impl Watches {
             Some(slot) => self.clauses.get(*slot),
             None => None,
         }
+    }
+
+    /// The held clause of this name: where it forced the literal at this place of the trail, it is found without a search.
+    pub fn clause_at(&self, trail: &Trail, place: usize, id: ClauseId) -> Option<&Clause>
+        requires { IsSettled self.now trail.now }
+        ensures { option_copied result ≡ clause_of self.now id }
+    {
+        if place < trail.len {
+            let slot = trail.reasons[place];
+            if slot != 0 && self.ids[slot] == id {
+                return Some(&self.clauses[slot]);
+            }
+        }
+        self.clause(id)
     }
 }

@@ -36,7 +36,7 @@ pub fn final_clause(
     ensures against { IfOk result (λ r. (given : List Literal) → AreGiven given (literals_of trail.now) conflict → IsAgainst given r.0) }
 {
     match conflict {
-        Clash::Held(id) => explain_all(alloc, watches, trail.literals(), id),
+        Clash::Held(id) => explain_all(alloc, watches, trail, trail.literals(), id),
         Clash::Given(l) => refute(alloc, watches, trail, l),
     }
 }
@@ -45,16 +45,18 @@ pub fn final_clause(
 fn explain_all(
     alloc: Global,
     watches: &Watches,
+    trail: &Trail,
     rows: &[Row],
     conflict: ClauseId,
 ) -> Result<(Clause, Vec<ClauseId>), AllocError>
+    requires settled { IsSettled watches.now trail.now }
     requires history { IsHistory (clause_of watches.now) rows.now }
     requires conflict { IsRefutedIn (clause_of watches.now) rows.now conflict }
     ensures chain { IfOk result (λ r. IsChain (clause_of watches.now) r.0 r.1.items) }
     ensures against { IfOk result (λ r. (given : List Literal) → DecidesOnly given rows.now → IsAgainst given r.0) }
 {
     let mut walk = Walk::start(alloc, watches, rows, conflict)?;
-    walk.explain(watches, rows, rows.len(), true)?;
+    walk.explain(watches, trail, rows, rows.len(), true)?;
     let clause = walk.clause(alloc, rows)?;
     Ok((clause, walk.into_hints()))
 }
@@ -94,7 +96,7 @@ fn refute(
         Some(id) => {
             let mut before: Vec<Row> = Vec::from_slice(alloc, &rows[..place])?;
             before.push((l, trail.level(), None))?;
-            explain_all(alloc, watches, before.as_slice(), id)
+            explain_all(alloc, watches, trail, before.as_slice(), id)
         }
     }
 }

@@ -28,9 +28,11 @@ fn ends_at(rows: &[Row], end: usize, level: u64) -> bool
 fn find_unique(
     walk: &mut Walk,
     watches: &Watches,
+    trail: &Trail,
     rows: &[Row],
     level: u64,
 ) -> Result<usize, AllocError>
+    requires settled { IsSettled watches.now trail.now }
     requires history { IsHistory (clause_of watches.now) rows.now }
     requires walk { IsWalk (clause_of watches.now) rows.now walk.old }
     requires rising { AreRising rows.now level }
@@ -42,7 +44,7 @@ fn find_unique(
     let mut end = walk.top(rows.len());
     let mut rest = walk.top(end - 1);
     'level: while ends_at(rows, rest, level) {
-        walk.resolve(watches, rows, end - 1)?;
+        walk.resolve(watches, trail, rows, end - 1)?;
         end = walk.top(end - 1);
         rest = walk.top(end - 1);
     }
@@ -68,8 +70,8 @@ pub fn learn(
 {
     let rows = trail.literals();
     let mut walk = Walk::start(alloc, watches, rows, conflict)?;
-    let place = find_unique(&mut walk, watches, rows, trail.level())?;
-    walk.explain(watches, rows, place, false)?;
+    let place = find_unique(&mut walk, watches, trail, rows, trail.level())?;
+    walk.explain(watches, trail, rows, place, false)?;
     let rest = walk.top(place);
     let level = if rest == 0 { 0 } else { rows[rest - 1].1 };
     let clause = walk.clause(alloc, rows)?;

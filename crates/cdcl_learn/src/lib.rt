@@ -5,8 +5,8 @@
 //! that forced its opposite, and each clause that it meets is a hint; read backwards the hints are a chain, whichever
 //! literals are replaced. At the level of the conflict it stops where one literal is left (J. P. Marques-Silva and K. A.
 //! Sakallah, "GRASP: a search algorithm for propositional satisfiability", 1999), and below it replaces what is false at
-//! level 0 and what rests on other literals of the clause alone (N. Sörensson and A. Biere, "Minimizing learned clauses",
-//! 2009).
+//! level 0, and what follows from other literals of the clause alone, over as many reasons as it takes (N. Sörensson and A.
+//! Biere, "Minimizing learned clauses", 2009).
 //!
 //! The contract of `learn` says that the clause follows by its hints, that each hint is used, that no held clause is a
 //! subset of it, and to which level the search may go back so that the clause is unit there; that of `final_clause` that
@@ -16,6 +16,7 @@
 
 mod last;
 mod learning;
+mod minimizer;
 mod walk;
 
 pub use last::{Clash, final_clause};

@@ -3,10 +3,12 @@
 ghost use Rattle.std.specs.Prelude.{ℕ, ◌≡◌, ◌≢◌, ◌+◌, ◌<◌, ◌≤◌, List, Some, None, IfOk, OnOk, Contains, length, reverse, slice_index, IsTrue};
 ghost use Rattle.cnf_base.specs.Literals.{Literal, negated};
 ghost use Rattle.cdcl_core.specs.Search.{clause_of};
+ghost use Rattle.cdcl_core.specs.State.{IsSettled};
 ghost use Rattle.cdcl_learn.specs.Rows.{literal_at, reason_at, IsHistory, IsRefutedIn};
 ghost use Rattle.cdcl_learn.specs.Walks.{IsSet, HasPlaces, IsMarked, IsWalk, IsResolved, IsExplained, IsTop};
 
-use cdcl_core::Watches;
+use crate::minimizer::{Marked, Minimizer};
+use cdcl_core::{Trail, Watches};
 use cnf_base::{Clause, ClauseId, Lit};
 use std::alloc::{AllocError, Global};
 
@@ -22,6 +24,7 @@ pub(crate) struct Walk {
     marks: Vec<bool>,
     // the clauses that were met, the conflict first
     hints: Vec<ClauseId>,
+    minimizer: Minimizer,
 }
 
 // The places of the literals of the trail.
@@ -109,6 +112,7 @@ impl Walk {
             places,
             marks,
             hints,
+            minimizer: Minimizer::new(alloc, rows.len())?,
         })
     }
 
@@ -116,9 +120,11 @@ impl Walk {
     pub(crate) fn resolve(
         &mut self,
         watches: &Watches,
+        trail: &Trail,
         rows: &[Row],
         i: usize,
     ) -> Result<(), AllocError>
+        requires settled { IsSettled watches.now trail.now }
         requires history { IsHistory (clause_of watches.now) rows.now }
         requires walk { IsWalk (clause_of watches.now) rows.now self.old }
         requires within { i < length rows.now }
@@ -130,7 +136,7 @@ impl Walk {
         let Some(id) = rows[i].2 else {
             return Ok(());
         };
-        let Some(clause) = watches.clause(id) else {
+        let Some(clause) = watches.clause_at(trail, i, id) else {
             return Ok(());
         };
         self.marks[i] = false;
@@ -152,41 +158,44 @@ impl Walk {
         top_of(self.marks.as_slice(), end)
     }
 
-    // Whether the literal is false at level 0, or the other literals of its reason are marked or false there.
-    fn is_covered(&self, watches: &Watches, row: &Row, rows: &[Row]) -> bool {
-        if row.1 == 0 {
-            return true;
+    // Whether the literal of a place is to be resolved: each one where `whole` is true, else one that is true at level 0, or
+    // follows from marked ones.
+    fn goes(
+        &mut self,
+        watches: &Watches,
+        trail: &Trail,
+        rows: &[Row],
+        i: usize,
+        whole: bool,
+    ) -> Result<bool, AllocError>
+        requires settled { IsSettled watches.now trail.now }
+        requires within { i < length rows.now }
+        ensures places { self.new.places ≡ self.old.places }
+        ensures marks { self.new.marks ≡ self.old.marks }
+        ensures hints { self.new.hints ≡ self.old.hints }
+        ensures whole { IfOk result (λ b. IsTrue whole → IsTrue b) }
+    {
+        if whole || rows[i].1 == 0 {
+            return Ok(true);
         }
-        let Some(id) = row.2 else {
-            return false;
+        let marked = Marked {
+            rows,
+            places: self.places.as_slice(),
+            marks: self.marks.as_slice(),
         };
-        let Some(clause) = watches.clause(id) else {
-            return false;
-        };
-        for l in clause.literals() {
-            let code = l.negated().code() as usize;
-            if code < self.places.len() {
-                let end = self.places[code];
-                if end != 0 && !self.is_marked_or_fixed(rows, end - 1) {
-                    return false;
-                }
-            }
-        }
-        true
-    }
-
-    fn is_marked_or_fixed(&self, rows: &[Row], place: usize) -> bool {
-        place < self.marks.len() && place < rows.len() && (self.marks[place] || rows[place].1 == 0)
+        self.minimizer.rests(watches, trail, marked, i)
     }
 
     // Resolves the literal of a place, if it is marked, has a reason, and is to be resolved.
     fn visit(
         &mut self,
         watches: &Watches,
+        trail: &Trail,
         rows: &[Row],
         i: usize,
         whole: bool,
     ) -> Result<(), AllocError>
+        requires settled { IsSettled watches.now trail.now }
         requires history { IsHistory (clause_of watches.now) rows.now }
         requires walk { IsWalk (clause_of watches.now) rows.now self.old }
         requires within { i < length rows.now }
@@ -200,8 +209,8 @@ impl Walk {
         if rows[i].2.is_none() {
             return Ok(());
         }
-        if whole || self.is_covered(watches, &rows[i], rows) {
-            return self.resolve(watches, rows, i);
+        if self.goes(watches, trail, rows, i, whole)? {
+            return self.resolve(watches, trail, rows, i);
         }
         Ok(())
     }
@@ -211,10 +220,12 @@ impl Walk {
     pub(crate) fn explain(
         &mut self,
         watches: &Watches,
+        trail: &Trail,
         rows: &[Row],
         end: usize,
         whole: bool,
     ) -> Result<(), AllocError>
+        requires settled { IsSettled watches.now trail.now }
         requires history { IsHistory (clause_of watches.now) rows.now }
         requires walk { IsWalk (clause_of watches.now) rows.now self.old }
         requires within { end ≤ length rows.now }
@@ -222,10 +233,15 @@ impl Walk {
         ensures explained { OnOk result (IsExplained end self.old.marks.items self.new.marks.items) }
         ensures whole { OnOk result (IsTrue whole → (p : ℕ) → p < end → IsSet self.new.marks.items p → reason_at rows.now p ≡ None) }
     {
+        self.minimizer.keep_levels(Marked {
+            rows,
+            places: self.places.as_slice(),
+            marks: self.marks.as_slice(),
+        });
         let mut i = end;
         'back: while i > 0 {
             i -= 1;
-            self.visit(watches, rows, i, whole)?;
+            self.visit(watches, trail, rows, i, whole)?;
         }
         Ok(())
     }

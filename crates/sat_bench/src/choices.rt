@@ -101,18 +101,34 @@ impl Choices {
         }
     }
 
-    /// Weighs what stood in a conflict.
+    // Whether a literal of the clause got its value at the level.
+    fn reaches(&self, literals: &[Lit], level: u64) -> bool {
+        for literal in literals {
+            let variable = literal.variable() as usize;
+            if variable < self.levels.len() && self.levels[variable] == level {
+                return true;
+            }
+        }
+        false
+    }
+
+    /// Weighs a clause that was learnt from a conflict at this level, and of its hints those that have a literal of the level:
+    /// the others made the clause shorter.
     pub fn weigh(
         &mut self,
         log: &Log,
         clause: &Clause,
         hints: &[ClauseId],
         name: ClauseId,
+        level: u64,
     ) -> Result<(), AllocError> {
         self.conflicts = self.conflicts.wrapping_add(1);
         for hint in hints {
-            for literal in log.literals(*hint) {
-                self.meet(*literal);
+            let literals = log.literals(*hint);
+            if self.reaches(literals, level) {
+                for literal in literals {
+                    self.meet(*literal);
+                }
             }
         }
         self.order.decay();

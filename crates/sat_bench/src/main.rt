@@ -14,10 +14,18 @@ mod dimacs;
 mod log;
 mod search;
 
+ghost use Rattle.std.specs.Prelude.{◌<◌, ◌^◌};
+ghost use Rattle.cdcl_core.specs.Search.{literals_of};
+ghost use Rattle.cdcl_core.specs.State.{IsConsistent, IsSettled};
+ghost use Rattle.cdcl_learn.specs.Rows.{AreDecidedFirst};
+ghost use Rattle.sat_bench.specs.Names.{AreFresh, HasRows};
+
 use cdcl_core::{Trail, Watches};
 use choices::Choices;
+use dimacs::Number;
 use log::Log;
 use search::Answer;
+use std::alloc::AllocError;
 use std::{env, io};
 
 // What the program is to do.
@@ -30,86 +38,137 @@ enum Mode {
     Hold,
 }
 
-fn main(rt: HostRuntime) -> io::Result<()> {
+// What the words after the program's name ask for: the last one that names a mode decides.
+fn mode_of(rt: &HostRuntime) -> io::Result<Mode> {
     let mut mode = Mode::Verify;
-    for word in env::args(&rt)? {
-        match word.as_str() {
-            "--measure" => mode = Mode::Measure,
-            "--plain" => mode = Mode::Plain,
-            "--read" => mode = Mode::Read,
-            "--hold" => mode = Mode::Hold,
-            _ => {}
-        }
+    for word in env::args(rt)? {
+        mode = match word.as_str() {
+            "--measure" => Mode::Measure,
+            "--plain" => Mode::Plain,
+            "--read" => Mode::Read,
+            "--hold" => Mode::Hold,
+            _ => mode,
+        };
     }
+    Ok(mode)
+}
+
+// Searches without learning, and prints what it counted.
+fn search_plainly(
+    rt: &HostRuntime,
+    watches: &mut Watches,
+    trail: &mut Trail,
+    variables: u64,
+) -> io::Result<()>
+    requires settled { IsSettled watches.old trail.old }
+    requires variables { variables < 2 ^ 32 }
+    requires rows { HasRows trail.old variables }
+{
+    let mut decisions = search::decisions(rt.alloc(), variables as usize + 1)?;
+    let (answer, counts) = search::search(
+        watches,
+        trail,
+        decisions.as_mut_slice(),
+        variables,
+        100_000,
+    );
+    println!(rt; "{}", answer.text())?;
+    println!(rt;
+        "c conflicts {} decisions {} propagations {}",
+        counts.conflicts, counts.decisions, counts.propagations
+    )
+}
+
+// Whether the program's own check agrees with the answer.
+fn is_verified(
+    answer: Answer,
+    trail: &Trail,
+    log: &Log,
+    numbers: &[Number],
+    variables: u64,
+) -> Result<bool, AllocError>
+    requires { IsConsistent trail.now }
+{
+    match answer {
+        Answer::Satisfiable => Ok(search::is_model(trail, numbers)),
+        _ => Ok(log.verify(variables)?.is_some()),
+    }
+}
+
+// Searches with learning, and prints what it counted or whether it verified.
+fn search_learning(
+    rt: &HostRuntime,
+    watches: &mut Watches,
+    trail: &mut Trail,
+    log: &mut Log,
+    first: u64,
+    formula: &[Number],
+    variables: u64,
+    mode: Mode,
+) -> io::Result<()>
+    requires settled { IsSettled watches.old trail.old }
+    requires decided { AreDecidedFirst (literals_of trail.old) }
+    requires fresh { AreFresh watches.old first }
+    requires variables { variables < 2 ^ 32 }
+{
+    let mut choices = Choices::new(rt.alloc(), variables as usize + 1)?;
+    let (answer, counts) = cdcl::solve(rt.alloc(), watches, trail, &mut choices, log, first)?;
+    println!(rt; "{}", answer.text())?;
+    if mode == Mode::Measure {
+        return println!(rt;
+            "c conflicts {} decisions {} propagations {} hints {}",
+            counts.conflicts,
+            counts.decisions,
+            counts.propagations,
+            log.hints()
+        );
+    }
+    if is_verified(answer, trail, log, formula, variables + 1)? {
+        println!(rt; "c verified")
+    } else {
+        println!(rt; "c not verified")
+    }
+}
+
+fn main(rt: HostRuntime) -> io::Result<()> {
+    let mode = mode_of(&rt)?;
     let text = io::read_to_string(rt.alloc(), rt.reader())?;
     let numbers = dimacs::numbers(rt.alloc(), text.as_str().as_bytes())?;
     if numbers.len() < 2 {
-        println!(rt; "c no formula")?;
-        return Ok(());
+        return println!(rt; "c no formula");
     }
     if mode == Mode::Read {
         return Ok(());
     }
     let variables = u64::from(numbers[0].variable);
+    let formula = &numbers[2..];
     let mut trail = Trail::new(rt.alloc());
     let mut watches = Watches::new(rt.alloc())?;
     let mut log = Log::new(rt.alloc())?;
+    let logs = mode != Mode::Hold;
     let first = search::load(
         rt.alloc(),
         &mut watches,
         &mut trail,
         &mut log,
-        mode != Mode::Hold,
-        &numbers[2..],
+        logs,
+        formula,
     )?;
     if mode == Mode::Hold {
         return Ok(());
     }
     watches.reserve(&mut trail, variables + 1)?;
     if mode == Mode::Plain {
-        let mut decisions = search::decisions(rt.alloc(), variables as usize + 1)?;
-        let (answer, counts) = search::search(
-            &mut watches,
-            &mut trail,
-            decisions.as_mut_slice(),
-            variables,
-            100_000,
-        );
-        println!(rt; "{}", answer.text())?;
-        println!(rt;
-            "c conflicts {} decisions {} propagations {}",
-            counts.conflicts, counts.decisions, counts.propagations
-        )?;
-        return Ok(());
+        return search_plainly(&rt, &mut watches, &mut trail, variables);
     }
-    let mut choices = Choices::new(rt.alloc(), variables as usize + 1)?;
-    let (answer, counts) = cdcl::solve(
-        rt.alloc(),
+    search_learning(
+        &rt,
         &mut watches,
         &mut trail,
-        &mut choices,
         &mut log,
         first,
-    )?;
-    println!(rt; "{}", answer.text())?;
-    if mode == Mode::Measure {
-        println!(rt;
-            "c conflicts {} decisions {} propagations {} hints {}",
-            counts.conflicts,
-            counts.decisions,
-            counts.propagations,
-            log.hints()
-        )?;
-        return Ok(());
-    }
-    let agrees = match answer {
-        Answer::Satisfiable => search::is_model(&trail, &numbers[2..]),
-        _ => log.verify(variables + 1)?.is_some(),
-    };
-    if agrees {
-        println!(rt; "c verified")?;
-    } else {
-        println!(rt; "c not verified")?;
-    }
-    Ok(())
+        formula,
+        variables,
+        mode,
+    )
 }

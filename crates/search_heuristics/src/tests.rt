@@ -67,7 +67,17 @@ fn the_worse_half_goes(rt: HostRuntime) -> Result<(), Fail> {
     ];
     let places = worse_half(rt.alloc(), &row)?;
     assert_eq!(rt; places.as_slice(), [0].as_slice());
-    assert!(rt; drops_are_due(4_000, 3_201));
-    assert!(rt; !drops_are_due(4_000, 3_200));
+    let ties = [
+        Learnt { glue: 4, size: 9 },
+        Learnt { glue: 4, size: 8 },
+        Learnt { glue: 4, size: 9 },
+        Learnt { glue: 3, size: 70 },
+    ];
+    assert_eq!(rt;
+        worse_half(rt.alloc(), &ties)?.as_slice(),
+        [2, 0].as_slice()
+    );
+    assert!(rt; drops_are_due(4_000, 1_121));
+    assert!(rt; !drops_are_due(4_000, 1_120));
     Ok(())
 }

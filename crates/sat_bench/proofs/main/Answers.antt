@@ -1,4 +1,4 @@
 use Rattle.sat_bench.proofs.main.Goals as goal
 
-pub solve-requires-clause-decided : goal.solve-requires-clause-decided
-solve-requires-clause-decided c = rw c.reserve.ensures.literals c.in_ok-first.ensures.decided
+pub search_learning-requires-clause-decided : goal.search_learning-requires-clause-decided
+search_learning-requires-clause-decided c = rw c.reserve.ensures.literals c.in_ok-first.ensures.decided

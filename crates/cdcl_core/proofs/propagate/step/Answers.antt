@@ -45,10 +45,17 @@ scan-found-requires-clause-within c =
     let read : codes c.literals.result.now ≡ get_or (all_codes c.args.w.now.clauses.items) (c.first-place.result / 2) [] = ap codes c.literals.ensures ∙ clause_codes c.args.w.now.clauses.items (c.first-place.result / 2) c.index-2.result.now a.clause c.index-2.ensures in
     λ l h. rw c.as_slice.ensures.value (c.requires.visiting.watched.within (c.first-place.result / 2) l (rw read at h))
 
-pub set_literal-requires : goal.set_literal-requires
-set_literal-requires c =
+pub set_literal-requires-clause-place : goal.set_literal-requires-clause-place
+set_literal-requires-clause-place c =
     let a : AtPlace c.args.w.now c.args.t.now c.args.p c.first-place.result c.literal-other.result = at_place c.args.w.now c.args.t.now c.args.p c.args.stop c.first-place.result c.neg-mate.result c.literal-other.result c.requires.visiting c.requires.pending c.first-place.ensures.value c.neg-mate.ensures c.literal-other.ensures in
     a.row
+
+pub set_literal-requires-clause-literal : goal.set_literal-requires-clause-literal
+set_literal-requires-clause-literal c =
+    let a : AtPlace c.args.w.now c.args.t.now c.args.p c.first-place.result c.literal-other.result = at_place c.args.w.now c.args.t.now c.args.p c.args.stop c.first-place.result c.neg-mate.result c.literal-other.result c.requires.visiting c.requires.pending c.first-place.ensures.value c.neg-mate.ensures c.literal-other.ensures in
+    let read : codes c.literals.result.now ≡ get_or (all_codes c.args.w.now.clauses.items) (c.first-place.result / 2) [] = ap codes c.literals.ensures ∙ clause_codes c.args.w.now.clauses.items (c.first-place.result / 2) c.index-2.result.now a.clause c.index-2.ensures in
+    let f : c.in-Some.f < length c.args.t.now.stamps.items = c.requires.visiting.watched.within (c.first-place.result / 2) c.in-Some.f (rw read at c.in-Some.ensures.0) in
+    omega (arith, f, c.requires.visiting.watched.lists)
 
 pub overflow_add-f : goal.overflow_add-f
 overflow_add-f c =

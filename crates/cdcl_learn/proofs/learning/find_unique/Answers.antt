@@ -2,6 +2,12 @@ use Rattle.std.proofs.Common.{arith}
 use Rattle.cdcl_learn.proofs.Tops.{IsInLevel, level_starts, level_goes_on, level_ends}
 use Rattle.cdcl_learn.proofs.learning.find_unique.Goals as goal
 
+pub overflow_sub-end : goal.overflow_sub-end
+overflow_sub-end c =
+    let first : IsInLevel c.args.rows.now c.args.walk.now.marks.items c.args.level c.top-end.result =
+    level_starts c.args.rows.now c.args.walk.now.marks.items c.args.level c.top-end.result c.requires.rising c.top-end.ensures c.requires.present in
+    omega (arith, first.some)
+
 pub level-init : goal.level-init
 level-init c = record {
   walk = c.requires.walk;

@@ -9,19 +9,19 @@ use Rattle.cdcl_learn.specs.Walks.{IsMarked}
 use Rattle.cdcl_learn.proofs.Derivations.{IsResolution, resolution, nothing}
 use Rattle.cdcl_learn.proofs.walk.Walk.resolve.Goals as goal
 
-pub returns-in_default-clause-clause-resolved : goal.returns-in_default-clause-clause-resolved
-returns-in_default-clause-clause-resolved c =
+pub returns-in_default-clause_at-clause-resolved : goal.returns-in_default-clause_at-clause-resolved
+returns-in_default-clause_at-clause-resolved c =
     let reason : reason_at c.args.rows.now c.args.i ≡ Some c.in-Some.id = ap (λ (r : Row). r.2) (get_or_default c.args.rows.now c.args.i no_row _ c.requires.within) ∙ c.in-Some.is in
     let f = c.requires.history.forced c.args.i c.in-Some.id c.requires.within reason in
-    nothing f.0 (c.in_default-clause.ensures ∙ f.1.0)
+    nothing f.0 (c.in_default-clause_at.ensures ∙ f.1.0)
 
 pub returns-clause-walk : goal.returns-clause-walk
 returns-clause-walk c =
     let reason : reason_at c.args.rows.now c.args.i ≡ Some c.in-Some.id = ap (λ (r : Row). r.2) (get_or_default c.args.rows.now c.args.i no_row _ c.requires.within) ∙ c.in-Some.is in
-    let k : IsMarked c.args.rows.now c.in-Some-clause.clause.now (set c.args.self.now.marks.items c.args.i false) c.mark.new.marks.items = rw c.literals.ensures at c.mark.ensures in
+    let k : IsMarked c.args.rows.now c.in-Some-clause_at.clause.now (set c.args.self.now.marks.items c.args.i false) c.mark.new.marks.items = rw c.literals.ensures at c.mark.ensures in
     let r : IsResolution (clause_of c.args.watches.now) c.args.rows.now c.args.i c.args.self.now.marks.items c.mark.new.marks.items (reverse c.push.new.self.items) =
-    resolution (clause_of c.args.watches.now) c.args.rows.now c.args.i c.in-Some.id c.in-Some-clause.clause.now c.args.self.now.marks.items c.mark.new.marks.items c.args.self.now.hints.items c.push.new.self.items
-    c.requires.history c.requires.within c.requires.walk.size c.requires.marked reason (sym c.in-Some-clause.ensures) k c.requires.walk.derived c.in_ok-push.ensures.items in
+    resolution (clause_of c.args.watches.now) c.args.rows.now c.args.i c.in-Some.id c.in-Some-clause_at.clause.now c.args.self.now.marks.items c.mark.new.marks.items c.args.self.now.hints.items c.push.new.self.items
+    c.requires.history c.requires.within c.requires.walk.size c.requires.marked reason (sym c.in-Some-clause_at.ensures) k c.requires.walk.derived c.in_ok-push.ensures.items in
     record {
       places = c.requires.walk.places;
       size = (let a : length c.mark.new.marks.items ≡ length (set c.args.self.now.marks.items c.args.i false) = k.size in rw length-set at a) ∙ c.requires.walk.size;
@@ -31,8 +31,8 @@ returns-clause-walk c =
 pub returns-clause-resolved : goal.returns-clause-resolved
 returns-clause-resolved c =
     let reason : reason_at c.args.rows.now c.args.i ≡ Some c.in-Some.id = ap (λ (r : Row). r.2) (get_or_default c.args.rows.now c.args.i no_row _ c.requires.within) ∙ c.in-Some.is in
-    let k : IsMarked c.args.rows.now c.in-Some-clause.clause.now (set c.args.self.now.marks.items c.args.i false) c.mark.new.marks.items = rw c.literals.ensures at c.mark.ensures in
+    let k : IsMarked c.args.rows.now c.in-Some-clause_at.clause.now (set c.args.self.now.marks.items c.args.i false) c.mark.new.marks.items = rw c.literals.ensures at c.mark.ensures in
     let r : IsResolution (clause_of c.args.watches.now) c.args.rows.now c.args.i c.args.self.now.marks.items c.mark.new.marks.items (reverse c.push.new.self.items) =
-    resolution (clause_of c.args.watches.now) c.args.rows.now c.args.i c.in-Some.id c.in-Some-clause.clause.now c.args.self.now.marks.items c.mark.new.marks.items c.args.self.now.hints.items c.push.new.self.items
-    c.requires.history c.requires.within c.requires.walk.size c.requires.marked reason (sym c.in-Some-clause.ensures) k c.requires.walk.derived c.in_ok-push.ensures.items in
+    resolution (clause_of c.args.watches.now) c.args.rows.now c.args.i c.in-Some.id c.in-Some-clause_at.clause.now c.args.self.now.marks.items c.mark.new.marks.items c.args.self.now.hints.items c.push.new.self.items
+    c.requires.history c.requires.within c.requires.walk.size c.requires.marked reason (sym c.in-Some-clause_at.ensures) k c.requires.walk.derived c.in_ok-push.ensures.items in
     r.resolved

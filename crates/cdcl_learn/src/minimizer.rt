@@ -1,0 +1,192 @@
+//! Which literals of a clause rest on its others: a choice without a promise.
+
+ghost use Rattle.cdcl_core.specs.State.{IsSettled};
+
+use crate::walk::Row;
+use cdcl_core::{Trail, Watches};
+use cnf_base::Lit;
+use std::alloc::{AllocError, Global};
+
+// What is known of a place of the trail.
+#[derive(Clone, Copy, PartialEq, Eq)]
+enum Verdict {
+    Unknown,
+    // its literal follows from marked ones and from those of level 0
+    Rests,
+    Stands,
+}
+
+// What the literals of a reason say of the literal that it forced.
+enum Finding {
+    Known(Verdict),
+    // this place is to be looked at first, and then the reason again from this literal on
+    Below(usize, usize),
+}
+
+/// The marked places of a walk, and where their literals stand.
+#[derive(Clone, Copy)]
+pub(crate) struct Marked<'a> {
+    pub rows: &'a [Row],
+    // by literal: one more than its place, 0 where it is not true
+    pub places: &'a [usize],
+    // by place
+    pub marks: &'a [bool],
+}
+
+impl<'a> Marked<'a> {
+    fn is_marked(self, place: usize) -> bool {
+        place < self.marks.len() && self.marks[place]
+    }
+
+    // The place of the opposite of a false literal.
+    fn place_against(self, l: Lit) -> Option<usize> {
+        let code = l.negated().code() as usize;
+        if code < self.places.len() {
+            let end = self.places[code];
+            if end != 0 {
+                return Some(end - 1);
+            }
+        }
+        None
+    }
+}
+
+/// Looks below a literal for what it rests on, each place once (N. Sörensson and A. Biere, "Minimizing learned clauses",
+/// 2009).
+#[derive(Drop)]
+pub(crate) struct Minimizer {
+    // by place
+    verdicts: Vec<Verdict>,
+    // the places that wait for one below, each with the literal of its reason at which it goes on
+    waiting: Vec<(usize, usize)>,
+    // the levels of the marked literals, those of one remainder by 64 taken together
+    levels: u64,
+}
+
+// The bit of a decision level.
+fn level_bit(level: u64) -> u64 {
+    1 << (level % 64)
+}
+
+impl Minimizer {
+    /// Nothing is known of so many places.
+    pub(crate) fn new(alloc: Global, places: usize) -> Result<Minimizer, AllocError> {
+        Ok(Minimizer {
+            verdicts: vec![in alloc; Verdict::Unknown; places]?,
+            waiting: Vec::new(alloc),
+            levels: 0,
+        })
+    }
+
+    /// Looks at no level but those of the marked literals.
+    pub(crate) fn keep_levels(&mut self, marked: Marked<'_>) {
+        self.levels = 0;
+        for place in 0..marked.rows.len() {
+            if marked.is_marked(place) {
+                self.levels |= level_bit(marked.rows[place].1);
+            }
+        }
+    }
+
+    fn verdict(&self, place: usize) -> Verdict {
+        if place < self.verdicts.len() {
+            self.verdicts[place]
+        } else {
+            Verdict::Stands
+        }
+    }
+
+    fn settle(&mut self, place: usize, verdict: Verdict) {
+        if place < self.verdicts.len() {
+            self.verdicts[place] = verdict;
+        }
+    }
+
+    // What is known of a literal that the reason of another one has.
+    fn judge(&self, marked: Marked<'_>, place: usize) -> Verdict {
+        let Some(row) = marked.rows.get(place) else {
+            return Verdict::Stands;
+        };
+        if row.1 == 0 || marked.is_marked(place) {
+            return Verdict::Rests;
+        }
+        if row.2.is_none() || self.levels & level_bit(row.1) == 0 {
+            return Verdict::Stands;
+        }
+        self.verdict(place)
+    }
+
+    // Goes on through the reason of the literal at a place.
+    fn look(
+        &self,
+        watches: &Watches,
+        trail: &Trail,
+        marked: Marked<'_>,
+        place: usize,
+        from: usize,
+    ) -> Finding
+        requires { IsSettled watches.now trail.now }
+    {
+        let Some(&(_, _, Some(id))) = marked.rows.get(place) else {
+            return Finding::Known(Verdict::Stands);
+        };
+        let Some(clause) = watches.clause_at(trail, place, id) else {
+            return Finding::Known(Verdict::Stands);
+        };
+        let literals = clause.literals();
+        for k in from..literals.len() {
+            if let Some(below) = marked.place_against(literals[k]) {
+                match self.judge(marked, below) {
+                    Verdict::Rests => {}
+                    Verdict::Stands => return Finding::Known(Verdict::Stands),
+                    Verdict::Unknown => return Finding::Below(below, k),
+                }
+            }
+        }
+        Finding::Known(Verdict::Rests)
+    }
+
+    /// Whether the literal of a place follows from marked ones and from those of level 0.
+    pub(crate) fn rests(
+        &mut self,
+        watches: &Watches,
+        trail: &Trail,
+        marked: Marked<'_>,
+        place: usize,
+    ) -> Result<bool, AllocError>
+        requires { IsSettled watches.now trail.now }
+    {
+        if self.verdict(place) != Verdict::Unknown {
+            return Ok(self.verdict(place) == Verdict::Rests);
+        }
+        self.waiting.clear();
+        self.waiting.push((place, 0))?;
+        for _ in 0..u64::MAX {
+            let Some((top, from)) = self.waiting.pop() else {
+                return Ok(true);
+            };
+            match self.look(watches, trail, marked, top, from) {
+                Finding::Known(Verdict::Rests) => self.settle(top, Verdict::Rests),
+                Finding::Known(_) => {
+                    self.settle(top, Verdict::Stands);
+                    self.give_up();
+                    return Ok(false);
+                }
+                Finding::Below(below, next) => {
+                    self.waiting.push((top, next))?;
+                    self.waiting.push((below, 0))?;
+                }
+            }
+        }
+        Ok(false)
+    }
+
+    // What waits for a literal that stands, stands too.
+    fn give_up(&mut self) {
+        for waits in &self.waiting {
+            if waits.0 < self.verdicts.len() {
+                self.verdicts[waits.0] = Verdict::Stands;
+            }
+        }
+    }
+}
