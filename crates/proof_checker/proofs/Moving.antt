@@ -1,5 +1,5 @@
 -- How a checker moves.
-use Rattle.std.proofs.Common.{◌≡◌, ℕ, suc, ◌+◌, ◌<◌, ◌≤◌, List, [], ◌∷◌, ◌++◌, length, drop, get_or, Option, Some, None, Result, Ok, Err, IfOk, MatchResult, length-append, length-drop, drop-cons, refl, sym, ap, ap₂, ◌∙◌, subst, inl, inr, arith}
+use Rattle.std.proofs.Common.{◌≡◌, ℕ, suc, ◌+◌, ◌<◌, ◌≤◌, List, [], ◌∷◌, ◌++◌, length, drop, get_or, Some, None, Result, Ok, Err, IfOk, MatchResult, length-append, length-drop, drop-cons, refl, sym, ap, ◌∙◌, subst, inl, inr, arith}
 use Rattle.std.proofs.Math.ListN.{drop_of_length-le}
 use Rattle.std.specs.declared.alloc.AllocError.{AllocError}
 use Rattle.smt_values.specs.declared.value.Value.{Value}
@@ -57,14 +57,15 @@ are_left due.Values live values h = (refl, left (drop (length values) live) refl
   left : (rest : List LiveName) → drop (length values) live ≡ rest → IsOwedValues (values_owed rest values) → length values < length live
   left [] e h = absurd h
   left (next ∷ rest) e h =
-    let more : length (drop (length values) live) ≡ length (next ∷ rest) = ap length e in
-    omega (arith, length-drop (length values) live)
+      let more : length (drop (length values) live) ≡ length (next ∷ rest) = ap length e in
+      omega (arith, length-drop (length values) live)
 
 -- where some are left, they are owed
 pub are_owed : (d : Due) (live : List LiveName) (values : List (ℕ × Value)) → d ≡ due.Values → IsOpen d live values → IsOwedValues (owed_of d live values)
 are_owed d live values e h = subst (λ x. IsOwedValues (owed_of x live values)) (sym e) (go (drop (length values) live) refl) where
   less : length values < length live
   less = subst (λ x. IsOpen x live values) e h
+
   go : (rest : List LiveName) → drop (length values) live ≡ rest → IsOwedValues (values_owed rest values)
   go [] q =
       let none : length (drop (length values) live) ≡ 0 = ap length q in

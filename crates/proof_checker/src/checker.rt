@@ -70,7 +70,10 @@ fn rule_of(line: &Line) -> RuleName
         Line::Leaf(_) => RuleName::Leaf,
         Line::Encode(_) => RuleName::Encode,
         Line::Selector(_) => RuleName::Selector,
-        Line::Chain { clause: _, hints: _ } => RuleName::Chain,
+        Line::Chain {
+            clause: _,
+            hints: _,
+        } => RuleName::Chain,
         _ => RuleName::Line,
     }
 }
@@ -285,11 +288,7 @@ impl Checker {
     }
 
     // The values of a model are all there, and are judged.
-    fn judge_model(
-        self,
-        alloc: Global,
-        values: &[(DeclId, Value)],
-    ) -> Result<Checker, AllocError>
+    fn judge_model(self, alloc: Global, values: &[(DeclId, Value)]) -> Result<Checker, AllocError>
         requires more { self.judging.line + 1 < 2 ^ 64 }
         ensures { IfOk result (λ c. GoesTo (Goes self.judging [] values.now) self c) }
     {
@@ -347,14 +346,23 @@ impl Checker {
         ensures { IfOk result (λ c. GoesTo (AtStep self.judging line.now) self c) }
     {
         match line {
-            Line::Header { cubes: _, budget: _ } => Ok(self.refuse(RuleName::Line)),
+            Line::Header {
+                cubes: _,
+                budget: _,
+            } => Ok(self.refuse(RuleName::Line)),
             Line::Term { head: _, args: _ } => self.step(alloc, line),
             Line::Leaf(_) => self.step(alloc, line),
             Line::Encode(_) => self.step(alloc, line),
             Line::Selector(_) => self.step(alloc, line),
-            Line::Chain { clause: _, hints: _ } => self.step(alloc, line),
+            Line::Chain {
+                clause: _,
+                hints: _,
+            } => self.step(alloc, line),
             Line::Sat(count) => self.begin_values(alloc, *count),
-            Line::Value { declaration: _, value: _ } => Ok(self.refuse(RuleName::Line)),
+            Line::Value {
+                declaration: _,
+                value: _,
+            } => Ok(self.refuse(RuleName::Line)),
             Line::Unsat(pos) => self.refute(alloc, *pos),
         }
     }
