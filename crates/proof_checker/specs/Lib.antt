@@ -1,1 +1,3 @@
 pub mod Checkers
+pub mod Checked
+pub mod Checkings
