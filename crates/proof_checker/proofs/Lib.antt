@@ -1,3 +1,4 @@
+pub mod Against
 pub mod Lining
 pub mod Splits
 pub mod Chunking
@@ -5,3 +6,5 @@ pub mod Telling
 pub mod Keeping
 pub mod Verdicts
 pub mod Passing
+pub mod Moving
+pub mod Valued

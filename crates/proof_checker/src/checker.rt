@@ -1,12 +1,14 @@
 // The checker.
 
-ghost use Rattle.std.specs.Prelude.{◌≡◌, ◌+◌, ◌<◌, ◌^◌, drop, length, true, not, Some, None, IfOk, MatchBool, MatchResult};
+ghost use Rattle.std.specs.Prelude.{◌≡◌, ◌+◌, ◌<◌, ◌^◌, ℕ, List, [], drop, length, true, not, Some, None, IfOk, MatchBool, MatchResult};
+ghost use Rattle.smt_values.specs.declared.value.Value.{Value as Held};
+ghost use Rattle.smt_build.specs.declared.symbols.LiveName.{LiveName as Name};
 ghost use Rattle.script_state.specs.Readings.{ReadsAs};
 ghost use Rattle.proof_text.specs.Lines.{IsLine};
 ghost use Rattle.proof_text.specs.declared.line.Line.TheVariants as line;
 ghost use Rattle.accepted_proof.specs.Judged as judged;
-ghost use Rattle.accepted_proof.specs.Judged.{IsHeader, bad_header, commanded, is_idle, ending, refused, StepsBy, Goes, AtStep, MovesBy, Moves};
-ghost use Rattle.proof_checker.specs.Checkers.{Says, line_in, IsRead, no_records, judged_so, GoesTo, answer_by, at_end, closed_with, gone_on, IsOwedValues};
+ghost use Rattle.accepted_proof.specs.Judged.{IsHeader, bad_header, commanded, owed_by, is_idle, ending, refused, StepsBy, Goes, AtStep, MovesBy, Moves};
+ghost use Rattle.proof_checker.specs.Checkers.{Says, line_in, IsRead, no_records, judged_so, GoesTo, answer_by, at_end, closed_with, gone_on, owed_of, IsOpen, IsOwedValues};
 
 use crate::due::Due;
 use crate::models::{declared_value, is_model};
@@ -51,7 +53,7 @@ impl Model for Checker {
 
 /// Whether the line is a header, with its numbers in range.
 fn is_header(first: &Result<Line, LineFault>) -> bool
-    ensures { MatchBool result (IsHeader (line_in first.now) → ⊥) (IsHeader (line_in first.now)) }
+    ensures { MatchBool result (IsHeader (line_in first.now)) (IsHeader (line_in first.now) → ⊥) }
 {
     match first {
         Ok(Line::Header { cubes, budget }) => *cubes <= 10 && *budget <= 1_000_000_000,
@@ -68,8 +70,23 @@ fn rule_of(line: &Line) -> RuleName
         Line::Leaf(_) => RuleName::Leaf,
         Line::Encode(_) => RuleName::Encode,
         Line::Selector(_) => RuleName::Selector,
-        Line::Chain { clause: _, hints: _ } => RuleName::Chain,
+        Line::Chain {
+            clause: _,
+            hints: _,
+        } => RuleName::Chain,
         _ => RuleName::Line,
+    }
+}
+
+/// What a command owes that is answered so.
+fn due_by(answer: Answer) -> Due
+    ensures owed { (live : List Name) (values : List (ℕ × Held)) → owed_of result live values ≡ owed_by answer }
+    ensures open { (live : List Name) (values : List (ℕ × Held)) → IsOpen result live values }
+{
+    match answer {
+        Answer::Check => Due::Steps,
+        Answer::Done => Due::Nothing,
+        Answer::Refused(_) => Due::Nothing,
     }
 }
 
@@ -132,18 +149,16 @@ impl Checker {
         if state.assertions_made() == u32::MAX {
             return Err(AllocError);
         }
-        let check = match state.apply(alloc, chunk)? {
-            Answer::Check => true,
-            Answer::Done | Answer::Refused(_) => false,
-        };
+        let answer = state.apply(alloc, chunk)?;
         let checker = Checker {
             state,
             log,
-            due: if check { Due::Steps } else { Due::Nothing },
+            due: due_by(answer),
             values,
             line,
             verdicts,
         };
+        let check = checker.owes();
         Ok((checker, check))
     }
 
@@ -227,7 +242,7 @@ impl Checker {
         let Checker {
             state,
             mut log,
-            due,
+            due: _,
             values,
             line: number,
             verdicts,
@@ -236,7 +251,7 @@ impl Checker {
         let checker = Checker {
             state,
             log,
-            due,
+            due: Due::Steps,
             values,
             line: number,
             verdicts,
@@ -245,6 +260,42 @@ impl Checker {
             Ok(checker.go_on())
         } else {
             Ok(checker.refuse(rule_of(line)))
+        }
+    }
+
+    // Further values of a model are owed.
+    fn owe_values(self, values: Vec<(DeclId, Value)>) -> Checker
+        requires more { self.judging.line + 1 < 2 ^ 64 }
+        requires left { length values.items < length self.judging.state.symbols.live }
+        ensures { GoesTo (Goes self.judging (drop (length values.items) self.judging.state.symbols.live) values.items) self result }
+    {
+        let Checker {
+            state,
+            log,
+            due: _,
+            values: _,
+            line,
+            verdicts,
+        } = self;
+        Checker {
+            state,
+            log,
+            due: Due::Values,
+            values,
+            line: line + 1,
+            verdicts,
+        }
+    }
+
+    // The values of a model are all there, and are judged.
+    fn judge_model(self, alloc: Global, values: &[(DeclId, Value)]) -> Result<Checker, AllocError>
+        requires more { self.judging.line + 1 < 2 ^ 64 }
+        ensures { IfOk result (λ c. GoesTo (Goes self.judging [] values.now) self c) }
+    {
+        if is_model(alloc, &self.state, values)? {
+            self.close(Verdict::Sat)
+        } else {
+            Ok(self.refuse(RuleName::Sat))
         }
     }
 
@@ -257,31 +308,11 @@ impl Checker {
         requires more { self.judging.line + 1 < 2 ^ 64 }
         ensures { IfOk result (λ c. GoesTo (Goes self.judging (drop (length values.items) self.judging.state.symbols.live) values.items) self c) }
     {
-        let Checker {
-            state,
-            log,
-            due: _,
-            values: _,
-            line,
-            verdicts,
-        } = self;
-        let whole = values.len() >= state.declared().len();
-        let holds = !whole || is_model(alloc, &state, values.as_slice())?;
-        let checker = Checker {
-            state,
-            log,
-            due: if whole { Due::Steps } else { Due::Values },
-            values,
-            line,
-            verdicts,
-        };
-        if !holds {
-            return Ok(checker.refuse(RuleName::Sat));
+        if values.len() < self.state.declared().len() {
+            Ok(self.owe_values(values))
+        } else {
+            self.judge_model(alloc, values.as_slice())
         }
-        if whole {
-            return checker.close(Verdict::Sat);
-        }
-        Ok(checker.go_on())
     }
 
     // The line that begins a model.
@@ -315,14 +346,23 @@ impl Checker {
         ensures { IfOk result (λ c. GoesTo (AtStep self.judging line.now) self c) }
     {
         match line {
-            Line::Header { cubes: _, budget: _ } => Ok(self.refuse(RuleName::Line)),
+            Line::Header {
+                cubes: _,
+                budget: _,
+            } => Ok(self.refuse(RuleName::Line)),
             Line::Term { head: _, args: _ } => self.step(alloc, line),
             Line::Leaf(_) => self.step(alloc, line),
             Line::Encode(_) => self.step(alloc, line),
             Line::Selector(_) => self.step(alloc, line),
-            Line::Chain { clause: _, hints: _ } => self.step(alloc, line),
+            Line::Chain {
+                clause: _,
+                hints: _,
+            } => self.step(alloc, line),
             Line::Sat(count) => self.begin_values(alloc, *count),
-            Line::Value { declaration: _, value: _ } => Ok(self.refuse(RuleName::Line)),
+            Line::Value {
+                declaration: _,
+                value: _,
+            } => Ok(self.refuse(RuleName::Line)),
             Line::Unsat(pos) => self.refute(alloc, *pos),
         }
     }
@@ -432,15 +472,24 @@ impl Checker {
         Ok((checker, told))
     }
 
+    // Where it stands at the end of the text.
+    fn stop(self) -> Checker
+        ensures { result ≡ at_end self (ending self.judging.owed self.judging.line) }
+    {
+        match self.due {
+            Due::Nothing => self,
+            Due::Steps => self.refuse(RuleName::End),
+            Due::Values => self.refuse(RuleName::End),
+            Due::Over(_) => self,
+        }
+    }
+
     /// Judges the end of the text.
     pub fn end(self) -> (Checker, Result<(), Refusal>)
         ensures told { MatchResult result.1 (λ _. ending self.judging.owed self.judging.line ≡ None) (λ r. ending self.judging.owed self.judging.line ≡ Some r) }
         ensures end { result.0 ≡ at_end self (ending self.judging.owed self.judging.line) }
     {
-        let checker = match self.due {
-            Due::Steps | Due::Values => self.refuse(RuleName::End),
-            Due::Nothing | Due::Over(_) => self,
-        };
+        let checker = self.stop();
         let told = checker.told();
         (checker, told)
     }

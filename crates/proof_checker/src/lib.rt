@@ -13,7 +13,6 @@ pub mod checker;
 pub mod checking;
 mod due;
 mod inputs;
-
 mod lines;
 mod models;
 mod refutations;

@@ -75,11 +75,7 @@ fn no_part(log: &Log, pos: Pos) -> Result<Option<Hints>, AllocError>
 }
 
 /// The hints that are written, where each of them names a clause that there is or is small.
-fn hints_of(
-    alloc: Global,
-    log: &Log,
-    hints: &[WrittenHint],
-) -> Result<Option<Hints>, AllocError>
+fn hints_of(alloc: Global, log: &Log, hints: &[WrittenHint]) -> Result<Option<Hints>, AllocError>
     ensures { IfOk result (λ o. MatchOption o
         ((c : List Literal) (names : List Name) → map written_hint names ≡ hints.now → IsChain (clause_at log.now.clauses) c names → ⊥)
         (λ h. map written_hint h ≡ hints.now)) }
@@ -141,10 +137,11 @@ fn node_of(
         ((n : NodeValue) → entry_line (step.Node n) ≡ Some (line.Term head numbers.now) → IsDeclared state.now.symbols.signatures n.op → IsNewNode state.now.terms n → ⊥)
         (λ n. (entry_line (step.Node n) ≡ Some (line.Term head numbers.now)) × IsDeclared state.now.symbols.signatures n.op)) }
 {
+    let held = state.terms().len();
     let Some(op) = op_of(head) else {
         return Ok(None)
     };
-    match args_of(alloc, state.terms().len(), numbers)? {
+    match args_of(alloc, held, numbers)? {
         Some(args) => Ok(Some(Node { op, args })),
         None => Ok(None),
     }
@@ -227,9 +224,15 @@ pub fn entry_of(
             None => Ok(None),
         },
         Line::Chain { clause, hints } => chain_of(alloc, log, clause.as_slice(), hints.as_slice()),
-        Line::Header { cubes: _, budget: _ } => Ok(None),
+        Line::Header {
+            cubes: _,
+            budget: _,
+        } => Ok(None),
         Line::Sat(_) => Ok(None),
-        Line::Value { declaration: _, value: _ } => Ok(None),
+        Line::Value {
+            declaration: _,
+            value: _,
+        } => Ok(None),
         Line::Unsat(_) => Ok(None),
     }
 }

@@ -1,8 +1,12 @@
 // Models.
 
-ghost use Rattle.std.specs.Prelude.{◌≡◌, ℕ, IfOk, MatchBool, MatchOption};
+ghost use Rattle.std.specs.Prelude.{◌≡◌, ◌<◌, ◌≤◌, ◌^◌, ℕ, length, Some, IfOk, MatchBool, MatchOption};
+ghost use Rattle.smt_words.specs.Words.{IsWidth};
+ghost use Rattle.smt_terms.specs.Terms.{IsSort};
+ghost use Rattle.smt_terms.specs.Values.{HasSort, is_true};
 ghost use Rattle.smt_values.specs.declared.value.Value.{Value as Held};
-ghost use Rattle.smt_values.specs.Held.{set_for};
+ghost use Rattle.smt_values.specs.Held.{meaning, set_for};
+ghost use Rattle.proof_text.specs.Records.{binary, written_value};
 ghost use Rattle.smt_build.specs.declared.symbols.LiveName.{LiveName as Name};
 ghost use Rattle.accepted_proof.specs.Models.{value_for, interpretation_of, IsModel};
 ghost use Rattle.accepted_proof.specs.Judged.{IsValueOf};
@@ -21,10 +25,23 @@ fn interp_of(alloc: Global, values: &[(DeclId, Value)]) -> Result<Interp, AllocE
 {
     let mut interp = Interp::new(alloc);
     for done in 0..values.len() {
-        let value = &values[values.len() - 1 - done];
+        let place = values.len() - 1 - done;
+        let value = &values[place];
         interp.set(value.0, value.1.copy()?)?;
     }
     Ok(interp)
+}
+
+/// Whether a value is true.
+fn is_true(value: &Value) -> bool
+    ensures { result ≡ is_true (meaning value.now) }
+{
+    match value {
+        Value::Bool(holds) => *holds,
+        Value::Word(_) => false,
+        Value::Array(_) => false,
+        Value::Fun(_) => false,
+    }
 }
 
 /// Whether each live assertion is true under the values.
@@ -40,7 +57,7 @@ pub fn is_model(
     let interp = interp_of(alloc, values)?;
     let evaluated = Values::of(alloc, state.terms(), &interp)?;
     for assertion in state.live() {
-        if !matches!(evaluated.get(assertion.term), Value::Bool(true)) {
+        if !is_true(evaluated.get(assertion.term)) {
             return Ok(false);
         }
     }
@@ -48,19 +65,38 @@ pub fn is_model(
 }
 
 /// The number of these binary digits, the highest first.
-fn number(digits: &[bool]) -> u128 {
+fn number(digits: &[bool]) -> u128
+    requires { length digits.now ≤ 128 }
+    ensures small { result < 2 ^ length digits.now }
+    ensures digits { binary (length digits.now) result ≡ digits.now }
+{
     let mut number = 0u128;
     for digit in digits {
-        number = number.wrapping_add(number);
-        if *digit {
-            number = number | 1;
-        }
+        number = 2 * number + if *digit { 1 } else { 0 };
     }
     number
 }
 
+/// The word of this width that is written so; nothing where it has more digits or fewer.
+fn word_of(width: u32, digits: &[bool]) -> Option<Value>
+    requires { IsWidth width }
+    ensures { MatchOption result
+        ((v : Held) → HasSort (Sort.Word width) (meaning v) → written_value v ≡ Some (WrittenValue.Word digits.now) → ⊥)
+        (λ v. HasSort (Sort.Word width) (meaning v) × (written_value v ≡ Some (WrittenValue.Word digits.now))) }
+{
+    if digits.len() != width as usize {
+        return None;
+    }
+    Some(Value::Word(Word::new(width, number(digits)).unwrap()))
+}
+
 /// The value of this sort that is written so; nothing where there is none.
-fn value_of(sort: Sort, written: &WrittenValue) -> Option<Value> {
+fn value_of(sort: Sort, written: &WrittenValue) -> Option<Value>
+    requires { IsSort sort }
+    ensures { MatchOption result
+        ((v : Held) → HasSort sort (meaning v) → written_value v ≡ Some written.now → ⊥)
+        (λ v. HasSort sort (meaning v) × (written_value v ≡ Some written.now)) }
+{
     match sort {
         Sort::Bool => match written {
             WrittenValue::Bool(holds) => Some(Value::Bool(*holds)),
@@ -74,23 +110,18 @@ fn value_of(sort: Sort, written: &WrittenValue) -> Option<Value> {
     }
 }
 
-fn word_of(width: u32, digits: &[bool]) -> Option<Value> {
-    if digits.len() != width as usize {
-        return None;
-    }
-    match Word::new(width, number(digits)) {
-        Some(word) => Some(Value::Word(word)),
-        None => None,
-    }
-}
-
 /// The value that is written for a declaration, where it is the next one.
 pub fn declared_value(
     state: &State,
     next: DeclId,
     declaration: u64,
     written: &WrittenValue,
-) -> Option<Value> {
+) -> Option<Value>
+    ensures { MatchOption result
+        ((name : Name) (v : Held) → name.declaration ≡ next → IsValueOf state.now name declaration written.now v → ⊥)
+        (λ v. (name : Name) → name.declaration ≡ next → IsValueOf state.now name declaration written.now v) }
+{
+    let _live = state.live();
     if declaration != next as u64 {
         return None;
     }

@@ -42,12 +42,7 @@ fn are_among(literals: &[Lit], codes: &BTreeSet<u64>) -> bool
 }
 
 /// Whether the first clause of a position has negated selectors of live assertions alone.
-pub fn is_refutation(
-    alloc: Global,
-    state: &State,
-    log: &Log,
-    pos: Pos,
-) -> Result<bool, AllocError>
+pub fn is_refutation(alloc: Global, state: &State, log: &Log, pos: Pos) -> Result<bool, AllocError>
     requires { Stands state.now.terms.nodes log.now }
     ensures { IfOk result (λ b. MatchBool b
         (IsRefutation state.now state.now.terms.nodes log.now.entries pos)

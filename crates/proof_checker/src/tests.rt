@@ -445,16 +445,8 @@ fn other_proofs_of_the_same_scripts(rt: HostRuntime) -> Result<(), Fail> {
             (4, b"c -2 -2 0 0.0 2.0\n"),
         ],
     )?;
-    accept_each(
-        &rt,
-        &WITH_TERM,
-        &[(2, b"t word 2 3\n"), (2, b"t true\n")],
-    )?;
+    accept_each(&rt, &WITH_TERM, &[(2, b"t word 2 3\n"), (2, b"t true\n")])?;
     accept_each(&rt, &DENIED, &[(8, b"c -3 -4 0 4.0 2.0\n")])?;
     accept_each(&rt, &WORDS, &[(9, b"v 0 #b00\n")])?;
-    accept_each(
-        &rt,
-        &TWICE,
-        &[(8, b"c -6 0 5.0\n"), (9, b"unsat 5\n")],
-    )
+    accept_each(&rt, &TWICE, &[(8, b"c -6 0 5.0\n"), (9, b"unsat 5\n")])
 }

@@ -1,5 +1,4 @@
 use Rattle.std.proofs.Common.{Some, ◌∙◌, ap}
-use Rattle.proof_text.specs.declared.line.Head.TheVariants as head
 use Rattle.proof_checker.proofs.Lining.{no_apply}
 use Rattle.proof_checker.proofs.lines.op_of.Goals as goal
 

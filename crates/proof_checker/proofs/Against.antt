@@ -1,0 +1,86 @@
+-- Which clauses are refutations.
+use Rattle.std.proofs.Common.{◌≡◌, ℕ, Bool, true, false, MatchBool, List, Option, Some, None, refl, sym, ap, ◌∙◌, eq-eqb}
+use Rattle.std.specs.List.{list_any, list_all}
+use Rattle.std.proofs.lemmas.List.Elements.{All-from_recursion, recursion_from_All, All-weaker}
+use Rattle.std.proofs.lemmas.List.Folds.{Any-from_list_any, list_any-from_Any}
+use Rattle.std.proofs.lemmas.List.Sums.{AllPass-from_list_all, list_all-from_AllPass}
+use Rattle.std.specs.Cmp.{unsigned_Decides}
+use Rattle.cnf_base.specs.Literals.{Literal, negated, code_of}
+use Rattle.cnf_base.proofs.Codes.{code_of-injective}
+use Rattle.scope_selectors.specs.declared.live.Live.{Live}
+use Rattle.script_state.specs.States.{StateValue}
+use Rattle.proof_log.specs.Logs.{Asserted, state_of, clause_at}
+use Rattle.proof_log.specs.Stored.{LogValue, IsKept, literal_of, selector_in}
+use Rattle.accepted_proof.specs.Turns.{IsAgainst, IsRefutation}
+use Rattle.proof_checker.specs.Checkers.{is_code, is_against}
+
+-- a literal has the code of the negation of another
+code_found : (o : Option Literal) (k : Literal) → is_code o (code_of k) ≡ true → (m : Literal) × (o ≡ Some m) × (k ≡ negated m)
+code_found None k e = let f : ⊥ = cc in absurd f
+code_found (Some m) k e = (m, refl, sym (code_of-injective (negated m) k ((unsigned_Decides (code_of (negated m)) (code_of k)).0 e)))
+
+code_there : (o : Option Literal) (k m : Literal) → o ≡ Some m → k ≡ negated m → is_code o (code_of k) ≡ true
+code_there o k m e n = ap (λ x. is_code x (code_of k)) e ∙ eq-eqb (code_of (negated m)) (code_of k) (ap code_of (sym n))
+
+record IsAsserted (o : Option Asserted) (m : Literal) : Type 0 where
+  pub asserted : Asserted
+  pub some : o ≡ Some asserted
+  pub literal : m ≡ asserted.literal
+
+asserted_found : (o : Option Asserted) (m : Literal) → literal_of o ≡ Some m → IsAsserted o m
+asserted_found None m e = let f : ⊥ = cc in absurd f
+asserted_found (Some r) m e = record { asserted = r; some = refl; literal = let q : m ≡ r.literal = cc in q }
+
+module _ (s : StateValue) (log : LogValue) (kept : IsKept s.terms.nodes log) where
+  abbrev is_blamed : Literal → Bool
+  is_blamed k = list_any (λ a. is_against log.selectors a (code_of k)) s.scopes.live
+
+  against_found : (k : Literal) → is_blamed k ≡ true → IsAgainst s s.terms.nodes log.entries k
+  against_found k e =
+      let any = Any-from_list_any (λ a. is_against log.selectors a (code_of k)) s.scopes.live e in
+      let a : Live = any.1 in
+      let code = code_found (selector_in log.selectors a.assertion) k any.4 in
+      let made = asserted_found ((state_of s.terms.nodes log.entries).selectors a.assertion) code.0 (sym (kept.selectors a.assertion) ∙ code.1) in
+      record { assertion = a; live = (any.0, any.2, any.3); selector = made.asserted; made = made.some; negation = code.2 ∙ ap negated made.literal }
+
+  against_there : (k : Literal) → IsAgainst s s.terms.nodes log.entries k → is_blamed k ≡ true
+  against_there k h =
+      let selector : selector_in log.selectors h.assertion.assertion ≡ Some h.selector.literal = kept.selectors h.assertion.assertion ∙ ap literal_of h.made in
+      let code = code_there (selector_in log.selectors h.assertion.assertion) k h.selector.literal selector h.negation in
+      list_any-from_Any (λ a. is_against log.selectors a (code_of k)) s.scopes.live (h.live.0, h.assertion, h.live.1, h.live.2, code)
+
+  -- a clause of literals that are blamed
+  pub is_refuted : (p : ℕ) (clause : List Literal) → clause_at log.clauses (record { pos = p; part = 0 }) ≡ Some clause → list_all is_blamed clause ≡ true → IsRefutation s s.terms.nodes log.entries p
+  is_refuted p clause e all = record {
+    clause = clause;
+    stands = ap (λ rows. clause_at rows (record { pos = p; part = 0 })) (sym kept.clauses) ∙ e;
+    against = recursion_from_All (IsAgainst s s.terms.nodes log.entries) clause (All-weaker (λ k. is_blamed k ≡ true) (IsAgainst s s.terms.nodes log.entries) against_found clause (AllPass-from_list_all is_blamed clause all));
+  }
+
+  -- another clause
+  pub not_refuted : (p : ℕ) (clause : List Literal) → clause_at log.clauses (record { pos = p; part = 0 }) ≡ Some clause → list_all is_blamed clause ≡ false → IsRefutation s s.terms.nodes log.entries p → ⊥
+  not_refuted p clause e all h =
+      let at : clause_at log.clauses (record { pos = p; part = 0 }) ≡ Some h.clause = ap (λ rows. clause_at rows (record { pos = p; part = 0 })) kept.clauses ∙ h.stands in
+      let same : h.clause ≡ clause = cc in
+      let each = All-weaker (IsAgainst s s.terms.nodes log.entries) (λ k. is_blamed k ≡ true) against_there h.clause (All-from_recursion (IsAgainst s s.terms.nodes log.entries) h.clause h.against) in
+      let told : list_all is_blamed clause ≡ true = ap (list_all is_blamed) (sym same) ∙ list_all-from_AllPass is_blamed h.clause each in
+      let f : ⊥ = cc in f
+
+  -- no clause
+  pub no_refuted : (p : ℕ) → clause_at log.clauses (record { pos = p; part = 0 }) ≡ None → IsRefutation s s.terms.nodes log.entries p → ⊥
+  no_refuted p e h =
+      let at : clause_at log.clauses (record { pos = p; part = 0 }) ≡ Some h.clause = ap (λ rows. clause_at rows (record { pos = p; part = 0 })) kept.clauses ∙ h.stands in
+      let f : ⊥ = cc in f
+
+  -- the literals of a clause are tested one by one
+  pub refutation_told : (p : ℕ) (clause : List Literal) (live : List Live) (test : ℕ → Bool) (b : Bool) → live ≡ s.scopes.live → ((q : ℕ) → test q ≡ list_any (λ a. is_against log.selectors a q) live)
+      → clause_at log.clauses (record { pos = p; part = 0 }) ≡ Some clause → b ≡ list_all (λ l. test (code_of l)) clause
+      → MatchBool b (IsRefutation s s.terms.nodes log.entries p) (IsRefutation s s.terms.nodes log.entries p → ⊥)
+  refutation_told p clause live test b same tests e told =
+      let agree = λ (l : Literal). tests (code_of l) ∙ ap (λ ls. list_any (λ a. is_against log.selectors a (code_of l)) ls) same in
+      let all : b ≡ list_all is_blamed clause = told ∙ ap (λ (f : Literal → Bool). list_all f clause) (λ i l. agree l i) in
+      go b (sym all)
+    where
+      go : (b : Bool) → list_all is_blamed clause ≡ b → MatchBool b (IsRefutation s s.terms.nodes log.entries p) (IsRefutation s s.terms.nodes log.entries p → ⊥)
+      go true h = is_refuted p clause e h
+      go false h = not_refuted p clause e h

@@ -1,0 +1,154 @@
+-- Values that are written, and models of them.
+use Rattle.std.proofs.Common.{◌≡◌, ℕ, zero, suc, ◌+◌, ◌*◌, ◌/◌, ◌%◌, ◌^◌, ◌<◌, ◌≤◌, Bool, true, false, List, [], ◌∷◌, ◌++◌, length, take, drop, get_or, slice_get, Option, Some, refl, sym, ap, ◌∙◌, subst, arith, add-one}
+use Rattle.std.specs.Prelude.{◌==◌, if◌then◌else◌, All}
+use Rattle.std.proofs.lemmas.List.{at_drop_more, take_more, take_all}
+use Rattle.std.proofs.lemmas.List.Elements.{recursion_from_All, All-more, All-same}
+use Rattle.std.proofs.Math.Nat.{div-div-eq-div-mul, pow-succ'}
+use Rattle.smt_terms.specs.declared.sort.Sort.{Sort}
+use Rattle.smt_terms.specs.declared.sort.Sort.TheVariants as sort
+use Rattle.smt_terms.specs.declared.sort.Signature.{Signature}
+use Rattle.smt_terms.specs.declared.node.Op.{Op}
+use Rattle.smt_terms.specs.declared.node.Op.TheVariants as op
+use Rattle.smt_terms.specs.Nodes.{node_at}
+use Rattle.smt_terms.specs.Terms.{TermsValue, constant_signature, signature_of, declaration_of}
+use Rattle.smt_terms.specs.Values.{HasSort, Interpretation, VBool, VWord, is_true, value}
+use Rattle.smt_values.specs.declared.value.Value.{Value}
+use Rattle.smt_values.specs.declared.value.Value.TheVariants as kept
+use Rattle.smt_values.specs.Held.{meaning, set_for, constant_of, function_of, Suits}
+use Rattle.smt_values.specs.Held as set
+use Rattle.smt_eval.specs.Evaluated.{AreSuited, IsSuited, AreValues, held_value}
+use Rattle.scope_selectors.specs.declared.live.Live.{Live}
+use Rattle.script_state.specs.Plain.{is_plain_sort}
+use Rattle.script_state.specs.States.{StateValue, IsState, IsPlainConstant}
+use Rattle.proof_log.proofs.Growing.{each_get}
+use Rattle.proof_text.specs.declared.line.WrittenValue.TheVariants as written
+use Rattle.proof_text.specs.Records.{binary, written_value}
+use Rattle.accepted_proof.specs.Models.{value_for, interpretation_of, IsModel}
+
+-- ---- models
+
+suits_plain : (s : Sort) (v : Option Value) → is_plain_sort s ≡ true → Suits s v
+suits_plain sort.Bool v e = tt
+suits_plain (sort.Word n) v e = tt
+suits_plain (sort.Array n m) v e = let f : ⊥ = cc in absurd f
+
+module _ (s : StateValue) (h : IsState s) where
+  -- a declaration is a constant, and a Bool or a word
+  pub plain_at : (d : ℕ) (g : Signature) → slice_get s.symbols.signatures d ≡ Some g → IsPlainConstant g
+  plain_at d g e = each_get IsPlainConstant s.symbols.signatures d g (recursion_from_All IsPlainConstant s.symbols.signatures h.constants) e
+
+  suited_op : (values : List (Option Value)) (t : ℕ) (o : Op) → (node_at s.terms.nodes t).op ≡ o → IsSuited o values
+  suited_op values t (op.Plain o) e = tt
+  suited_op values t (op.Word n x) e = tt
+  suited_op values t (op.Extract i j) e = tt
+  suited_op values t (op.ZeroExtend i) e = tt
+  suited_op values t (op.SignExtend i) e = tt
+  suited_op values t (op.RotateLeft i) e = tt
+  suited_op values t (op.RotateRight i) e = tt
+  suited_op values t (op.Repeat i) e = tt
+  suited_op values t (op.Constant d r) e =
+      let declared : slice_get s.symbols.signatures d ≡ Some (constant_signature r) = h.declared.each t d (ap declaration_of e) ∙ ap (λ x. Some (signature_of x)) e in
+      suits_plain r (set_for values d) (plain_at d (constant_signature r) declared).sort
+  suited_op values t (op.Apply d r) e = tt
+  suited_op values t (op.Param k r) e = tt
+
+  -- only plain constants are declared
+  pub are_suited : (values : List (Option Value)) → AreSuited s.terms.nodes values
+  are_suited values t lt = suited_op values t (node_at s.terms.nodes t).op refl
+
+-- the interpretations of the same values
+pub same_interpretation : (held : List (Option Value)) (values : List (ℕ × Value)) → ((d : ℕ) → set_for held d ≡ value_for values d) → set.interpretation_of held ≡ interpretation_of values
+same_interpretation held values h = λ i. record { constants = λ d. constant_of (h d i); functions = λ d. function_of (h d i) }
+
+-- a term's truth, as it is held
+pub truth_held : (M N : Interpretation) (s : StateValue) (values : List Value) (t : ℕ) (v : Value) (b : Bool) → M ≡ N → AreValues M s.terms.nodes values → t < length s.terms.nodes → v ≡ held_value values t → b ≡ is_true (meaning v) → is_true (value N s.terms.nodes t) ≡ b
+truth_held M N s values t v b e are lt here told =
+    ap (λ m. is_true (value m s.terms.nodes t)) (sym e) ∙ ap is_true (sym (are.means t lt)) ∙ ap (λ x. is_true (meaning x)) (sym here) ∙ sym told
+
+-- what is found of the live assertions, one by one
+module _ (s : StateValue) (h : IsState s) (interp : List (Option Value)) (values : List (ℕ × Value)) (evaluated : List Value) (terms : TermsValue) (live : List Live)
+    (held : terms ≡ s.terms) (given : (d : ℕ) → set_for interp d ≡ value_for values d) (are : AreValues (set.interpretation_of interp) terms.nodes evaluated) (all : live ≡ s.scopes.live) where
+  abbrev Holds : Live → Type 0
+  Holds a = is_true (value (interpretation_of values) s.terms.nodes a.term) ≡ true
+
+  truth_told : (k : ℕ) (a : Live) (v : Value) (b : Bool) → k < length live → a ≡ get_or live k a → v ≡ held_value evaluated a.term → b ≡ is_true (meaning v) → is_true (value (interpretation_of values) s.terms.nodes a.term) ≡ b
+  truth_told k a v b lt here found told =
+      let at : a ≡ get_or s.scopes.live k a = here ∙ ap (λ ls. get_or ls k a) all in
+      let within : a.term < length s.terms.nodes = subst (λ (x : Live). x.term < length s.terms.nodes) (sym at) (h.held k a (subst (λ ls. k < length ls) all lt)) in
+      truth_held (set.interpretation_of interp) (interpretation_of values) s evaluated a.term v b (same_interpretation interp values given) (subst (λ (w : TermsValue). AreValues (set.interpretation_of interp) w.nodes evaluated) held are) within found told
+
+  pub model_more : (k : ℕ) (a : Live) (v : Value) (b : Bool) → k < length live → a ≡ get_or live k a → v ≡ held_value evaluated a.term → b ≡ is_true (meaning v) → b ≡ true → All Holds (take k live) → All Holds (take (k + 1) live)
+  model_more k a v b lt here found told holds before = All-more Holds live k a lt before (subst Holds here (truth_told k a v b lt here found told ∙ holds))
+
+  pub no_model : (k : ℕ) (a : Live) (v : Value) (b : Bool) → k < length live → a ≡ get_or live k a → v ≡ held_value evaluated a.term → b ≡ is_true (meaning v) → b ≡ false → IsModel s (interpretation_of values) → ⊥
+  no_model k a v b lt here found told fails model =
+      let at : a ≡ get_or s.scopes.live k a = here ∙ ap (λ ls. get_or ls k a) all in
+      let truth : Holds a = subst Holds (sym at) (model k a (subst (λ ls. k < length ls) all lt)) in
+      let other : is_true (value (interpretation_of values) s.terms.nodes a.term) ≡ false = truth_told k a v b lt here found told ∙ fails in
+      let f : ⊥ = cc in f
+
+  pub model_whole : (k : ℕ) → length live ≤ k → All Holds (take k live) → IsModel s (interpretation_of values)
+  model_whole k le each = All-same Holds s.scopes.live (take k live) (sym all ∙ sym (take_all k live le)) each
+
+-- one value more, in front of those that were set
+pub values_more : (values : List (ℕ × Value)) (k n : ℕ) (p : ℕ × Value) (old new : List (Option Value)) → k < length values → n ≡ k + 1 → p ≡ get_or values k p → ((d : ℕ) → set_for old d ≡ value_for (drop n values) d)
+    → ((d : ℕ) → set_for new d ≡ (if d == p.0 then Some p.1 else set_for old d)) → (d : ℕ) → set_for new d ≡ value_for (drop k values) d
+values_more values k n p old new lt e here before after d =
+    after d
+    ∙ ap (λ o. if d == p.0 then Some p.1 else o) (before d ∙ ap (λ x. value_for (drop x values) d) e)
+    ∙ sym (at_drop_more (λ vs. value_for vs d) values k p lt ∙ ap (λ q. value_for (q ∷ drop (k + 1) values) d) (sym here))
+
+-- ---- digits
+
+half_digit : (x b : ℕ) → b < 2 → (2 * x + b) / 2 ≡ x
+half_digit x b h = grind arith
+
+low_digit : (x b : ℕ) → b < 2 → (2 * x + b) / 2 ^ 0 % 2 ≡ b
+low_digit x b h = grind arith
+
+high_digit : (n x b : ℕ) → b < 2 → (2 * x + b) / 2 ^ suc n ≡ x / 2 ^ n
+high_digit n x b h = ap (λ k. (2 * x + b) / k) (pow-succ' 2 n) ∙ sym (div-div-eq-div-mul (2 * x + b) 2 (2 ^ n)) ∙ ap (λ k. k / 2 ^ n) (half_digit x b h)
+
+-- one digit more behind the lowest
+pub binary_more : (n x b : ℕ) → b < 2 → binary (suc n) (2 * x + b) ≡ binary n x ++ (b == 1) ∷ []
+unfolding binary
+binary_more zero x b h = ap (λ k. (k == 1) ∷ []) (low_digit x b h)
+binary_more (suc n) x b h =
+    ap (λ k. (k % 2 == 1) ∷ binary (suc n) (2 * x + b)) (high_digit n x b h)
+    ∙ ap (λ ds. ((x / 2 ^ n) % 2 == 1) ∷ ds) (binary_more n x b h)
+
+-- one digit more, as a number is read
+pub number_more : (digits : List Bool) (i x b : ℕ) → i < length digits → b < 2 → (b == 1) ≡ get_or digits i false → x < 2 ^ i → binary i x ≡ take i digits → (2 * x + b < 2 ^ (i + 1)) × (binary (i + 1) (2 * x + b) ≡ take (i + 1) digits)
+number_more digits i x b lt small same fits told =
+    let wide : 2 ^ suc i ≡ 2 * 2 ^ i = pow-succ' 2 i in
+    let within : 2 * x + b < 2 ^ suc i = omega (arith, wide, fits, small) in (
+      subst (λ k. 2 * x + b < 2 ^ k) (sym (add-one i)) within,
+      ap (λ k. binary k (2 * x + b)) (add-one i) ∙ binary_more i x b small ∙ ap (λ ds. ds ++ (b == 1) ∷ []) told ∙ ap (λ t. take i digits ++ t ∷ []) same ∙ sym (take_more digits i false lt),
+    )
+
+pub binary_length : (n x : ℕ) → length (binary n x) ≡ n
+unfolding binary
+binary_length zero x = refl
+binary_length (suc n) x = ap suc (binary_length n x)
+
+pub binary_none : (x : ℕ) → binary 0 x ≡ []
+unfolding binary
+binary_none x = refl
+
+-- ---- values of sorts
+
+no_word_bool : (n : ℕ) (b : Bool) → HasSort (sort.Word n) (VBool b) → ⊥
+no_word_bool n b h = let e : VBool b ≡ VWord n h.0 = h.1 in cc
+
+word_width : (n w x : ℕ) → HasSort (sort.Word n) (VWord w x) → w ≡ n
+word_width n w x h = let e : VWord w x ≡ VWord n h.0 = h.1 in let q : w ≡ n = cc in q
+
+-- a word has as many digits as its width
+pub no_width : (n : ℕ) (v : Value) (digits : List Bool) → (length digits ≡ n → ⊥) → HasSort (sort.Word n) (meaning v) → written_value v ≡ Some (written.Word digits) → ⊥
+no_width n (kept.Bool b) digits other h p = no_word_bool n b h
+no_width n (kept.Word x) digits other h p =
+    let q : Some (written.Word (binary x.width x.value)) ≡ Some (written.Word digits) = p in
+    let same : binary x.width x.value ≡ digits = cc in
+    other (sym (ap length same) ∙ binary_length x.width x.value ∙ word_width n x.width x.value h)
+no_width n (kept.Array a) digits other h p = let f : ⊥ = cc in f
+no_width n (kept.Fun t) digits other h p = let f : ⊥ = cc in f

@@ -1,0 +1,7 @@
+use Rattle.proof_checker.proofs.Lining.{tried_in}
+use Rattle.proof_checker.proofs.steps.take_step.Goals as goal
+
+pub returns-in-Some : goal.returns-in-Some
+returns-in-Some c =
+    let of = rw c.in-Some.is at c.in_ok-entry.ensures in
+    tried_in c.args.state c.args.line.now c.args.log.now _ c.in-Some.entry of.0 of.1 c.try_step.result c.try_step.ensures
