@@ -3,7 +3,6 @@ use Rattle.std.proofs.Common.{◌≡◌, ℕ, suc, true, false, List, [], ◌∷
 use Rattle.std.specs.Prelude.{All, IsSome, option_to_list}
 use Rattle.std.specs.List.{AllByRecursion}
 use Rattle.std.proofs.lemmas.List.{map-append}
-use Rattle.smt_syntax.specs.Sexps.{Sexps}
 use Rattle.smt_values.specs.declared.value.Value.{Value}
 use Rattle.smt_build.specs.declared.symbols.LiveName.{LiveName}
 use Rattle.script_state.specs.declared.answer.Answer.{Answer}
@@ -23,7 +22,7 @@ use Rattle.accepted_proof.specs.Answers.{step_lines, turn_lines}
 use Rattle.accepted_proof.specs.Judged.{Owed, Nothing, Steps, Values, Over, Judging, owed_by, commanded, is_idle, ending, StepsBy, Goes, AtStep, MovesBy, Judged}
 use Rattle.std.proofs.lemmas.List.Elements.{All-cons, All-nil}
 use Rattle.smt_text.specs.declared.chunk.Chunk.{Chunk}
-use Rattle.script_state.specs.Readings.{ReadsAs}
+use Rattle.script_state.specs.Readings.{Reading, ReadsAs}
 use Rattle.accepted_proof.specs.declared.refusal.RuleName.{RuleName}
 use Rattle.accepted_proof.specs.Accepted.{AreRead}
 use Rattle.accepted_proof.specs.Judged.{AtValue, refused, ReadEach}
@@ -67,14 +66,14 @@ Completes (Over r) j chunks ls = ⊥
 
 -- what the rest of a proof gives, wherever its judging stands
 abbrev Completed : (Good : StateValue → Type 0) → List (Option Line) → Type 0
-Completed Good ls = (o : Owed) (j : Judging) (cs : List (Option Sexps)) (chunks : List Chunk) → j.owed ≡ o → ReadEach chunks cs → Good j.state → Judged j cs ls None → Completes o j chunks ls
+Completed Good ls = (o : Owed) (j : Judging) (cs : List Reading) (chunks : List Chunk) → j.owed ≡ o → ReadEach chunks cs → Good j.state → Judged j cs ls None → Completes o j chunks ls
 
 abbrev HeldCompleted : (Good : StateValue → Type 0) → List (Option Line) → Type 0
-HeldCompleted Good ls = (o : Owed) (j : Judging) (cs : List (Option Sexps)) (chunks : List Chunk) → j.owed ≡ o → is_idle o ≡ false → ReadEach chunks cs → Good j.state → Judged j cs ls None → Completes o j chunks ls
+HeldCompleted Good ls = (o : Owed) (j : Judging) (cs : List Reading) (chunks : List Chunk) → j.owed ≡ o → is_idle o ≡ false → ReadEach chunks cs → Good j.state → Judged j cs ls None → Completes o j chunks ls
 
 -- ---- commands
 
-passed_turn : (s : StateValue) (log : List Entry) (says : Option Sexps) (c : Chunk) (chunks : List Chunk) (ls : List (Option Line)) (a : Answer) → a ≡ (step s says).0 → HasProof a (step s says).1 log [] None → ReadsAs c says → Ends (step s says).1 log chunks ls → Ends s log (c ∷ chunks) ls
+passed_turn : (s : StateValue) (log : List Entry) (says : Reading) (c : Chunk) (chunks : List Chunk) (ls : List (Option Line)) (a : Answer) → a ≡ (step s says).0 → HasProof a (step s says).1 log [] None → ReadsAs c says → Ends (step s says).1 log chunks ls → Ends s log (c ∷ chunks) ls
 passed_turn s log says c chunks ls a e p r h = record {
   turns = record { line = c.line; says = says; answer = a; steps = []; shown = None } ∷ h.turns;
   read = (refl, r, h.read);
@@ -82,7 +81,7 @@ passed_turn s log says c chunks ls a e p r h = record {
   lines = h.lines;
 }
 
-checked_turn : (Good : StateValue → Type 0) → Keeping Good → (s : StateValue) (log : List Entry) (says : Option Sexps) (c : Chunk) (chunks : List Chunk) (ls : List (Option Line)) → answer.Check ≡ (step s says).0 → Good (step s says).1 → ReadsAs c says → EndsSteps (step s says).1 log chunks ls → Ends s log (c ∷ chunks) ls
+checked_turn : (Good : StateValue → Type 0) → Keeping Good → (s : StateValue) (log : List Entry) (says : Reading) (c : Chunk) (chunks : List Chunk) (ls : List (Option Line)) → answer.Check ≡ (step s says).0 → Good (step s says).1 → ReadsAs c says → EndsSteps (step s says).1 log chunks ls → Ends s log (c ∷ chunks) ls
 checked_turn Good keeps s log says c chunks ls e g r h = record {
   turns = record { line = c.line; says = says; answer = answer.Check; steps = h.steps; shown = Some h.shown } ∷ h.further.turns;
   read = (refl, r, h.further.read);
@@ -90,7 +89,7 @@ checked_turn Good keeps s log says c chunks ls e g r h = record {
   lines = h.lines ∙ ap (λ x. map Some (step_lines h.steps ++ record_lines h.shown) ++ x) h.further.lines ∙ sym (map-append Some (step_lines h.steps ++ record_lines h.shown) (flat_map turn_lines h.further.turns));
 }
 
-by_answer : (Good : StateValue → Type 0) → Keeping Good → (a : Answer) (j : Judging) (says : Option Sexps) (c : Chunk) (chunks : List Chunk) (ls : List (Option Line)) → a ≡ (step j.state says).0 → Good (step j.state says).1 → ReadsAs c says → Completes (owed_by a) (commanded j says) chunks ls → Ends j.state j.log (c ∷ chunks) ls
+by_answer : (Good : StateValue → Type 0) → Keeping Good → (a : Answer) (j : Judging) (says : Reading) (c : Chunk) (chunks : List Chunk) (ls : List (Option Line)) → a ≡ (step j.state says).0 → Good (step j.state says).1 → ReadsAs c says → Completes (owed_by a) (commanded j says) chunks ls → Ends j.state j.log (c ∷ chunks) ls
 by_answer Good keeps answer.Done j says c chunks ls e g r h = passed_turn j.state j.log says c chunks ls answer.Done e (refl, refl) r h
 by_answer Good keeps (answer.Refused f) j says c chunks ls e g r h = passed_turn j.state j.log says c chunks ls (answer.Refused f) e (refl, refl) r h
 by_answer Good keeps answer.Check j says c chunks ls e g r h = checked_turn Good keeps j.state j.log says c chunks ls e g r h
@@ -102,7 +101,7 @@ NothingMore Good ls = (j : Judging) → Good j.state → j.owed ≡ Nothing → 
 none_lines : {ls : List (Option Line)} → ls ≡ [] → ls ≡ map Some (flat_map turn_lines [])
 none_lines e = e
 
-idle_completed : (Good : StateValue → Type 0) → Keeping Good → (ls : List (Option Line)) → NothingMore Good ls → HeldCompleted Good ls → (cs : List (Option Sexps)) (chunks : List Chunk) (j : Judging) → j.owed ≡ Nothing → ReadEach chunks cs → Good j.state → Judged j cs ls None → Ends j.state j.log chunks ls
+idle_completed : (Good : StateValue → Type 0) → Keeping Good → (ls : List (Option Line)) → NothingMore Good ls → HeldCompleted Good ls → (cs : List Reading) (chunks : List Chunk) (j : Judging) → j.owed ≡ Nothing → ReadEach chunks cs → Good j.state → Judged j cs ls None → Ends j.state j.log chunks ls
 idle_completed Good keeps ls none held [] [] j e r g h = record { turns = []; read = tt; run = tt; lines = none_lines (none j g e h) }
 idle_completed Good keeps ls none held [] (c ∷ chunks) j e r g h = absurd r
 idle_completed Good keeps ls none held (s ∷ cs) [] j e r g h = absurd r
@@ -119,7 +118,7 @@ idle_completed Good keeps ls none held (s ∷ cs) (c ∷ chunks) j e r g h =
     go idle (Values next left values) p g' h' = held (Values next left values) (commanded j s) cs chunks p refl r.1 g' h'
     go idle (Over x) p g' h' = held (Over x) (commanded j s) cs chunks p refl r.1 g' h'
 
-any_completed : (Good : StateValue → Type 0) → Keeping Good → (ls : List (Option Line)) → HeldCompleted Good ls → ((j : Judging) (cs : List (Option Sexps)) (chunks : List Chunk) → j.owed ≡ Nothing → ReadEach chunks cs → Good j.state → Judged j cs ls None → Ends j.state j.log chunks ls) → Completed Good ls
+any_completed : (Good : StateValue → Type 0) → Keeping Good → (ls : List (Option Line)) → HeldCompleted Good ls → ((j : Judging) (cs : List Reading) (chunks : List Chunk) → j.owed ≡ Nothing → ReadEach chunks cs → Good j.state → Judged j cs ls None → Ends j.state j.log chunks ls) → Completed Good ls
 any_completed Good keeps ls held idle Nothing j cs chunks e r g h = idle j cs chunks e r g h
 any_completed Good keeps ls held idle Steps j cs chunks e r g h = held Steps j cs chunks e refl r g h
 any_completed Good keeps ls held idle (Values next left values) j cs chunks e r g h = held (Values next left values) j cs chunks e refl r g h
@@ -307,7 +306,7 @@ completed Good keeps (l ∷ ls) =
     any_completed Good keeps (l ∷ ls) held (λ j cs chunks. idle_completed Good keeps (l ∷ ls) (λ k g e h. absurd (none_line Good keeps l ls done k g e h)) held cs chunks j)
 
 -- a proof without a bad line is that of turns
-pub judged_turns : (Good : StateValue → Type 0) → Keeping Good → (chunks : List Chunk) (cs : List (Option Sexps)) (ls : List (Option Line)) (s : StateValue) (log : List Entry) (n : ℕ) → Good s → ReadEach chunks cs → Judged (place s log Nothing n) cs ls None
+pub judged_turns : (Good : StateValue → Type 0) → Keeping Good → (chunks : List Chunk) (cs : List Reading) (ls : List (Option Line)) (s : StateValue) (log : List Entry) (n : ℕ) → Good s → ReadEach chunks cs → Judged (place s log Nothing n) cs ls None
     → (turns : List Turn) × AreRead chunks turns × AreTurns s log turns × (ls ≡ map Some (flat_map turn_lines turns))
 judged_turns Good keeps chunks cs ls s log n g r h =
     let c : Ends s log chunks ls = completed Good keeps ls Nothing (place s log Nothing n) cs chunks refl r g h in

@@ -11,7 +11,7 @@ use Rattle.smt_terms.specs.Values.{Interpretation}
 use Rattle.scope_selectors.specs.Scopes.{ScopesValue}
 use Rattle.smt_build.specs.Names.{SymbolsValue}
 use Rattle.script_state.specs.declared.answer.Verdict.{Verdict}
-use Rattle.smt_syntax.specs.Sexps.{Sexps}
+use Rattle.script_state.specs.Readings.{Reading}
 use Rattle.smt_values.specs.declared.value.Value.{Value}
 use Rattle.smt_build.specs.declared.symbols.LiveName.{LiveName}
 use Rattle.script_state.specs.declared.answer.Answer.{Answer}
@@ -35,38 +35,38 @@ use Rattle.accepted_proof.specs.Judged.{Owed, Nothing, Steps, Values, Judging, s
 
 -- ---- one line more
 
-pub reach_here : (j : Judging) (cs : List (Option Sexps)) → is_idle j.owed ≡ false → reach j cs ≡ (j, cs)
+pub reach_here : (j : Judging) (cs : List Reading) → is_idle j.owed ≡ false → reach j cs ≡ (j, cs)
 reach_here j [] e = refl
 reach_here j (c ∷ cs) e = ap (λ (b : Bool). if b then reach (commanded j c) cs else (j, c ∷ cs)) e
 
-pub reach_on : (j : Judging) (c : Option Sexps) (cs : List (Option Sexps)) → is_idle j.owed ≡ true → reach j (c ∷ cs) ≡ reach (commanded j c) cs
+pub reach_on : (j : Judging) (c : Reading) (cs : List Reading) → is_idle j.owed ≡ true → reach j (c ∷ cs) ≡ reach (commanded j c) cs
 reach_on j c cs e = ap (λ (b : Bool). if b then reach (commanded j c) cs else (j, c ∷ cs)) e
 
 -- what is judged from where the commands were done
-abbrev pub From : Judging × List (Option Sexps) → List (Option Line) → Option Refusal → Type 0
+abbrev pub From : Judging × List Reading → List (Option Line) → Option Refusal → Type 0
 From r [] o = o ≡ ending r.0.owed r.0.line
 From r (l ∷ ls) o = (k : Judging) × Moves r.0 l k × Judged k r.1 ls o
 
-pub from_judged : (j : Judging) (cs : List (Option Sexps)) (ls : List (Option Line)) (o : Option Refusal) → Judged j cs ls o → From (reach j cs) ls o
+pub from_judged : (j : Judging) (cs : List Reading) (ls : List (Option Line)) (o : Option Refusal) → Judged j cs ls o → From (reach j cs) ls o
 from_judged j cs [] o h = h
 from_judged j cs (l ∷ ls) o h = h
 
-pub judged_from : (j : Judging) (cs : List (Option Sexps)) (ls : List (Option Line)) (o : Option Refusal) → From (reach j cs) ls o → Judged j cs ls o
+pub judged_from : (j : Judging) (cs : List Reading) (ls : List (Option Line)) (o : Option Refusal) → From (reach j cs) ls o → Judged j cs ls o
 judged_from j cs [] o h = h
 judged_from j cs (l ∷ ls) o h = h
 
 -- what is judged of the rest is judged of the whole
-pub judged_line : (j k : Judging) (cs : List (Option Sexps)) (l : Option Line) (ls : List (Option Line)) (o : Option Refusal) → is_idle j.owed ≡ false → Moves j l k → Judged k cs ls o → Judged j cs (l ∷ ls) o
+pub judged_line : (j k : Judging) (cs : List Reading) (l : Option Line) (ls : List (Option Line)) (o : Option Refusal) → is_idle j.owed ≡ false → Moves j l k → Judged k cs ls o → Judged j cs (l ∷ ls) o
 judged_line j k cs l ls o e m h = subst (λ r. From r (l ∷ ls) o) (sym (reach_here j cs e)) (k, m, h)
 
-pub judged_command : (j : Judging) (c : Option Sexps) (cs : List (Option Sexps)) (ls : List (Option Line)) (o : Option Refusal) → is_idle j.owed ≡ true → Judged (commanded j c) cs ls o → Judged j (c ∷ cs) ls o
+pub judged_command : (j : Judging) (c : Reading) (cs : List Reading) (ls : List (Option Line)) (o : Option Refusal) → is_idle j.owed ≡ true → Judged (commanded j c) cs ls o → Judged j (c ∷ cs) ls o
 judged_command j c cs ls o e h = judged_from j (c ∷ cs) ls o (subst (λ r. From r ls o) (sym (reach_on j c cs e)) (from_judged (commanded j c) cs ls o h))
 
 -- ---- states
 
 -- commands, steps and ends of checks keep what is good, and there a model of the assertions is one over more terms too
 pub record Keeping (Good : StateValue → Type 0) : Type 0 where
-  pub commands : (s : StateValue) (says : Option Sexps) → Good s → Good (step s says).1
+  pub commands : (s : StateValue) (says : Reading) → Good s → Good (step s says).1
   pub steps : (s : StateValue) (log steps : List Entry) → Good s → AreStepsOf s log steps → Good (with_steps s steps)
   pub ends : (s : StateValue) (v : Verdict) → Good s → Good (concluded s v)
   pub models : (s : StateValue) (log steps : List Entry) (M : Interpretation) → Good s → AreStepsOf s log steps → IsModel s M → IsModel (with_steps s steps) M
@@ -153,7 +153,7 @@ some_value None h = let f : ⊥ = cc in absurd f
 some_value (Some x) h = (x, refl)
 
 -- what is judged of the rest of a proof, wherever it begins
-abbrev Rest : StateValue → List Entry → List (Option Sexps) → List (Option Line) → Type 0
+abbrev Rest : StateValue → List Entry → List Reading → List (Option Line) → Type 0
 Rest s log cs ls = (n : ℕ) → Judged (place s log Nothing n) cs ls None
 
 -- ---- models
@@ -161,7 +161,7 @@ Rest s log cs ls = (n : ℕ) → Judged (place s log Nothing n) cs ls None
 abbrev pub lines_before : List (Option Line) → List Line → List (Option Line)
 lines_before ls first = map Some first ++ ls
 
-values_judged : (left : List LiveName) (more values : List (ℕ × Value)) (s : StateValue) (log : List Entry) (o : Owed) (n : ℕ) (cs : List (Option Sexps)) (ls : List (Option Line))
+values_judged : (left : List LiveName) (more values : List (ℕ × Value)) (s : StateValue) (log : List Entry) (o : Owed) (n : ℕ) (cs : List Reading) (ls : List (Option Line))
     → map (λ (p : ℕ × Value). p.0) more ≡ map (λ (l : LiveName). l.declaration) left
     → All (λ (p : ℕ × Value). IsOfSignature p.1 (slice_get s.symbols.signatures p.0)) more
     → AllByRecursion (λ (p : ℕ × Value). IsSome (written_value p.1)) more
@@ -189,7 +189,7 @@ values_judged (x ∷ left) (p ∷ more) values s log o n cs ls e sorted written 
 
 -- ---- checks
 
-record_judged : (r : Record) (s : StateValue) (log : List Entry) (n : ℕ) (cs : List (Option Sexps)) (ls : List (Option Line))
+record_judged : (r : Record) (s : StateValue) (log : List Entry) (n : ℕ) (cs : List Reading) (ls : List (Option Line))
     → IsShown s s.terms.nodes log r → ((q : Record) → verdict_of q ≡ verdict_of r → Rest (concluded s (verdict_of q)) log cs ls)
     → Judged (place s log Steps n) cs (lines_before ls (record_lines r)) None
 record_judged (shown.Unsat p) s log n cs ls h rest =
@@ -203,7 +203,7 @@ record_judged (shown.Sat values) s log n cs ls h rest =
     length_mapped f [] = refl
     length_mapped f (x ∷ xs) = ap suc (length_mapped f xs)
 
-steps_judged : (steps : List Entry) (r : Record) (s : StateValue) (log : List Entry) (n : ℕ) (cs : List (Option Sexps)) (ls : List (Option Line))
+steps_judged : (steps : List Entry) (r : Record) (s : StateValue) (log : List Entry) (n : ℕ) (cs : List Reading) (ls : List (Option Line))
     → AreStepsOf s log steps → IsShown (with_steps s steps) (with_steps s steps).terms.nodes (log ++ steps) r
     → Rest (concluded (with_steps s steps) (verdict_of r)) (log ++ steps) cs ls
     → Judged (place s log Steps n) cs (lines_before ls (step_lines steps ++ record_lines r)) None
@@ -242,7 +242,7 @@ good_after Good keeps (answer.Refused e) s log steps o g h = subst (λ x. Good (
 good_after Good keeps answer.Check s log steps None g h = absurd h
 good_after Good keeps answer.Check s log steps (Some r) g h = keeps.ends (with_steps s steps) (verdict_of r) (keeps.steps s log steps g h.0)
 
-passed : (steps : List Entry) (o : Option Record) (s : StateValue) (log : List Entry) (n : ℕ) (cs : List (Option Sexps)) (ls : List (Option Line))
+passed : (steps : List Entry) (o : Option Record) (s : StateValue) (log : List Entry) (n : ℕ) (cs : List Reading) (ls : List (Option Line))
     → (steps ≡ []) × (o ≡ None) → Rest (concluded_by (with_steps s steps) o) (log ++ steps) cs ls
     → Judged (place s log Nothing n) cs (lines_before ls (step_lines steps ++ shown_lines o)) None
 passed steps o s log n cs ls h rest =
@@ -252,7 +252,7 @@ passed steps o s log n cs ls h rest =
     subst (λ x. Judged (place s log Nothing n) cs (lines_before ls (step_lines x ++ shown_lines o)) None) (sym h.0)
     (subst (λ x. Judged (place s log Nothing n) cs (lines_before ls (shown_lines x)) None) (sym h.1) (r2 n))
 
-turn_judged : (a : Answer) (steps : List Entry) (o : Option Record) (s : StateValue) (log : List Entry) (n : ℕ) (cs : List (Option Sexps)) (ls : List (Option Line))
+turn_judged : (a : Answer) (steps : List Entry) (o : Option Record) (s : StateValue) (log : List Entry) (n : ℕ) (cs : List Reading) (ls : List (Option Line))
     → ProofOn a s log steps o → Rest (concluded_by (with_steps s steps) o) (log ++ steps) cs ls
     → Judged (place s log (owed_by a) n) cs (lines_before ls (step_lines steps ++ shown_lines o)) None
 turn_judged answer.Done steps o s log n cs ls h rest = passed steps o s log n cs ls h rest
@@ -261,7 +261,7 @@ turn_judged answer.Check steps None s log n cs ls h rest = absurd h
 turn_judged answer.Check steps (Some r) s log n cs ls h rest = steps_judged steps r s log n cs ls h.0 h.1 rest
 
 -- the answer of a turn is that of the step
-at_command : (s : StateValue) (log : List Entry) (n : ℕ) (says : Option Sexps) (a : Answer) (cs : List (Option Sexps)) (ls : List (Option Line)) → a ≡ (step s says).0 → Judged (place (step s says).1 log (owed_by a) n) cs ls None → Judged (place s log Nothing n) (says ∷ cs) ls None
+at_command : (s : StateValue) (log : List Entry) (n : ℕ) (says : Reading) (a : Answer) (cs : List Reading) (ls : List (Option Line)) → a ≡ (step s says).0 → Judged (place (step s says).1 log (owed_by a) n) cs ls None → Judged (place s log Nothing n) (says ∷ cs) ls None
 at_command s log n says a cs ls e h = judged_command (place s log Nothing n) says cs ls None refl (subst (λ b. Judged (place (step s says).1 log (owed_by b) n) cs ls None) e h)
 
 pub turns_judged : (Good : StateValue → Type 0) → Keeping Good → (ts : List Turn) (s : StateValue) (log : List Entry) (n : ℕ) → Good s → AreTurns s log ts → Judged (place s log Nothing n) (map (λ (t : Turn). t.says) ts) (map Some (flat_map turn_lines ts)) None

@@ -17,7 +17,7 @@ use Rattle.smt_terms.specs.Values.{HasSort, VBool, VWord, VArray}
 use Rattle.smt_values.specs.declared.value.Value.{Value}
 use Rattle.smt_values.specs.declared.value.Value.TheVariants as held
 use Rattle.smt_values.specs.Held.{meaning}
-use Rattle.smt_syntax.specs.Sexps.{Sexps}
+use Rattle.script_state.specs.Readings.{Reading}
 use Rattle.smt_build.specs.Names.{IsDeclared}
 use Rattle.smt_build.specs.declared.symbols.LiveName.{LiveName}
 use Rattle.script_state.specs.States.{StateValue}
@@ -275,14 +275,14 @@ moved_once (Values next left values) j (Some l) k m x y = at_value_once j next l
 moved_once (Over r) j l k m x y = x ∙ sym y
 
 -- at most one thing is judged
-pub judged_once : (ls : List (Option Line)) (j : Judging) (cs : List (Option Sexps)) (o p : Option Refusal) → Judged j cs ls o → Judged j cs ls p → o ≡ p
+pub judged_once : (ls : List (Option Line)) (j : Judging) (cs : List Reading) (o p : Option Refusal) → Judged j cs ls o → Judged j cs ls p → o ≡ p
 judged_once [] j cs o p a b = a ∙ sym b
 judged_once (l ∷ ls) j cs o p a b =
     let e = moved_once (reach j cs).0.owed (reach j cs).0 l a.0 b.0 a.1 b.1 in
     judged_once ls b.0 (reach j cs).1 o p (subst (λ k. Judged k (reach j cs).1 ls o) e a.2) b.2
 
 -- the same of whole proofs
-pub proof_judged_once : (cs : List (Option Sexps)) (ls : List (Option Line)) (o p : Option Refusal) → JudgedProof cs ls o → JudgedProof cs ls p → o ≡ p
+pub proof_judged_once : (cs : List Reading) (ls : List (Option Line)) (o p : Option Refusal) → JudgedProof cs ls o → JudgedProof cs ls p → o ≡ p
 proof_judged_once cs [] o p a b = a ∙ sym b
 proof_judged_once cs (l ∷ ls) o p (inl x) (inl y) = judged_once ls no_judging cs o p x.1 y.1
 proof_judged_once cs (l ∷ ls) o p (inl x) (inr y) = absurd (y.0 x.0)

@@ -2,7 +2,7 @@
 use Rattle.std.proofs.Common.{◌≡◌, ℕ, zero, suc, ◌<◌, List, [], ◌∷◌, ◌++◌, length, get_or, refl, sym, ap, ◌∙◌, subst, ⊎_elim, arith, append_assoc, append-nil, Option, Some, None}
 use Rattle.std.specs.Prelude.{Contains, slice_get}
 use Rattle.std.proofs.lemmas.List.Elements.{Contains-append_cases}
-use Rattle.smt_syntax.specs.Sexps.{Sexps}
+use Rattle.script_state.specs.Readings.{Reading}
 use Rattle.smt_terms.specs.declared.node.Node.{Node}
 use Rattle.smt_terms.specs.Terms.{TermsValue, IsTermList}
 use Rattle.smt_build.specs.Building.{Grows}
@@ -38,7 +38,7 @@ longer_log : (nodes more others : List Node) (log : List Entry) → others ≡ n
 longer_log nodes more others log e h = subst (λ ns. IsLog ns log) (sym e) (log_over nodes more log h).steps
 
 -- a command
-pub reached_by_command : (s : StateValue) (log : List Entry) (says : Option Sexps) → IsReached s log → IsReached (step s says).1 log
+pub reached_by_command : (s : StateValue) (log : List Entry) (says : Reading) → IsReached s log → IsReached (step s says).1 log
 reached_by_command s log says h =
     let on = step_goes_on s h.state says in
     record {

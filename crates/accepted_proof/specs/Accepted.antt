@@ -4,8 +4,7 @@ use Rattle.std.specs.List.{list_all, list_any}
 use Rattle.smt_text.specs.declared.chunk.Chunk.{Chunk}
 use Rattle.smt_text.specs.Framing.{Held}
 use Rattle.smt_text.specs.Script.{AreChunks, Begins}
-use Rattle.smt_syntax.specs.Sexps.{Sexps}
-use Rattle.script_state.specs.Readings.{ReadsAs}
+use Rattle.script_state.specs.Readings.{Reading, ReadsAs}
 use Rattle.script_state.specs.States.{no_state}
 use Rattle.accepted_proof.specs.Turns.{Turn, AreTurns}
 use Rattle.accepted_proof.specs.Answers.{answers_of, is_refused, proof_of}
@@ -18,7 +17,7 @@ AreRead (c ∷ cs) [] = ⊥
 AreRead (c ∷ cs) (t ∷ ts) = (t.line ≡ c.line) × ReadsAs c t.says × AreRead cs ts
 
 -- the line and the reading of each command
-abbrev pub readings_of : List Turn → List (ℕ × Option Sexps)
+abbrev pub readings_of : List Turn → List (ℕ × Reading)
 readings_of turns = map (λ (t : Turn). (t.line, t.says)) turns
 
 -- The proof is one of the script: its header, and for each check the lines of valid steps and of a record, and nothing more.

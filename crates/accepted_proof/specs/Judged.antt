@@ -1,13 +1,12 @@
 -- What is judged of the lines of a proof, one after the other: the first bad line and its rule, or that there is none.
 use Rattle.std.specs.Prelude.{◌≡◌, ◌⊎◌, ◌≤◌, ◌+◌, ℕ, Bool, true, false, if◌then◌else◌, List, [], ◌∷◌, ◌++◌, length, slice_get, Option, Some, None}
 use Rattle.smt_text.specs.declared.chunk.Chunk.{Chunk}
-use Rattle.smt_syntax.specs.Sexps.{Sexps}
 use Rattle.smt_values.specs.declared.value.Value.{Value}
 use Rattle.smt_build.specs.declared.symbols.LiveName.{LiveName}
 use Rattle.script_state.specs.declared.answer.Answer.{Answer}
 use Rattle.script_state.specs.declared.answer.Answer.TheVariants as answer
 use Rattle.script_state.specs.States.{StateValue, no_state, concluded}
-use Rattle.script_state.specs.Readings.{ReadsAs}
+use Rattle.script_state.specs.Readings.{Reading, ReadsAs}
 use Rattle.script_state.specs.Steps.{step}
 use Rattle.proof_log.specs.declared.entry.Entry.{Entry}
 use Rattle.proof_log.specs.Logs.{state_of}
@@ -67,7 +66,7 @@ owed_by (answer.Refused e) = Nothing
 owed_by answer.Check = Steps
 
 -- a command that is refused is passed over, and a check owes its steps and its record
-abbrev pub commanded : Judging → Option Sexps → Judging
+abbrev pub commanded : Judging → Reading → Judging
 commanded j says = record { state = (step j.state says).1; log = j.log; owed = owed_by (step j.state says).0; line = j.line }
 
 -- ---- lines
@@ -143,7 +142,7 @@ is_idle (Values next left values) = false
 is_idle (Over r) = false
 
 -- the commands up to the next check are done
-abbrev pub reach : Judging → List (Option Sexps) → Judging × List (Option Sexps)
+abbrev pub reach : Judging → List Reading → Judging × List Reading
 reach j [] = (j, [])
 reach j (c ∷ cs) = if is_idle j.owed then reach (commanded j c) cs else (j, c ∷ cs)
 
@@ -155,7 +154,7 @@ ending (Values next left values) n = Some (record { line = n; rule = rule.End })
 ending (Over r) n = Some r
 
 -- what is judged of the lines that follow, where these commands follow: the first bad line, if there is one
-abbrev pub Judged : Judging → List (Option Sexps) → List (Option Line) → Option Refusal → Type 0
+abbrev pub Judged : Judging → List Reading → List (Option Line) → Option Refusal → Type 0
 Judged j cs [] o = o ≡ ending (reach j cs).0.owed (reach j cs).0.line
 Judged j cs (l ∷ ls) o = (k : Judging) × Moves (reach j cs).0 l k × Judged k (reach j cs).1 ls o
 
@@ -168,12 +167,12 @@ abbrev pub bad_header : Refusal
 bad_header = record { line = 1; rule = rule.Header }
 
 -- what is judged of all lines of a proof, where these are the commands of the script
-abbrev pub JudgedProof : List (Option Sexps) → List (Option Line) → Option Refusal → Type 0
+abbrev pub JudgedProof : List Reading → List (Option Line) → Option Refusal → Type 0
 JudgedProof cs [] o = o ≡ Some bad_header
 JudgedProof cs (l ∷ ls) o = (IsHeader l × Judged no_judging cs ls o) ⊎ ((IsHeader l → ⊥) × (o ≡ Some bad_header))
 
 -- each chunk reads as this
-abbrev pub ReadEach : List Chunk → List (Option Sexps) → Type 0
+abbrev pub ReadEach : List Chunk → List Reading → Type 0
 ReadEach [] [] = Unit {0}
 ReadEach [] (s ∷ ss) = ⊥
 ReadEach (c ∷ cs) [] = ⊥

@@ -5,7 +5,7 @@ use Rattle.std.specs.Prelude.{◌≡◌, ℕ, List, [], ◌∷◌, ◌++◌, sli
 use Rattle.std.specs.List.{AllByRecursion}
 use Rattle.cnf_base.specs.Literals.{Literal, negated}
 use Rattle.smt_terms.specs.declared.node.Node.{Node}
-use Rattle.smt_syntax.specs.Sexps.{Sexps}
+use Rattle.script_state.specs.Readings.{Reading}
 use Rattle.smt_build.specs.Names.{IsDeclared}
 use Rattle.scope_selectors.specs.declared.live.Live.{Live}
 use Rattle.script_state.specs.declared.answer.Answer.{Answer}
@@ -78,7 +78,7 @@ verdict_of (Unsat p) = verdict.Unsat
 -- the line on which the command begins, what it reads as, its answer, and the steps and the record of its check
 pub record Turn : Type 0 where
   pub line : ℕ
-  pub says : Option Sexps
+  pub says : Reading
   pub answer : Answer
   pub steps : List Entry
   pub shown : Option Record

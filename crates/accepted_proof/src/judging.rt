@@ -4,7 +4,7 @@ ghost use Rattle.std.specs.Prelude.{◌≡◌, ℕ, List, [], ◌∷◌, map, fa
 ghost use Rattle.std.specs.List.{flat_map};
 ghost use Rattle.smt_text.specs.declared.chunk.Chunk.{Chunk};
 ghost use Rattle.smt_text.specs.Script.{AreChunks};
-ghost use Rattle.smt_syntax.specs.Sexps.{Sexps};
+ghost use Rattle.script_state.specs.Readings.{Reading};
 ghost use Rattle.proof_text.specs.declared.line.Line.{Line};
 ghost use Rattle.accepted_proof.specs.declared.refusal.Refusal.{Refusal};
 ghost use Rattle.accepted_proof.specs.Turns.{Turn};
@@ -20,23 +20,23 @@ pub fn accepted_proofs_are_judged()
 
 /// A proof without a bad line is accepted.
 pub fn judged_proofs_are_accepted()
-    ensures { (script : List ℕ) (chunks : List Chunk) (says : List (Option Sexps)) (lines : List (Option Line))
+    ensures { (script : List ℕ) (chunks : List Chunk) (says : List Reading) (lines : List (Option Line))
         → AreChunks script chunks → ReadEach chunks says → Judged no_judging says lines None
         → (turns : List Turn) × (lines ≡ map (λ l. Some l) (flat_map turn_lines turns)) × Accepted script (proof_of turns) turns }
 {}
 
 /// One thing at most is judged of a proof.
 pub fn proofs_are_judged_one_way()
-    ensures rest { (judging : Judging) (says : List (Option Sexps)) (lines : List (Option Line)) (o p : Option Refusal)
+    ensures rest { (judging : Judging) (says : List Reading) (lines : List (Option Line)) (o p : Option Refusal)
         → Judged judging says lines o → Judged judging says lines p → o ≡ p }
-    ensures whole { (says : List (Option Sexps)) (lines : List (Option Line)) (o p : Option Refusal)
+    ensures whole { (says : List Reading) (lines : List (Option Line)) (o p : Option Refusal)
         → JudgedProof says lines o → JudgedProof says lines p → o ≡ p }
 {}
 
 /// What is judged of the rest, behind a line or a command, is judged of the whole.
 pub fn the_rest_is_judged_as_the_whole()
-    ensures line { (old new : Judging) (says : List (Option Sexps)) (line : Option Line) (lines : List (Option Line)) (o : Option Refusal)
+    ensures line { (old new : Judging) (says : List Reading) (line : Option Line) (lines : List (Option Line)) (o : Option Refusal)
         → is_idle old.owed ≡ false → Moves old line new → Judged new says lines o → Judged old says (line ∷ lines) o }
-    ensures command { (old : Judging) (says : List (Option Sexps)) (first : Option Sexps) (lines : List (Option Line)) (o : Option Refusal)
+    ensures command { (old : Judging) (says : List Reading) (first : Reading) (lines : List (Option Line)) (o : Option Refusal)
         → is_idle old.owed ≡ true → Judged (commanded old first) says lines o → Judged old (first ∷ says) lines o }
 {}

@@ -4,7 +4,7 @@ use Rattle.smt_values.specs.declared.value.Value.{Value}
 use Rattle.cnf_base.specs.Literals.{Literal, negated, code_of}
 use Rattle.scope_selectors.specs.declared.live.Live.{Live}
 use Rattle.script_state.specs.declared.answer.Verdict.{Verdict}
-use Rattle.smt_syntax.specs.Sexps.{Sexps}
+use Rattle.script_state.specs.Readings.{Reading}
 use Rattle.script_state.specs.States.{StateValue, concluded}
 use Rattle.proof_log.specs.Stored.{LogValue, Stands, selector_in}
 use Rattle.accepted_proof.specs.Turns.{with_step}
@@ -25,7 +25,7 @@ use Rattle.proof_checker.specs.declared.due.Due.TheVariants.{Nothing, Steps, Val
 
 -- what a chunk says, as `ReadsAs` has it
 abbrev pub Says : Type 0
-Says = Option Sexps
+Says = Reading
 
 -- what is judged, and the verdicts of the records so far
 pub record CheckerValue : Type 0 where

@@ -1,10 +1,11 @@
 -- What stays a state.
-use Rattle.std.proofs.Common.{◌≡◌, ℕ, ◌<◌, ◌≤◌, ◌∙◌, Bool, true, false, refl, length, get_or, ap, arith, length-append, Ok, None, Option}
-use Rattle.std.specs.Prelude.{◌&&◌, All}
+use Rattle.std.proofs.Common.{◌≡◌, ℕ, ◌<◌, ◌≤◌, ◌∙◌, Bool, true, false, List, refl, length, get_or, ap, arith, length-append, Ok, Some, None, Option}
+use Rattle.std.specs.Prelude.{All, if◌then◌else◌}
 use Rattle.std.proofs.lemmas.List.Elements.{All-push}
 use Rattle.smt_text.specs.declared.token.CommandName.{CommandName}
 use Rattle.smt_syntax.specs.Sexps.{Sexps}
 use Rattle.smt_terms.specs.declared.sort.Sort.TheVariants as sort
+use Rattle.smt_terms.specs.declared.node.Node.{Node}
 use Rattle.smt_terms.specs.Same.{same_sort, sort_same}
 use Rattle.smt_terms.specs.Terms.{TermsValue, IsTermList, sort_of}
 use Rattle.smt_terms.proofs.Growing.{sort_longer}
@@ -15,14 +16,13 @@ use Rattle.smt_build.specs.Building.{Grows}
 use Rattle.smt_build.specs.Names.{SymbolsValue}
 use Rattle.smt_build.specs.Declaring.{declare}
 use Rattle.script_state.specs.declared.answer.Verdict.{Verdict}
+use Rattle.script_state.specs.declared.error_text.ErrorText.{ErrorText}
+use Rattle.script_state.specs.declared.error_text.ErrorText.TheVariants.{NotSupported, WrongArguments}
 use Rattle.script_state.specs.Plain.{is_plain}
 use Rattle.script_state.specs.States.{StateValue, IsState}
+use Rattle.script_state.specs.Steps.{objection}
 use Rattle.script_state.proofs.Marking.{plain_longer}
 use Rattle.script_state.proofs.Declared.{declared_kept}
-
-and_true : (a b : Bool) → (a && b) ≡ true → (a ≡ true) × (b ≡ true)
-and_true true b e = (refl, e)
-and_true false b e = absurd (let z : ⊥ = cc in z)
 
 abbrev with_terms : StateValue → TermsValue → StateValue
 with_terms v w = record { symbols = v.symbols; terms = w; scopes = v.scopes; standing = v.standing }
@@ -84,15 +84,19 @@ module _ (v : StateValue) (w : TermsValue) (grows : Grows v.symbols.signatures v
     plain = still_plain;
   }
 
--- the term can be asserted
-abbrev pub is_plain_truth : TermsValue → ℕ → Bool
-is_plain_truth w t = same_sort (sort_of w.nodes t) sort.Bool && is_plain w.nodes t
+-- a term against which nothing stands is plain and of sort Bool
+asserted_plain : (nodes : List Node) (t : ℕ) → objection nodes t ≡ None → (same_sort (sort_of nodes t) sort.Bool ≡ true) × (is_plain nodes t ≡ true)
+asserted_plain nodes t = go (same_sort (sort_of nodes t) sort.Bool) (is_plain nodes t) where
+  go : (b c : Bool) → ◌≡◌ {A = Option ErrorText} (if b then (if c then None else Some NotSupported) else Some WrongArguments) None → (b ≡ true) × (c ≡ true)
+  go true true e = (refl, refl)
+  go true false e = absurd (let z : ⊥ = cc in z)
+  go false c e = absurd (let z : ⊥ = cc in z)
 
--- one assertion more, of a plain term of sort Bool
-pub asserted_state : (v : StateValue) (t : ℕ) (scopes : ScopesValue) → IsState v → t < length v.terms.nodes → is_plain_truth v.terms t ≡ true → scopes ≡ asserted v.scopes t None → IsState (record { symbols = v.symbols; terms = v.terms; scopes = scopes; standing = None })
-asserted_state v t scopes is lt both e =
+-- one assertion more, of a term against which nothing stands
+pub asserted_state : (v : StateValue) (t : ℕ) (scopes : ScopesValue) → IsState v → t < length v.terms.nodes → objection v.terms.nodes t ≡ None → scopes ≡ asserted v.scopes t None → IsState (record { symbols = v.symbols; terms = v.terms; scopes = scopes; standing = None })
+asserted_state v t scopes is lt none e =
     let new : Live = record { assertion = v.scopes.made; term = t; name = None; level = v.scopes.levels } in
-    let parts = and_true (same_sort (sort_of v.terms.nodes t) sort.Bool) (is_plain v.terms.nodes t) both in
+    let parts = asserted_plain v.terms.nodes t none in
     rw e (record {
       terms = is.terms;
       scopes = one_more v.scopes t None is.scopes;

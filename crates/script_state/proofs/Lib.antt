@@ -2,7 +2,9 @@ pub mod Lists
 pub mod Declared
 pub mod Marking
 pub mod Asserting
+pub mod Cases
 pub mod Keeping
 pub mod Obeying
 pub mod Applying
 pub mod Deciding
+pub mod Words

@@ -1,5 +1,6 @@
 -- What each command does, by its name and its arguments.
-use Rattle.std.proofs.Common.{◌≡◌, false, List, [], ◌∷◌, refl, sym, subst, Result}
+use Rattle.std.proofs.Common.{◌≡◌, false, List, [], ◌∷◌, refl, sym, subst, Option, Some, None, Result}
+use Rattle.std.specs.Prelude.{option_to_list}
 use Rattle.std.specs.declared.alloc.AllocError.{AllocError}
 use Rattle.smt_text.specs.declared.token.CommandName.{CommandName}
 use Rattle.smt_text.specs.declared.token.CommandName.TheVariants as name
@@ -12,8 +13,10 @@ use Rattle.smt_syntax.specs.Commands.{name_of, spans_of, is_left_out}
 use Rattle.smt_build.specs.Declaring.{declare}
 use Rattle.smt_build.specs.Terms.{term_of}
 use Rattle.script_state.specs.declared.answer.Answer.{Answer}
+use Rattle.script_state.specs.declared.answer.Answer.TheVariants.{Done}
 use Rattle.script_state.specs.States.{StateValue}
-use Rattle.script_state.specs.Steps.{Step, declaring, asserting, checking, refuse, named_step, obey, Answers}
+use Rattle.script_state.specs.declared.error_text.ErrorText.TheVariants.{NotSupported}
+use Rattle.script_state.specs.Steps.{Step, choosing, declaring, asserting, checking, refuse, named_step, obey, Answers}
 
 module _ (s : StateValue) (signs : List Sign) (result : Result Answer AllocError) (new : StateValue) where
   -- the arguments stand at the spans of a command that is not left out
@@ -44,6 +47,27 @@ module _ (s : StateValue) (signs : List Sign) (result : Result Answer AllocError
       → Obeys k
   obeys_assertion k span e ensures = subst Obeys (sym e) (λ es stand. one_argument span es (stand refl) ensures)
 
+  logic_argument : (span : Span) (es : Sexps) → AllStand signs (span ∷ []) es
+      → ((e : Sexp) → Stands signs span e → Answers (choosing s e) result s new)
+      → Answers (obey s name.SetLogic es) result s new
+  unfolding obey
+  logic_argument span none stand ensures = absurd stand
+  logic_argument span (more e none) stand ensures = ensures e stand.0
+  logic_argument span (more e (more f es)) stand ensures = absurd stand.1
+
+  pub obeys_logic : (k : Command) (span : Span) → k ≡ command.SetLogic span
+      → ((e : Sexp) → Stands signs span e → Answers (choosing s e) result s new)
+      → Obeys k
+  obeys_logic k span e ensures = subst Obeys (sym e) (λ es stand. logic_argument span es (stand refl) ensures)
+
+  info_arguments : (span : Span) (spans : List Span) (es : Sexps) → AllStand signs (span ∷ spans) es → Answers (Done, s) result s new → Answers (obey s name.SetInfo es) result s new
+  unfolding obey
+  info_arguments span spans none stand ensures = absurd stand
+  info_arguments span spans (more e es) stand ensures = ensures
+
+  pub obeys_info : (k : Command) (keyword : Span) (value : Option Span) → k ≡ command.SetInfo keyword value → Answers (Done, s) result s new → Obeys k
+  obeys_info k keyword value e ensures = subst Obeys (sym e) (λ es stand. info_arguments keyword (option_to_list value) es (stand refl) ensures)
+
   no_argument : (es : Sexps) → AllStand signs [] es → Answers (checking s) result s new → Answers (obey s name.CheckSat es) result s new
   unfolding obey
   no_argument none stand ensures = ensures
@@ -57,6 +81,10 @@ module _ (s : StateValue) (signs : List Sign) (result : Result Answer AllocError
   left_out name.CheckSat es stand ensures = no_argument es (stand refl) ensures
   left_out name.Assert none stand ensures = ensures
   left_out name.Assert (more e es) stand ensures = absurd (stand refl)
+  left_out name.SetLogic none stand ensures = ensures
+  left_out name.SetLogic (more e es) stand ensures = absurd (stand refl)
+  left_out name.SetInfo none stand ensures = ensures
+  left_out name.SetInfo (more e es) stand ensures = absurd (stand refl)
   left_out name.DeclareConst none stand ensures = ensures
   left_out name.DeclareConst (more e es) stand ensures = absurd (stand refl)
   left_out _ es stand ensures = ensures
@@ -65,13 +93,16 @@ module _ (s : StateValue) (signs : List Sign) (result : Result Answer AllocError
   obeys_left_out k n e ensures = subst Obeys (sym e) (λ es stand. left_out n es stand ensures)
 
 module _ (s : StateValue) where
-  -- every other command is refused
+  -- every other command is not supported
   pub obeys_other : (k : Command)
-      → ((span : Span) → k ≡ command.Assert span → ⊥) → (k ≡ command.CheckSat → ⊥) → ((n t : Span) → k ≡ command.DeclareConst n t → ⊥) → ((n : CommandName) → k ≡ command.NotSupported n → ⊥)
-      → (es : Sexps) → ◌≡◌ {A = Step} (obey s (name_of k) es) (refuse s)
+      → ((span : Span) → k ≡ command.Assert span → ⊥) → (k ≡ command.CheckSat → ⊥) → ((n t : Span) → k ≡ command.DeclareConst n t → ⊥)
+      → ((keyword : Span) (value : Option Span) → k ≡ command.SetInfo keyword value → ⊥) → ((span : Span) → k ≡ command.SetLogic span → ⊥) → ((n : CommandName) → k ≡ command.NotSupported n → ⊥)
+      → (es : Sexps) → ◌≡◌ {A = Step} (obey s (name_of k) es) (refuse s NotSupported)
   unfolding obey
-  obeys_other (command.Assert span) a b c d es = absurd (a span refl)
-  obeys_other command.CheckSat a b c d es = absurd (b refl)
-  obeys_other (command.DeclareConst n t) a b c d es = absurd (c n t refl)
-  obeys_other (command.NotSupported n) a b c d es = absurd (d n refl)
-  obeys_other _ a b c d es = refl
+  obeys_other (command.Assert span) a b c d f g es = absurd (a span refl)
+  obeys_other command.CheckSat a b c d f g es = absurd (b refl)
+  obeys_other (command.DeclareConst n t) a b c d f g es = absurd (c n t refl)
+  obeys_other (command.SetInfo keyword value) a b c d f g es = absurd (d keyword value refl)
+  obeys_other (command.SetLogic span) a b c d f g es = absurd (f span refl)
+  obeys_other (command.NotSupported n) a b c d f g es = absurd (g n refl)
+  obeys_other _ a b c d f g es = refl

@@ -1,5 +1,9 @@
--- The texts of errors.
+-- The texts of errors, and the errors that faults of commands and terms are told as.
 use Rattle.std.specs.Prelude.{ℕ, List, codes}
+use Rattle.smt_syntax.specs.declared.command.SyntaxFault.{SyntaxFault}
+use Rattle.smt_syntax.specs.declared.command.SyntaxFault.TheVariants as syntax
+use Rattle.smt_build.specs.declared.fault.BuildFault.{BuildFault}
+use Rattle.smt_build.specs.declared.fault.BuildFault.TheVariants as build
 use Rattle.script_state.specs.declared.error_text.ErrorText.{ErrorText}
 use Rattle.script_state.specs.declared.error_text.ErrorText.TheVariants.{UnfinishedCommand, TextOutsideCommand, BadToken, UnknownCommand, MalformedCommand, NestingTooDeep, UnknownSymbol, AlreadyDeclared, ReservedSymbol, WrongArguments, WidthOutOfRange, LiteralTooWide, NotSupported, TooManyTerms, UnknownLogic, LevelOutOfRange, NoModel, NoRefutation, OptionOff, NoUnknownAnswer}
 
@@ -24,3 +28,20 @@ text_of NoModel = codes "no model stands"
 text_of NoRefutation = codes "no refutation stands"
 text_of OptionOff = codes "option is off"
 text_of NoUnknownAnswer = codes "no unknown answer stands"
+
+-- a fault of a command's depth, name or form
+abbrev pub syntax_error : SyntaxFault → ErrorText
+syntax_error syntax.TooDeep = NestingTooDeep
+syntax_error syntax.UnknownCommand = UnknownCommand
+syntax_error syntax.Malformed = MalformedCommand
+
+-- a fault of a name, a sort or a term
+abbrev pub build_error : BuildFault → ErrorText
+build_error build.UnknownSymbol = UnknownSymbol
+build_error build.Declared = AlreadyDeclared
+build_error build.Reserved = ReservedSymbol
+build_error build.WrongSort = WrongArguments
+build_error build.Width = WidthOutOfRange
+build_error build.LiteralTooWide = LiteralTooWide
+build_error build.NotSupported = NotSupported
+build_error build.TermLimit = TooManyTerms

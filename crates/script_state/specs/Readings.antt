@@ -1,20 +1,37 @@
 -- What a chunk of a script reads as.
-use Rattle.std.specs.Prelude.{◌≡◌, ◌≢◌, ◌⊎◌, ℕ, zero, suc, Bool, true, false, List, [], ◌∷◌, Option, Some, None}
+use Rattle.std.specs.Prelude.{◌≡◌, ◌≢◌, ◌⊎◌, ℕ, zero, suc, Bool, true, false, List, [], ◌∷◌, Result, Ok, Err}
 use Rattle.smt_text.specs.Lexicon.{Lexeme}
 use Rattle.smt_text.specs.Tokens.{AreTokens, IsBadAt}
 use Rattle.smt_text.specs.declared.chunk.Chunk.{Chunk}
-use Rattle.smt_text.specs.declared.chunk.ChunkKind.TheVariants.{Balanced}
+use Rattle.smt_text.specs.declared.chunk.ChunkKind.{ChunkKind}
+use Rattle.smt_text.specs.declared.chunk.ChunkKind.TheVariants.{Balanced, Stray, Unfinished}
 use Rattle.smt_syntax.specs.Sexps.{Sign, open_paren, close_paren, word, Sexps, group, signs_of, spelling}
+use Rattle.script_state.specs.declared.error_text.ErrorText.{ErrorText}
+use Rattle.script_state.specs.declared.error_text.ErrorText.TheVariants.{UnfinishedCommand, TextOutsideCommand, BadToken, MalformedCommand}
+
+-- the S-expressions in the list of a command, or why there is none
+abbrev pub Reading : Type 0
+Reading = Result Sexps ErrorText
 
 -- the tokens spell no list
 abbrev pub SpellNoList : List Sign → Type 0
 SpellNoList tokens = (es : Sexps) → tokens ≢ spelling (group es)
 
--- A chunk reads as the S-expressions in the list that its tokens spell. Text outside a command, an unfinished command, and
--- text with a bad token or whose tokens spell no list read as nothing.
-abbrev pub ReadsAs : Chunk → Option Sexps → Type 0
-ReadsAs chunk (Some es) = (chunk.kind ≡ Balanced) × ((ts : List Lexeme) × AreTokens chunk.text ts × (signs_of ts ≡ spelling (group es)))
-ReadsAs chunk None = (chunk.kind ≢ Balanced) ⊎ (((place : ℕ) × IsBadAt chunk.text place) ⊎ ((ts : List Lexeme) × AreTokens chunk.text ts × SpellNoList (signs_of ts)))
+-- a text has a bad token, or its tokens spell no list
+abbrev pub IsNoList : List ℕ → ErrorText → Type 0
+IsNoList text e = ((e ≡ BadToken) × ((place : ℕ) × IsBadAt text place)) ⊎ ((e ≡ MalformedCommand) × ((ts : List Lexeme) × AreTokens text ts × SpellNoList (signs_of ts)))
+
+-- Text reads as the S-expressions in the list that its tokens spell, or as the first of its faults: that it is no whole
+-- command comes before a fault of its tokens.
+abbrev pub ReadsBy : ChunkKind → List ℕ → Reading → Type 0
+ReadsBy Unfinished text r = r ≡ Err UnfinishedCommand
+ReadsBy Stray text r = r ≡ Err TextOutsideCommand
+ReadsBy Balanced text (Ok es) = (ts : List Lexeme) × AreTokens text ts × (signs_of ts ≡ spelling (group es))
+ReadsBy Balanced text (Err e) = IsNoList text e
+
+-- what a chunk reads as
+abbrev pub ReadsAs : Chunk → Reading → Type 0
+ReadsAs chunk r = ReadsBy chunk.kind chunk.text r
 
 -- ---- how it is seen
 

@@ -1,7 +1,10 @@
 //! The texts of errors.
 
 ghost use Rattle.std.specs.Prelude.{◌≡◌};
-ghost use Rattle.script_state.specs.ErrorTexts.{text_of};
+ghost use Rattle.script_state.specs.ErrorTexts.{text_of, syntax_error, build_error};
+
+use smt_build::fault::BuildFault;
+use smt_syntax::command::SyntaxFault;
 
 /// What a refused command is told.
 #[derive(Clone, Copy, Debug, PartialEq, Eq)]
@@ -55,5 +58,32 @@ impl ErrorText {
             ErrorText::OptionOff => b"option is off",
             ErrorText::NoUnknownAnswer => b"no unknown answer stands",
         }
+    }
+}
+
+/// What a fault of a command's depth, name or form is told as.
+pub(crate) fn syntax_error(fault: SyntaxFault) -> ErrorText
+    ensures { result ≡ syntax_error fault }
+{
+    match fault {
+        SyntaxFault::TooDeep => ErrorText::NestingTooDeep,
+        SyntaxFault::UnknownCommand => ErrorText::UnknownCommand,
+        SyntaxFault::Malformed => ErrorText::MalformedCommand,
+    }
+}
+
+/// What a fault of a name, a sort or a term is told as.
+pub(crate) fn build_error(fault: BuildFault) -> ErrorText
+    ensures { result ≡ build_error fault }
+{
+    match fault {
+        BuildFault::UnknownSymbol => ErrorText::UnknownSymbol,
+        BuildFault::Declared => ErrorText::AlreadyDeclared,
+        BuildFault::Reserved => ErrorText::ReservedSymbol,
+        BuildFault::WrongSort => ErrorText::WrongArguments,
+        BuildFault::Width => ErrorText::WidthOutOfRange,
+        BuildFault::LiteralTooWide => ErrorText::LiteralTooWide,
+        BuildFault::NotSupported => ErrorText::NotSupported,
+        BuildFault::TermLimit => ErrorText::TooManyTerms,
     }
 }

@@ -1,27 +1,33 @@
 //! What follows from the definitions of readings and steps alone.
 
-ghost use Rattle.std.specs.Prelude.{◌≡◌, ◌+◌, ◌≤◌, Option};
+ghost use Rattle.std.specs.Prelude.{◌≡◌, ◌+◌, ◌≤◌};
 ghost use Rattle.smt_terms.specs.Terms.{TermsValue, IsTermList};
 ghost use Rattle.smt_text.specs.declared.chunk.Chunk.{Chunk};
-ghost use Rattle.smt_syntax.specs.Sexps.{Sexps};
 ghost use Rattle.smt_build.specs.Building.{Grows};
-ghost use Rattle.script_state.specs.Readings.{ReadsAs};
+ghost use Rattle.script_state.specs.Readings.{Reading, ReadsAs};
+ghost use Rattle.script_state.specs.declared.answer.Answer.TheVariants.{Refused};
+ghost use Rattle.script_state.specs.declared.error_text.ErrorText.{ErrorText};
 ghost use Rattle.script_state.specs.States.{StateValue, RestValue, IsState, Fit};
 ghost use Rattle.script_state.specs.Steps.{step};
 
-/// A chunk reads as one list of S-expressions, or as nothing, and not in two ways.
+/// A chunk reads in one way: as one list of S-expressions, or as one error.
 pub fn chunks_read_one_way()
-    ensures { (chunk : Chunk) (es fs : Option Sexps) → ReadsAs chunk es → ReadsAs chunk fs → es ≡ fs }
+    ensures { (chunk : Chunk) (r t : Reading) → ReadsAs chunk r → ReadsAs chunk t → r ≡ t }
+{}
+
+/// A step that is refused leaves the state as it was, and with it the check that stands.
+pub fn refused_steps_change_nothing()
+    ensures { (s : StateValue) (r : Reading) (e : ErrorText) → (step s r).0 ≡ Refused e → (step s r).1 ≡ s }
 {}
 
 /// A step makes one assertion at most.
 pub fn steps_make_one_assertion()
-    ensures { (s : StateValue) (es : Option Sexps) → (step s es).1.scopes.made ≤ s.scopes.made + 1 }
+    ensures { (s : StateValue) (r : Reading) → (step s r).1.scopes.made ≤ s.scopes.made + 1 }
 {}
 
 /// Every step leads from a state to a state.
 pub fn steps_keep_states()
-    ensures { (s : StateValue) (es : Option Sexps) → IsState s → IsState (step s es).1 }
+    ensures { (s : StateValue) (r : Reading) → IsState s → IsState (step s r).1 }
 {}
 
 /// What fits terms fits more terms too.

@@ -2,10 +2,11 @@
 
 ghost use Rattle.std.specs.Prelude.{◌≡◌, ◌<◌, ◌≤◌, ◌&&◌, false, OnOk, IfOk, length, slice_index_or};
 ghost use Rattle.std.specs.List.{list_all, AllByRecursion};
-ghost use Rattle.smt_terms.specs.Same.{same_sort};
-ghost use Rattle.smt_terms.specs.Terms.{AreTerms, cut_at, sort_of};
+ghost use Rattle.smt_terms.specs.Terms.{AreTerms, cut_at};
 ghost use Rattle.script_state.specs.Plain.{is_plain_sort, is_plain_operator, is_plain_op, is_plain, HavePlain};
+ghost use Rattle.script_state.specs.Steps.{objection};
 
+use crate::error_text::ErrorText;
 use smt_terms::node::{Node, Op, TermId};
 use smt_terms::operator::Operator;
 use smt_terms::sort::Sort;
@@ -92,22 +93,25 @@ fn extend(marks: &mut Vec<bool>, terms: &Terms) -> Result<(), AllocError>
     Ok(())
 }
 
-/// Whether a term is plain and of sort Bool.
-pub(crate) fn is_plain_truth(
+/// Why a term cannot be asserted, `None` exactly where it can.
+pub(crate) fn objection(
     terms: &Terms,
     marks: &mut Vec<bool>,
     term: TermId,
-) -> Result<bool, AllocError>
+) -> Result<Option<ErrorText>, AllocError>
     requires held { term < length terms.now.nodes }
     requires marks { HavePlain terms.now.nodes marks.old.items }
-    ensures plain { IfOk result (λ b. b ≡ (same_sort (sort_of terms.now.nodes term) Sort.Bool && is_plain terms.now.nodes term)) }
+    ensures objection { IfOk result (λ o. o ≡ objection terms.now.nodes term) }
     ensures marks { HavePlain terms.now.nodes marks.new.items }
 {
     if terms.sort(term) != Sort::Bool {
-        return Ok(false);
+        return Ok(Some(ErrorText::WrongArguments));
     }
     extend(marks, terms)?;
-    Ok(is_marked(marks, term))
+    if is_marked(marks, term) {
+        return Ok(None);
+    }
+    Ok(Some(ErrorText::NotSupported))
 }
 
 /// Forgets the terms from this number on.

@@ -11,8 +11,9 @@ ghost use Rattle.script_state.specs.States.{no_state, concluded, with_terms, IsS
 ghost use Rattle.script_state.specs.Steps.{declaring, asserting, checking, named_step, obey, Answers, Applies};
 
 use crate::answer::{Answer, Verdict};
-use crate::error_text::ErrorText;
-use crate::plain::{cut, is_plain_truth};
+use crate::error_text::{ErrorText, build_error, syntax_error};
+use crate::logic::set_logic;
+use crate::plain::{cut, objection};
 use crate::whole::is_list;
 use scope_selectors::live::Live;
 use scope_selectors::scopes::Scopes;
@@ -27,9 +28,6 @@ use smt_text::token::{CommandName, Tokens};
 use smt_text::tokens::{TokensError, tokens};
 use std::alloc::{AllocError, Global};
 use std::marker::Model;
-
-/// What is told of every chunk that is refused.
-const REFUSED: Answer = Answer::Refused(ErrorText::NotSupported);
 
 /// The declarations, the terms, the levels with their assertions, and the check that stands.
 #[derive(Drop)]
@@ -101,7 +99,7 @@ impl State {
                 Ok(Answer::Done)
             }
             Err(BuildError::NoMemory) => Err(AllocError),
-            Err(BuildError::Fault(_)) => Ok(REFUSED),
+            Err(BuildError::Fault(fault)) => Ok(Answer::Refused(build_error(fault))),
         }
     }
 
@@ -121,13 +119,13 @@ impl State {
         let term = match self.symbols.elaborate(alloc, &mut self.terms, tokens, span) {
             Ok(term) => term,
             Err(BuildError::NoMemory) => return Err(AllocError),
-            Err(BuildError::Fault(_)) => return Ok(REFUSED),
+            Err(BuildError::Fault(fault)) => return Ok(Answer::Refused(build_error(fault))),
         };
-        match is_plain_truth(&self.terms, &mut self.plain, term) {
-            Ok(true) => {}
-            Ok(false) => {
+        match objection(&self.terms, &mut self.plain, term) {
+            Ok(None) => {}
+            Ok(Some(error)) => {
                 cut(&mut self.terms, &mut self.plain, len);
-                return Ok(REFUSED);
+                return Ok(Answer::Refused(error));
             }
             Err(error) => {
                 cut(&mut self.terms, &mut self.plain, len);
@@ -160,7 +158,7 @@ impl State {
     {
         match name {
             CommandName::CheckSat => self.check(),
-            _ => REFUSED,
+            _ => Answer::Refused(ErrorText::NotSupported),
         }
     }
 
@@ -180,8 +178,34 @@ impl State {
             Command::DeclareConst { name: _, sort: _ } => self.declare(alloc, tokens, command),
             Command::Assert { term } => self.assert(alloc, tokens, *term),
             Command::CheckSat => Ok(self.check()),
+            Command::SetInfo {
+                keyword: _,
+                value: _,
+            } => Ok(Answer::Done),
+            Command::SetLogic { logic } => Ok(set_logic(tokens, *logic)),
             Command::NotSupported { name } => Ok(self.obey_name(*name)),
-            _ => Ok(REFUSED),
+            _ => Ok(Answer::Refused(ErrorText::NotSupported)),
+        }
+    }
+
+    /// Does what a whole command says.
+    fn apply_command(&mut self, alloc: Global, chunk: &Chunk) -> Result<Answer, AllocError>
+        requires balanced { chunk.now.kind ≡ ChunkKind.Balanced }
+        requires assertions { self.old.scopes.made + 1 < 2 ^ 32 }
+        ensures { Applies chunk.now result self.old self.new }
+    {
+        let all = match tokens(alloc, chunk) {
+            Ok(all) => all,
+            Err(TokensError::NoMemory) => return Err(AllocError),
+            Err(TokensError::Bad(_)) => return Ok(Answer::Refused(ErrorText::BadToken)),
+        };
+        if !is_list(&all) {
+            return Ok(Answer::Refused(ErrorText::MalformedCommand));
+        }
+        match read_command(alloc, &all) {
+            Ok(command) => self.obey(alloc, &all, &command),
+            Err(SyntaxError::NoMemory) => Err(AllocError),
+            Err(SyntaxError::Fault(fault)) => Ok(Answer::Refused(syntax_error(fault))),
         }
     }
 
@@ -190,21 +214,10 @@ impl State {
         requires assertions { self.old.scopes.made + 1 < 2 ^ 32 }
         ensures { Applies chunk.now result self.old self.new }
     {
-        if chunk.kind != ChunkKind::Balanced {
-            return Ok(REFUSED);
-        }
-        let all = match tokens(alloc, chunk) {
-            Ok(all) => all,
-            Err(TokensError::NoMemory) => return Err(AllocError),
-            Err(TokensError::Bad(_)) => return Ok(REFUSED),
-        };
-        if !is_list(&all) {
-            return Ok(REFUSED);
-        }
-        match read_command(alloc, &all) {
-            Ok(command) => self.obey(alloc, &all, &command),
-            Err(SyntaxError::NoMemory) => Err(AllocError),
-            Err(SyntaxError::Fault(_)) => Ok(REFUSED),
+        match chunk.kind {
+            ChunkKind::Balanced => self.apply_command(alloc, chunk),
+            ChunkKind::Stray => Ok(Answer::Refused(ErrorText::TextOutsideCommand)),
+            ChunkKind::Unfinished => Ok(Answer::Refused(ErrorText::UnfinishedCommand)),
         }
     }
 

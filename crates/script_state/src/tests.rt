@@ -6,7 +6,8 @@ use smt_text::text::Text;
 use std::process::Abort;
 use std::test::Fail;
 
-const REFUSED: Answer = Answer::Refused(ErrorText::NotSupported);
+/// Commands, and what each is told.
+type Refusals = &'static [(&'static [u8], ErrorText)];
 
 fn apply_as(
     rt: &(impl Abort + AllocGlobal),
@@ -35,14 +36,17 @@ fn obey(
     Ok(())
 }
 
-/// Each command is refused.
+/// Each command is told its error, and leaves the state as it was.
 fn refuse(
     rt: &(impl Abort + AllocGlobal),
     state: &mut State,
-    commands: &[&[u8]],
+    commands: Refusals,
 ) -> Result<(), Fail> {
-    for text in commands {
-        assert_eq!(rt; apply_as(rt, state, ChunkKind::Balanced, text)?, REFUSED);
+    let before = (counts(state), state.standing());
+    for (text, error) in commands {
+        let answer = apply_as(rt, state, ChunkKind::Balanced, text)?;
+        assert_eq!(rt; answer, Answer::Refused(*error));
+        assert!(rt; (counts(state), state.standing()) == before);
     }
     Ok(())
 }
@@ -70,28 +74,61 @@ fn first_script() -> &'static [(&'static [u8], Answer)] {
     ]
 }
 
-/// What is refused where a word x of width 8 is declared.
-fn refused_commands() -> &'static [&'static [u8]] {
+/// What is refused where a word x of width 8 is declared, and its first fault.
+fn refused_commands() -> Refusals {
     &[
-        b"(declare-sort S 0)",
-        b"(declare-const x (_ BitVec 8))",
-        b"(declare-const bvadd (_ BitVec 8))",
-        b"(declare-const |check-sat| (_ BitVec 8))",
-        b"(declare-const let (_ BitVec 8))",
-        b"(declare-const z (_ BitVec 0))",
-        b"(declare-const z (_ BitVec 129))",
-        b"(declare-const z (_ BitVec 8) 1)",
-        b"(assert (bvadd x #x02))",
-        b"(assert x)",
-        b"(assert (= x #x005))",
-        b"(assert (= (bvadd x #x03) nope))",
-        b"(assert (= (bvnot (bvadd x #x04)) (bvand x)))",
-        b"(assert (! (= x #x06) :named a))",
-        b"(assert)",
-        b"(check-sat x)",
-        b"(push 1)",
-        b"(assert (= x #b2))",
-        b"()",
+        (b"(assert (= x #b2) (= x y))", ErrorText::BadToken),
+        (b"(5)", ErrorText::UnknownCommand),
+        (b"()", ErrorText::UnknownCommand),
+        (b"(assert)", ErrorText::MalformedCommand),
+        (
+            b"(assert (and nope (let () p)))",
+            ErrorText::MalformedCommand,
+        ),
+        (
+            b"(declare-const z (_ BitVec 8) 1)",
+            ErrorText::MalformedCommand,
+        ),
+        (b"(check-sat x)", ErrorText::MalformedCommand),
+        (
+            b"(assert (= (bvadd x #x03) nope))",
+            ErrorText::UnknownSymbol,
+        ),
+        (
+            b"(declare-const x (_ BitVec 8))",
+            ErrorText::AlreadyDeclared,
+        ),
+        (
+            b"(declare-const bvadd (_ BitVec 8))",
+            ErrorText::ReservedSymbol,
+        ),
+        (
+            b"(declare-const |check-sat| (_ BitVec 8))",
+            ErrorText::ReservedSymbol,
+        ),
+        (
+            b"(declare-const let (_ BitVec 8))",
+            ErrorText::ReservedSymbol,
+        ),
+        (b"(assert (bvadd x #x02))", ErrorText::WrongArguments),
+        (b"(assert x)", ErrorText::WrongArguments),
+        (b"(assert (= x #x005))", ErrorText::WrongArguments),
+        (
+            b"(assert (= (bvnot (bvadd x #x04)) (bvand x)))",
+            ErrorText::WrongArguments,
+        ),
+        (
+            b"(declare-const z (_ BitVec 0))",
+            ErrorText::WidthOutOfRange,
+        ),
+        (
+            b"(declare-const z (_ BitVec 129))",
+            ErrorText::WidthOutOfRange,
+        ),
+        (b"(assert (= x (_ bv256 8)))", ErrorText::LiteralTooWide),
+        (b"(declare-sort S 0)", ErrorText::NotSupported),
+        (b"(assert (= 5 x))", ErrorText::NotSupported),
+        (b"(set-logic QF_LIA)", ErrorText::UnknownLogic),
     ]
 }
 
@@ -110,7 +147,7 @@ fn the_first_script_is_done(rt: HostRuntime) -> Result<(), Fail> {
 }
 
 #[test]
-fn what_is_not_supported_is_refused_and_forgotten(rt: HostRuntime) -> Result<(), Fail> {
+fn what_is_refused_is_told_its_first_fault_and_forgotten(rt: HostRuntime) -> Result<(), Fail> {
     let mut state = State::new(rt.alloc());
     obey(
         &rt,
@@ -120,19 +157,26 @@ fn what_is_not_supported_is_refused_and_forgotten(rt: HostRuntime) -> Result<(),
             (b"(assert (= x #x01))", Answer::Done),
         ],
     )?;
-    let before = counts(&state);
-    refuse(&rt, &mut state, refused_commands())?;
-    assert_eq!(rt; counts(&state), before);
-    Ok(())
+    state.conclude(Verdict::Sat);
+    refuse(&rt, &mut state, refused_commands())
 }
 
 #[test]
 fn text_that_is_no_command_is_refused(rt: HostRuntime) -> Result<(), Fail> {
     let mut state = State::new(rt.alloc());
     let unfinished = apply_as(&rt, &mut state, ChunkKind::Unfinished, b"(check-sat")?;
-    assert_eq!(rt; unfinished, REFUSED);
+    assert_eq!(rt; unfinished, Answer::Refused(ErrorText::UnfinishedCommand));
+    let torn = apply_as(&rt, &mut state, ChunkKind::Unfinished, b"(assert #b2")?;
+    assert_eq!(rt; torn, Answer::Refused(ErrorText::UnfinishedCommand));
     let stray = apply_as(&rt, &mut state, ChunkKind::Stray, b"check-sat")?;
-    assert_eq!(rt; stray, REFUSED);
+    assert_eq!(rt; stray, Answer::Refused(ErrorText::TextOutsideCommand));
+    let two = apply_as(
+        &rt,
+        &mut state,
+        ChunkKind::Balanced,
+        b"(check-sat) (check-sat)",
+    )?;
+    assert_eq!(rt; two, Answer::Refused(ErrorText::MalformedCommand));
     Ok(())
 }
 
@@ -148,7 +192,11 @@ fn a_check_stands_until_the_next_accepted_command(rt: HostRuntime) -> Result<(),
         ],
     )?;
     state.conclude(Verdict::Sat);
-    refuse(&rt, &mut state, &[b"(assert x)"])?;
+    refuse(
+        &rt,
+        &mut state,
+        &[(b"(assert x)", ErrorText::WrongArguments)],
+    )?;
     assert_eq!(rt; state.standing(), Some(Verdict::Sat));
     obey(&rt, &mut state, &[(b"(assert (= x #b1))", Answer::Done)])?;
     assert_eq!(rt; state.standing(), None);
@@ -164,8 +212,12 @@ fn widths_are_1_to_128(rt: HostRuntime) -> Result<(), Fail> {
         &[
             (b"(declare-const a (_ BitVec 1))", Answer::Done),
             (b"(declare-const b (_ BitVec 128))", Answer::Done),
-            (b"(assert (= a b))", REFUSED),
         ],
+    )?;
+    refuse(
+        &rt,
+        &mut state,
+        &[(b"(assert (= a b))", ErrorText::WrongArguments)],
     )?;
     assert_eq!(rt; counts(&state), (2, 0, 0));
     Ok(())
@@ -185,6 +237,27 @@ fn truths_are_declared_and_compared(rt: HostRuntime) -> Result<(), Fail> {
     )?;
     // p; true, the two equalities, both
     assert_eq!(rt; counts(&state), (1, 2, 5));
+    Ok(())
+}
+
+#[test]
+fn logics_and_infos_change_nothing(rt: HostRuntime) -> Result<(), Fail> {
+    let mut state = State::new(rt.alloc());
+    state.conclude(Verdict::Unsat);
+    obey(
+        &rt,
+        &mut state,
+        &[
+            (b"(set-logic QF_BV)", Answer::Done),
+            (b"(set-logic QF_UFBV)", Answer::Done),
+            (b"(set-logic QF_ABV)", Answer::Done),
+            (b"(set-logic |QF_AUFBV|)", Answer::Done),
+            (b"(set-logic ALL)", Answer::Done),
+            (b"(set-info :status)", Answer::Done),
+            (b"(set-info :source |a text|)", Answer::Done),
+        ],
+    )?;
+    assert_eq!(rt; state.standing(), Some(Verdict::Unsat));
     Ok(())
 }
 

@@ -7,6 +7,8 @@ pub mod Building
 pub mod Grouping
 pub mod Indices
 pub mod Applying
+pub mod Pairs
+pub mod Binding
 pub mod Terms
 pub mod TermReader
 pub mod Views

@@ -1,7 +1,7 @@
 -- A session goes on over the terms and the assertions that a command leaves.
 use Rattle.std.proofs.Common.{◌≡◌, ℕ, List, [], ◌∷◌, sym, subst, Some, Option}
 use Rattle.std.specs.Prelude.{slice_get}
-use Rattle.smt_syntax.specs.Sexps.{Sexps}
+use Rattle.script_state.specs.Readings.{Reading}
 use Rattle.script_state.specs.declared.answer.Answer.{Answer}
 use Rattle.script_state.specs.States.{StateValue, IsState}
 use Rattle.script_state.specs.Steps.{Step, step}
@@ -27,11 +27,11 @@ pub more_steps : (old new : StateValue) (es : List Entry) → ((a t : ℕ) → s
 more_steps old new [] more h = tt
 more_steps old new (e ∷ es) more h = ((h.0.0, more_for old new more e h.0.0 h.0.1), more_steps old new es more h.1)
 
-goes_on : (old new : StateValue) (a : Answer) (es : Option Sexps) → IsState old → ◌≡◌ {A = Step} (step old es) (a, new) → GoesOn old new
+goes_on : (old new : StateValue) (a : Answer) (es : Reading) → IsState old → ◌≡◌ {A = Step} (step old es) (a, new) → GoesOn old new
 goes_on old new a es is e = subst (λ (to : Step). GoesOn old to.1) e (step_goes_on old is es)
 
 -- what is a session before a command is one behind it
-pub still_session : (old new : StateValue) (log : LogValue) (a : Answer) (es : Option Sexps) → IsSession (record { state = old; log = log }) → ◌≡◌ {A = Step} (step old es) (a, new) → IsSession (record { state = new; log = log })
+pub still_session : (old new : StateValue) (log : LogValue) (a : Answer) (es : Reading) → IsSession (record { state = old; log = log }) → ◌≡◌ {A = Step} (step old es) (a, new) → IsSession (record { state = new; log = log })
 still_session old new log a es h e =
     let g = goes_on old new a es h.state e in
     record {

@@ -4,11 +4,10 @@ use Rattle.std.specs.List.{flat_map}
 use Rattle.std.specs.Io.KnownBytes.{Appends}
 use Rattle.std.proofs.KnownBytes.{Appends-nil}
 use Rattle.smt_text.specs.declared.chunk.Chunk.{Chunk}
-use Rattle.smt_syntax.specs.Sexps.{Sexps}
 use Rattle.script_state.specs.declared.answer.Answer.{Answer}
 use Rattle.script_state.specs.declared.answer.Answer.TheVariants.{Done, Refused, Check}
 use Rattle.script_state.specs.declared.error_text.ErrorText.{ErrorText}
-use Rattle.script_state.specs.Readings.{ReadsAs}
+use Rattle.script_state.specs.Readings.{Reading, ReadsAs}
 use Rattle.script_state.specs.States.{StateValue, concluded}
 use Rattle.script_state.specs.Steps.{Step, step}
 use Rattle.script_state.proofs.Asserting.{standing_state}
@@ -84,7 +83,7 @@ check_keeps s new_state old new shown h checked e =
       each = more_steps s (concluded s (verdict_of shown)) new.entries (λ a t k. k) (grown_steps s old new h.each checked.grows);
     })
 
-pub is_answered : (chunk : Chunk) (s mid last : StateValue) (l new : LogValue) (a : Answer) (es : Option Sexps) (r : Response) (w x : Option (List ℕ)) → ReadsAs chunk es → ◌≡◌ {A = Step} (step s es) (a, mid) → Responds chunk.line a mid last l new r w x
+pub is_answered : (chunk : Chunk) (s mid last : StateValue) (l new : LogValue) (a : Answer) (es : Reading) (r : Response) (w x : Option (List ℕ)) → ReadsAs chunk es → ◌≡◌ {A = Step} (step s es) (a, mid) → Responds chunk.line a mid last l new r w x
     → IsAnswered chunk (record { state = s; log = l }) (record { state = last; log = new }) r w x
 is_answered chunk s mid last l new a es r w x reads e h =
     let there : mid ≡ (step s es).1 = sym (ap (λ (to : Step). to.1) e) in

@@ -9,6 +9,8 @@
 
 mod answering;
 mod command_line;
+#[cfg(test)]
+mod error_tests;
 mod reading;
 mod running;
 mod status;

@@ -1,15 +1,15 @@
-use Rattle.std.proofs.Common.{◌≡◌, true, sym, ◌∙◌}
+use Rattle.std.proofs.Common.{sym}
 use Rattle.script_state.specs.States.{StateValue}
 use Rattle.smt_build.proofs.Longer.{GoOn, term_longer, term_is_held}
 use Rattle.script_state.proofs.Marking.{plain_grows}
 use Rattle.script_state.proofs.Asserting.{grown_state, asserted_state}
 use Rattle.script_state.proofs.state.State.assert.Goals as goal
 
-pub is_plain_truth-requires-clause-held : goal.is_plain_truth-requires-clause-held
-is_plain_truth-requires-clause-held c = term_is_held _ _ _ _ _ (c.in-Ok.ensures.term c.requires.stands.0 c.requires.stands.1)
+pub objection-requires-clause-held : goal.objection-requires-clause-held
+objection-requires-clause-held c = term_is_held _ _ _ _ _ (c.in-Ok.ensures.term c.requires.stands.0 c.requires.stands.1)
 
-pub is_plain_truth-requires-clause-marks : goal.is_plain_truth-requires-clause-marks
-is_plain_truth-requires-clause-marks c = plain_grows _ _ _ _ c.elaborate.ensures.grows c.self.invariant.1
+pub objection-requires-clause-marks : goal.objection-requires-clause-marks
+objection-requires-clause-marks c = plain_grows _ _ _ _ c.elaborate.ensures.grows c.self.invariant.1
 
 pub invariant_of-self-in-Ok-assert : goal.invariant_of-self-in-Ok-assert
 invariant_of-self-in-Ok-assert c =
@@ -17,5 +17,4 @@ invariant_of-self-in-Ok-assert c =
     let read = c.in-Ok.ensures.term c.requires.stands.0 c.requires.stands.1 in
     let on : GoOn v.symbols.signatures v.terms c.elaborate.new.terms = term_longer v.symbols _ _ _ _ read in
     let grown = grown_state v _ on.grows c.self.invariant.0 (on.list c.self.invariant.0.terms) in
-    let both : true ≡ _ = sym c.in-Ok-true.field-0-test ∙ c.in-Ok-true.ensures.plain in
-    (asserted_state (record { symbols = v.symbols; terms = c.elaborate.new.terms; scopes = v.scopes; standing = v.standing }) _ _ grown (term_is_held v.symbols _ _ _ _ read) (sym both) c.in-Ok-assert.ensures.ok, c.is_plain_truth.ensures.marks)
+    (asserted_state (record { symbols = v.symbols; terms = c.elaborate.new.terms; scopes = v.scopes; standing = v.standing }) _ _ grown (term_is_held v.symbols _ _ _ _ read) (sym (rw c.in-Ok-None.field-0-is at c.in-Ok-None.ensures.objection)) c.in-Ok-assert.ensures.ok, c.objection.ensures.marks)
