@@ -87,23 +87,26 @@ module _ (old new : Inputs) (l : Option Line) (same : IsSameScript old new) (tak
 
   -- the header
   pub begun : (c : CheckerValue) → IsHeader l → c ≡ no_records → (k : Checking) → k.inputs ≡ new → k.checker ≡ Some c → Advances old None (step.On k)
-  begun c head e k ki kc = (record {
-    judged = λ s p vs o t h'.
-        let h : IsJudgedFrom new (Some no_records) s p vs o = subst (λ (x : CheckerValue). IsJudgedFrom new (Some x) s p vs o) e (subst (λ (x : Option CheckerValue). IsJudgedFrom new x s p vs o) kc (subst (λ (x : Inputs). IsJudgedFrom x k.checker s p vs o) ki h')) in
-        record {
-          chunks = h.chunks;
-          behind = h.behind;
-          says = h.says;
-          lines = l ∷ h.lines;
-          cut = cut_back s (h.chunks ++ h.behind) h.cut;
-          read = h.read;
-          split = takes.lines p h.lines t.proof h.split;
-          told = λ rest n. let q = h.told rest n in inl (head, subst (λ x. Tells no_judging (h.says ++ rest) h.lines x o) (sym q.1) q.2);
-          whole = h.whole;
-        };
-    script = ap (λ (x : Inputs). x.script_ended) ki ∙ same.script;
-    proof = ap (λ (x : Inputs). x.proof_ended) ki ∙ same.proof;
-  }, subst (λ (x : Inputs). held_by x < held_by old) (sym ki) fewer)
+  begun c head e k ki kc = (
+    record {
+      judged = λ s p vs o t h'.
+          let h : IsJudgedFrom new (Some no_records) s p vs o = subst (λ (x : CheckerValue). IsJudgedFrom new (Some x) s p vs o) e (subst (λ (x : Option CheckerValue). IsJudgedFrom new x s p vs o) kc (subst (λ (x : Inputs). IsJudgedFrom x k.checker s p vs o) ki h')) in
+          record {
+            chunks = h.chunks;
+            behind = h.behind;
+            says = h.says;
+            lines = l ∷ h.lines;
+            cut = cut_back s (h.chunks ++ h.behind) h.cut;
+            read = h.read;
+            split = takes.lines p h.lines t.proof h.split;
+            told = λ rest n. let q = h.told rest n in inl (head, subst (λ x. Tells no_judging (h.says ++ rest) h.lines x o) (sym q.1) q.2);
+            whole = h.whole;
+          };
+      script = ap (λ (x : Inputs). x.script_ended) ki ∙ same.script;
+      proof = ap (λ (x : Inputs). x.proof_ended) ki ∙ same.proof;
+    },
+    subst (λ (x : Inputs). held_by x < held_by old) (sym ki) fewer,
+  )
 
   -- no header
   pub unbegun : (f : Refusal) → (IsHeader l → ⊥) → f ≡ bad_header → (j : Judgement) → j.checker ≡ None → j.refusal ≡ Some f → Concludes old None j
@@ -126,27 +129,30 @@ module _ (old new : Inputs) (l : Option Line) (same : IsSameScript old new) (tak
 
   module _ (c d : CheckerValue) (at : IsAtLine old c) (goes : GoesTo (Moves c.judging l) c d) where
     pub lined : (k : Checking) → k.inputs ≡ new → k.checker ≡ Some d → Advances old (Some c) (step.On k)
-    lined k ki kc = (record {
-      judged = λ s p vs o t h'.
-          let h : IsJudgedFrom new (Some d) s p vs o = subst (λ (x : Option CheckerValue). IsJudgedFrom new x s p vs o) kc (subst (λ (x : Inputs). IsJudgedFrom x k.checker s p vs o) ki h') in
-          let k' = cut_back s (h.chunks ++ h.behind) h.cut in
-          record {
-            chunks = h.chunks;
-            behind = h.behind;
-            says = h.says;
-            lines = l ∷ h.lines;
-            cut = k';
-            read = h.read;
-            split = takes.lines p h.lines t.proof h.split;
-            told = λ rest n.
-                let q = h.told rest n in
-                let r = reached old c at s h.chunks h.behind h.says rest t.script k' h.read n in
-                (shown_at d.judging ++ q.0, q.1 ∙ shown_behind (Moves c.judging l) c d q.0 goes, tells_line c.judging d.judging (h.says ++ rest) l h.lines q.0 o r goes.judged q.2);
-            whole = h.whole;
-          };
-      script = ap (λ (x : Inputs). x.script_ended) ki ∙ same.script;
-      proof = ap (λ (x : Inputs). x.proof_ended) ki ∙ same.proof;
-    }, subst (λ (x : Inputs). held_by x < held_by old) (sym ki) fewer)
+    lined k ki kc = (
+      record {
+        judged = λ s p vs o t h'.
+            let h : IsJudgedFrom new (Some d) s p vs o = subst (λ (x : Option CheckerValue). IsJudgedFrom new x s p vs o) kc (subst (λ (x : Inputs). IsJudgedFrom x k.checker s p vs o) ki h') in
+            let k' = cut_back s (h.chunks ++ h.behind) h.cut in
+            record {
+              chunks = h.chunks;
+              behind = h.behind;
+              says = h.says;
+              lines = l ∷ h.lines;
+              cut = k';
+              read = h.read;
+              split = takes.lines p h.lines t.proof h.split;
+              told = λ rest n.
+                  let q = h.told rest n in
+                  let r = reached old c at s h.chunks h.behind h.says rest t.script k' h.read n in
+                  (shown_at d.judging ++ q.0, q.1 ∙ shown_behind (Moves c.judging l) c d q.0 goes, tells_line c.judging d.judging (h.says ++ rest) l h.lines q.0 o r goes.judged q.2);
+              whole = h.whole;
+            };
+        script = ap (λ (x : Inputs). x.script_ended) ki ∙ same.script;
+        proof = ap (λ (x : Inputs). x.proof_ended) ki ∙ same.proof;
+      },
+      subst (λ (x : Inputs). held_by x < held_by old) (sym ki) fewer,
+    )
 
     pub refused : (r : Refusal) → answer_by d.judging.owed ≡ Err r → (j : Judgement) → j.checker ≡ Some d → j.refusal ≡ Some r → Concludes old (Some c) j
     refused r e j jc jr s p t =
@@ -223,23 +229,26 @@ module _ (old : Inputs) (end : IsProofAtEnd old) where
 
 module _ (old new : Inputs) (same : IsSameProof old new) where
   pub command_done : (chunk : Chunk) → TakesChunk old new chunk → (c d : CheckerValue) (says : Says) → is_idle c.judging.owed ≡ true → ReadsAs chunk says → d ≡ judged_so c (commanded c.judging says) → (k : Checking) → k.inputs ≡ new → k.checker ≡ Some d → Advances old (Some c) (step.On k)
-  command_done chunk takes c d says idle reads e k ki kc = (record {
-    judged = λ s p vs o t h'.
-        let h : IsJudgedFrom new (Some (judged_so c (commanded c.judging says))) s p vs o = subst (λ (x : CheckerValue). IsJudgedFrom new (Some x) s p vs o) e (subst (λ (x : Option CheckerValue). IsJudgedFrom new x s p vs o) kc (subst (λ (x : Inputs). IsJudgedFrom x k.checker s p vs o) ki h')) in
-        record {
-          chunks = chunk ∷ h.chunks;
-          behind = h.behind;
-          says = says ∷ h.says;
-          lines = h.lines;
-          cut = takes.chunks s (h.chunks ++ h.behind) t.script h.cut;
-          read = (reads, h.read);
-          split = subst (λ x. AreLines (x.bytes ++ p) h.lines) same.reader h.split;
-          told = λ rest n. let q = h.told rest n in (q.0, q.1, tells_command c.judging says (h.says ++ rest) h.lines q.0 o idle q.2);
-          whole = h.whole;
-        };
-    script = ap (λ (x : Inputs). x.script_ended) ki ∙ same.script;
-    proof = ap (λ (x : Inputs). x.proof_ended) ki ∙ same.proof;
-  }, subst (λ (x : Inputs). held_by x < held_by old) (sym ki) (let f = takes.less in let g : length new.reader.bytes ≡ length old.reader.bytes = ap (λ x. length x.bytes) same.reader in omega arith))
+  command_done chunk takes c d says idle reads e k ki kc = (
+    record {
+      judged = λ s p vs o t h'.
+          let h : IsJudgedFrom new (Some (judged_so c (commanded c.judging says))) s p vs o = subst (λ (x : CheckerValue). IsJudgedFrom new (Some x) s p vs o) e (subst (λ (x : Option CheckerValue). IsJudgedFrom new x s p vs o) kc (subst (λ (x : Inputs). IsJudgedFrom x k.checker s p vs o) ki h')) in
+          record {
+            chunks = chunk ∷ h.chunks;
+            behind = h.behind;
+            says = says ∷ h.says;
+            lines = h.lines;
+            cut = takes.chunks s (h.chunks ++ h.behind) t.script h.cut;
+            read = (reads, h.read);
+            split = subst (λ x. AreLines (x.bytes ++ p) h.lines) same.reader h.split;
+            told = λ rest n. let q = h.told rest n in (q.0, q.1, tells_command c.judging says (h.says ++ rest) h.lines q.0 o idle q.2);
+            whole = h.whole;
+          };
+      script = ap (λ (x : Inputs). x.script_ended) ki ∙ same.script;
+      proof = ap (λ (x : Inputs). x.proof_ended) ki ∙ same.proof;
+    },
+    subst (λ (x : Inputs). held_by x < held_by old) (sym ki) (let f = takes.less in let g : length new.reader.bytes ≡ length old.reader.bytes = ap (λ x. length x.bytes) same.reader in omega arith),
+  )
 
   -- at the end of the script
   module _ (was : IsScriptAtEnd old) (is : IsScriptAtEnd new) (le : length new.framer.bytes ≤ length old.framer.bytes) (c : CheckerValue) where

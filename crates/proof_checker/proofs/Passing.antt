@@ -1,6 +1,6 @@
 -- Of laws on what is judged of two texts.
 use Rattle.std.proofs.Common.{◌≡◌, ℕ, ◌+◌, ◌≤◌, List, [], ◌∷◌, ◌++◌, map, length, Option, Some, None, refl, sym, ap, ◌∙◌, subst, inl, inr, arith, append_assoc, append-nil}
-use Rattle.std.specs.Prelude.{◌⊎◌}
+use Rattle.std.specs.Prelude.{◌⊎◌, Err}
 use Rattle.std.specs.List.{flat_map, AllByRecursion}
 use Rattle.smt_text.specs.declared.chunk.Chunk.{Chunk}
 use Rattle.smt_text.specs.Script.{AreChunks}
@@ -18,6 +18,7 @@ use Rattle.accepted_proof.specs.Accepted.{AreRead, Accepted}
 use Rattle.accepted_proof.specs.Right.{AreRight}
 use Rattle.accepted_proof.specs.Judged.{no_judging, IsHeader, Judged, ReadEach}
 use Rattle.script_state.specs.Readings.{ReadsAs}
+use Rattle.script_state.specs.declared.error_text.ErrorText.TheVariants.{UnfinishedCommand}
 use Rattle.proof_checker.specs.Checkers.{Says}
 use Rattle.proof_checker.specs.Checked.{AreCut, AreLines, Tells, TellsProof, IsTold, IsJudged, IsAccepted, verdicts_of}
 use Rattle.proof_checker.proofs.Splits.{lines_one}
@@ -27,7 +28,7 @@ use Rattle.proof_checker.proofs.Verdicts.{judged_of, tells_there, one_telling, o
 -- ---- one thing at most
 
 abbrev no_reading : Says
-no_reading = None
+no_reading = Err UnfinishedCommand
 
 -- any readings of these chunks
 abbrev some_readings : List Chunk → List Says

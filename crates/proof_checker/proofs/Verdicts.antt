@@ -149,6 +149,7 @@ over_told ls j cs vs o r e h n = some_told ls j cs vs r e (subst (λ x. Tells j 
   where
     none_some : (r : Refusal) → ◌≡◌ {A = Option Refusal} None (Some r) → ⊥
     none_some r e = cc
+
     some_told : (ls : List (Option Line)) (j : Judging) (cs : List Says) (vs : List Verdict) (r : Refusal) → j.owed ≡ judged.Over r → Tells j cs ls vs None → ⊥
     some_told ls j cs vs r e h = none_some r (one_telling ls j cs vs [] None (Some r) h (tells_over j r e cs ls)).1
 

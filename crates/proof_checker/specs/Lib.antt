@@ -1,3 +1,4 @@
 pub mod Checkers
 pub mod Checked
 pub mod Checkings
+pub mod Reports

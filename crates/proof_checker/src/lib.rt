@@ -15,7 +15,10 @@ mod due;
 mod inputs;
 mod lines;
 mod models;
+#[cfg(test)]
+mod pieces;
 mod refutations;
+pub mod report;
 mod steps;
 #[cfg(test)]
 mod tests;

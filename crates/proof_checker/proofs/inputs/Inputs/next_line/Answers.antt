@@ -14,8 +14,10 @@ returns-in-Some-finish-clause-line c =
     let free = rw c.in_default.is at c.in_ok-line.ensures.ok in
     let same : c.next.new.self.bytes ≡ c.args.self.now.reader.bytes = ap (λ (x : Held). x.bytes) free.1 in
     let some : c.args.self.now.reader.bytes ≢ [] = λ e. c.in-Some-finish.ensures.1 (same ∙ e) in
-    let empty : c.new.result.bytes ≡ [] = ap (λ (x : Held). x.bytes) c.new.ensures in
-    (tt, record {
-      lines = λ more ls m k. lines_unended c.args.self.now.reader.bytes more ls some free.0 (m c.if-not-self.false) (subst (λ (x : List ℕ). AreLines (x ++ more) ls) empty k);
-      less = some_less _ _ empty some;
-    })
+    let empty : c.new.result.bytes ≡ [] = ap (λ (x : Held). x.bytes) c.new.ensures in (
+      tt,
+      record {
+        lines = λ more ls m k. lines_unended c.args.self.now.reader.bytes more ls some free.0 (m c.if-not-self.false) (subst (λ (x : List ℕ). AreLines (x ++ more) ls) empty k);
+        less = some_less _ _ empty some;
+      },
+    )
