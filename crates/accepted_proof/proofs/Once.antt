@@ -266,7 +266,7 @@ at_value_once : (j : Judging) (next : LiveName) (left : List LiveName) (values :
 at_value_once j next left values (line.Value d w) k m x y = one_value j next left values d w k m x y
 at_value_once j next left values _ k m x y = x ∙ sym y
 
-moved_once : (o : Owed) (j : Judging) (l : Option Line) (k m : Judging) → MovesBy o j l k → MovesBy o j l m → k ≡ m
+pub moved_once : (o : Owed) (j : Judging) (l : Option Line) (k m : Judging) → MovesBy o j l k → MovesBy o j l m → k ≡ m
 moved_once Nothing j l k m x y = x ∙ sym y
 moved_once Steps j None k m x y = x ∙ sym y
 moved_once Steps j (Some l) k m x y = at_step_once j l k m x y

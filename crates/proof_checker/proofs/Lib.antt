@@ -1,4 +1,10 @@
 pub mod Against
 pub mod Lining
+pub mod Splits
+pub mod Chunking
+pub mod Telling
+pub mod Keeping
+pub mod Verdicts
+pub mod Passing
 pub mod Moving
 pub mod Valued

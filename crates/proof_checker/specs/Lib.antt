@@ -1,1 +1,4 @@
 pub mod Checkers
+pub mod Checked
+pub mod Checkings
+pub mod Reports

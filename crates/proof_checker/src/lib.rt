@@ -3,14 +3,24 @@
 //! A [`checker::Checker`] is given the commands of a script and the lines of a proof as they come. It drives the state of
 //! `script_state` for the commands, so that it passes over what a session refuses, tries each step against the log of
 //! `proof_log`, evaluates the values of a model with `smt_eval`, and looks up the selectors of a refutation. Its contracts
-//! say that it moves as the definitions of `accepted_proof` judge. It shares nothing with search or session.
+//! say that it moves as the definitions of `accepted_proof` judge. A [`checking::Checking`] reads the two texts, in whatever
+//! pieces they come, and its contracts say what is judged of the whole texts: that the proof is accepted, or its first bad
+//! line. It shares nothing with search or session.
 #![tactic(auto)]
 
+mod check_laws;
 pub mod checker;
+pub mod checking;
 mod due;
+mod inputs;
 mod lines;
 mod models;
+#[cfg(test)]
+mod pieces;
 mod refutations;
+pub mod report;
 mod steps;
 #[cfg(test)]
 mod tests;
+
+pub use check_laws::{accepted_proofs_pass, texts_are_judged_one_way, what_is_accepted_is_right};

@@ -1,0 +1,311 @@
+-- What is judged behind a step is judged before it.
+use Rattle.std.proofs.Common.{◌≡◌, ℕ, ◌+◌, ◌<◌, ◌≤◌, Bool, true, false, List, [], ◌∷◌, ◌++◌, length, Option, Some, None, refl, sym, ap, ◌∙◌, subst, inl, inr, ⊎_elim, arith, append_assoc, append-nil}
+use Rattle.std.specs.Prelude.{◌⊎◌, Result, Ok, Err, IfOk, MatchResult}
+use Rattle.std.specs.Result.{result_err}
+use Rattle.smt_text.specs.declared.chunk.Chunk.{Chunk}
+use Rattle.smt_text.specs.Framing.{Held}
+use Rattle.script_state.specs.declared.answer.Verdict.{Verdict}
+use Rattle.script_state.specs.Readings.{ReadsAs}
+use Rattle.proof_text.specs.declared.line.Line.{Line}
+use Rattle.accepted_proof.specs.declared.refusal.Refusal.{Refusal}
+use Rattle.accepted_proof.specs.Judged as judged
+use Rattle.accepted_proof.specs.Judged.{Judging, no_judging, commanded, is_idle, ending, reach, Moves, IsHeader, bad_header, ReadEach}
+use Rattle.accepted_proof.proofs.Following.{reach_here}
+use Rattle.proof_checker.specs.Checkers.{Says, CheckerValue, no_records, judged_so, GoesTo, answer_by, at_end}
+use Rattle.proof_checker.specs.Checked.{shown_at, AreCut, AreLines, Tells, TellsProof, IsTold}
+use Rattle.proof_checker.specs.Checkings.{and_more, MayCome, told_from, IsJudgedFrom, Judges, AreToCome, Keeps, verdicts_by, Concludes, held_by, IsSameScript, IsSameProof, TakesLine, TakesChunk, IsProofAtEnd, IsScriptAtEnd, IsAtLine, Stops, Advances}
+use Rattle.proof_checker.specs.declared.inputs.Inputs.{Inputs}
+use Rattle.proof_checker.specs.declared.checking.Checking.{Checking}
+use Rattle.proof_checker.specs.declared.checking.Judgement.{Judgement}
+use Rattle.proof_checker.specs.declared.checking.Progress.{Progress}
+use Rattle.proof_checker.specs.declared.checking.Progress.TheVariants as progress
+use Rattle.proof_checker.specs.declared.checking.Step.{Step}
+use Rattle.proof_checker.specs.declared.checking.Step.TheVariants as step
+use Rattle.proof_checker.proofs.Splits.{lines_there, lines_nothing}
+use Rattle.proof_checker.proofs.Chunking.{more_none, cut_there, cut_one}
+use Rattle.proof_checker.proofs.Telling.{IsReached, tells_line, tells_end, tells_command, tells_over, over_of, ending_none, shown_behind}
+
+-- ---- steps after steps
+
+pub keeps_none : (i : Inputs) (c : Option CheckerValue) (k : Checking) → k.inputs ≡ i → k.checker ≡ c → Keeps i c k
+keeps_none i c k e f = record {
+  judged = λ s p vs o t h. subst (λ (x : Option CheckerValue). IsJudgedFrom i x s p vs o) f (subst (λ (x : Inputs). IsJudgedFrom x k.checker s p vs o) e h);
+  script = ap (λ (x : Inputs). x.script_ended) e;
+  proof = ap (λ (x : Inputs). x.proof_ended) e;
+}
+
+still : (i j : Inputs) (s p : List ℕ) → j.script_ended ≡ i.script_ended → j.proof_ended ≡ i.proof_ended → AreToCome i s p → AreToCome j s p
+still i j s p e f t = record { script = λ h. t.script (sym e ∙ h); proof = λ h. t.proof (sym f ∙ h) }
+
+module _ (i : Inputs) (c : Option CheckerValue) (k : Checking) (a : Keeps i c k) where
+  pub keeps_more : (m : Checking) → Keeps k.inputs k.checker m → Keeps i c m
+  keeps_more m b = record {
+    judged = λ s p vs o t h. a.judged s p vs o t (b.judged s p vs o (still i k.inputs s p a.script a.proof t) h);
+    script = b.script ∙ a.script;
+    proof = b.proof ∙ a.proof;
+  }
+
+  pub stops_more : (p : Progress) → Stops k.inputs k.checker p → Stops i c p
+  stops_more (progress.Script m) b = (keeps_more m b.0, b.1)
+  stops_more (progress.Proof m) b = (keeps_more m b.0, b.1)
+  stops_more (progress.Done j) b = λ s p t. a.judged s p (verdicts_by j.checker) j.refusal t (b s p (still i k.inputs s p a.script a.proof t))
+
+-- ---- where a line is read
+
+-- at the end of the script there is no command
+none_behind : (a b : List Chunk) → a ++ b ≡ [] → (a ≡ []) × (b ≡ [])
+none_behind [] b e = (refl, e)
+none_behind (x ∷ a) b e = absurd (let z : ⊥ = cc in z)
+
+no_chunks : (i : Inputs) (s : List ℕ) (cs : List Chunk) → IsScriptAtEnd i → MayCome i.script_ended s → AreCut (and_more i.framer s) cs → cs ≡ []
+no_chunks i s cs e t k = cut_one i.framer cs [] (subst (λ (x : Held). AreCut x cs) (more_none i.framer s (t e.ended)) k) e.cut
+
+no_readings : (cs : List Chunk) (says : List Says) → cs ≡ [] → ReadEach cs says → says ≡ []
+no_readings [] [] e r = refl
+no_readings [] (s ∷ ss) e r = absurd r
+no_readings (c ∷ cs) says e r = absurd (let z : ⊥ = cc in z)
+
+no_rest : (rest : List Says) (behind : List Chunk) → behind ≡ [] → length rest ≡ length behind → rest ≡ []
+no_rest [] behind e h = refl
+no_rest (r ∷ rest) behind e h = absurd (let f : length (r ∷ rest) ≡ 0 = h ∙ ap length e in omega arith)
+
+reached : (i : Inputs) (c : CheckerValue) → IsAtLine i c → (s : List ℕ) (chunks behind : List Chunk) (says rest : List Says) → MayCome i.script_ended s → AreCut (and_more i.framer s) (chunks ++ behind) → ReadEach chunks says → length rest ≡ length behind → IsReached c.judging (says ++ rest)
+reached i c (inl e) s chunks behind says rest t k r n = reach_here c.judging (says ++ rest) e
+reached i c (inr e) s chunks behind says rest t k r n =
+    let b = none_behind chunks behind (no_chunks i s (chunks ++ behind) e t k) in
+    let none : says ++ rest ≡ [] = ap (λ x. x ++ rest) (no_readings chunks says b.0 r) ∙ no_rest rest behind b.1 n in
+    subst (IsReached c.judging) (sym none) refl
+
+-- ---- a line
+
+module _ (old new : Inputs) (l : Option Line) (same : IsSameScript old new) (takes : TakesLine old new l) where
+  cut_back : (s : List ℕ) (cs : List Chunk) → AreCut (and_more new.framer s) cs → AreCut (and_more old.framer s) cs
+  cut_back s cs k = subst (λ (x : Held). AreCut (and_more x s) cs) same.framer k
+
+  fewer : held_by new < held_by old
+  fewer = let e : length new.framer.bytes ≡ length old.framer.bytes = ap (λ (x : Held). length x.bytes) same.framer in let f = takes.less in omega arith
+
+  -- the header
+  pub begun : (c : CheckerValue) → IsHeader l → c ≡ no_records → (k : Checking) → k.inputs ≡ new → k.checker ≡ Some c → Advances old None (step.On k)
+  begun c head e k ki kc = (
+    record {
+      judged = λ s p vs o t h'.
+          let h : IsJudgedFrom new (Some no_records) s p vs o = subst (λ (x : CheckerValue). IsJudgedFrom new (Some x) s p vs o) e (subst (λ (x : Option CheckerValue). IsJudgedFrom new x s p vs o) kc (subst (λ (x : Inputs). IsJudgedFrom x k.checker s p vs o) ki h')) in
+          record {
+            chunks = h.chunks;
+            behind = h.behind;
+            says = h.says;
+            lines = l ∷ h.lines;
+            cut = cut_back s (h.chunks ++ h.behind) h.cut;
+            read = h.read;
+            split = takes.lines p h.lines t.proof h.split;
+            told = λ rest n. let q = h.told rest n in inl (head, subst (λ x. Tells no_judging (h.says ++ rest) h.lines x o) (sym q.1) q.2);
+            whole = h.whole;
+          };
+      script = ap (λ (x : Inputs). x.script_ended) ki ∙ same.script;
+      proof = ap (λ (x : Inputs). x.proof_ended) ki ∙ same.proof;
+    },
+    subst (λ (x : Inputs). held_by x < held_by old) (sym ki) fewer,
+  )
+
+  -- no header
+  pub unbegun : (f : Refusal) → (IsHeader l → ⊥) → f ≡ bad_header → (j : Judgement) → j.checker ≡ None → j.refusal ≡ Some f → Concludes old None j
+  unbegun f head e j jc jr s p t =
+      let cs = cut_there (and_more old.framer s) in
+      let ls = lines_there (new.reader.bytes ++ p) in
+      subst (λ (x : Option CheckerValue). IsJudgedFrom old None s p (verdicts_by x) j.refusal) (sym jc)
+      (subst (λ (x : Option Refusal). IsJudgedFrom old None s p [] x) (sym (jr ∙ ap Some e))
+      (record {
+        chunks = [];
+        behind = cs.0;
+        says = [];
+        lines = l ∷ ls.0;
+        cut = cs.1;
+        read = tt;
+        split = takes.lines p ls.0 t.proof ls.1;
+        told = λ rest n. inr (head, refl, refl);
+        whole = λ z. absurd (let y : ⊥ = cc in y);
+      }))
+
+  module _ (c d : CheckerValue) (at : IsAtLine old c) (goes : GoesTo (Moves c.judging l) c d) where
+    pub lined : (k : Checking) → k.inputs ≡ new → k.checker ≡ Some d → Advances old (Some c) (step.On k)
+    lined k ki kc = (
+      record {
+        judged = λ s p vs o t h'.
+            let h : IsJudgedFrom new (Some d) s p vs o = subst (λ (x : Option CheckerValue). IsJudgedFrom new x s p vs o) kc (subst (λ (x : Inputs). IsJudgedFrom x k.checker s p vs o) ki h') in
+            let k' = cut_back s (h.chunks ++ h.behind) h.cut in
+            record {
+              chunks = h.chunks;
+              behind = h.behind;
+              says = h.says;
+              lines = l ∷ h.lines;
+              cut = k';
+              read = h.read;
+              split = takes.lines p h.lines t.proof h.split;
+              told = λ rest n.
+                  let q = h.told rest n in
+                  let r = reached old c at s h.chunks h.behind h.says rest t.script k' h.read n in
+                  (shown_at d.judging ++ q.0, q.1 ∙ shown_behind (Moves c.judging l) c d q.0 goes, tells_line c.judging d.judging (h.says ++ rest) l h.lines q.0 o r goes.judged q.2);
+              whole = h.whole;
+            };
+        script = ap (λ (x : Inputs). x.script_ended) ki ∙ same.script;
+        proof = ap (λ (x : Inputs). x.proof_ended) ki ∙ same.proof;
+      },
+      subst (λ (x : Inputs). held_by x < held_by old) (sym ki) fewer,
+    )
+
+    pub refused : (r : Refusal) → answer_by d.judging.owed ≡ Err r → (j : Judgement) → j.checker ≡ Some d → j.refusal ≡ Some r → Concludes old (Some c) j
+    refused r e j jc jr s p t =
+        let cs = cut_there (and_more old.framer s) in
+        let ls = lines_there (new.reader.bytes ++ p) in
+        subst (λ (x : Option CheckerValue). IsJudgedFrom old (Some c) s p (verdicts_by x) j.refusal) (sym jc)
+        (subst (λ (x : Option Refusal). IsJudgedFrom old (Some c) s p d.verdicts x) (sym jr)
+        (record {
+          chunks = [];
+          behind = cs.0;
+          says = [];
+          lines = l ∷ ls.0;
+          cut = cs.1;
+          read = tt;
+          split = takes.lines p ls.0 t.proof ls.1;
+          told = λ rest n.
+              let q = reached old c at s [] cs.0 [] rest t.script cs.1 tt n in
+              (shown_at d.judging ++ [], sym (append-nil d.verdicts) ∙ shown_behind (Moves c.judging l) c d [] goes, tells_line c.judging d.judging rest l ls.0 [] (Some r) q goes.judged (tells_over d.judging r (over_of d.judging.owed r e) rest ls.0));
+          whole = λ z. absurd (let y : ⊥ = cc in y);
+        }))
+
+-- ---- the end of the proof
+
+module _ (old : Inputs) (end : IsProofAtEnd old) where
+  nothing_left : (p : List ℕ) → MayCome old.proof_ended p → old.reader.bytes ++ p ≡ []
+  nothing_left p t = ap (λ x. x ++ p) end.empty ∙ t end.ended
+
+  pub headless : (j : Judgement) → (j.checker ≡ None) × (j.refusal ≡ Some bad_header) → Concludes old None j
+  headless j e s p t =
+      let cs = cut_there (and_more old.framer s) in
+      subst (λ (x : Option CheckerValue). IsJudgedFrom old None s p (verdicts_by x) j.refusal) (sym e.0)
+      (subst (λ (x : Option Refusal). IsJudgedFrom old None s p [] x) (sym e.1)
+      (record {
+        chunks = [];
+        behind = cs.0;
+        says = [];
+        lines = [];
+        cut = cs.1;
+        read = tt;
+        split = nothing_left p t.proof;
+        told = λ rest n. (refl, refl);
+        whole = λ z. absurd (let y : ⊥ = cc in y);
+      }))
+
+  module _ (c : CheckerValue) (o : Option Refusal) (e : ending c.judging.owed c.judging.line ≡ o) where
+    told_end : (s p : List ℕ) (behind : List Chunk) → AreToCome old s p → IsAtLine old c → AreCut (and_more old.framer s) behind → (o ≡ None → behind ≡ []) → IsJudgedFrom old (Some c) s p c.verdicts o
+    told_end s p behind t at k w = record {
+      chunks = [];
+      behind = behind;
+      says = [];
+      lines = [];
+      cut = k;
+      read = tt;
+      split = nothing_left p t.proof;
+      told = λ rest n.
+          let q = reached old c at s [] behind [] rest t.script k tt n in
+          ([], sym (append-nil c.verdicts), subst (λ x. Tells c.judging rest [] [] x) e (tells_end c.judging rest q));
+      whole = w;
+    }
+
+    ends_by : (s p : List ℕ) → AreToCome old s p → IsAtLine old c → IsJudgedFrom old (Some c) s p c.verdicts o
+    ends_by s p t (inl i) =
+        let cs = cut_there (and_more old.framer s) in
+        told_end s p cs.0 t (inl i) cs.1 (λ z. absurd (let f = ending_none c.judging.owed c.judging.line (e ∙ z) in let y : ⊥ = cc in y))
+    ends_by s p t (inr i) = told_end s p [] t (inr i) (subst (λ (x : Held). AreCut x []) (sym (more_none old.framer s (t.script i.ended))) i.cut) (λ z. refl)
+
+    pub ended : IsAtLine old c → (d : CheckerValue) → d.verdicts ≡ c.verdicts → (j : Judgement) → j.checker ≡ Some d → j.refusal ≡ o → Concludes old (Some c) j
+    ended at d same j jc jr s p t =
+        subst (λ (x : Option CheckerValue). IsJudgedFrom old (Some c) s p (verdicts_by x) j.refusal) (sym jc)
+        (subst (λ (x : Option Refusal). IsJudgedFrom old (Some c) s p d.verdicts x) (sym jr)
+        (subst (λ (x : List Verdict). IsJudgedFrom old (Some c) s p x o) (sym same) (ends_by s p t at)))
+
+-- ---- a command
+
+module _ (old new : Inputs) (same : IsSameProof old new) where
+  pub command_done : (chunk : Chunk) → TakesChunk old new chunk → (c d : CheckerValue) (says : Says) → is_idle c.judging.owed ≡ true → ReadsAs chunk says → d ≡ judged_so c (commanded c.judging says) → (k : Checking) → k.inputs ≡ new → k.checker ≡ Some d → Advances old (Some c) (step.On k)
+  command_done chunk takes c d says idle reads e k ki kc = (
+    record {
+      judged = λ s p vs o t h'.
+          let h : IsJudgedFrom new (Some (judged_so c (commanded c.judging says))) s p vs o = subst (λ (x : CheckerValue). IsJudgedFrom new (Some x) s p vs o) e (subst (λ (x : Option CheckerValue). IsJudgedFrom new x s p vs o) kc (subst (λ (x : Inputs). IsJudgedFrom x k.checker s p vs o) ki h')) in
+          record {
+            chunks = chunk ∷ h.chunks;
+            behind = h.behind;
+            says = says ∷ h.says;
+            lines = h.lines;
+            cut = takes.chunks s (h.chunks ++ h.behind) t.script h.cut;
+            read = (reads, h.read);
+            split = subst (λ x. AreLines (x.bytes ++ p) h.lines) same.reader h.split;
+            told = λ rest n. let q = h.told rest n in (q.0, q.1, tells_command c.judging says (h.says ++ rest) h.lines q.0 o idle q.2);
+            whole = h.whole;
+          };
+      script = ap (λ (x : Inputs). x.script_ended) ki ∙ same.script;
+      proof = ap (λ (x : Inputs). x.proof_ended) ki ∙ same.proof;
+    },
+    subst (λ (x : Inputs). held_by x < held_by old) (sym ki) (let f = takes.less in let g : length new.reader.bytes ≡ length old.reader.bytes = ap (λ x. length x.bytes) same.reader in omega arith),
+  )
+
+  -- at the end of the script
+  module _ (was : IsScriptAtEnd old) (is : IsScriptAtEnd new) (le : length new.framer.bytes ≤ length old.framer.bytes) (c : CheckerValue) where
+    judged_back : (s p : List ℕ) (vs : List Verdict) (o : Option Refusal) → AreToCome old s p → IsJudgedFrom new (Some c) s p vs o → IsJudgedFrom old (Some c) s p vs o
+    judged_back s p vs o t h =
+        let t' = still old new s p same.script same.proof t in
+        let none = no_chunks new s (h.chunks ++ h.behind) is t'.script h.cut in
+        record {
+          chunks = h.chunks;
+          behind = h.behind;
+          says = h.says;
+          lines = h.lines;
+          cut = subst (λ x. AreCut (and_more old.framer s) x) (sym none) (subst (λ (x : Held). AreCut x []) (sym (more_none old.framer s (t.script was.ended))) was.cut);
+          read = h.read;
+          split = subst (λ x. AreLines (x.bytes ++ p) h.lines) same.reader h.split;
+          told = h.told;
+          whole = h.whole;
+        }
+
+    keeps_back : (k : Checking) → Keeps new (Some c) k → Keeps old (Some c) k
+    keeps_back k h = record {
+      judged = λ s p vs o t m. judged_back s p vs o t (h.judged s p vs o (still old new s p same.script same.proof t) m);
+      script = h.script ∙ same.script;
+      proof = h.proof ∙ same.proof;
+    }
+
+    pub advances_back : (r : Step) → Advances new (Some c) r → Advances old (Some c) r
+    advances_back (step.On k) h = (keeps_back k h.0, let g : length new.reader.bytes ≡ length old.reader.bytes = ap (λ x. length x.bytes) same.reader in let f = h.1 in omega arith)
+    advances_back (step.Stop (progress.Script k)) h = (keeps_back k h.0, h.1)
+    advances_back (step.Stop (progress.Proof k)) h = (keeps_back k h.0, h.1)
+    advances_back (step.Stop (progress.Done j)) h = λ s p t. judged_back s p (verdicts_by j.checker) j.refusal t (h s p (still old new s p same.script same.proof t))
+
+    pub result_back : {E : Type 0} (r : Result Step E) → IfOk r (λ x. Advances new (Some c) x) → IfOk r (λ x. Advances old (Some c) x)
+    result_back (Ok x) h = advances_back x h
+    result_back (Err e) h = tt
+
+-- ---- nothing was taken
+
+same_inputs : (old new : Inputs) → new.framer ≡ old.framer → new.reader ≡ old.reader → new.script_ended ≡ old.script_ended → new.proof_ended ≡ old.proof_ended → new ≡ old
+same_inputs old new a b c d = λ i. record { framer = a i; script_ended = c i; reader = b i; proof_ended = d i }
+
+pub proof_asked : (old new : Inputs) → IsSameScript old new → (old.proof_ended ≡ false) × (new.reader ≡ old.reader) → (c : Option CheckerValue) (k : Checking) → k.inputs ≡ new → k.checker ≡ c → Keeps old c k × (k.inputs.proof_ended ≡ false)
+proof_asked old new same h c k e f =
+    let i = same_inputs old new same.framer h.1 same.script same.proof in
+    (keeps_none old c k (e ∙ i) f, ap (λ (x : Inputs). x.proof_ended) (e ∙ i) ∙ h.0)
+
+pub script_asked : (old new : Inputs) → IsSameProof old new → (old.script_ended ≡ false) × (new.framer ≡ old.framer) → (c : Option CheckerValue) (k : Checking) → k.inputs ≡ new → k.checker ≡ c → Keeps old c k × (k.inputs.script_ended ≡ false)
+script_asked old new same h c k e f =
+    let i = same_inputs old new h.1 same.reader same.script same.proof in
+    (keeps_none old c k (e ∙ i) f, ap (λ (x : Inputs). x.script_ended) (e ∙ i) ∙ h.0)
+
+-- ---- what the end is answered
+
+pub end_answered : (r : Result (Unit {0}) Refusal) (o : Option Refusal) → MatchResult r (λ _. o ≡ None) (λ f. o ≡ Some f) → o ≡ result_err r
+end_answered (Ok x) o h = h
+end_answered (Err f) o h = h
+
+pub end_verdicts : (c d : CheckerValue) (o : Option Refusal) → d ≡ at_end c o → d.verdicts ≡ c.verdicts
+end_verdicts c d None e = ap (λ (x : CheckerValue). x.verdicts) e
+end_verdicts c d (Some r) e = ap (λ (x : CheckerValue). x.verdicts) e

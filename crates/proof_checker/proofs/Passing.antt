@@ -1,0 +1,172 @@
+-- Of laws on what is judged of two texts.
+use Rattle.std.proofs.Common.{◌≡◌, ℕ, ◌+◌, ◌≤◌, List, [], ◌∷◌, ◌++◌, map, length, Option, Some, None, refl, sym, ap, ◌∙◌, subst, inl, inr, arith, append_assoc, append-nil}
+use Rattle.std.specs.Prelude.{◌⊎◌, Err}
+use Rattle.std.specs.List.{flat_map, AllByRecursion}
+use Rattle.smt_text.specs.declared.chunk.Chunk.{Chunk}
+use Rattle.smt_text.specs.Script.{AreChunks}
+use Rattle.script_state.specs.declared.answer.Verdict.{Verdict}
+use Rattle.script_state.specs.States.{no_state}
+use Rattle.script_state.proofs.Deciding.{reads_one_way}
+use Rattle.proof_text.specs.declared.line.Line.{Line}
+use Rattle.proof_text.specs.declared.line.Line.TheVariants as line
+use Rattle.proof_text.specs.Lines.{joined, words_of, line_text, IsLine}
+use Rattle.proof_text.proofs.Exact.{line_free}
+use Rattle.accepted_proof.specs.declared.refusal.Refusal.{Refusal}
+use Rattle.accepted_proof.specs.Turns.{Turn}
+use Rattle.accepted_proof.specs.Answers.{turn_lines, proof_of, header_text}
+use Rattle.accepted_proof.specs.Accepted.{AreRead, Accepted}
+use Rattle.accepted_proof.specs.Right.{AreRight}
+use Rattle.accepted_proof.specs.Judged.{no_judging, IsHeader, Judged, ReadEach}
+use Rattle.script_state.specs.Readings.{ReadsAs}
+use Rattle.script_state.specs.declared.error_text.ErrorText.TheVariants.{UnfinishedCommand}
+use Rattle.proof_checker.specs.Checkers.{Says}
+use Rattle.proof_checker.specs.Checked.{AreCut, AreLines, Tells, TellsProof, IsTold, IsJudged, IsAccepted, verdicts_of}
+use Rattle.proof_checker.proofs.Splits.{lines_one}
+use Rattle.proof_checker.proofs.Chunking.{cut_one}
+use Rattle.proof_checker.proofs.Verdicts.{judged_of, tells_there, one_telling, one_proof_telling, proof_verdicts, line_verdict, of_turns}
+
+-- ---- one thing at most
+
+abbrev no_reading : Says
+no_reading = Err UnfinishedCommand
+
+-- any readings of these chunks
+abbrev some_readings : List Chunk → List Says
+some_readings cs = map (λ _. no_reading) cs
+
+mapped_length : {A B : Type 0} (f : A → B) (xs : List A) → length (map f xs) ≡ length xs
+mapped_length f [] = refl
+mapped_length f (x ∷ xs) = let e = mapped_length f xs in omega arith
+
+read_length : (cs : List Chunk) (ss : List Says) → ReadEach cs ss → length ss ≡ length cs
+read_length [] [] r = refl
+read_length [] (s ∷ ss) r = absurd r
+read_length (c ∷ cs) [] r = absurd r
+read_length (c ∷ cs) (s ∷ ss) r = let e = read_length cs ss r.1 in omega arith
+
+length_both : {A : Type 0} (xs ys : List A) → length (xs ++ ys) ≡ length xs + length ys
+length_both [] ys = omega arith
+length_both (x ∷ xs) ys = let e = length_both xs ys in omega arith
+
+-- readings of all chunks, however many of the first ones were read in either way
+record AreReadings (ss ts : List Says) (ms ns : List Chunk) : Type 0 where
+  rest : List Says
+  other : List Says
+  same : ss ++ rest ≡ ts ++ other
+  long : length rest ≡ length ms
+  too : length other ≡ length ns
+
+readings : (cs es ms ns : List Chunk) (ss ts : List Says) → cs ++ ms ≡ es ++ ns → ReadEach cs ss → ReadEach es ts → AreReadings ss ts ms ns
+readings [] es ms ns [] ts e r q = record {
+  rest = ts ++ some_readings ns;
+  other = some_readings ns;
+  same = refl;
+  long =
+      let a = length_both ts (some_readings ns) in
+      let b = read_length es ts q in
+      let c = mapped_length (λ (x : Chunk). no_reading) ns in
+      let d = length_both es ns in
+      let f = ap length e in omega arith;
+  too = mapped_length (λ (x : Chunk). no_reading) ns;
+}
+readings [] es ms ns (s ∷ ss) ts e r q = absurd r
+readings (c ∷ cs) es ms ns [] ts e r q = absurd r
+readings (c ∷ cs) [] ms ns (s ∷ ss) [] e r q = record {
+  rest = some_readings ms;
+  other = (s ∷ ss) ++ some_readings ms;
+  same = refl;
+  long = mapped_length (λ (x : Chunk). no_reading) ms;
+  too =
+      let a = length_both (s ∷ ss) (some_readings ms) in
+      let b = read_length (c ∷ cs) (s ∷ ss) r in
+      let d = mapped_length (λ (x : Chunk). no_reading) ms in
+      let g = length_both (c ∷ cs) ms in
+      let f = ap length e in omega arith;
+}
+readings (c ∷ cs) [] ms ns (s ∷ ss) (t ∷ ts) e r q = absurd q
+readings (c ∷ cs) (d ∷ es) ms ns (s ∷ ss) [] e r q = absurd q
+readings (c ∷ cs) (d ∷ es) ms ns (s ∷ ss) (t ∷ ts) e r q =
+    let head : c ≡ d = cc in
+    let tail : cs ++ ms ≡ es ++ ns = cc in
+    let m = readings cs es ms ns ss ts tail r.1 q.1 in
+    let one : s ≡ t = reads_one_way d s t (subst (λ x. ReadsAs x s) head r.0) q.0 in
+    record { rest = m.rest; other = m.other; same = ap (λ x. x ∷ (ss ++ m.rest)) one ∙ ap (λ x. t ∷ x) m.same; long = m.long; too = m.too }
+
+pub judged_one_way : (script proof : List ℕ) (vs us : List Verdict) (o q : Option Refusal) → IsJudged script proof vs o → IsJudged script proof us q → (vs ≡ us) × (o ≡ q)
+judged_one_way script proof vs us o q a b =
+    let cuts = cut_one (record { line = 1; bytes = script }) (a.chunks ++ a.behind) (b.chunks ++ b.behind) a.cut b.cut in
+    let lines = lines_one proof a.lines b.lines a.split b.split in
+    let all = readings a.chunks b.chunks a.behind b.behind a.says b.says cuts a.read b.read in
+    let t : TellsProof (b.says ++ all.other) a.lines vs o = subst (λ x. TellsProof x a.lines vs o) all.same (a.told all.rest all.long) in
+    one_proof_telling b.lines (b.says ++ all.other) vs us o q (subst (λ x. TellsProof (b.says ++ all.other) x vs o) lines t) (b.told all.other all.too)
+
+-- ---- what is accepted is right
+
+none_some : (r : Refusal) → ◌≡◌ {A = Option Refusal} None (Some r) → ⊥
+none_some r e = cc
+
+-- the lines behind the header
+header_told : (ls : List (Option Line)) (cs : List Says) (vs : List Verdict) → TellsProof cs ls vs None → (rest : List (Option Line)) × Tells no_judging cs rest vs None
+header_told [] cs vs h = absurd (none_some _ h.1)
+header_told (l ∷ ls) cs vs (inl h) = (ls, h.1)
+header_told (l ∷ ls) cs vs (inr h) = absurd (none_some _ h.2)
+
+abbrev pub JudgedLaw : Type 0
+JudgedLaw = (script : List ℕ) (chunks : List Chunk) (says : List Says) (lines : List (Option Line))
+    → AreChunks script chunks → ReadEach chunks says → Judged no_judging says lines None
+    → (turns : List Turn) × (lines ≡ map (λ l. Some l) (flat_map turn_lines turns)) × Accepted script (proof_of turns) turns
+
+abbrev pub RightLaw : Type 0
+RightLaw = (script proof : List ℕ) (turns : List Turn) → Accepted script proof turns → AreRight no_state turns
+
+pub accepted_right : JudgedLaw → RightLaw → (script proof : List ℕ) (vs : List Verdict) → IsAccepted script proof vs → (turns : List Turn) × Accepted script (proof_of turns) turns × AreRight no_state turns × (vs ≡ verdicts_of turns)
+accepted_right law right script proof vs h =
+    let none = h.whole refl in
+    let said : TellsProof h.says h.lines vs None = subst (λ x. TellsProof x h.lines vs None) (append-nil h.says) (h.told [] (sym (ap length none))) in
+    let m = header_told h.lines h.says vs said in
+    let cut = h.cut in
+    let chunks : AreChunks script h.chunks = record { whole = cut.whole; rest = cut.rest; begins = cut.begins; ends = cut.ends; all = sym (append-nil h.chunks) ∙ ap (λ x. h.chunks ++ x) (sym none) ∙ cut.all } in
+    let t = law script h.chunks h.says m.0 chunks h.read (judged_of m.0 no_judging h.says vs None m.1) in
+    (t.0, t.2, right script (proof_of t.0) t.0 t.2, proof_verdicts m.0 h.says vs m.1 ∙ ap (flat_map line_verdict) t.1 ∙ of_turns t.0)
+
+-- ---- accepted proofs pass
+
+read_says : (cs : List Chunk) (ts : List Turn) → AreRead cs ts → ReadEach cs (map (λ (t : Turn). t.says) ts)
+read_says [] [] r = tt
+read_says [] (t ∷ ts) r = absurd r
+read_says (c ∷ cs) [] r = absurd r
+read_says (c ∷ cs) (t ∷ ts) r = (r.1, read_says cs ts r.2)
+
+line_first : (l : Line) (more : List ℕ) (ls : List (Option Line)) → IsLine l → AreLines more ls → AreLines (line_text l ++ more) (Some l ∷ ls)
+line_first l more ls h k =
+    inl (more, record { before = joined (words_of l); cut = append_assoc (joined (words_of l)) (10 ∷ []) more; first = line_free l h; line_is = (h, refl) }, k)
+
+lines_printed : (ls : List Line) → AllByRecursion IsLine ls → AreLines (flat_map line_text ls) (map (λ l. Some l) ls)
+lines_printed [] h = refl
+lines_printed (l ∷ ls) h = line_first l (flat_map line_text ls) (map (λ l. Some l) ls) h.0 (lines_printed ls h.1)
+
+abbrev pub TurnsLaw : Type 0
+TurnsLaw = (script proof : List ℕ) (turns : List Turn) → Accepted script proof turns → Judged no_judging (map (λ (t : Turn). t.says) turns) (map (λ l. Some l) (flat_map turn_lines turns)) None
+
+pub accepted_pass : TurnsLaw → (script proof : List ℕ) (turns : List Turn) → Accepted script proof turns → AllByRecursion IsLine (flat_map turn_lines turns) → IsAccepted script proof (verdicts_of turns)
+accepted_pass law script proof turns h each =
+    let says = map (λ (t : Turn). t.says) turns in
+    let lines = map (λ l. Some l) (flat_map turn_lines turns) in
+    let t = tells_there lines no_judging says None (law script proof turns h) in
+    let same : t.0 ≡ verdicts_of turns = proof_verdicts lines says t.0 t.1 ∙ of_turns turns in
+    let told : Tells no_judging says lines (verdicts_of turns) None = subst (λ x. Tells no_judging says lines x None) same t.1 in
+    record {
+      chunks = h.chunks;
+      behind = [];
+      says = says;
+      lines = Some (line.Header 0 100000) ∷ lines;
+      cut = record { whole = h.cut.whole; rest = h.cut.rest; begins = h.cut.begins; ends = h.cut.ends; all = append-nil h.chunks ∙ h.cut.all };
+      read = read_says h.chunks turns h.read;
+      split = subst (λ (x : List ℕ). AreLines x (Some (line.Header 0 100000) ∷ lines)) (sym h.lines) (line_first (line.Header 0 100000) _ lines (omega arith, omega arith) (lines_printed (flat_map turn_lines turns) each));
+      told = λ rest n. subst (λ x. TellsProof x (Some (line.Header 0 100000) ∷ lines) (verdicts_of turns) None) (sym (ap (λ x. says ++ x) (no_length rest n) ∙ append-nil says)) (inl ((omega arith, omega arith), told));
+      whole = λ z. refl;
+    }
+  where
+    no_length : (rest : List Says) → length rest ≡ 0 → rest ≡ []
+    no_length [] n = refl
+    no_length (r ∷ rest) n = absurd (omega arith)

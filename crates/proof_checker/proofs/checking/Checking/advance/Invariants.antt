@@ -1,0 +1,8 @@
+use Rattle.proof_checker.specs.Checkings.{Keeps, held_by}
+use Rattle.proof_checker.proofs.checking.Checking.advance.Given as goal
+
+abbrev pub invariant-steps : goal.invariant-steps
+invariant-steps l = Keeps l.fn.self.inputs l.fn.self.checker l.checking
+
+abbrev pub decreases-steps : goal.decreases-steps
+decreases-steps l = held_by l.checking.inputs

@@ -1,0 +1,236 @@
+// A check of a script and a proof that come in pieces.
+
+ghost use Rattle.std.specs.Prelude.{◌≡◌, ◌++◌, ℕ, List, Option, Some, None, OnOk, IfOk, false, true};
+ghost use Rattle.script_state.specs.declared.answer.Verdict.{Verdict};
+ghost use Rattle.accepted_proof.specs.declared.refusal.Refusal.{Refusal};
+ghost use Rattle.proof_checker.specs.Checked.{IsJudged};
+ghost use Rattle.accepted_proof.specs.Judged.{is_idle, bad_header};
+ghost use Rattle.proof_checker.specs.Checkings.{Judges, AreEnded, verdicts_by, IsAtLine, Stops, Advances};
+
+use crate::checker::Checker;
+use crate::inputs::{Inputs, NextChunk, NextLine};
+use accepted_proof::refusal::{Refusal, RuleName};
+use proof_text::reader::ProofReader;
+use script_state::answer::Verdict;
+use smt_text::framer::Framer;
+use std::alloc::{AllocError, Global};
+
+/// What is held of a script and of its proof, and how far they are checked. The log, a line and a chunk are kept, and no more
+/// of the texts than was fed and not yet read.
+#[derive(Drop)]
+pub struct Checking {
+    inputs: Inputs,
+    /// `None` before the first line of the proof.
+    checker: Option<Checker>,
+}
+
+/// The end of a check.
+#[derive(Drop)]
+pub struct Judgement {
+    checker: Option<Checker>,
+    /// The first bad line and its rule; `None` exactly where the proof is accepted.
+    pub refusal: Option<Refusal>,
+}
+
+/// How far a check came.
+#[derive(Drop)]
+pub enum Progress {
+    /// More of the script has to come first, or its end.
+    Script(Checking),
+    /// More of the proof has to come first, or its end.
+    Proof(Checking),
+    Done(Judgement),
+}
+
+#[derive(Drop)]
+enum Step {
+    On(Checking),
+    Stop(Progress),
+}
+
+impl Judgement {
+    /// The verdicts of the records that are accepted, in order.
+    pub fn verdicts(&self) -> &[Verdict]
+        ensures { result.now ≡ verdicts_by self.now.checker }
+    {
+        match &self.checker {
+            Some(checker) => checker.verdicts(),
+            None => &[],
+        }
+    }
+}
+
+/// The proof has no first line.
+fn without_header() -> Judgement
+    ensures { (result.checker ≡ None) × (result.refusal ≡ Some bad_header) }
+{
+    Judgement {
+        checker: None,
+        refusal: Some(Refusal {
+            line: 1,
+            rule: RuleName::Header,
+        }),
+    }
+}
+
+/// The first line of a proof is judged.
+fn begin(alloc: Global, mut inputs: Inputs) -> Result<Step, AllocError>
+    ensures { IfOk result (λ r. Advances inputs None r) }
+{
+    let first = match inputs.next_line(alloc)? {
+        NextLine::Line(first) => first,
+        NextLine::End => return Ok(Step::Stop(Progress::Done(without_header()))),
+        NextLine::More => {
+            let checking = Checking {
+                inputs,
+                checker: None,
+            };
+            return Ok(Step::Stop(Progress::Proof(checking)));
+        }
+    };
+    match Checker::new(alloc, &first)? {
+        Ok(checker) => Ok(Step::On(Checking {
+            inputs,
+            checker: Some(checker),
+        })),
+        Err(refusal) => Ok(Step::Stop(Progress::Done(Judgement {
+            checker: None,
+            refusal: Some(refusal),
+        }))),
+    }
+}
+
+/// The next line of the proof is judged, or its end.
+fn judge_line(alloc: Global, mut inputs: Inputs, checker: Checker) -> Result<Step, AllocError>
+    requires { IsAtLine inputs checker }
+    ensures { IfOk result (λ r. Advances inputs (Some checker) r) }
+{
+    match inputs.next_line(alloc)? {
+        NextLine::Line(line) => {
+            let (checker, told) = checker.line(alloc, &line)?;
+            match told {
+                Ok(()) => Ok(Step::On(Checking {
+                    inputs,
+                    checker: Some(checker),
+                })),
+                Err(refusal) => Ok(Step::Stop(Progress::Done(Judgement {
+                    checker: Some(checker),
+                    refusal: Some(refusal),
+                }))),
+            }
+        }
+        NextLine::End => {
+            let (checker, told) = checker.end();
+            Ok(Step::Stop(Progress::Done(Judgement {
+                checker: Some(checker),
+                refusal: told.err(),
+            })))
+        }
+        NextLine::More => Ok(Step::Stop(Progress::Proof(Checking {
+            inputs,
+            checker: Some(checker),
+        }))),
+    }
+}
+
+/// The next command of the script is done, or at its end the next line is judged.
+fn do_command(alloc: Global, mut inputs: Inputs, checker: Checker) -> Result<Step, AllocError>
+    requires { is_idle checker.judging.owed ≡ true }
+    ensures { IfOk result (λ r. Advances inputs (Some checker) r) }
+{
+    match inputs.next_chunk()? {
+        NextChunk::Chunk(chunk) => {
+            let (checker, _) = checker.command(alloc, &chunk)?;
+            Ok(Step::On(Checking {
+                inputs,
+                checker: Some(checker),
+            }))
+        }
+        NextChunk::End => judge_line(alloc, inputs, checker),
+        NextChunk::More => Ok(Step::Stop(Progress::Script(Checking {
+            inputs,
+            checker: Some(checker),
+        }))),
+    }
+}
+
+impl Checking {
+    /// Nothing was fed yet.
+    pub fn new(alloc: Global) -> Checking
+        ensures judged { (script proof : List ℕ) (vs : List Verdict) (o : Option Refusal) → Judges result script proof vs o → IsJudged script proof vs o }
+        ensures ended { AreEnded result false false }
+    {
+        Checking {
+            inputs: Inputs {
+                framer: Framer::new(alloc),
+                script_ended: false,
+                reader: ProofReader::new(alloc),
+                proof_ended: false,
+            },
+            checker: None,
+        }
+    }
+
+    /// Takes the next piece of the script. Want of memory is also the answer where its lines could not be counted.
+    pub fn feed_script(&mut self, piece: &[u8]) -> Result<(), AllocError>
+        ensures judged { OnOk result ((script proof : List ℕ) (vs : List Verdict) (o : Option Refusal) → Judges self.new script proof vs o → Judges self.old (piece.now ++ script) proof vs o) }
+        ensures ended { AreEnded self.new self.old.inputs.script_ended self.old.inputs.proof_ended }
+    {
+        self.inputs.framer.feed(piece)
+    }
+
+    /// Takes the next piece of the proof. Want of memory is also the answer where its lines could not be counted.
+    pub fn feed_proof(&mut self, piece: &[u8]) -> Result<(), AllocError>
+        ensures judged { OnOk result ((script proof : List ℕ) (vs : List Verdict) (o : Option Refusal) → Judges self.new script proof vs o → Judges self.old script (piece.now ++ proof) vs o) }
+        ensures ended { AreEnded self.new self.old.inputs.script_ended self.old.inputs.proof_ended }
+    {
+        self.inputs.reader.feed(piece)
+    }
+
+    /// No more of the script comes.
+    pub fn end_script(&mut self)
+        ensures judged { (script proof : List ℕ) (vs : List Verdict) (o : Option Refusal) → Judges self.new script proof vs o → Judges self.old script proof vs o }
+        ensures ended { AreEnded self.new true self.old.inputs.proof_ended }
+    {
+        self.inputs.script_ended = true;
+    }
+
+    /// No more of the proof comes.
+    pub fn end_proof(&mut self)
+        ensures judged { (script proof : List ℕ) (vs : List Verdict) (o : Option Refusal) → Judges self.new script proof vs o → Judges self.old script proof vs o }
+        ensures ended { AreEnded self.new self.old.inputs.script_ended true }
+    {
+        self.inputs.proof_ended = true;
+    }
+
+    /// One line or one command further.
+    fn step(self, alloc: Global) -> Result<Step, AllocError>
+        ensures { IfOk result (λ r. Advances self.inputs self.checker r) }
+    {
+        let Checking { inputs, checker } = self;
+        match checker {
+            None => begin(alloc, inputs),
+            Some(checker) => {
+                if checker.owes() {
+                    judge_line(alloc, inputs, checker)
+                } else {
+                    do_command(alloc, inputs, checker)
+                }
+            }
+        }
+    }
+
+    /// Goes as far as what is held allows: first the header, then the script command by command, and at each check the lines
+    /// of the proof up to its record. Where more has to come, what is judged from here is judged of all.
+    pub fn advance(self, alloc: Global) -> Result<Progress, AllocError>
+        ensures { IfOk result (λ r. Stops self.inputs self.checker r) }
+    {
+        let mut checking = self;
+        'steps: loop {
+            match checking.step(alloc)? {
+                Step::On(next) => checking = next,
+                Step::Stop(progress) => return Ok(progress),
+            }
+        }
+    }
+}

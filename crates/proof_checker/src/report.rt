@@ -1,0 +1,100 @@
+// What the user of a check is told.
+
+ghost use Rattle.std.specs.Prelude.{◌≡◌, ◌++◌, IfOk, OnOk};
+ghost use Rattle.std.specs.List.{flat_map};
+ghost use Rattle.std.specs.Fmt.{decimal};
+ghost use Rattle.accepted_proof.specs.Answers.{verdict_text};
+ghost use Rattle.proof_checker.specs.Checkings.{verdicts_by};
+ghost use Rattle.proof_checker.specs.Reports.{rule_text, ending_text, report_text};
+
+use crate::checking::Judgement;
+use accepted_proof::refusal::{Refusal, RuleName};
+use script_state::answer::Verdict;
+use smt_text::text::Text;
+use std::alloc::{AllocError, Global};
+
+/// The name of a rule.
+fn rule_name(rule: RuleName) -> &'static [u8]
+    ensures { result.now ≡ rule_text rule }
+{
+    match rule {
+        RuleName::Header => b"header",
+        RuleName::Line => b"line",
+        RuleName::Node => b"node",
+        RuleName::Leaf => b"leaf",
+        RuleName::Encode => b"encode",
+        RuleName::Rewrite => b"rewrite",
+        RuleName::Selector => b"selector",
+        RuleName::Equal => b"equal",
+        RuleName::Lemma => b"lemma",
+        RuleName::Chain => b"chain",
+        RuleName::Sat => b"sat",
+        RuleName::Unsat => b"unsat",
+        RuleName::Diary => b"diary",
+        RuleName::End => b"end",
+    }
+}
+
+/// The line of a verdict.
+fn verdict_line(verdict: Verdict) -> &'static [u8]
+    ensures { result.now ≡ verdict_text verdict }
+{
+    match verdict {
+        Verdict::Sat => b"sat\n",
+        Verdict::Unsat => b"unsat\n",
+        Verdict::Unknown => b"unknown\n",
+    }
+}
+
+/// Appends a number in decimal.
+fn push_decimal(alloc: Global, number: u64, out: &mut Text) -> Result<(), AllocError>
+    ensures { OnOk result (out.new ≡ out.old ++ decimal number) }
+{
+    let digits = format!(in alloc; "{number}")?;
+    out.push_slice(digits.as_bytes())
+}
+
+/// The line of a check's end: so many records are accepted, or the first bad line and its rule.
+fn ending_line(alloc: Global, accepted: u64, refusal: Option<Refusal>) -> Result<Text, AllocError>
+    ensures { IfOk result (λ t. t ≡ ending_text accepted refusal) }
+{
+    match refusal {
+        None => {
+            let mut text = Text::from_slice(alloc, b"accepted ")?;
+            push_decimal(alloc, accepted, &mut text)?;
+            text.push_slice(b"\n")?;
+            Ok(text)
+        }
+        Some(refusal) => {
+            let mut text = Text::from_slice(alloc, b"refused line ")?;
+            push_decimal(alloc, refusal.line, &mut text)?;
+            text.push_slice(b" rule ")?;
+            text.push_slice(rule_name(refusal.rule))?;
+            text.push_slice(b"\n")?;
+            Ok(text)
+        }
+    }
+}
+
+/// The lines of the verdicts.
+fn verdict_lines(alloc: Global, verdicts: &[Verdict]) -> Result<Text, AllocError>
+    ensures { IfOk result (λ t. t ≡ flat_map verdict_text verdicts.now) }
+{
+    let mut text = Text::new(alloc);
+    for verdict in verdicts {
+        text.push_slice(verdict_line(*verdict))?;
+    }
+    Ok(text)
+}
+
+/// What the user is told of a check: each accepted record's verdict on a line, then `accepted` and their number, or `refused`
+/// with the first bad line and its rule.
+pub fn report_lines(alloc: Global, judgement: &Judgement) -> Result<Text, AllocError>
+    ensures { IfOk result (λ t. t ≡ report_text (verdicts_by judgement.now.checker) judgement.now.refusal) }
+{
+    let verdicts = judgement.verdicts();
+    let mut text = verdict_lines(alloc, verdicts)?;
+    let ending = ending_line(alloc, verdicts.len() as u64, judgement.refusal)?;
+    text.push_slice(ending.as_slice())?;
+    Ok(text)
+}
