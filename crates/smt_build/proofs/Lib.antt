@@ -3,7 +3,7 @@ pub mod Numerals
 pub mod ReservedWords
 pub mod NameLemmas
 pub mod Spellings
-pub mod Lookups
+pub mod Places
 pub mod TermWalks
 pub mod Stepping
 pub mod Declarations

@@ -13,18 +13,9 @@ use Rattle.smt_build.specs.declared.fault.BuildFault.TheVariants.{UnknownSymbol,
 use Rattle.smt_build.specs.Operators.{is_reserved}
 use Rattle.smt_build.specs.Names.{SymbolsValue, declaration_of}
 use Rattle.smt_build.specs.Building.{Built}
-pub use Rattle.smt_build.specs.Pairs.{Bound}
+pub use Rattle.smt_build.specs.Pairs.{Bound, innermost, bound_at}
 use Rattle.smt_build.specs.Indices.{Head, plain, indexed}
 use Rattle.smt_build.specs.Applying.{word_term, application, indexed_term}
-
-abbrev pub innermost : Option ℕ → Bool → ℕ → Option ℕ
-innermost (Some t) here u = Some t
-innermost None here u = if here then Some u else None
-
--- the innermost term of a name
-abbrev pub bound_at : Bound → List ℕ → Option ℕ
-bound_at [] x = None
-bound_at (b ∷ bs) x = innermost (bound_at bs x) (bytes_eq x b.0) b.1
 
 abbrev pub is_bound : Bound → List ℕ → Bool
 is_bound bound x = is_some (bound_at bound x)

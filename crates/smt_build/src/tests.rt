@@ -285,6 +285,21 @@ fn names_end_with_their_level_and_numbers_go_on(rt: HostRuntime) -> Result<(), F
 }
 
 #[test]
+fn deep_and_wide_lets_are_read(rt: HostRuntime) -> Result<(), Fail> {
+    let mut text: Vec<u8> = Vec::new(rt.alloc());
+    text.extend_from_slice(b"(assert ")?;
+    for _ in 0..20_000 {
+        text.extend_from_slice(b"(let ((a p) (b q)) ")?;
+    }
+    text.push(b'b')?;
+    for _ in 0..20_001 {
+        text.push(b')')?;
+    }
+    assert!(rt; given(&rt, 100, text.as_slice())? == (Ok(1), 2));
+    Ok(())
+}
+
+#[test]
 fn deep_terms_are_read(rt: HostRuntime) -> Result<(), Fail> {
     let mut text: Vec<u8> = Vec::new(rt.alloc());
     text.extend_from_slice(b"(assert ")?;
