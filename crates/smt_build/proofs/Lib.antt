@@ -8,4 +8,6 @@ pub mod Stepping
 pub mod Declarations
 pub mod Levels
 pub mod Folds
+pub mod Uses
+pub mod Definings
 pub mod Longer

@@ -27,12 +27,15 @@ use Rattle.smt_build.specs.declared.operators.Named.{Named}
 use Rattle.smt_build.specs.declared.operators.Named.TheVariants.{Applies, Indexed, LeftOut}
 use Rattle.smt_build.specs.Literals.{bit_value, hexadecimal_value, value_in, width_of_numeral, number_of}
 use Rattle.smt_build.specs.Operators.{operator_named}
-use Rattle.smt_build.specs.Names.{SymbolsValue, IsDeclared, declaration_of}
+use Rattle.smt_build.specs.declared.definition.Definition.{Definition}
+use Rattle.smt_build.specs.Names.{SymbolsValue, Meanings, IsDeclared, AreBodies, declaration_of, meaning_in}
+use Rattle.smt_build.specs.Definitions.{have_sorts, used}
 use Rattle.smt_build.specs.Building.{Built, Grows, as_built, made, constant, declared_at, declared}
 use Rattle.smt_build.specs.Grouping.{each, of_two, left, right, Chain, next_equal, chain, chained, Listed, apart, apart_from, all_apart, all_true, joins_within, by_arity, are_taken, grouped, operation}
 use Rattle.smt_build.specs.Applying.{applied, symbol_by, symbol_term, word_term, application_by, application, indexed_term}
 use Rattle.smt_build.specs.Indices.{Indices, one, two, many, Head, plain, indexed, indexed_in, head_in, is_word_name, word_by, word_in, word_of, known, with_indices, first_width, indexed_by, indexed_application}
 use Rattle.smt_build.specs.Terms.{term_of, args_of}
+use Rattle.smt_build.proofs.Uses.{IsBody, body_held}
 use Rattle.smt_build.proofs.Growth.{grows_none, grows_both, made_grows, longer, names_none, operator_declared, word_declared, constant_declared}
 
 -- the terms begin with those before, and are well sorted where those are
@@ -92,10 +95,22 @@ module _ (symbols : SymbolsValue) where
     further (Ok b) w p q = (longer_more v w b.1 p q.0, q.1)
     further (Err e) w p q = tt
 
-  pub lists_bind : (v : TermsValue) (r : Listed) (f : List ℕ × TermsValue → Built) → Lengthens v r → ((a : List ℕ × TermsValue) → Keeps a.1 (f a)) → Keeps v (r >>= f)
+  -- the number is one of the terms then where the bodies of all definitions are among those before, and these stand
+  abbrev pub KeepsOver : TermsValue → Built → Type 0
+  KeepsOver v r = Follows (λ r. Longer v r.1 × (AreBodies (length v.nodes) symbols.definitions → r.0 < length r.1.nodes)) r
+
+  over : (v : TermsValue) (r : Built) → Keeps v r → KeepsOver v r
+  over v (Ok r) h = (h.0, λ bodies. h.1)
+  over v (Err e) h = tt
+
+  bodies_longer : (m n : ℕ) (ds : Meanings Definition) → m ≤ n → AreBodies m ds → AreBodies n ds
+  bodies_longer m n [] le h = tt
+  bodies_longer m n (d ∷ ds) le h = (omega (arith, h.0, le), bodies_longer m n ds le h.1)
+
+  pub lists_bind : (v : TermsValue) (r : Listed) (f : List ℕ × TermsValue → Built) → Lengthens v r → ((a : List ℕ × TermsValue) → KeepsOver a.1 (f a)) → KeepsOver v (r >>= f)
   lists_bind v r f h k = follows_bind _ _ r f h (λ a p. further (f a) a.1 p (k a)) where
-    further : (b : Built) (w : TermsValue) → Longer v w → Keeps w b → Keeps v b
-    further (Ok b) w p q = (longer_more v w b.1 p q.0, q.1)
+    further : (b : Built) (w : TermsValue) → Longer v w → KeepsOver w b → KeepsOver v b
+    further (Ok b) w p q = (longer_more v w b.1 p q.0, λ bodies. q.1 (bodies_longer (length v.nodes) (length w.nodes) symbols.definitions (longer symbols.signatures v w p.grows) bodies))
     further (Err e) w p q = tt
 
   longer_lists : (v w : TermsValue) (b : Listed) → Longer v w → Lengthens w b → Lengthens v b
@@ -255,28 +270,38 @@ module _ (symbols : SymbolsValue) where
   keeps_applied terms (Indexed k) args = tt
   keeps_applied terms (Applies o arity) args = keeps_operation o arity terms args
 
-  keeps_symbol_by : (terms : TermsValue) (named : Option Named) (d : Option ℕ) → Keeps terms (symbol_by symbols terms named d)
-  keeps_symbol_by terms (Some named) d = keeps_applied terms named []
-  keeps_symbol_by terms None d = keeps_declared terms d
+  -- ---- uses of definitions
 
-  keeps_symbol : (terms : TermsValue) (x : List ℕ) → Keeps terms (symbol_term symbols terms x)
+  keeps_used : (terms : TermsValue) (f : Definition) (args : List ℕ) → (AreBodies (length terms.nodes) symbols.definitions → f.body < length terms.nodes) → KeepsOver terms (used terms f args)
+  keeps_used terms f args h = go (have_sorts terms.nodes f.parameters args) where
+    go : (b : Bool) → KeepsOver terms (if b then Ok (f.body, terms) else Err WrongSort)
+    go true = (longer_none terms, h)
+    go false = tt
+
+  keeps_symbol_by : (terms : TermsValue) (named : Option Named) (f : Option Definition) (d : Option ℕ) → (AreBodies (length terms.nodes) symbols.definitions → IsBody (length terms.nodes) f) → KeepsOver terms (symbol_by symbols terms named f d)
+  keeps_symbol_by terms (Some named) f d h = over terms _ (keeps_applied terms named [])
+  keeps_symbol_by terms None (Some f) d h = keeps_used terms f [] h
+  keeps_symbol_by terms None None d h = over terms _ (keeps_declared terms d)
+
+  keeps_symbol : (terms : TermsValue) (x : List ℕ) → KeepsOver terms (symbol_term symbols terms x)
   unfolding symbol_term
-  keeps_symbol terms x = keeps_symbol_by terms (operator_named x) (declaration_of symbols.live x)
+  keeps_symbol terms x = keeps_symbol_by terms (operator_named x) (meaning_in symbols.definitions x) (declaration_of symbols.live x) (body_held (length terms.nodes) symbols.definitions x)
 
-  keeps_word : (terms : TermsValue) (k : TokenKind) (x : List ℕ) → Keeps terms (word_term symbols terms k x)
+  keeps_word : (terms : TermsValue) (k : TokenKind) (x : List ℕ) → KeepsOver terms (word_term symbols terms k x)
   unfolding word_term
   keeps_word terms kind.Symbol x = keeps_symbol terms x
   keeps_word terms kind.Binary [] = tt
   keeps_word terms kind.Binary (a ∷ []) = tt
-  keeps_word terms kind.Binary (a ∷ b ∷ digits) = keeps_if terms (nat_le (length digits) 128) LiteralTooWide _ (keeps_literal terms (length digits) (value_in 2 bit_value digits))
+  keeps_word terms kind.Binary (a ∷ b ∷ digits) = over terms _ (keeps_if terms (nat_le (length digits) 128) LiteralTooWide _ (keeps_literal terms (length digits) (value_in 2 bit_value digits)))
   keeps_word terms kind.Hexadecimal [] = tt
   keeps_word terms kind.Hexadecimal (a ∷ []) = tt
-  keeps_word terms kind.Hexadecimal (a ∷ b ∷ digits) = keeps_if terms (nat_le (length digits) 32) LiteralTooWide _ (keeps_literal terms (4 * length digits) (value_in 16 hexadecimal_value digits))
+  keeps_word terms kind.Hexadecimal (a ∷ b ∷ digits) = over terms _ (keeps_if terms (nat_le (length digits) 32) LiteralTooWide _ (keeps_literal terms (4 * length digits) (value_in 16 hexadecimal_value digits)))
   keeps_word terms _ x = tt
 
-  keeps_application_by : (terms : TermsValue) (named : Option Named) (d : Option ℕ) (args : List ℕ) → Keeps terms (application_by terms named d args)
-  keeps_application_by terms (Some named) d args = keeps_applied terms named args
-  keeps_application_by terms None d args = tt
+  keeps_application_by : (terms : TermsValue) (named : Option Named) (f : Option Definition) (d : Option ℕ) (args : List ℕ) → (AreBodies (length terms.nodes) symbols.definitions → IsBody (length terms.nodes) f) → KeepsOver terms (application_by terms named f d args)
+  keeps_application_by terms (Some named) f d args h = over terms _ (keeps_applied terms named args)
+  keeps_application_by terms None (Some f) d args h = keeps_used terms f args h
+  keeps_application_by terms None None d args h = tt
 
   -- such an operator names no declaration
   abbrev AreNamed : Option Op → Type 0
@@ -302,10 +327,10 @@ module _ (symbols : SymbolsValue) where
   keeps_indexed terms f is (Some LeftOut) args = tt
   keeps_indexed terms f is None args = tt
 
-  keeps_application : (terms : TermsValue) (f : Head) (args : List ℕ) → Keeps terms (application symbols terms f args)
+  keeps_application : (terms : TermsValue) (f : Head) (args : List ℕ) → KeepsOver terms (application symbols terms f args)
   unfolding application
-  keeps_application terms (plain f) args = keeps_application_by terms (operator_named f) (declaration_of symbols.live f) args
-  keeps_application terms (indexed f is) args = keeps_indexed terms f is (operator_named f) args
+  keeps_application terms (plain f) args = keeps_application_by terms (operator_named f) (meaning_in symbols.definitions f) (declaration_of symbols.live f) args (body_held (length terms.nodes) symbols.definitions f)
+  keeps_application terms (indexed f is) args = over terms _ (keeps_indexed terms f is (operator_named f) args)
 
   keeps_word_by : (terms : TermsValue) (n : ℕ) (x : Option ℕ) → Keeps terms (word_by terms n x)
   keeps_word_by terms n None = tt
@@ -327,17 +352,17 @@ module _ (symbols : SymbolsValue) where
   keeps_indexed_term terms (plain f) = tt
   keeps_indexed_term terms (indexed f is) = keeps_if terms (is_word_name f) (known symbols f) _ (keeps_word_of terms f is)
 
-  keeps_then : {A : Type 0} (terms : TermsValue) (r : Result A BuildFault) (f : A → Built) → ((a : A) → Keeps terms (f a)) → Keeps terms (r >>= f)
+  keeps_then : {A : Type 0} (terms : TermsValue) (r : Result A BuildFault) (f : A → Built) → ((a : A) → KeepsOver terms (f a)) → KeepsOver terms (r >>= f)
   keeps_then terms (Ok a) f h = h a
   keeps_then terms (Err e) f h = tt
 
   mutual
     unfolding term_of args_of
 
-    pub keeps_term : (terms : TermsValue) (e : Sexp) → Keeps terms (term_of symbols terms e)
+    pub keeps_term : (terms : TermsValue) (e : Sexp) → KeepsOver terms (term_of symbols terms e)
     keeps_term terms (atom k x) = keeps_word terms k x
     keeps_term terms (group (more (atom kind.Symbol f) es)) = lists_bind terms (args_of symbols terms [] es) _ (lengthens_args terms [] es) (λ r. keeps_application r.1 (plain f) r.0)
-    keeps_term terms (group (more (atom kind.Underscore l) es)) = keeps_then terms (indexed_in es) _ (λ h. keeps_indexed_term terms h)
+    keeps_term terms (group (more (atom kind.Underscore l) es)) = keeps_then terms (indexed_in es) _ (λ h. over terms _ (keeps_indexed_term terms h))
     keeps_term terms (group (more (group x) es)) = keeps_then terms (head_in x) _ (λ f. lists_bind terms (args_of symbols terms [] es) _ (lengthens_args terms [] es) (λ r. keeps_application r.1 f r.0))
     keeps_term terms (group _) = tt
 
@@ -347,8 +372,8 @@ module _ (symbols : SymbolsValue) where
 
   -- the terms before a reading stand behind it
   pub term_longer : (terms new : TermsValue) (e : Sexp) (t : ℕ) → term_of symbols terms e ≡ Ok (t, new) → Longer terms new
-  term_longer terms new e t is = let P : Built → Type 0 = Keeps terms in (subst P is (keeps_term terms e)).0
+  term_longer terms new e t is = let P : Built → Type 0 = KeepsOver terms in (subst P is (keeps_term terms e)).0
 
-  -- a term that is read is held
-  pub term_is_held : (terms new : TermsValue) (e : Sexp) (t : ℕ) → term_of symbols terms e ≡ Ok (t, new) → t < length new.nodes
-  term_is_held terms new e t is = let P : Built → Type 0 = Keeps terms in (subst P is (keeps_term terms e)).1
+  -- a term that is read is held, where the bodies of all definitions are
+  pub term_is_held : (terms new : TermsValue) (e : Sexp) (t : ℕ) → AreBodies (length terms.nodes) symbols.definitions → term_of symbols terms e ≡ Ok (t, new) → t < length new.nodes
+  term_is_held terms new e t bodies is = let P : Built → Type 0 = KeepsOver terms in (subst P is (keeps_term terms e)).1 bodies

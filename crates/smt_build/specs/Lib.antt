@@ -6,8 +6,10 @@ pub mod Declaring
 pub mod Building
 pub mod Grouping
 pub mod Indices
+pub mod Definitions
 pub mod Applying
 pub mod Terms
+pub mod Defining
 pub mod TermReader
 pub mod Views
 pub mod Steps
