@@ -3,6 +3,7 @@ pub mod Numerals
 pub mod ReservedWords
 pub mod NameLemmas
 pub mod Spellings
+pub mod Lookups
 pub mod TermWalks
 pub mod Stepping
 pub mod Declarations
@@ -11,3 +12,4 @@ pub mod Folds
 pub mod Uses
 pub mod Definings
 pub mod Longer
+pub mod Kept

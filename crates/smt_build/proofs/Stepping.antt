@@ -1,5 +1,5 @@
 -- The loop that reads a part, a step a token.
-use Rattle.std.proofs.Common.{◌≡◌, ℕ, ◌+◌, ◌<◌, ◌≤◌, List, [], ◌∷◌, ◌++◌, map, length, get_or, drop, refl, ap, sym, ◌∙◌, Option, Result, Ok, Err}
+use Rattle.std.proofs.Common.{◌≡◌, ℕ, ◌+◌, ◌<◌, ◌≤◌, Bool, false, List, [], ◌∷◌, ◌++◌, map, length, get_or, drop, refl, ap, sym, subst, ◌∙◌, Option, Result, Ok, Err}
 use Rattle.std.proofs.lemmas.List.{drop_more, drop_all, map-append, reverse-append}
 use Rattle.smt_text.specs.declared.token.Token.{Token}
 use Rattle.smt_text.specs.declared.token.TokenKind.{TokenKind}
@@ -17,13 +17,15 @@ use Rattle.smt_build.specs.declared.reader.Want.TheVariants as want
 use Rattle.smt_build.specs.declared.reader.Open.{Open as OpenList}
 use Rattle.smt_build.specs.declared.reader.Part.{Part as ReadPart}
 use Rattle.smt_build.specs.declared.reader.Part.TheVariants as parts
+use Rattle.smt_build.specs.declared.scope.Scope.{Scope}
 use Rattle.smt_build.specs.Names.{SymbolsValue, no_symbols}
-use Rattle.smt_build.specs.Building.{Built, Builds, Means}
-use Rattle.smt_build.specs.Terms.{term_of}
-use Rattle.smt_build.specs.TermReader.{Part, term, Open, term_reader, takes, closes, at_word}
+use Rattle.smt_build.specs.Building.{Builds}
+use Rattle.smt_build.specs.Binding.{Bound, Progress, Read}
+use Rattle.smt_build.specs.Terms.{term_in, term_alone}
+use Rattle.smt_build.specs.TermReader.{Part, term, passed, Open, State, progress, after as later, as_part, term_reader, takes, closes, at_word}
 use Rattle.smt_build.specs.Steps.{Step, ends, goes, handed, step, Steps}
-use Rattle.smt_build.specs.Views.{part_of, open_of, stack_of, Does, Takes}
-use Rattle.smt_build.proofs.TermWalks.{as_part, walk-term}
+use Rattle.smt_build.specs.Views.{part_of, open_of, stack_of, state_of, no_scope, Does, Takes, ReadsTerm, Names}
+use Rattle.smt_build.proofs.TermWalks.{walk-term}
 
 -- ---- a step is what the machine does with a token
 
@@ -54,34 +56,28 @@ nothing_left [] e = refl
 nothing_left (x ∷ xs) e = cc
 
 -- a part that is handed to no list
-pub hand_none : (old : List OpenList) (p : ReadPart) (s : TermsValue) (symbols : SymbolsValue) → old ≡ [] → handed (term_reader symbols) (stack_of old) (part_of p, s) ≡ Ok (ends (part_of p, s))
-hand_none old p s symbols e = rw e refl
+pub hand_none : (old : List OpenList) (p : ReadPart) (s : State) (symbols : SymbolsValue) (may_name : Bool) → old ≡ [] → handed (term_reader symbols may_name) (stack_of old) (part_of p, s) ≡ Ok (ends (part_of p, s))
+hand_none old p s symbols may_name e = rw e refl
 
-pub hand_error : (old rest : List OpenList) (f : OpenList) (p : ReadPart) (x : BuildError) (symbols : SymbolsValue) (s : TermsValue) (st : List Open) → old ≡ rest ++ f ∷ [] → Takes (takes (open_of f) (part_of p)) (Err x) → Steps (handed (term_reader symbols) (stack_of old) (part_of p, s)) (Err x) st s
-hand_error old rest f p NoMemory symbols s st e t = tt
-hand_error old rest f p (Fault y) symbols s st e t = rw (e, stack-push rest f, t s) refl
+module _ (symbols : SymbolsValue) (may_name : Bool) (a b : Scope) (old rest : List OpenList) (f : OpenList) (p : ReadPart) (e : old ≡ rest ++ f ∷ []) where
+  pub hand_error : (x : BuildError) (s : TermsValue) (st : List Open) → Takes (takes (open_of f) (part_of p)) (Err x) a b → Steps (handed (term_reader symbols may_name) (stack_of old) (part_of p, state_of s a)) (Err x) st (state_of s b)
+  hand_error NoMemory s st t = tt
+  hand_error (Fault y) s st t = rw (e, stack-push rest f, t s) refl
 
-pub hand_list : (old rest new : List OpenList) (f g : OpenList) (p : ReadPart) (symbols : SymbolsValue) (s : TermsValue) → old ≡ rest ++ f ∷ [] → Takes (takes (open_of f) (part_of p)) (Ok g) → new ≡ rest ++ g ∷ [] → handed (term_reader symbols) (stack_of old) (part_of p, s) ≡ Ok (goes (stack_of new) s)
-hand_list old rest new f g p symbols s e t n = rw (e, n, stack-push rest f, stack-push rest g, t s) refl
-
--- a part that was read is handed on
-pub read_hands : (to : Result (Part × TermsValue) BuildFault) (p : ReadPart) (s : TermsValue) (symbols : SymbolsValue) (lists : List Open) (r : Result (Option ReadPart) BuildError) (new : List Open) → Does to (Ok p) s → Steps (handed (term_reader symbols) lists (part_of p, s)) r new s → Steps (to >>= λ v. handed (term_reader symbols) lists v) r new s
-read_hands to p s symbols lists r new d h = rw d h
-
-pub read_fails : (to : Result (Part × TermsValue) BuildFault) (x : BuildError) (s : TermsValue) (symbols : SymbolsValue) (lists new : List Open) → Does to (Err x) s → Steps (to >>= λ v. handed (term_reader symbols) lists v) (Err x) new s
-read_fails to NoMemory s symbols lists new d = tt
-read_fails to (Fault f) s symbols lists new d = rw d refl
+  pub hand_list : (new : List OpenList) (g : OpenList) (s : TermsValue) → Takes (takes (open_of f) (part_of p)) (Ok g) a b → new ≡ rest ++ g ∷ [] → handed (term_reader symbols may_name) (stack_of old) (part_of p, state_of s a) ≡ Ok (goes (stack_of new) (state_of s b))
+  hand_list new g s t n = rw (e, n, stack-push rest f, stack-push rest g, t s) refl
 
 -- ---- a token
 
-pub step_closes : (old rest : List OpenList) (f : OpenList) (p : ReadPart) (symbols : SymbolsValue) (s t : TermsValue) (r : Result (Option ReadPart) BuildError) (new : List Open) → old ≡ rest ++ f ∷ [] → Does (closes symbols (open_of f) s) (Ok p) t → Steps (handed (term_reader no_symbols) (stack_of rest) (part_of p, t)) r new t → Steps (step (term_reader symbols) want.Term (stack_of old) s close_paren) r new t
-unfolding step
-step_closes old rest f p symbols s t r new e d h = rw (e, stack-push rest f, d) h
+module _ (symbols : SymbolsValue) (may_name : Bool) (s t u : State) (new : List Open) (old rest : List OpenList) (f : OpenList) (e : old ≡ rest ++ f ∷ []) where
+  pub step_closes : (p : ReadPart) (r : Result (Option ReadPart) BuildError) → Does (closes symbols (open_of f) s) (Ok p) t → Steps (handed (term_reader no_symbols false) (stack_of rest) (part_of p, t)) r new u → Steps (step (term_reader symbols may_name) want.Term (stack_of old) s close_paren) r new u
+  unfolding step
+  step_closes p r d h = rw (e, stack-push rest f, d) h
 
-pub close_fails : (old rest : List OpenList) (f : OpenList) (x : BuildError) (symbols : SymbolsValue) (s t : TermsValue) (new : List Open) → old ≡ rest ++ f ∷ [] → Does (closes symbols (open_of f) s) (Err x) t → Steps (step (term_reader symbols) want.Term (stack_of old) s close_paren) (Err x) new t
-unfolding step
-close_fails old rest f NoMemory symbols s t new e d = tt
-close_fails old rest f (Fault y) symbols s t new e d = rw (e, stack-push rest f, d) refl
+  pub close_fails : (x : BuildError) → Does (closes symbols (open_of f) s) (Err x) t → Steps (step (term_reader symbols may_name) want.Term (stack_of old) s close_paren) (Err x) new u
+  unfolding step
+  close_fails NoMemory d = tt
+  close_fails (Fault y) d = rw (e, stack-push rest f, d) refl
 
 -- a token that is no parenthesis
 word_sign : (k : TokenKind) (x : List ℕ) → (k ≡ kind.Open → ⊥) → (k ≡ kind.Close → ⊥) → sign_by k x ≡ word k x
@@ -89,76 +85,96 @@ word_sign kind.Open x n m = absurd (n refl)
 word_sign kind.Close x n m = absurd (m refl)
 word_sign _ x n m = refl
 
-pub step_words : (st : List Open) (w : Want) (k : TokenKind) (x : List ℕ) (p : ReadPart) (symbols : SymbolsValue) (s t : TermsValue) (r : Result (Option ReadPart) BuildError) (new : List Open) → (k ≡ kind.Open → ⊥) → (k ≡ kind.Close → ⊥) → w ≡ context_in (term_reader no_symbols) want.Term st → Does (at_word symbols w s k x) (Ok p) t → Steps (handed (term_reader no_symbols) st (part_of p, t)) r new t → Steps (step (term_reader symbols) want.Term st s (sign_by k x)) r new t
-unfolding step
-step_words st w k x p symbols s t r new n m e d h = rw (word_sign k x n m) (let f : at_word symbols (context_in (term_reader no_symbols) want.Term st) s k x ≡ Ok (part_of p, t) = rw (← e) d in rw f h)
+module _ (symbols : SymbolsValue) (may_name : Bool) (s t u : State) (new : List Open) (st : List Open) (w : Want) (k : TokenKind) (x : List ℕ) (n : k ≡ kind.Open → ⊥) (m : k ≡ kind.Close → ⊥) (e : w ≡ context_in (term_reader no_symbols false) want.Term st) where
+  pub step_words : (p : ReadPart) (r : Result (Option ReadPart) BuildError) → Does (at_word symbols may_name w s k x) (Ok p) t → Steps (handed (term_reader no_symbols false) st (part_of p, t)) r new u → Steps (step (term_reader symbols may_name) want.Term st s (sign_by k x)) r new u
+  unfolding step
+  step_words p r d h = rw (word_sign k x n m) (let f : at_word symbols may_name (context_in (term_reader no_symbols false) want.Term st) s k x ≡ Ok (part_of p, t) = rw (← e) d in rw f h)
 
-pub word_fails : (st : List Open) (w : Want) (k : TokenKind) (x : List ℕ) (y : BuildError) (symbols : SymbolsValue) (s t : TermsValue) (new : List Open) → (k ≡ kind.Open → ⊥) → (k ≡ kind.Close → ⊥) → w ≡ context_in (term_reader no_symbols) want.Term st → Does (at_word symbols w s k x) (Err y) t → Steps (step (term_reader symbols) want.Term st s (sign_by k x)) (Err y) new t
-unfolding step
-word_fails st w k x NoMemory symbols s t new n m e d = tt
-word_fails st w k x (Fault y) symbols s t new n m e d = rw (word_sign k x n m) (let f : at_word symbols (context_in (term_reader no_symbols) want.Term st) s k x ≡ Err y = rw (← e) d in rw f refl)
+  pub word_fails : (y : BuildError) → Does (at_word symbols may_name w s k x) (Err y) t → Steps (step (term_reader symbols may_name) want.Term st s (sign_by k x)) (Err y) new u
+  unfolding step
+  word_fails NoMemory d = tt
+  word_fails (Fault y) d = rw (word_sign k x n m) (let f : at_word symbols may_name (context_in (term_reader no_symbols false) want.Term st) s k x ≡ Err y = rw (← e) d in rw f refl)
 
 -- ---- the loop
 
 -- behind these tokens, with these lists open, the rest gives what all of the tokens give
-pub record Reads (symbols : SymbolsValue) (old : TermsValue) (tokens : List Token) (i : ℕ) (lists : List OpenList) (now : TermsValue) : Type 0 where
-  pub same : run (term_reader symbols) want.Term [] old (signs_in tokens) ≡ run (term_reader symbols) want.Term (stack_of lists) now (signs_in (drop i tokens))
+pub record Reads (symbols : SymbolsValue) (may_name : Bool) (old : State) (tokens : List Token) (i : ℕ) (lists : List OpenList) (now : State) : Type 0 where
+  pub same : run (term_reader symbols may_name) want.Term [] old (signs_in tokens) ≡ run (term_reader symbols may_name) want.Term (stack_of lists) now (signs_in (drop i tokens))
 
-module _ (symbols : SymbolsValue) (old : TermsValue) (tokens : List Token) (i : ℕ) (lists : List OpenList) (now : TermsValue) (d : Token) (h : i < length tokens) (r : Reads symbols old tokens i lists now) where
-  stepped : run (term_reader symbols) want.Term [] old (signs_in tokens) ≡ step (term_reader symbols) want.Term (stack_of lists) now (sign_in (get_or tokens i d)) >>= after (term_reader symbols) want.Term (signs_in (drop (i + 1) tokens))
-  stepped = r.same ∙ rw (drop_more tokens i d h) (run-step (term_reader symbols) want.Term (stack_of lists) now (sign_in (get_or tokens i d)) (signs_in (drop (i + 1) tokens)))
+module _ (symbols : SymbolsValue) (may_name : Bool) (old : State) (tokens : List Token) (i : ℕ) (lists : List OpenList) (now : State) (d : Token) (h : i < length tokens) (r : Reads symbols may_name old tokens i lists now) where
+  stepped : run (term_reader symbols may_name) want.Term [] old (signs_in tokens) ≡ step (term_reader symbols may_name) want.Term (stack_of lists) now (sign_in (get_or tokens i d)) >>= after (term_reader symbols may_name) want.Term (signs_in (drop (i + 1) tokens))
+  stepped = r.same ∙ rw (drop_more tokens i d h) (run-step (term_reader symbols may_name) want.Term (stack_of lists) now (sign_in (get_or tokens i d)) (signs_in (drop (i + 1) tokens)))
 
-  pub step_more : (new : List OpenList) (then : TermsValue) → step (term_reader symbols) want.Term (stack_of lists) now (sign_in (get_or tokens i d)) ≡ Ok (goes (stack_of new) then) → Reads symbols old tokens (i + 1) new then
+  pub step_more : (new : List OpenList) (then : State) → step (term_reader symbols may_name) want.Term (stack_of lists) now (sign_in (get_or tokens i d)) ≡ Ok (goes (stack_of new) then) → Reads symbols may_name old tokens (i + 1) new then
   step_more new then s = record { same = stepped ∙ rw s refl }
 
-  pub step_ends : (p : ReadPart) (then : TermsValue) → step (term_reader symbols) want.Term (stack_of lists) now (sign_in (get_or tokens i d)) ≡ Ok (ends (part_of p, then)) → run (term_reader symbols) want.Term [] old (signs_in tokens) ≡ Ok (part_of p, then)
+  pub step_ends : (p : ReadPart) (then : State) → step (term_reader symbols may_name) want.Term (stack_of lists) now (sign_in (get_or tokens i d)) ≡ Ok (ends (part_of p, then)) → run (term_reader symbols may_name) want.Term [] old (signs_in tokens) ≡ Ok (part_of p, then)
   step_ends p then s = stepped ∙ rw s refl
 
-  pub step_fails : (x : BuildError) (then : TermsValue) (st : List Open) → Steps (step (term_reader symbols) want.Term (stack_of lists) now (sign_in (get_or tokens i d))) (Err x) st then → Does (run (term_reader symbols) want.Term [] old (signs_in tokens)) (Err x) then
+  pub step_fails : (x : BuildError) (then : State) (st : List Open) → Steps (step (term_reader symbols may_name) want.Term (stack_of lists) now (sign_in (get_or tokens i d))) (Err x) st then → Does (run (term_reader symbols may_name) want.Term [] old (signs_in tokens)) (Err x) then
   step_fails NoMemory then st s = tt
   step_fails (Fault f) then st s = stepped ∙ rw s refl
 
-pub reads_out : (symbols : SymbolsValue) (old : TermsValue) (tokens : List Token) (i : ℕ) (lists : List OpenList) (now : TermsValue) → length tokens ≤ i → Reads symbols old tokens i lists now → run (term_reader symbols) want.Term [] old (signs_in tokens) ≡ Err NotSupported
+pub reads_out : (symbols : SymbolsValue) (may_name : Bool) (old : State) (tokens : List Token) (i : ℕ) (lists : List OpenList) (now : State) → length tokens ≤ i → Reads symbols may_name old tokens i lists now → run (term_reader symbols may_name) want.Term [] old (signs_in tokens) ≡ Err NotSupported
 unfolding run
-reads_out symbols old tokens i lists now h r = r.same ∙ rw (drop_all i tokens h) refl
+reads_out symbols may_name old tokens i lists now h r = r.same ∙ rw (drop_all i tokens h) refl
 
 -- ---- what the walk of a term gives, the meaning of the term gives
 
-from_term : (b : Built) (t : ℕ) (now : TermsValue) → as_part b ≡ Ok (term t, now) → b ≡ Ok (t, now)
-from_term (Ok r) t now k =
-    let p : ◌≡◌ {A = Part × TermsValue} (term r.0, r.1) (term t, now) = cc in
+from_term : (s : State) (b : Read) (t : ℕ) (now : State) → as_part s b ≡ Ok (term t, now) → b ≡ Ok (t, progress now)
+from_term s (Ok r) t now k =
+    let p : ◌≡◌ {A = Part × State} (term r.0, later s r.1) (term t, now) = cc in
     let a : ◌≡◌ {A = Part} (term r.0) (term t) = ap (λ q. q.0) p in
-    let b : r.1 ≡ now = ap (λ q. q.1) p in
+    let b : later s r.1 ≡ now = ap (λ q. q.1) p in
     let c : r.0 ≡ t = cc in
-    (λ i. Ok (c i, b i))
-from_term (Err f) t now k = cc
+    (λ i. Ok (c i, progress (b i)))
+from_term s (Err f) t now k = cc
 
-from_fault : (b : Built) (f : BuildFault) → as_part b ≡ Err f → b ≡ Err f
-from_fault (Ok r) f k = cc
-from_fault (Err g) f k = let p : g ≡ f = cc in ap Err p
+from_fault : (s : State) (b : Read) (f : BuildFault) → as_part s b ≡ Err f → b ≡ Err f
+from_fault s (Ok r) f k = cc
+from_fault s (Err g) f k = let p : g ≡ f = cc in ap Err p
 
-not_head : (b : Built) (q : ReadPart) (now : TermsValue) → as_part b ≡ Ok (part_of q, now) → ((t : ℕ) → q ≡ parts.Term t → ⊥) → ⊥
-not_head (Err f) q now k n = cc
-not_head (Ok r) (parts.Term t) now k n = n t refl
-not_head (Ok r) (parts.Head f) now k n = let p : ◌≡◌ {A = Part × TermsValue} (term r.0, r.1) (part_of (parts.Head f), now) = cc in let a : ◌≡◌ {A = Part} (term r.0) (part_of (parts.Head f)) = ap (λ q. q.0) p in cc
-not_head (Ok r) parts.Mark now k n = let p : ◌≡◌ {A = Part × TermsValue} (term r.0, r.1) (part_of parts.Mark, now) = cc in let a : ◌≡◌ {A = Part} (term r.0) (part_of parts.Mark) = ap (λ q. q.0) p in cc
-not_head (Ok r) (parts.Name f) now k n = let p : ◌≡◌ {A = Part × TermsValue} (term r.0, r.1) (part_of (parts.Name f), now) = cc in let a : ◌≡◌ {A = Part} (term r.0) (part_of (parts.Name f)) = ap (λ q. q.0) p in cc
-not_head (Ok r) (parts.Index i) now k n = let p : ◌≡◌ {A = Part × TermsValue} (term r.0, r.1) (part_of (parts.Index i), now) = cc in let a : ◌≡◌ {A = Part} (term r.0) (part_of (parts.Index i)) = ap (λ q. q.0) p in cc
+not_part : (s : State) (b : Read) (q : ReadPart) (now : State) → as_part s b ≡ Ok (part_of q, now) → ((t : ℕ) → q ≡ parts.Term t → ⊥) → ⊥
+not_part s (Err f) q now k n = cc
+not_part s (Ok r) q now k n = other q (ap (λ q. q.0) (let p : ◌≡◌ {A = Part × State} (term r.0, later s r.1) (part_of q, now) = cc in p)) n where
+  other : (q : ReadPart) → term r.0 ≡ part_of q → ((t : ℕ) → q ≡ parts.Term t → ⊥) → ⊥
+  other (parts.Term t) e n = n t refl
+  other (parts.Head f) e n = cc
+  other parts.Mark e n = cc
+  other (parts.Name f) e n = cc
+  other (parts.Index i) e n = cc
+  other parts.Let e n = cc
+  other (parts.Binding x t) e n = cc
+  other (parts.Bindings i) e n = cc
+  other parts.Bang e n = cc
+  other parts.Label e n = cc
+  other parts.Passed e n = cc
 
-module _ (symbols : SymbolsValue) (old : TermsValue) (tokens : List Token) (e : Sexp) (l : signs_in tokens ≡ spelling e) where
-  walked : (to : Result (Part × TermsValue) BuildFault) → run (term_reader symbols) want.Term [] old (signs_in tokens) ≡ to → as_part (term_of symbols old e) ≡ to
-  walked to k = sym (run-all (term_reader symbols) want.Term old e ∙ walk-term symbols old e) ∙ rw (← l) k
+module _ (symbols : SymbolsValue) (may_name : Bool) (old : TermsValue) (scope : Scope) (none : scope ≡ no_scope) (tokens : List Token) (e : Sexp) (l : signs_in tokens ≡ spelling e) where
+  abbrev start : State
+  start = state_of old no_scope
 
-  pub means_term : (t : ℕ) (now : TermsValue) → Does (run (term_reader symbols) want.Term [] old (signs_in tokens)) (Ok (parts.Term t)) now → term_of symbols old e ≡ Ok (t, now)
-  means_term t now g = from_term (term_of symbols old e) t now (walked _ g)
+  walked : (to : Result (Part × State) BuildFault) → run (term_reader symbols may_name) want.Term [] (state_of old scope) (signs_in tokens) ≡ to → as_part start (term_in symbols may_name [] (progress start) e) ≡ to
+  walked to k = sym (run-all (term_reader symbols may_name) want.Term start e ∙ walk-term symbols may_name [] [] (progress start) e) ∙ rw (← l) (subst (λ (s : Scope). run (term_reader symbols may_name) want.Term [] (state_of old s) (signs_in tokens) ≡ to) none k)
 
-  pub means_error : (x : BuildError) (now : TermsValue) → Does (run (term_reader symbols) want.Term [] old (signs_in tokens)) (Err x) now → Means (term_of symbols old e) (Err x) now
-  means_error NoMemory now g = tt
-  means_error (Fault f) now g = from_fault (term_of symbols old e) f (walked _ g)
+  pub means_term : (t : ℕ) (now : TermsValue) (then : Scope) → Does (run (term_reader symbols may_name) want.Term [] (state_of old scope) (signs_in tokens)) (Ok (parts.Term t)) (state_of now then) → term_in symbols may_name [] (progress start) e ≡ Ok (t, record { terms = now; names = then.names })
+  means_term t now then g = from_term start (term_in symbols may_name [] (progress start) e) t (state_of now then) (walked _ g)
 
-  pub means_other : (q : ReadPart) (now : TermsValue) → Does (run (term_reader symbols) want.Term [] old (signs_in tokens)) (Ok q) now → ((t : ℕ) → q ≡ parts.Term t → ⊥) → ⊥
-  means_other q now g n = not_head (term_of symbols old e) q now (walked _ g) n
+  pub means_error : (x : BuildError) (now : State) (terms : TermsValue) (names : Bound) → Does (run (term_reader symbols may_name) want.Term [] (state_of old scope) (signs_in tokens)) (Err x) now → ReadsTerm (term_in symbols may_name [] (progress start) e) (Err x) terms names
+  means_error NoMemory now terms names g = tt
+  means_error (Fault f) now terms names g = from_fault start (term_in symbols may_name [] (progress start) e) f (walked _ g)
 
-pub builds_error : (to : Built) (x : BuildError) (mid old new : TermsValue) → Means to (Err x) mid → new ≡ old → Builds to (Err x) old new
-builds_error to NoMemory mid old new m e = e
-builds_error to (Fault f) mid old new m e = (m, e)
+  pub means_other : (q : ReadPart) (now : State) → Does (run (term_reader symbols may_name) want.Term [] (state_of old scope) (signs_in tokens)) (Ok q) now → ((t : ℕ) → q ≡ parts.Term t → ⊥) → ⊥
+  means_other q now g n = not_part start (term_in symbols may_name [] (progress start) e) q now (walked _ g) n
+
+pub reads_ok : (to : Read) (t : ℕ) (new : TermsValue) (names : Bound) → ReadsTerm to (Ok t) new names → term_alone to ≡ Ok (t, new)
+reads_ok to t new names m = rw m refl
+
+pub builds_error : (to : Read) (x : BuildError) (mid old new : TermsValue) (names : Bound) → ReadsTerm to (Err x) mid names → new ≡ old → Builds (term_alone to) (Err x) old new
+builds_error to NoMemory mid old new names m e = e
+builds_error to (Fault f) mid old new names m e = (rw m refl, e)
+
+-- a name that is not given
+pub label_fails : (s u : State) (to : Result Progress BuildFault) (x : BuildError) (terms : TermsValue) (names : Bound) → Names to (Err x) terms names → Does (to >>= λ p. Ok (passed, later s p)) (Err x) u
+label_fails s u to NoMemory terms names h = tt
+label_fails s u to (Fault f) terms names h = rw h refl

@@ -1,5 +1,5 @@
 -- Uses of defined names.
-use Rattle.std.proofs.Common.{◌≡◌, ℕ, ◌+◌, ◌<◌, ◌≤◌, Bool, true, false, List, [], ◌∷◌, length, drop, get_or, suc, refl, ap, sym, ◌∙◌, arith, Option, Some, None}
+use Rattle.std.proofs.Common.{◌≡◌, ℕ, ◌+◌, ◌<◌, ◌≤◌, Bool, true, false, List, [], ◌∷◌, ◌++◌, length, take, drop, get_or, zero, suc, refl, ap, sym, ◌∙◌, arith, Option, Some, None}
 use Rattle.std.specs.Prelude.{◌&&◌, if◌then◌else◌}
 use Rattle.std.specs.Str.{bytes_eq}
 use Rattle.std.proofs.lemmas.List.{drop_more, drop_all}
@@ -50,3 +50,18 @@ either n false f o h k = k
 pub body_held : (n : ℕ) (ms : Meanings Definition) (x : List ℕ) → AreBodies n ms → IsBody n (meaning_in ms x)
 body_held n [] x h = tt
 body_held n (m ∷ ms) x h = either n (bytes_eq x m.0) m.1 (meaning_in ms x) h.0 (body_held n ms x h.1)
+
+-- ---- bodies
+
+pub bodies_longer : (m n : ℕ) (ds : Meanings Definition) → m ≤ n → AreBodies m ds → AreBodies n ds
+bodies_longer m n [] le h = tt
+bodies_longer m n (d ∷ ds) le h = (omega (arith, h.0, le), bodies_longer m n ds le h.1)
+
+pub bodies_push : (n : ℕ) (ds : Meanings Definition) (x : List ℕ) (f : Definition) → AreBodies n ds → f.body < n → AreBodies n (ds ++ (x, f) ∷ [])
+bodies_push n [] x f h k = (k, tt)
+bodies_push n (d ∷ ds) x f h k = (h.0, bodies_push n ds x f h.1 k)
+
+pub bodies_take : (n k : ℕ) (ds : Meanings Definition) → AreBodies n ds → AreBodies n (take k ds)
+bodies_take n zero ds h = tt
+bodies_take n (suc k) [] h = tt
+bodies_take n (suc k) (d ∷ ds) h = (h.0, bodies_take n k ds h.1)

@@ -8,6 +8,8 @@ pub mod Grouping
 pub mod Indices
 pub mod Definitions
 pub mod Applying
+pub mod Pairs
+pub mod Binding
 pub mod Terms
 pub mod Defining
 pub mod TermReader

@@ -2,12 +2,11 @@
 use Rattle.std.specs.Prelude.{◌≡◌, List, [], ◌∷◌, Option, Some, None, Result, Ok, Err}
 use Rattle.smt_syntax.specs.Sexps.{Sign, open_paren, close_paren, word}
 use Rattle.smt_syntax.specs.Walk.{Reader, ◌>>=◌, context_in}
-use Rattle.smt_terms.specs.Terms.{TermsValue}
 use Rattle.smt_build.specs.declared.fault.BuildFault.{BuildFault}
 use Rattle.smt_build.specs.declared.fault.BuildError.{BuildError}
 use Rattle.smt_build.specs.declared.fault.BuildError.TheVariants.{NoMemory, Fault}
 use Rattle.smt_build.specs.declared.reader.Part.{Part as ReadPart}
-use Rattle.smt_build.specs.TermReader.{Part, Open}
+use Rattle.smt_build.specs.TermReader.{Part, Open, State}
 use Rattle.smt_build.specs.Views.{part_of}
 
 -- the reading ends with a part, or goes on with these lists open, the innermost first
@@ -30,9 +29,9 @@ module _ {C F V S E : Type 0} (reader : Reader C F V S E) where
   step c (f ∷ fs) s close_paren = reader.closes f s >>= λ v. handed fs v
   step c st s (word k x) = reader.at_word (context_in reader c st) s k x >>= λ v. handed st v
 
--- The answer is the step, with the lists that are open and the terms then.
-abbrev pub Steps : Result (Step Open Part TermsValue) BuildFault → Result (Option ReadPart) BuildError → List Open → TermsValue → Type 0
-Steps to (Ok None) st terms = to ≡ Ok (goes st terms)
-Steps to (Ok (Some p)) st terms = to ≡ Ok (ends (part_of p, terms))
-Steps to (Err (Fault f)) st terms = to ≡ Err f
-Steps to (Err NoMemory) st terms = Unit {0}
+-- The answer is the step, with the lists that are open and the state then.
+abbrev pub Steps : Result (Step Open Part State) BuildFault → Result (Option ReadPart) BuildError → List Open → State → Type 0
+Steps to (Ok None) st s = to ≡ Ok (goes st s)
+Steps to (Ok (Some p)) st s = to ≡ Ok (ends (part_of p, s))
+Steps to (Err (Fault f)) st s = to ≡ Err f
+Steps to (Err NoMemory) st s = Unit {0}

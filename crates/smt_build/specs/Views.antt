@@ -1,7 +1,8 @@
 -- What the reader of terms holds, without where it lies in memory, and what its calls answer.
-use Rattle.std.specs.Prelude.{◌≡◌, List, map, reverse, Result, Ok, Err}
+use Rattle.std.specs.Prelude.{◌≡◌, ℕ, Bool, true, List, [], map, reverse, Result, Ok, Err}
 use Rattle.smt_terms.specs.Terms.{TermsValue}
 use Rattle.smt_build.specs.declared.fault.BuildFault.{BuildFault}
+use Rattle.smt_build.specs.declared.fault.BuildFault.TheVariants.{UnknownSymbol, WrongSort}
 use Rattle.smt_build.specs.declared.fault.BuildError.{BuildError}
 use Rattle.smt_build.specs.declared.fault.BuildError.TheVariants.{NoMemory, Fault}
 use Rattle.smt_build.specs.declared.reader.Open.{Open as OpenList}
@@ -14,8 +15,10 @@ use Rattle.smt_build.specs.declared.indices.Head.{Head as ReadHead}
 use Rattle.smt_build.specs.declared.indices.Head.TheVariants as heads
 use Rattle.smt_build.specs.declared.reader.Role.{Role as ReadRole}
 use Rattle.smt_build.specs.declared.reader.Role.TheVariants as roles
+use Rattle.smt_build.specs.declared.scope.Scope.{Scope}
 use Rattle.smt_build.specs.Indices.{Indices, one, two, many, Head, plain, indexed}
-use Rattle.smt_build.specs.TermReader.{Part, term, head, mark, name, index, Role, a_term, a_head, Open, started, head_started, marked, named, with_indices, application}
+use Rattle.smt_build.specs.Binding.{Bound, Progress, Read}
+use Rattle.smt_build.specs.TermReader.{Part, term, head, mark, name, index, let_word, binding, bindings, bang_word, label, passed, Role, a_term, a_head, Open, started, head_started, marked, named, with_indices, application, let_started, let_bound, let_done, in_bindings, binding_started, binding_named, binding_done, bang_started, annotated, labelled, unread, State}
 
 abbrev pub indices_of : ReadIndices → Indices
 indices_of (counts.One i) = one i.now
@@ -31,6 +34,12 @@ role_of roles.Term = a_term
 role_of roles.Head = a_head
 
 abbrev pub part_of : ReadPart → Part
+part_of parts.Let = let_word
+part_of (parts.Binding x t) = binding x.now t
+part_of (parts.Bindings n) = bindings n
+part_of parts.Bang = bang_word
+part_of parts.Label = label
+part_of parts.Passed = passed
 part_of (parts.Term t) = term t
 part_of (parts.Head f) = head (head_of f)
 part_of parts.Mark = mark
@@ -38,6 +47,17 @@ part_of (parts.Name f) = name f.now
 part_of (parts.Index i) = index i.now
 
 abbrev pub open_of : OpenList → Open
+open_of lists.LetStarted = let_started
+open_of (lists.LetBound n) = let_bound n
+open_of (lists.LetDone n t) = let_done n t
+open_of (lists.InBindings n) = in_bindings n
+open_of (lists.BindingStarted n) = binding_started n
+open_of (lists.BindingNamed x) = binding_named x.now
+open_of (lists.BindingDone x t) = binding_done x.now t
+open_of lists.BangStarted = bang_started
+open_of (lists.Annotated t) = annotated t
+open_of (lists.Labelled t) = labelled t
+open_of lists.Unread = unread
 open_of lists.Started = started
 open_of lists.HeadStarted = head_started
 open_of (lists.Marked r) = marked (role_of r)
@@ -49,19 +69,43 @@ open_of (lists.Application f args) = application (head_of f) args.items
 abbrev pub stack_of : List OpenList → List Open
 stack_of lists = reverse (map open_of lists)
 
+-- no variables, and no names
+abbrev pub no_scope : Scope
+no_scope = record { bound = []; coming = []; names = [] }
+
+abbrev pub state_of : TermsValue → Scope → State
+state_of terms scope = record { terms = terms; scope = scope }
+
 -- A list opens as it is to, over all terms.
-abbrev pub Opens : (TermsValue → Result (Open × TermsValue) BuildFault) → Result OpenList BuildFault → Type 0
-Opens to (Ok f) = (s : TermsValue) → to s ≡ Ok (open_of f, s)
-Opens to (Err e) = (s : TermsValue) → to s ≡ Err e
+abbrev pub Opens : (State → Result (Open × State) BuildFault) → Result OpenList BuildFault → Scope → Type 0
+Opens to (Ok f) scope = (s : TermsValue) → to (state_of s scope) ≡ Ok (open_of f, state_of s scope)
+Opens to (Err e) scope = (s : TermsValue) → to (state_of s scope) ≡ Err e
 
 -- A part is taken as it is to be, over all terms.
-abbrev pub Takes : (TermsValue → Result (Open × TermsValue) BuildFault) → Result OpenList BuildError → Type 0
-Takes to (Ok f) = (s : TermsValue) → to s ≡ Ok (open_of f, s)
-Takes to (Err (Fault e)) = (s : TermsValue) → to s ≡ Err e
-Takes to (Err NoMemory) = Unit {0}
+abbrev pub Takes : (State → Result (Open × State) BuildFault) → Result OpenList BuildError → Scope → Scope → Type 0
+Takes to (Ok f) old new = (s : TermsValue) → to (state_of s old) ≡ Ok (open_of f, state_of s new)
+Takes to (Err (Fault e)) old new = (s : TermsValue) → to (state_of s old) ≡ Err e
+Takes to (Err NoMemory) old new = Unit {0}
 
--- A part is read as it is to be, with the terms then.
-abbrev pub Does : Result (Part × TermsValue) BuildFault → Result ReadPart BuildError → TermsValue → Type 0
-Does to (Ok p) terms = to ≡ Ok (part_of p, terms)
-Does to (Err (Fault e)) terms = to ≡ Err e
-Does to (Err NoMemory) terms = Unit {0}
+-- A part is read as it is to be, with the state then.
+abbrev pub Does : Result (Part × State) BuildFault → Result ReadPart BuildError → State → Type 0
+Does to (Ok p) s = to ≡ Ok (part_of p, s)
+Does to (Err (Fault e)) s = to ≡ Err e
+Does to (Err NoMemory) s = Unit {0}
+
+-- The answer is what is read, with the terms then; no name is given.
+abbrev pub ReadsTerm : Read → Result ℕ BuildError → TermsValue → Bound → Type 0
+ReadsTerm to (Ok t) terms names = to ≡ Ok (t, record { terms = terms; names = names })
+ReadsTerm to (Err (Fault e)) terms names = to ≡ Err e
+ReadsTerm to (Err NoMemory) terms names = Unit {0}
+
+-- The answer is the name that was given.
+abbrev pub Names : Result Progress BuildFault → Result (Unit {0}) BuildError → TermsValue → Bound → Type 0
+Names to (Ok u) terms names = to ≡ Ok (record { terms = terms; names = names })
+Names to (Err (Fault e)) terms names = to ≡ Err e
+Names to (Err NoMemory) terms names = Unit {0}
+
+-- the fault of a name that is known here
+abbrev pub misused_error : Bool → BuildError → BuildError
+misused_error true (Fault UnknownSymbol) = Fault WrongSort
+misused_error _ e = e

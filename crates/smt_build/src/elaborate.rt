@@ -1,20 +1,21 @@
 // The term that the tokens of an S-expression mean, read from left to right.
 
-ghost use Rattle.std.specs.Prelude.{◌≡◌, [], OnErr};
+ghost use Rattle.std.specs.Prelude.{◌≡◌, false, [], OnErr};
 ghost use Rattle.smt_syntax.specs.Sexps.{sign_in, signs_in, signs_of, spelling, Sexp};
 ghost use Rattle.smt_syntax.specs.Spans.{Stands};
 ghost use Rattle.smt_syntax.specs.Walk.{run, context_in};
 ghost use Rattle.smt_terms.specs.Terms.{TermsValue};
 ghost use Rattle.smt_build.specs.Names.{AreDeclared, no_symbols};
-ghost use Rattle.smt_build.specs.Building.{Grows, Builds, Means};
-ghost use Rattle.smt_build.specs.Terms.{term_of};
-ghost use Rattle.smt_build.specs.TermReader.{term_reader};
+ghost use Rattle.smt_build.specs.Building.{Grows, Builds};
+ghost use Rattle.smt_build.specs.Terms.{term_in, term_of};
+ghost use Rattle.smt_build.specs.TermReader.{term_reader, progress};
 ghost use Rattle.smt_build.specs.Steps.{opened, handed, step, Steps};
-ghost use Rattle.smt_build.specs.Views.{stack_of, part_of, Does};
+ghost use Rattle.smt_build.specs.Views.{no_scope, stack_of, part_of, state_of, Does, ReadsTerm};
 
 use crate::declare::tokens_at;
 use crate::fault::{BuildError, BuildFault};
 use crate::reader::{Open, Part, Want, at_word, closes, context, opens, takes};
+use crate::scope::{Scope, Variables};
 use crate::symbols::Symbols;
 use smt_syntax::span::Span;
 use smt_terms::node::TermId;
@@ -24,7 +25,7 @@ use std::alloc::Global;
 
 /// What is wanted next, under these open lists.
 fn wanted(stack: &[Open<'_>]) -> Want
-    ensures { result ≡ context_in (term_reader no_symbols) Want.Term (stack_of stack.now) }
+    ensures { result ≡ context_in (term_reader no_symbols false) Want.Term (stack_of stack.now) }
 {
     match stack.last() {
         None => Want::Term,
@@ -33,10 +34,13 @@ fn wanted(stack: &[Open<'_>]) -> Want
 }
 
 /// A list opens. `Some` is the part that ends the reading.
-fn open_list<'a>(stack: &mut Vec<Open<'a>>) -> Result<Option<Part<'a>>, BuildError>
-    ensures { (s : TermsValue) → Steps (opened (term_reader no_symbols) Want.Term (stack_of stack.old.items) s) result (stack_of stack.new.items) s }
+fn open_list<'a>(
+    scope: &Scope<'a>,
+    stack: &mut Vec<Open<'a>>,
+) -> Result<Option<Part<'a>>, BuildError>
+    ensures { (s : TermsValue) → Steps (opened (term_reader no_symbols false) Want.Term (stack_of stack.old.items) (state_of s scope.now)) result (stack_of stack.new.items) (state_of s scope.now) }
 {
-    match opens(wanted(stack)) {
+    match opens(wanted(stack), scope) {
         Err(fault) => Err(BuildError::Fault(fault)),
         Ok(list) => {
             stack.push(list)?;
@@ -48,15 +52,16 @@ fn open_list<'a>(stack: &mut Vec<Open<'a>>) -> Result<Option<Part<'a>>, BuildErr
 /// Hands a part to its list.
 fn hand<'a>(
     alloc: Global,
+    scope: &mut Scope<'a>,
     stack: &mut Vec<Open<'a>>,
     part: Part<'a>,
 ) -> Result<Option<Part<'a>>, BuildError>
-    ensures { (s : TermsValue) → Steps (handed (term_reader no_symbols) (stack_of stack.old.items) (part_of part.entry, s)) result (stack_of stack.new.items) s }
+    ensures { (s : TermsValue) → Steps (handed (term_reader no_symbols false) (stack_of stack.old.items) (part_of part.entry, state_of s scope.old)) result (stack_of stack.new.items) (state_of s scope.new) }
 {
     let Some(list) = stack.pop() else {
         return Ok(Some(part));
     };
-    let list = takes(alloc, list, part)?;
+    let list = takes(alloc, scope, list, part)?;
     stack.push(list)?;
     Ok(None)
 }
@@ -67,25 +72,36 @@ fn step<'a>(
     alloc: Global,
     symbols: &Symbols,
     terms: &mut Terms,
+    scope: &mut Scope<'a>,
+    may_name: bool,
     stack: &mut Vec<Open<'a>>,
     token: &Token<'a>,
 ) -> Result<Option<Part<'a>>, BuildError>
     requires { AreDeclared symbols.now.signatures terms.old.nodes }
-    ensures steps { Steps (step (term_reader symbols.now) Want.Term (stack_of stack.old.items) terms.old (sign_in token.now)) result (stack_of stack.new.items) terms.new }
+    ensures steps { Steps (step (term_reader symbols.now may_name) Want.Term (stack_of stack.old.items) (state_of terms.old scope.old) (sign_in token.now)) result (stack_of stack.new.items) (state_of terms.new scope.new) }
     ensures grows { Grows symbols.now.signatures terms.old terms.new }
 {
     match token.kind {
-        TokenKind::Open => open_list(stack),
+        TokenKind::Open => open_list(scope, stack),
         TokenKind::Close => match stack.pop() {
             None => Err(BuildError::Fault(BuildFault::NotSupported)),
             Some(list) => {
-                let part = closes(alloc, symbols, terms, list)?;
-                hand(alloc, stack, part)
+                let part = closes(alloc, symbols, terms, scope, list)?;
+                hand(alloc, scope, stack, part)
             }
         },
         kind => {
-            let part = at_word(alloc, symbols, terms, wanted(stack), kind, token.text)?;
-            hand(alloc, stack, part)
+            let part = at_word(
+                alloc,
+                symbols,
+                terms,
+                scope,
+                may_name,
+                wanted(stack),
+                kind,
+                token.text,
+            )?;
+            hand(alloc, scope, stack, part)
         }
     }
 }
@@ -95,15 +111,17 @@ fn read_part<'a>(
     alloc: Global,
     symbols: &Symbols,
     terms: &mut Terms,
+    scope: &mut Scope<'a>,
+    may_name: bool,
     tokens: &[Token<'a>],
 ) -> Result<Part<'a>, BuildError>
     requires { AreDeclared symbols.now.signatures terms.old.nodes }
-    ensures does { Does (run (term_reader symbols.now) Want.Term [] terms.old (signs_in tokens.now)) result terms.new }
+    ensures does { Does (run (term_reader symbols.now may_name) Want.Term [] (state_of terms.old scope.old) (signs_in tokens.now)) result (state_of terms.new scope.new) }
     ensures grows { Grows symbols.now.signatures terms.old terms.new }
 {
     let mut stack: Vec<Open<'a>> = Vec::new(alloc);
     for token in tokens {
-        match step(alloc, symbols, terms, &mut stack, token)? {
+        match step(alloc, symbols, terms, scope, may_name, &mut stack, token)? {
             Some(part) => return Ok(part),
             None => {}
         }
@@ -111,18 +129,32 @@ fn read_part<'a>(
     Err(BuildError::Fault(BuildFault::NotSupported))
 }
 
-/// Reads a term, in the same way.
-fn read_term(
+/// No variables, and no names.
+fn no_scope<'a>(alloc: Global) -> Scope<'a>
+    ensures { result ≡ no_scope }
+{
+    Scope {
+        bound: Variables::new(alloc),
+        coming: Variables::new(alloc),
+        names: Variables::new(alloc),
+    }
+}
+
+/// Reads a term, in the same way; names that terms are given are put into the scope.
+fn read_term<'a>(
     alloc: Global,
     symbols: &Symbols,
     terms: &mut Terms,
-    tokens: &[Token<'_>],
+    scope: &mut Scope<'a>,
+    may_name: bool,
+    tokens: &[Token<'a>],
 ) -> Result<TermId, BuildError>
-    requires { AreDeclared symbols.now.signatures terms.old.nodes }
-    ensures means { (e : Sexp) → signs_in tokens.now ≡ spelling e → Means (term_of symbols.now terms.old e) result terms.new }
+    requires declared { AreDeclared symbols.now.signatures terms.old.nodes }
+    requires scope { scope.old ≡ no_scope }
+    ensures reads { (e : Sexp) → signs_in tokens.now ≡ spelling e → ReadsTerm (term_in symbols.now may_name [] (progress (state_of terms.old no_scope)) e) result terms.new scope.new.names }
     ensures grows { Grows symbols.now.signatures terms.old terms.new }
 {
-    let Part::Term(term) = read_part(alloc, symbols, terms, tokens)? else {
+    let Part::Term(term) = read_part(alloc, symbols, terms, scope, may_name, tokens)? else {
         return Err(BuildError::Fault(BuildFault::NotSupported));
     };
     Ok(term)
@@ -145,7 +177,8 @@ impl Symbols {
     {
         let len = terms.len();
         let items = tokens_at(tokens.as_slice(), span);
-        match read_term(alloc, self, terms, items) {
+        let mut scope = no_scope(alloc);
+        match read_term(alloc, self, terms, &mut scope, false, items) {
             Ok(term) => Ok(term),
             Err(error) => {
                 terms.cut(len);

@@ -7,10 +7,11 @@
 //! right with a stack of open lists, and is proved to give the same. Constants of Bool and of word sorts are declared, and
 //! functions without parameters and names of sorts are defined. All operators of Core, of FixedSizeBitVectors and of the
 //! logic QF_BV are read, those on two or more arguments grouped, chained or held pairwise as the standard says, and so are
-//! literals, `(_ bvX n)` and names with indices; other forms of the standard are told as not supported. The crate stands
-//! on `smt_syntax`, `smt_terms` and `indexmap`.
+//! literals, `(_ bvX n)`, names with indices, `let`, and terms with attributes; other forms of the standard are told as not
+//! supported. The crate stands on `smt_syntax`, `smt_terms` and `indexmap`.
 #![tactic(auto)]
 
+pub mod binding;
 pub mod build;
 pub mod declare;
 pub mod define;
@@ -23,6 +24,7 @@ pub mod literal;
 mod making;
 pub mod operators;
 pub mod reader;
+pub mod scope;
 pub mod sorts;
 pub mod symbols;
 #[cfg(test)]

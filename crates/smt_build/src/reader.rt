@@ -3,13 +3,17 @@
 ghost use Rattle.std.specs.Prelude.{◌≡◌, List};
 ghost use Rattle.smt_terms.specs.declared.sort.Signature.{Signature as SignatureValue};
 ghost use Rattle.smt_build.specs.Names.{AreDeclared, SymbolsValue};
+ghost use Rattle.smt_build.specs.Binding.{new_variable, naming, is_label, word_in, application_in, indexed_in_scope};
 ghost use Rattle.smt_build.specs.Building.{Grows};
-ghost use Rattle.smt_build.specs.TermReader.{opens, context, takes, closes, at_word};
-ghost use Rattle.smt_build.specs.Views.{open_of, part_of, Opens, Does, Takes};
+ghost use Rattle.smt_build.specs.TermReader.{opens, context, takes, closes, at_word, progress};
+ghost use Rattle.smt_build.specs.Views.{open_of, part_of, state_of, Opens, Does, Takes};
 
-use crate::build::{application, indexed_term, word_term};
+use crate::binding::{
+    application_in, attribute, indexed_in_scope, name_term, new_variable, word_in,
+};
 use crate::fault::{BuildError, BuildFault};
 use crate::indices::{Head, Indices, with_index};
+use crate::scope::Scope;
 use crate::symbols::Symbols;
 use smt_terms::node::TermId;
 use smt_terms::terms::Terms;
@@ -29,6 +33,20 @@ pub enum Want {
     Name,
     /// An index.
     Index,
+    /// The bindings of a `let`.
+    Bindings,
+    /// A binding, in a list of bindings that begins at this place.
+    Binding(usize),
+    /// The variable of a binding in such a list.
+    Variable(usize),
+    /// A part of the attributes of a term.
+    Attribute,
+    /// The name that a term is given.
+    Label(TermId),
+    /// Anything, which is passed over.
+    Anything,
+    /// The end of the list.
+    Nothing,
 }
 
 /// Whether a name with indices stands as a term, or as the head of a list.
@@ -46,6 +64,18 @@ pub enum Part<'a> {
     Mark,
     Name(&'a [u8]),
     Index(&'a [u8]),
+    /// `let`
+    Let,
+    /// A variable with its term.
+    Binding(&'a [u8], TermId),
+    /// All variables of a `let`; so many were bound before.
+    Bindings(usize),
+    /// `!`
+    Bang,
+    /// `:named`
+    Label,
+    /// What was passed over.
+    Passed,
 }
 
 /// An open list, with what was read of it.
@@ -57,17 +87,34 @@ pub enum Open<'a> {
     Named(Role, &'a [u8]),
     WithIndices(Role, &'a [u8], Indices<'a>),
     Application(Head<'a>, Vec<TermId>),
+    LetStarted,
+    /// The variables of a `let` are bound; so many were bound before.
+    LetBound(usize),
+    LetDone(usize, TermId),
+    /// Bindings, from this place on.
+    InBindings(usize),
+    BindingStarted(usize),
+    BindingNamed(&'a [u8]),
+    BindingDone(&'a [u8], TermId),
+    BangStarted,
+    Annotated(TermId),
+    /// The name of the term is to come.
+    Labelled(TermId),
+    Unread,
 }
 
 /// A list opens.
 #[tactic(auto, unfolding(crate::specs::TermReader::opens))]
-pub fn opens<'a>(want: Want) -> Result<Open<'a>, BuildFault>
-    ensures { Opens (opens want) result }
+pub fn opens<'a>(want: Want, scope: &Scope<'a>) -> Result<Open<'a>, BuildFault>
+    ensures { Opens (opens want) result scope.now }
 {
     match want {
         Want::Term => Ok(Open::Started),
         Want::Head => Ok(Open::HeadStarted),
-        Want::Mark | Want::Name | Want::Index => Err(BuildFault::NotSupported),
+        Want::Bindings => Ok(Open::InBindings(scope.coming.len())),
+        Want::Binding(place) => Ok(Open::BindingStarted(place)),
+        Want::Attribute | Want::Anything => Ok(Open::Unread),
+        _ => Err(BuildFault::NotSupported),
     }
 }
 
@@ -82,17 +129,32 @@ pub fn context(list: &Open<'_>) -> Want
         Open::Marked(_) => Want::Name,
         Open::Named(..) | Open::WithIndices(..) => Want::Index,
         Open::Application(..) => Want::Term,
+        Open::LetStarted => Want::Bindings,
+        Open::LetBound(_) | Open::BindingNamed(_) | Open::BangStarted => Want::Term,
+        Open::LetDone(..) | Open::BindingDone(..) => Want::Nothing,
+        Open::InBindings(place) => Want::Binding(*place),
+        Open::BindingStarted(place) => Want::Variable(*place),
+        Open::Annotated(_) => Want::Attribute,
+        Open::Labelled(term) => Want::Label(*term),
+        Open::Unread => Want::Anything,
     }
 }
 
 /// A part is handed to the list that it stands in.
 #[tactic(auto, unfolding(crate::specs::TermReader::takes))]
-pub fn takes<'a>(alloc: Global, list: Open<'a>, part: Part<'a>) -> Result<Open<'a>, BuildError>
-    ensures { Takes (takes (open_of list.entry) (part_of part.entry)) result }
+pub fn takes<'a>(
+    alloc: Global,
+    scope: &mut Scope<'a>,
+    list: Open<'a>,
+    part: Part<'a>,
+) -> Result<Open<'a>, BuildError>
+    ensures { Takes (takes (open_of list.entry) (part_of part.entry)) result scope.old scope.new }
 {
     match (list, part) {
         (Open::Started, Part::Head(head)) => Ok(Open::Application(head, Vec::new(alloc))),
         (Open::Started, Part::Mark) => Ok(Open::Marked(Role::Term)),
+        (Open::Started, Part::Let) => Ok(Open::LetStarted),
+        (Open::Started, Part::Bang) => Ok(Open::BangStarted),
         (Open::HeadStarted, Part::Mark) => Ok(Open::Marked(Role::Head)),
         (Open::Marked(role), Part::Name(name)) => Ok(Open::Named(role, name)),
         (Open::Named(role, name), Part::Index(index)) => {
@@ -105,6 +167,18 @@ pub fn takes<'a>(alloc: Global, list: Open<'a>, part: Part<'a>) -> Result<Open<'
             args.push(term)?;
             Ok(Open::Application(head, args))
         }
+        (Open::LetStarted, Part::Bindings(bound)) => Ok(Open::LetBound(bound)),
+        (Open::LetBound(bound), Part::Term(term)) => Ok(Open::LetDone(bound, term)),
+        (Open::InBindings(place), Part::Binding(name, term)) => {
+            scope.coming.push(name, term)?;
+            Ok(Open::InBindings(place))
+        }
+        (Open::BindingStarted(_), Part::Name(name)) => Ok(Open::BindingNamed(name)),
+        (Open::BindingNamed(name), Part::Term(term)) => Ok(Open::BindingDone(name, term)),
+        (Open::BangStarted, Part::Term(term)) => Ok(Open::Annotated(term)),
+        (Open::Annotated(term), Part::Label) => Ok(Open::Labelled(term)),
+        (Open::Annotated(term) | Open::Labelled(term), Part::Passed) => Ok(Open::Annotated(term)),
+        (Open::Unread, Part::Passed) => Ok(Open::Unread),
         _ => Err(BuildError::Fault(BuildFault::NotSupported)),
     }
 }
@@ -115,50 +189,77 @@ pub fn closes<'a>(
     alloc: Global,
     symbols: &Symbols,
     terms: &mut Terms,
+    scope: &mut Scope<'a>,
     list: Open<'a>,
 ) -> Result<Part<'a>, BuildError>
-    ensures does { Does (closes symbols.now (open_of list.entry) terms.old) result terms.new }
+    ensures does { Does (closes symbols.now (open_of list.entry) (state_of terms.old scope.old)) result (state_of terms.new scope.new) }
     ensures grows { (signatures : List SignatureValue) → Grows signatures terms.old terms.new }
 {
     match list {
         Open::Application(head, args) => {
-            let term = application(alloc, symbols, terms, head, args)?;
+            let term = application_in(alloc, symbols, terms, scope, head, args)?;
             Ok(Part::Term(term))
         }
         Open::WithIndices(Role::Term, name, indices) => {
-            let term = indexed_term(alloc, symbols, terms, name, indices)?;
+            let term = indexed_in_scope(alloc, symbols, terms, scope, name, indices)?;
             Ok(Part::Term(term))
         }
         Open::WithIndices(Role::Head, name, indices) => {
             Ok(Part::Head(Head::Indexed(name, indices)))
         }
+        Open::LetDone(bound, term) => {
+            scope.bound.truncate(bound);
+            Ok(Part::Term(term))
+        }
+        Open::InBindings(place) => {
+            let bound = scope.bound.len();
+            scope.bound.take_from(&mut scope.coming, place)?;
+            Ok(Part::Bindings(bound))
+        }
+        Open::BindingDone(name, term) => Ok(Part::Binding(name, term)),
+        Open::Annotated(term) => Ok(Part::Term(term)),
+        Open::Unread => Ok(Part::Passed),
         _ => Err(BuildError::Fault(BuildFault::NotSupported)),
     }
 }
 
-/// What a word gives.
+/// What a word gives; `may_name` says whether terms may be given names.
 #[tactic(auto, unfolding(crate::specs::TermReader::at_word))]
 pub fn at_word<'a>(
     alloc: Global,
     symbols: &Symbols,
     terms: &mut Terms,
+    scope: &mut Scope<'a>,
+    may_name: bool,
     want: Want,
     kind: TokenKind,
     text: &'a [u8],
 ) -> Result<Part<'a>, BuildError>
     requires { AreDeclared symbols.now.signatures terms.old.nodes }
-    ensures does { Does (at_word symbols.now want terms.old kind text.now) result terms.new }
+    ensures does { Does (at_word symbols.now may_name want (state_of terms.old scope.old) kind text.now) result (state_of terms.new scope.new) }
     ensures grows { Grows symbols.now.signatures terms.old terms.new }
 {
     match (want, kind) {
         (Want::Term, _) => {
-            let term = word_term(alloc, symbols, terms, kind, text)?;
+            let term = word_in(alloc, symbols, terms, scope, kind, text)?;
             Ok(Part::Term(term))
         }
         (Want::Head, TokenKind::Symbol) => Ok(Part::Head(Head::Plain(text))),
         (Want::Head | Want::Mark, TokenKind::Underscore) => Ok(Part::Mark),
+        (Want::Head, TokenKind::Let) => Ok(Part::Let),
+        (Want::Head, TokenKind::Bang) => Ok(Part::Bang),
         (Want::Name, TokenKind::Symbol) => Ok(Part::Name(text)),
         (Want::Index, TokenKind::Numeral) => Ok(Part::Index(text)),
+        (Want::Variable(place), _) => match new_variable(scope, place, text) {
+            Ok(name) => Ok(Part::Name(name)),
+            Err(fault) => Err(BuildError::Fault(fault)),
+        },
+        (Want::Attribute, _) => Ok(attribute(kind, text)),
+        (Want::Label(term), _) => {
+            name_term(symbols, scope, may_name, term, text)?;
+            Ok(Part::Passed)
+        }
+        (Want::Anything, _) => Ok(Part::Passed),
         _ => Err(BuildError::Fault(BuildFault::NotSupported)),
     }
 }

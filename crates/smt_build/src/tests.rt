@@ -84,7 +84,34 @@ fn given(
 }
 
 /// Terms, each with its number and with how many terms are then held.
-const MADE: [(&[u8], u32, u32); 20] = [
+const MADE: [(&[u8], u32, u32); 31] = [
+    (b"(assert (let ((a p)) |a|))", 0, 1),
+    (
+        b"(assert (let ((a (not p))) (let ((b (not a))) (and a b))))",
+        3,
+        4,
+    ),
+    (b"(assert (let ((p q) (q p)) (and p (not q))))", 3, 4),
+    (b"(assert (let ((p q)) (or (let ((p (not p))) p) p)))", 2, 3),
+    (b"(assert (and (let ((p q)) p) p))", 2, 3),
+    (
+        b"(assert (let ((a (let ((b p)) (not b)))) (let ((b a)) (not b))))",
+        2,
+        3,
+    ),
+    (
+        b"(assert (let ((a p) (b (let ((a q) (c p)) (and a c))) (c q)) (and a b c)))",
+        4,
+        5,
+    ),
+    (b"(assert (let ((bv5 x)) (= bv5 (_ bv5 8))))", 2, 3),
+    (b"(assert (! p :weight 5))", 0, 1),
+    (
+        b"(assert (! (not p) :pattern (x (y :named z)) :named_so a :flag))",
+        1,
+        2,
+    ),
+    (b"(assert (let ((a (! p :flag))) (! (not a) :flag)))", 1, 2),
     (b"(assert true)", 0, 1),
     (b"(assert (not false))", 1, 2),
     (b"(assert (and p q p))", 3, 4),
@@ -120,7 +147,31 @@ const MADE: [(&[u8], u32, u32); 20] = [
 ];
 
 /// Commands that are refused, each with its first fault.
-const REFUSED: [(&[u8], BuildFault); 52] = [
+const REFUSED: [(&[u8], BuildFault); 67] = [
+    (b"(assert (let ((a p) (|a| w)) a))", BuildFault::Declared),
+    (b"(assert (let ((a w) (a p)) a))", BuildFault::UnknownSymbol),
+    (b"(assert (let ((and w)) p))", BuildFault::Reserved),
+    (b"(assert (let ((let w)) p))", BuildFault::Reserved),
+    (b"(assert (let ((|forall| w)) p))", BuildFault::Reserved),
+    (
+        b"(assert (let ((a w) (and p)) a))",
+        BuildFault::UnknownSymbol,
+    ),
+    (b"(assert (let ((a p) (b a)) b))", BuildFault::UnknownSymbol),
+    (
+        b"(assert (and (let ((a p)) a) a))",
+        BuildFault::UnknownSymbol,
+    ),
+    (b"(assert (let ((a p)) (a w)))", BuildFault::UnknownSymbol),
+    (b"(assert (let ((a p)) (a q)))", BuildFault::WrongSort),
+    (b"(assert (let ((a p)) (_ a 1)))", BuildFault::WrongSort),
+    (b"(assert (let ((a p)) ((_ a 1) q)))", BuildFault::WrongSort),
+    (b"(assert (let ((a x)) (and a p)))", BuildFault::WrongSort),
+    (
+        b"(assert (let ((a (exists ((b Bool)) b))) a))",
+        BuildFault::NotSupported,
+    ),
+    (b"(assert (! (and p w) :flag))", BuildFault::UnknownSymbol),
     (b"(declare-const bvadd Int)", BuildFault::Reserved),
     (b"(declare-const |let| Int)", BuildFault::Reserved),
     (b"(declare-const |x| Int)", BuildFault::Declared),
@@ -160,7 +211,7 @@ const REFUSED: [(&[u8], BuildFault); 52] = [
         BuildFault::LiteralTooWide,
     ),
     (b"(assert (= 5 z))", BuildFault::NotSupported),
-    (b"(assert (let ((z w)) z))", BuildFault::NotSupported),
+    (b"(assert (let ((z w)) z))", BuildFault::UnknownSymbol),
     (b"(assert (= x (_ bv256 8)))", BuildFault::LiteralTooWide),
     (b"(assert (= x (_ bv256 0)))", BuildFault::Width),
     (b"(assert (= x (_ bv5 129)))", BuildFault::Width),

@@ -16,7 +16,7 @@ use Rattle.smt_syntax.specs.Sexps.{Sign, open_paren, close_paren, word, Sexp, Se
 use Rattle.smt_syntax.specs.Depth.{depth, most_open, most_depth}
 use Rattle.smt_syntax.specs.Spans.{span, tokens_at, IsWithin, AllStand}
 use Rattle.smt_syntax.specs.Names.{first_name}
-use Rattle.smt_syntax.specs.Commands.{is_left_out, forms_of, fits_some, is_formed, named, formed, command_in, read, has_arity, name_of, spans_of, Reads}
+use Rattle.smt_syntax.specs.Commands.{is_not_supported, is_left_out, forms_of, fits_some, is_formed, named, formed, command_in, read, has_arity, name_of, spans_of, Reads}
 use Rattle.smt_syntax.proofs.Depths.{most_open-all}
 use Rattle.smt_syntax.proofs.Fittings.{rows-length}
 
@@ -143,11 +143,12 @@ module _ (tokens : List Token) (name : CommandName) (ss found : List Span) (deep
   malformed h = reads ∙ formed_not name known.arguments f formed_is h
 
   -- the command that is built has the name and the spans
-  pub shown : f ≡ true → (c : Command) → (name_of c ≡ name) × (is_left_out name ≡ false → spans_of c ≡ ss) → (es : Sexps) × (read e ≡ Ok (name_of c, es)) × (is_left_out (name_of c) ≡ false → AllStand (signs_in tokens) (spans_of c) es)
+  pub shown : f ≡ true → (c : Command) → (name_of c ≡ name) × (is_left_out name ≡ false → spans_of c ≡ ss) × (is_not_supported c ≡ is_left_out name) → (es : Sexps) × (read e ≡ Ok (name_of c, es)) × (is_left_out (name_of c) ≡ false → AllStand (signs_in tokens) (spans_of c) es) × (is_not_supported c ≡ is_left_out (name_of c))
   shown h c b = (
     known.arguments,
     reads ∙ formed_well name known.arguments f formed_is h ∙ named_so name (name_of c) known.arguments b.0,
     λ l. subst (λ (x : List Span). AllStand (signs_in tokens) x known.arguments) (sym (b.1 (sym (ap is_left_out b.0) ∙ l))) stand,
+    b.2 ∙ sym (ap is_left_out b.0),
   )
 
   -- a command that is well formed is built

@@ -134,9 +134,13 @@ spans_of (command.SetLogic logic) = logic ∷ []
 spans_of (command.SetOption keyword value) = keyword ∷ option_to_list value
 spans_of _ = []
 
--- The answer is the command, its arguments at their spans, or the fault.
+abbrev pub is_not_supported : Command → Bool
+is_not_supported (command.NotSupported n) = true
+is_not_supported _ = false
+
+-- The answer is the command, its arguments at their spans, or the fault. It is one that is not supported exactly for those left out.
 abbrev pub Reads : List Sign → Result (CommandName × Sexps) SyntaxFault → Result Command SyntaxError → Type 0
-Reads tokens to (Ok c) = (es : Sexps) × (to ≡ Ok (name_of c, es)) × (is_left_out (name_of c) ≡ false → AllStand tokens (spans_of c) es)
+Reads tokens to (Ok c) = (es : Sexps) × (to ≡ Ok (name_of c, es)) × (is_left_out (name_of c) ≡ false → AllStand tokens (spans_of c) es) × (is_not_supported c ≡ is_left_out (name_of c))
 Reads tokens to (Err (Fault f)) = to ≡ Err f
 Reads tokens to (Err NoMemory) = Unit {0}
 

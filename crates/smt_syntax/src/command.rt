@@ -6,7 +6,7 @@ ghost use Rattle.smt_text.specs.declared.token.TokenKind.{TokenKind as TokenKind
 ghost use Rattle.smt_syntax.specs.Sexps.{signs_in, signs_of, Sexp, Sexps, atom, group, more, spelling};
 ghost use Rattle.smt_syntax.specs.Spans.{Stands, AllStand};
 ghost use Rattle.smt_syntax.specs.Forms.{fits};
-ghost use Rattle.smt_syntax.specs.Commands.{is_left_out, forms_of, fits_all, fits_some, is_formed, has_arity, name_of, spans_of, read, Reads};
+ghost use Rattle.smt_syntax.specs.Commands.{is_left_out, forms_of, fits_all, fits_some, is_formed, has_arity, name_of, spans_of, is_not_supported, read, Reads};
 ghost use Rattle.smt_syntax.specs.Names.{first_name};
 
 use crate::depth::is_too_deep;
@@ -230,7 +230,7 @@ fn is_formed(
 }
 
 fn build_none(name: CommandName) -> Option<Command>
-    ensures shown { IfSome result (λ c. (name_of c ≡ name) × (spans_of c ≡ [])) }
+    ensures shown { IfSome result (λ c. (name_of c ≡ name) × (spans_of c ≡ []) × (is_not_supported c ≡ false)) }
     ensures none { IfNone result (has_arity name [] ≡ false) }
 {
     match name {
@@ -251,7 +251,7 @@ fn build_none(name: CommandName) -> Option<Command>
 }
 
 fn build_one(name: CommandName, a: Span) -> Option<Command>
-    ensures shown { IfSome result (λ c. (name_of c ≡ name) × (spans_of c ≡ a ∷ [])) }
+    ensures shown { IfSome result (λ c. (name_of c ≡ name) × (spans_of c ≡ a ∷ []) × (is_not_supported c ≡ false)) }
     ensures none { IfNone result (has_arity name (a ∷ []) ≡ false) }
 {
     match name {
@@ -277,7 +277,7 @@ fn build_one(name: CommandName, a: Span) -> Option<Command>
 }
 
 fn build_two(name: CommandName, a: Span, b: Span) -> Option<Command>
-    ensures shown { IfSome result (λ c. (name_of c ≡ name) × (spans_of c ≡ a ∷ b ∷ [])) }
+    ensures shown { IfSome result (λ c. (name_of c ≡ name) × (spans_of c ≡ a ∷ b ∷ []) × (is_not_supported c ≡ false)) }
     ensures none { IfNone result (has_arity name (a ∷ b ∷ []) ≡ false) }
 {
     match name {
@@ -295,7 +295,7 @@ fn build_two(name: CommandName, a: Span, b: Span) -> Option<Command>
 }
 
 fn build_more(name: CommandName, spans: &[Span]) -> Option<Command>
-    ensures shown { IfSome result (λ c. (name_of c ≡ name) × (spans_of c ≡ spans.now)) }
+    ensures shown { IfSome result (λ c. (name_of c ≡ name) × (spans_of c ≡ spans.now) × (is_not_supported c ≡ false)) }
     ensures none { 2 < length spans.now → IfNone result (has_arity name spans.now ≡ false) }
 {
     match (name, spans) {
@@ -321,7 +321,7 @@ fn build_more(name: CommandName, spans: &[Span]) -> Option<Command>
 
 /// The command of this name with its arguments at these spans; `None` where it never has so many.
 fn build(name: CommandName, spans: &[Span]) -> Option<Command>
-    ensures shown { IfSome result (λ c. (name_of c ≡ name) × (is_left_out name ≡ false → spans_of c ≡ spans.now)) }
+    ensures shown { IfSome result (λ c. (name_of c ≡ name) × (is_left_out name ≡ false → spans_of c ≡ spans.now) × (is_not_supported c ≡ is_left_out name)) }
     ensures none { IfNone result ((is_left_out name ≡ false) × (has_arity name spans.now ≡ false)) }
 {
     if is_left_out(name) {

@@ -1,0 +1,171 @@
+// Words and applications under bound variables, and names that terms are given.
+
+ghost use Rattle.std.specs.Prelude.{◌≡◌, drop, List, Ok, Err, IfOk, IfErr, OnOk, if◌then◌else◌};
+ghost use Rattle.smt_terms.specs.declared.sort.Signature.{Signature as SignatureValue};
+ghost use Rattle.smt_build.specs.Names.{AreDeclared};
+ghost use Rattle.smt_build.specs.Building.{Grows};
+ghost use Rattle.smt_terms.specs.Terms.{TermsValue};
+ghost use Rattle.smt_build.specs.Binding.{new_variable, local_at, word_in, application_in, indexed_in_scope, naming, is_label};
+ghost use Rattle.smt_build.specs.Indices.{indexed};
+ghost use Rattle.smt_build.specs.TermReader.{label, passed, progress};
+ghost use Rattle.smt_build.specs.Views.{head_of, indices_of, part_of, state_of, misused_error, ReadsTerm, Names};
+
+use crate::build::{application, indexed_term, word_term};
+use crate::fault::{BuildError, BuildFault};
+use crate::indices::{Head, Indices};
+use crate::operators::is_reserved;
+use crate::reader::Part;
+use crate::scope::Scope;
+use crate::symbols::Symbols;
+use smt_terms::node::TermId;
+use smt_terms::terms::Terms;
+use smt_text::token::TokenKind;
+use std::alloc::Global;
+
+/// The fault of the name of a variable that is bound beside those from a place on.
+#[tactic(auto, unfolding(crate::specs::Binding::new_variable))]
+pub(crate) fn new_variable<'a>(
+    scope: &Scope<'_>,
+    place: usize,
+    name: &'a [u8],
+) -> Result<&'a [u8], BuildFault>
+    ensures ok { IfOk result (λ x. new_variable (drop place scope.now.coming) name.now ≡ Ok x.now) }
+    ensures err { IfErr result (λ f. new_variable (drop place scope.now.coming) name.now ≡ Err f) }
+{
+    if is_reserved(name) {
+        return Err(BuildFault::Reserved);
+    }
+    if scope.coming.is_bound_from(place, name) {
+        return Err(BuildFault::Declared);
+    }
+    Ok(name)
+}
+
+/// The term of a name within the term that is read.
+fn local(scope: &Scope<'_>, name: &[u8]) -> Option<TermId>
+    ensures { result ≡ local_at scope.now.bound scope.now.names name.now }
+{
+    match scope.bound.term(name) {
+        Some(term) => Some(term),
+        None => scope.names.term(name),
+    }
+}
+
+/// The term of a word.
+#[tactic(auto, unfolding(crate::specs::Binding::word_in))]
+pub(crate) fn word_in(
+    alloc: Global,
+    symbols: &Symbols,
+    terms: &mut Terms,
+    scope: &Scope<'_>,
+    kind: TokenKind,
+    text: &[u8],
+) -> Result<TermId, BuildError>
+    requires { AreDeclared symbols.now.signatures terms.old.nodes }
+    ensures reads { ReadsTerm (word_in symbols.now scope.now.bound (progress (state_of terms.old scope.now)) kind text.now) result terms.new scope.now.names }
+    ensures grows { Grows symbols.now.signatures terms.old terms.new }
+{
+    if let (TokenKind::Symbol, Some(term)) = (kind, local(scope, text)) {
+        return Ok(term);
+    }
+    word_term(alloc, symbols, terms, kind, text)
+}
+
+/// The fault of a name that may be known within the term.
+fn misused(is_local: bool, error: BuildError) -> BuildError
+    ensures { result ≡ misused_error is_local error }
+{
+    match error {
+        BuildError::Fault(BuildFault::UnknownSymbol) if is_local => {
+            BuildError::Fault(BuildFault::WrongSort)
+        }
+        _ => error,
+    }
+}
+
+/// The term of a name and the arguments that it is applied to.
+#[tactic(auto, unfolding(crate::specs::Binding::application_in))]
+pub(crate) fn application_in(
+    alloc: Global,
+    symbols: &Symbols,
+    terms: &mut Terms,
+    scope: &Scope<'_>,
+    head: Head<'_>,
+    args: Vec<TermId>,
+) -> Result<TermId, BuildError>
+    ensures reads { ReadsTerm (application_in symbols.now scope.now.bound (progress (state_of terms.old scope.now)) (head_of head.entry) args.items) result terms.new scope.now.names }
+    ensures grows { (signatures : List SignatureValue) → Grows signatures terms.old terms.new }
+{
+    match head {
+        Head::Plain(name) => {
+            if local(scope, name).is_some() {
+                return Err(BuildError::Fault(BuildFault::WrongSort));
+            }
+            application(alloc, symbols, terms, head, args)
+        }
+        Head::Indexed(name, _) => {
+            let is_local = local(scope, name).is_some();
+            match application(alloc, symbols, terms, head, args) {
+                Ok(term) => Ok(term),
+                Err(error) => Err(misused(is_local, error)),
+            }
+        }
+    }
+}
+
+/// The term of a name with indices.
+#[tactic(auto, unfolding(crate::specs::Binding::indexed_in_scope))]
+pub(crate) fn indexed_in_scope(
+    alloc: Global,
+    symbols: &Symbols,
+    terms: &mut Terms,
+    scope: &Scope<'_>,
+    name: &[u8],
+    indices: Indices<'_>,
+) -> Result<TermId, BuildError>
+    ensures reads { ReadsTerm (indexed_in_scope symbols.now scope.now.bound (progress (state_of terms.old scope.now)) (indexed name.now (indices_of indices.entry))) result terms.new scope.now.names }
+    ensures grows { (signatures : List SignatureValue) → Grows signatures terms.old terms.new }
+{
+    let is_local = local(scope, name).is_some();
+    match indexed_term(alloc, symbols, terms, name, indices) {
+        Ok(term) => Ok(term),
+        Err(error) => Err(misused(is_local, error)),
+    }
+}
+
+/// A part of the attributes of a term.
+pub(crate) fn attribute<'a>(kind: TokenKind, text: &[u8]) -> Part<'a>
+    ensures { part_of result ≡ (if is_label kind text.now then label else passed) }
+{
+    if kind == TokenKind::Keyword && text == b":named".as_slice() {
+        Part::Label
+    } else {
+        Part::Passed
+    }
+}
+
+/// Gives a term a name, where names may be given.
+#[tactic(auto, unfolding(crate::specs::Binding::naming))]
+pub(crate) fn name_term<'a>(
+    symbols: &Symbols,
+    scope: &mut Scope<'a>,
+    may_name: bool,
+    term: TermId,
+    name: &'a [u8],
+) -> Result<(), BuildError>
+    ensures names { (terms : TermsValue) → Names (naming symbols.now may_name term (progress (state_of terms scope.old)) name.now) result terms scope.new.names }
+    ensures bound { OnOk result (scope.new.bound ≡ scope.old.bound) }
+    ensures coming { OnOk result (scope.new.coming ≡ scope.old.coming) }
+{
+    if !may_name {
+        return Err(BuildError::Fault(BuildFault::NotSupported));
+    }
+    if is_reserved(name) {
+        return Err(BuildError::Fault(BuildFault::Reserved));
+    }
+    if symbols.is_taken(name) || scope.names.term(name).is_some() {
+        return Err(BuildError::Fault(BuildFault::Declared));
+    }
+    scope.names.push(name, term)?;
+    Ok(())
+}
