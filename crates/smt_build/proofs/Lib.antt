@@ -13,3 +13,5 @@ pub mod Uses
 pub mod Definings
 pub mod Longer
 pub mod Kept
+pub mod NameReadings
+pub mod GivenNames

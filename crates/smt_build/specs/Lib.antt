@@ -10,7 +10,9 @@ pub mod Definitions
 pub mod Applying
 pub mod Pairs
 pub mod Binding
+pub mod Naming
 pub mod Terms
+pub mod Asserting
 pub mod Defining
 pub mod TermReader
 pub mod Views

@@ -11,6 +11,7 @@
 //! supported. The crate stands on `smt_syntax`, `smt_terms` and `indexmap`.
 #![tactic(auto)]
 
+pub mod assertion;
 pub mod binding;
 pub mod build;
 pub mod declare;
@@ -22,6 +23,7 @@ mod grouping;
 pub mod indices;
 pub mod literal;
 mod making;
+pub mod naming;
 pub mod operators;
 pub mod reader;
 pub mod scope;

@@ -84,6 +84,13 @@ impl<'a> Variables<'a> {
         self.list.len()
     }
 
+    /// The names with their terms, the innermost last.
+    pub fn as_slice(&self) -> &[Variable<'a>]
+        ensures { map pair_of result.now ≡ self.now }
+    {
+        self.list.as_slice()
+    }
+
     /// The innermost term of a name.
     pub fn term(&self, name: &[u8]) -> Option<TermId>
         ensures { result ≡ bound_at self.now name.now }

@@ -50,7 +50,7 @@ fn done(
         panic!(rt; "all are tokens")
     };
     Ok(match read_command(alloc, &all)? {
-        Command::Assert { term } => symbols.elaborate(alloc, terms, &all, term),
+        Command::Assert { term } => symbols.assert_term(alloc, terms, &all, term),
         command => symbols.declare(alloc, &all, &command),
     })
 }
@@ -84,7 +84,14 @@ fn given(
 }
 
 /// Terms, each with its number and with how many terms are then held.
-const MADE: [(&[u8], u32, u32); 31] = [
+const MADE: [(&[u8], u32, u32); 34] = [
+    (b"(assert (! p :named a))", 0, 1),
+    (b"(assert (and (! (not p) :named a) a))", 2, 3),
+    (
+        b"(assert (let ((b (not p))) (! b :named b :flag :named |c|)))",
+        1,
+        2,
+    ),
     (b"(assert (let ((a p)) |a|))", 0, 1),
     (
         b"(assert (let ((a (not p))) (let ((b (not a))) (and a b))))",
@@ -147,7 +154,24 @@ const MADE: [(&[u8], u32, u32); 31] = [
 ];
 
 /// Commands that are refused, each with its first fault.
-const REFUSED: [(&[u8], BuildFault); 67] = [
+const REFUSED: [(&[u8], BuildFault); 75] = [
+    (b"(assert (! w :named and))", BuildFault::UnknownSymbol),
+    (b"(assert (! p :named and))", BuildFault::Reserved),
+    (b"(assert (! p :named assert))", BuildFault::Reserved),
+    (b"(assert (! p :named |x|))", BuildFault::Declared),
+    (b"(assert (! p :named a :named a))", BuildFault::Declared),
+    (
+        b"(assert (and (! p :named a) (! q :named a)))",
+        BuildFault::Declared,
+    ),
+    (
+        b"(assert (and a (! p :named a)))",
+        BuildFault::UnknownSymbol,
+    ),
+    (
+        b"(assert (and (! p :named a) (a q)))",
+        BuildFault::WrongSort,
+    ),
     (b"(assert (let ((a p) (|a| w)) a))", BuildFault::Declared),
     (b"(assert (let ((a w) (a p)) a))", BuildFault::UnknownSymbol),
     (b"(assert (let ((and w)) p))", BuildFault::Reserved),
@@ -253,6 +277,26 @@ fn terms_are_made_in_their_order(rt: HostRuntime) -> Result<(), Fail> {
     for (text, number, count) in &MADE {
         assert!(rt; given(&rt, 100, text)? == (Ok(*number), *count));
     }
+    Ok(())
+}
+
+#[test]
+fn names_of_terms_last_with_their_level(rt: HostRuntime) -> Result<(), Fail> {
+    let mut symbols = Symbols::new(rt.alloc());
+    let _p = declared(&rt, &mut symbols, P)?;
+    symbols.push(1)?;
+    let mut terms = no_terms(rt.alloc(), &symbols, 100);
+    assert!(rt;
+        done(
+            &rt,
+            &mut symbols,
+            &mut terms,
+            b"(assert (! (not p) :named a))"
+        )? == Ok(1)
+    );
+    assert!(rt; symbols.is_taken(b"a"));
+    symbols.pop(1);
+    assert!(rt; !symbols.is_taken(b"a"));
     Ok(())
 }
 
