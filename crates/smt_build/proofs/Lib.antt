@@ -3,10 +3,15 @@ pub mod Numerals
 pub mod ReservedWords
 pub mod NameLemmas
 pub mod Spellings
-pub mod Lookups
+pub mod Places
 pub mod TermWalks
 pub mod Stepping
 pub mod Declarations
 pub mod Levels
 pub mod Folds
+pub mod Uses
+pub mod Definings
 pub mod Longer
+pub mod Kept
+pub mod NameReadings
+pub mod GivenNames

@@ -11,20 +11,11 @@ use Rattle.smt_terms.specs.Terms.{TermsValue}
 use Rattle.smt_build.specs.declared.fault.BuildFault.{BuildFault}
 use Rattle.smt_build.specs.declared.fault.BuildFault.TheVariants.{UnknownSymbol, Declared, Reserved, WrongSort, NotSupported}
 use Rattle.smt_build.specs.Operators.{is_reserved}
-use Rattle.smt_build.specs.Names.{SymbolsValue, declaration_of}
+use Rattle.smt_build.specs.Names.{SymbolsValue, is_taken}
 use Rattle.smt_build.specs.Building.{Built}
-pub use Rattle.smt_build.specs.Pairs.{Bound}
+pub use Rattle.smt_build.specs.Pairs.{Bound, innermost, bound_at}
 use Rattle.smt_build.specs.Indices.{Head, plain, indexed}
 use Rattle.smt_build.specs.Applying.{word_term, application, indexed_term}
-
-abbrev pub innermost : Option ℕ → Bool → ℕ → Option ℕ
-innermost (Some t) here u = Some t
-innermost None here u = if here then Some u else None
-
--- the innermost term of a name
-abbrev pub bound_at : Bound → List ℕ → Option ℕ
-bound_at [] x = None
-bound_at (b ∷ bs) x = innermost (bound_at bs x) (bytes_eq x b.0) b.1
 
 abbrev pub is_bound : Bound → List ℕ → Bool
 is_bound bound x = is_some (bound_at bound x)
@@ -84,9 +75,9 @@ module _ (symbols : SymbolsValue) where
 
   -- ---- annotations
 
-  -- a name is live, or was given within this term
+  -- a name is taken, or was given within this term
   abbrev pub is_given : Progress → List ℕ → Bool
-  is_given p x = is_some (declaration_of symbols.live x) || is_bound p.names x
+  is_given p x = is_taken symbols x || is_bound p.names x
 
   -- a term is given a name, where names may be given: the faults of the name
   unfoldable pub naming : Bool → ℕ → Progress → List ℕ → Result Progress BuildFault

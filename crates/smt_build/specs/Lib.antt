@@ -6,10 +6,14 @@ pub mod Declaring
 pub mod Building
 pub mod Grouping
 pub mod Indices
+pub mod Definitions
 pub mod Applying
 pub mod Pairs
 pub mod Binding
+pub mod Naming
 pub mod Terms
+pub mod Asserting
+pub mod Defining
 pub mod TermReader
 pub mod Views
 pub mod Steps

@@ -130,7 +130,7 @@ fn read_part<'a>(
 }
 
 /// No variables, and no names.
-fn no_scope<'a>(alloc: Global) -> Scope<'a>
+pub(crate) fn no_scope<'a>(alloc: Global) -> Scope<'a>
     ensures { result ≡ no_scope }
 {
     Scope {
@@ -141,7 +141,7 @@ fn no_scope<'a>(alloc: Global) -> Scope<'a>
 }
 
 /// Reads a term, in the same way; names that terms are given are put into the scope.
-fn read_term<'a>(
+pub(crate) fn read_term<'a>(
     alloc: Global,
     symbols: &Symbols,
     terms: &mut Terms,

@@ -50,7 +50,7 @@ fn done(
         panic!(rt; "all are tokens")
     };
     Ok(match read_command(alloc, &all)? {
-        Command::Assert { term } => symbols.elaborate(alloc, terms, &all, term),
+        Command::Assert { term } => symbols.assert_term(alloc, terms, &all, term),
         command => symbols.declare(alloc, &all, &command),
     })
 }
@@ -84,7 +84,14 @@ fn given(
 }
 
 /// Terms, each with its number and with how many terms are then held.
-const MADE: [(&[u8], u32, u32); 31] = [
+const MADE: [(&[u8], u32, u32); 34] = [
+    (b"(assert (! p :named a))", 0, 1),
+    (b"(assert (and (! (not p) :named a) a))", 2, 3),
+    (
+        b"(assert (let ((b (not p))) (! b :named b :flag :named |c|)))",
+        1,
+        2,
+    ),
     (b"(assert (let ((a p)) |a|))", 0, 1),
     (
         b"(assert (let ((a (not p))) (let ((b (not a))) (and a b))))",
@@ -147,7 +154,24 @@ const MADE: [(&[u8], u32, u32); 31] = [
 ];
 
 /// Commands that are refused, each with its first fault.
-const REFUSED: [(&[u8], BuildFault); 67] = [
+const REFUSED: [(&[u8], BuildFault); 75] = [
+    (b"(assert (! w :named and))", BuildFault::UnknownSymbol),
+    (b"(assert (! p :named and))", BuildFault::Reserved),
+    (b"(assert (! p :named assert))", BuildFault::Reserved),
+    (b"(assert (! p :named |x|))", BuildFault::Declared),
+    (b"(assert (! p :named a :named a))", BuildFault::Declared),
+    (
+        b"(assert (and (! p :named a) (! q :named a)))",
+        BuildFault::Declared,
+    ),
+    (
+        b"(assert (and a (! p :named a)))",
+        BuildFault::UnknownSymbol,
+    ),
+    (
+        b"(assert (and (! p :named a) (a q)))",
+        BuildFault::WrongSort,
+    ),
     (b"(assert (let ((a p) (|a| w)) a))", BuildFault::Declared),
     (b"(assert (let ((a w) (a p)) a))", BuildFault::UnknownSymbol),
     (b"(assert (let ((and w)) p))", BuildFault::Reserved),
@@ -257,6 +281,26 @@ fn terms_are_made_in_their_order(rt: HostRuntime) -> Result<(), Fail> {
 }
 
 #[test]
+fn names_of_terms_last_with_their_level(rt: HostRuntime) -> Result<(), Fail> {
+    let mut symbols = Symbols::new(rt.alloc());
+    let _p = declared(&rt, &mut symbols, P)?;
+    symbols.push(1)?;
+    let mut terms = no_terms(rt.alloc(), &symbols, 100);
+    assert!(rt;
+        done(
+            &rt,
+            &mut symbols,
+            &mut terms,
+            b"(assert (! (not p) :named a))"
+        )? == Ok(1)
+    );
+    assert!(rt; symbols.is_taken(b"a"));
+    symbols.pop(1);
+    assert!(rt; !symbols.is_taken(b"a"));
+    Ok(())
+}
+
+#[test]
 fn a_refused_command_tells_its_first_fault(rt: HostRuntime) -> Result<(), Fail> {
     for (text, fault) in &REFUSED {
         assert!(rt; given(&rt, 100, text)? == (Err(BuildError::Fault(*fault)), 0));
@@ -281,6 +325,21 @@ fn names_end_with_their_level_and_numbers_go_on(rt: HostRuntime) -> Result<(), F
     assert!(rt; declared(&rt, &mut symbols, X)? == Ok(3));
     assert!(rt; symbols.signature(1).is_some());
     assert!(rt; symbols.live().len() == 1);
+    Ok(())
+}
+
+#[test]
+fn deep_and_wide_lets_are_read(rt: HostRuntime) -> Result<(), Fail> {
+    let mut text: Vec<u8> = Vec::new(rt.alloc());
+    text.extend_from_slice(b"(assert ")?;
+    for _ in 0..20_000 {
+        text.extend_from_slice(b"(let ((a p) (b q)) ")?;
+    }
+    text.push(b'b')?;
+    for _ in 0..20_001 {
+        text.push(b')')?;
+    }
+    assert!(rt; given(&rt, 100, text.as_slice())? == (Ok(1), 2));
     Ok(())
 }
 

@@ -1,8 +1,9 @@
-use Rattle.std.proofs.Common.{◌∙◌, ap, drop}
-use Rattle.std.specs.Prelude.{is_some}
-use Rattle.smt_build.specs.Binding.{bound_at}
-use Rattle.smt_build.proofs.Lookups.{from_place}
+use Rattle.std.proofs.Common.{sym, Some, None}
+use Rattle.smt_build.proofs.Places.{found_from}
 use Rattle.smt_build.proofs.scope.Variables.is_bound_from.Goals as goal
 
-pub returns : goal.returns
-returns c = c.is_some.ensures ∙ ap is_some (c.innermost.ensures ∙ ap (λ b. bound_at b c.args.name.now) (from_place _ _ c.args.place _ c.self.view_is (c.names_from.ensures ∙ ap (drop c.args.place) c.as_slice.ensures.value)))
+pub returns-in-Some : goal.returns-in-Some
+returns-in-Some c = sym (found_from _ _ _ c.args.name c.self.invariant c.self.view_is (Some c.in-Some.found.now) c.in-Some.ensures.value c.args.place)
+
+pub returns-in-None : goal.returns-in-None
+returns-in-None c = sym (found_from _ _ _ c.args.name c.self.invariant c.self.view_is None c.in-None.ensures.value c.args.place)
