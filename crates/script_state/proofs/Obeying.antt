@@ -1,5 +1,5 @@
 -- What each command does, by its name and its arguments.
-use Rattle.std.proofs.Common.{◌≡◌, false, List, [], ◌∷◌, refl, sym, subst, Option, Some, None, Result}
+use Rattle.std.proofs.Common.{◌≡◌, true, false, List, [], ◌∷◌, refl, sym, subst, Option, Some, None, Result}
 use Rattle.std.specs.Prelude.{option_to_list}
 use Rattle.std.specs.declared.alloc.AllocError.{AllocError}
 use Rattle.smt_text.specs.declared.token.CommandName.{CommandName}
@@ -9,14 +9,14 @@ use Rattle.smt_syntax.specs.declared.command.Command.{Command}
 use Rattle.smt_syntax.specs.declared.command.Command.TheVariants as command
 use Rattle.smt_syntax.specs.Sexps.{Sign, Sexp, Sexps, none, more}
 use Rattle.smt_syntax.specs.Spans.{Stands, AllStand}
-use Rattle.smt_syntax.specs.Commands.{name_of, spans_of, is_left_out}
+use Rattle.smt_syntax.specs.Commands.{name_of, spans_of, is_left_out, is_not_supported}
 use Rattle.smt_build.specs.Declaring.{declare}
 use Rattle.smt_build.specs.Terms.{term_of}
 use Rattle.script_state.specs.declared.answer.Answer.{Answer}
 use Rattle.script_state.specs.declared.answer.Answer.TheVariants.{Done}
 use Rattle.script_state.specs.States.{StateValue}
 use Rattle.script_state.specs.declared.error_text.ErrorText.TheVariants.{NotSupported}
-use Rattle.script_state.specs.Steps.{Step, choosing, declaring, asserting, checking, refuse, named_step, obey, Answers}
+use Rattle.script_state.specs.Steps.{Step, choosing, declaring, asserting, checking, refuse, obey, Answers}
 
 module _ (s : StateValue) (signs : List Sign) (result : Result Answer AllocError) (new : StateValue) where
   -- the arguments stand at the spans of a command that is not left out
@@ -76,33 +76,26 @@ module _ (s : StateValue) (signs : List Sign) (result : Result Answer AllocError
   pub obeys_check : (k : Command) → k ≡ command.CheckSat → Answers (checking s) result s new → Obeys k
   obeys_check k e ensures = subst Obeys (sym e) (λ es stand. no_argument es (stand refl) ensures)
 
-  left_out : (n : CommandName) (es : Sexps) → (is_left_out n ≡ false → AllStand signs [] es) → Answers (named_step s n) result s new → Answers (obey s n es) result s new
-  unfolding obey declare
-  left_out name.CheckSat es stand ensures = no_argument es (stand refl) ensures
-  left_out name.Assert none stand ensures = ensures
-  left_out name.Assert (more e es) stand ensures = absurd (stand refl)
-  left_out name.SetLogic none stand ensures = ensures
-  left_out name.SetLogic (more e es) stand ensures = absurd (stand refl)
-  left_out name.SetInfo none stand ensures = ensures
-  left_out name.SetInfo (more e es) stand ensures = absurd (stand refl)
-  left_out name.DeclareConst none stand ensures = ensures
-  left_out name.DeclareConst (more e es) stand ensures = absurd (stand refl)
-  left_out _ es stand ensures = ensures
-
-  pub obeys_left_out : (k : Command) (n : CommandName) → k ≡ command.NotSupported n → Answers (named_step s n) result s new → Obeys k
-  obeys_left_out k n e ensures = subst Obeys (sym e) (λ es stand. left_out n es stand ensures)
-
 module _ (s : StateValue) where
+  left_out : (n : CommandName) (es : Sexps) → true ≡ is_left_out n → ◌≡◌ {A = Step} (obey s n es) (refuse s NotSupported)
+  unfolding obey
+  left_out name.DeclareSort es e = refl
+  left_out name.DefineFunRec es e = refl
+  left_out name.DefineFunsRec es e = refl
+  left_out name.DeclareDatatype es e = refl
+  left_out name.DeclareDatatypes es e = refl
+  left_out _ es e = absurd (let z : ⊥ = cc in z)
+
   -- every other command is not supported
   pub obeys_other : (k : Command)
       → ((span : Span) → k ≡ command.Assert span → ⊥) → (k ≡ command.CheckSat → ⊥) → ((n t : Span) → k ≡ command.DeclareConst n t → ⊥)
-      → ((keyword : Span) (value : Option Span) → k ≡ command.SetInfo keyword value → ⊥) → ((span : Span) → k ≡ command.SetLogic span → ⊥) → ((n : CommandName) → k ≡ command.NotSupported n → ⊥)
-      → (es : Sexps) → ◌≡◌ {A = Step} (obey s (name_of k) es) (refuse s NotSupported)
+      → ((keyword : Span) (value : Option Span) → k ≡ command.SetInfo keyword value → ⊥) → ((span : Span) → k ≡ command.SetLogic span → ⊥)
+      → is_not_supported k ≡ is_left_out (name_of k) → (es : Sexps) → ◌≡◌ {A = Step} (obey s (name_of k) es) (refuse s NotSupported)
   unfolding obey
-  obeys_other (command.Assert span) a b c d f g es = absurd (a span refl)
-  obeys_other command.CheckSat a b c d f g es = absurd (b refl)
-  obeys_other (command.DeclareConst n t) a b c d f g es = absurd (c n t refl)
-  obeys_other (command.SetInfo keyword value) a b c d f g es = absurd (d keyword value refl)
-  obeys_other (command.SetLogic span) a b c d f g es = absurd (f span refl)
-  obeys_other (command.NotSupported n) a b c d f g es = absurd (g n refl)
-  obeys_other _ a b c d f g es = refl
+  obeys_other (command.Assert span) a b c d f known es = absurd (a span refl)
+  obeys_other command.CheckSat a b c d f known es = absurd (b refl)
+  obeys_other (command.DeclareConst n t) a b c d f known es = absurd (c n t refl)
+  obeys_other (command.SetInfo keyword value) a b c d f known es = absurd (d keyword value refl)
+  obeys_other (command.SetLogic span) a b c d f known es = absurd (f span refl)
+  obeys_other (command.NotSupported n) a b c d f known es = left_out n es known
+  obeys_other _ a b c d f known es = refl

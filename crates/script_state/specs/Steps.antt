@@ -69,11 +69,6 @@ asserting s (Err f) = refuse s (build_error f)
 abbrev pub checking : StateValue → Step
 checking s = (Check, record { symbols = s.symbols; terms = s.terms; scopes = s.scopes; standing = None })
 
--- what a command of this name does that has no arguments
-abbrev pub named_step : StateValue → CommandName → Step
-named_step s name.CheckSat = checking s
-named_step s _ = refuse s NotSupported
-
 -- what a command of this name with these arguments does
 unfoldable pub obey : StateValue → CommandName → Sexps → Step
 obey s name.SetLogic (more logic none) = choosing s logic

@@ -4,11 +4,11 @@ ghost use Rattle.std.specs.Prelude.{◌≡◌, ◌+◌, ◌<◌, ◌^◌, Ok, fa
 ghost use Rattle.std.specs.Option.{option_copied};
 ghost use Rattle.smt_syntax.specs.Sexps.{Sexp, Sexps, signs_of};
 ghost use Rattle.smt_syntax.specs.Spans.{Stands, AllStand};
-ghost use Rattle.smt_syntax.specs.Commands.{name_of, spans_of, is_left_out};
+ghost use Rattle.smt_syntax.specs.Commands.{name_of, spans_of, is_left_out, is_not_supported};
 ghost use Rattle.smt_build.specs.Declaring.{declare};
 ghost use Rattle.smt_build.specs.Terms.{term_of};
 ghost use Rattle.script_state.specs.States.{no_state, concluded, with_terms, IsState, Fit};
-ghost use Rattle.script_state.specs.Steps.{declaring, asserting, checking, named_step, obey, Answers, Applies};
+ghost use Rattle.script_state.specs.Steps.{declaring, asserting, checking, obey, Answers, Applies};
 
 use crate::answer::{Answer, Verdict};
 use crate::error_text::{ErrorText, build_error, syntax_error};
@@ -24,7 +24,7 @@ use smt_syntax::span::Span;
 use smt_terms::sort::{DeclId, Signature};
 use smt_terms::terms::Terms;
 use smt_text::chunk::{Chunk, ChunkKind};
-use smt_text::token::{CommandName, Tokens};
+use smt_text::token::Tokens;
 use smt_text::tokens::{TokensError, tokens};
 use std::alloc::{AllocError, Global};
 use std::marker::Model;
@@ -152,16 +152,6 @@ impl State {
         Answer::Check
     }
 
-    /// Does what a command says that was read by its name alone.
-    fn obey_name(&mut self, name: CommandName) -> Answer
-        ensures { Answers (named_step self.old name) (Ok result) self.old self.new }
-    {
-        match name {
-            CommandName::CheckSat => self.check(),
-            _ => Answer::Refused(ErrorText::NotSupported),
-        }
-    }
-
     /// Does what the command says.
     fn obey(
         &mut self,
@@ -170,6 +160,7 @@ impl State {
         command: &Command,
     ) -> Result<Answer, AllocError>
         requires arguments { (es : Sexps) × (is_left_out (name_of command.now) ≡ false → AllStand (signs_of tokens.now) (spans_of command.now) es) }
+        requires known { is_not_supported command.now ≡ is_left_out (name_of command.now) }
         requires assertions { self.old.scopes.made + 1 < 2 ^ 32 }
         ensures { (es : Sexps) → (is_left_out (name_of command.now) ≡ false → AllStand (signs_of tokens.now) (spans_of command.now) es)
             → Answers (obey self.old (name_of command.now) es) result self.old self.new }
@@ -183,7 +174,6 @@ impl State {
                 value: _,
             } => Ok(Answer::Done),
             Command::SetLogic { logic } => Ok(set_logic(tokens, *logic)),
-            Command::NotSupported { name } => Ok(self.obey_name(*name)),
             _ => Ok(Answer::Refused(ErrorText::NotSupported)),
         }
     }

@@ -118,7 +118,7 @@ fn a_bad_token(rt: HostRuntime) -> Result<(), Fail> {
 }
 
 #[test]
-fn tokens_that_are_taken(rt: HostRuntime) -> Result<(), Fail> {
+fn texts_that_are_taken(rt: HostRuntime) -> Result<(), Fail> {
     take(
         &rt,
         &[
@@ -132,6 +132,9 @@ fn tokens_that_are_taken(rt: HostRuntime) -> Result<(), Fail> {
             b"(assert (= x #xAb))",
             b"(declare-const |a (b| Bool)(assert |a (b|)",
             b"(declare-const word Bool)(declare-const apply Bool)(declare-const const Bool)(assert (and word apply const))",
+            b"(assert (let ((x p)) x))",
+            b"(assert (let ((p q) (q p)) (= p q)))",
+            b"(assert (! p :a (let () q) :b 5 :c))",
         ],
     )
 }
@@ -246,6 +249,10 @@ fn an_unknown_symbol(rt: HostRuntime) -> Result<(), Fail> {
             b"(declare-const r Array)",
             b"(declare-const r BitVec)",
             b"(declare-const r p)",
+            b"(assert (let ((a nope) (a p)) a))",
+            b"(assert (let ((a p) (b a)) b))",
+            b"(assert (and (let ((a p)) a) a))",
+            b"(assert (! nope :a 5))",
         ],
     )
 }
@@ -261,6 +268,8 @@ fn a_name_that_is_declared(rt: HostRuntime) -> Result<(), Fail> {
             b"(declare-const p (_ BitVec 4))",
             b"(declare-const p Int)",
             b"(declare-const p (_ BitVec 0))",
+            b"(assert (let ((a p) (a p)) a))",
+            b"(assert (let ((a p) (a nope)) a))",
         ],
     )
 }
@@ -282,6 +291,9 @@ fn a_name_that_is_reserved(rt: HostRuntime) -> Result<(), Fail> {
             b"(declare-const store Bool)",
             b"(declare-const true Int)",
             b"(declare-const and (_ BitVec 0))",
+            b"(assert (let ((and p)) p))",
+            b"(assert (let ((|let| nope)) p))",
+            b"(assert (let ((a p) (assert p)) a))",
         ],
     )
 }
@@ -316,6 +328,11 @@ fn wrong_arguments(rt: HostRuntime) -> Result<(), Fail> {
             b"(assert (= x (_ bv1 8 8)))",
             b"(assert (= x ((_ zero_extend 121) p)))",
             b"(assert (= x (concat w p)))",
+            b"(assert (let ((a p)) (a p)))",
+            b"(assert (let ((a p)) ((_ a 1) p)))",
+            b"(assert (let ((a x)) a))",
+            b"(assert (let ((p x)) p))",
+            b"(assert (! x :a))",
         ],
     )
 }

@@ -17,6 +17,12 @@ obey-requires-clause-arguments c =
     let reads = c.in-Ok-read_command.ensures (group list.0) list.1 in
     (reads.0, reads.2)
 
+pub obey-requires-clause-known : goal.obey-requires-clause-known
+obey-requires-clause-known c =
+    let listed : is_list (signs_of c.in-Ok.all) ≡ true = sym c.is_list.ensures ∙ c.if-not-is_list.false in
+    let list = spells_list (signs_of c.in-Ok.all) listed in
+    (c.in-Ok-read_command.ensures (group list.0) list.1).3
+
 pub returns-in-Ok-read_command : goal.returns-in-Ok-read_command
 returns-in-Ok-read_command c =
     let listed : is_list (signs_of c.in-Ok.all) ≡ true = sym c.is_list.ensures ∙ c.if-not-is_list.false in

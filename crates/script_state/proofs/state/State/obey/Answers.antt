@@ -1,6 +1,6 @@
 use Rattle.std.proofs.Common.{Ok, refl}
 use Rattle.script_state.specs.declared.answer.Answer.TheVariants.{Done}
-use Rattle.script_state.proofs.Obeying.{obeys_declaration, obeys_assertion, obeys_check, obeys_info, obeys_logic, obeys_left_out, obeys_other}
+use Rattle.script_state.proofs.Obeying.{obeys_declaration, obeys_assertion, obeys_check, obeys_info, obeys_logic, obeys_other}
 use Rattle.script_state.proofs.state.State.obey.Goals as goal
 
 pub returns-in-DeclareConst : goal.returns-in-DeclareConst
@@ -18,8 +18,5 @@ returns-in-SetInfo c = obeys_info c.args.self.now _ (Ok Done) c.args.self.now _ 
 pub returns-in-SetLogic : goal.returns-in-SetLogic
 returns-in-SetLogic c = obeys_logic c.args.self.now _ (Ok c.set_logic.result) c.args.self.now _ _ c.in-SetLogic.is (c.set_logic.ensures c.args.self.now)
 
-pub returns-in-NotSupported : goal.returns-in-NotSupported
-returns-in-NotSupported c = obeys_left_out c.args.self.now _ (Ok c.obey_name.result) c.obey_name.new.self _ _ c.in-NotSupported.is c.obey_name.ensures
-
 pub returns-in_default : goal.returns-in_default
-returns-in_default c = λ es stand. obeys_other c.args.self.now c.args.command.now c.in_default.not-Assert c.in_default.not-CheckSat c.in_default.not-DeclareConst c.in_default.not-SetInfo c.in_default.not-SetLogic c.in_default.not-NotSupported es
+returns-in_default c = λ es stand. obeys_other c.args.self.now c.args.command.now c.in_default.not-Assert c.in_default.not-CheckSat c.in_default.not-DeclareConst c.in_default.not-SetInfo c.in_default.not-SetLogic c.requires.known es
