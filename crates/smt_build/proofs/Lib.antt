@@ -15,3 +15,4 @@ pub mod Longer
 pub mod Kept
 pub mod NameReadings
 pub mod GivenNames
+pub mod Assertions
