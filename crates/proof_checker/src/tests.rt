@@ -2,9 +2,6 @@ ghost use Rattle.std.specs.Prelude.{IfOk, IfSome};
 ghost use Rattle.proof_checker.specs.Checkers.{IsRead};
 
 use crate::checker::Checker;
-use accepted_proof::refusal::RuleName::{
-    Chain, Encode, End, Header, Leaf, Line as LineRule, Node, Sat, Selector, Unsat,
-};
 use accepted_proof::refusal::{Refusal, RuleName};
 use proof_text::line::Line;
 use proof_text::reader::{LineFault, ProofReader};
@@ -129,12 +126,12 @@ fn judge(
     }
 }
 
-/// The proof with another text in place of a line, which is counted from 1.
-fn with_line(alloc: Global, proof: &[u8], at: usize, to: &[u8]) -> Result<Vec<u8>, AllocError> {
+/// The proof with another text in place of a line, which is counted from 1. In the text a bar stands for each line feed.
+fn with_line(alloc: Global, proof: &[u8], at: u64, to: &str) -> Result<Vec<u8>, AllocError> {
     let mut changed = Vec::new(alloc);
-    let mut line = 1usize;
+    let mut line = 1u64;
     if line == at {
-        changed.extend_from_slice(to)?;
+        push_text(&mut changed, to)?;
     }
     for byte in proof {
         if line != at {
@@ -143,43 +140,63 @@ fn with_line(alloc: Global, proof: &[u8], at: usize, to: &[u8]) -> Result<Vec<u8
         if *byte == b'\n' {
             line = line.saturating_add(1);
             if line == at {
-                changed.extend_from_slice(to)?;
+                push_text(&mut changed, to)?;
             }
         }
     }
     Ok(changed)
 }
 
-/// With each change of one line the proof is refused at this line by this rule.
-fn refuse_each(
-    rt: &(impl Abort + AllocGlobal),
-    proved: &Proved,
-    changes: &[(usize, &[u8], u64, RuleName)],
-) -> Result<(), Fail> {
-    let alloc = rt.alloc();
-    for (at, to, line, rule) in changes {
-        let changed = with_line(alloc, proved.proof, *at, to)?;
-        let judged = judge(alloc, proved.script, changed.as_slice())?;
-        let bad = Refusal {
-            line: *line,
-            rule: *rule,
-        };
-        assert_eq!(rt; judged.err(), Some(bad), "{at} {to:?}");
+fn push_text(changed: &mut Vec<u8>, to: &str) -> Result<(), AllocError> {
+    for byte in to.as_bytes() {
+        changed.push(if *byte == b'|' { b'\n' } else { *byte })?;
     }
     Ok(())
 }
 
-/// With each change of one line the proof is still accepted.
-fn accept_each(
-    rt: &(impl Abort + AllocGlobal),
-    proved: &Proved,
-    changes: &[(usize, &[u8])],
-) -> Result<(), Fail> {
+/// The rules by their names.
+const RULES: [(&str, RuleName); 10] = [
+    ("header", RuleName::Header),
+    ("line", RuleName::Line),
+    ("node", RuleName::Node),
+    ("leaf", RuleName::Leaf),
+    ("encode", RuleName::Encode),
+    ("selector", RuleName::Selector),
+    ("chain", RuleName::Chain),
+    ("sat", RuleName::Sat),
+    ("unsat", RuleName::Unsat),
+    ("end", RuleName::End),
+];
+
+/// The refusal of a line by the rule of this name; none where the name is of no rule.
+fn refusal(line: u64, name: &str) -> Option<Refusal> {
+    for (known, rule) in &RULES {
+        if *known == name {
+            return Some(Refusal { line, rule: *rule });
+        }
+    }
+    None
+}
+
+/// A line of a proof is changed, and the proof judged. A row has the line's number, the number of the line that is refused
+/// then, the rule of that or `accepted`, and the text in the line's place.
+fn judge_change(rt: &(impl Abort + AllocGlobal), proved: &Proved, row: &str) -> Result<(), Fail> {
     let alloc = rt.alloc();
-    for (at, to) in changes {
-        let changed = with_line(alloc, proved.proof, *at, to)?;
-        let judged = judge(alloc, proved.script, changed.as_slice())?;
-        assert_eq!(rt; judged.err(), None, "{at} {to:?}");
+    let (at, rest) = row.split_once(' ').ok_or("a changed line")?;
+    let (line, rest) = rest.split_once(' ').ok_or("a refused line")?;
+    let (name, to) = rest.split_once(' ').ok_or("a rule")?;
+    let at = at.parse::<u64>().ok().ok_or("a number")?;
+    let line = line.parse::<u64>().ok().ok_or("a number")?;
+    let changed = with_line(alloc, proved.proof, at, to)?;
+    let judged = judge(alloc, proved.script, changed.as_slice())?;
+    assert_eq!(rt; judged.err(), refusal(line, name), "{row}");
+    Ok(())
+}
+
+/// Each change of one line is judged as its row says.
+fn judge_each(rt: &(impl Abort + AllocGlobal), proved: &Proved, rows: &str) -> Result<(), Fail> {
+    for row in rows.lines() {
+        judge_change(rt, proved, row)?;
     }
     Ok(())
 }
@@ -204,21 +221,21 @@ fn accepted_proofs_show_their_verdicts(rt: HostRuntime) -> Result<(), Fail> {
 #[test]
 fn a_proof_of_another_script(rt: HostRuntime) -> Result<(), Fail> {
     let alloc = rt.alloc();
-    let cases: [(&[u8], u64, RuleName); 6] = [
-        (b"(check-sat)", 2, Encode),
-        (b"(assert true) (check-sat)", 4, Chain),
-        (b"(declare-const p Bool) (assert p) (check-sat)", 2, Encode),
-        (b"(assert false)", 2, End),
-        (b"(assert false) (check-sat", 2, End),
-        (b"(assert false) (check-sat) (check-sat)", 6, End),
+    let cases: [(&[u8], u64, &str); 6] = [
+        (b"(check-sat)", 2, "encode"),
+        (b"(assert true) (check-sat)", 4, "chain"),
+        (
+            b"(declare-const p Bool) (assert p) (check-sat)",
+            2,
+            "encode",
+        ),
+        (b"(assert false)", 2, "end"),
+        (b"(assert false) (check-sat", 2, "end"),
+        (b"(assert false) (check-sat) (check-sat)", 6, "end"),
     ];
-    for (script, line, rule) in &cases {
+    for (script, line, name) in &cases {
         let judged = judge(alloc, script, FALSE.proof)?;
-        let bad = Refusal {
-            line: *line,
-            rule: *rule,
-        };
-        assert_eq!(rt; judged.err(), Some(bad), "{script:?}");
+        assert_eq!(rt; judged.err(), refusal(*line, *name), "{script:?}");
     }
     Ok(())
 }
@@ -232,221 +249,209 @@ fn a_script_without_a_check_has_a_header_alone(rt: HostRuntime) -> Result<(), Fa
         let judged = judge(alloc, script, header)?;
         assert!(rt; judged.is_ok_and(|shown| shown.is_empty()));
         let empty = judge(alloc, script, b"")?;
-        let bad = Refusal {
-            line: 1,
-            rule: Header,
-        };
-        assert_eq!(rt; empty.err(), Some(bad));
+        assert_eq!(rt; empty.err(), refusal(1, "header"));
     }
     Ok(())
 }
 
 #[test]
 fn bad_headers(rt: HostRuntime) -> Result<(), Fail> {
-    refuse_each(
+    judge_each(
         &rt,
         &FALSE,
-        &[
-            (1, b"smt_proof 2 cubes 0 budget 100000\n", 1, Header),
-            (1, b"smt_proof 1 cubes 11 budget 100000\n", 1, Header),
-            (1, b"smt_proof 1 cubes 0 budget 1000000001\n", 1, Header),
-            (1, b"smt_proof 1 cubes 00 budget 100000\n", 1, Header),
-            (1, b"smt_proof 1 cubes 0\n", 1, Header),
-            (1, b"smt_proof 1 cubes 0 budget 100000 \n", 1, Header),
-            (1, b"\n", 1, Header),
-            (1, b"", 1, Header),
-            (1, b"e 0\n", 1, Header),
-            (2, b"smt_proof 1 cubes 0 budget 100000\n", 2, LineRule),
-        ],
+        "1 1 header smt_proof 2 cubes 0 budget 100000|\n\
+    1 1 header smt_proof 1 cubes 11 budget 100000|\n\
+    1 1 header smt_proof 1 cubes 0 budget 1000000001|\n\
+    1 1 header smt_proof 1 cubes 00 budget 100000|\n\
+    1 1 header smt_proof 1 cubes 0|\n\
+    1 1 header smt_proof 1 cubes 0 budget 100000 |\n\
+    1 1 header |\n\
+    1 1 header \n\
+    1 1 header e 0|\n\
+    2 2 line smt_proof 1 cubes 0 budget 100000|",
     )
 }
 
 #[test]
 fn lines_that_are_none_of_a_proof(rt: HostRuntime) -> Result<(), Fail> {
-    refuse_each(
+    judge_each(
         &rt,
         &FALSE,
-        &[
-            (2, b"e\n", 2, LineRule),
-            (2, b"e 0 0\n", 2, LineRule),
-            (2, b"e 00\n", 2, LineRule),
-            (2, b"e 0 \n", 2, LineRule),
-            (2, b" e 0\n", 2, LineRule),
-            (2, b"E 0\n", 2, LineRule),
-            (2, b"e -0\n", 2, LineRule),
-            (2, b"\n", 2, LineRule),
-            (2, b"v 0 true\n", 2, LineRule),
-            (2, b"t nope 0\n", 2, LineRule),
-            (2, b"t distinct 0 0\n", 2, LineRule),
-            (2, b"t zero_extend\n", 2, LineRule),
-            (4, b"c -2\n", 4, LineRule),
-            (4, b"c -2 0 0.0 2\n", 4, LineRule),
-            (4, b"c -0 0 0.0 2.0\n", 4, LineRule),
-            (4, b"c -02 0 0.0 2.0\n", 4, LineRule),
-            (4, b"c -2 0 0.0 2.0\r\n", 4, LineRule),
-            (5, b"unsat 3", 5, LineRule),
-            (5, b"unsat\n", 5, LineRule),
-            (5, b"unknown 3\n", 5, LineRule),
-        ],
+        "2 2 line e|\n\
+    2 2 line e 0 0|\n\
+    2 2 line e 00|\n\
+    2 2 line e 0 |\n\
+    2 2 line  e 0|\n\
+    2 2 line E 0|\n\
+    2 2 line e -0|\n\
+    2 2 line |\n\
+    2 2 line v 0 true|\n\
+    2 2 line t nope 0|\n\
+    2 2 line t distinct 0 0|\n\
+    2 2 line t zero_extend|\n\
+    4 4 line c -2|\n\
+    4 4 line c -2 0 0.0 2|\n\
+    4 4 line c -0 0 0.0 2.0|\n\
+    4 4 line c -02 0 0.0 2.0|\n\
+    4 4 line c -2 0 0.0 2.0\r|\n\
+    5 5 line unsat 3\n\
+    5 5 line unsat|\n\
+    5 5 line unknown 3|",
     )
 }
 
 #[test]
 fn steps_that_are_not_valid(rt: HostRuntime) -> Result<(), Fail> {
-    refuse_each(
+    judge_each(
         &rt,
         &FALSE,
-        &[
-            (2, b"", 2, Selector),
-            (2, b"e 1\n", 2, Encode),
-            (2, b"e 4294967296\n", 2, Encode),
-            (2, b"e 0\ne 0\n", 3, Encode),
-            (2, b"f 0\n", 2, Leaf),
-            (2, b"f 1\n", 2, Leaf),
-            (2, b"t false\n", 2, Node),
-            (2, b"t true\n", 3, Selector),
-            (2, b"s 0\n", 2, Selector),
-            (3, b"", 3, Chain),
-            (3, b"s 1\n", 3, Selector),
-            (3, b"s 0\ns 0\n", 4, Selector),
-        ],
+        "2 2 selector \n\
+    2 2 encode e 1|\n\
+    2 2 encode e 4294967296|\n\
+    2 3 encode e 0|e 0|\n\
+    2 2 leaf f 0|\n\
+    2 2 leaf f 1|\n\
+    2 2 node t false|\n\
+    2 3 selector t true|\n\
+    2 2 selector s 0|\n\
+    3 3 chain \n\
+    3 3 selector s 1|\n\
+    3 4 selector s 0|s 0|",
     )
 }
 
 #[test]
 fn chains_that_are_none(rt: HostRuntime) -> Result<(), Fail> {
-    refuse_each(
+    judge_each(
         &rt,
         &FALSE,
-        &[
-            (4, b"c -2 0 2.0\n", 4, Chain),
-            (4, b"c -2 0 0.0\n", 4, Chain),
-            (4, b"c -2 0\n", 4, Chain),
-            (4, b"c -2 0 0.0 2.1\n", 4, Chain),
-            (4, b"c -2 0 0.0 2.4294967296\n", 4, Chain),
-            (4, b"c -2 0 0.0 3.0\n", 4, Chain),
-            (4, b"c -3 0 0.0 2.0\n", 4, Chain),
-            (4, b"c -9223372036854775808 0 0.0 2.0\n", 4, Chain),
-            (4, b"c 2 0 0.0 2.0\n", 4, Chain),
-            (4, b"c 0 0.0 2.0\n", 4, Chain),
-            (4, b"c -2 2 0 0.0\n", 4, Chain),
-            (4, b"c -2 0 0.0 2.0 0.0\n", 4, Chain),
-        ],
+        "4 4 chain c -2 0 2.0|\n\
+    4 4 chain c -2 0 0.0|\n\
+    4 4 chain c -2 0|\n\
+    4 4 chain c -2 0 0.0 2.1|\n\
+    4 4 chain c -2 0 0.0 2.4294967296|\n\
+    4 4 chain c -2 0 0.0 3.0|\n\
+    4 4 chain c -3 0 0.0 2.0|\n\
+    4 4 chain c -9223372036854775808 0 0.0 2.0|\n\
+    4 4 chain c 2 0 0.0 2.0|\n\
+    4 4 chain c 0 0.0 2.0|\n\
+    4 4 chain c -2 2 0 0.0|\n\
+    4 4 chain c -2 0 0.0 2.0 0.0|",
     )
 }
 
 #[test]
 fn records_that_show_nothing(rt: HostRuntime) -> Result<(), Fail> {
-    refuse_each(
+    judge_each(
         &rt,
         &FALSE,
-        &[
-            (2, b"unsat 0\n", 2, Unsat),
-            (2, b"unsat 3\n", 2, Unsat),
-            (2, b"sat 0\n", 2, Sat),
-            (2, b"sat 1\n", 2, Sat),
-            (4, b"", 4, Unsat),
-            (4, b"c -2 2 0\n", 5, Unsat),
-            (5, b"unsat 0\n", 5, Unsat),
-            (5, b"unsat 1\n", 5, Unsat),
-            (5, b"unsat 2\n", 5, Unsat),
-            (5, b"unsat 4\n", 5, Unsat),
-            (5, b"sat 0\n", 5, Sat),
-            (5, b"", 5, End),
-            (5, b"unsat 3\nunsat 3\n", 6, End),
-            (5, b"unsat 3\nsat", 6, End),
-        ],
+        "2 2 unsat unsat 0|\n\
+    2 2 unsat unsat 3|\n\
+    2 2 sat sat 0|\n\
+    2 2 sat sat 1|\n\
+    4 4 unsat \n\
+    4 5 unsat c -2 2 0|\n\
+    5 5 unsat unsat 0|\n\
+    5 5 unsat unsat 1|\n\
+    5 5 unsat unsat 2|\n\
+    5 5 unsat unsat 4|\n\
+    5 5 sat sat 0|\n\
+    5 5 end \n\
+    5 6 end unsat 3|unsat 3|\n\
+    5 6 end unsat 3|sat",
     )
 }
 
 #[test]
 fn terms_that_cannot_be_made(rt: HostRuntime) -> Result<(), Fail> {
-    refuse_each(
+    judge_each(
         &rt,
         &WITH_TERM,
-        &[
-            (2, b"t not 1\n", 2, Node),
-            (2, b"t not 0 0\n", 2, Node),
-            (2, b"t bvnot 0\n", 2, Node),
-            (2, b"t zero_extend 0\n", 2, Node),
-            (2, b"t word 2 4\n", 2, Node),
-            (2, b"t word 0 0\n", 2, Node),
-            (2, b"t word 129 0\n", 2, Node),
-            (2, b"t apply 0\n", 2, Node),
-            (2, b"t not 0\nt not 0\n", 3, Node),
-            (2, b"", 3, Encode),
-            (3, b"", 3, Encode),
-        ],
+        "2 2 node t not 1|\n\
+    2 2 node t not 0 0|\n\
+    2 2 node t bvnot 0|\n\
+    2 2 node t zero_extend 0|\n\
+    2 2 node t word 2 4|\n\
+    2 2 node t word 0 0|\n\
+    2 2 node t word 129 0|\n\
+    2 2 node t apply 0|\n\
+    2 3 node t not 0|t not 0|\n\
+    2 3 encode \n\
+    3 3 encode ",
     )
 }
 
 #[test]
 fn models_and_refutations_of_two_checks(rt: HostRuntime) -> Result<(), Fail> {
-    refuse_each(
+    judge_each(
         &rt,
         &DENIED,
-        &[
-            (2, b"e 0\n", 2, Encode),
-            (4, b"sat 0\n", 4, Sat),
-            (4, b"sat 2\n", 4, Sat),
-            (4, b"unsat 2\n", 4, Unsat),
-            (4, b"sat 1\ne 1\n", 5, LineRule),
-            (5, b"", 5, LineRule),
-            (5, b"v 0 false\n", 5, Sat),
-            (5, b"v 0 #b1\n", 5, Sat),
-            (5, b"v 1 true\n", 5, Sat),
-            (5, b"v 0 1\n", 5, LineRule),
-            (5, b"sat 1\n", 5, LineRule),
-            (5, b"v 0 true\nv 0 true\n", 6, LineRule),
-            (6, b"", 6, Selector),
-            (8, b"c -4 0 2.0 4.0\n", 8, Chain),
-            (8, b"c -3 0 2.0 4.0\n", 8, Chain),
-            (8, b"c -4 -3 0 2.0\n", 8, Chain),
-            (8, b"c -4 -3 -2 0 2.0 4.0\n", 9, Unsat),
-            (9, b"unsat 2\n", 9, Unsat),
-            (9, b"sat 1\n", 10, End),
-            (9, b"sat 1\nv 0 true\n", 10, Sat),
-            (9, b"sat 1\nv 0 false\n", 10, Sat),
-            (9, b"", 9, End),
-        ],
+        "2 2 encode e 0|\n\
+    4 4 sat sat 0|\n\
+    4 4 sat sat 2|\n\
+    4 4 unsat unsat 2|\n\
+    4 5 line sat 1|e 1|\n\
+    5 5 line \n\
+    5 5 sat v 0 false|\n\
+    5 5 sat v 0 #b1|\n\
+    5 5 sat v 1 true|\n\
+    5 5 line v 0 1|\n\
+    5 5 line sat 1|\n\
+    5 6 line v 0 true|v 0 true|\n\
+    6 6 selector \n\
+    8 8 chain c -4 0 2.0 4.0|\n\
+    8 8 chain c -3 0 2.0 4.0|\n\
+    8 8 chain c -4 -3 0 2.0|\n\
+    8 9 unsat c -4 -3 -2 0 2.0 4.0|\n\
+    9 9 unsat unsat 2|\n\
+    9 10 end sat 1|\n\
+    9 10 sat sat 1|v 0 true|\n\
+    9 10 sat sat 1|v 0 false|\n\
+    9 9 end ",
     )
 }
 
 #[test]
 fn values_of_words(rt: HostRuntime) -> Result<(), Fail> {
-    refuse_each(
+    judge_each(
         &rt,
         &WORDS,
-        &[
-            (9, b"v 0 #b0\n", 9, Sat),
-            (9, b"v 0 #b000\n", 9, Sat),
-            (9, b"v 0 false\n", 9, Sat),
-            (9, b"v 0 #b\n", 9, LineRule),
-            (9, b"v 0 #b02\n", 9, LineRule),
-            (9, b"v 0 #b01\n", 10, Sat),
-            (9, b"v 1 #b01\n", 9, Sat),
-            (9, b"", 9, Sat),
-            (10, b"v 1 #b10\n", 10, Sat),
-            (10, b"v 0 #b01\n", 10, Sat),
-            (10, b"", 10, End),
-            (10, b"v 1 #b01\nv 1 #b01\n", 11, End),
-        ],
+        "9 9 sat v 0 #b0|\n\
+    9 9 sat v 0 #b000|\n\
+    9 9 sat v 0 false|\n\
+    9 9 line v 0 #b|\n\
+    9 9 line v 0 #b02|\n\
+    9 10 sat v 0 #b01|\n\
+    9 9 sat v 1 #b01|\n\
+    9 9 sat \n\
+    10 10 sat v 1 #b10|\n\
+    10 10 sat v 0 #b01|\n\
+    10 10 end \n\
+    10 11 end v 1 #b01|v 1 #b01|",
     )
 }
 
 #[test]
 fn other_proofs_of_the_same_scripts(rt: HostRuntime) -> Result<(), Fail> {
-    accept_each(
+    judge_each(
         &rt,
         &FALSE,
-        &[
-            (1, b"smt_proof 1 cubes 10 budget 0\n"),
-            (4, b"c -2 0 2.0 0.0\n"),
-            (4, b"c -2 -2 0 0.0 2.0\n"),
-        ],
+        "1 0 accepted smt_proof 1 cubes 10 budget 0|\n\
+    4 0 accepted c -2 0 2.0 0.0|\n\
+    4 0 accepted c -2 -2 0 0.0 2.0|",
     )?;
-    accept_each(&rt, &WITH_TERM, &[(2, b"t word 2 3\n"), (2, b"t true\n")])?;
-    accept_each(&rt, &DENIED, &[(8, b"c -3 -4 0 4.0 2.0\n")])?;
-    accept_each(&rt, &WORDS, &[(9, b"v 0 #b00\n")])?;
-    accept_each(&rt, &TWICE, &[(8, b"c -6 0 5.0\n"), (9, b"unsat 5\n")])
+    judge_each(
+        &rt,
+        &WITH_TERM,
+        "2 0 accepted t word 2 3|\n\
+    2 0 accepted t true|",
+    )?;
+    judge_each(&rt, &DENIED, "8 0 accepted c -3 -4 0 4.0 2.0|")?;
+    judge_each(&rt, &WORDS, "9 0 accepted v 0 #b00|")?;
+    judge_each(
+        &rt,
+        &TWICE,
+        "8 0 accepted c -6 0 5.0|\n\
+    9 0 accepted unsat 5|",
+    )
 }
