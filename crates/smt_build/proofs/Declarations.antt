@@ -1,23 +1,24 @@
 -- The declaration that tokens ask for.
-use Rattle.std.proofs.Common.{◌≡◌, ℕ, ◌≤◌, ◌<◌, true, false, List, [], ◌∷◌, length, get_or, refl, ap, ◌∙◌, arith, Result, Ok, Err}
-use Rattle.std.specs.Prelude.{is_some}
+use Rattle.std.proofs.Common.{◌≡◌, ℕ, ◌≤◌, ◌<◌, suc, Bool, true, false, List, [], ◌∷◌, ◌++◌, length, length-append, get_or, refl, ap, sym, subst, ◌∙◌, arith, Option, Some, None, Result, Ok, Err}
+use Rattle.std.specs.Prelude.{is_some, ◌||◌}
 use Rattle.smt_text.specs.declared.token.Token.{Token}
 use Rattle.smt_text.specs.declared.token.CommandName.{CommandName}
 use Rattle.smt_text.specs.declared.token.CommandName.TheVariants as name
 use Rattle.smt_syntax.specs.declared.span.Span.{Span}
 use Rattle.smt_syntax.specs.declared.command.Command.{Command}
 use Rattle.smt_syntax.specs.declared.command.Command.TheVariants as command
-use Rattle.smt_syntax.specs.Sexps.{Sign, Sexp, Sexps, atom, group, none, more, spelling, signs_in}
+use Rattle.smt_syntax.specs.Sexps.{Sign, close_paren, Sexp, Sexps, atom, group, none, more, spelling, spellings, signs_in}
 use Rattle.smt_syntax.specs.Spans.{AllStand, Stands}
 use Rattle.smt_syntax.specs.Commands.{name_of, spans_of}
 use Rattle.smt_terms.specs.declared.sort.Sort.{Sort}
 use Rattle.smt_build.specs.declared.fault.BuildFault.{BuildFault}
 use Rattle.smt_build.specs.declared.fault.BuildFault.TheVariants.{Declared, Reserved, NotSupported}
 use Rattle.smt_build.specs.declared.fault.BuildError.{BuildError}
-use Rattle.smt_build.specs.Names.{SymbolsValue, declaration_of}
+use Rattle.smt_build.specs.declared.definition.Definition.{Definition}
+use Rattle.smt_build.specs.Names.{SymbolsValue, declaration_of, meaning_in, is_taken}
 use Rattle.smt_build.specs.Operators.{is_reserved}
 use Rattle.smt_build.specs.Sorts.{sort_in}
-use Rattle.smt_build.specs.Declaring.{next, constant, declare_constant, declare, Declares}
+use Rattle.smt_build.specs.Declaring.{next, constant, declare_constant, value_sort, declare, Declares}
 use Rattle.smt_build.proofs.Spellings.{one_word}
 
 -- one token of a slice is a word
@@ -27,48 +28,102 @@ name_is (t ∷ []) d h k n e = one_word t.kind t.text.now n e
 name_is (t ∷ u ∷ ts) d h k n e = absurd (omega arith)
 
 -- other tokens are no name
-pub no_name : (v : SymbolsValue) (ts : List Token) (n s : Sexp) → signs_in ts ≡ spelling n → (length ts ≡ 1 → ⊥) → declare_constant v n s ≡ Err NotSupported
+pub no_name : (v : SymbolsValue) (ts : List Token) (n : Sexp) (s : Result Sort BuildFault) → signs_in ts ≡ spelling n → (length ts ≡ 1 → ⊥) → declare_constant v n s ≡ Err NotSupported
 no_name v [] (atom k x) s e m = absurd (let z : ⊥ = cc in z)
 no_name v (t ∷ []) (atom k x) s e m = absurd (m refl)
 no_name v (t ∷ u ∷ ts) (atom k x) s e m = absurd (let z : ⊥ = cc in z)
 no_name v ts (group es) s e m = refl
 
-module _ (v : SymbolsValue) (ts : List Token) (d : Token) (a : 1 ≤ length ts) (b : length ts < 2) (n s : Sexp) (e : signs_in ts ≡ spelling n) where
+module _ (v : SymbolsValue) (ts : List Token) (d : Token) (a : 1 ≤ length ts) (b : length ts < 2) (n : Sexp) (s : Result Sort BuildFault) (e : signs_in ts ≡ spelling n) where
   abbrev text : List ℕ
   text = (get_or ts 0 d).text.now
 
-  as_constant : declare_constant v n s ≡ constant v text (sort_in s)
+  as_constant : declare_constant v n s ≡ constant v text s
   as_constant = ap (λ m. declare_constant v m s) (name_is ts d a b n e)
 
   pub reserved_name : is_reserved text ≡ true → declare_constant v n s ≡ Err Reserved
   reserved_name f = as_constant ∙ rw f refl
 
-  pub declared_name : is_reserved text ≡ false → is_some (declaration_of v.live text) ≡ true → declare_constant v n s ≡ Err Declared
+  pub declared_name : is_reserved text ≡ false → is_taken v text ≡ true → declare_constant v n s ≡ Err Declared
   declared_name f g = as_constant ∙ rw (f, g) refl
 
-  pub no_sort : is_reserved text ≡ false → is_some (declaration_of v.live text) ≡ false → (y : BuildFault) → Err y ≡ sort_in s → declare_constant v n s ≡ Err y
-  no_sort f g y h = as_constant ∙ rw (f, g, ← h) refl
+  pub no_sort : is_reserved text ≡ false → is_taken v text ≡ false → (y : BuildFault) → s ≡ Err y → declare_constant v n s ≡ Err y
+  no_sort f g y h = as_constant ∙ rw (f, g, h) refl
 
-  pub new_name : is_reserved text ≡ false → is_some (declaration_of v.live text) ≡ false → (r : Sort) → Ok r ≡ sort_in s → declare_constant v n s ≡ next v text r
-  new_name f g r h = as_constant ∙ rw (f, g, ← h) refl
+  pub new_name : is_reserved text ≡ false → is_taken v text ≡ false → (r : Sort) → s ≡ Ok r → declare_constant v n s ≡ next v text r
+  new_name f g r h = as_constant ∙ rw (f, g, h) refl
+
+-- a name that is not taken is not declared
+pub not_declared : (v : SymbolsValue) (x : List ℕ) → is_taken v x ≡ false → declaration_of v.live x ≡ None
+unfolding is_taken
+not_declared v x e = go (declaration_of v.live x) e where
+  go : (d : Option ℕ) → (is_some d || is_some (meaning_in v.definitions x)) ≡ false → d ≡ None
+  go None h = refl
+  go (Some d) h = absurd (let z : ⊥ = cc in z)
+
+-- nor is it defined
+pub not_defined : (v : SymbolsValue) (x : List ℕ) → is_taken v x ≡ false → meaning_in v.definitions x ≡ None
+unfolding is_taken
+not_defined v x e = go (is_some (declaration_of v.live x)) (meaning_in v.definitions x) e where
+  go : (b : Bool) (d : Option Definition) → (b || is_some d) ≡ false → d ≡ None
+  go b None h = refl
+  go true (Some d) h = absurd (let z : ⊥ = cc in z)
+  go false (Some d) h = absurd (let z : ⊥ = cc in z)
+
+-- ---- functions
+
+signs_length : (ts : List Token) → length (signs_in ts) ≡ length ts
+signs_length [] = refl
+signs_length (t ∷ ts) = ap suc (signs_length ts)
+
+-- a spelling is not empty
+spelled_some : (e : Sexp) → 1 ≤ length (spelling e)
+spelled_some (atom k x) = omega arith
+spelled_some (group es) = omega arith
+
+-- two tokens are an empty list, and no other number is
+pub no_arguments : (v : SymbolsValue) (ts : List Token) (a s : Sexp) → length ts ≡ 2 → signs_in ts ≡ spelling a → value_sort v a s ≡ sort_in v.sorts s
+no_arguments v ts (atom k x) s l e = absurd (let p : 2 ≡ 1 = sym l ∙ sym (signs_length ts) ∙ ap length e in let z : ⊥ = omega arith in z)
+no_arguments v ts (group none) s l e = refl
+no_arguments v ts (group (more x es)) s l e = absurd (
+    let p : 2 ≡ suc (length ((spelling x ++ spellings es) ++ close_paren ∷ [])) = sym l ∙ sym (signs_length ts) ∙ ap length e in
+    let q : 1 ≤ length (spelling x) = spelled_some x in
+    let z : ⊥ = omega (arith, length-append (spelling x ++ spellings es) (close_paren ∷ []), length-append (spelling x) (spellings es)) in z)
+
+pub some_arguments : (v : SymbolsValue) (ts : List Token) (a s : Sexp) → (length ts ≡ 2 → ⊥) → signs_in ts ≡ spelling a → value_sort v a s ≡ Err NotSupported
+some_arguments v ts (atom k x) s l e = refl
+some_arguments v ts (group none) s l e = absurd (l (sym (signs_length ts) ∙ ap length e))
+some_arguments v ts (group (more x es)) s l e = refl
 
 -- ---- commands
 
-pub declares_parts : (tokens : List Sign) (a b : Span) (es : Sexps) → AllStand tokens (a ∷ b ∷ []) es → (r : Result ℕ BuildError) (old new : SymbolsValue) → ((n s : Sexp) → Stands tokens a n → Stands tokens b s → Declares (declare_constant old n s) r old new) → Declares (declare old name.DeclareConst es) r old new
+pub declares_constant : (tokens : List Sign) (a b : Span) (es : Sexps) → AllStand tokens (a ∷ b ∷ []) es → (r : Result ℕ BuildError) (old new : SymbolsValue) (value : Result Sort BuildFault)
+    → ((n : Sexp) → Stands tokens a n → Declares (declare_constant old n value) r old new) → ((s : Sexp) → Stands tokens b s → value ≡ sort_in old.sorts s) → Declares (declare old name.DeclareConst es) r old new
 unfolding declare
-declares_parts tokens a b none h r old new k = absurd h
-declares_parts tokens a b (more n none) h r old new k = absurd h.1
-declares_parts tokens a b (more n (more s none)) h r old new k = k n s h.0 h.1.0
-declares_parts tokens a b (more n (more s (more t es))) h r old new k = absurd h.1.1
+declares_constant tokens a b none h r old new value k v = absurd h
+declares_constant tokens a b (more n none) h r old new value k v = absurd h.1
+declares_constant tokens a b (more n (more s none)) h r old new value k v = subst (λ q. Declares (declare_constant old n q) r old new) (v s h.1.0) (k n h.0)
+declares_constant tokens a b (more n (more s (more t es))) h r old new value k v = absurd h.1.1
+
+pub declares_function : (tokens : List Sign) (a b c : Span) (es : Sexps) → AllStand tokens (a ∷ b ∷ c ∷ []) es → (r : Result ℕ BuildError) (old new : SymbolsValue) (value : Result Sort BuildFault)
+    → ((n : Sexp) → Stands tokens a n → Declares (declare_constant old n value) r old new) → ((p s : Sexp) → Stands tokens b p → Stands tokens c s → value ≡ value_sort old p s) → Declares (declare old name.DeclareFun es) r old new
+unfolding declare
+declares_function tokens a b c none h r old new value k v = absurd h
+declares_function tokens a b c (more n none) h r old new value k v = absurd h.1
+declares_function tokens a b c (more n (more p none)) h r old new value k v = absurd h.1.1
+declares_function tokens a b c (more n (more p (more s none))) h r old new value k v = subst (λ q. Declares (declare_constant old n q) r old new) (v p s h.1.0 h.1.1.0) (k n h.0)
+declares_function tokens a b c (more n (more p (more s (more t es)))) h r old new value k v = absurd h.1.1.1
 
 nothing : (v : SymbolsValue) (n : CommandName) → declare v n none ≡ Err NotSupported
 unfolding declare
 nothing v name.DeclareConst = refl
+nothing v name.DeclareFun = refl
 nothing v _ = refl
 
-pub another : (tokens : List Sign) (v : SymbolsValue) (c : Command) → ((a b : Span) → c ≡ command.DeclareConst a b → ⊥) → (es : Sexps) → AllStand tokens (spans_of c) es → declare v (name_of c) es ≡ Err NotSupported
+pub another : (tokens : List Sign) (v : SymbolsValue) (c : Command) → ((a b : Span) → c ≡ command.DeclareConst a b → ⊥) → ((a b d : Span) → c ≡ command.DeclareFun a b d → ⊥) → (es : Sexps) → AllStand tokens (spans_of c) es → declare v (name_of c) es ≡ Err NotSupported
 unfolding declare
-another tokens v (command.DeclareConst a b) k es h = absurd (k a b refl)
-another tokens v (command.NotSupported n) k none h = nothing v n
-another tokens v (command.NotSupported n) k (more e es) h = absurd h
-another tokens v _ k es h = refl
+another tokens v (command.DeclareConst a b) k l es h = absurd (k a b refl)
+another tokens v (command.DeclareFun a b d) k l es h = absurd (l a b d refl)
+another tokens v (command.NotSupported n) k l none h = nothing v n
+another tokens v (command.NotSupported n) k l (more e es) h = absurd h
+another tokens v _ k l es h = refl

@@ -9,4 +9,7 @@ pub mod Stepping
 pub mod Declarations
 pub mod Levels
 pub mod Folds
+pub mod Uses
+pub mod Definings
 pub mod Longer
+pub mod Kept

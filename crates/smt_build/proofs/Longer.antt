@@ -28,13 +28,16 @@ use Rattle.smt_build.specs.declared.operators.Named.{Named}
 use Rattle.smt_build.specs.declared.operators.Named.TheVariants.{Applies, Indexed, LeftOut}
 use Rattle.smt_build.specs.Literals.{bit_value, hexadecimal_value, value_in, width_of_numeral, number_of}
 use Rattle.smt_build.specs.Operators.{operator_named, is_reserved}
-use Rattle.smt_build.specs.Names.{SymbolsValue, IsDeclared, declaration_of}
+use Rattle.smt_build.specs.declared.definition.Definition.{Definition}
+use Rattle.smt_build.specs.Names.{SymbolsValue, IsDeclared, AreBodies, declaration_of, meaning_in}
+use Rattle.smt_build.specs.Definitions.{have_sorts, used}
 use Rattle.smt_build.specs.Building.{Built, Grows, as_built, made, constant, declared_at, declared}
 use Rattle.smt_build.specs.Grouping.{each, of_two, left, right, Chain, next_equal, chain, chained, Listed, apart, apart_from, all_apart, all_true, joins_within, by_arity, are_taken, grouped, operation}
 use Rattle.smt_build.specs.Applying.{applied, symbol_by, symbol_term, word_term, application_by, application, indexed_term}
 use Rattle.smt_build.specs.Indices.{Indices, one, two, many, Head, plain, indexed, indexed_in, head_in, is_word_name, word_by, word_in, word_of, known, with_indices, first_width, indexed_by, indexed_application}
 use Rattle.smt_build.specs.Binding.{Bound, innermost, bound_at, new_variable, Progress, Read, as_read, first_of, local_at, local_or, misused, word_in as word_read, application_in, indexed_in_scope, is_given, naming, is_label, alone}
 use Rattle.smt_build.specs.Terms.{attributes_of, name_of, term_in, args_of, let_of, bindings_of, binding_of, body_of, annotated_of, term_alone, term_of}
+use Rattle.smt_build.proofs.Uses.{IsBody, body_held, bodies_longer}
 use Rattle.smt_build.proofs.Growth.{grows_none, grows_both, made_grows, longer, names_none, operator_declared, word_declared, constant_declared}
 
 -- the terms begin with those before, and are well sorted where those are
@@ -257,28 +260,35 @@ module _ (symbols : SymbolsValue) where
   keeps_applied terms (Indexed k) args = tt
   keeps_applied terms (Applies o arity) args = keeps_operation o arity terms args
 
-  keeps_symbol_by : (terms : TermsValue) (named : Option Named) (d : Option ℕ) → Keeps terms (symbol_by symbols terms named d)
-  keeps_symbol_by terms (Some named) d = keeps_applied terms named []
-  keeps_symbol_by terms None d = keeps_declared terms d
+  -- ---- uses of definitions
 
-  keeps_symbol : (terms : TermsValue) (x : List ℕ) → Keeps terms (symbol_term symbols terms x)
+  keeps_used : (terms : TermsValue) (f : Definition) (args : List ℕ) → f.body < length terms.nodes → Keeps terms (used terms f args)
+  keeps_used terms f args h = keeps_if terms (have_sorts terms.nodes f.parameters args) WrongSort _ (longer_none terms, h)
+
+  keeps_symbol_by : (terms : TermsValue) (named : Option Named) (f : Option Definition) (d : Option ℕ) → IsBody (length terms.nodes) f → Keeps terms (symbol_by symbols terms named f d)
+  keeps_symbol_by terms (Some named) f d h = keeps_applied terms named []
+  keeps_symbol_by terms None (Some f) d h = keeps_used terms f [] h
+  keeps_symbol_by terms None None d h = keeps_declared terms d
+
+  keeps_symbol : (terms : TermsValue) (x : List ℕ) → AreBodies (length terms.nodes) symbols.definitions → Keeps terms (symbol_term symbols terms x)
   unfolding symbol_term
-  keeps_symbol terms x = keeps_symbol_by terms (operator_named x) (declaration_of symbols.live x)
+  keeps_symbol terms x h = keeps_symbol_by terms (operator_named x) (meaning_in symbols.definitions x) (declaration_of symbols.live x) (body_held (length terms.nodes) symbols.definitions x h)
 
-  keeps_word : (terms : TermsValue) (k : TokenKind) (x : List ℕ) → Keeps terms (word_term symbols terms k x)
+  keeps_word : (terms : TermsValue) (k : TokenKind) (x : List ℕ) → AreBodies (length terms.nodes) symbols.definitions → Keeps terms (word_term symbols terms k x)
   unfolding word_term
-  keeps_word terms kind.Symbol x = keeps_symbol terms x
-  keeps_word terms kind.Binary [] = tt
-  keeps_word terms kind.Binary (a ∷ []) = tt
-  keeps_word terms kind.Binary (a ∷ b ∷ digits) = keeps_if terms (nat_le (length digits) 128) LiteralTooWide _ (keeps_literal terms (length digits) (value_in 2 bit_value digits))
-  keeps_word terms kind.Hexadecimal [] = tt
-  keeps_word terms kind.Hexadecimal (a ∷ []) = tt
-  keeps_word terms kind.Hexadecimal (a ∷ b ∷ digits) = keeps_if terms (nat_le (length digits) 32) LiteralTooWide _ (keeps_literal terms (4 * length digits) (value_in 16 hexadecimal_value digits))
-  keeps_word terms _ x = tt
+  keeps_word terms kind.Symbol x h = keeps_symbol terms x h
+  keeps_word terms kind.Binary [] h = tt
+  keeps_word terms kind.Binary (a ∷ []) h = tt
+  keeps_word terms kind.Binary (a ∷ b ∷ digits) h = keeps_if terms (nat_le (length digits) 128) LiteralTooWide _ (keeps_literal terms (length digits) (value_in 2 bit_value digits))
+  keeps_word terms kind.Hexadecimal [] h = tt
+  keeps_word terms kind.Hexadecimal (a ∷ []) h = tt
+  keeps_word terms kind.Hexadecimal (a ∷ b ∷ digits) h = keeps_if terms (nat_le (length digits) 32) LiteralTooWide _ (keeps_literal terms (4 * length digits) (value_in 16 hexadecimal_value digits))
+  keeps_word terms _ x h = tt
 
-  keeps_application_by : (terms : TermsValue) (named : Option Named) (d : Option ℕ) (args : List ℕ) → Keeps terms (application_by terms named d args)
-  keeps_application_by terms (Some named) d args = keeps_applied terms named args
-  keeps_application_by terms None d args = tt
+  keeps_application_by : (terms : TermsValue) (named : Option Named) (f : Option Definition) (d : Option ℕ) (args : List ℕ) → IsBody (length terms.nodes) f → Keeps terms (application_by terms named f d args)
+  keeps_application_by terms (Some named) f d args h = keeps_applied terms named args
+  keeps_application_by terms None (Some f) d args h = keeps_used terms f args h
+  keeps_application_by terms None None d args h = tt
 
   -- such an operator names no declaration
   abbrev AreNamed : Option Op → Type 0
@@ -304,10 +314,10 @@ module _ (symbols : SymbolsValue) where
   keeps_indexed terms f is (Some LeftOut) args = tt
   keeps_indexed terms f is None args = tt
 
-  keeps_application : (terms : TermsValue) (f : Head) (args : List ℕ) → Keeps terms (application symbols terms f args)
+  keeps_application : (terms : TermsValue) (f : Head) (args : List ℕ) → AreBodies (length terms.nodes) symbols.definitions → Keeps terms (application symbols terms f args)
   unfolding application
-  keeps_application terms (plain f) args = keeps_application_by terms (operator_named f) (declaration_of symbols.live f) args
-  keeps_application terms (indexed f is) args = keeps_indexed terms f is (operator_named f) args
+  keeps_application terms (plain f) args h = keeps_application_by terms (operator_named f) (meaning_in symbols.definitions f) (declaration_of symbols.live f) args (body_held (length terms.nodes) symbols.definitions f h)
+  keeps_application terms (indexed f is) args h = keeps_indexed terms f is (operator_named f) args
 
   keeps_word_by : (terms : TermsValue) (n : ℕ) (x : Option ℕ) → Keeps terms (word_by terms n x)
   keeps_word_by terms n None = tt
@@ -423,26 +433,26 @@ module _ (symbols : SymbolsValue) where
   keeps_misused terms true (Err TermLimit) h = tt
   keeps_misused terms false (Err e) h = tt
 
-  -- variables and names have held terms
+  -- variables, names and definitions have held terms
   abbrev AreReady : Bound → Progress → Type 0
-  AreReady bound p = AllHeld (length p.terms.nodes) bound × AllHeld (length p.terms.nodes) p.names
+  AreReady bound p = AllHeld (length p.terms.nodes) bound × AllHeld (length p.terms.nodes) p.names × AreBodies (length p.terms.nodes) symbols.definitions
 
   ready_on : (bound : Bound) (p q : Progress) → Advances p q → AreReady bound p → AreReady bound q
-  ready_on bound p q a h = (all_longer _ _ bound (advances_count p q a) h.0, a.names h.1)
+  ready_on bound p q a h = (all_longer _ _ bound (advances_count p q a) h.0, a.names h.1, bodies_longer _ _ symbols.definitions (advances_count p q a) h.2)
 
   reads_word : (bound : Bound) (p : Progress) (k : TokenKind) (x : List ℕ) → AreReady bound p → ReadsOn p (word_read symbols bound p k x)
   unfolding word_read
-  reads_word bound p kind.Symbol x h = reads_local p (local_at bound p.names x) _ (local_held _ bound p.names x h.0 h.1) (reads_kept p _ (keeps_word p.terms kind.Symbol x))
-  reads_word bound p k x h = reads_kept p _ (keeps_word p.terms k x)
+  reads_word bound p kind.Symbol x h = reads_local p (local_at bound p.names x) _ (local_held _ bound p.names x h.0 h.1) (reads_kept p _ (keeps_word p.terms kind.Symbol x h.2))
+  reads_word bound p k x h = reads_kept p _ (keeps_word p.terms k x h.2)
 
   reads_if : (p : Progress) (b : Bool) (f : BuildFault) (r : Read) → ReadsOn p r → ReadsOn p (if b then Err f else r)
   reads_if p true f r h = tt
   reads_if p false f r h = h
 
-  reads_application : (bound : Bound) (p : Progress) (f : Head) (args : List ℕ) → ReadsOn p (application_in symbols bound p f args)
+  reads_application : (bound : Bound) (p : Progress) (f : Head) (args : List ℕ) → AreReady bound p → ReadsOn p (application_in symbols bound p f args)
   unfolding application_in
-  reads_application bound p (plain f) args = reads_if p (is_some (local_at bound p.names f)) WrongSort _ (reads_kept p _ (keeps_application p.terms (plain f) args))
-  reads_application bound p (indexed f is) args = reads_kept p _ (keeps_misused p.terms (is_some (local_at bound p.names f)) _ (keeps_application p.terms (indexed f is) args))
+  reads_application bound p (plain f) args h = reads_if p (is_some (local_at bound p.names f)) WrongSort _ (reads_kept p _ (keeps_application p.terms (plain f) args h.2))
+  reads_application bound p (indexed f is) args h = reads_kept p _ (keeps_misused p.terms (is_some (local_at bound p.names f)) _ (keeps_application p.terms (indexed f is) args h.2))
 
   reads_indexed : (bound : Bound) (p : Progress) (h : Head) → ReadsOn p (indexed_in_scope symbols bound p h)
   unfolding indexed_in_scope
@@ -516,11 +526,11 @@ module _ (symbols : SymbolsValue) where
 
       pub reads_term : (bound : Bound) (p : Progress) (e : Sexp) → AreReady bound p → ReadsOn p (term_in symbols may_name bound p e)
       reads_term bound p (atom k x) h = reads_word bound p k x h
-      reads_term bound p (group (more (atom kind.Symbol f) es)) h = gives_bind IsAnything IsTermOf p (args_of symbols may_name bound p [] es) _ (reads_args bound p [] es h) (λ r a k. reads_application bound r.1 (plain f) r.0)
+      reads_term bound p (group (more (atom kind.Symbol f) es)) h = gives_bind IsAnything IsTermOf p (args_of symbols may_name bound p [] es) _ (reads_args bound p [] es h) (λ r a k. reads_application bound r.1 (plain f) r.0 (ready_on bound p r.1 a h))
       reads_term bound p (group (more (atom kind.Underscore l) es)) h = reads_then IsTermOf p (indexed_in es) _ (λ f. reads_indexed bound p f)
       reads_term bound p (group (more (atom kind.Let l) es)) h = reads_let bound p es h
       reads_term bound p (group (more (atom kind.Bang l) es)) h = reads_bang bound p es h
-      reads_term bound p (group (more (group x) es)) h = reads_then IsTermOf p (head_in x) _ (λ f. gives_bind IsAnything IsTermOf p (args_of symbols may_name bound p [] es) _ (reads_args bound p [] es h) (λ r a k. reads_application bound r.1 f r.0))
+      reads_term bound p (group (more (group x) es)) h = reads_then IsTermOf p (head_in x) _ (λ f. gives_bind IsAnything IsTermOf p (args_of symbols may_name bound p [] es) _ (reads_args bound p [] es h) (λ r a k. reads_application bound r.1 f r.0 (ready_on bound p r.1 a h)))
       reads_term bound p (group _) h = tt
 
       reads_args : (bound : Bound) (p : Progress) (args : List ℕ) (es : Sexps) → AreReady bound p → Gives IsAnything p (args_of symbols may_name bound p args es)
@@ -531,7 +541,7 @@ module _ (symbols : SymbolsValue) where
       reads_let bound p none h = tt
       reads_let bound p (more (atom k x) es) h = tt
       reads_let bound p (more (group bs) es) h = gives_bind AllHeld IsTermOf p (bindings_of symbols may_name bound p [] bs) _ (reads_bindings bound p [] bs h tt)
-          (λ r a k. let on = ready_on bound p r.1 a h in reads_body (bound ++ r.0) r.1 es (all_both _ bound r.0 on.0 k, on.1))
+          (λ r a k. let on = ready_on bound p r.1 a h in reads_body (bound ++ r.0) r.1 es (all_both _ bound r.0 on.0 k, on.1, on.2))
 
       reads_bindings : (bound : Bound) (p : Progress) (found : Bound) (bs : Sexps) → AreReady bound p → AllHeld (length p.terms.nodes) found → Gives AllHeld p (bindings_of symbols may_name bound p found bs)
       reads_bindings bound p found none h k = (advances_none p, k)
@@ -557,17 +567,17 @@ module _ (symbols : SymbolsValue) where
   abbrev opening : TermsValue → Progress
   opening terms = record { terms = terms; names = [] }
 
-  keeps_term : (terms : TermsValue) (e : Sexp) → Keeps terms (term_of symbols terms e)
+  pub keeps_term : (terms : TermsValue) (e : Sexp) → AreBodies (length terms.nodes) symbols.definitions → Keeps terms (term_of symbols terms e)
   unfolding term_of
-  keeps_term terms e = go (term_in symbols false [] (opening terms) e) (reads_term false [] (opening terms) e (tt, tt)) where
+  keeps_term terms e bodies = go (term_in symbols false [] (opening terms) e) (reads_term false [] (opening terms) e (tt, tt, bodies)) where
     go : (r : Read) → ReadsOn (opening terms) r → Keeps terms (term_alone r)
     go (Ok q) h = (h.0.longer, h.1)
     go (Err e) h = tt
 
-  -- the terms before a reading stand behind it
-  pub term_longer : (terms new : TermsValue) (e : Sexp) (t : ℕ) → term_of symbols terms e ≡ Ok (t, new) → Longer terms new
-  term_longer terms new e t is = let P : Built → Type 0 = Keeps terms in (subst P is (keeps_term terms e)).0
+  -- where the bodies of all definitions are held, the terms before a reading stand behind it
+  pub term_longer : (terms new : TermsValue) (e : Sexp) (t : ℕ) → AreBodies (length terms.nodes) symbols.definitions → term_of symbols terms e ≡ Ok (t, new) → Longer terms new
+  term_longer terms new e t bodies is = let P : Built → Type 0 = Keeps terms in (subst P is (keeps_term terms e bodies)).0
 
-  -- a term that is read is held
-  pub term_is_held : (terms new : TermsValue) (e : Sexp) (t : ℕ) → term_of symbols terms e ≡ Ok (t, new) → t < length new.nodes
-  term_is_held terms new e t is = let P : Built → Type 0 = Keeps terms in (subst P is (keeps_term terms e)).1
+  -- and a term that is read is held
+  pub term_is_held : (terms new : TermsValue) (e : Sexp) (t : ℕ) → AreBodies (length terms.nodes) symbols.definitions → term_of symbols terms e ≡ Ok (t, new) → t < length new.nodes
+  term_is_held terms new e t bodies is = let P : Built → Type 0 = Keeps terms in (subst P is (keeps_term terms e bodies)).1

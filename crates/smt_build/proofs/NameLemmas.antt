@@ -1,48 +1,48 @@
--- What a map from names to declarations holds of a name.
+-- What maps from names hold of a name.
 use Rattle.std.proofs.Common.{◌≡◌, ℕ, Bool, true, false, cond, List, [], ◌∷◌, ◌++◌, map, refl, ap, sym, ◌∙◌, Option, Some, None, Vec, Global}
 use Rattle.std.proofs.lemmas.List.{map-append}
 use Rattle.std.specs.Str.{bytes_eq}
 use Rattle.std.specs.Map.{lookup}
 use Rattle.indexmap.specs.IndexMap.{insert_entry}
 use Rattle.smt_build.specs.declared.symbols.LiveName.{LiveName}
-use Rattle.smt_build.specs.Names.{AreNumbers, entry_of, named_number, declaration_of}
+use Rattle.smt_build.specs.Names.{Meanings, AreNumbers, entry_of, named_number, declaration_of, meaning_in}
 
-abbrev Entry : Type 0
-Entry = Vec ℕ Global × ℕ
+abbrev Entry : Type 0 → Type 0
+Entry A = Vec ℕ Global × A
 
-abbrev Pair : Type 0
-Pair = List ℕ × ℕ
+module _ {A : Type 0} where
+  -- a map of keys looks a name up as the list of its meanings does
+  pub lookup-meaning : (name : List ℕ) (es : List (Entry A)) → lookup (λ k. bytes_eq name k.items) es ≡ meaning_in (map entry_of es) name
+  lookup-meaning name [] = refl
+  lookup-meaning name (e ∷ es) = ap (λ r. cond (bytes_eq name e.0.items) (Some e.1) r) (lookup-meaning name es)
 
-abbrev number_in : List Pair → List ℕ → Option ℕ
-number_in [] name = None
-number_in (p ∷ ps) name = cond (bytes_eq name p.0) (Some p.1) (number_in ps name)
+  -- one entry before the others
+  put_cons : (test : Bool) (k : Vec ℕ Global) (d : A) (e : Entry A) (es put : List (Entry A)) (rest : Meanings A) (found : Option A)
+      → (found ≡ None → map entry_of put ≡ rest ++ (k.items, d) ∷ []) → cond test (Some e.1) found ≡ None
+      → map entry_of (cond test ((e.0, d) ∷ es) (e ∷ put)) ≡ entry_of e ∷ rest ++ (k.items, d) ∷ []
+  put_cons true k d e es put rest found h n = cc
+  put_cons false k d e es put rest found h n = ap (λ l. entry_of e ∷ l) (h n)
 
-of_entries : (name : List ℕ) (es : List Entry) → lookup (λ k. bytes_eq name k.items) es ≡ number_in (map entry_of es) name
-of_entries name [] = refl
-of_entries name (e ∷ es) = ap (λ r. cond (bytes_eq name e.0.items) (Some e.1) r) (of_entries name es)
+  put_last : (k : Vec ℕ Global) (d : A) (es : List (Entry A)) → meaning_in (map entry_of es) k.items ≡ None → map entry_of (insert_entry (λ x y. bytes_eq x.items y.items) es k d) ≡ map entry_of es ++ (k.items, d) ∷ []
+  put_last k d [] n = refl
+  put_last k d (e ∷ es) n = put_cons (bytes_eq k.items e.0.items) k d e es _ (map entry_of es) (meaning_in (map entry_of es) k.items) (put_last k d es) n
 
-of_live : (name : List ℕ) (live : List LiveName) → declaration_of live name ≡ number_in (map named_number live) name
+  -- a new name is put last
+  pub meaning_put : (k : Vec ℕ Global) (d : A) (name : List ℕ) (es new : List (Entry A)) → k.items ≡ name → meaning_in (map entry_of es) name ≡ None → new ≡ insert_entry (λ x y. bytes_eq x.items y.items) es k d → map entry_of new ≡ map entry_of es ++ (name, d) ∷ []
+  meaning_put k d name es new q n e = ap (map entry_of) e ∙ put_last k d es (ap (meaning_in (map entry_of es)) q ∙ n) ∙ ap (λ x. map entry_of es ++ (x, d) ∷ []) q
+
+-- ---- declarations
+
+of_live : (name : List ℕ) (live : List LiveName) → declaration_of live name ≡ meaning_in (map named_number live) name
 of_live name [] = refl
 of_live name (l ∷ ls) = ap (λ r. cond (bytes_eq name l.name) (Some l.declaration) r) (of_live name ls)
 
-pub lookup-declaration : (name : List ℕ) (live : List LiveName) (es : List Entry) → AreNumbers live es → lookup (λ k. bytes_eq name k.items) es ≡ declaration_of live name
-lookup-declaration name live es h = of_entries name es ∙ ap (λ ps. number_in ps name) h.same ∙ sym (of_live name live)
+pub lookup-declaration : (name : List ℕ) (live : List LiveName) (es : List (Entry ℕ)) → AreNumbers live es → lookup (λ k. bytes_eq name k.items) es ≡ declaration_of live name
+lookup-declaration name live es h = lookup-meaning name es ∙ ap (λ ps. meaning_in ps name) h.same ∙ sym (of_live name live)
 
--- one entry before the others
-put_cons : (test : Bool) (k : Vec ℕ Global) (d : ℕ) (e : Entry) (es put : List Entry) (rest : List Pair) (found : Option ℕ)
-    → (found ≡ None → map entry_of put ≡ rest ++ (k.items, d) ∷ []) → cond test (Some e.1) found ≡ None
-    → map entry_of (cond test ((e.0, d) ∷ es) (e ∷ put)) ≡ entry_of e ∷ rest ++ (k.items, d) ∷ []
-put_cons true k d e es put rest found h n = cc
-put_cons false k d e es put rest found h n = ap (λ l. entry_of e ∷ l) (h n)
-
-put_last : (k : Vec ℕ Global) (d : ℕ) (es : List Entry) → number_in (map entry_of es) k.items ≡ None → map entry_of (insert_entry (λ x y. bytes_eq x.items y.items) es k d) ≡ map entry_of es ++ (k.items, d) ∷ []
-put_last k d [] n = refl
-put_last k d (e ∷ es) n = put_cons (bytes_eq k.items e.0.items) k d e es _ (map entry_of es) (number_in (map entry_of es) k.items) (put_last k d es) n
-
--- a new name is put last
-pub numbers_put : (k : Vec ℕ Global) (d : ℕ) (name : List ℕ) (live more : List LiveName) (es new : List Entry) → AreNumbers live es → k.items ≡ name → declaration_of live name ≡ None → more ≡ live ++ record { name = name; declaration = d } ∷ [] → new ≡ insert_entry (λ x y. bytes_eq x.items y.items) es k d → AreNumbers more new
+pub numbers_put : (k : Vec ℕ Global) (d : ℕ) (name : List ℕ) (live more : List LiveName) (es new : List (Entry ℕ)) → AreNumbers live es → k.items ≡ name → declaration_of live name ≡ None → more ≡ live ++ record { name = name; declaration = d } ∷ [] → new ≡ insert_entry (λ x y. bytes_eq x.items y.items) es k d → AreNumbers more new
 numbers_put k d name live more es new h q n m e = record {
   same =
-      let none : number_in (map entry_of es) k.items ≡ None = ap (number_in (map entry_of es)) q ∙ ap (λ ps. number_in ps name) h.same ∙ sym (of_live name live) ∙ n in
-      rw (e, m) (put_last k d es none ∙ ap (λ l. l ++ (k.items, d) ∷ []) h.same ∙ ap (λ x. map named_number live ++ (x, d) ∷ []) q ∙ sym (map-append named_number live (record { name = name; declaration = d } ∷ [])));
+      let none : meaning_in (map entry_of es) name ≡ None = ap (λ ps. meaning_in ps name) h.same ∙ sym (of_live name live) ∙ n in
+      rw m (meaning_put k d name es new q none e ∙ ap (λ l. l ++ (name, d) ∷ []) h.same ∙ sym (map-append named_number live (record { name = name; declaration = d } ∷ [])));
 }

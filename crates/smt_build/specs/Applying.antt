@@ -8,7 +8,9 @@ use Rattle.smt_build.specs.declared.fault.BuildFault.TheVariants.{UnknownSymbol,
 use Rattle.smt_build.specs.declared.operators.Named.{Named}
 use Rattle.smt_build.specs.declared.operators.Named.TheVariants.{Applies, Indexed, LeftOut}
 use Rattle.smt_build.specs.Operators.{operator_named}
-use Rattle.smt_build.specs.Names.{SymbolsValue, declaration_of}
+use Rattle.smt_build.specs.declared.definition.Definition.{Definition}
+use Rattle.smt_build.specs.Names.{SymbolsValue, declaration_of, meaning_in}
+use Rattle.smt_build.specs.Definitions.{used}
 use Rattle.smt_build.specs.Building.{Built, binary, hexadecimal, declared}
 use Rattle.smt_build.specs.Grouping.{operation}
 use Rattle.smt_build.specs.Indices.{Head, plain, indexed, is_word_name, word_of, known, indexed_application}
@@ -19,13 +21,14 @@ applied terms LeftOut args = Err NotSupported
 applied terms (Indexed k) args = Err WrongSort
 applied terms (Applies o arity) args = operation o arity terms args
 
-abbrev pub symbol_by : SymbolsValue → TermsValue → Option Named → Option ℕ → Built
-symbol_by symbols terms (Some named) d = applied terms named []
-symbol_by symbols terms None d = declared symbols terms d
+abbrev pub symbol_by : SymbolsValue → TermsValue → Option Named → Option Definition → Option ℕ → Built
+symbol_by symbols terms (Some named) f d = applied terms named []
+symbol_by symbols terms None (Some f) d = used terms f []
+symbol_by symbols terms None None d = declared symbols terms d
 
 -- the term of a symbol
 unfoldable pub symbol_term : SymbolsValue → TermsValue → List ℕ → Built
-symbol_term symbols terms x = symbol_by symbols terms (operator_named x) (declaration_of symbols.live x)
+symbol_term symbols terms x = symbol_by symbols terms (operator_named x) (meaning_in symbols.definitions x) (declaration_of symbols.live x)
 
 -- the term of a word; behind two bytes a literal has its digits
 unfoldable pub word_term : SymbolsValue → TermsValue → TokenKind → List ℕ → Built
@@ -38,13 +41,14 @@ abbrev pub not_applied : Option ℕ → BuildFault
 not_applied None = UnknownSymbol
 not_applied (Some d) = WrongSort
 
-abbrev pub application_by : TermsValue → Option Named → Option ℕ → List ℕ → Built
-application_by terms (Some named) d args = applied terms named args
-application_by terms None d args = Err (not_applied d)
+abbrev pub application_by : TermsValue → Option Named → Option Definition → Option ℕ → List ℕ → Built
+application_by terms (Some named) f d args = applied terms named args
+application_by terms None (Some f) d args = used terms f args
+application_by terms None None d args = Err (not_applied d)
 
 -- the term of a name and the terms that it is applied to
 unfoldable pub application : SymbolsValue → TermsValue → Head → List ℕ → Built
-application symbols terms (plain f) args = application_by terms (operator_named f) (declaration_of symbols.live f) args
+application symbols terms (plain f) args = application_by terms (operator_named f) (meaning_in symbols.definitions f) (declaration_of symbols.live f) args
 application symbols terms (indexed f is) args = indexed_application symbols terms f is (operator_named f) args
 
 -- the term of a name with indices

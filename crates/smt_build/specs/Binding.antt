@@ -11,7 +11,7 @@ use Rattle.smt_terms.specs.Terms.{TermsValue}
 use Rattle.smt_build.specs.declared.fault.BuildFault.{BuildFault}
 use Rattle.smt_build.specs.declared.fault.BuildFault.TheVariants.{UnknownSymbol, Declared, Reserved, WrongSort, NotSupported}
 use Rattle.smt_build.specs.Operators.{is_reserved}
-use Rattle.smt_build.specs.Names.{SymbolsValue, declaration_of}
+use Rattle.smt_build.specs.Names.{SymbolsValue, is_taken}
 use Rattle.smt_build.specs.Building.{Built}
 pub use Rattle.smt_build.specs.Pairs.{Bound}
 use Rattle.smt_build.specs.Indices.{Head, plain, indexed}
@@ -84,9 +84,9 @@ module _ (symbols : SymbolsValue) where
 
   -- ---- annotations
 
-  -- a name is live, or was given within this term
+  -- a name is taken, or was given within this term
   abbrev pub is_given : Progress → List ℕ → Bool
-  is_given p x = is_some (declaration_of symbols.live x) || is_bound p.names x
+  is_given p x = is_taken symbols x || is_bound p.names x
 
   -- a term is given a name, where names may be given: the faults of the name
   unfoldable pub naming : Bool → ℕ → Progress → List ℕ → Result Progress BuildFault

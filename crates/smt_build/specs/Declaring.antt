@@ -1,5 +1,5 @@
--- The declaration that a command makes (SMT-LIB 2.6, section 4.2.3).
-use Rattle.std.specs.Prelude.{◌≡◌, ℕ, List, length, is_some, Result, Ok, Err, if◌then◌else◌}
+-- The declaration that a command makes (SMT-LIB 2.6, section 4.2.3). A function without arguments is a constant.
+use Rattle.std.specs.Prelude.{◌≡◌, ℕ, List, length, Result, Ok, Err, if◌then◌else◌}
 use Rattle.smt_text.specs.declared.token.CommandName.{CommandName}
 use Rattle.smt_text.specs.declared.token.CommandName.TheVariants as name
 use Rattle.smt_syntax.specs.Sexps.{Sexp, Sexps, atom, group, none, more}
@@ -10,7 +10,7 @@ use Rattle.smt_build.specs.declared.fault.BuildFault.{BuildFault}
 use Rattle.smt_build.specs.declared.fault.BuildFault.TheVariants.{Declared, Reserved, NotSupported}
 use Rattle.smt_build.specs.declared.fault.BuildError.{BuildError}
 use Rattle.smt_build.specs.declared.fault.BuildError.TheVariants.{NoMemory, Fault}
-use Rattle.smt_build.specs.Names.{SymbolsValue, declaration_of, with_declaration}
+use Rattle.smt_build.specs.Names.{SymbolsValue, is_taken, with_declaration}
 use Rattle.smt_build.specs.Operators.{is_reserved}
 use Rattle.smt_build.specs.Sorts.{sort_in}
 
@@ -23,19 +23,29 @@ next v x s = Ok (length v.signatures, with_declaration v x (constant_signature s
 
 -- a constant of a sort: the faults of its name come before those of the sort
 abbrev pub constant : SymbolsValue → List ℕ → Result Sort BuildFault → Declaration
-constant v x s = if is_reserved x then Err Reserved else (if is_some (declaration_of v.live x) then Err Declared else s >>= next v x)
+constant v x s = if is_reserved x then Err Reserved else (if is_taken v x then Err Declared else s >>= next v x)
 
-abbrev pub declare_constant : SymbolsValue → Sexp → Sexp → Declaration
-declare_constant v (atom k x) s = constant v x (sort_in s)
+abbrev pub declare_constant : SymbolsValue → Sexp → Result Sort BuildFault → Declaration
+declare_constant v (atom k x) s = constant v x s
 declare_constant v (group es) s = Err NotSupported
 
-abbrev pub declare_parts : SymbolsValue → Sexps → Declaration
-declare_parts v (more x (more s none)) = declare_constant v x s
-declare_parts v _ = Err NotSupported
+-- the sort of a function without arguments; others are not supported
+abbrev pub value_sort : SymbolsValue → Sexp → Sexp → Result Sort BuildFault
+value_sort v (group none) s = sort_in v.sorts s
+value_sort v _ s = Err NotSupported
+
+abbrev pub constant_parts : SymbolsValue → Sexps → Declaration
+constant_parts v (more x (more s none)) = declare_constant v x (sort_in v.sorts s)
+constant_parts v _ = Err NotSupported
+
+abbrev pub function_parts : SymbolsValue → Sexps → Declaration
+function_parts v (more x (more args (more s none))) = declare_constant v x (value_sort v args s)
+function_parts v _ = Err NotSupported
 
 -- the declaration that a command with these arguments makes
 unfoldable pub declare : SymbolsValue → CommandName → Sexps → Declaration
-declare v name.DeclareConst es = declare_parts v es
+declare v name.DeclareConst es = constant_parts v es
+declare v name.DeclareFun es = function_parts v es
 declare v _ es = Err NotSupported
 
 -- The answer is the declaration, with the symbols then. After a fault, or for want of memory, the symbols are as before.

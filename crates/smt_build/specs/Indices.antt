@@ -1,5 +1,5 @@
 -- Names with indices (SMT-LIB 2.6, section 3.3, and the logic QF_BV): `(_ bvX n)`, and operators as `(_ extract i j)`.
-use Rattle.std.specs.Prelude.{ℕ, ◌==◌, ◌^◌, Bool, false, ◌&&◌, max, nat_lt, List, [], ◌∷◌, Option, Some, None, Result, Ok, Err, if◌then◌else◌}
+use Rattle.std.specs.Prelude.{ℕ, ◌==◌, ◌^◌, Bool, false, ◌&&◌, ◌||◌, is_some, max, nat_lt, List, [], ◌∷◌, Option, Some, None, Result, Ok, Err, if◌then◌else◌}
 use Rattle.smt_text.specs.Lexicon.{is_numeral}
 use Rattle.smt_text.specs.declared.token.TokenKind.TheVariants as kind
 use Rattle.smt_syntax.specs.Sexps.{Sexps, atom, none, more}
@@ -15,7 +15,7 @@ use Rattle.smt_build.specs.declared.operators.Named.{Named}
 use Rattle.smt_build.specs.declared.operators.Named.TheVariants.{Applies, Indexed, LeftOut}
 use Rattle.smt_build.specs.Literals.{width_of_numeral, number_of, index_of, turn_of}
 use Rattle.smt_build.specs.Operators.{operator_named}
-use Rattle.smt_build.specs.Names.{SymbolsValue, declaration_of}
+use Rattle.smt_build.specs.Names.{SymbolsValue, is_taken}
 use Rattle.smt_build.specs.Building.{Built, made}
 use Rattle.smt_build.specs.Grouping.{width_in}
 
@@ -72,13 +72,8 @@ word_of terms (b ∷ v ∷ digits) (one n) = word_in terms digits (width_of_nume
 word_of terms _ is = Err WrongSort
 
 -- a name that stands for something takes other indices
-abbrev pub known_by : Option Named → Option ℕ → BuildFault
-known_by (Some named) d = WrongSort
-known_by None (Some d) = WrongSort
-known_by None None = UnknownSymbol
-
 abbrev pub known : SymbolsValue → List ℕ → BuildFault
-known symbols f = if is_word_name f then WrongSort else known_by (operator_named f) (declaration_of symbols.live f)
+known symbols f = if is_word_name f || (is_some (operator_named f) || is_taken symbols f) then WrongSort else UnknownSymbol
 
 -- ---- operators
 

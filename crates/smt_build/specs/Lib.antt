@@ -6,10 +6,12 @@ pub mod Declaring
 pub mod Building
 pub mod Grouping
 pub mod Indices
+pub mod Definitions
 pub mod Applying
 pub mod Pairs
 pub mod Binding
 pub mod Terms
+pub mod Defining
 pub mod TermReader
 pub mod Views
 pub mod Steps

@@ -9,10 +9,16 @@ use Rattle.smt_terms.specs.declared.sort.Sort.TheVariants.{Bool, Word}
 use Rattle.smt_build.specs.declared.fault.BuildFault.{BuildFault}
 use Rattle.smt_build.specs.declared.fault.BuildFault.TheVariants.{UnknownSymbol, Width, NotSupported}
 use Rattle.smt_build.specs.Literals.{width_of_numeral}
+use Rattle.smt_build.specs.Names.{Meanings, meaning_in}
 
-abbrev pub sort_named : TokenKind → List ℕ → Result Sort BuildFault
-sort_named kind.Symbol x = if bytes_eq x (codes "Bool") then Ok Bool else Err UnknownSymbol
-sort_named _ x = Err NotSupported
+abbrev pub defined_sort : Option Sort → Result Sort BuildFault
+defined_sort (Some s) = Ok s
+defined_sort None = Err UnknownSymbol
+
+-- the sort of a name, where these are defined
+abbrev pub sort_named : Meanings Sort → TokenKind → List ℕ → Result Sort BuildFault
+sort_named sorts kind.Symbol x = if bytes_eq x (codes "Bool") then Ok Bool else defined_sort (meaning_in sorts x)
+sort_named sorts _ x = Err NotSupported
 
 abbrev pub word_of_width : Option ℕ → Result Sort BuildFault
 word_of_width (Some n) = Ok (Word n)
@@ -35,7 +41,7 @@ abbrev pub listed_sort : Sexps → Result Sort BuildFault
 listed_sort (more (atom i l) (more (atom j b) (more (atom k n) none))) = indexed_sort i j b k n
 listed_sort _ = Err NotSupported
 
--- the sort of an S-expression
-abbrev pub sort_in : Sexp → Result Sort BuildFault
-sort_in (atom k x) = sort_named k x
-sort_in (group es) = listed_sort es
+-- the sort of an S-expression, where these names of sorts are defined
+abbrev pub sort_in : Meanings Sort → Sexp → Result Sort BuildFault
+sort_in sorts (atom k x) = sort_named sorts k x
+sort_in sorts (group es) = listed_sort es

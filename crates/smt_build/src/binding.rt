@@ -163,7 +163,7 @@ pub(crate) fn name_term<'a>(
     if is_reserved(name) {
         return Err(BuildError::Fault(BuildFault::Reserved));
     }
-    if symbols.declaration(name).is_some() || scope.names.term(name).is_some() {
+    if symbols.is_taken(name) || scope.names.term(name).is_some() {
         return Err(BuildError::Fault(BuildFault::Declared));
     }
     scope.names.push(name, term)?;

@@ -3,13 +3,14 @@
 ghost use Rattle.std.specs.Prelude.{◌≡◌, ◌*◌, Some, slice_get, List};
 ghost use Rattle.smt_terms.specs.Nodes.{leaf};
 ghost use Rattle.smt_terms.specs.declared.sort.Signature.{Signature as SignatureValue};
-ghost use Rattle.smt_build.specs.Names.{AreDeclared, declaration_of};
+ghost use Rattle.smt_build.specs.Names.{AreDeclared, declaration_of, meaning_in};
 ghost use Rattle.smt_build.specs.Building.{made, binary, hexadecimal, constant, declared, declared_at, Builds, Means, Grows};
 ghost use Rattle.smt_build.specs.Applying.{applied, symbol_term, word_term, application_by, application, indexed_term};
 ghost use Rattle.smt_build.specs.Indices.{indexed};
 ghost use Rattle.smt_build.specs.Operators.{operator_named};
 ghost use Rattle.smt_build.specs.Views.{head_of, indices_of};
 
+use crate::definition::used;
 use crate::fault::{BuildError, BuildFault};
 use crate::grouping::operation;
 use crate::indices::{Head, Indices, indexed_application, is_word_name, known, word_of};
@@ -132,8 +133,11 @@ fn symbol_term(
     ensures means { Means (symbol_term symbols.now terms.old name.now) result terms.new }
     ensures grows { Grows symbols.now.signatures terms.old terms.new }
 {
-    match operator_named(name) {
-        Some(named) => applied(alloc, terms, named, Vec::new(alloc)),
+    if let Some(named) = operator_named(name) {
+        return applied(alloc, terms, named, Vec::new(alloc));
+    }
+    match symbols.definition(name) {
+        Some(definition) => used(terms, definition, &[]),
         None => declared(alloc, symbols, terms, name),
     }
 }
@@ -167,18 +171,19 @@ fn plain_application(
     name: &[u8],
     args: Vec<TermId>,
 ) -> Result<TermId, BuildError>
-    ensures means { Means (application_by terms.old (operator_named name.now) (declaration_of symbols.now.live name.now) args.items) result terms.new }
+    ensures means { Means (application_by terms.old (operator_named name.now) (meaning_in symbols.now.definitions name.now) (declaration_of symbols.now.live name.now) args.items) result terms.new }
     ensures grows { (signatures : List SignatureValue) → Grows signatures terms.old terms.new }
 {
-    match operator_named(name) {
-        Some(named) => applied(alloc, terms, named, args),
-        None => {
-            if symbols.declaration(name).is_some() {
-                Err(BuildError::Fault(BuildFault::WrongSort))
-            } else {
-                Err(BuildError::Fault(BuildFault::UnknownSymbol))
-            }
-        }
+    if let Some(named) = operator_named(name) {
+        return applied(alloc, terms, named, args);
+    }
+    if let Some(definition) = symbols.definition(name) {
+        return used(terms, definition, args.as_slice());
+    }
+    if symbols.declaration(name).is_some() {
+        Err(BuildError::Fault(BuildFault::WrongSort))
+    } else {
+        Err(BuildError::Fault(BuildFault::UnknownSymbol))
     }
 }
 

@@ -5,7 +5,7 @@ ghost use Rattle.smt_syntax.specs.Sexps.{signs_in, signs_of, spelling, Sexp, Sex
 ghost use Rattle.smt_syntax.specs.Spans.{tokens_at, IsWithin, AllStand};
 ghost use Rattle.smt_syntax.specs.Commands.{name_of, spans_of};
 ghost use Rattle.smt_terms.specs.Terms.{constant_signature};
-ghost use Rattle.smt_build.specs.Declaring.{declare, declare_constant, Declares};
+ghost use Rattle.smt_build.specs.Declaring.{declare, declare_constant, value_sort, Declares};
 
 use crate::fault::{BuildError, BuildFault};
 use crate::operators::is_reserved;
@@ -42,9 +42,9 @@ fn declare_constant(
     symbols: &mut Symbols,
     alloc: Global,
     name: &[Token<'_>],
-    sort: &[Token<'_>],
+    value: Result<Sort, BuildFault>,
 ) -> Result<DeclId, BuildError>
-    ensures { (n s : Sexp) → signs_in name.now ≡ spelling n → signs_in sort.now ≡ spelling s → Declares (declare_constant symbols.old n s) result symbols.old symbols.new }
+    ensures { (n : Sexp) → signs_in name.now ≡ spelling n → Declares (declare_constant symbols.old n value) result symbols.old symbols.new }
 {
     let [name] = name else {
         return Err(BuildError::Fault(BuildFault::NotSupported));
@@ -52,15 +52,29 @@ fn declare_constant(
     if is_reserved(name.text) {
         return Err(BuildError::Fault(BuildFault::Reserved));
     }
-    if symbols.declaration(name.text).is_some() {
+    if symbols.is_taken(name.text) {
         return Err(BuildError::Fault(BuildFault::Declared));
     }
-    let value = match sort_of(sort) {
+    let value = match value {
         Ok(value) => value,
         Err(fault) => return Err(BuildError::Fault(fault)),
     };
     let number = symbols.add(alloc, name.text, constant_signature(alloc, value))?;
     Ok(number)
+}
+
+/// The sort of a function without arguments; others are not supported.
+pub(crate) fn value_sort(
+    symbols: &Symbols,
+    arguments: &[Token<'_>],
+    value: &[Token<'_>],
+) -> Result<Sort, BuildFault>
+    ensures { (a s : Sexp) → signs_in arguments.now ≡ spelling a → signs_in value.now ≡ spelling s → result ≡ value_sort symbols.now a s }
+{
+    if arguments.len() != 2 {
+        return Err(BuildFault::NotSupported);
+    }
+    sort_of(symbols, value)
 }
 
 impl Symbols {
@@ -76,12 +90,20 @@ impl Symbols {
         let items = tokens.as_slice();
         match command {
             Command::DeclareConst { name, sort } => {
-                declare_constant(
+                let value = sort_of(self, tokens_at(items, *sort));
+                declare_constant(self, alloc, tokens_at(items, *name), value)
+            }
+            Command::DeclareFun {
+                name,
+                arguments,
+                value,
+            } => {
+                let value = value_sort(
                     self,
-                    alloc,
-                    tokens_at(items, *name),
-                    tokens_at(items, *sort),
-                )
+                    tokens_at(items, *arguments),
+                    tokens_at(items, *value),
+                );
+                declare_constant(self, alloc, tokens_at(items, *name), value)
             }
             _ => Err(BuildError::Fault(BuildFault::NotSupported)),
         }

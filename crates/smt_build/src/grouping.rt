@@ -27,7 +27,7 @@ pub(crate) fn held_sort(terms: &Terms, term: TermId) -> Option<Sort>
     }
 }
 
-fn has_sort(sort: Sort, held: Option<Sort>) -> bool
+pub(crate) fn has_sort(sort: Sort, held: Option<Sort>) -> bool
     ensures { result ≡ has_sort sort held }
 {
     match held {

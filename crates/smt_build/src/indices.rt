@@ -147,7 +147,7 @@ pub fn known(symbols: &Symbols, name: &[u8]) -> BuildFault
     if is_word_name(name) {
         return BuildFault::WrongSort;
     }
-    if operator_named(name).is_some() || symbols.declaration(name).is_some() {
+    if operator_named(name).is_some() || symbols.is_taken(name) {
         BuildFault::WrongSort
     } else {
         BuildFault::UnknownSymbol

@@ -1,10 +1,11 @@
 //! What the names, sorts and terms of a script mean.
 //!
-//! [`symbols::Symbols`] keeps the declarations that were made and the names that are live, level by level. Its `declare`
-//! makes the declaration that a command asks for, and its `elaborate` gives the number of the term that an S-expression
-//! means over the live names; each tells the first fault, and then all is as before. The meaning is defined by recursion
-//! over the S-expression; the code reads its tokens from left to right with a stack of open lists, and is proved to give
-//! the same. Constants of Bool and of word sorts are declared. All operators of Core, of FixedSizeBitVectors and of the
+//! [`symbols::Symbols`] keeps the declarations that were made, the definitions, and the names that are live, level by
+//! level. Its `declare`, `define` and `define_sort` make the declaration or the definition that a command asks for, and its
+//! `elaborate` gives the number of the term that an S-expression means over the live names; each tells the first fault, and
+//! then all is as before. The meaning is defined by recursion over the S-expression; the code reads its tokens from left to
+//! right with a stack of open lists, and is proved to give the same. Constants of Bool and of word sorts are declared, and
+//! functions without parameters and names of sorts are defined. All operators of Core, of FixedSizeBitVectors and of the
 //! logic QF_BV are read, those on two or more arguments grouped, chained or held pairwise as the standard says, and so are
 //! literals, `(_ bvX n)`, names with indices, `let`, and terms with attributes; other forms of the standard are told as not
 //! supported. The crate stands on `smt_syntax`, `smt_terms` and `indexmap`.
@@ -13,6 +14,8 @@
 pub mod binding;
 pub mod build;
 pub mod declare;
+pub mod define;
+pub mod definition;
 pub mod elaborate;
 pub mod fault;
 mod grouping;

@@ -6,19 +6,22 @@ ghost use Rattle.smt_build.specs.Sorts.{sort_named, width_sort, named_sort, inde
 
 use crate::fault::BuildFault;
 use crate::literal::width_of_numeral;
+use crate::symbols::Symbols;
 use smt_terms::sort::Sort;
 use smt_text::token::{Token, TokenKind};
 
 /// The sort that a word names.
-fn sort_named(kind: TokenKind, name: &[u8]) -> Result<Sort, BuildFault>
-    ensures { result ≡ sort_named kind name.now }
+fn sort_named(symbols: &Symbols, kind: TokenKind, name: &[u8]) -> Result<Sort, BuildFault>
+    ensures { result ≡ sort_named symbols.now.sorts kind name.now }
 {
     match kind {
         TokenKind::Symbol => {
             if name == b"Bool".as_slice() {
-                Ok(Sort::Bool)
-            } else {
-                Err(BuildFault::UnknownSymbol)
+                return Ok(Sort::Bool);
+            }
+            match symbols.defined_sort(name) {
+                Some(sort) => Ok(sort),
+                None => Err(BuildFault::UnknownSymbol),
             }
         }
         _ => Err(BuildFault::NotSupported),
@@ -69,11 +72,11 @@ fn indexed_sort(mark: &Token<'_>, name: &Token<'_>, width: &Token<'_>) -> Result
 }
 
 /// The sort that tokens spell.
-pub fn sort_of(tokens: &[Token<'_>]) -> Result<Sort, BuildFault>
-    ensures { (s : Sexp) → signs_in tokens.now ≡ spelling s → result ≡ sort_in s }
+pub fn sort_of(symbols: &Symbols, tokens: &[Token<'_>]) -> Result<Sort, BuildFault>
+    ensures { (s : Sexp) → signs_in tokens.now ≡ spelling s → result ≡ sort_in symbols.now.sorts s }
 {
     match tokens {
-        [name] => sort_named(name.kind, name.text),
+        [name] => sort_named(symbols, name.kind, name.text),
         [_, mark, name, width, _] => indexed_sort(mark, name, width),
         _ => Err(BuildFault::NotSupported),
     }

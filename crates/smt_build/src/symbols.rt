@@ -1,10 +1,11 @@
-// The declarations, and the names that are live.
+// The declarations, the definitions, and the names that are live.
 
 ghost use Rattle.std.specs.Prelude.{◌≡◌, ◌≤◌, ◌++◌, None, OnOk, OnErr, IfOk, length, replicate, slice_get, option_copied};
-ghost use Rattle.smt_build.specs.Names.{no_symbols, declaration_of, with_declaration, pushed, popped, emptied};
+ghost use Rattle.smt_build.specs.Names.{no_symbols, declaration_of, meaning_in, is_taken, with_declaration, with_definition, with_definitions, with_sort, pushed, popped, emptied};
 
+use crate::definition::Definition;
 use indexmap::IndexMap;
-use smt_terms::sort::{DeclId, Signature};
+use smt_terms::sort::{DeclId, Signature, Sort};
 use smt_text::text::Text;
 use std::alloc::{AllocError, Global};
 use std::marker::Model;
@@ -16,27 +17,38 @@ pub struct LiveName {
     pub declaration: DeclId,
 }
 
-/// The declarations ever made, and the live names in the order of their declarations.
+/// How many names, definitions of functions and names of sorts were live where a level began.
+#[derive(Clone, Copy, Debug)]
+pub struct Level {
+    pub names: usize,
+    pub definitions: usize,
+    pub sorts: usize,
+}
+
+/// The declarations ever made, the live names in the order of their declarations, and the live definitions.
 #[derive(Drop)]
 pub struct Symbols {
     live: Vec<LiveName>,
     numbers: IndexMap<Vec<u8>, DeclId>,
     signatures: Vec<Signature>,
-    levels: Vec<usize>,
+    definitions: IndexMap<Vec<u8>, Definition>,
+    sorts: IndexMap<Vec<u8>, Sort>,
+    levels: Vec<Level>,
 }
 
 impl Model for Symbols {
-    ghost use Rattle.smt_build.specs.Names.{SymbolsValue, AreNumbers};
+    ghost use Rattle.std.specs.Prelude.{map};
+    ghost use Rattle.smt_build.specs.Names.{SymbolsValue, AreNumbers, entry_of};
 
     ghost Value = { SymbolsValue };
 
-    ghost view = { λ s. record { live = s.live.items; signatures = s.signatures.items; levels = s.levels.items } };
+    ghost view = { λ s. record { live = s.live.items; signatures = s.signatures.items; definitions = map entry_of s.definitions.entries; sorts = map entry_of s.sorts.entries; levels = s.levels.items } };
 
     ghost invariant = { λ s. AreNumbers s.live.items s.numbers.entries };
 }
 
 /// Puts so many copies at the end.
-fn push_copies(items: &mut Vec<usize>, item: usize, count: u64) -> Result<(), AllocError>
+fn push_copies(items: &mut Vec<Level>, item: Level, count: u64) -> Result<(), AllocError>
     ensures ok { OnOk result (items.new.items ≡ items.old.items ++ replicate count item) }
     ensures err { OnErr result (items.new.items ≡ items.old.items) }
 {
@@ -55,7 +67,7 @@ fn push_copies(items: &mut Vec<usize>, item: usize, count: u64) -> Result<(), Al
 }
 
 impl Symbols {
-    /// No declarations, no names, no levels.
+    /// No declarations, no definitions, no names, no levels.
     pub fn new(alloc: Global) -> Symbols
         ensures { result ≡ no_symbols }
     {
@@ -63,6 +75,8 @@ impl Symbols {
             live: Vec::new(alloc),
             numbers: IndexMap::new(alloc),
             signatures: Vec::new(alloc),
+            definitions: IndexMap::new(alloc),
+            sorts: IndexMap::new(alloc),
             levels: Vec::new(alloc),
         }
     }
@@ -88,6 +102,28 @@ impl Symbols {
         self.numbers.get(name).copied()
     }
 
+    /// What a name is defined as; `None` exactly where no definition of it is live.
+    pub fn definition(&self, name: &[u8]) -> Option<&Definition>
+        ensures { option_copied result ≡ meaning_in self.now.definitions name.now }
+    {
+        self.definitions.get(name)
+    }
+
+    /// The sort that a name is defined as; `None` exactly where no definition of it is live.
+    pub fn defined_sort(&self, name: &[u8]) -> Option<Sort>
+        ensures { result ≡ meaning_in self.now.sorts name.now }
+    {
+        self.sorts.get(name).copied()
+    }
+
+    /// Whether a declaration or a definition of the name is live.
+    #[tactic(auto, unfolding(crate::specs::Names::is_taken))]
+    pub fn is_taken(&self, name: &[u8]) -> bool
+        ensures { result ≡ is_taken self.now name.now }
+    {
+        self.declaration(name).is_some() || self.definition(name).is_some()
+    }
+
     /// How many levels are pushed.
     pub fn levels(&self) -> usize
         ensures { result ≡ length self.now.levels }
@@ -100,30 +136,38 @@ impl Symbols {
         ensures ok { OnOk result (self.new ≡ pushed self.old count) }
         ensures err { OnErr result (self.new ≡ self.old) }
     {
-        let names = self.live.len();
-        push_copies(&mut self.levels, names, count)
+        let level = Level {
+            names: self.live.len(),
+            definitions: self.definitions.len(),
+            sorts: self.sorts.len(),
+        };
+        push_copies(&mut self.levels, level, count)
     }
 
-    /// Ends so many levels: the names that were declared in them are live no more. Takes no memory.
+    /// Ends so many levels: what was declared and defined in them is live no more. Takes no memory.
     pub fn pop(&mut self, count: u64)
         requires { count ≤ length self.old.levels }
         ensures { self.new ≡ popped self.old count }
     {
         let len = self.levels.len() - count as usize;
-        if let Some(names) = self.levels.get(len) {
-            let names = *names;
-            self.live.truncate(names);
-            self.numbers.truncate(names);
+        if let Some(level) = self.levels.get(len) {
+            let level = *level;
+            self.live.truncate(level.names);
+            self.numbers.truncate(level.names);
+            self.definitions.truncate(level.definitions);
+            self.sorts.truncate(level.sorts);
             self.levels.truncate(len);
         }
     }
 
-    /// Ends all levels and forgets all names; the numbers of declarations go on. Takes no memory.
+    /// Ends all levels and forgets all names and definitions; the numbers of declarations go on. Takes no memory.
     pub fn reset(&mut self)
         ensures { self.new ≡ emptied self.old }
     {
         self.live.clear();
         self.numbers.clear();
+        self.definitions.clear();
+        self.sorts.clear();
         self.levels.clear();
     }
 
@@ -162,5 +206,44 @@ impl Symbols {
                 Err(AllocError::from(refused))
             }
         }
+    }
+
+    /// Defines a name that no definition is live for.
+    pub(crate) fn add_definition(
+        &mut self,
+        alloc: Global,
+        name: &[u8],
+        definition: Definition,
+    ) -> Result<(), AllocError>
+        requires { meaning_in self.old.definitions name.now ≡ None }
+        ensures ok { OnOk result (self.new ≡ with_definition self.old name.now definition) }
+        ensures err { OnErr result (self.new ≡ self.old) }
+    {
+        let key = Vec::from_slice(alloc, name)?;
+        self.definitions.insert(key, definition)?;
+        Ok(())
+    }
+
+    /// Forgets the definitions behind so many. Takes no memory.
+    pub(crate) fn cut_definitions(&mut self, len: usize)
+        ensures { self.new ≡ with_definitions self.old len }
+    {
+        self.definitions.truncate(len);
+    }
+
+    /// Gives a sort a name that none has.
+    pub(crate) fn add_sort(
+        &mut self,
+        alloc: Global,
+        name: &[u8],
+        sort: Sort,
+    ) -> Result<(), AllocError>
+        requires { meaning_in self.old.sorts name.now ≡ None }
+        ensures ok { OnOk result (self.new ≡ with_sort self.old name.now sort) }
+        ensures err { OnErr result (self.new ≡ self.old) }
+    {
+        let key = Vec::from_slice(alloc, name)?;
+        self.sorts.insert(key, sort)?;
+        Ok(())
     }
 }

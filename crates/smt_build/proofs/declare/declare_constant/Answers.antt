@@ -1,12 +1,14 @@
-use Rattle.std.proofs.Common.{ap, sym, ◌∙◌, refl}
-use Rattle.std.specs.Prelude.{is_some}
-use Rattle.smt_build.proofs.Declarations.{declared_name, no_sort}
+use Rattle.std.proofs.Common.{sym, ◌∙◌, refl}
+use Rattle.smt_build.proofs.Declarations.{declared_name, no_sort, not_declared}
 use Rattle.smt_build.proofs.declare.declare_constant.Goals as goal
 
-pub returns-then-is_some : goal.returns-then-is_some
-returns-then-is_some c = λ n s e f.
-    (declared_name _ _ _ c.in-len1.len_at_least c.in-len1.len_below n s e (sym c.is_reserved.ensures ∙ c.if-is_reserved.false) (sym (c.is_some.ensures ∙ ap is_some c.declaration.ensures) ∙ c.if-is_some.true), refl)
+pub returns-then-is_taken : goal.returns-then-is_taken
+returns-then-is_taken c = λ n e.
+    (declared_name _ _ _ c.in-len1.len_at_least c.in-len1.len_below n _ e (sym c.is_reserved.ensures ∙ c.if-is_reserved.false) (sym c.is_taken.ensures ∙ c.if-is_taken.true), refl)
 
 pub returns-in-Err : goal.returns-in-Err
-returns-in-Err c = λ n s e f.
-    (no_sort _ _ _ c.in-len1.len_at_least c.in-len1.len_below n s e (sym c.is_reserved.ensures ∙ c.if-is_reserved.false) (sym (c.is_some.ensures ∙ ap is_some c.declaration.ensures) ∙ c.if-is_some.false) c.in-Err.fault (c.in-Err.ensures s f), refl)
+returns-in-Err c = λ n e.
+    (no_sort _ _ _ c.in-len1.len_at_least c.in-len1.len_below n _ e (sym c.is_reserved.ensures ∙ c.if-is_reserved.false) (sym c.is_taken.ensures ∙ c.if-is_taken.false) c.in-Err.fault c.in-Err.is, refl)
+
+pub add-requires : goal.add-requires
+add-requires c = not_declared _ _ (sym c.is_taken.ensures ∙ c.if-is_taken.false)
