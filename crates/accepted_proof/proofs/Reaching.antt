@@ -141,6 +141,8 @@ reached_first = record {
     live = record { count = refl; each = λ k l e. absurd (let z : ⊥ = cc in z) };
     constants = λ k d lt. absurd (omega (arith, lt));
     declared = none_declared [];
+    bodies = tt;
+    sorts = tt;
     held = λ k d lt. absurd (omega (arith, lt));
     truths = λ k d lt. absurd (omega (arith, lt));
     plain = λ k d lt. absurd (omega (arith, lt));

@@ -1,5 +1,5 @@
 -- What stays a state.
-use Rattle.std.proofs.Common.{◌≡◌, ℕ, ◌<◌, ◌≤◌, ◌∙◌, Bool, true, false, List, refl, length, get_or, ap, arith, length-append, Ok, Some, None, Option}
+use Rattle.std.proofs.Common.{◌≡◌, ℕ, ◌<◌, ◌≤◌, ◌∙◌, Bool, true, false, List, [], refl, sym, subst, length, get_or, ap, arith, length-append, Ok, Some, None, Option}
 use Rattle.std.specs.Prelude.{All, if◌then◌else◌}
 use Rattle.std.proofs.lemmas.List.Elements.{All-push}
 use Rattle.smt_text.specs.declared.token.CommandName.{CommandName}
@@ -13,8 +13,10 @@ use Rattle.scope_selectors.specs.declared.live.Live.{Live}
 use Rattle.scope_selectors.specs.Scopes.{ScopesValue, asserted}
 use Rattle.scope_selectors.proofs.Asserting.{one_more}
 use Rattle.smt_build.specs.Building.{Grows}
-use Rattle.smt_build.specs.Names.{SymbolsValue}
+use Rattle.smt_build.specs.Names.{SymbolsValue, with_definition}
 use Rattle.smt_build.specs.Declaring.{declare}
+use Rattle.smt_build.specs.Defining.{define_sort}
+use Rattle.smt_build.proofs.Uses.{bodies_longer, bodies_push}
 use Rattle.script_state.specs.declared.answer.Verdict.{Verdict}
 use Rattle.script_state.specs.declared.error_text.ErrorText.{ErrorText}
 use Rattle.script_state.specs.declared.error_text.ErrorText.TheVariants.{NotSupported, WrongArguments}
@@ -23,6 +25,7 @@ use Rattle.script_state.specs.States.{StateValue, IsState}
 use Rattle.script_state.specs.Steps.{objection}
 use Rattle.script_state.proofs.Marking.{plain_longer}
 use Rattle.script_state.proofs.Declared.{declared_kept}
+use Rattle.script_state.proofs.Defined.{sort_defined, names_push}
 
 abbrev with_terms : StateValue → TermsValue → StateValue
 with_terms v w = record { symbols = v.symbols; terms = w; scopes = v.scopes; standing = v.standing }
@@ -38,6 +41,8 @@ standing_state v o is = record {
   live = is.live;
   constants = is.constants;
   declared = is.declared;
+  bodies = is.bodies;
+  sorts = is.sorts;
   held = is.held;
   truths = is.truths;
   plain = is.plain;
@@ -46,17 +51,37 @@ standing_state v o is = record {
 -- one declaration more
 pub declared_state : (v : StateValue) (w : SymbolsValue) (n : CommandName) (es : Sexps) (d : ℕ) → declare v.symbols n es ≡ Ok (d, w) → IsState v → IsState (record { symbols = w; terms = v.terms; scopes = v.scopes; standing = None })
 declared_state v w n es d e is =
-    let kept = declared_kept v.symbols w n es d v.terms.nodes e in
+    let kept = declared_kept v.symbols w n es d v.terms.nodes is.sorts e in
     record {
       terms = is.terms;
       scopes = is.scopes;
       live = kept.live is.live;
       constants = kept.constants is.constants;
       declared = kept.declared is.declared;
+      bodies = rw kept.definitions is.bodies;
+      sorts = rw kept.sorts is.sorts;
       held = is.held;
       truths = is.truths;
       plain = is.plain;
     }
+
+-- one name of a sort more
+pub named_state : (v : StateValue) (w : SymbolsValue) (n : CommandName) (es : Sexps) → define_sort v.symbols n es ≡ Ok w → IsState v → IsState (record { symbols = w; terms = v.terms; scopes = v.scopes; standing = None })
+named_state v w n es e is =
+    let one = sort_defined v.symbols w n es is.sorts e in
+    subst (λ (u : SymbolsValue). IsState (record { symbols = u; terms = v.terms; scopes = v.scopes; standing = None })) (sym one.3)
+    (record {
+      terms = is.terms;
+      scopes = is.scopes;
+      live = record { count = is.live.count; each = is.live.each };
+      constants = is.constants;
+      declared = is.declared;
+      bodies = is.bodies;
+      sorts = names_push v.symbols.sorts one.0 one.1 is.sorts one.2;
+      held = is.held;
+      truths = is.truths;
+      plain = is.plain;
+    })
 
 -- more terms
 module _ (v : StateValue) (w : TermsValue) (grows : Grows v.symbols.signatures v.terms w) (is : IsState v) where
@@ -79,6 +104,8 @@ module _ (v : StateValue) (w : TermsValue) (grows : Grows v.symbols.signatures v
     live = is.live;
     constants = is.constants;
     declared = grows.declared is.declared;
+    bodies = bodies_longer _ _ v.symbols.definitions longer is.bodies;
+    sorts = is.sorts;
     held = still_held;
     truths = still_true;
     plain = still_plain;
@@ -103,7 +130,24 @@ asserted_state v t scopes is lt none e =
       live = is.live;
       constants = is.constants;
       declared = is.declared;
+      bodies = is.bodies;
+      sorts = is.sorts;
       held = All-push (λ (a : Live). a.term < length v.terms.nodes) v.scopes.live new is.held lt;
       truths = All-push (λ (a : Live). sort_of v.terms.nodes a.term ≡ sort.Bool) v.scopes.live new is.truths (sort_same _ _ parts.0);
       plain = All-push (λ (a : Live). is_plain v.terms.nodes a.term ≡ true) v.scopes.live new is.plain parts.1;
     })
+
+-- one definition more, of a term that is read over the terms before it
+pub defined_state : (v : StateValue) (w : TermsValue) (x : List ℕ) (t : ℕ) → IsState (with_terms v w) → t < length w.nodes → IsState (record { symbols = with_definition v.symbols x (record { parameters = []; body = t }); terms = w; scopes = v.scopes; standing = None })
+defined_state v w x t is lt = record {
+  terms = is.terms;
+  scopes = is.scopes;
+  live = record { count = is.live.count; each = is.live.each };
+  constants = is.constants;
+  declared = is.declared;
+  bodies = bodies_push (length w.nodes) v.symbols.definitions x (record { parameters = []; body = t }) is.bodies lt;
+  sorts = is.sorts;
+  held = is.held;
+  truths = is.truths;
+  plain = is.plain;
+}

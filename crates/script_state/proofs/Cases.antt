@@ -10,6 +10,7 @@ use Rattle.smt_terms.specs.Terms.{TermsValue}
 use Rattle.smt_build.specs.Building.{Built}
 use Rattle.smt_build.specs.Names.{SymbolsValue}
 use Rattle.smt_build.specs.Declaring.{Declaration, declare}
+use Rattle.smt_build.specs.Defining.{SortDefinition, FunctionDefinition, define_sort, define}
 use Rattle.smt_build.specs.Terms.{term_of}
 use Rattle.script_state.specs.declared.answer.Answer.TheVariants.{Done}
 use Rattle.script_state.specs.declared.error_text.ErrorText.{ErrorText}
@@ -17,7 +18,7 @@ use Rattle.script_state.specs.declared.error_text.ErrorText.TheVariants.{NotSupp
 use Rattle.script_state.specs.ErrorTexts.{syntax_error, build_error}
 use Rattle.script_state.specs.Readings.{Reading}
 use Rattle.script_state.specs.States.{StateValue}
-use Rattle.script_state.specs.Steps.{Step, refuse, names_logic, choosing, declaring, objection, asserting_unless, asserting, checking, obey, obey_read, step}
+use Rattle.script_state.specs.Steps.{Step, refuse, names_logic, choosing, declaring, naming_sort, defining, objection, asserting_unless, asserting, checking, obey, obey_read, step}
 
 module _ (s : StateValue) (P : Step → Type 0) where
   -- it holds of a refusal, of a command that changes nothing, and of each change
@@ -26,6 +27,8 @@ module _ (s : StateValue) (P : Step → Type 0) where
     pub kept : P (Done, s)
     pub checked : P (checking s)
     pub declared : (n : CommandName) (es : Sexps) (d : ℕ) (w : SymbolsValue) → declare s.symbols n es ≡ Ok (d, w) → P (declaring s (Ok (d, w)))
+    pub named : (n : CommandName) (es : Sexps) (w : SymbolsValue) → define_sort s.symbols n es ≡ Ok w → P (naming_sort s (Ok w))
+    pub defined : (n : CommandName) (es : Sexps) (w : SymbolsValue) (terms : TermsValue) → define s.symbols s.terms n es ≡ Ok (w, terms) → P (defining s (Ok (w, terms)))
     pub asserted : (x : Sexp) (t : ℕ) (w : TermsValue) → term_of s.symbols s.terms x ≡ Ok (t, w) → objection w.nodes t ≡ None → P (asserting_unless None s t w)
 
   module _ (h : Holds) where
@@ -40,6 +43,18 @@ module _ (s : StateValue) (P : Step → Type 0) where
     by_declaring n es = go (declare s.symbols n es) refl where
       go : (d : Declaration) → declare s.symbols n es ≡ d → P (declaring s d)
       go (Ok d) e = h.declared n es d.0 d.1 e
+      go (Err f) e = h.refused (build_error f)
+
+    by_naming : (n : CommandName) (es : Sexps) → P (naming_sort s (define_sort s.symbols n es))
+    by_naming n es = go (define_sort s.symbols n es) refl where
+      go : (d : SortDefinition) → define_sort s.symbols n es ≡ d → P (naming_sort s d)
+      go (Ok w) e = h.named n es w e
+      go (Err f) e = h.refused (build_error f)
+
+    by_defining : (n : CommandName) (es : Sexps) → P (defining s (define s.symbols s.terms n es))
+    by_defining n es = go (define s.symbols s.terms n es) refl where
+      go : (d : FunctionDefinition) → define s.symbols s.terms n es ≡ d → P (defining s d)
+      go (Ok d) e = h.defined n es d.0 d.1 e
       go (Err f) e = h.refused (build_error f)
 
     by_objection : (x : Sexp) (t : ℕ) (w : TermsValue) → term_of s.symbols s.terms x ≡ Ok (t, w) → P (asserting_unless (objection w.nodes t) s t w)
@@ -62,6 +77,9 @@ module _ (s : StateValue) (P : Step → Type 0) where
     by_command name.SetInfo none = h.refused NotSupported
     by_command name.SetInfo (more x es) = h.kept
     by_command name.DeclareConst es = by_declaring name.DeclareConst es
+    by_command name.DeclareFun es = by_declaring name.DeclareFun es
+    by_command name.DefineSort es = by_naming name.DefineSort es
+    by_command name.DefineFun es = by_defining name.DefineFun es
     by_command name.Assert none = h.refused NotSupported
     by_command name.Assert (more x none) = by_asserting x
     by_command name.Assert (more x (more y es)) = h.refused NotSupported

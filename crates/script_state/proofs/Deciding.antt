@@ -56,6 +56,8 @@ changes_nothing s = record {
   kept = λ e h. refl;
   checked = λ e h. absurd (check_is_not_refused e h);
   declared = λ n es d w k e h. absurd (done_is_not_refused e h);
+  named = λ n es w k e h. absurd (done_is_not_refused e h);
+  defined = λ n es w t k e h. absurd (done_is_not_refused e h);
   asserted = λ x t w k o e h. absurd (done_is_not_refused e h);
 }
 
@@ -71,5 +73,7 @@ makes_one s r = of_step s (MakesOne s) (record {
   kept = omega arith;
   checked = omega arith;
   declared = λ n es d w k. omega arith;
+  named = λ n es w k. omega arith;
+  defined = λ n es w t k. omega arith;
   asserted = λ x t w k o. omega arith;
 }) r

@@ -1,6 +1,7 @@
 -- A declaration keeps those that were made, and is a constant that is a word.
-use Rattle.std.proofs.Common.{◌≡◌, ℕ, zero, suc, Bool, true, false, List, [], ◌∷◌, ◌++◌, length, refl, sym, ap, ◌∙◌, subst, inl, inr, ⊎_elim, arith, leb-true, length-append, Some, None, Result, Ok, Err}
+use Rattle.std.proofs.Common.{◌≡◌, ℕ, zero, suc, Bool, true, false, List, [], ◌∷◌, ◌++◌, length, refl, sym, ap, ◌∙◌, subst, inl, inr, ⊎_elim, arith, leb-true, length-append, Option, Some, None, Result, Ok, Err}
 use Rattle.std.specs.Prelude.{◌&&◌, nat_le, ◌⊎◌, slice_get, if◌then◌else◌, is_some, All}
+use Rattle.std.specs.List.{AllByRecursion}
 use Rattle.std.specs.Str.{bytes_eq}
 use Rattle.std.proofs.lemmas.List.Elements.{All-push}
 use Rattle.smt_text.specs.declared.token.TokenKind.{TokenKind}
@@ -18,26 +19,37 @@ use Rattle.smt_build.specs.declared.fault.BuildFault.{BuildFault}
 use Rattle.smt_build.specs.declared.fault.BuildFault.TheVariants.{Declared, Reserved, UnknownSymbol, NotSupported}
 use Rattle.smt_build.specs.declared.symbols.LiveName.{LiveName}
 use Rattle.smt_build.specs.Literals.{decimal_value, value_in}
-use Rattle.smt_build.specs.Names.{SymbolsValue, AreDeclared, declaration_of, with_declaration}
+use Rattle.smt_build.specs.Names.{SymbolsValue, Meanings, AreDeclared, meaning_in, is_taken, with_declaration}
 use Rattle.smt_build.specs.Operators.{is_reserved}
-use Rattle.smt_build.specs.Sorts.{sort_named, word_of_width, width_sort, named_sort, indexed_sort, listed_sort, sort_in}
-use Rattle.smt_build.specs.Declaring.{Declaration, declare, declare_parts, constant, next}
+use Rattle.smt_build.specs.Sorts.{defined_sort, sort_named, word_of_width, width_sort, named_sort, indexed_sort, listed_sort, sort_in}
+use Rattle.smt_build.specs.Declaring.{Declaration, declare, declare_constant, constant_parts, function_parts, value_sort, constant, next}
 use Rattle.script_state.specs.Plain.{is_plain_sort}
-use Rattle.script_state.specs.States.{AreAllLive, IsPlainConstant}
+use Rattle.script_state.specs.States.{AreAllLive, IsPlainConstant, IsPlainName}
 
 -- ---- sorts
 
-abbrev IsPlainIf : Result Sort BuildFault → Type 0
+abbrev pub IsPlainIf : Result Sort BuildFault → Type 0
 IsPlainIf (Ok s) = (is_plain_sort s ≡ true) × IsSort s
 IsPlainIf (Err f) = Unit {0}
 
-plain_truth : (b : Bool) (f : BuildFault) → IsPlainIf (if b then Ok sort.Bool else Err f)
-plain_truth true f = (refl, tt)
-plain_truth false f = tt
+abbrev pub ArePlainNames : Meanings Sort → Type 0
+ArePlainNames ms = AllByRecursion IsPlainName ms
 
-plain_atom : (k : TokenKind) (x : List ℕ) → IsPlainIf (sort_named k x)
-plain_atom kind.Symbol x = plain_truth (bytes_eq x _) UnknownSymbol
-plain_atom _ x = tt
+plain_either : (b : Bool) (s : Sort) (o : Option Sort) → (is_plain_sort s ≡ true) × IsSort s → IsPlainIf (defined_sort o) → IsPlainIf (defined_sort (if b then Some s else o))
+plain_either true s o h k = h
+plain_either false s o h k = k
+
+plain_meaning : (ms : Meanings Sort) (x : List ℕ) → ArePlainNames ms → IsPlainIf (defined_sort (meaning_in ms x))
+plain_meaning [] x h = tt
+plain_meaning (m ∷ ms) x h = plain_either (bytes_eq x m.0) m.1 (meaning_in ms x) h.0 (plain_meaning ms x h.1)
+
+plain_truth : (b : Bool) (r : Result Sort BuildFault) → IsPlainIf r → IsPlainIf (if b then Ok sort.Bool else r)
+plain_truth true r h = (refl, tt)
+plain_truth false r h = h
+
+plain_atom : (ms : Meanings Sort) (k : TokenKind) (x : List ℕ) → ArePlainNames ms → IsPlainIf (sort_named ms k x)
+plain_atom ms kind.Symbol x h = plain_truth (bytes_eq x _) _ (plain_meaning ms x h)
+plain_atom ms _ x h = tt
 
 plain_width : (n : ℕ) → IsPlainIf (word_of_width (if nat_le 1 n && nat_le n 128 then Some n else None))
 plain_width n = go (nat_le 1 n) (nat_le n 128) refl refl where
@@ -66,9 +78,14 @@ plain_listed : (es : Sexps) → IsPlainIf (listed_sort es)
 plain_listed (more (atom i l) (more (atom j b) (more (atom k n) none))) = plain_indexed i j b k n
 plain_listed _ = tt
 
-plain_sort : (e : Sexp) → IsPlainIf (sort_in e)
-plain_sort (atom k x) = plain_atom k x
-plain_sort (group es) = plain_listed es
+plain_sort : (ms : Meanings Sort) (e : Sexp) → ArePlainNames ms → IsPlainIf (sort_in ms e)
+plain_sort ms (atom k x) h = plain_atom ms k x h
+plain_sort ms (group es) h = plain_listed es
+
+pub plain_value : (v : SymbolsValue) (ps s : Sexp) → ArePlainNames v.sorts → IsPlainIf (value_sort v ps s)
+plain_value v (group none) s h = plain_sort v.sorts s h
+plain_value v (group (more e es)) s h = tt
+plain_value v (atom k x) s h = tt
 
 -- ---- declarations
 
@@ -86,19 +103,30 @@ more_next v x (Ok s) h = (x, s, h, refl)
 more_next v x (Err f) h = tt
 
 more_constant : (v : SymbolsValue) (x : List ℕ) (s : Result Sort BuildFault) → IsPlainIf s → OneMore v (constant v x s)
-more_constant v x s h = more_unless v (is_reserved x) Reserved _ (more_unless v (is_some (declaration_of v.live x)) Declared _ (more_next v x s h))
+more_constant v x s h = more_unless v (is_reserved x) Reserved _ (more_unless v (is_taken v x) Declared _ (more_next v x s h))
 
-more_parts : (v : SymbolsValue) (es : Sexps) → OneMore v (declare_parts v es)
-more_parts v none = tt
-more_parts v (more x none) = tt
-more_parts v (more (atom k x) (more s none)) = more_constant v x (sort_in s) (plain_sort s)
-more_parts v (more (group xs) (more s none)) = tt
-more_parts v (more x (more s (more t es))) = tt
+more_named : (v : SymbolsValue) (x : Sexp) (s : Result Sort BuildFault) → IsPlainIf s → OneMore v (declare_constant v x s)
+more_named v (atom k x) s h = more_constant v x s h
+more_named v (group es) s h = tt
 
-more_declared : (v : SymbolsValue) (n : CommandName) (es : Sexps) → OneMore v (declare v n es)
+more_parts : (v : SymbolsValue) (es : Sexps) → ArePlainNames v.sorts → OneMore v (constant_parts v es)
+more_parts v none h = tt
+more_parts v (more x none) h = tt
+more_parts v (more x (more s none)) h = more_named v x _ (plain_sort v.sorts s h)
+more_parts v (more x (more s (more t es))) h = tt
+
+more_function : (v : SymbolsValue) (es : Sexps) → ArePlainNames v.sorts → OneMore v (function_parts v es)
+more_function v none h = tt
+more_function v (more x none) h = tt
+more_function v (more x (more args none)) h = tt
+more_function v (more x (more args (more s none))) h = more_named v x _ (plain_value v args s h)
+more_function v (more x (more args (more s (more t es)))) h = tt
+
+more_declared : (v : SymbolsValue) (n : CommandName) (es : Sexps) → ArePlainNames v.sorts → OneMore v (declare v n es)
 unfolding declare
-more_declared v name.DeclareConst es = more_parts v es
-more_declared v _ es = tt
+more_declared v name.DeclareConst es h = more_parts v es h
+more_declared v name.DeclareFun es h = more_function v es h
+more_declared v _ es h = tt
 
 -- ---- what stays
 
@@ -132,6 +160,8 @@ pub record AreKept (v w : SymbolsValue) (nodes : List Node) : Type 0 where
   pub live : AreAllLive v → AreAllLive w
   pub constants : All IsPlainConstant v.signatures → All IsPlainConstant w.signatures
   pub declared : AreDeclared v.signatures nodes → AreDeclared w.signatures nodes
+  pub definitions : w.definitions ≡ v.definitions
+  pub sorts : w.sorts ≡ v.sorts
   pub longer : (d : ℕ) (s : Signature) → slice_get v.signatures d ≡ Some s → slice_get w.signatures d ≡ Some s
 
 kept_more : (v : SymbolsValue) (x : List ℕ) (s : Sort) (nodes : List Node) → (is_plain_sort s ≡ true) × IsSort s → AreKept v (with_declaration v x (constant_signature s)) nodes
@@ -139,11 +169,13 @@ kept_more v x s nodes plain = record {
   live = live_more v x (constant_signature s);
   constants = λ are. All-push IsPlainConstant v.signatures (constant_signature s) are (record { constant = refl; sort = plain.0; widths = plain.1 });
   declared = λ are. record { each = λ t k named. get_longer v.signatures (constant_signature s ∷ []) k _ (are.each t k named) };
+  definitions = refl;
+  sorts = refl;
   longer = λ d r e. get_longer v.signatures (constant_signature s ∷ []) d r e;
 }
 
-pub declared_kept : (v w : SymbolsValue) (n : CommandName) (es : Sexps) (d : ℕ) (nodes : List Node) → declare v n es ≡ Ok (d, w) → AreKept v w nodes
-declared_kept v w n es d nodes e =
+pub declared_kept : (v w : SymbolsValue) (n : CommandName) (es : Sexps) (d : ℕ) (nodes : List Node) → ArePlainNames v.sorts → declare v n es ≡ Ok (d, w) → AreKept v w nodes
+declared_kept v w n es d nodes h e =
     let P : Declaration → Type 0 = OneMore v in
-    let m : OneMore v (Ok (d, w)) = subst P e (more_declared v n es) in
+    let m : OneMore v (Ok (d, w)) = subst P e (more_declared v n es h) in
     subst (λ (u : SymbolsValue). AreKept v u nodes) (sym m.3) (kept_more v m.0 m.1 nodes m.2)

@@ -1,5 +1,5 @@
 -- A step leads from a state to a state, and keeps what was made.
-use Rattle.std.proofs.Common.{◌≡◌, ℕ, List, [], ◌∷◌, ◌++◌, refl, sym, append-nil, Some, None, Ok}
+use Rattle.std.proofs.Common.{◌≡◌, ℕ, List, [], ◌∷◌, ◌++◌, refl, sym, subst, append-nil, Some, None, Ok}
 use Rattle.std.specs.Prelude.{slice_get}
 use Rattle.smt_text.specs.declared.token.CommandName.{CommandName}
 use Rattle.smt_syntax.specs.Sexps.{Sexp, Sexps}
@@ -10,14 +10,16 @@ use Rattle.scope_selectors.specs.Scopes.{asserted}
 use Rattle.smt_build.specs.Building.{Grows}
 use Rattle.smt_build.specs.Names.{SymbolsValue}
 use Rattle.smt_build.specs.Declaring.{declare}
+use Rattle.smt_build.specs.Defining.{define_sort, define}
 use Rattle.smt_build.specs.Terms.{term_of}
 use Rattle.smt_build.proofs.Longer.{GoOn, term_longer, term_is_held}
 use Rattle.script_state.specs.Readings.{Reading}
 use Rattle.script_state.specs.States.{StateValue, RestValue, with_terms, IsState, Fit}
-use Rattle.script_state.specs.Steps.{Step, declaring, objection, asserting_unless, step}
+use Rattle.script_state.specs.Steps.{Step, declaring, naming_sort, defining, objection, asserting_unless, step}
 use Rattle.script_state.proofs.Declared.{declared_kept, get_longer}
+use Rattle.script_state.proofs.Defined.{sort_defined, function_defined}
 use Rattle.script_state.proofs.Marking.{plain_grows}
-use Rattle.script_state.proofs.Asserting.{standing_state, declared_state, grown_state, asserted_state}
+use Rattle.script_state.proofs.Asserting.{standing_state, declared_state, named_state, defined_state, grown_state, asserted_state}
 use Rattle.script_state.proofs.Cases.{Holds, of_step}
 
 -- the terms go on, and each declaration and each assertion keeps its number
@@ -42,15 +44,39 @@ module _ (s : StateValue) (is : IsState s) where
   by_declaring : (n : CommandName) (es : Sexps) (d : ℕ) (w : SymbolsValue) → declare s.symbols n es ≡ Ok (d, w) → Goes (declaring s (Ok (d, w)))
   by_declaring n es d w e = record {
     state = declared_state s w n es d e is;
-    keeps = record { behind = []; nodes = sym (append-nil s.terms.nodes); signatures = (declared_kept s.symbols w n es d s.terms.nodes e).longer; assertions = λ a t e. e };
+    keeps = record { behind = []; nodes = sym (append-nil s.terms.nodes); signatures = (declared_kept s.symbols w n es d s.terms.nodes is.sorts e).longer; assertions = λ a t e. e };
   }
+
+  by_naming : (n : CommandName) (es : Sexps) (w : SymbolsValue) → define_sort s.symbols n es ≡ Ok w → Goes (naming_sort s (Ok w))
+  by_naming n es w e =
+      let one = sort_defined s.symbols w n es is.sorts e in
+      record {
+        state = named_state s w n es e is;
+        keeps = record {
+          behind = [];
+          nodes = sym (append-nil s.terms.nodes);
+          signatures = λ d r h. subst (λ (u : SymbolsValue). slice_get u.signatures d ≡ Some r) (sym one.3) h;
+          assertions = λ a t h. h;
+        };
+      }
+
+  pub defined_goes_on : (n : CommandName) (es : Sexps) (w : SymbolsValue) (terms : TermsValue) → define s.symbols s.terms n es ≡ Ok (w, terms) → Goes (defining s (Ok (w, terms)))
+  defined_goes_on n es w terms e =
+      let one = function_defined s.symbols s.terms w terms n es e in
+      let on : GoOn s.symbols.signatures s.terms terms = term_longer s.symbols s.terms terms one.1 one.2 is.bodies one.3 in
+      let grown = grown_state s terms on.grows is (on.list is.terms) in
+      subst (λ (u : SymbolsValue). Goes (defining s (Ok (u, terms)))) (sym one.4)
+      (record {
+        state = defined_state s terms one.0 one.2 grown (term_is_held s.symbols s.terms terms one.1 one.2 is.bodies one.3);
+        keeps = record { behind = on.grows.behind; nodes = on.grows.nodes; signatures = λ d r h. h; assertions = λ a u h. h };
+      })
 
   by_asserting : (x : Sexp) (t : ℕ) (w : TermsValue) → term_of s.symbols s.terms x ≡ Ok (t, w) → objection w.nodes t ≡ None → Goes (asserting_unless None s t w)
   by_asserting x t w e plain =
-      let on : GoOn s.symbols.signatures s.terms w = term_longer s.symbols s.terms w x t e in
+      let on : GoOn s.symbols.signatures s.terms w = term_longer s.symbols s.terms w x t is.bodies e in
       let grown = grown_state s w on.grows is (on.list is.terms) in
       record {
-        state = asserted_state (record { symbols = s.symbols; terms = w; scopes = s.scopes; standing = s.standing }) t (asserted s.scopes t None) grown (term_is_held s.symbols s.terms w x t e) plain refl;
+        state = asserted_state (record { symbols = s.symbols; terms = w; scopes = s.scopes; standing = s.standing }) t (asserted s.scopes t None) grown (term_is_held s.symbols s.terms w x t is.bodies e) plain refl;
         keeps = record { behind = on.grows.behind; nodes = on.grows.nodes; signatures = λ d r e. e; assertions = λ a u e. get_longer s.scopes.terms (t ∷ []) a u e };
       }
 
@@ -60,6 +86,8 @@ module _ (s : StateValue) (is : IsState s) where
     kept = record { state = is; keeps = same };
     checked = record { state = standing_state s None is; keeps = record { behind = []; nodes = sym (append-nil s.terms.nodes); signatures = λ d r e. e; assertions = λ a t e. e } };
     declared = by_declaring;
+    named = by_naming;
+    defined = defined_goes_on;
     asserted = by_asserting;
   }) r
 

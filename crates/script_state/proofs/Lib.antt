@@ -1,5 +1,6 @@
 pub mod Lists
 pub mod Declared
+pub mod Defined
 pub mod Marking
 pub mod Asserting
 pub mod Cases

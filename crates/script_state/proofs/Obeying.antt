@@ -11,12 +11,13 @@ use Rattle.smt_syntax.specs.Sexps.{Sign, Sexp, Sexps, none, more}
 use Rattle.smt_syntax.specs.Spans.{Stands, AllStand}
 use Rattle.smt_syntax.specs.Commands.{name_of, spans_of, is_left_out, is_not_supported}
 use Rattle.smt_build.specs.Declaring.{declare}
+use Rattle.smt_build.specs.Defining.{define, define_sort}
 use Rattle.smt_build.specs.Terms.{term_of}
 use Rattle.script_state.specs.declared.answer.Answer.{Answer}
 use Rattle.script_state.specs.declared.answer.Answer.TheVariants.{Done}
 use Rattle.script_state.specs.States.{StateValue}
 use Rattle.script_state.specs.declared.error_text.ErrorText.TheVariants.{NotSupported}
-use Rattle.script_state.specs.Steps.{Step, choosing, declaring, asserting, checking, refuse, obey, Answers}
+use Rattle.script_state.specs.Steps.{Step, choosing, declaring, naming_sort, defining, asserting, checking, refuse, obey, Answers}
 
 module _ (s : StateValue) (signs : List Sign) (result : Result Answer AllocError) (new : StateValue) where
   -- the arguments stand at the spans of a command that is not left out
@@ -32,6 +33,30 @@ module _ (s : StateValue) (signs : List Sign) (result : Result Answer AllocError
   unfolding obey
   obeys_declaration k n t e =
       let P : Command → Type 0 = λ k. ((es : Sexps) → AllStand signs (spans_of k) es → Answers (declaring s (declare s.symbols (name_of k) es)) result s new) → Obeys k in
+      subst P (sym e) (λ ensures es stand. ensures es (stand refl))
+
+  pub obeys_function : (k : Command) (n args t : Span) → k ≡ command.DeclareFun n args t
+      → ((es : Sexps) → AllStand signs (spans_of k) es → Answers (declaring s (declare s.symbols (name_of k) es)) result s new)
+      → Obeys k
+  unfolding obey
+  obeys_function k n args t e =
+      let P : Command → Type 0 = λ k. ((es : Sexps) → AllStand signs (spans_of k) es → Answers (declaring s (declare s.symbols (name_of k) es)) result s new) → Obeys k in
+      subst P (sym e) (λ ensures es stand. ensures es (stand refl))
+
+  pub obeys_sort : (k : Command) (n ps t : Span) → k ≡ command.DefineSort n ps t
+      → ((es : Sexps) → AllStand signs (spans_of k) es → Answers (naming_sort s (define_sort s.symbols (name_of k) es)) result s new)
+      → Obeys k
+  unfolding obey
+  obeys_sort k n ps t e =
+      let P : Command → Type 0 = λ k. ((es : Sexps) → AllStand signs (spans_of k) es → Answers (naming_sort s (define_sort s.symbols (name_of k) es)) result s new) → Obeys k in
+      subst P (sym e) (λ ensures es stand. ensures es (stand refl))
+
+  pub obeys_definition : (k : Command) (n ps t b : Span) → k ≡ command.DefineFun n ps t b
+      → ((es : Sexps) → AllStand signs (spans_of k) es → Answers (defining s (define s.symbols s.terms (name_of k) es)) result s new)
+      → Obeys k
+  unfolding obey
+  obeys_definition k n ps t b e =
+      let P : Command → Type 0 = λ k. ((es : Sexps) → AllStand signs (spans_of k) es → Answers (defining s (define s.symbols s.terms (name_of k) es)) result s new) → Obeys k in
       subst P (sym e) (λ ensures es stand. ensures es (stand refl))
 
   one_argument : (span : Span) (es : Sexps) → AllStand signs (span ∷ []) es
@@ -89,13 +114,17 @@ module _ (s : StateValue) where
   -- every other command is not supported
   pub obeys_other : (k : Command)
       → ((span : Span) → k ≡ command.Assert span → ⊥) → (k ≡ command.CheckSat → ⊥) → ((n t : Span) → k ≡ command.DeclareConst n t → ⊥)
+      → ((n args t : Span) → k ≡ command.DeclareFun n args t → ⊥) → ((n ps t b : Span) → k ≡ command.DefineFun n ps t b → ⊥) → ((n ps t : Span) → k ≡ command.DefineSort n ps t → ⊥)
       → ((keyword : Span) (value : Option Span) → k ≡ command.SetInfo keyword value → ⊥) → ((span : Span) → k ≡ command.SetLogic span → ⊥)
       → is_not_supported k ≡ is_left_out (name_of k) → (es : Sexps) → ◌≡◌ {A = Step} (obey s (name_of k) es) (refuse s NotSupported)
   unfolding obey
-  obeys_other (command.Assert span) a b c d f known es = absurd (a span refl)
-  obeys_other command.CheckSat a b c d f known es = absurd (b refl)
-  obeys_other (command.DeclareConst n t) a b c d f known es = absurd (c n t refl)
-  obeys_other (command.SetInfo keyword value) a b c d f known es = absurd (d keyword value refl)
-  obeys_other (command.SetLogic span) a b c d f known es = absurd (f span refl)
-  obeys_other (command.NotSupported n) a b c d f known es = left_out n es known
-  obeys_other _ a b c d f known es = refl
+  obeys_other (command.Assert span) a b c d f g h i known es = absurd (a span refl)
+  obeys_other command.CheckSat a b c d f g h i known es = absurd (b refl)
+  obeys_other (command.DeclareConst n t) a b c d f g h i known es = absurd (c n t refl)
+  obeys_other (command.DeclareFun n args t) a b c d f g h i known es = absurd (d n args t refl)
+  obeys_other (command.DefineFun n ps t x) a b c d f g h i known es = absurd (f n ps t x refl)
+  obeys_other (command.DefineSort n ps t) a b c d f g h i known es = absurd (g n ps t refl)
+  obeys_other (command.SetInfo keyword value) a b c d f g h i known es = absurd (h keyword value refl)
+  obeys_other (command.SetLogic span) a b c d f g h i known es = absurd (i span refl)
+  obeys_other (command.NotSupported n) a b c d f g h i known es = left_out n es known
+  obeys_other _ a b c d f g h i known es = refl

@@ -1,11 +1,13 @@
 -- The state of a session (SMT-LIB 2.6, section 4.1).
 use Rattle.std.specs.Prelude.{◌≡◌, ℕ, ◌<◌, ◌^◌, Bool, true, List, [], length, slice_get, All, Option, Some, None}
+use Rattle.std.specs.List.{AllByRecursion}
+use Rattle.smt_terms.specs.declared.sort.Sort.{Sort}
 use Rattle.smt_terms.specs.declared.sort.Sort.TheVariants as sort
 use Rattle.smt_terms.specs.declared.sort.Signature.{Signature}
 use Rattle.smt_terms.specs.Terms.{TermsValue, IsSort, IsTermList, no_terms, sort_of}
 use Rattle.scope_selectors.specs.declared.live.Live.{Live}
 use Rattle.scope_selectors.specs.Scopes.{ScopesValue, AreScopes, no_scopes}
-use Rattle.smt_build.specs.Names.{SymbolsValue, AreDeclared, no_symbols}
+use Rattle.smt_build.specs.Names.{SymbolsValue, AreDeclared, AreBodies, no_symbols}
 use Rattle.smt_build.specs.declared.symbols.LiveName.{LiveName}
 use Rattle.script_state.specs.declared.answer.Verdict.{Verdict}
 use Rattle.script_state.specs.Plain.{is_plain, is_plain_sort, HavePlain}
@@ -28,14 +30,20 @@ pub record IsPlainConstant (s : Signature) : Type 0 where
   pub sort : is_plain_sort s.value ≡ true
   pub widths : IsSort s.value
 
--- The terms are a list of well-sorted terms and name declarations as they were made, which are constants and live; each
--- live assertion is a plain term of sort Bool.
+-- a name of a sort stands for Bool, or for words of 1 to 128 bits
+abbrev pub IsPlainName : List ℕ × Sort → Type 0
+IsPlainName m = (is_plain_sort m.1 ≡ true) × IsSort m.1
+
+-- The terms are a list of well-sorted terms and name declarations as they were made, which are constants and live; names of
+-- sorts are plain, and the bodies of definitions are terms; each live assertion is a plain term of sort Bool.
 pub record IsState (v : StateValue) : Type 0 where
   pub terms : IsTermList v.terms.nodes
   pub scopes : AreScopes v.scopes
   pub live : AreAllLive v.symbols
   pub constants : All IsPlainConstant v.symbols.signatures
   pub declared : AreDeclared v.symbols.signatures v.terms.nodes
+  pub bodies : AreBodies (length v.terms.nodes) v.symbols.definitions
+  pub sorts : AllByRecursion IsPlainName v.symbols.sorts
   pub held : All (λ (a : Live). a.term < length v.terms.nodes) v.scopes.live
   pub truths : All (λ (a : Live). sort_of v.terms.nodes a.term ≡ sort.Bool) v.scopes.live
   pub plain : All (λ (a : Live). is_plain v.terms.nodes a.term ≡ true) v.scopes.live

@@ -16,6 +16,7 @@ use Rattle.smt_terms.specs.Terms.{TermsValue, sort_of}
 use Rattle.scope_selectors.specs.Scopes.{asserted}
 use Rattle.smt_build.specs.Building.{Built}
 use Rattle.smt_build.specs.Declaring.{Declaration, declare}
+use Rattle.smt_build.specs.Defining.{SortDefinition, FunctionDefinition, define_sort, define}
 use Rattle.smt_build.specs.Terms.{term_of}
 use Rattle.script_state.specs.declared.answer.Answer.{Answer}
 use Rattle.script_state.specs.declared.answer.Answer.TheVariants.{Done, Refused, Check}
@@ -52,6 +53,16 @@ abbrev pub declaring : StateValue → Declaration → Step
 declaring s (Ok d) = (Done, record { symbols = d.1; terms = s.terms; scopes = s.scopes; standing = None })
 declaring s (Err f) = refuse s (build_error f)
 
+-- the name of a sort is defined, and no check stands
+abbrev pub naming_sort : StateValue → SortDefinition → Step
+naming_sort s (Ok v) = (Done, record { symbols = v; terms = s.terms; scopes = s.scopes; standing = None })
+naming_sort s (Err f) = refuse s (build_error f)
+
+-- a function is defined, and no check stands
+abbrev pub defining : StateValue → FunctionDefinition → Step
+defining s (Ok d) = (Done, record { symbols = d.0; terms = d.1; scopes = s.scopes; standing = None })
+defining s (Err f) = refuse s (build_error f)
+
 -- why a term cannot be asserted: it is no Bool, or no check can decide it
 abbrev pub objection : List Node → ℕ → Option ErrorText
 objection nodes t = if same_sort (sort_of nodes t) sort.Bool then (if is_plain nodes t then None else Some NotSupported) else Some WrongArguments
@@ -74,6 +85,9 @@ unfoldable pub obey : StateValue → CommandName → Sexps → Step
 obey s name.SetLogic (more logic none) = choosing s logic
 obey s name.SetInfo (more keyword es) = (Done, s)
 obey s name.DeclareConst es = declaring s (declare s.symbols name.DeclareConst es)
+obey s name.DeclareFun es = declaring s (declare s.symbols name.DeclareFun es)
+obey s name.DefineSort es = naming_sort s (define_sort s.symbols name.DefineSort es)
+obey s name.DefineFun es = defining s (define s.symbols s.terms name.DefineFun es)
 obey s name.Assert (more e none) = asserting s (term_of s.symbols s.terms e)
 obey s name.CheckSat none = checking s
 obey s _ es = refuse s NotSupported

@@ -6,9 +6,10 @@ ghost use Rattle.smt_syntax.specs.Sexps.{Sexp, Sexps, signs_of};
 ghost use Rattle.smt_syntax.specs.Spans.{Stands, AllStand};
 ghost use Rattle.smt_syntax.specs.Commands.{name_of, spans_of, is_left_out, is_not_supported};
 ghost use Rattle.smt_build.specs.Declaring.{declare};
+ghost use Rattle.smt_build.specs.Defining.{define, define_sort};
 ghost use Rattle.smt_build.specs.Terms.{term_of};
 ghost use Rattle.script_state.specs.States.{no_state, concluded, with_terms, IsState, Fit};
-ghost use Rattle.script_state.specs.Steps.{declaring, asserting, checking, obey, Answers, Applies};
+ghost use Rattle.script_state.specs.Steps.{declaring, naming_sort, defining, asserting, checking, obey, Answers, Applies};
 
 use crate::answer::{Answer, Verdict};
 use crate::error_text::{ErrorText, build_error, syntax_error};
@@ -103,6 +104,48 @@ impl State {
         }
     }
 
+    /// Gives a sort the name of a command.
+    fn define_sort(
+        &mut self,
+        alloc: Global,
+        tokens: &Tokens<'_>,
+        command: &Command,
+    ) -> Result<Answer, AllocError>
+        requires { (es : Sexps) × AllStand (signs_of tokens.now) (spans_of command.now) es }
+        ensures { (es : Sexps) → AllStand (signs_of tokens.now) (spans_of command.now) es
+            → Answers (naming_sort self.old (define_sort self.old.symbols (name_of command.now) es)) result self.old self.new }
+    {
+        match self.symbols.define_sort(alloc, tokens, command) {
+            Ok(()) => {
+                self.standing = None;
+                Ok(Answer::Done)
+            }
+            Err(BuildError::NoMemory) => Err(AllocError),
+            Err(BuildError::Fault(fault)) => Ok(Answer::Refused(build_error(fault))),
+        }
+    }
+
+    /// Makes the definition of a command.
+    fn define(
+        &mut self,
+        alloc: Global,
+        tokens: &Tokens<'_>,
+        command: &Command,
+    ) -> Result<Answer, AllocError>
+        requires { (es : Sexps) × AllStand (signs_of tokens.now) (spans_of command.now) es }
+        ensures { (es : Sexps) → AllStand (signs_of tokens.now) (spans_of command.now) es
+            → Answers (defining self.old (define self.old.symbols self.old.terms (name_of command.now) es)) result self.old self.new }
+    {
+        match self.symbols.define(alloc, &mut self.terms, tokens, command) {
+            Ok(()) => {
+                self.standing = None;
+                Ok(Answer::Done)
+            }
+            Err(BuildError::NoMemory) => Err(AllocError),
+            Err(BuildError::Fault(fault)) => Ok(Answer::Refused(build_error(fault))),
+        }
+    }
+
     /// Asserts the term at the span.
     fn assert(
         &mut self,
@@ -167,6 +210,22 @@ impl State {
     {
         match command {
             Command::DeclareConst { name: _, sort: _ } => self.declare(alloc, tokens, command),
+            Command::DeclareFun {
+                name: _,
+                arguments: _,
+                value: _,
+            } => self.declare(alloc, tokens, command),
+            Command::DefineSort {
+                name: _,
+                parameters: _,
+                sort: _,
+            } => self.define_sort(alloc, tokens, command),
+            Command::DefineFun {
+                name: _,
+                parameters: _,
+                value: _,
+                term: _,
+            } => self.define(alloc, tokens, command),
             Command::Assert { term } => self.assert(alloc, tokens, *term),
             Command::CheckSat => Ok(self.check()),
             Command::SetInfo {

@@ -135,6 +135,11 @@ fn texts_that_are_taken(rt: HostRuntime) -> Result<(), Fail> {
             b"(assert (let ((x p)) x))",
             b"(assert (let ((p q) (q p)) (= p q)))",
             b"(assert (! p :a (let () q) :b 5 :c))",
+            b"(declare-fun r () Bool)(assert (= r p))",
+            b"(define-sort p () Bool)(declare-const r p)(assert r)",
+            b"(define-sort s () (_ BitVec 8))(define-sort u () s)(declare-const r u)(assert (= r x))",
+            b"(define-fun f () Bool p)(assert f)(assert (let ((f x)) (= f x)))",
+            b"(define-fun f () (_ BitVec 8) (bvadd x #x01))(declare-fun r () (_ BitVec 8))(assert (= r f))",
         ],
     )
 }
@@ -203,6 +208,10 @@ fn a_malformed_command(rt: HostRuntime) -> Result<(), Fail> {
             b"(set-option :unknown 1 2)",
             b"(echo p)",
             b"(exit 0)",
+            b"(define-sort s Bool)",
+            b"(define-fun f () Bool)",
+            b"(define-fun f (p) Bool p)",
+            b"(declare-fun r Bool)",
         ],
     )
 }
@@ -253,6 +262,13 @@ fn an_unknown_symbol(rt: HostRuntime) -> Result<(), Fail> {
             b"(assert (let ((a p) (b a)) b))",
             b"(assert (and (let ((a p)) a) a))",
             b"(assert (! nope :a 5))",
+            b"(declare-fun r () Int)",
+            b"(define-fun f () Int p)",
+            b"(define-fun f () Bool nope)",
+            b"(define-fun f () Bool f)",
+            b"(define-fun f () (_ BitVec 8) nope)",
+            b"(define-sort s () s)",
+            b"(define-sort s () Bool)(assert s)",
         ],
     )
 }
@@ -270,6 +286,12 @@ fn a_name_that_is_declared(rt: HostRuntime) -> Result<(), Fail> {
             b"(declare-const p (_ BitVec 0))",
             b"(assert (let ((a p) (a p)) a))",
             b"(assert (let ((a p) (a nope)) a))",
+            b"(declare-fun p () Bool)",
+            b"(define-fun p () Bool q)",
+            b"(define-fun p () Int nope)",
+            b"(define-fun f () Bool p)(define-fun f () Bool p)",
+            b"(define-fun f () Bool p)(declare-const f Bool)",
+            b"(define-sort s () Bool)(define-sort s () Int)",
         ],
     )
 }
@@ -294,6 +316,14 @@ fn a_name_that_is_reserved(rt: HostRuntime) -> Result<(), Fail> {
             b"(assert (let ((and p)) p))",
             b"(assert (let ((|let| nope)) p))",
             b"(assert (let ((a p) (assert p)) a))",
+            b"(declare-fun and () Bool)",
+            b"(define-fun and () Bool nope)",
+            b"(define-fun |let| () Bool p)",
+            b"(define-sort Bool () Bool)",
+            b"(define-sort BitVec () Int)",
+            b"(define-sort |Array| () Bool)",
+            b"(define-sort bvadd () Bool)",
+            b"(define-sort let () Bool)",
         ],
     )
 }
@@ -333,6 +363,11 @@ fn wrong_arguments(rt: HostRuntime) -> Result<(), Fail> {
             b"(assert (let ((a x)) a))",
             b"(assert (let ((p x)) p))",
             b"(assert (! x :a))",
+            b"(define-fun f () Bool x)",
+            b"(define-fun f () (_ BitVec 7) x)",
+            b"(define-fun f () Bool p)(assert (f p))",
+            b"(define-fun f () Bool p)(assert ((_ f 1) p))",
+            b"(define-fun f () (_ BitVec 8) x)(assert f)",
         ],
     )
 }
@@ -354,6 +389,9 @@ fn a_width_out_of_range(rt: HostRuntime) -> Result<(), Fail> {
             b"(assert (= x ((_ sign_extend 18446744073709551616) x)))",
             b"(assert (= x ((_ repeat 0) x)))",
             b"(assert (= x ((_ repeat 17) x)))",
+            b"(define-sort s () (_ BitVec 0))",
+            b"(declare-fun r () (_ BitVec 129))",
+            b"(define-fun f () (_ BitVec 0) nope)",
         ],
     )
 }

@@ -6,7 +6,7 @@ use Rattle.script_state.proofs.Asserting.{grown_state, asserted_state}
 use Rattle.script_state.proofs.state.State.assert.Goals as goal
 
 pub objection-requires-clause-held : goal.objection-requires-clause-held
-objection-requires-clause-held c = term_is_held _ _ _ _ _ (c.in-Ok.ensures.term c.requires.stands.0 c.requires.stands.1)
+objection-requires-clause-held c = term_is_held _ _ _ _ _ c.self.invariant.0.bodies (c.in-Ok.ensures.term c.requires.stands.0 c.requires.stands.1)
 
 pub objection-requires-clause-marks : goal.objection-requires-clause-marks
 objection-requires-clause-marks c = plain_grows _ _ _ _ c.elaborate.ensures.grows c.self.invariant.1
@@ -15,6 +15,6 @@ pub invariant_of-self-in-Ok-assert : goal.invariant_of-self-in-Ok-assert
 invariant_of-self-in-Ok-assert c =
     let v : StateValue = record { symbols = c.self.inside.symbols; terms = c.self.inside.terms; scopes = c.self.inside.scopes; standing = c.self.inside.standing } in
     let read = c.in-Ok.ensures.term c.requires.stands.0 c.requires.stands.1 in
-    let on : GoOn v.symbols.signatures v.terms c.elaborate.new.terms = term_longer v.symbols _ _ _ _ read in
+    let on : GoOn v.symbols.signatures v.terms c.elaborate.new.terms = term_longer v.symbols _ _ _ _ c.self.invariant.0.bodies read in
     let grown = grown_state v _ on.grows c.self.invariant.0 (on.list c.self.invariant.0.terms) in
-    (asserted_state (record { symbols = v.symbols; terms = c.elaborate.new.terms; scopes = v.scopes; standing = v.standing }) _ _ grown (term_is_held v.symbols _ _ _ _ read) (sym (rw c.in-Ok-None.field-0-is at c.in-Ok-None.ensures.objection)) c.in-Ok-assert.ensures.ok, c.objection.ensures.marks)
+    (asserted_state (record { symbols = v.symbols; terms = c.elaborate.new.terms; scopes = v.scopes; standing = v.standing }) _ _ grown (term_is_held v.symbols _ _ _ _ c.self.invariant.0.bodies read) (sym (rw c.in-Ok-None.field-0-is at c.in-Ok-None.ensures.objection)) c.in-Ok-assert.ensures.ok, c.objection.ensures.marks)
