@@ -3,8 +3,8 @@ use Rattle.std.proofs.lemmas.Result.{err_from_is_err_and}
 use Rattle.std.proofs.KnownBytes.{Consumes-nil, Consumes-trans}
 use Rattle.smt_text.proofs.Cuts.{Begins-append}
 use Rattle.smt_text.proofs.Driver.{framed_none}
-use Rattle.smt_tool.proofs.Parts.{adds_more}
-use Rattle.smt_tool.proofs.Written.{Progress-none, Progress-more, Progress-resize, Written-none, Written-more, within_none, within_more, read_stopped, read_failed, read_whole, piece_read}
+use Rattle.smt_tool.proofs.Parts.{adds_more, cause_after}
+use Rattle.smt_tool.proofs.Written.{Progress-none, Progress-more, Progress-resize, Written-none, Written-more, within_none, within_more, read_stopped, read_failed, read_whole, piece_read, script_cause}
 use Rattle.smt_tool.proofs.Turning.{Advances-none, Advances-trans, Begins-trans, held_none, held_stop, held_more, held_behind}
 use Rattle.smt_tool.proofs.Telling.{front_told, rest_told}
 use Rattle.smt_tool.proofs.reading.answer_script.Goals as goal
@@ -102,3 +102,8 @@ returns-clause-answers g c = adds_more _ _ _ c.pieces.invariant.written.answers 
 
 pub returns-clause-proof : goal.returns-clause-proof
 returns-clause-proof g c = adds_more _ _ _ c.pieces.invariant.written.proof c.answer_rest.ensures.proof
+
+pub returns-in_err-size-clause-cause : goal.returns-in_err-size-clause-cause
+returns-in_err-size-clause-cause g c =
+    let p = err_from_is_err_and c.from_residual-in_err-size.result c.from_residual-in_err-size.ensures.1 in
+    rw (p.1, p.2) (cause_after _ _ _ _ c.pieces.invariant.written.later (script_cause (g.S.Source.faults c.pieces.script) (g.S.Source.faults c.read_piece.new.script) (g.W.Sink.faults c.pieces.answers) (g.W.Sink.faults c.pieces.answers) (g.Q.Sink.faults c.pieces.proof) (g.Q.Sink.faults c.pieces.proof) _ c.in_err-size.ensures.cause))
