@@ -295,6 +295,7 @@ fn names_of_terms_last_with_their_level(rt: HostRuntime) -> Result<(), Fail> {
         )? == Ok(1)
     );
     assert!(rt; symbols.is_taken(b"a"));
+    assert!(rt; symbols.levels() == 1);
     symbols.pop(1);
     assert!(rt; !symbols.is_taken(b"a"));
     Ok(())
