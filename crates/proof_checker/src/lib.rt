@@ -15,8 +15,6 @@ mod due;
 mod inputs;
 mod lines;
 mod models;
-#[cfg(test)]
-mod pieces;
 mod refutations;
 pub mod report;
 mod steps;
