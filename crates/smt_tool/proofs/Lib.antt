@@ -4,3 +4,5 @@ pub mod Turning
 pub mod Begun
 pub mod OneTurn
 pub mod Telling
+pub mod Checks
+pub mod Reported

@@ -1,9 +1,9 @@
 // The words that the program takes.
 
 ghost use Rattle.std.specs.Prelude.{◌≡◌, ◌↔◌, Some, IsTrue, MatchResult, map, slice_get};
-ghost use Rattle.smt_tool.specs.Words.{IsSolve, AreTaken};
+ghost use Rattle.smt_tool.specs.Words.{Asks, AreTaken};
 
-use crate::words::{Plan, Usage};
+use crate::words::{Command, Plan, Usage};
 use smt_session::settings::Settings;
 
 fn begins_with_dash(word: &str) -> bool
@@ -15,14 +15,21 @@ fn begins_with_dash(word: &str) -> bool
     }
 }
 
-/// The plan of the words after the program's name: `solve` and the name of a proof file that does not begin with a dash.
+/// The plan of the words after the program's name: `solve` or `check`, and the name of a proof file that does not begin with
+/// a dash.
 pub fn plan<'a>(words: &[&'a str]) -> Result<Plan<'a>, Usage>
     ensures { MatchResult result
-        (λ plan. IsSolve (map (λ w. w.now) words.now) plan.proof.now)
+        (λ plan. Asks plan.command (map (λ w. w.now) words.now) plan.proof.now)
         (λ _. ¬ (AreTaken (map (λ w. w.now) words.now))) }
 {
     match words {
         [command, proof] if *command == "solve" && !begins_with_dash(proof) => Ok(Plan {
+            command: Command::Solve,
+            proof: *proof,
+            settings: Settings::DEFAULT,
+        }),
+        [command, proof] if *command == "check" && !begins_with_dash(proof) => Ok(Plan {
+            command: Command::Check,
             proof: *proof,
             settings: Settings::DEFAULT,
         }),

@@ -1,13 +1,17 @@
-//! Answers scripts of SMT-LIB 2.6 over truth values and words, and writes the proof of each answer.
+//! Answers scripts of SMT-LIB 2.6 over truth values and words, writes the proof of each answer, and checks such proofs.
 //!
 //! `plan` reads the words, `run` does what they ask for over any source and any sinks, and `main` hands it standard
 //! input, standard output and the proof file. The contract of `run` says that whatever was answered stands beside an
-//! accepted proof and is right: each `sat` has a written model, and where there is an `unsat` there is none. It says when
-//! each status comes, how much of the script is read, and that a fault is told only where a count rose. The crate stands on
-//! `smt_session`, `accepted_proof`, `smt_text` and `smt_desk`.
+//! accepted proof and is right: each `sat` has a written model, and where there is an `unsat` there is none. Of a check it
+//! says that what is told was judged of both texts. It says when each status comes, how much of each input is read, and that
+//! a fault is told only where a count rose. The crate stands on `smt_session`, `proof_checker`, `accepted_proof`, `smt_text`
+//! and `smt_desk`.
 #![tactic(auto)]
 
 mod answering;
+#[cfg(test)]
+mod check_tests;
+mod checking;
 mod command_line;
 #[cfg(test)]
 mod error_tests;
@@ -58,7 +62,7 @@ fn main(rt: HostRuntime) -> io::Result<ExitCode> {
         &mut FileSink::new(&rt, proof),
     );
     if status == Status::Usage {
-        eprintln!(rt; "usage: smt_tool solve PROOF < SCRIPT")?;
+        eprintln!(rt; "usage: smt_tool solve|check PROOF < SCRIPT")?;
     }
     Ok(exit_code(status))
 }

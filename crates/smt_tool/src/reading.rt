@@ -14,10 +14,14 @@ use smt_text::framer::Framer;
 use std::alloc::Global;
 
 /// How many bytes of one input are read.
-const INPUT_LIMIT: u64 = 1 << 32;
+pub(crate) const INPUT_LIMIT: u64 = 1 << 32;
 
 /// Reads into the front of the buffer, no more bytes than may still be read, or one where none may.
-fn read_piece<S: Source>(script: &mut S, buffer: &mut [u8], left: u64) -> Result<usize, Status>
+pub(crate) fn read_piece<S: Source>(
+    script: &mut S,
+    buffer: &mut [u8],
+    left: u64,
+) -> Result<usize, Status>
     requires { 0 < length buffer.old }
     ensures within { IfOk result (λ n. n ≤ length buffer.new) }
     ensures bytes { IfOk result (λ n. Consumes (S.left script.old) (S.left script.new) (take n buffer.new)) }

@@ -1,16 +1,19 @@
 // A run of the program over any source and any sinks.
 
-ghost use Rattle.std.specs.Prelude.{◌≡◌, ◌≢◌, ◌+◌, ◌++◌, ◌⊎◌, ℕ, List, IfErr, IfOk, OnOk, length, map};
+ghost use Rattle.std.specs.Prelude.{◌≡◌, ◌≢◌, ◌+◌, ◌++◌, ◌⊎◌, ◌≤◌, ℕ, List, IfErr, IfOk, OnOk, length, map};
 ghost use Rattle.std.specs.Io.KnownBytes.{Appends, IsAtEnd};
 ghost use Rattle.accepted_proof.specs.Answers.{header_text};
-ghost use Rattle.smt_tool.specs.Words.{AreTaken};
+ghost use Rattle.smt_tool.specs.Words.{IsToSolve, IsToCheck, AreTaken};
 ghost use Rattle.smt_tool.specs.Runs.{AddsTo, BeginsWith, ReadsBytes, ReadsWithin, IsLater, HasCause, StopsWriting, counts, input_limit};
 ghost use Rattle.smt_tool.specs.Beside.{Told, IsBeside, IsAllAnswered, IsPrefix, IsShort, IsWithoutFault};
+ghost use Rattle.smt_tool.specs.Checks.{ReadsForStatus, HasCheckCause, ToldOf, IsEndOfCheck, IsFrontOfCheck};
 
 use crate::answering::end_status;
+use crate::checking::check;
 use crate::command_line::plan;
 use crate::reading::answer_script;
 use crate::status::Status;
+use crate::words::Command;
 use accepted_proof::answers_are_right;
 use smt_desk::stream::{Sink, Source, write_whole};
 use smt_session::settings::Settings;
@@ -79,8 +82,31 @@ fn solve<S: Source, W: Sink, Q: Sink>(
     }
 }
 
-/// Does what the words ask for: answers the script on `answers` and writes its proof to `proof_out`, each check's lines
-/// and record before its answer. No command reads `proof_in` yet.
+/// Checks a script and its proof, and tells what was found.
+fn check_proof<S: Source, P: Source, W: Sink>(
+    alloc: Global,
+    script: &mut S,
+    proof: &mut P,
+    answers: &mut W,
+) -> Status
+    ensures usage { result ≢ Status.Usage }
+    ensures ended { (result ≡ Status.Done) ⊎ (result ≡ Status.Refused) → ToldOf (S.left script.old) (P.left proof.old) (W.written answers.old) (W.written answers.new) (IsEndOfCheck result) }
+    ensures front { ToldOf (S.left script.old) (P.left proof.old) (W.written answers.old) (W.written answers.new) IsFrontOfCheck }
+    ensures read { ReadsForStatus (S.left script.old) (S.left script.new) (P.left proof.old) (P.left proof.new) result }
+    ensures answers { AddsTo (W.written answers.old) (W.written answers.new) }
+    ensures later { IsLater (counts (S.faults script.old) (W.faults answers.old) (P.faults proof.old)) (counts (S.faults script.new) (W.faults answers.new) (P.faults proof.new)) }
+    ensures cause { HasCheckCause (counts (S.faults script.old) (W.faults answers.old) (P.faults proof.old)) (counts (S.faults script.new) (W.faults answers.new) (P.faults proof.new)) result }
+{
+    let mut buffer = match zeros(alloc, PIECE) {
+        Ok(buffer) => buffer,
+        Err(_) => return Status::NoMemory,
+    };
+    check(alloc, &mut buffer, script, proof, answers)
+}
+
+/// Does what the words ask for. `solve` answers the script on `answers` and writes its proof to `proof_out`, each check's
+/// lines and record before its answer. `check` reads the script and the proof `proof_in`, and tells on `answers` what is
+/// judged of them.
 pub fn run<S: Source, P: Source, W: Sink, Q: Sink>(
     alloc: Global,
     words: &[&str],
@@ -92,38 +118,55 @@ pub fn run<S: Source, P: Source, W: Sink, Q: Sink>(
     // The words come first: where they are not taken, nothing is read or written.
     ensures usage { result ≡ Status.Usage → ¬ (AreTaken (map (λ w. w.now) words.now)) }
     ensures usage_always { ¬ (AreTaken (map (λ w. w.now) words.now)) → result ≡ Status.Usage }
-    ensures untouched { result ≡ Status.Usage → (script.new ≡ script.old) × (answers.new ≡ answers.old) × (proof_out.new ≡ proof_out.old) }
-    ensures unread { proof_in.new ≡ proof_in.old }
+    ensures untouched { result ≡ Status.Usage → (script.new ≡ script.old) × (proof_in.new ≡ proof_in.old) × (answers.new ≡ answers.old) × (proof_out.new ≡ proof_out.old) }
+    // `solve` reads no proof, and `check` writes none.
+    ensures unread { IsToSolve (map (λ w. w.now) words.now) → proof_in.new ≡ proof_in.old }
+    ensures unwritten { IsToCheck (map (λ w. w.now) words.now) → proof_out.new ≡ proof_out.old }
 
     // After every status the answers that were written whole stand beside a proof that is accepted to the last of their
     // checks, and they are right: each `sat` has a model, and where there is an `unsat` there is none.
-    ensures beside { Told (S.left script.old) (W.written answers.old) (W.written answers.new) (Q.written proof_out.old) (Q.written proof_out.new) IsBeside }
+    ensures beside { IsToSolve (map (λ w. w.now) words.now) → Told (S.left script.old) (W.written answers.old) (W.written answers.new) (Q.written proof_out.old) (Q.written proof_out.new) IsBeside }
     // At the end of a run all is answered, the proof is accepted, and the status tells whether an error is among the answers.
-    ensures whole { (result ≡ Status.Done) ⊎ (result ≡ Status.Refused) → Told (S.left script.old) (W.written answers.old) (W.written answers.new) (Q.written proof_out.old) (Q.written proof_out.new) (IsAllAnswered result) }
+    ensures whole { IsToSolve (map (λ w. w.now) words.now) → (result ≡ Status.Done) ⊎ (result ≡ Status.Refused) → Told (S.left script.old) (W.written answers.old) (W.written answers.new) (Q.written proof_out.old) (Q.written proof_out.new) (IsAllAnswered result) }
     // What was answered before a stop is a front of the answers to the first commands.
-    ensures prefix { Told (S.left script.old) (W.written answers.old) (W.written answers.new) (Q.written proof_out.old) (Q.written proof_out.new) (λ text answered proved. IsPrefix text answered) }
+    ensures prefix { IsToSolve (map (λ w. w.now) words.now) → Told (S.left script.old) (W.written answers.old) (W.written answers.new) (Q.written proof_out.old) (Q.written proof_out.new) (λ text answered proved. IsPrefix text answered) }
     // Without a fault a script that is told and not too long is answered whole, but for want of memory.
-    ensures complete { AreTaken (map (λ w. w.now) words.now) → IsShort (S.left script.old)
+    ensures complete { IsToSolve (map (λ w. w.now) words.now) → IsShort (S.left script.old)
         → IsWithoutFault (counts (S.faults script.old) (W.faults answers.old) (Q.faults proof_out.old)) (counts (S.faults script.new) (W.faults answers.new) (Q.faults proof_out.new))
         → (result ≡ Status.Done) ⊎ ((result ≡ Status.Refused) ⊎ (result ≡ Status.NoMemory)) }
 
-    // A run comes to its end only at the end of the script, of which it reads 2^32 bytes, and one more where there is one.
-    ensures at_end { (result ≡ Status.Done) ⊎ (result ≡ Status.Refused) → IsAtEnd (S.left script.new) }
-    ensures within { result ≢ Status.Usage → result ≢ Status.TooLong → ReadsWithin (S.left script.old) (S.left script.new) }
-    ensures too_long { result ≡ Status.TooLong → ReadsBytes (input_limit + 1) (S.left script.old) (S.left script.new) }
+    // At the end of a check this is judged of both texts, `Done` exactly where the proof is accepted.
+    ensures judged { IsToCheck (map (λ w. w.now) words.now) → (result ≡ Status.Done) ⊎ (result ≡ Status.Refused) → ToldOf (S.left script.old) (P.left proof_in.old) (W.written answers.old) (W.written answers.new) (IsEndOfCheck result) }
+    // What a check tells before a stop is a front of what is to be told.
+    ensures judged_front { IsToCheck (map (λ w. w.now) words.now) → ToldOf (S.left script.old) (P.left proof_in.old) (W.written answers.old) (W.written answers.new) IsFrontOfCheck }
+    // Without a fault two texts that are told and not too long are judged, but for want of memory.
+    ensures judged_always { IsToCheck (map (λ w. w.now) words.now) → IsShort (S.left script.old) → IsShort (P.left proof_in.old)
+        → IsWithoutFault (counts (S.faults script.old) (W.faults answers.old) (P.faults proof_in.old)) (counts (S.faults script.new) (W.faults answers.new) (P.faults proof_in.new))
+        → (result ≡ Status.Done) ⊎ ((result ≡ Status.Refused) ⊎ (result ≡ Status.NoMemory)) }
+
+    // A run of `solve` comes to its end only at the end of the script, of which it reads 2^32 bytes, and one more where there
+    // is one. Of both inputs of a check no more is read.
+    ensures at_end { IsToSolve (map (λ w. w.now) words.now) → (result ≡ Status.Done) ⊎ (result ≡ Status.Refused) → IsAtEnd (S.left script.new) }
+    ensures within { IsToSolve (map (λ w. w.now) words.now) → result ≢ Status.TooLong → ReadsWithin (S.left script.old) (S.left script.new) }
+    ensures too_long { IsToSolve (map (λ w. w.now) words.now) → result ≡ Status.TooLong → ReadsBytes (input_limit + 1) (S.left script.old) (S.left script.new) }
+    ensures both_within { IsToCheck (map (λ w. w.now) words.now) → ReadsForStatus (S.left script.old) (S.left script.new) (P.left proof_in.old) (P.left proof_in.new) result }
 
     // What is written stays, and the proof begins with its header.
     ensures answers { AddsTo (W.written answers.old) (W.written answers.new) }
     ensures proof { AddsTo (Q.written proof_out.old) (Q.written proof_out.new) }
-    ensures header { result ≢ Status.Usage → result ≢ Status.WriteFault → result ≢ Status.NoMemory → BeginsWith header_text (Q.written proof_out.old) (Q.written proof_out.new) }
+    ensures header { IsToSolve (map (λ w. w.now) words.now) → result ≢ Status.WriteFault → result ≢ Status.NoMemory → BeginsWith header_text (Q.written proof_out.old) (Q.written proof_out.new) }
 
     // A fault is told only where a count rose.
     ensures later { IsLater (counts (S.faults script.old) (W.faults answers.old) (Q.faults proof_out.old)) (counts (S.faults script.new) (W.faults answers.new) (Q.faults proof_out.new)) }
-    ensures cause { HasCause (counts (S.faults script.old) (W.faults answers.old) (Q.faults proof_out.old)) (counts (S.faults script.new) (W.faults answers.new) (Q.faults proof_out.new)) result }
+    ensures later_proof { P.faults proof_in.old ≤ P.faults proof_in.new }
+    ensures cause { IsToSolve (map (λ w. w.now) words.now) → HasCause (counts (S.faults script.old) (W.faults answers.old) (Q.faults proof_out.old)) (counts (S.faults script.new) (W.faults answers.new) (Q.faults proof_out.new)) result }
+    ensures cause_of_check { IsToCheck (map (λ w. w.now) words.now) → HasCheckCause (counts (S.faults script.old) (W.faults answers.old) (P.faults proof_in.old)) (counts (S.faults script.new) (W.faults answers.new) (P.faults proof_in.new)) result }
 {
-    let _ = proof_in;
     match plan(words) {
-        Ok(plan) => solve(alloc, plan.settings, script, answers, proof_out),
+        Ok(plan) => match plan.command {
+            Command::Solve => solve(alloc, plan.settings, script, answers, proof_out),
+            Command::Check => check_proof(alloc, script, proof_in, answers),
+        },
         Err(_) => Status::Usage,
     }
 }

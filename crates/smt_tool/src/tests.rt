@@ -167,7 +167,7 @@ fn words(rt: HostRuntime) {
     assert!(rt; plan(&["solve", "proof"]).is_ok());
     assert!(rt; plan(&["solve"]).is_err());
     assert!(rt; plan(&[]).is_err());
-    assert!(rt; plan(&["check", "proof"]).is_err());
+    assert!(rt; plan(&["check", "proof"]).is_ok());
     assert!(rt; plan(&["solve", "--workers"]).is_err());
     assert!(rt; plan(&["solve", "proof", "script"]).is_err());
     assert!(rt; plan(&["solve", "proof", "--workers", "65"]).is_err());

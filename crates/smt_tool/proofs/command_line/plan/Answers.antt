@@ -17,3 +17,10 @@ returns-in-len2 c =
       two = two_of (λ w. w.now) _ c.args.words.now _ c.in-len2.len_at_least c.in-len2.len_below ((bytes_eq-Decides _ (codes "solve")).0 (sym c.eq.ensures ∙ c.if-eq.true));
       named = λ e. true≢false (sym (c.if-not-begins_with_dash.ensures.1 e));
     }
+
+pub returns-in-len2-2 : goal.returns-in-len2-2
+returns-in-len2-2 c =
+    record {
+      two = two_of (λ w. w.now) _ c.args.words.now _ c.in-len2.len_at_least c.in-len2.len_below ((bytes_eq-Decides _ (codes "check")).0 (sym c.eq-then-words-lt3.ensures ∙ c.if-eq-2.true));
+      named = λ e. true≢false (sym (c.if-not-begins_with_dash-2.ensures.1 e));
+    }

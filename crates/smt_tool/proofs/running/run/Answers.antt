@@ -1,11 +1,211 @@
-use Rattle.std.proofs.Common.{[], refl}
-use Rattle.std.proofs.KnownBytes.{Appends-nil}
-use Rattle.accepted_proof.specs.Answers.{header_text}
-use Rattle.smt_tool.proofs.Telling.{told_silent, unbegun_beside, unbegun_prefix}
+use Rattle.std.proofs.Common.{◌≤◌, refl, inl, inr, arith}
+use Rattle.smt_tool.proofs.Parts.{adds_none, later_same}
+use Rattle.smt_tool.proofs.Reported.{asks_solve, asks_check, one_command, answered_unless, judged_unless}
 use Rattle.smt_tool.proofs.running.run.Goals as goal
 
+pub returns-in-Solve-clause-usage : goal.returns-in-Solve-clause-usage
+returns-in-Solve-clause-usage g c = λ e. absurd (c.solve.ensures.usage e)
+
+pub returns-in-Solve-clause-usage_always : goal.returns-in-Solve-clause-usage_always
+returns-in-Solve-clause-usage_always g c = λ n. absurd (n (inl (asks_solve _ _ _ c.in-Solve.is c.in-Ok.ensures)))
+
+pub returns-in-Solve-clause-untouched : goal.returns-in-Solve-clause-untouched
+returns-in-Solve-clause-untouched g c = λ e. absurd (c.solve.ensures.usage e)
+
+pub returns-in-Solve-clause-unread : goal.returns-in-Solve-clause-unread
+returns-in-Solve-clause-unread g c = λ _. refl
+
+pub returns-in-Solve-clause-unwritten : goal.returns-in-Solve-clause-unwritten
+returns-in-Solve-clause-unwritten g c = λ k. absurd (one_command _ (asks_solve _ _ _ c.in-Solve.is c.in-Ok.ensures) k)
+
+pub returns-in-Solve-clause-beside : goal.returns-in-Solve-clause-beside
+returns-in-Solve-clause-beside g c = λ _. c.solve.ensures.beside
+
+pub returns-in-Solve-clause-whole : goal.returns-in-Solve-clause-whole
+returns-in-Solve-clause-whole g c = λ _. c.solve.ensures.whole
+
+pub returns-in-Solve-clause-prefix : goal.returns-in-Solve-clause-prefix
+returns-in-Solve-clause-prefix g c = λ _. c.solve.ensures.prefix
+
+pub returns-in-Solve-clause-complete : goal.returns-in-Solve-clause-complete
+returns-in-Solve-clause-complete g c = λ _ x y. answered_unless _ _ _ _ _ c.solve.ensures.usage c.solve.ensures.too_long c.solve.ensures.cause x y
+
+pub returns-in-Solve-clause-judged : goal.returns-in-Solve-clause-judged
+returns-in-Solve-clause-judged g c = λ k. absurd (one_command _ (asks_solve _ _ _ c.in-Solve.is c.in-Ok.ensures) k)
+
+pub returns-in-Solve-clause-judged_front : goal.returns-in-Solve-clause-judged_front
+returns-in-Solve-clause-judged_front g c = λ k. absurd (one_command _ (asks_solve _ _ _ c.in-Solve.is c.in-Ok.ensures) k)
+
+pub returns-in-Solve-clause-judged_always : goal.returns-in-Solve-clause-judged_always
+returns-in-Solve-clause-judged_always g c = λ k. absurd (one_command _ (asks_solve _ _ _ c.in-Solve.is c.in-Ok.ensures) k)
+
+pub returns-in-Solve-clause-at_end : goal.returns-in-Solve-clause-at_end
+returns-in-Solve-clause-at_end g c = λ _. c.solve.ensures.at_end
+
+pub returns-in-Solve-clause-within : goal.returns-in-Solve-clause-within
+returns-in-Solve-clause-within g c = λ _. c.solve.ensures.within
+
+pub returns-in-Solve-clause-too_long : goal.returns-in-Solve-clause-too_long
+returns-in-Solve-clause-too_long g c = λ _. c.solve.ensures.too_long
+
+pub returns-in-Solve-clause-both_within : goal.returns-in-Solve-clause-both_within
+returns-in-Solve-clause-both_within g c = λ k. absurd (one_command _ (asks_solve _ _ _ c.in-Solve.is c.in-Ok.ensures) k)
+
+pub returns-in-Solve-clause-answers : goal.returns-in-Solve-clause-answers
+returns-in-Solve-clause-answers g c = c.solve.ensures.answers
+
+pub returns-in-Solve-clause-proof : goal.returns-in-Solve-clause-proof
+returns-in-Solve-clause-proof g c = c.solve.ensures.proof
+
+pub returns-in-Solve-clause-header : goal.returns-in-Solve-clause-header
+returns-in-Solve-clause-header g c = λ _. c.solve.ensures.header
+
+pub returns-in-Solve-clause-later : goal.returns-in-Solve-clause-later
+returns-in-Solve-clause-later g c = c.solve.ensures.later
+
+pub returns-in-Solve-clause-later_proof : goal.returns-in-Solve-clause-later_proof
+returns-in-Solve-clause-later_proof g c = omega arith
+
+pub returns-in-Solve-clause-cause : goal.returns-in-Solve-clause-cause
+returns-in-Solve-clause-cause g c = λ _. c.solve.ensures.cause
+
+pub returns-in-Solve-clause-cause_of_check : goal.returns-in-Solve-clause-cause_of_check
+returns-in-Solve-clause-cause_of_check g c = λ k. absurd (one_command _ (asks_solve _ _ _ c.in-Solve.is c.in-Ok.ensures) k)
+
+pub returns-in-Check-clause-usage : goal.returns-in-Check-clause-usage
+returns-in-Check-clause-usage g c = λ e. absurd (c.check_proof.ensures.usage e)
+
+pub returns-in-Check-clause-usage_always : goal.returns-in-Check-clause-usage_always
+returns-in-Check-clause-usage_always g c = λ n. absurd (n (inr (asks_check _ _ _ c.in-Check.is c.in-Ok.ensures)))
+
+pub returns-in-Check-clause-untouched : goal.returns-in-Check-clause-untouched
+returns-in-Check-clause-untouched g c = λ e. absurd (c.check_proof.ensures.usage e)
+
+pub returns-in-Check-clause-unread : goal.returns-in-Check-clause-unread
+returns-in-Check-clause-unread g c = λ s. absurd (one_command _ s (asks_check _ _ _ c.in-Check.is c.in-Ok.ensures))
+
+pub returns-in-Check-clause-unwritten : goal.returns-in-Check-clause-unwritten
+returns-in-Check-clause-unwritten g c = λ _. refl
+
+pub returns-in-Check-clause-beside : goal.returns-in-Check-clause-beside
+returns-in-Check-clause-beside g c = λ s. absurd (one_command _ s (asks_check _ _ _ c.in-Check.is c.in-Ok.ensures))
+
+pub returns-in-Check-clause-whole : goal.returns-in-Check-clause-whole
+returns-in-Check-clause-whole g c = λ s. absurd (one_command _ s (asks_check _ _ _ c.in-Check.is c.in-Ok.ensures))
+
+pub returns-in-Check-clause-prefix : goal.returns-in-Check-clause-prefix
+returns-in-Check-clause-prefix g c = λ s. absurd (one_command _ s (asks_check _ _ _ c.in-Check.is c.in-Ok.ensures))
+
+pub returns-in-Check-clause-complete : goal.returns-in-Check-clause-complete
+returns-in-Check-clause-complete g c = λ s. absurd (one_command _ s (asks_check _ _ _ c.in-Check.is c.in-Ok.ensures))
+
+pub returns-in-Check-clause-judged : goal.returns-in-Check-clause-judged
+returns-in-Check-clause-judged g c = λ _. c.check_proof.ensures.ended
+
+pub returns-in-Check-clause-judged_front : goal.returns-in-Check-clause-judged_front
+returns-in-Check-clause-judged_front g c = λ _. c.check_proof.ensures.front
+
+pub returns-in-Check-clause-judged_always : goal.returns-in-Check-clause-judged_always
+returns-in-Check-clause-judged_always g c = λ _ x y z. judged_unless _ _ _ _ _ _ _ c.check_proof.ensures.usage c.check_proof.ensures.read c.check_proof.ensures.cause x y z
+
+pub returns-in-Check-clause-at_end : goal.returns-in-Check-clause-at_end
+returns-in-Check-clause-at_end g c = λ s. absurd (one_command _ s (asks_check _ _ _ c.in-Check.is c.in-Ok.ensures))
+
+pub returns-in-Check-clause-within : goal.returns-in-Check-clause-within
+returns-in-Check-clause-within g c = λ s. absurd (one_command _ s (asks_check _ _ _ c.in-Check.is c.in-Ok.ensures))
+
+pub returns-in-Check-clause-too_long : goal.returns-in-Check-clause-too_long
+returns-in-Check-clause-too_long g c = λ s. absurd (one_command _ s (asks_check _ _ _ c.in-Check.is c.in-Ok.ensures))
+
+pub returns-in-Check-clause-both_within : goal.returns-in-Check-clause-both_within
+returns-in-Check-clause-both_within g c = λ _. c.check_proof.ensures.read
+
+pub returns-in-Check-clause-answers : goal.returns-in-Check-clause-answers
+returns-in-Check-clause-answers g c = c.check_proof.ensures.answers
+
+pub returns-in-Check-clause-proof : goal.returns-in-Check-clause-proof
+returns-in-Check-clause-proof g c = adds_none _
+
+pub returns-in-Check-clause-header : goal.returns-in-Check-clause-header
+returns-in-Check-clause-header g c = λ s. absurd (one_command _ s (asks_check _ _ _ c.in-Check.is c.in-Ok.ensures))
+
+pub returns-in-Check-clause-later : goal.returns-in-Check-clause-later
+returns-in-Check-clause-later g c = record { script = c.check_proof.ensures.later.script; answers = c.check_proof.ensures.later.answers; proof = omega arith }
+
+pub returns-in-Check-clause-later_proof : goal.returns-in-Check-clause-later_proof
+returns-in-Check-clause-later_proof g c = c.check_proof.ensures.later.proof
+
+pub returns-in-Check-clause-cause : goal.returns-in-Check-clause-cause
+returns-in-Check-clause-cause g c = λ s. absurd (one_command _ s (asks_check _ _ _ c.in-Check.is c.in-Ok.ensures))
+
+pub returns-in-Check-clause-cause_of_check : goal.returns-in-Check-clause-cause_of_check
+returns-in-Check-clause-cause_of_check g c = λ _. c.check_proof.ensures.cause
+
+pub returns-in-Err-clause-usage : goal.returns-in-Err-clause-usage
+returns-in-Err-clause-usage g c = λ _. c.in-Err.ensures
+
+pub returns-in-Err-clause-usage_always : goal.returns-in-Err-clause-usage_always
+returns-in-Err-clause-usage_always g c = λ _. refl
+
+pub returns-in-Err-clause-untouched : goal.returns-in-Err-clause-untouched
+returns-in-Err-clause-untouched g c = λ _. (refl, refl, refl, refl)
+
+pub returns-in-Err-clause-unread : goal.returns-in-Err-clause-unread
+returns-in-Err-clause-unread g c = λ _. refl
+
+pub returns-in-Err-clause-unwritten : goal.returns-in-Err-clause-unwritten
+returns-in-Err-clause-unwritten g c = λ _. refl
+
 pub returns-in-Err-clause-beside : goal.returns-in-Err-clause-beside
-returns-in-Err-clause-beside g c = told_silent _ _ _ _ [] _ (Appends-nil (g.Q.Sink.written c.args.proof_out.now)) (unbegun_beside [] header_text refl)
+returns-in-Err-clause-beside g c = λ s. absurd (c.in-Err.ensures (inl s))
+
+pub returns-in-Err-clause-whole : goal.returns-in-Err-clause-whole
+returns-in-Err-clause-whole g c = λ s. absurd (c.in-Err.ensures (inl s))
 
 pub returns-in-Err-clause-prefix : goal.returns-in-Err-clause-prefix
-returns-in-Err-clause-prefix g c = told_silent _ _ _ _ [] _ (Appends-nil (g.Q.Sink.written c.args.proof_out.now)) (λ text. unbegun_prefix text [])
+returns-in-Err-clause-prefix g c = λ s. absurd (c.in-Err.ensures (inl s))
+
+pub returns-in-Err-clause-complete : goal.returns-in-Err-clause-complete
+returns-in-Err-clause-complete g c = λ s. absurd (c.in-Err.ensures (inl s))
+
+pub returns-in-Err-clause-judged : goal.returns-in-Err-clause-judged
+returns-in-Err-clause-judged g c = λ k. absurd (c.in-Err.ensures (inr k))
+
+pub returns-in-Err-clause-judged_front : goal.returns-in-Err-clause-judged_front
+returns-in-Err-clause-judged_front g c = λ k. absurd (c.in-Err.ensures (inr k))
+
+pub returns-in-Err-clause-judged_always : goal.returns-in-Err-clause-judged_always
+returns-in-Err-clause-judged_always g c = λ k. absurd (c.in-Err.ensures (inr k))
+
+pub returns-in-Err-clause-at_end : goal.returns-in-Err-clause-at_end
+returns-in-Err-clause-at_end g c = λ s. absurd (c.in-Err.ensures (inl s))
+
+pub returns-in-Err-clause-within : goal.returns-in-Err-clause-within
+returns-in-Err-clause-within g c = λ s. absurd (c.in-Err.ensures (inl s))
+
+pub returns-in-Err-clause-too_long : goal.returns-in-Err-clause-too_long
+returns-in-Err-clause-too_long g c = λ s. absurd (c.in-Err.ensures (inl s))
+
+pub returns-in-Err-clause-both_within : goal.returns-in-Err-clause-both_within
+returns-in-Err-clause-both_within g c = λ k. absurd (c.in-Err.ensures (inr k))
+
+pub returns-in-Err-clause-answers : goal.returns-in-Err-clause-answers
+returns-in-Err-clause-answers g c = adds_none _
+
+pub returns-in-Err-clause-proof : goal.returns-in-Err-clause-proof
+returns-in-Err-clause-proof g c = adds_none _
+
+pub returns-in-Err-clause-header : goal.returns-in-Err-clause-header
+returns-in-Err-clause-header g c = λ s. absurd (c.in-Err.ensures (inl s))
+
+pub returns-in-Err-clause-later : goal.returns-in-Err-clause-later
+returns-in-Err-clause-later g c = later_same _
+
+pub returns-in-Err-clause-later_proof : goal.returns-in-Err-clause-later_proof
+returns-in-Err-clause-later_proof g c = omega arith
+
+pub returns-in-Err-clause-cause : goal.returns-in-Err-clause-cause
+returns-in-Err-clause-cause g c = λ s. absurd (c.in-Err.ensures (inl s))
+
+pub returns-in-Err-clause-cause_of_check : goal.returns-in-Err-clause-cause_of_check
+returns-in-Err-clause-cause_of_check g c = λ k. absurd (c.in-Err.ensures (inr k))

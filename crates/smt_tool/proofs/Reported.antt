@@ -1,0 +1,183 @@
+-- Of the end of a check, and of its run.
+use Rattle.std.proofs.Common.{◌≡◌, ◌≢◌, ℕ, ◌+◌, ◌≤◌, false, List, [], ◌∷◌, ◌++◌, length, get_or, codes, Option, Some, None, refl, sym, ap, ◌∙◌, subst, inl, inr, ⊎_elim, arith, append-nil, length-append}
+use Rattle.std.specs.Prelude.{◌⊎◌, Result, Ok, Err, IfSome}
+use Rattle.std.specs.Io.KnownBytes.{Appends}
+use Rattle.script_state.specs.declared.answer.Verdict.{Verdict}
+use Rattle.accepted_proof.specs.declared.refusal.Refusal.{Refusal}
+use Rattle.proof_checker.specs.Checked.{IsJudged}
+use Rattle.proof_checker.specs.Reports.{report_text}
+use Rattle.proof_checker.specs.Checkers.{CheckerValue}
+use Rattle.proof_checker.specs.Checkings.{Keeps, Concludes, Stops}
+use Rattle.proof_checker.specs.declared.inputs.Inputs.{Inputs}
+use Rattle.proof_checker.specs.declared.checking.Checking.{Checking}
+use Rattle.proof_checker.specs.declared.checking.Judgement.{Judgement}
+use Rattle.proof_checker.specs.declared.checking.Progress.{Progress}
+use Rattle.proof_checker.specs.declared.checking.Progress.TheVariants as progress
+use Rattle.smt_desk.specs.Faults.{Rose}
+use Rattle.smt_tool.specs.declared.status.Status.{Status}
+use Rattle.smt_tool.specs.declared.status.Status.TheVariants.{Done, Refused, Usage, ReadFault, WriteFault, NoMemory, TooLong}
+use Rattle.smt_tool.specs.declared.words.Command.{Command}
+use Rattle.smt_tool.specs.declared.words.Command.TheVariants.{Solve, Check}
+use Rattle.smt_tool.specs.Words.{Asks, IsToSolve, IsToCheck}
+use Rattle.smt_tool.specs.Runs.{ReadsBytes, ReadsWithin, Counts, HasCause, counts, input_limit}
+use Rattle.smt_tool.specs.Beside.{IsShort, IsWithoutFault}
+use Rattle.smt_tool.specs.Checks.{ReadsBoth, HasReadCause, status_of, ToldOf, IsEndOfCheck, IsFrontOfCheck, ReadsForStatus, HasCheckCause}
+
+-- ---- a check that ends while it reads
+
+module _ (s s' p p' : Option (List ℕ)) where
+  pub stopped_usage : (t : Status) → ReadsBoth s s' p p' (Err t) → t ≢ Usage
+  stopped_usage Done h = absurd h
+  stopped_usage Refused h = absurd h
+  stopped_usage Usage h = absurd h
+  stopped_usage ReadFault h = λ e. let z : ⊥ = cc in z
+  stopped_usage WriteFault h = absurd h
+  stopped_usage NoMemory h = λ e. let z : ⊥ = cc in z
+  stopped_usage TooLong h = λ e. let z : ⊥ = cc in z
+
+  no_end : (t : Status) → ReadsBoth s s' p p' (Err t) → (t ≡ Done) ⊎ (t ≡ Refused) → ⊥
+  no_end Done h k = h
+  no_end Refused h k = h
+  no_end Usage h k = h
+  no_end ReadFault h k = ⊎_elim (λ e. let z : ⊥ = cc in z) (λ e. let z : ⊥ = cc in z) k
+  no_end WriteFault h k = h
+  no_end NoMemory h k = ⊎_elim (λ e. let z : ⊥ = cc in z) (λ e. let z : ⊥ = cc in z) k
+  no_end TooLong h k = ⊎_elim (λ e. let z : ⊥ = cc in z) (λ e. let z : ⊥ = cc in z) k
+
+  pub stopped_end : (P : Type 0) (t : Status) → ReadsBoth s s' p p' (Err t) → (t ≡ Done) ⊎ (t ≡ Refused) → P
+  stopped_end P t h k = absurd (no_end t h k)
+
+  pub stopped_read : (t : Status) → ReadsBoth s s' p p' (Err t) → ReadsForStatus s s' p p' t
+  stopped_read Done h = absurd h
+  stopped_read Refused h = absurd h
+  stopped_read Usage h = absurd h
+  stopped_read ReadFault h = h
+  stopped_read WriteFault h = absurd h
+  stopped_read NoMemory h = h
+  stopped_read TooLong h = h
+
+  pub stopped_cause : (a b d a' b' d' : ℕ) (t : Status) → ReadsBoth s s' p p' (Err t) → HasReadCause a a' d d' t → HasCheckCause (counts a b d) (counts a' b' d') t
+  stopped_cause a b d a' b' d' Done h k = tt
+  stopped_cause a b d a' b' d' Refused h k = tt
+  stopped_cause a b d a' b' d' Usage h k = tt
+  stopped_cause a b d a' b' d' ReadFault h k = k
+  stopped_cause a b d a' b' d' WriteFault h k = absurd h
+  stopped_cause a b d a' b' d' NoMemory h k = tt
+  stopped_cause a b d a' b' d' TooLong h k = tt
+
+-- ---- what is told
+
+-- nothing
+pub told_nothing : (s p a : Option (List ℕ)) → ToldOf s p a a IsFrontOfCheck
+told_nothing None p a = tt
+told_nothing (Some x) None a = tt
+told_nothing (Some x) (Some y) None = tt
+told_nothing (Some x) (Some y) (Some z) = ([], ap Some (sym (append-nil z)), inl refl)
+
+-- all
+pub told_all : (s p a a' : Option (List ℕ)) (vs : List Verdict) (o : Option Refusal) (bytes : List ℕ) (t : Status) → IfSome s (λ x. IfSome p (λ y. IsJudged x y vs o)) → bytes ≡ report_text vs o → Appends a a' bytes → t ≡ status_of o → ToldOf s p a a' (IsEndOfCheck t)
+told_all None p a a' vs o bytes t j r w e = tt
+told_all (Some x) None a a' vs o bytes t j r w e = tt
+told_all (Some x) (Some y) None a' vs o bytes t j r w e = tt
+told_all (Some x) (Some y) (Some z) None vs o bytes t j r w e = absurd w
+told_all (Some x) (Some y) (Some z) (Some u) vs o bytes t j r w e = (bytes, ap Some w, record { verdicts = vs; refusal = o; judged = j; report = r; status_is = e })
+
+-- a front of it
+pub told_some : (s p a a' : Option (List ℕ)) (vs : List Verdict) (o : Option Refusal) (bytes rest : List ℕ) → IfSome s (λ x. IfSome p (λ y. IsJudged x y vs o)) → report_text vs o ≡ bytes ++ rest → Appends a a' bytes → ToldOf s p a a' IsFrontOfCheck
+told_some None p a a' vs o bytes rest j r w = tt
+told_some (Some x) None a a' vs o bytes rest j r w = tt
+told_some (Some x) (Some y) None a' vs o bytes rest j r w = tt
+told_some (Some x) (Some y) (Some z) None vs o bytes rest j r w = absurd w
+told_some (Some x) (Some y) (Some z) (Some u) vs o bytes rest j r w = (bytes, ap Some w, inr (record { verdicts = vs; refusal = o; rest = rest; judged = j; report = r }))
+
+-- ---- the status of an end
+
+pub end_usage : (o : Option Refusal) → status_of o ≢ Usage
+end_usage None = λ e. let z : ⊥ = cc in z
+end_usage (Some r) = λ e. let z : ⊥ = cc in z
+
+pub end_read : (s s' p p' : Option (List ℕ)) (o : Option Refusal) → ReadsWithin s s' × ReadsWithin p p' → ReadsForStatus s s' p p' (status_of o)
+end_read s s' p p' None h = h
+end_read s s' p p' (Some r) h = h
+
+pub end_cause : (a b : Counts) (o : Option Refusal) → HasCheckCause a b (status_of o)
+end_cause a b None = tt
+end_cause a b (Some r) = tt
+
+-- ---- a run
+
+-- the words ask for one of both
+pub one_command : (ws : List (List ℕ)) → IsToSolve ws → IsToCheck ws → ⊥
+one_command ws s k =
+    let e : codes "solve" ∷ s.0 ∷ [] ≡ codes "check" ∷ k.0 ∷ [] = sym s.1.two ∙ k.1.two in
+    let f : 115 ≡ 99 = ap (λ (l : List (List ℕ)). get_or (get_or l 0 []) 0 0) e in
+    omega (arith, f)
+
+-- a short text is not too long
+not_too_long : (s s' : Option (List ℕ)) → IsShort s → ReadsBytes (input_limit + 1) s s' → ⊥
+not_too_long None s' x h = let e = x.told in let z : ⊥ = cc in z
+not_too_long (Some t) None x h = h.1
+not_too_long (Some t) (Some u) x h =
+    let e : t ≡ x.text = cc (x.told) in
+    let n : length t ≡ length h.0 + length u = ap length h.1 ∙ length-append h.0 u in
+    let m : length t ≡ length x.text = ap length e in
+    omega (arith, n, m, h.2, x.short)
+
+pub judged_unless : (s s' p p' : Option (List ℕ)) (a b : Counts) (t : Status) → t ≢ Usage → ReadsForStatus s s' p p' t → HasCheckCause a b t → IsShort s → IsShort p → IsWithoutFault a b → (t ≡ Done) ⊎ ((t ≡ Refused) ⊎ (t ≡ NoMemory))
+judged_unless s s' p p' a b Done u r h x y z = inl refl
+judged_unless s s' p p' a b Refused u r h x y z = inr (inl refl)
+judged_unless s s' p p' a b Usage u r h x y z = absurd (u refl)
+judged_unless s s' p p' a b ReadFault u r h x y z = absurd (⊎_elim (λ q. z.script q) (λ q. z.proof q) h)
+judged_unless s s' p p' a b WriteFault u r h x y z = absurd (z.answers h)
+judged_unless s s' p p' a b NoMemory u r h x y z = inr (inr refl)
+judged_unless s s' p p' a b TooLong u r h x y z = absurd (⊎_elim (λ q. not_too_long s s' x q.0) (λ q. not_too_long p p' y q.1) r)
+
+pub write_usage : WriteFault ≢ Usage
+write_usage = λ e. let z : ⊥ = cc in z
+
+pub write_end : (P : Type 0) → (WriteFault ≡ Done) ⊎ (WriteFault ≡ Refused) → P
+write_end P k = absurd (⊎_elim (λ e. let z : ⊥ = cc in z) (λ e. let z : ⊥ = cc in z) k)
+
+pub memory_usage : NoMemory ≢ Usage
+memory_usage = λ e. let z : ⊥ = cc in z
+
+pub memory_end : (P : Type 0) → (NoMemory ≡ Done) ⊎ (NoMemory ≡ Refused) → P
+memory_end P k = absurd (⊎_elim (λ e. let z : ⊥ = cc in z) (λ e. let z : ⊥ = cc in z) k)
+
+-- what the words ask for
+
+pub asks_solve : (k : Command) (ws : List (List ℕ)) (p : List ℕ) → k ≡ Solve → Asks k ws p → IsToSolve ws
+asks_solve Solve ws p e h = (p, h)
+asks_solve Check ws p e h = let z : ⊥ = cc in absurd z
+
+pub asks_check : (k : Command) (ws : List (List ℕ)) (p : List ℕ) → k ≡ Check → Asks k ws p → IsToCheck ws
+asks_check Solve ws p e h = let z : ⊥ = cc in absurd z
+asks_check Check ws p e h = (p, h)
+
+pub answered_unless : (s s' : Option (List ℕ)) (a b : Counts) (t : Status) → t ≢ Usage → (t ≡ TooLong → ReadsBytes (input_limit + 1) s s') → HasCause a b t → IsShort s → IsWithoutFault a b → (t ≡ Done) ⊎ ((t ≡ Refused) ⊎ (t ≡ NoMemory))
+answered_unless s s' a b Done u r h x z = inl refl
+answered_unless s s' a b Refused u r h x z = inr (inl refl)
+answered_unless s s' a b Usage u r h x z = absurd (u refl)
+answered_unless s s' a b ReadFault u r h x z = absurd (z.script h)
+answered_unless s s' a b WriteFault u r h x z = absurd (⊎_elim (λ q. z.answers q) (λ q. z.proof q) h)
+answered_unless s s' a b NoMemory u r h x z = inr (inr refl)
+answered_unless s s' a b TooLong u r h x z = absurd (not_too_long s s' x (r refl))
+
+-- want of memory behind what was read
+pub starved_both : (s s' p p' : Option (List ℕ)) (t : Status) → t ≡ NoMemory → ReadsWithin s s' × ReadsWithin p p' → ReadsBoth s s' p p' (Err t)
+starved_both s s' p p' t e h = subst (λ x. ReadsBoth s s' p p' (Err x)) (sym e) h
+
+pub starved_cause : (a b d e : ℕ) (t : Status) → t ≡ NoMemory → HasReadCause a b d e t
+starved_cause a b d e t f = subst (λ x. HasReadCause a b d e x) (sym f) tt
+
+-- ---- how a check stops
+
+module _ (i : Inputs) (b : Option CheckerValue) (p : Progress) where
+  pub stops_script : (c : Checking) → p ≡ progress.Script c → Stops i b p → Keeps i b c × (c.inputs.script_ended ≡ false)
+  stops_script c e h = subst (λ x. Stops i b x) e h
+
+  pub stops_proof : (c : Checking) → p ≡ progress.Proof c → Stops i b p → Keeps i b c × (c.inputs.proof_ended ≡ false)
+  stops_proof c e h = subst (λ x. Stops i b x) e h
+
+  pub stops_done : (j : Judgement) → p ≡ progress.Done j → Stops i b p → Concludes i b j
+  stops_done j e h = subst (λ x. Stops i b x) e h

@@ -1,0 +1,51 @@
+#!/usr/bin/env python3
+"""Solves every script of the examples and of the rows, and checks each proof with the program itself.
+
+usage: checked.py [PROGRAM]    (default: the program that `rt run` leaves in crates/smt_tool/out)
+
+`check` has to accept what `solve` wrote, with the verdicts that it answered.
+"""
+import pathlib
+import subprocess
+import sys
+import tempfile
+
+import run
+
+
+def scripts():
+    for path in sorted((run.HERE.parents[1] / "examples").glob("*.smt2")):
+        yield path.stem, path.read_bytes()
+    for path in sorted(run.HERE.glob("*.row")):
+        row = run.sections(path)
+        if row["words"].split()[:1] == ["solve"]:
+            yield path.stem, row.get("script", "").encode("latin-1")
+
+
+def fault(program, script, proof):
+    solved = subprocess.run([program, "solve", proof], input=script, capture_output=True, timeout=120)
+    if solved.returncode not in (0, 1):
+        return "solve: status %d" % solved.returncode
+    verdicts = [line for line in solved.stdout.split(b"\n") if line in (b"sat", b"unsat", b"unknown")]
+    wanted = b"".join(v + b"\n" for v in verdicts) + b"accepted %d\n" % len(verdicts)
+    checked = subprocess.run([program, "check", proof], input=script, capture_output=True, timeout=120)
+    if (checked.stdout, checked.returncode) != (wanted, 0):
+        return "check: status %d, %r" % (checked.returncode, checked.stdout)
+    return None
+
+
+def main():
+    program = sys.argv[1] if len(sys.argv) > 1 else run.PROGRAM
+    count, failed = 0, 0
+    for name, script in scripts():
+        with tempfile.TemporaryDirectory() as folder:
+            found = fault(program, script, pathlib.Path(folder) / "proof")
+        if found:
+            print("%s: %s" % (name, found))
+        count, failed = count + 1, failed + bool(found)
+    print("%d scripts, %d failed" % (count, failed))
+    return 1 if failed or not count else 0
+
+
+if __name__ == "__main__":
+    sys.exit(main())
