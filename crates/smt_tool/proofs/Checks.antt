@@ -1,20 +1,18 @@
 -- Of a check that reads both texts in pieces.
-use Rattle.std.proofs.Common.{◌≡◌, ℕ, ◌+◌, ◌<◌, ◌≤◌, Bool, true, false, List, [], ◌∷◌, ◌++◌, length, take, Option, Some, None, refl, sym, ap, ◌∙◌, subst, inl, inr, ⊎_elim, arith, append_assoc, length-append}
-use Rattle.std.specs.Prelude.{◌⊎◌, Result, Ok, Err, IfSome}
+use Rattle.std.proofs.Common.{◌≡◌, ℕ, ◌+◌, ◌≤◌, true, false, List, [], ◌++◌, length, Option, Some, None, refl, sym, ◌∙◌, subst, inl, inr, arith, append_assoc, length-append}
+use Rattle.std.specs.Prelude.{Err, IfSome}
 use Rattle.std.specs.Io.KnownBytes.{Consumes, IsAtEnd}
 use Rattle.std.proofs.KnownBytes.{Consumes-nil, Consumes-trans}
-use Rattle.std.proofs.lemmas.List.{length-take-le}
 use Rattle.script_state.specs.declared.answer.Verdict.{Verdict}
 use Rattle.accepted_proof.specs.declared.refusal.Refusal.{Refusal}
 use Rattle.proof_checker.specs.Checked.{IsJudged}
 use Rattle.proof_checker.specs.Checkings.{AreToCome, AreEnded, Judges, Keeps, Concludes, verdicts_by}
 use Rattle.proof_checker.specs.declared.checking.Checking.{Checking}
 use Rattle.proof_checker.specs.declared.checking.Judgement.{Judgement}
-use Rattle.smt_desk.specs.Faults.{Rose}
 use Rattle.smt_tool.specs.declared.status.Status.{Status}
 use Rattle.smt_tool.specs.declared.status.Status.TheVariants.{Done, Refused, Usage, ReadFault, WriteFault, NoMemory, TooLong}
 use Rattle.smt_tool.specs.Runs.{ReadsBytes, ReadsWithin, ReadsPiece, HasCause, counts, input_limit}
-use Rattle.smt_tool.specs.Checks.{ReadsUpTo, StopsReading, if_open, TakesScript, TakesProof, ReadsBoth, HasReadCause}
+use Rattle.smt_tool.specs.Checks.{ReadsUpTo, StopsReading, TakesScript, TakesProof, ReadsBoth, HasReadCause}
 use Rattle.smt_tool.proofs.Parts.{reads_more}
 
 -- ---- one read

@@ -1,6 +1,6 @@
 -- Of the end of a check, and of its run.
-use Rattle.std.proofs.Common.{◌≡◌, ◌≢◌, ℕ, ◌+◌, ◌≤◌, false, List, [], ◌∷◌, ◌++◌, length, get_or, codes, Option, Some, None, refl, sym, ap, ◌∙◌, subst, inl, inr, ⊎_elim, arith, append-nil, length-append}
-use Rattle.std.specs.Prelude.{◌⊎◌, Result, Ok, Err, IfSome}
+use Rattle.std.proofs.Common.{◌≡◌, ◌≢◌, ℕ, ◌+◌, false, List, [], ◌∷◌, ◌++◌, length, get_or, codes, Option, Some, None, refl, sym, ap, ◌∙◌, subst, inl, inr, ⊎_elim, arith, append-nil, length-append}
+use Rattle.std.specs.Prelude.{◌⊎◌, Err, IfSome}
 use Rattle.std.specs.Io.KnownBytes.{Appends}
 use Rattle.script_state.specs.declared.answer.Verdict.{Verdict}
 use Rattle.accepted_proof.specs.declared.refusal.Refusal.{Refusal}
@@ -13,7 +13,6 @@ use Rattle.proof_checker.specs.declared.checking.Checking.{Checking}
 use Rattle.proof_checker.specs.declared.checking.Judgement.{Judgement}
 use Rattle.proof_checker.specs.declared.checking.Progress.{Progress}
 use Rattle.proof_checker.specs.declared.checking.Progress.TheVariants as progress
-use Rattle.smt_desk.specs.Faults.{Rose}
 use Rattle.smt_tool.specs.declared.status.Status.{Status}
 use Rattle.smt_tool.specs.declared.status.Status.TheVariants.{Done, Refused, Usage, ReadFault, WriteFault, NoMemory, TooLong}
 use Rattle.smt_tool.specs.declared.words.Command.{Command}

@@ -1,4 +1,4 @@
-use Rattle.std.proofs.Common.{◌≡◌, ◌≤◌, [], take, drop, sym, ◌∙◌, arith, append-nil, take-append-drop}
+use Rattle.std.proofs.Common.{[], take, drop, sym, ◌∙◌, arith, append-nil, take-append-drop}
 use Rattle.proof_checker.specs.Checkings.{verdicts_by}
 use Rattle.smt_tool.specs.declared.status.Status.TheVariants.{NoMemory}
 use Rattle.smt_tool.proofs.Parts.{adds_none}

@@ -1,4 +1,4 @@
-use Rattle.std.proofs.Common.{◌≡◌, ◌<◌, ◌≤◌, length, arith}
+use Rattle.std.proofs.Common.{arith}
 use Rattle.std.proofs.lemmas.Result.{err_from_is_err_and}
 use Rattle.smt_tool.proofs.Checks.{way_none, way_advance, way_script, way_proof, way_done, both_within, script_stopped, proof_stopped}
 use Rattle.smt_tool.proofs.Reported.{starved_both, stops_script, stops_proof, stops_done}

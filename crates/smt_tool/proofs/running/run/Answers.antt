@@ -1,4 +1,4 @@
-use Rattle.std.proofs.Common.{◌≤◌, refl, inl, inr, arith}
+use Rattle.std.proofs.Common.{refl, inl, inr, arith}
 use Rattle.smt_tool.proofs.Parts.{adds_none, later_same}
 use Rattle.smt_tool.proofs.Reported.{asks_solve, asks_check, one_command, answered_unless, judged_unless}
 use Rattle.smt_tool.proofs.running.run.Goals as goal
