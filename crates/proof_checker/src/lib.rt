@@ -18,7 +18,5 @@ mod models;
 mod refutations;
 pub mod report;
 mod steps;
-#[cfg(test)]
-mod tests;
 
 pub use check_laws::{accepted_proofs_pass, texts_are_judged_one_way, what_is_accepted_is_right};

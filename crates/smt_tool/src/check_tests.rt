@@ -9,15 +9,15 @@ const SCRIPT: &[u8] = b"(assert false) (check-sat)\n";
 const PROOF: &[u8] = b"smt_proof 1 cubes 0 budget 100000\ne 0\ns 0\nc -2 0 0.0 2.0\nunsat 3\n";
 
 /// The status and the answers of a check of both texts, which come in pieces of so many bytes.
-fn check<'a>(
+pub(crate) fn check<'a>(
     alloc: Global,
     script: &'a [u8],
     proof: &'a [u8],
     piece: usize,
     answers: &mut MemSink<'a>,
 ) -> Status {
-    let mut script = MemSource::new(script, piece, &[]);
-    let mut proof = MemSource::new(proof, piece, &[]);
+    let mut script = MemSource::new(script, piece.max(1), &[]);
+    let mut proof = MemSource::new(proof, piece.max(1), &[]);
     let mut unwritten = MemSink::new(alloc, 1, &[]);
     run(
         alloc,

@@ -10,6 +10,8 @@
 
 mod answering;
 #[cfg(test)]
+mod change_tests;
+#[cfg(test)]
 mod check_tests;
 mod checking;
 mod command_line;

@@ -1,14 +1,7 @@
-ghost use Rattle.std.specs.Prelude.{IfOk, IfSome};
-ghost use Rattle.proof_checker.specs.Checkers.{IsRead};
-
-use crate::checker::Checker;
-use accepted_proof::refusal::{Refusal, RuleName};
-use proof_text::line::Line;
-use proof_text::reader::{LineFault, ProofReader};
-use script_state::answer::Verdict;
-use smt_text::framer::chunks;
-use smt_text::text::Text;
-use std::alloc::{AllocError, Global};
+use crate::check_tests::check;
+use crate::status::Status;
+use smt_desk::memory::MemSink;
+use std::alloc::{AllocError, AllocGlobal, Global};
 use std::process::Abort;
 use std::test::Fail;
 
@@ -49,83 +42,6 @@ const TWICE: Proved = Proved {
     proof: b"smt_proof 1 cubes 0 budget 100000\ne 0\ne 1\ne 2\ns 0\nc -6 0 0.0 3.2 3.5 3.11 4.0\nunsat 5\nc -6 0 0.0 3.2 3.5 3.11 4.0\nunsat 6\n",
 };
 
-/// The next line of a proof, which may be a last one without its line feed.
-fn next_line(reader: &mut ProofReader) -> Result<Option<Result<Line, LineFault>>, AllocError>
-    ensures { IfOk result (λ o. IfSome o IsRead) }
-{
-    match reader.next()? {
-        Some(line) => Ok(Some(line)),
-        None => match reader.finish() {
-            Some(fault) => Ok(Some(Err(fault))),
-            None => Ok(None),
-        },
-    }
-}
-
-/// Judges lines for as long as they are owed.
-fn judge_record(
-    alloc: Global,
-    checker: Checker,
-    reader: &mut ProofReader,
-) -> Result<Checker, AllocError> {
-    let mut checker = checker;
-    for _ in 0..1000 {
-        if !checker.owes() {
-            return Ok(checker);
-        }
-        let Some(line) = next_line(reader)? else {
-            return Ok(checker);
-        };
-        checker = checker.line(alloc, &line)?.0;
-    }
-    Ok(checker)
-}
-
-/// Judges the records of a script's checks.
-fn judge_checks(
-    alloc: Global,
-    checker: Checker,
-    script: &[u8],
-    reader: &mut ProofReader,
-) -> Result<Checker, AllocError> {
-    let mut checker = checker;
-    for chunk in &chunks(alloc, &[Text::from_slice(alloc, script)?])? {
-        if checker.owes() {
-            return Ok(checker);
-        }
-        checker = checker.command(alloc, chunk)?.0;
-        checker = judge_record(alloc, checker, reader)?;
-    }
-    Ok(checker)
-}
-
-/// The verdicts of the records of a proof, or its first bad line.
-fn judge(
-    alloc: Global,
-    script: &[u8],
-    proof: &[u8],
-) -> Result<Result<Vec<Verdict>, Refusal>, AllocError> {
-    let mut reader = ProofReader::new(alloc);
-    reader.feed(proof)?;
-    let first = match next_line(&mut reader)? {
-        Some(line) => line,
-        None => Err(LineFault { line: 1 }),
-    };
-    let checker = match Checker::new(alloc, &first)? {
-        Ok(checker) => checker,
-        Err(refusal) => return Ok(Err(refusal)),
-    };
-    let mut checker = judge_checks(alloc, checker, script, &mut reader)?;
-    if let Some(line) = next_line(&mut reader)? {
-        checker = checker.line(alloc, &line)?.0;
-    }
-    let (checker, told) = checker.end();
-    match told {
-        Ok(()) => Ok(Ok(Vec::from_slice(alloc, checker.verdicts())?)),
-        Err(refusal) => Ok(Err(refusal)),
-    }
-}
-
 /// The proof with another text in place of a line, which is counted from 1. In the text a bar stands for each line feed.
 fn with_line(alloc: Global, proof: &[u8], at: u64, to: &str) -> Result<Vec<u8>, AllocError> {
     let mut changed = Vec::new(alloc);
@@ -154,31 +70,18 @@ fn push_text(changed: &mut Vec<u8>, to: &str) -> Result<(), AllocError> {
     Ok(())
 }
 
-/// The rules by their names.
-const RULES: [(&str, RuleName); 10] = [
-    ("header", RuleName::Header),
-    ("line", RuleName::Line),
-    ("node", RuleName::Node),
-    ("leaf", RuleName::Leaf),
-    ("encode", RuleName::Encode),
-    ("selector", RuleName::Selector),
-    ("chain", RuleName::Chain),
-    ("sat", RuleName::Sat),
-    ("unsat", RuleName::Unsat),
-    ("end", RuleName::End),
-];
-
-/// The refusal of a line by the rule of this name; none where the name is of no rule.
-fn refusal(line: u64, name: &str) -> Option<Refusal> {
-    for (known, rule) in &RULES {
-        if *known == name {
-            return Some(Refusal { line, rule: *rule });
-        }
-    }
-    None
+/// How a check ends that refuses this line by this rule.
+fn refused(alloc: Global, line: &str, name: &str) -> Result<Vec<u8>, AllocError> {
+    let mut text: Vec<u8> = Vec::new(alloc);
+    text.extend_from_slice(b"refused line ")?;
+    text.extend_from_slice(line.as_bytes())?;
+    text.extend_from_slice(b" rule ")?;
+    text.extend_from_slice(name.as_bytes())?;
+    text.push(b'\n')?;
+    Ok(text)
 }
 
-/// A line of a proof is changed, and the proof judged. A row has the line's number, the number of the line that is refused
+/// A line of a proof is changed, and the proof checked. A row has the line's number, the number of the line that is refused
 /// then, the rule of that or `accepted`, and the text in the line's place.
 fn judge_change(rt: &(impl Abort + AllocGlobal), proved: &Proved, row: &str) -> Result<(), Fail> {
     let alloc = rt.alloc();
@@ -186,10 +89,16 @@ fn judge_change(rt: &(impl Abort + AllocGlobal), proved: &Proved, row: &str) -> 
     let (line, rest) = rest.split_once(' ').ok_or("a refused line")?;
     let (name, to) = rest.split_once(' ').ok_or("a rule")?;
     let at = at.parse::<u64>().ok().ok_or("a number")?;
-    let line = line.parse::<u64>().ok().ok_or("a number")?;
     let changed = with_line(alloc, proved.proof, at, to)?;
-    let judged = judge(alloc, proved.script, changed.as_slice())?;
-    assert_eq!(rt; judged.err(), refusal(line, name), "{row}");
+    let mut answers = MemSink::new(alloc, 100, &[]);
+    let status = check(alloc, proved.script, changed.as_slice(), 100, &mut answers);
+    if name == "accepted" {
+        assert_eq!(rt; status, Status::Done, "{row}");
+        return Ok(());
+    }
+    let wanted = refused(alloc, line, name)?;
+    assert_eq!(rt; status, Status::Refused, "{row}");
+    assert!(rt; answers.bytes().ends_with(wanted.as_slice()));
     Ok(())
 }
 
@@ -197,59 +106,6 @@ fn judge_change(rt: &(impl Abort + AllocGlobal), proved: &Proved, row: &str) -> 
 fn judge_each(rt: &(impl Abort + AllocGlobal), proved: &Proved, rows: &str) -> Result<(), Fail> {
     for row in rows.lines() {
         judge_change(rt, proved, row)?;
-    }
-    Ok(())
-}
-
-#[test]
-fn accepted_proofs_show_their_verdicts(rt: HostRuntime) -> Result<(), Fail> {
-    let alloc = rt.alloc();
-    let cases: [(&Proved, &[Verdict]); 5] = [
-        (&FALSE, &[Verdict::Unsat]),
-        (&WITH_TERM, &[Verdict::Unsat]),
-        (&DENIED, &[Verdict::Sat, Verdict::Unsat]),
-        (&WORDS, &[Verdict::Sat]),
-        (&TWICE, &[Verdict::Unsat, Verdict::Unsat]),
-    ];
-    for (proved, verdicts) in &cases {
-        let judged = judge(alloc, proved.script, proved.proof)?;
-        assert!(rt; judged.is_ok_and(|shown| shown.as_slice() == *verdicts));
-    }
-    Ok(())
-}
-
-#[test]
-fn a_proof_of_another_script(rt: HostRuntime) -> Result<(), Fail> {
-    let alloc = rt.alloc();
-    let cases: [(&[u8], u64, &str); 6] = [
-        (b"(check-sat)", 2, "encode"),
-        (b"(assert true) (check-sat)", 4, "chain"),
-        (
-            b"(declare-const p Bool) (assert p) (check-sat)",
-            2,
-            "encode",
-        ),
-        (b"(assert false)", 2, "end"),
-        (b"(assert false) (check-sat", 2, "end"),
-        (b"(assert false) (check-sat) (check-sat)", 6, "end"),
-    ];
-    for (script, line, name) in &cases {
-        let judged = judge(alloc, script, FALSE.proof)?;
-        assert_eq!(rt; judged.err(), refusal(*line, *name), "{script:?}");
-    }
-    Ok(())
-}
-
-#[test]
-fn a_script_without_a_check_has_a_header_alone(rt: HostRuntime) -> Result<(), Fail> {
-    let alloc = rt.alloc();
-    let header: &[u8] = b"smt_proof 1 cubes 10 budget 1000000000\n";
-    let scripts: [&[u8]; 4] = [b"", b"(assert false)", b"(check-sat", b") check-sat"];
-    for script in &scripts {
-        let judged = judge(alloc, script, header)?;
-        assert!(rt; judged.is_ok_and(|shown| shown.is_empty()));
-        let empty = judge(alloc, script, b"")?;
-        assert_eq!(rt; empty.err(), refusal(1, "header"));
     }
     Ok(())
 }
