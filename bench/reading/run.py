@@ -33,6 +33,15 @@ def opened(n):
     return "(assert " + "(" * n
 
 
+def lets(n):
+    names = ["x"] + ["v%d" % k for k in range(n)]
+    return WORD + "(assert (= x %s%s%s))\n" % ("".join("(let ((%s %s)) " % (names[k + 1], names[k]) for k in range(n)), names[n], ")" * n)
+
+
+def hiding(n):
+    return WORD + "(assert (= x %sx%s))\n" % ("(let ((x (bvnot x))) " * n, ")" * n)
+
+
 def distinct(n):
     return WORD + "(assert (distinct%s))\n" % "".join(" (_ bv%d 32)" % k for k in range(n))
 
@@ -42,6 +51,8 @@ SCRIPTS = [
     ("arguments of one bvadd", sum_of, 100000),
     ("bvnot in bvnot", nested, 100000),
     ("arguments of one =", chained, 100000),
+    ("let in let, each of a name of its own", lets, 100000),
+    ("let in let, each hiding the last", hiding, 100000),
     ("open parentheses", opened, 500000),
     ("arguments of one distinct (quadratic by its definition)", distinct, 500),
 ]
