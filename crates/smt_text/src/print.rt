@@ -72,10 +72,9 @@ fn push_string(out: &mut Text, bytes: &[u8]) -> Result<(), AllocError>
     out.push(b'"')
 }
 
-/// Appends a symbol of this name: plain where it is a simple symbol, else in bars.
+/// Appends a symbol of this name: plain where it is a simple symbol, else in bars. It reads back where neither a bar nor a
+/// backslash stands in the name.
 pub fn print_symbol(name: &[u8], out: &mut Text) -> Result<(), AllocError>
-    // Neither a bar nor a backslash stands in the name.
-    requires { list_all is_quoted_byte name.now ≡ true }
     ensures ok { OnOk result (out.new ≡ out.old ++ symbol_text name.now) }
     ensures err { OnErr result (out.new ≡ out.old) }
 {
