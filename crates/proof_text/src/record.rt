@@ -78,7 +78,9 @@ fn push_word(word: Word, out: &mut Text) -> Result<(), AllocError>
     push_digits(word.width(), word.value(), out)
 }
 
-fn push_value(value: &Value, out: &mut Text) -> Result<(), AllocError>
+/// Appends a value as it stands in a line. An error may leave the first bytes of it.
+pub fn push_value(value: &Value, out: &mut Text) -> Result<(), AllocError>
+    // Arrays and tables of functions have no written form.
     requires { IsSome (written_value value.now) }
     ensures ok { OnOk result (IfSome (written_value value.now) (λ v. out.new ≡ out.old ++ value_text v)) }
     ensures err { OnErr result (take (length out.old) out.new ≡ out.old) }
