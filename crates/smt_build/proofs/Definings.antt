@@ -1,5 +1,5 @@
 -- The definition that tokens ask for.
-use Rattle.std.proofs.Common.{◌≡◌, ℕ, ◌≤◌, ◌<◌, true, false, List, [], ◌∷◌, length, get_or, refl, ap, ◌∙◌, subst, Option, Some, None, Result, Ok, Err}
+use Rattle.std.proofs.Common.{◌≡◌, ℕ, ◌≤◌, ◌<◌, true, false, List, [], ◌∷◌, length, get_or, refl, ap, sym, ◌∙◌, subst, Option, Some, None, Result, Ok, Err}
 use Rattle.std.specs.Prelude.{is_some}
 use Rattle.smt_text.specs.declared.token.Token.{Token}
 use Rattle.smt_text.specs.declared.token.CommandName.{CommandName}
@@ -20,10 +20,12 @@ use Rattle.smt_build.specs.declared.fault.BuildError.TheVariants.{NoMemory, Faul
 use Rattle.smt_build.specs.Names.{SymbolsValue, meaning_in, is_taken, with_definition}
 use Rattle.smt_build.specs.Building.{Builds}
 use Rattle.smt_build.specs.Grouping.{has_sort}
-use Rattle.smt_build.specs.Terms.{term_of}
+use Rattle.smt_build.specs.Terms.{term_over}
 use Rattle.smt_build.specs.Operators.{is_reserved}
 use Rattle.smt_build.specs.Declaring.{value_sort}
-use Rattle.smt_build.specs.Defining.{is_sort_reserved, next_sort, sort_named, name_sort, define_sort, DefinesSort, body_of, next_function, function, define_function, define, Defines}
+use Rattle.smt_build.specs.Sorts.{sort_in}
+use Rattle.smt_build.specs.Parameters.{Parameters, sorts_of, parameters_in, Lists}
+use Rattle.smt_build.specs.Defining.{is_sort_reserved, next_sort, sort_named, name_sort, define_sort, DefinesSort, body_of, function_over, value_over, head_of, function, define_function, define, Heads, Defines}
 use Rattle.smt_build.proofs.Declarations.{name_is}
 
 -- ---- names of sorts
@@ -80,13 +82,13 @@ no_sort_command tokens v _ k es h = refl
 
 -- ---- names of functions
 
-pub no_function_name : (v : SymbolsValue) (terms : TermsValue) (ts : List Token) (n : Sexp) (s : Result Sort BuildFault) (t : Sexp) → signs_in ts ≡ spelling n → (length ts ≡ 1 → ⊥) → define_function v terms n s t ≡ Err NotSupported
+pub no_function_name : (v : SymbolsValue) (terms : TermsValue) (ts : List Token) (n : Sexp) (s : Result (Parameters × Sort) BuildFault) (t : Sexp) → signs_in ts ≡ spelling n → (length ts ≡ 1 → ⊥) → define_function v terms n s t ≡ Err NotSupported
 no_function_name v terms [] (atom k x) s t e m = absurd (let z : ⊥ = cc in z)
 no_function_name v terms (u ∷ []) (atom k x) s t e m = absurd (m refl)
 no_function_name v terms (u ∷ w ∷ ts) (atom k x) s t e m = absurd (let z : ⊥ = cc in z)
 no_function_name v terms ts (group es) s t e m = refl
 
-module _ (v : SymbolsValue) (terms : TermsValue) (ts : List Token) (d : Token) (a : 1 ≤ length ts) (b : length ts < 2) (n : Sexp) (s : Result Sort BuildFault) (t : Sexp) (e : signs_in ts ≡ spelling n) where
+module _ (v : SymbolsValue) (terms : TermsValue) (ts : List Token) (d : Token) (a : 1 ≤ length ts) (b : length ts < 2) (n : Sexp) (s : Result (Parameters × Sort) BuildFault) (t : Sexp) (e : signs_in ts ≡ spelling n) where
   abbrev text : List ℕ
   text = (get_or ts 0 d).text.now
 
@@ -99,42 +101,56 @@ module _ (v : SymbolsValue) (terms : TermsValue) (ts : List Token) (d : Token) (
   pub known_function : is_reserved text ≡ false → is_taken v text ≡ true → define_function v terms n s t ≡ Err Declared
   known_function f g = as_function ∙ rw (f, g) refl
 
-  pub faulty_value : is_reserved text ≡ false → is_taken v text ≡ false → (y : BuildFault) → s ≡ Err y → define_function v terms n s t ≡ Err y
-  faulty_value f g y h = as_function ∙ rw (f, g, h) refl
+  pub head_unread : is_reserved text ≡ false → is_taken v text ≡ false → (x : BuildError) (ps : Parameters) (w : SymbolsValue) (new : TermsValue) → Heads s (Err x) ps → w ≡ v → new ≡ terms → Defines (define_function v terms n s t) (Err x) (v, terms) (w, new)
+  head_unread f g NoMemory ps w new h p q = (p, q)
+  head_unread f g (Fault y) ps w new h p q = (as_function ∙ rw (f, g, h) refl, p, q)
 
-  pub with_value : is_reserved text ≡ false → is_taken v text ≡ false → (r : Sort) → s ≡ Ok r → define_function v terms n s t ≡ (body_of v terms r t >>= next_function v text)
-  with_value f g r h = as_function ∙ rw (f, g, h) refl
+  pub head_read : is_reserved text ≡ false → is_taken v text ≡ false → (ps : Parameters) (r : Sort) → s ≡ Ok (ps, r) → (result : Result (Unit {0}) BuildError) (new : SymbolsValue × TermsValue) → Defines (function_over v terms text ps r t) result (v, terms) new → Defines (define_function v terms n s t) result (v, terms) new
+  head_read f g ps r h result new d = subst (λ q. Defines q result (v, terms) new) (sym (as_function ∙ rw (f, g, h) refl)) d
 
-  module _ (f : is_reserved text ≡ false) (g : is_taken v text ≡ false) (r : Sort) (h : s ≡ Ok r) (w : SymbolsValue) (new : TermsValue) where
-    pub function_fails : (x : BuildError) → Builds (body_of v terms r t) (Err x) terms new → w ≡ v → Defines (define_function v terms n s t) (Err x) (v, terms) (w, new)
-    function_fails NoMemory m same = (same, m)
-    function_fails (Fault y) m same = (with_value f g r h ∙ rw m.0 refl, same, m.1)
+module _ (v : SymbolsValue) (terms : TermsValue) (x : List ℕ) (ps : Parameters) (s : Sort) (t : Sexp) (w : SymbolsValue) (new : TermsValue) where
+  pub function_fails : (y : BuildError) → Builds (body_of v terms ps s t) (Err y) terms new → w ≡ v → Defines (function_over v terms x ps s t) (Err y) (v, terms) (w, new)
+  function_fails NoMemory m same = (same, m)
+  function_fails (Fault y) m same = (rw m.0 refl, same, m.1)
 
-    pub function_defined : (q : ℕ) → Builds (body_of v terms r t) (Ok q) terms new → w ≡ with_definition v text (record { parameters = []; body = q }) → define_function v terms n s t ≡ Ok (w, new)
-    function_defined q m same = with_value f g r h ∙ rw (m, same) refl
+  pub function_defined : (q : ℕ) (sorts : List Sort) → Builds (body_of v terms ps s t) (Ok q) terms new → sorts ≡ sorts_of ps → w ≡ with_definition v x (record { parameters = sorts; body = q }) → function_over v terms x ps s t ≡ Ok (w, new)
+  function_defined q sorts m are same = rw (m, same, are) refl
 
-module _ (v : SymbolsValue) (terms : TermsValue) (s : Sort) (t : Sexp) where
-  pub body_fails : (x : BuildError) (new : TermsValue) → Builds (term_of v terms t) (Err x) terms new → Builds (body_of v terms s t) (Err x) terms new
+module _ (v : SymbolsValue) (terms : TermsValue) (ps : Parameters) (s : Sort) (t : Sexp) where
+  pub body_fails : (x : BuildError) (new : TermsValue) → Builds (term_over v terms ps t) (Err x) terms new → Builds (body_of v terms ps s t) (Err x) terms new
   body_fails NoMemory new m = m
   body_fails (Fault f) new m = (rw m.0 refl, m.1)
 
-  pub body_wrong : (r : ℕ) (mid : TermsValue) → Builds (term_of v terms t) (Ok r) terms mid → has_sort s (held_sort mid.nodes r) ≡ false → body_of v terms s t ≡ Err WrongSort
+  pub body_wrong : (r : ℕ) (mid : TermsValue) → Builds (term_over v terms ps t) (Ok r) terms mid → has_sort s (held_sort mid.nodes r) ≡ false → body_of v terms ps s t ≡ Err WrongSort
   body_wrong r mid m h = rw (m, h) refl
 
-  pub body_right : (r : ℕ) (mid : TermsValue) → Builds (term_of v terms t) (Ok r) terms mid → has_sort s (held_sort mid.nodes r) ≡ true → body_of v terms s t ≡ Ok (r, mid)
+  pub body_right : (r : ℕ) (mid : TermsValue) → Builds (term_over v terms ps t) (Ok r) terms mid → has_sort s (held_sort mid.nodes r) ≡ true → body_of v terms ps s t ≡ Ok (r, mid)
   body_right r mid m h = rw (m, h) refl
+
+-- ---- parameters and sorts
+
+module _ (v : SymbolsValue) (p s : Sexp) (ps : Parameters) where
+  pub head_list_fails : (x : BuildError) → Lists (parameters_in v.sorts p) (Err x) ps → Heads (head_of v p s) (Err x) ps
+  head_list_fails NoMemory h = tt
+  head_list_fails (Fault f) h = rw h refl
+
+  pub head_sort_fails : (f : BuildFault) (r o : Result Sort BuildFault) → parameters_in v.sorts p ≡ Ok ps → o ≡ sort_in v.sorts s → r ≡ value_over ps o → r ≡ Err f → head_of v p s ≡ Err f
+  head_sort_fails f r o h k m e = let q : value_over ps (sort_in v.sorts s) ≡ Err f = ap (value_over ps) (sym k) ∙ sym m ∙ e in rw h (ap (λ z. z >>= λ s. Ok (ps, s)) q)
+
+  pub head_is : (t : Sort) (r o : Result Sort BuildFault) → parameters_in v.sorts p ≡ Ok ps → o ≡ sort_in v.sorts s → r ≡ value_over ps o → r ≡ Ok t → head_of v p s ≡ Ok (ps, t)
+  head_is t r o h k m e = let q : value_over ps (sort_in v.sorts s) ≡ Ok t = ap (value_over ps) (sym k) ∙ sym m ∙ e in rw h (ap (λ z. z >>= λ s. Ok (ps, s)) q)
 
 -- ---- commands
 
-pub defines_function : (tokens : List Sign) (a b c d : Span) (es : Sexps) → AllStand tokens (a ∷ b ∷ c ∷ d ∷ []) es → (r : Result (Unit {0}) BuildError) (old new : SymbolsValue × TermsValue) (value : Result Sort BuildFault)
-    → ((n t : Sexp) → Stands tokens a n → Stands tokens d t → Defines (define_function old.0 old.1 n value t) r old new) → ((p s : Sexp) → Stands tokens b p → Stands tokens c s → value ≡ value_sort old.0 p s) → Defines (define old.0 old.1 name.DefineFun es) r old new
+pub defines_function : (tokens : List Sign) (a b c d : Span) (es : Sexps) → AllStand tokens (a ∷ b ∷ c ∷ d ∷ []) es → (r : Result (Unit {0}) BuildError) (old new : SymbolsValue × TermsValue)
+    → ((n p s t : Sexp) → Stands tokens a n → Stands tokens b p → Stands tokens c s → Stands tokens d t → Defines (define_function old.0 old.1 n (head_of old.0 p s) t) r old new) → Defines (define old.0 old.1 name.DefineFun es) r old new
 unfolding define
-defines_function tokens a b c d none h r old new value k v = absurd h
-defines_function tokens a b c d (more n none) h r old new value k v = absurd h.1
-defines_function tokens a b c d (more n (more p none)) h r old new value k v = absurd h.1.1
-defines_function tokens a b c d (more n (more p (more s none))) h r old new value k v = absurd h.1.1.1
-defines_function tokens a b c d (more n (more p (more s (more t none)))) h r old new value k v = subst (λ q. Defines (define_function old.0 old.1 n q t) r old new) (v p s h.1.0 h.1.1.0) (k n t h.0 h.1.1.1.0)
-defines_function tokens a b c d (more n (more p (more s (more t (more u es))))) h r old new value k v = absurd h.1.1.1.1
+defines_function tokens a b c d none h r old new k = absurd h
+defines_function tokens a b c d (more n none) h r old new k = absurd h.1
+defines_function tokens a b c d (more n (more p none)) h r old new k = absurd h.1.1
+defines_function tokens a b c d (more n (more p (more s none))) h r old new k = absurd h.1.1.1
+defines_function tokens a b c d (more n (more p (more s (more t none)))) h r old new k = k n p s t h.0 h.1.0 h.1.1.0 h.1.1.1.0
+defines_function tokens a b c d (more n (more p (more s (more t (more u es))))) h r old new k = absurd h.1.1.1.1
 
 no_parts : (v : SymbolsValue) (terms : TermsValue) (n : CommandName) → define v terms n none ≡ Err NotSupported
 unfolding define

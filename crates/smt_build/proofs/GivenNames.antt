@@ -1,18 +1,20 @@
 -- Names that become definitions.
-use Rattle.std.proofs.Common.{◌≡◌, ℕ, ◌+◌, ◌<◌, ◌≤◌, Bool, true, false, List, [], ◌∷◌, ◌++◌, length, map, take, get_or, refl, ap, sym, ◌∙◌, append_assoc, append-nil, subst, Option, Some, None, Result, Ok, Err}
+use Rattle.std.proofs.Common.{◌≡◌, ℕ, ◌+◌, ◌<◌, Bool, true, false, List, [], ◌∷◌, ◌++◌, length, map, take, get_or, refl, ap, sym, ◌∙◌, append_assoc, append-nil, subst, Ok, Err}
 use Rattle.std.specs.Prelude.{is_some, if◌then◌else◌}
 use Rattle.std.proofs.lemmas.List.{take_more, map-append}
+use Rattle.smt_syntax.specs.Sexps.{Sexp}
 use Rattle.smt_terms.specs.Terms.{TermsValue}
-use Rattle.smt_build.specs.declared.fault.BuildFault.{BuildFault}
 use Rattle.smt_build.specs.declared.fault.BuildError.{BuildError}
 use Rattle.smt_build.specs.declared.fault.BuildError.TheVariants.{NoMemory, Fault}
 use Rattle.smt_build.specs.declared.definition.Definition.{Definition}
 use Rattle.smt_build.specs.declared.scope.Variable.{Variable}
 use Rattle.smt_build.specs.Names.{SymbolsValue, Meanings, meaning_in, with_definition, with_definitions}
 use Rattle.smt_build.specs.Pairs.{Bound, pair_of}
-use Rattle.smt_build.specs.Binding.{Read}
+use Rattle.smt_build.specs.Parameters.{Parameters}
+use Rattle.smt_build.specs.Binding.{Progress, Read}
+use Rattle.smt_build.specs.Terms.{term_in}
 use Rattle.smt_build.specs.Views.{ReadsTerm}
-use Rattle.smt_build.specs.Asserting.{with_name, with_names, as_assertion, Asserts}
+use Rattle.smt_build.specs.Asserting.{with_name, with_names, as_assertion, assertion, Asserts}
 use Rattle.smt_build.proofs.Growth.{take_front}
 
 names_push : (v : SymbolsValue) (bs : Bound) (b : List ℕ × ℕ) → with_names v (bs ++ b ∷ []) ≡ with_name (with_names v bs) b
@@ -55,9 +57,22 @@ given_signatures v new bs e = ap (λ s. s.signatures) (e ∙ (adds_names v bs).s
 
 -- ---- what is read is asserted
 
-pub asserts_ok : (v new : SymbolsValue) (to : Read) (t : ℕ) (terms : TermsValue) (names bs : Bound) → ReadsTerm to (Ok t) terms names → bs ≡ names → new ≡ with_names v bs → as_assertion v to ≡ Ok (t, new, terms)
-asserts_ok v new to t terms names bs m b e = rw (m, e, b) refl
+reads_ok : (v new : SymbolsValue) (to : Read) (t : ℕ) (p : Progress) (bs : Bound) → ReadsTerm to (Ok t) p → bs ≡ p.names → new ≡ with_names v bs → as_assertion v to ≡ Ok (t, new, p.terms)
+reads_ok v new to t p bs m b e = rw (m, e, b) refl
 
-pub asserts_fault : (v : SymbolsValue) (to : Read) (x : BuildError) (mid old new : TermsValue) (names : Bound) → ReadsTerm to (Err x) mid names → new ≡ old → Asserts (as_assertion v to) (Err x) (v, old) (v, new)
-asserts_fault v to NoMemory mid old new names m e = (refl, e)
-asserts_fault v to (Fault f) mid old new names m e = (rw m refl, refl, e)
+reads_fault : (v : SymbolsValue) (to : Read) (x : BuildError) (old new : TermsValue) (p : Progress) → ReadsTerm to (Err x) p → new ≡ old → Asserts (as_assertion v to) (Err x) (v, old) (v, new)
+reads_fault v to NoMemory old new p m e = (refl, e)
+reads_fault v to (Fault f) old new p m e = (rw m refl, refl, e)
+
+-- where there are no parameters
+module _ (v : SymbolsValue) (old : TermsValue) (e : Sexp) (ps : Parameters) (none : ps ≡ []) where
+  abbrev reading : Parameters → Read
+  reading qs = term_in v true [] (record { terms = old; names = []; parameters = qs }) e
+
+  pub asserts_ok : (new : SymbolsValue) (t : ℕ) (p : Progress) (bs : Bound) → ReadsTerm (reading ps) (Ok t) p → bs ≡ p.names → new ≡ with_names v bs → assertion v old e ≡ Ok (t, new, p.terms)
+  unfolding assertion
+  asserts_ok new t p bs m b q = reads_ok v new (reading []) t p bs (subst (λ (qs : Parameters). ReadsTerm (reading qs) (Ok t) p) none m) b q
+
+  pub asserts_fault : (x : BuildError) (new : TermsValue) (p : Progress) → ReadsTerm (reading ps) (Err x) p → new ≡ old → Asserts (assertion v old e) (Err x) (v, old) (v, new)
+  unfolding assertion
+  asserts_fault x new p m q = reads_fault v (reading []) x old new p (subst (λ (qs : Parameters). ReadsTerm (reading qs) (Err x) p) none m) q

@@ -78,12 +78,12 @@ declared_push signatures nodes n k h = record { each = λ t d. one t d } where
 second : (t u : ℕ) (v w : TermsValue) → ◌≡◌ {A = Result (ℕ × TermsValue) MakeFault} (Ok (t, v)) (Ok (u, w)) → v ≡ w
 second t u v w e = let p : ◌≡◌ {A = ℕ × TermsValue} (t, v) (u, w) = cc in ap (λ q. q.1) p
 
-module _ (signatures : List Signature) (old : TermsValue) (n : Node) (k : IsDeclared signatures n.op) (t : ℕ) (new : TermsValue) where
+module _ (signatures : List Signature) (old : TermsValue) (n : Node) (k : AreDeclared signatures old.nodes → IsDeclared signatures n.op) (t : ℕ) (new : TermsValue) where
   abbrev more : TermsValue
   more = record { nodes = old.nodes ++ n ∷ []; limit = old.limit }
 
   grows_more : more ≡ new → Grows signatures old new
-  grows_more e = subst (Grows signatures old) e (record { behind = n ∷ []; nodes = refl; limit = refl; declared = declared_push signatures old.nodes n k })
+  grows_more e = subst (Grows signatures old) e (record { behind = n ∷ []; nodes = refl; limit = refl; declared = λ h. declared_push signatures old.nodes n (k h) h })
 
   abbrev next : Result (ℕ × TermsValue) MakeFault
   next = Ok (length old.nodes, more)
@@ -97,9 +97,13 @@ module _ (signatures : List Signature) (old : TermsValue) (n : Node) (k : IsDecl
   by_parts (Ok s) (Some u) e = subst (Grows signatures old) (second u t old new e) (grows_none signatures old)
   by_parts (Ok s) None e = by_room (nat_lt (length old.nodes) old.limit) e
 
-  pub made_grows : make old n ≡ Ok (t, new) → Grows signatures old new
+  -- what is named was declared, where all was that was named before
+  pub remade_grows : make old n ≡ Ok (t, new) → Grows signatures old new
   unfolding make
-  made_grows e = by_parts (node_sort old.nodes n) (position (same_node n) old.nodes) e
+  remade_grows e = by_parts (node_sort old.nodes n) (position (same_node n) old.nodes) e
+
+pub made_grows : (signatures : List Signature) (old : TermsValue) (n : Node) → IsDeclared signatures n.op → (t : ℕ) (new : TermsValue) → make old n ≡ Ok (t, new) → Grows signatures old new
+made_grows signatures old n k t new e = remade_grows signatures old n (λ h. k) t new e
 
 -- ---- cutting
 

@@ -1,5 +1,5 @@
 -- What each call keeps of the definitions: their bodies are terms that are held.
-use Rattle.std.proofs.Common.{◌≡◌, ℕ, ◌<◌, ◌-◌, Bool, true, false, List, [], ◌∷◌, length, refl, subst, Option, Some, None, Result, Ok, Err}
+use Rattle.std.proofs.Common.{◌≡◌, ℕ, ◌<◌, ◌-◌, Bool, true, false, List, length, refl, subst, Option, Some, None, Result, Ok, Err}
 use Rattle.std.specs.Prelude.{slice_get, if◌then◌else◌}
 use Rattle.smt_text.specs.declared.token.CommandName.{CommandName}
 use Rattle.smt_text.specs.declared.token.CommandName.TheVariants as name
@@ -14,20 +14,22 @@ use Rattle.smt_build.specs.Operators.{is_reserved}
 use Rattle.smt_build.specs.Names.{SymbolsValue, AreBodies, is_taken, with_definition, popped_to, popped}
 use Rattle.smt_build.specs.Building.{Built}
 use Rattle.smt_build.specs.Grouping.{has_sort}
-use Rattle.smt_build.specs.Terms.{term_of}
-use Rattle.smt_build.specs.Declaring.{value_sort}
-use Rattle.smt_build.specs.Defining.{FunctionDefinition, of_sort, body_of, next_function, function, define_function, definition_parts, define}
+use Rattle.smt_build.specs.Parameters.{Parameters, sorts_of}
+use Rattle.smt_build.specs.Terms.{term_over}
+use Rattle.smt_build.specs.Defining.{FunctionDefinition, of_sort, next_function, head_of, function_over, define_function, definition_parts, define}
 use Rattle.smt_build.proofs.Growth.{longer}
 use Rattle.smt_build.proofs.Uses.{bodies_longer, bodies_push, bodies_take}
 use Rattle.smt_build.proofs.Longer.{GoOn, Keeps, keeps_term}
 
--- one definition more, over terms that go on; its body is one of them
+-- one definition more, over terms that go on; its body is one of them, which was read
 pub record IsNext (v w : SymbolsValue) (old new : TermsValue) : Type 0 where
   pub name : List ℕ
+  pub parameters : List Sort
   pub body : ℕ
-  pub symbols : w ≡ with_definition v name (record { parameters = []; body = body })
+  pub symbols : w ≡ with_definition v name (record { parameters = parameters; body = body })
   pub terms : GoOn v.signatures old new
   pub held : body < length new.nodes
+  pub read : (ps : Parameters) × (e : Sexp) × (term_over v old ps e ≡ Ok (body, new))
 
 module _ (v : SymbolsValue) (terms : TermsValue) (bodies : AreBodies (length terms.nodes) v.definitions) where
   abbrev IsMore : FunctionDefinition → Type 0
@@ -38,30 +40,30 @@ module _ (v : SymbolsValue) (terms : TermsValue) (bodies : AreBodies (length ter
   more_unless true f d h = tt
   more_unless false f d h = h
 
-  more_of_sort : (x : List ℕ) (s : Sort) (r : ℕ × TermsValue) → Keeps v terms (Ok r) → IsMore (of_sort s r >>= next_function v x)
-  more_of_sort x s r h = go (has_sort s (held_sort r.1.nodes r.0)) where
-    go : (b : Bool) → IsMore ((if b then Ok r else Err WrongSort) >>= next_function v x)
-    go true = record { name = x; body = r.0; symbols = refl; terms = h.0; held = h.1 }
+  more_of_sort : (x : List ℕ) (ps : Parameters) (s : Sort) (e : Sexp) (r : ℕ × TermsValue) → term_over v terms ps e ≡ Ok r → Keeps v terms (Ok r) → IsMore (of_sort s r >>= next_function v x ps)
+  more_of_sort x ps s e r is h = go (has_sort s (held_sort r.1.nodes r.0)) where
+    go : (b : Bool) → IsMore ((if b then Ok r else Err WrongSort) >>= next_function v x ps)
+    go true = record { name = x; parameters = sorts_of ps; body = r.0; symbols = refl; terms = h.0; held = h.1; read = (ps, e, is) }
     go false = tt
 
-  more_body : (x : List ℕ) (s : Sort) (r : Built) → Keeps v terms r → IsMore ((r >>= of_sort s) >>= next_function v x)
-  more_body x s (Ok r) h = more_of_sort x s r h
-  more_body x s (Err f) h = tt
+  more_body : (x : List ℕ) (ps : Parameters) (s : Sort) (e : Sexp) (r : Built) → term_over v terms ps e ≡ r → Keeps v terms r → IsMore ((r >>= of_sort s) >>= next_function v x ps)
+  more_body x ps s e (Ok r) is h = more_of_sort x ps s e r is h
+  more_body x ps s e (Err f) is h = tt
 
-  more_value : (x : List ℕ) (s : Result Sort BuildFault) (t : Sexp) → IsMore (s >>= λ s. body_of v terms s t >>= next_function v x)
-  more_value x (Ok s) t = more_body x s (term_of v terms t) (keeps_term v terms t bodies)
+  more_value : (x : List ℕ) (h : Result (Parameters × Sort) BuildFault) (t : Sexp) → IsMore (h >>= λ h. function_over v terms x h.0 h.1 t)
+  more_value x (Ok h) t = more_body x h.0 h.1 t (term_over v terms h.0 t) refl (keeps_term v terms h.0 t bodies)
   more_value x (Err f) t = tt
 
-  more_function : (n : Sexp) (s : Result Sort BuildFault) (t : Sexp) → IsMore (define_function v terms n s t)
-  more_function (atom k x) s t = more_unless (is_reserved x) Reserved _ (more_unless (is_taken v x) Declared _ (more_value x s t))
-  more_function (group es) s t = tt
+  more_function : (n : Sexp) (h : Result (Parameters × Sort) BuildFault) (t : Sexp) → IsMore (define_function v terms n h t)
+  more_function (atom k x) h t = more_unless (is_reserved x) Reserved _ (more_unless (is_taken v x) Declared _ (more_value x h t))
+  more_function (group es) h t = tt
 
   more_parts : (es : Sexps) → IsMore (definition_parts v terms es)
   more_parts none = tt
   more_parts (more x none) = tt
   more_parts (more x (more ps none)) = tt
   more_parts (more x (more ps (more s none))) = tt
-  more_parts (more x (more ps (more s (more t none)))) = more_function x (value_sort v ps s) t
+  more_parts (more x (more ps (more s (more t none)))) = more_function x (head_of v ps s) t
   more_parts (more x (more ps (more s (more t (more u es))))) = tt
 
   more_defined : (n : CommandName) (es : Sexps) → IsMore (define v terms n es)

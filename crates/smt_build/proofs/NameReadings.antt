@@ -1,16 +1,13 @@
 -- Reading the name of an assertion.
-use Rattle.std.proofs.Common.{◌≡◌, ℕ, suc, ◌+◌, ◌-◌, ◌≤◌, ◌<◌, Bool, true, false, List, [], ◌∷◌, ◌++◌, length, map, get_or, take, drop, refl, ap, sym, ◌∙◌, subst, arith, length-append, Option, Some, None}
-use Rattle.std.specs.Prelude.{if◌then◌else◌}
+use Rattle.std.proofs.Common.{◌≡◌, ℕ, suc, ◌+◌, ◌-◌, ◌≤◌, ◌<◌, true, false, List, [], ◌∷◌, length, get_or, refl, ap, sym, ◌∙◌, subst, arith, length-append, Option, Some, None}
 use Rattle.std.specs.Borrow.{Bor}
 use Rattle.std.proofs.Math.Seq.{take-append_seam}
 use Rattle.smt_text.specs.declared.token.Token.{Token}
-use Rattle.smt_text.specs.declared.token.TokenKind.{TokenKind}
 use Rattle.smt_text.specs.declared.token.TokenKind.TheVariants as kind
 use Rattle.smt_syntax.specs.declared.span.Span.{Span}
-use Rattle.smt_syntax.specs.Sexps.{Sign, open_paren, close_paren, Sexp, Sexps, atom, group, none, more, spelling, spellings, signs_in}
+use Rattle.smt_syntax.specs.Sexps.{Sign, close_paren, Sexp, Sexps, atom, group, none, more, spelling, spellings, signs_in}
 use Rattle.smt_syntax.specs.Spans.{IsWithin, tokens_at, span, Stands, AllStand}
-use Rattle.smt_build.specs.Binding.{is_label}
-use Rattle.smt_build.specs.Naming.{name_behind, first_name, annotated_name, parts_of, is_label_word, IsGroup, IsWordOf, IsNameOf}
+use Rattle.smt_build.specs.Naming.{name_behind, first_name, annotated_name, is_label_word, IsGroup, IsWordOf, IsNameOf}
 
 -- other than one token are no word
 pub no_word : (xs : List Token) (e : Sexp) → signs_in xs ≡ spelling e → (length xs ≡ 1 → ⊥) → IsGroup e

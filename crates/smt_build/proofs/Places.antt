@@ -1,6 +1,6 @@
 -- Lists of names, and the map from names to places.
 use Rattle.std.proofs.Common.{◌≡◌, ℕ, ◌-◌, ◌<◌, ◌≤◌, Bool, true, false, cond, List, [], ◌∷◌, ◌++◌, map, length, get_or, take, drop, refl, ap, sym, ◌∙◌, append_assoc, append-nil, Option, Some, None, arith}
-use Rattle.std.specs.Prelude.{suc, zero, is_some, slice_get, nat_le, if◌then◌else◌}
+use Rattle.std.specs.Prelude.{suc, zero, is_some, slice_get, nat_le}
 use Rattle.std.specs.Borrow.{Bor}
 use Rattle.std.specs.Option.{option_map}
 use Rattle.std.specs.Map.{lookup}
@@ -8,7 +8,7 @@ use Rattle.std.specs.Str.{bytes_eq}
 use Rattle.std.proofs.lemmas.Cmp.{nat_list_eq_equiv}
 use Rattle.std.proofs.Math.Dec.{leb-zero, leb-suc-zero, leb-suc-suc}
 use Rattle.std.proofs.lemmas.Slice.Eq.{bytes_eq-Decides}
-use Rattle.std.proofs.lemmas.List.{take-map, drop-map, map-append}
+use Rattle.std.proofs.lemmas.List.{drop-map, map-append}
 use Rattle.smt_build.specs.declared.scope.Variable.{Variable}
 use Rattle.smt_build.specs.Pairs.{Bound, innermost, bound_at, pair_of, place_of, AreHidden, ArePlaces}
 

@@ -21,7 +21,7 @@ signs_same [] = refl
 signs_same (t ∷ ts) = ap (λ l. sign_in t ∷ l) (signs_same ts)
 
 -- behind anything stands something more
-not_end : {A : Type 0} (xs : List A) (x y z : A) (ys : List A) → ◌≡◌ {A = List A} (x ∷ (xs ++ y ∷ ys)) (z ∷ []) → ⊥
+pub not_end : {A : Type 0} (xs : List A) (x y z : A) (ys : List A) → ◌≡◌ {A = List A} (x ∷ (xs ++ y ∷ ys)) (z ∷ []) → ⊥
 not_end [] x y z ys e = cc
 not_end (w ∷ xs) x y z ys e = cc
 

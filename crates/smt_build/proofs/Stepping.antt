@@ -20,11 +20,11 @@ use Rattle.smt_build.specs.declared.reader.Part.TheVariants as parts
 use Rattle.smt_build.specs.declared.scope.Scope.{Scope}
 use Rattle.smt_build.specs.Names.{SymbolsValue, no_symbols}
 use Rattle.smt_build.specs.Building.{Builds}
-use Rattle.smt_build.specs.Binding.{Bound, Progress, Read}
+use Rattle.smt_build.specs.Binding.{Progress, Read}
 use Rattle.smt_build.specs.Terms.{term_in, term_alone}
 use Rattle.smt_build.specs.TermReader.{Part, term, passed, Open, State, progress, after as later, as_part, term_reader, takes, closes, at_word}
 use Rattle.smt_build.specs.Steps.{Step, ends, goes, handed, step, Steps}
-use Rattle.smt_build.specs.Views.{part_of, open_of, stack_of, state_of, no_scope, Does, Takes, ReadsTerm, Names}
+use Rattle.smt_build.specs.Views.{part_of, open_of, stack_of, state_of, scope_over, Does, Takes, ReadsTerm, Names}
 use Rattle.smt_build.proofs.TermWalks.{walk-term}
 
 -- ---- a step is what the machine does with a token
@@ -150,31 +150,31 @@ not_part s (Ok r) q now k n = other q (ap (λ q. q.0) (let p : ◌≡◌ {A = Pa
   other parts.Label e n = cc
   other parts.Passed e n = cc
 
-module _ (symbols : SymbolsValue) (may_name : Bool) (old : TermsValue) (scope : Scope) (none : scope ≡ no_scope) (tokens : List Token) (e : Sexp) (l : signs_in tokens ≡ spelling e) where
+module _ (symbols : SymbolsValue) (may_name : Bool) (old : TermsValue) (scope : Scope) (none : scope ≡ scope_over scope.parameters) (tokens : List Token) (e : Sexp) (l : signs_in tokens ≡ spelling e) where
   abbrev start : State
-  start = state_of old no_scope
+  start = state_of old (scope_over scope.parameters)
 
   walked : (to : Result (Part × State) BuildFault) → run (term_reader symbols may_name) want.Term [] (state_of old scope) (signs_in tokens) ≡ to → as_part start (term_in symbols may_name [] (progress start) e) ≡ to
   walked to k = sym (run-all (term_reader symbols may_name) want.Term start e ∙ walk-term symbols may_name [] [] (progress start) e) ∙ rw (← l) (subst (λ (s : Scope). run (term_reader symbols may_name) want.Term [] (state_of old s) (signs_in tokens) ≡ to) none k)
 
-  pub means_term : (t : ℕ) (now : TermsValue) (then : Scope) → Does (run (term_reader symbols may_name) want.Term [] (state_of old scope) (signs_in tokens)) (Ok (parts.Term t)) (state_of now then) → term_in symbols may_name [] (progress start) e ≡ Ok (t, record { terms = now; names = then.names })
+  pub means_term : (t : ℕ) (now : TermsValue) (then : Scope) → Does (run (term_reader symbols may_name) want.Term [] (state_of old scope) (signs_in tokens)) (Ok (parts.Term t)) (state_of now then) → term_in symbols may_name [] (progress start) e ≡ Ok (t, progress (state_of now then))
   means_term t now then g = from_term start (term_in symbols may_name [] (progress start) e) t (state_of now then) (walked _ g)
 
-  pub means_error : (x : BuildError) (now : State) (terms : TermsValue) (names : Bound) → Does (run (term_reader symbols may_name) want.Term [] (state_of old scope) (signs_in tokens)) (Err x) now → ReadsTerm (term_in symbols may_name [] (progress start) e) (Err x) terms names
-  means_error NoMemory now terms names g = tt
-  means_error (Fault f) now terms names g = from_fault start (term_in symbols may_name [] (progress start) e) f (walked _ g)
+  pub means_error : (x : BuildError) (now : State) (p : Progress) → Does (run (term_reader symbols may_name) want.Term [] (state_of old scope) (signs_in tokens)) (Err x) now → ReadsTerm (term_in symbols may_name [] (progress start) e) (Err x) p
+  means_error NoMemory now p g = tt
+  means_error (Fault f) now p g = from_fault start (term_in symbols may_name [] (progress start) e) f (walked _ g)
 
   pub means_other : (q : ReadPart) (now : State) → Does (run (term_reader symbols may_name) want.Term [] (state_of old scope) (signs_in tokens)) (Ok q) now → ((t : ℕ) → q ≡ parts.Term t → ⊥) → ⊥
   means_other q now g n = not_part start (term_in symbols may_name [] (progress start) e) q now (walked _ g) n
 
-pub reads_ok : (to : Read) (t : ℕ) (new : TermsValue) (names : Bound) → ReadsTerm to (Ok t) new names → term_alone to ≡ Ok (t, new)
-reads_ok to t new names m = rw m refl
+pub reads_ok : (to : Read) (t : ℕ) (p : Progress) → ReadsTerm to (Ok t) p → term_alone to ≡ Ok (t, p.terms)
+reads_ok to t p m = rw m refl
 
-pub builds_error : (to : Read) (x : BuildError) (mid old new : TermsValue) (names : Bound) → ReadsTerm to (Err x) mid names → new ≡ old → Builds (term_alone to) (Err x) old new
-builds_error to NoMemory mid old new names m e = e
-builds_error to (Fault f) mid old new names m e = (rw m refl, e)
+pub builds_error : (to : Read) (x : BuildError) (old new : TermsValue) (p : Progress) → ReadsTerm to (Err x) p → new ≡ old → Builds (term_alone to) (Err x) old new
+builds_error to NoMemory old new p m e = e
+builds_error to (Fault f) old new p m e = (rw m refl, e)
 
 -- a name that is not given
-pub label_fails : (s u : State) (to : Result Progress BuildFault) (x : BuildError) (terms : TermsValue) (names : Bound) → Names to (Err x) terms names → Does (to >>= λ p. Ok (passed, later s p)) (Err x) u
-label_fails s u to NoMemory terms names h = tt
-label_fails s u to (Fault f) terms names h = rw h refl
+pub label_fails : (s u : State) (to : Result Progress BuildFault) (x : BuildError) (p : Progress) → Names to (Err x) p → Does (to >>= λ p. Ok (passed, later s p)) (Err x) u
+label_fails s u to NoMemory p h = tt
+label_fails s u to (Fault f) p h = rw h refl

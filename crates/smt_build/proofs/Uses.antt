@@ -1,13 +1,12 @@
 -- Uses of defined names.
-use Rattle.std.proofs.Common.{◌≡◌, ℕ, ◌+◌, ◌<◌, ◌≤◌, Bool, true, false, List, [], ◌∷◌, ◌++◌, length, take, drop, get_or, zero, suc, refl, ap, sym, ◌∙◌, arith, Option, Some, None}
-use Rattle.std.specs.Prelude.{◌&&◌, if◌then◌else◌}
-use Rattle.std.specs.Str.{bytes_eq}
+use Rattle.std.proofs.Common.{◌≡◌, ℕ, ◌+◌, ◌<◌, ◌≤◌, Bool, true, false, List, [], ◌∷◌, ◌++◌, length, take, drop, get_or, zero, suc, refl, ap, sym, ◌∙◌, arith}
+use Rattle.std.specs.Prelude.{◌&&◌}
 use Rattle.std.proofs.lemmas.List.{drop_more, drop_all}
 use Rattle.smt_terms.specs.declared.sort.Sort.{Sort}
 use Rattle.smt_terms.specs.declared.node.Node.{Node}
 use Rattle.smt_terms.specs.Terms.{held_sort}
 use Rattle.smt_build.specs.declared.definition.Definition.{Definition}
-use Rattle.smt_build.specs.Names.{Meanings, meaning_in, AreBodies}
+use Rattle.smt_build.specs.Names.{Meanings, AreBodies}
 use Rattle.smt_build.specs.Grouping.{has_sort}
 use Rattle.smt_build.specs.Definitions.{have_sorts}
 
@@ -37,19 +36,6 @@ module _ (nodes : List Node) (ss : List Sort) (ts : List ℕ) (i : ℕ) (d : Sor
 
 pub left_none : (nodes : List Node) (ss : List Sort) (ts : List ℕ) (i : ℕ) → AreLeft nodes ss ts i → length ss ≤ i → length ss ≡ length ts → true ≡ have_sorts nodes ss ts
 left_none nodes ss ts i left past len = sym (left.same ∙ rw (drop_all i ss past, drop_all i ts (omega (arith, past, len))) refl)
-
--- the body of what a name is defined as is held
-abbrev pub IsBody : ℕ → Option Definition → Type 0
-IsBody n None = Unit {0}
-IsBody n (Some f) = f.body < n
-
-either : (n : ℕ) (b : Bool) (f : Definition) (o : Option Definition) → f.body < n → IsBody n o → IsBody n (if b then Some f else o)
-either n true f o h k = h
-either n false f o h k = k
-
-pub body_held : (n : ℕ) (ms : Meanings Definition) (x : List ℕ) → AreBodies n ms → IsBody n (meaning_in ms x)
-body_held n [] x h = tt
-body_held n (m ∷ ms) x h = either n (bytes_eq x m.0) m.1 (meaning_in ms x) h.0 (body_held n ms x h.1)
 
 -- ---- bodies
 

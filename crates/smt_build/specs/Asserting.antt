@@ -26,7 +26,7 @@ abbrev pub as_assertion : SymbolsValue → Read → Assertion
 as_assertion v r = r >>= λ q. Ok (q.0, with_names v q.1.names, q.1.terms)
 
 unfoldable pub assertion : SymbolsValue → TermsValue → Sexp → Assertion
-assertion v terms e = as_assertion v (term_in v true [] (record { terms = terms; names = [] }) e)
+assertion v terms e = as_assertion v (term_in v true [] (record { terms = terms; names = []; parameters = [] }) e)
 
 -- The answer is the asserted term, with the symbols and the terms then. After a fault, or for want of memory, all is as before.
 abbrev pub Asserts : Assertion → Result ℕ BuildError → SymbolsValue × TermsValue → SymbolsValue × TermsValue → Type 0

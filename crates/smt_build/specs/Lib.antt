@@ -2,11 +2,14 @@ pub mod Literals
 pub mod Operators
 pub mod Names
 pub mod Sorts
+pub mod Parameters
 pub mod Declaring
 pub mod Building
 pub mod Grouping
 pub mod Indices
 pub mod Definitions
+pub mod Reached
+pub mod Scoped
 pub mod Applying
 pub mod Pairs
 pub mod Binding

@@ -57,11 +57,11 @@ pub record State : Type 0 where
   pub scope : Scope
 
 abbrev pub progress : State → Progress
-progress s = record { terms = s.terms; names = s.scope.names }
+progress s = record { terms = s.terms; names = s.scope.names; parameters = s.scope.parameters }
 
 -- more was made under the same variables
 abbrev pub state : Progress → Bound → Bound → State
-state p bound coming = record { terms = p.terms; scope = record { bound = bound; coming = coming; names = p.names } }
+state p bound coming = record { terms = p.terms; scope = record { bound = bound; coming = coming; names = p.names; parameters = p.parameters } }
 
 abbrev pub after : State → Progress → State
 after s p = state p s.scope.bound s.scope.coming
@@ -99,7 +99,7 @@ context (labelled t) = want.Label t
 context unread = want.Anything
 
 abbrev pub with_binding : State → List ℕ → ℕ → State
-with_binding s x t = record { terms = s.terms; scope = record { bound = s.scope.bound; coming = s.scope.coming ++ (x, t) ∷ []; names = s.scope.names } }
+with_binding s x t = record { terms = s.terms; scope = record { bound = s.scope.bound; coming = s.scope.coming ++ (x, t) ∷ []; names = s.scope.names; parameters = s.scope.parameters } }
 
 unfoldable pub takes : Open → Part → State → Result (Open × State) BuildFault
 takes started (head f) s = Ok (application f [], s)
@@ -125,11 +125,11 @@ takes _ _ s = Err NotSupported
 
 -- the variables of the list of bindings from this place on are bound from now on
 abbrev pub with_bindings : State → ℕ → State
-with_bindings s n = record { terms = s.terms; scope = record { bound = s.scope.bound ++ drop n s.scope.coming; coming = take n s.scope.coming; names = s.scope.names } }
+with_bindings s n = record { terms = s.terms; scope = record { bound = s.scope.bound ++ drop n s.scope.coming; coming = take n s.scope.coming; names = s.scope.names; parameters = s.scope.parameters } }
 
 -- the variables from this place on are bound no more
 abbrev pub without_bindings : State → ℕ → State
-without_bindings s n = record { terms = s.terms; scope = record { bound = take n s.scope.bound; coming = s.scope.coming; names = s.scope.names } }
+without_bindings s n = record { terms = s.terms; scope = record { bound = take n s.scope.bound; coming = s.scope.coming; names = s.scope.names; parameters = s.scope.parameters } }
 
 module _ (symbols : SymbolsValue) where
   unfoldable pub closes : Open → State → Result (Part × State) BuildFault

@@ -8,6 +8,7 @@ use Rattle.smt_terms.specs.Terms.{TermsValue}
 use Rattle.smt_build.specs.declared.fault.BuildFault.{BuildFault}
 use Rattle.smt_build.specs.declared.fault.BuildFault.TheVariants.{NotSupported}
 use Rattle.smt_build.specs.Names.{SymbolsValue}
+use Rattle.smt_build.specs.Parameters.{Parameters}
 use Rattle.smt_build.specs.Building.{Built}
 use Rattle.smt_build.specs.Indices.{plain, indexed_in, head_in}
 use Rattle.smt_build.specs.Binding.{Bound, new_variable, Progress, Read, word_in, application_in, indexed_in_scope, naming, is_label, alone}
@@ -66,6 +67,10 @@ module _ (symbols : SymbolsValue) (may_name : Bool) where
 abbrev pub term_alone : Read → Built
 term_alone r = r >>= λ q. Ok (q.0, q.1.terms)
 
--- the term where no variable is bound and no name may be given
-unfoldable pub term_of : SymbolsValue → TermsValue → Sexp → Built
-term_of symbols terms e = term_alone (term_in symbols false [] (record { terms = terms; names = [] }) e)
+-- the term over these parameters, where no variable is bound and no name may be given
+unfoldable pub term_over : SymbolsValue → TermsValue → Parameters → Sexp → Built
+term_over symbols terms ps e = term_alone (term_in symbols false [] (record { terms = terms; names = []; parameters = ps }) e)
+
+-- the term without parameters
+abbrev pub term_of : SymbolsValue → TermsValue → Sexp → Built
+term_of symbols terms e = term_over symbols terms [] e

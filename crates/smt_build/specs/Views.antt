@@ -17,7 +17,8 @@ use Rattle.smt_build.specs.declared.reader.Role.{Role as ReadRole}
 use Rattle.smt_build.specs.declared.reader.Role.TheVariants as roles
 use Rattle.smt_build.specs.declared.scope.Scope.{Scope}
 use Rattle.smt_build.specs.Indices.{Indices, one, two, many, Head, plain, indexed}
-use Rattle.smt_build.specs.Binding.{Bound, Progress, Read}
+use Rattle.smt_build.specs.Parameters.{Parameters}
+use Rattle.smt_build.specs.Binding.{Progress, Read}
 use Rattle.smt_build.specs.TermReader.{Part, term, head, mark, name, index, let_word, binding, bindings, bang_word, label, passed, Role, a_term, a_head, Open, started, head_started, marked, named, with_indices, application, let_started, let_bound, let_done, in_bindings, binding_started, binding_named, binding_done, bang_started, annotated, labelled, unread, State}
 
 abbrev pub indices_of : ReadIndices → Indices
@@ -69,9 +70,9 @@ open_of (lists.Application f args) = application (head_of f) args.items
 abbrev pub stack_of : List OpenList → List Open
 stack_of lists = reverse (map open_of lists)
 
--- no variables, and no names
-abbrev pub no_scope : Scope
-no_scope = record { bound = []; coming = []; names = [] }
+-- no variables, and no names, under these parameters
+abbrev pub scope_over : Parameters → Scope
+scope_over ps = record { bound = []; coming = []; names = []; parameters = ps }
 
 abbrev pub state_of : TermsValue → Scope → State
 state_of terms scope = record { terms = terms; scope = scope }
@@ -93,17 +94,17 @@ Does to (Ok p) s = to ≡ Ok (part_of p, s)
 Does to (Err (Fault e)) s = to ≡ Err e
 Does to (Err NoMemory) s = Unit {0}
 
--- The answer is what is read, with the terms then; no name is given.
-abbrev pub ReadsTerm : Read → Result ℕ BuildError → TermsValue → Bound → Type 0
-ReadsTerm to (Ok t) terms names = to ≡ Ok (t, record { terms = terms; names = names })
-ReadsTerm to (Err (Fault e)) terms names = to ≡ Err e
-ReadsTerm to (Err NoMemory) terms names = Unit {0}
+-- The answer is what is read, with what is made then.
+abbrev pub ReadsTerm : Read → Result ℕ BuildError → Progress → Type 0
+ReadsTerm to (Ok t) p = to ≡ Ok (t, p)
+ReadsTerm to (Err (Fault e)) p = to ≡ Err e
+ReadsTerm to (Err NoMemory) p = Unit {0}
 
--- The answer is the name that was given.
-abbrev pub Names : Result Progress BuildFault → Result (Unit {0}) BuildError → TermsValue → Bound → Type 0
-Names to (Ok u) terms names = to ≡ Ok (record { terms = terms; names = names })
-Names to (Err (Fault e)) terms names = to ≡ Err e
-Names to (Err NoMemory) terms names = Unit {0}
+-- The answer is what is made where a name is given.
+abbrev pub Names : Result Progress BuildFault → Result (Unit {0}) BuildError → Progress → Type 0
+Names to (Ok u) p = to ≡ Ok p
+Names to (Err (Fault e)) p = to ≡ Err e
+Names to (Err NoMemory) p = Unit {0}
 
 -- the fault of a name that is known here
 abbrev pub misused_error : Bool → BuildError → BuildError

@@ -10,8 +10,9 @@ ghost use Rattle.smt_build.specs.Asserting.{with_name, with_names, assertion, As
 
 use crate::declare::tokens_at;
 use crate::definition::Definition;
-use crate::elaborate::{no_scope, read_term};
+use crate::elaborate::{read_term, scope_over};
 use crate::fault::BuildError;
+use crate::parameters::Parameters;
 use crate::scope::Variable;
 use crate::symbols::Symbols;
 use smt_syntax::span::Span;
@@ -71,7 +72,7 @@ impl Symbols {
     {
         let len = terms.len();
         let items = tokens_at(tokens.as_slice(), span);
-        let mut scope = no_scope(alloc);
+        let mut scope = scope_over(alloc, Parameters::none(alloc));
         let term = match read_term(alloc, self, terms, &mut scope, true, items) {
             Ok(term) => term,
             Err(error) => {

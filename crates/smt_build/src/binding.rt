@@ -3,9 +3,10 @@
 ghost use Rattle.std.specs.Prelude.{◌≡◌, drop, List, Ok, Err, IfOk, IfErr, OnOk, if◌then◌else◌};
 ghost use Rattle.smt_terms.specs.declared.sort.Signature.{Signature as SignatureValue};
 ghost use Rattle.smt_build.specs.Names.{AreDeclared};
-ghost use Rattle.smt_build.specs.Building.{Grows};
+ghost use Rattle.smt_build.specs.Building.{made, Builds, Grows};
+ghost use Rattle.smt_terms.specs.Nodes.{leaf};
 ghost use Rattle.smt_terms.specs.Terms.{TermsValue};
-ghost use Rattle.smt_build.specs.Binding.{new_variable, local_at, word_in, application_in, indexed_in_scope, naming, is_label};
+ghost use Rattle.smt_build.specs.Binding.{new_variable, local_at, is_local, word_in, application_in, indexed_in_scope, naming, is_label};
 ghost use Rattle.smt_build.specs.Indices.{indexed};
 ghost use Rattle.smt_build.specs.TermReader.{label, passed, progress};
 ghost use Rattle.smt_build.specs.Views.{head_of, indices_of, part_of, state_of, misused_error, ReadsTerm, Names};
@@ -13,11 +14,13 @@ ghost use Rattle.smt_build.specs.Views.{head_of, indices_of, part_of, state_of, 
 use crate::build::{application, indexed_term, word_term};
 use crate::fault::{BuildError, BuildFault};
 use crate::indices::{Head, Indices};
+use crate::making::made;
 use crate::operators::is_reserved;
+use crate::parameters::Parameter;
 use crate::reader::Part;
 use crate::scope::Scope;
 use crate::symbols::Symbols;
-use smt_terms::node::TermId;
+use smt_terms::node::{Node, Op, TermId};
 use smt_terms::terms::Terms;
 use smt_text::token::TokenKind;
 use std::alloc::Global;
@@ -51,6 +54,51 @@ fn local(scope: &Scope<'_>, name: &[u8]) -> Option<TermId>
     }
 }
 
+/// Whether a name is a variable, was given, or is a parameter.
+fn is_local(terms: &Terms, scope: &Scope<'_>, name: &[u8]) -> bool
+    ensures { result ≡ is_local scope.now.bound (progress (state_of terms.now scope.now)) name.now }
+{
+    local(scope, name).is_some() || scope.parameters.get(name).is_some()
+}
+
+/// The term of a parameter.
+fn parameter_term(
+    alloc: Global,
+    terms: &mut Terms,
+    parameter: Parameter,
+) -> Result<TermId, BuildError>
+    ensures builds { Builds (made terms.old (leaf (Op.Param parameter.place parameter.sort))) result terms.old terms.new }
+    ensures grows { (signatures : List SignatureValue) → Grows signatures terms.old terms.new }
+{
+    let op = Op::Param {
+        place: parameter.place,
+        sort: parameter.sort,
+    };
+    made(terms, Node::leaf(alloc, op))
+}
+
+/// The term of a symbol.
+#[tactic(auto, unfolding(crate::specs::Binding::word_in))]
+fn symbol_in(
+    alloc: Global,
+    symbols: &Symbols,
+    terms: &mut Terms,
+    scope: &Scope<'_>,
+    name: &[u8],
+) -> Result<TermId, BuildError>
+    requires { AreDeclared symbols.now.signatures terms.old.nodes }
+    ensures reads { ReadsTerm (word_in symbols.now scope.now.bound (progress (state_of terms.old scope.now)) TokenKind.Symbol name.now) result (progress (state_of terms.new scope.now)) }
+    ensures grows { Grows symbols.now.signatures terms.old terms.new }
+{
+    if let Some(term) = local(scope, name) {
+        return Ok(term);
+    }
+    match scope.parameters.get(name) {
+        Some(parameter) => parameter_term(alloc, terms, parameter),
+        None => word_term(alloc, symbols, terms, TokenKind::Symbol, name),
+    }
+}
+
 /// The term of a word.
 #[tactic(auto, unfolding(crate::specs::Binding::word_in))]
 pub(crate) fn word_in(
@@ -62,13 +110,13 @@ pub(crate) fn word_in(
     text: &[u8],
 ) -> Result<TermId, BuildError>
     requires { AreDeclared symbols.now.signatures terms.old.nodes }
-    ensures reads { ReadsTerm (word_in symbols.now scope.now.bound (progress (state_of terms.old scope.now)) kind text.now) result terms.new scope.now.names }
+    ensures reads { ReadsTerm (word_in symbols.now scope.now.bound (progress (state_of terms.old scope.now)) kind text.now) result (progress (state_of terms.new scope.now)) }
     ensures grows { Grows symbols.now.signatures terms.old terms.new }
 {
-    if let (TokenKind::Symbol, Some(term)) = (kind, local(scope, text)) {
-        return Ok(term);
+    match kind {
+        TokenKind::Symbol => symbol_in(alloc, symbols, terms, scope, text),
+        _ => word_term(alloc, symbols, terms, kind, text),
     }
-    word_term(alloc, symbols, terms, kind, text)
 }
 
 /// The fault of a name that may be known within the term.
@@ -93,18 +141,18 @@ pub(crate) fn application_in(
     head: Head<'_>,
     args: Vec<TermId>,
 ) -> Result<TermId, BuildError>
-    ensures reads { ReadsTerm (application_in symbols.now scope.now.bound (progress (state_of terms.old scope.now)) (head_of head.entry) args.items) result terms.new scope.now.names }
+    ensures reads { ReadsTerm (application_in symbols.now scope.now.bound (progress (state_of terms.old scope.now)) (head_of head.entry) args.items) result (progress (state_of terms.new scope.now)) }
     ensures grows { (signatures : List SignatureValue) → Grows signatures terms.old terms.new }
 {
     match head {
         Head::Plain(name) => {
-            if local(scope, name).is_some() {
+            if is_local(terms, scope, name) {
                 return Err(BuildError::Fault(BuildFault::WrongSort));
             }
             application(alloc, symbols, terms, head, args)
         }
         Head::Indexed(name, _) => {
-            let is_local = local(scope, name).is_some();
+            let is_local = is_local(terms, scope, name);
             match application(alloc, symbols, terms, head, args) {
                 Ok(term) => Ok(term),
                 Err(error) => Err(misused(is_local, error)),
@@ -123,10 +171,10 @@ pub(crate) fn indexed_in_scope(
     name: &[u8],
     indices: Indices<'_>,
 ) -> Result<TermId, BuildError>
-    ensures reads { ReadsTerm (indexed_in_scope symbols.now scope.now.bound (progress (state_of terms.old scope.now)) (indexed name.now (indices_of indices.entry))) result terms.new scope.now.names }
+    ensures reads { ReadsTerm (indexed_in_scope symbols.now scope.now.bound (progress (state_of terms.old scope.now)) (indexed name.now (indices_of indices.entry))) result (progress (state_of terms.new scope.now)) }
     ensures grows { (signatures : List SignatureValue) → Grows signatures terms.old terms.new }
 {
-    let is_local = local(scope, name).is_some();
+    let is_local = is_local(terms, scope, name);
     match indexed_term(alloc, symbols, terms, name, indices) {
         Ok(term) => Ok(term),
         Err(error) => Err(misused(is_local, error)),
@@ -153,9 +201,10 @@ pub(crate) fn name_term<'a>(
     term: TermId,
     name: &'a [u8],
 ) -> Result<(), BuildError>
-    ensures names { (terms : TermsValue) → Names (naming symbols.now may_name term (progress (state_of terms scope.old)) name.now) result terms scope.new.names }
+    ensures names { (terms : TermsValue) → Names (naming symbols.now may_name term (progress (state_of terms scope.old)) name.now) result (progress (state_of terms scope.new)) }
     ensures bound { OnOk result (scope.new.bound ≡ scope.old.bound) }
     ensures coming { OnOk result (scope.new.coming ≡ scope.old.coming) }
+    ensures parameters { OnOk result (scope.new.parameters ≡ scope.old.parameters) }
 {
     if !may_name {
         return Err(BuildError::Fault(BuildFault::NotSupported));

@@ -137,7 +137,7 @@ fn symbol_term(
         return applied(alloc, terms, named, Vec::new(alloc));
     }
     match symbols.definition(name) {
-        Some(definition) => used(terms, definition, &[]),
+        Some(definition) => used(alloc, terms, definition, &[]),
         None => declared(alloc, symbols, terms, name),
     }
 }
@@ -178,7 +178,7 @@ fn plain_application(
         return applied(alloc, terms, named, args);
     }
     if let Some(definition) = symbols.definition(name) {
-        return used(terms, definition, args.as_slice());
+        return used(alloc, terms, definition, args.as_slice());
     }
     if symbols.declaration(name).is_some() {
         Err(BuildError::Fault(BuildFault::WrongSort))

@@ -1,18 +1,21 @@
 // Commands that define.
 
-ghost use Rattle.std.specs.Prelude.{◌≡◌, OnErr};
+ghost use Rattle.std.specs.Prelude.{◌≡◌, [], false, OnErr};
 ghost use Rattle.smt_syntax.specs.Sexps.{signs_in, signs_of, spelling, Sexp, Sexps};
 ghost use Rattle.smt_syntax.specs.Spans.{AllStand, Stands};
 ghost use Rattle.smt_syntax.specs.Commands.{name_of, spans_of};
-ghost use Rattle.smt_build.specs.Names.{AreDeclared};
+ghost use Rattle.smt_build.specs.Names.{AreDeclared, is_taken};
 ghost use Rattle.smt_build.specs.Building.{Builds, Grows};
-ghost use Rattle.smt_build.specs.Defining.{is_sort_reserved, name_sort, define_sort, DefinesSort, body_of, define_function, define, Defines};
+ghost use Rattle.smt_build.specs.Defining.{is_sort_reserved, name_sort, define_sort, DefinesSort, body_of, function_over, value_over, head_of, define_function, define, Heads, Defines};
 
 use crate::declare::{tokens_at, value_sort};
 use crate::definition::Definition;
+use crate::elaborate::term_over;
 use crate::fault::{BuildError, BuildFault};
 use crate::grouping::{has_sort, held_sort};
 use crate::operators::is_reserved;
+use crate::parameters::{Parameters, parameters_in, plain_sort};
+use crate::sorts::sort_of;
 use crate::symbols::Symbols;
 use smt_syntax::command::Command;
 use smt_syntax::span::Span;
@@ -65,16 +68,17 @@ fn body_of(
     alloc: Global,
     terms: &mut Terms,
     tokens: &Tokens<'_>,
+    parameters: Parameters,
     sort: Sort,
     body: Span,
 ) -> Result<TermId, BuildError>
     requires { AreDeclared symbols.now.signatures terms.old.nodes }
-    ensures builds { (t : Sexp) → Stands (signs_of tokens.now) body t → Builds (body_of symbols.now terms.old sort t) result terms.old terms.new }
+    ensures builds { (t : Sexp) → Stands (signs_of tokens.now) body t → Builds (body_of symbols.now terms.old parameters sort t) result terms.old terms.new }
     ensures err { OnErr result (terms.new ≡ terms.old) }
     ensures grows { Grows symbols.now.signatures terms.old terms.new }
 {
     let len = terms.len();
-    let term = symbols.elaborate(alloc, terms, tokens, body)?;
+    let term = term_over(symbols, alloc, terms, tokens, parameters, body)?;
     if !has_sort(sort, held_sort(terms, term)) {
         terms.cut(len);
         return Err(BuildError::Fault(BuildFault::WrongSort));
@@ -82,18 +86,80 @@ fn body_of(
     Ok(term)
 }
 
-/// Defines a function without parameters.
+/// The sort of a function; without parameters any.
+fn value_over(parameters: &Parameters, sort: Result<Sort, BuildFault>) -> Result<Sort, BuildFault>
+    ensures { result ≡ value_over parameters.now sort }
+{
+    match sort {
+        Ok(sort) if !parameters.is_empty() => plain_sort(sort),
+        _ => sort,
+    }
+}
+
+/// Reads the parameters and the sort of a function.
+fn read_head(
+    symbols: &Symbols,
+    alloc: Global,
+    parameters: &mut Parameters,
+    list: &[Token<'_>],
+    value: &[Token<'_>],
+) -> Result<Sort, BuildError>
+    requires { parameters.old ≡ [] }
+    ensures { (p s : Sexp) → signs_in list.now ≡ spelling p → signs_in value.now ≡ spelling s → Heads (head_of symbols.now p s) result parameters.new }
+{
+    parameters_in(alloc, symbols, parameters, list)?;
+    match value_over(parameters, sort_of(symbols, value)) {
+        Ok(sort) => Ok(sort),
+        Err(fault) => Err(BuildError::Fault(fault)),
+    }
+}
+
+/// Makes the definition of a name that is not live.
+fn define_name(
+    symbols: &mut Symbols,
+    alloc: Global,
+    terms: &mut Terms,
+    tokens: &Tokens<'_>,
+    name: &[u8],
+    parameters: Parameters,
+    value: Sort,
+    body: Span,
+) -> Result<(), BuildError>
+    requires declared { AreDeclared symbols.old.signatures terms.old.nodes }
+    requires name { is_taken symbols.old name.now ≡ false }
+    ensures defines { (t : Sexp) → Stands (signs_of tokens.now) body t → Defines (function_over symbols.old terms.old name.now parameters value t) result (symbols.old, terms.old) (symbols.new, terms.new) }
+    ensures signatures { symbols.new.signatures ≡ symbols.old.signatures }
+    ensures grows { Grows symbols.old.signatures terms.old terms.new }
+{
+    let sorts = parameters.sorts(alloc)?;
+    let before = terms.len();
+    let body = body_of(symbols, alloc, terms, tokens, parameters, value, body)?;
+    let definition = Definition {
+        parameters: sorts,
+        body,
+    };
+    match symbols.add_definition(alloc, name, definition) {
+        Ok(()) => Ok(()),
+        Err(_) => {
+            terms.cut(before);
+            Err(BuildError::NoMemory)
+        }
+    }
+}
+
+/// Defines a function.
 fn define_function(
     symbols: &mut Symbols,
     alloc: Global,
     terms: &mut Terms,
     tokens: &Tokens<'_>,
     name: &[Token<'_>],
-    value: Result<Sort, BuildFault>,
+    list: &[Token<'_>],
+    value: &[Token<'_>],
     body: Span,
 ) -> Result<(), BuildError>
     requires { AreDeclared symbols.old.signatures terms.old.nodes }
-    ensures defines { (n t : Sexp) → signs_in name.now ≡ spelling n → Stands (signs_of tokens.now) body t → Defines (define_function symbols.old terms.old n value t) result (symbols.old, terms.old) (symbols.new, terms.new) }
+    ensures defines { (n p s t : Sexp) → signs_in name.now ≡ spelling n → signs_in list.now ≡ spelling p → signs_in value.now ≡ spelling s → Stands (signs_of tokens.now) body t → Defines (define_function symbols.old terms.old n (head_of symbols.old p s) t) result (symbols.old, terms.old) (symbols.new, terms.new) }
     ensures signatures { symbols.new.signatures ≡ symbols.old.signatures }
     ensures grows { Grows symbols.old.signatures terms.old terms.new }
 {
@@ -106,19 +172,11 @@ fn define_function(
     if symbols.is_taken(name.text) {
         return Err(BuildError::Fault(BuildFault::Declared));
     }
-    let value = match value {
-        Ok(value) => value,
-        Err(fault) => return Err(BuildError::Fault(fault)),
-    };
-    let before = terms.len();
-    let body = body_of(symbols, alloc, terms, tokens, value, body)?;
-    match symbols.add_definition(alloc, name.text, Definition::of_term(alloc, body)) {
-        Ok(()) => Ok(()),
-        Err(_) => {
-            terms.cut(before);
-            Err(BuildError::NoMemory)
-        }
-    }
+    let mut parameters = Parameters::none(alloc);
+    let value = read_head(symbols, alloc, &mut parameters, list, value)?;
+    define_name(
+        symbols, alloc, terms, tokens, name.text, parameters, value, body,
+    )
 }
 
 impl Symbols {
@@ -167,18 +225,14 @@ impl Symbols {
                 value,
                 term,
             } => {
-                let value = value_sort(
-                    self,
-                    tokens_at(items, *parameters),
-                    tokens_at(items, *value),
-                );
                 define_function(
                     self,
                     alloc,
                     terms,
                     tokens,
                     tokens_at(items, *name),
-                    value,
+                    tokens_at(items, *parameters),
+                    tokens_at(items, *value),
                     *term,
                 )
             }

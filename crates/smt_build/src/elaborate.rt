@@ -7,13 +7,14 @@ ghost use Rattle.smt_syntax.specs.Walk.{run, context_in};
 ghost use Rattle.smt_terms.specs.Terms.{TermsValue};
 ghost use Rattle.smt_build.specs.Names.{AreDeclared, no_symbols};
 ghost use Rattle.smt_build.specs.Building.{Grows, Builds};
-ghost use Rattle.smt_build.specs.Terms.{term_in, term_of};
+ghost use Rattle.smt_build.specs.Terms.{term_in, term_over, term_of};
 ghost use Rattle.smt_build.specs.TermReader.{term_reader, progress};
 ghost use Rattle.smt_build.specs.Steps.{opened, handed, step, Steps};
-ghost use Rattle.smt_build.specs.Views.{no_scope, stack_of, part_of, state_of, Does, ReadsTerm};
+ghost use Rattle.smt_build.specs.Views.{scope_over, stack_of, part_of, state_of, Does, ReadsTerm};
 
 use crate::declare::tokens_at;
 use crate::fault::{BuildError, BuildFault};
+use crate::parameters::Parameters;
 use crate::reader::{Open, Part, Want, at_word, closes, context, opens, takes};
 use crate::scope::{Scope, Variables};
 use crate::symbols::Symbols;
@@ -129,14 +130,15 @@ fn read_part<'a>(
     Err(BuildError::Fault(BuildFault::NotSupported))
 }
 
-/// No variables, and no names.
-pub(crate) fn no_scope<'a>(alloc: Global) -> Scope<'a>
-    ensures { result ≡ no_scope }
+/// No variables, and no names, under these parameters.
+pub(crate) fn scope_over<'a>(alloc: Global, parameters: Parameters) -> Scope<'a>
+    ensures { result ≡ scope_over parameters }
 {
     Scope {
         bound: Variables::new(alloc),
         coming: Variables::new(alloc),
         names: Variables::new(alloc),
+        parameters,
     }
 }
 
@@ -150,14 +152,42 @@ pub(crate) fn read_term<'a>(
     tokens: &[Token<'a>],
 ) -> Result<TermId, BuildError>
     requires declared { AreDeclared symbols.now.signatures terms.old.nodes }
-    requires scope { scope.old ≡ no_scope }
-    ensures reads { (e : Sexp) → signs_in tokens.now ≡ spelling e → ReadsTerm (term_in symbols.now may_name [] (progress (state_of terms.old no_scope)) e) result terms.new scope.new.names }
+    requires scope { scope.old ≡ scope_over scope.old.parameters }
+    ensures reads { (e : Sexp) → signs_in tokens.now ≡ spelling e → ReadsTerm (term_in symbols.now may_name [] (progress (state_of terms.old (scope_over scope.old.parameters))) e) result (progress (state_of terms.new scope.new)) }
     ensures grows { Grows symbols.now.signatures terms.old terms.new }
 {
     let Part::Term(term) = read_part(alloc, symbols, terms, scope, may_name, tokens)? else {
         return Err(BuildError::Fault(BuildFault::NotSupported));
     };
     Ok(term)
+}
+
+/// The number of the term that the S-expression at a span means over these parameters and the live names. A fault is its
+/// first, and then, as for want of memory, the terms are as before.
+#[tactic(auto, unfolding(crate::specs::Terms::term_over))]
+pub(crate) fn term_over(
+    symbols: &Symbols,
+    alloc: Global,
+    terms: &mut Terms,
+    tokens: &Tokens<'_>,
+    parameters: Parameters,
+    span: Span,
+) -> Result<TermId, BuildError>
+    requires { AreDeclared symbols.now.signatures terms.old.nodes }
+    ensures term { (e : Sexp) → Stands (signs_of tokens.now) span e → Builds (term_over symbols.now terms.old parameters e) result terms.old terms.new }
+    ensures err { OnErr result (terms.new ≡ terms.old) }
+    ensures grows { Grows symbols.now.signatures terms.old terms.new }
+{
+    let len = terms.len();
+    let items = tokens_at(tokens.as_slice(), span);
+    let mut scope = scope_over(alloc, parameters);
+    match read_term(alloc, symbols, terms, &mut scope, false, items) {
+        Ok(term) => Ok(term),
+        Err(error) => {
+            terms.cut(len);
+            Err(error)
+        }
+    }
 }
 
 impl Symbols {
@@ -175,15 +205,6 @@ impl Symbols {
         ensures err { OnErr result (terms.new ≡ terms.old) }
         ensures grows { Grows self.now.signatures terms.old terms.new }
     {
-        let len = terms.len();
-        let items = tokens_at(tokens.as_slice(), span);
-        let mut scope = no_scope(alloc);
-        match read_term(alloc, self, terms, &mut scope, false, items) {
-            Ok(term) => Ok(term),
-            Err(error) => {
-                terms.cut(len);
-                Err(error)
-            }
-        }
+        term_over(self, alloc, terms, tokens, Parameters::none(alloc), span)
     }
 }

@@ -5,7 +5,7 @@
 //! `elaborate` gives the number of the term that an S-expression means over the live names; each tells the first fault, and
 //! then all is as before. The meaning is defined by recursion over the S-expression; the code reads its tokens from left to
 //! right with a stack of open lists, and is proved to give the same. Constants of Bool and of word sorts are declared, and
-//! functions without parameters and names of sorts are defined. All operators of Core, of FixedSizeBitVectors and of the
+//! functions and names of sorts are defined. All operators of Core, of FixedSizeBitVectors and of the
 //! logic QF_BV are read, those on two or more arguments grouped, chained or held pairwise as the standard says, and so are
 //! literals, `(_ bvX n)`, names with indices, `let`, and terms with attributes; other forms of the standard are told as not
 //! supported. The crate stands on `smt_syntax`, `smt_terms` and `indexmap`.
@@ -20,6 +20,8 @@ pub mod build;
 pub mod declare;
 pub mod define;
 pub mod definition;
+#[cfg(test)]
+mod definition_tests;
 pub mod elaborate;
 pub mod fault;
 mod grouping;
@@ -28,6 +30,7 @@ pub mod literal;
 mod making;
 pub mod naming;
 pub mod operators;
+pub mod parameters;
 pub mod reader;
 pub mod scope;
 pub mod sorts;

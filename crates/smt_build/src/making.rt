@@ -3,7 +3,7 @@
 ghost use Rattle.std.specs.Prelude.{◌≡◌, List};
 ghost use Rattle.smt_terms.specs.Terms.{Agrees};
 ghost use Rattle.smt_terms.specs.declared.sort.Signature.{Signature as SignatureValue};
-ghost use Rattle.smt_build.specs.Names.{IsDeclared};
+ghost use Rattle.smt_build.specs.Names.{AreDeclared, IsDeclared};
 ghost use Rattle.smt_build.specs.Building.{fault_of, made, Builds, Grows};
 
 use crate::fault::{BuildError, BuildFault};
@@ -27,6 +27,7 @@ pub(crate) fn made(terms: &mut Terms, node: Node) -> Result<TermId, BuildError>
     requires { Agrees terms.old.nodes node.op }
     ensures builds { Builds (made terms.old node) result terms.old terms.new }
     ensures grows { (signatures : List SignatureValue) → IsDeclared signatures node.op → Grows signatures terms.old terms.new }
+    ensures again { (signatures : List SignatureValue) → (AreDeclared signatures terms.old.nodes → IsDeclared signatures node.op) → Grows signatures terms.old terms.new }
 {
     match terms.make(node) {
         Ok(term) => Ok(term),

@@ -12,7 +12,7 @@ use smt_text::token::{Token, TokenKind, Tokens};
 use std::alloc::{AllocError, Global};
 
 /// The word that stands at a span; none where a list does.
-fn word_at<'a>(tokens: &[Token<'a>], span: Span) -> Option<Token<'a>>
+pub fn word_at<'a>(tokens: &[Token<'a>], span: Span) -> Option<Token<'a>>
     ensures { (e : Sexp) → Stands (signs_in tokens.now) span e → IsWordOf e result }
 {
     match tokens_at(tokens, span) {
@@ -71,7 +71,7 @@ fn annotated_name<'a>(tokens: &[Token<'a>], spans: &[Span]) -> Option<&'a [u8]>
 }
 
 /// The spans of the parts of a term among its tokens, none of a word.
-fn parts_of(alloc: Global, tokens: &[Token<'_>]) -> Result<Vec<Span>, AllocError>
+pub(crate) fn parts_of(alloc: Global, tokens: &[Token<'_>]) -> Result<Vec<Span>, AllocError>
     ensures { IfOk result (λ v. (e : Sexp) → signs_in tokens.now ≡ spelling e → AllStand (signs_in tokens.now) v.items (parts_of e)) }
 {
     if tokens.len() < 2 {

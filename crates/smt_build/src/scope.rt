@@ -5,6 +5,7 @@ ghost use Rattle.std.specs.Option.{option_map};
 ghost use Rattle.smt_build.specs.Binding.{bound_at, is_bound};
 ghost use Rattle.smt_build.specs.Pairs.{pair_of};
 
+use crate::parameters::Parameters;
 use indexmap::IndexMap;
 use smt_terms::node::TermId;
 use std::alloc::{AllocError, Global};
@@ -45,6 +46,8 @@ pub struct Scope<'a> {
     pub coming: Variables<'a>,
     /// The names that were given to terms within the term.
     pub names: Variables<'a>,
+    /// The parameters of the definition whose body the term is.
+    pub parameters: Parameters,
 }
 
 /// The names from this place on.

@@ -14,16 +14,16 @@ use std::alloc::Global;
 use std::process::Abort;
 use std::test::Fail;
 
-const X: &[u8] = b"(declare-const x (_ BitVec 8))";
+pub(crate) const X: &[u8] = b"(declare-const x (_ BitVec 8))";
 
 const Y: &[u8] = b"(declare-const |y| (_ BitVec 8))";
 
-const P: &[u8] = b"(declare-const p Bool)";
+pub(crate) const P: &[u8] = b"(declare-const p Bool)";
 
 const Q: &[u8] = b"(declare-const q Bool)";
 
 /// No terms yet.
-fn no_terms(alloc: Global, symbols: &Symbols, limit: u32) -> Terms
+pub(crate) fn no_terms(alloc: Global, symbols: &Symbols, limit: u32) -> Terms
     requires { limit ≤ 2 ^ 24 }
     ensures { AreDeclared symbols.now.signatures result.nodes }
 {
@@ -56,7 +56,7 @@ fn done(
 }
 
 /// What a declaration gives.
-fn declared(
+pub(crate) fn declared(
     rt: &(impl Abort + AllocGlobal),
     symbols: &mut Symbols,
     text: &[u8],

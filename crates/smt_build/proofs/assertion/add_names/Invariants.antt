@@ -1,4 +1,4 @@
-use Rattle.std.proofs.Common.{◌≡◌, map, take, drop}
+use Rattle.std.proofs.Common.{◌≡◌, map, take}
 use Rattle.smt_build.specs.Pairs.{pair_of}
 use Rattle.smt_build.specs.Asserting.{with_names}
 use Rattle.smt_build.proofs.assertion.add_names.Given as goal

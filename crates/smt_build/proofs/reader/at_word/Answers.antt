@@ -8,4 +8,4 @@ pub returns-in_err-name_term-in-Label-default-clause-does : goal.returns-in_err-
 unfolding at_word
 returns-in_err-name_term-in-Label-default-clause-does c =
     let p = err_from_is_err_and c.from_residual-in_err-name_term-in-Label-default.result c.from_residual-in_err-name_term-in-Label-default.ensures.1 in
-    rw (c.in-Label-default.is-0, p.1, p.2) (label_fails (state_of c.args.terms.now c.args.scope.now) _ _ _ c.args.terms.now c.name_term.new.scope.names (c.in_err-name_term-in-Label-default.ensures.names c.args.terms.now))
+    rw (c.in-Label-default.is-0, p.1, p.2) (label_fails (state_of c.args.terms.now c.args.scope.now) _ _ _ _ (c.in_err-name_term-in-Label-default.ensures.names c.args.terms.now))
