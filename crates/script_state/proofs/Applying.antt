@@ -18,7 +18,7 @@ use Rattle.std.specs.declared.alloc.AllocError.{AllocError}
 use Rattle.script_state.specs.ErrorTexts.{syntax_error}
 use Rattle.script_state.specs.Readings.{is_list, Reading, ReadsBy, ReadsAs}
 use Rattle.script_state.specs.States.{StateValue}
-use Rattle.script_state.specs.Steps.{Step, obey, obey_read, refuse, step, Answers, Applies}
+use Rattle.script_state.specs.Steps.{Step, obey, obey_read, refuse, Answers, Applies}
 use Rattle.script_state.proofs.Lists.{spells_list, spells_no_list}
 
 module _ (chunk : Chunk) (s : StateValue) where

@@ -1,7 +1,7 @@
 -- What stays a state.
-use Rattle.std.proofs.Common.{◌≡◌, ℕ, ◌<◌, ◌≤◌, ◌∙◌, Bool, true, false, List, [], refl, sym, subst, length, get_or, ap, arith, length-append, Ok, Some, None, Option}
-use Rattle.std.specs.Prelude.{All, if◌then◌else◌}
-use Rattle.std.proofs.lemmas.List.Elements.{All-push}
+use Rattle.std.proofs.Common.{◌≡◌, ℕ, ◌<◌, ◌≤◌, ◌∙◌, Bool, true, false, List, [], ◌∷◌, ◌++◌, refl, sym, subst, length, get_or, ap, arith, length-append, append-nil, Ok, Some, None, Option}
+use Rattle.std.specs.Prelude.{All, slice_get, if◌then◌else◌}
+use Rattle.std.proofs.lemmas.List.Elements.{All-cons, All-nil, All-push}
 use Rattle.smt_text.specs.declared.token.CommandName.{CommandName}
 use Rattle.smt_syntax.specs.Sexps.{Sexps}
 use Rattle.smt_terms.specs.declared.sort.Sort.TheVariants as sort
@@ -12,30 +12,45 @@ use Rattle.smt_terms.proofs.Growing.{sort_longer}
 use Rattle.scope_selectors.specs.declared.live.Live.{Live}
 use Rattle.scope_selectors.specs.Scopes.{ScopesValue, asserted}
 use Rattle.scope_selectors.proofs.Asserting.{one_more}
+use Rattle.smt_build.specs.declared.symbols.Level.{Level}
+use Rattle.smt_build.specs.declared.definition.Definition.{Definition}
 use Rattle.smt_build.specs.Building.{Grows}
 use Rattle.smt_build.specs.Names.{SymbolsValue, with_definition}
+use Rattle.smt_build.specs.Scoped.{is_over, AreOver}
 use Rattle.smt_build.specs.Declaring.{declare}
 use Rattle.smt_build.specs.Defining.{define_sort}
 use Rattle.smt_build.proofs.Uses.{bodies_longer, bodies_push}
 use Rattle.script_state.specs.declared.answer.Verdict.{Verdict}
+use Rattle.script_state.specs.declared.options.Options.{Options}
 use Rattle.script_state.specs.declared.error_text.ErrorText.{ErrorText}
 use Rattle.script_state.specs.declared.error_text.ErrorText.TheVariants.{NotSupported, WrongArguments}
 use Rattle.script_state.specs.Plain.{is_plain}
-use Rattle.script_state.specs.States.{StateValue, IsState}
+use Rattle.script_state.specs.States.{StateValue, IsState, IsLevel, AreLevels}
 use Rattle.script_state.specs.Steps.{objection}
 use Rattle.script_state.proofs.Marking.{plain_longer}
 use Rattle.script_state.proofs.Declared.{declared_kept}
 use Rattle.script_state.proofs.Defined.{sort_defined, names_push}
+use Rattle.script_state.proofs.Closing.{closed_longer, closed_more, closed_asserted}
+use Rattle.script_state.proofs.Standing.{levels_extend}
 
 abbrev with_terms : StateValue → TermsValue → StateValue
-with_terms v w = record { symbols = v.symbols; terms = w; scopes = v.scopes; standing = v.standing }
+with_terms v w = record { symbols = v.symbols; terms = w; scopes = v.scopes; options = v.options; standing = v.standing }
 
 abbrev stands_as : StateValue → Option Verdict → StateValue
-stands_as v o = record { symbols = v.symbols; terms = v.terms; scopes = v.scopes; standing = o }
+stands_as v o = record { symbols = v.symbols; terms = v.terms; scopes = v.scopes; options = v.options; standing = o }
 
--- whatever check stands
-pub standing_state : (v : StateValue) (o : Option Verdict) → IsState v → IsState (stands_as v o)
-standing_state v o is = record {
+-- a state with other options, and another check that stands
+abbrev opted : StateValue → Options → Option Verdict → StateValue
+opted v o s = record { symbols = v.symbols; terms = v.terms; scopes = v.scopes; options = o; standing = s }
+
+levels_same : (v : StateValue) (o : Options) (s : Option Verdict) → AreLevels v → AreLevels (opted v o s)
+levels_same v o s are = record { count = are.count; rising = are.rising; each = each } where
+  each : (k : ℕ) (l : Level) → slice_get v.symbols.levels k ≡ Some l → IsLevel (opted v o s) k l
+  each k l e = let level = are.each k l e in record { names = level.names; definitions = level.definitions; sorts = level.sorts; closed = level.closed }
+
+-- whatever options are set, and whatever check stands
+pub opted_state : (v : StateValue) (o : Options) (s : Option Verdict) → IsState v → IsState (opted v o s)
+opted_state v o s is = record {
   terms = is.terms;
   scopes = is.scopes;
   live = is.live;
@@ -46,10 +61,16 @@ standing_state v o is = record {
   held = is.held;
   truths = is.truths;
   plain = is.plain;
+  closed = is.closed;
+  levels = levels_same v o s is.levels;
 }
 
+-- whatever check stands
+pub standing_state : (v : StateValue) (o : Option Verdict) → IsState v → IsState (stands_as v o)
+standing_state v o is = opted_state v v.options o is
+
 -- one declaration more
-pub declared_state : (v : StateValue) (w : SymbolsValue) (n : CommandName) (es : Sexps) (d : ℕ) → declare v.symbols n es ≡ Ok (d, w) → IsState v → IsState (record { symbols = w; terms = v.terms; scopes = v.scopes; standing = None })
+pub declared_state : (v : StateValue) (w : SymbolsValue) (n : CommandName) (es : Sexps) (d : ℕ) → declare v.symbols n es ≡ Ok (d, w) → IsState v → IsState (record { symbols = w; terms = v.terms; scopes = v.scopes; options = v.options; standing = None })
 declared_state v w n es d e is =
     let kept = declared_kept v.symbols w n es d v.terms.nodes is.sorts e in
     record {
@@ -63,17 +84,33 @@ declared_state v w n es d e is =
       held = is.held;
       truths = is.truths;
       plain = is.plain;
+      closed = rw (kept.definitions, kept.names) (closed_more v.symbols.live v.terms.nodes v.symbols.definitions v.scopes.live (kept.last ∷ []) is.closed);
+      levels = levels_extend v _ (record {
+        behind = [];
+        nodes = sym (append-nil v.terms.nodes);
+        names = kept.last ∷ [];
+        live = kept.names;
+        meanings = [];
+        definitions = kept.definitions ∙ sym (append-nil v.symbols.definitions);
+        renamed = [];
+        sorts = kept.sorts ∙ sym (append-nil v.symbols.sorts);
+        asserted = [];
+        assertions = sym (append-nil v.scopes.live);
+        above = All-nil (λ (a : Live). v.scopes.levels ≤ a.level);
+        levels = kept.levels;
+        count = refl;
+      }) is;
     }
 
 -- one name of a sort more
-pub named_state : (v : StateValue) (w : SymbolsValue) (n : CommandName) (es : Sexps) → define_sort v.symbols n es ≡ Ok w → IsState v → IsState (record { symbols = w; terms = v.terms; scopes = v.scopes; standing = None })
+pub named_state : (v : StateValue) (w : SymbolsValue) (n : CommandName) (es : Sexps) → define_sort v.symbols n es ≡ Ok w → IsState v → IsState (record { symbols = w; terms = v.terms; scopes = v.scopes; options = v.options; standing = None })
 named_state v w n es e is =
     let one = sort_defined v.symbols w n es is.sorts e in
-    subst (λ (u : SymbolsValue). IsState (record { symbols = u; terms = v.terms; scopes = v.scopes; standing = None })) (sym one.3)
+    subst (λ (u : SymbolsValue). IsState (record { symbols = u; terms = v.terms; scopes = v.scopes; options = v.options; standing = None })) (sym one.3)
     (record {
       terms = is.terms;
       scopes = is.scopes;
-      live = record { count = is.live.count; each = is.live.each };
+      live = record { rising = is.live.rising; made = is.live.made };
       constants = is.constants;
       declared = is.declared;
       bodies = is.bodies;
@@ -81,6 +118,22 @@ named_state v w n es e is =
       held = is.held;
       truths = is.truths;
       plain = is.plain;
+      closed = is.closed;
+      levels = levels_extend v _ (record {
+        behind = [];
+        nodes = sym (append-nil v.terms.nodes);
+        names = [];
+        live = sym (append-nil v.symbols.live);
+        meanings = [];
+        definitions = sym (append-nil v.symbols.definitions);
+        renamed = (one.0, one.1) ∷ [];
+        sorts = refl;
+        asserted = [];
+        assertions = sym (append-nil v.scopes.live);
+        above = All-nil (λ (a : Live). v.scopes.levels ≤ a.level);
+        levels = refl;
+        count = refl;
+      }) is;
     })
 
 -- more terms
@@ -109,6 +162,22 @@ module _ (v : StateValue) (w : TermsValue) (grows : Grows v.symbols.signatures v
     held = still_held;
     truths = still_true;
     plain = still_plain;
+    closed = rw grows.nodes (closed_longer v.symbols.live v.terms.nodes v.symbols.definitions v.scopes.live grows.behind is.bodies is.held is.closed);
+    levels = levels_extend v _ (record {
+      behind = grows.behind;
+      nodes = grows.nodes;
+      names = [];
+      live = sym (append-nil v.symbols.live);
+      meanings = [];
+      definitions = sym (append-nil v.symbols.definitions);
+      renamed = [];
+      sorts = sym (append-nil v.symbols.sorts);
+      asserted = [];
+      assertions = sym (append-nil v.scopes.live);
+      above = All-nil (λ (a : Live). v.scopes.levels ≤ a.level);
+      levels = refl;
+      count = refl;
+    }) is;
   }
 
 -- a term against which nothing stands is plain and of sort Bool
@@ -119,9 +188,9 @@ asserted_plain nodes t = go (same_sort (sort_of nodes t) sort.Bool) (is_plain no
   go true false e = absurd (let z : ⊥ = cc in z)
   go false c e = absurd (let z : ⊥ = cc in z)
 
--- one assertion more, of a term against which nothing stands
-pub asserted_state : (v : StateValue) (t : ℕ) (scopes : ScopesValue) → IsState v → t < length v.terms.nodes → objection v.terms.nodes t ≡ None → scopes ≡ asserted v.scopes t None → IsState (record { symbols = v.symbols; terms = v.terms; scopes = scopes; standing = None })
-asserted_state v t scopes is lt none e =
+-- one assertion more, of a term over live declarations against which nothing stands
+pub asserted_state : (v : StateValue) (t : ℕ) (scopes : ScopesValue) → IsState v → t < length v.terms.nodes → is_over v.symbols.live v.terms.nodes t ≡ true → objection v.terms.nodes t ≡ None → scopes ≡ asserted v.scopes t None → IsState (record { symbols = v.symbols; terms = v.terms; scopes = scopes; options = v.options; standing = None })
+asserted_state v t scopes is lt over none e =
     let new : Live = record { assertion = v.scopes.made; term = t; name = None; level = v.scopes.levels } in
     let parts = asserted_plain v.terms.nodes t none in
     rw e (record {
@@ -135,19 +204,51 @@ asserted_state v t scopes is lt none e =
       held = All-push (λ (a : Live). a.term < length v.terms.nodes) v.scopes.live new is.held lt;
       truths = All-push (λ (a : Live). sort_of v.terms.nodes a.term ≡ sort.Bool) v.scopes.live new is.truths (sort_same _ _ parts.0);
       plain = All-push (λ (a : Live). is_plain v.terms.nodes a.term ≡ true) v.scopes.live new is.plain parts.1;
+      closed = closed_asserted v.symbols.live v.terms.nodes v.symbols.definitions v.scopes.live new over is.closed;
+      levels = levels_extend v _ (record {
+        behind = [];
+        nodes = sym (append-nil v.terms.nodes);
+        names = [];
+        live = sym (append-nil v.symbols.live);
+        meanings = [];
+        definitions = sym (append-nil v.symbols.definitions);
+        renamed = [];
+        sorts = sym (append-nil v.symbols.sorts);
+        asserted = new ∷ [];
+        assertions = refl;
+        above = All-cons (λ (a : Live). v.scopes.levels ≤ a.level) new [] (omega arith) (All-nil (λ (a : Live). v.scopes.levels ≤ a.level));
+        levels = refl;
+        count = refl;
+      }) is;
     })
 
--- one definition more, of a term that is read over the terms before it
-pub defined_state : (v : StateValue) (w : TermsValue) (x : List ℕ) (t : ℕ) → IsState (with_terms v w) → t < length w.nodes → IsState (record { symbols = with_definition v.symbols x (record { parameters = []; body = t }); terms = w; scopes = v.scopes; standing = None })
-defined_state v w x t is lt = record {
+-- one definition more, where the bodies are terms over live declarations
+pub defined_state : (v : StateValue) (w : TermsValue) (x : List ℕ) (f : Definition) → IsState (with_terms v w) → f.body < length w.nodes → AreOver v.symbols.live w.nodes (v.symbols.definitions ++ (x, f) ∷ []) → IsState (record { symbols = with_definition v.symbols x f; terms = w; scopes = v.scopes; options = v.options; standing = None })
+defined_state v w x f is lt over = record {
   terms = is.terms;
   scopes = is.scopes;
-  live = record { count = is.live.count; each = is.live.each };
+  live = record { rising = is.live.rising; made = is.live.made };
   constants = is.constants;
   declared = is.declared;
-  bodies = bodies_push (length w.nodes) v.symbols.definitions x (record { parameters = []; body = t }) is.bodies lt;
+  bodies = bodies_push (length w.nodes) v.symbols.definitions x f is.bodies lt;
   sorts = is.sorts;
   held = is.held;
   truths = is.truths;
   plain = is.plain;
+  closed = record { bodies = over; terms = is.closed.terms };
+  levels = levels_extend (with_terms v w) _ (record {
+    behind = [];
+    nodes = sym (append-nil w.nodes);
+    names = [];
+    live = sym (append-nil v.symbols.live);
+    meanings = (x, f) ∷ [];
+    definitions = refl;
+    renamed = [];
+    sorts = sym (append-nil v.symbols.sorts);
+    asserted = [];
+    assertions = sym (append-nil v.scopes.live);
+    above = All-nil (λ (a : Live). v.scopes.levels ≤ a.level);
+    levels = refl;
+    count = refl;
+  }) is;
 }

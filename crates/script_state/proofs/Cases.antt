@@ -1,24 +1,32 @@
 -- What holds of each kind of step holds of every step.
-use Rattle.std.proofs.Common.{◌≡◌, ℕ, Bool, true, false, refl, Option, Some, None, Result, Ok, Err}
-use Rattle.std.specs.Prelude.{if◌then◌else◌}
+use Rattle.std.proofs.Common.{◌≡◌, ℕ, Bool, true, false, List, refl, Option, Some, None, Result, Ok, Err}
+use Rattle.std.specs.Prelude.{if◌then◌else◌, codes}
+use Rattle.std.specs.Str.{bytes_eq}
 use Rattle.smt_text.specs.declared.token.CommandName.{CommandName}
 use Rattle.smt_text.specs.declared.token.CommandName.TheVariants as name
 use Rattle.smt_syntax.specs.declared.command.SyntaxFault.{SyntaxFault}
-use Rattle.smt_syntax.specs.Sexps.{Sexp, Sexps, group, none, more}
+use Rattle.smt_text.specs.Printing.{between}
+use Rattle.smt_syntax.specs.Sexps.{Sexp, Sexps, atom, group, none, more}
 use Rattle.smt_syntax.specs.Commands.{read}
 use Rattle.smt_terms.specs.Terms.{TermsValue}
+use Rattle.scope_selectors.specs.declared.fault.OutOfRange.{OutOfRange}
+use Rattle.scope_selectors.specs.Scopes.{ScopesValue, pushed as scopes_pushed, popped as scopes_popped}
 use Rattle.smt_build.specs.Building.{Built}
 use Rattle.smt_build.specs.Names.{SymbolsValue}
 use Rattle.smt_build.specs.Declaring.{Declaration, declare}
 use Rattle.smt_build.specs.Defining.{SortDefinition, FunctionDefinition, define_sort, define}
 use Rattle.smt_build.specs.Terms.{term_of}
-use Rattle.script_state.specs.declared.answer.Answer.TheVariants.{Done}
+use Rattle.script_state.specs.declared.answer.Answer.TheVariants.{Done, Model, Exit}
+use Rattle.script_state.specs.declared.answer.Verdict.{Verdict}
+use Rattle.script_state.specs.declared.answer.Verdict.TheVariants.{Sat, Unsat, Unknown}
+use Rattle.script_state.specs.declared.options.Options.{Options}
 use Rattle.script_state.specs.declared.error_text.ErrorText.{ErrorText}
-use Rattle.script_state.specs.declared.error_text.ErrorText.TheVariants.{NotSupported, UnknownLogic}
+use Rattle.script_state.specs.declared.error_text.ErrorText.TheVariants.{NotSupported, UnknownLogic, LevelOutOfRange, NoModel, OptionOff, NoUnknownAnswer}
 use Rattle.script_state.specs.ErrorTexts.{syntax_error, build_error}
+use Rattle.script_state.specs.Options.{first_options, option_value, with_option}
 use Rattle.script_state.specs.Readings.{Reading}
 use Rattle.script_state.specs.States.{StateValue}
-use Rattle.script_state.specs.Steps.{Step, refuse, names_logic, choosing, declaring, naming_sort, defining, objection, asserting_unless, asserting, checking, obey, obey_read, step}
+use Rattle.script_state.specs.Steps.{Step, refuse, names_logic, choosing, declaring, naming_sort, defining, objection, asserting_unless, asserting, checking, saying, unsupported, is_true_value, setting, setting_option, option_text, telling_option, telling_reason, telling, telling_info, echoing, levels_meant, pushing_by, pushing, popping_by, popping, resetting, modelling_by, modelling, obey, obey_read, step, is_exit, ends_read, ends}
 
 module _ (s : StateValue) (P : Step → Type 0) where
   -- it holds of a refusal, of a command that changes nothing, and of each change
@@ -30,6 +38,12 @@ module _ (s : StateValue) (P : Step → Type 0) where
     pub named : (n : CommandName) (es : Sexps) (w : SymbolsValue) → define_sort s.symbols n es ≡ Ok w → P (naming_sort s (Ok w))
     pub defined : (n : CommandName) (es : Sexps) (w : SymbolsValue) (terms : TermsValue) → define s.symbols s.terms n es ≡ Ok (w, terms) → P (defining s (Ok (w, terms)))
     pub asserted : (x : Sexp) (t : ℕ) (w : TermsValue) → term_of s.symbols s.terms x ≡ Ok (t, w) → objection w.nodes t ≡ None → P (asserting_unless None s t w)
+    pub said : (x : List ℕ) → P (saying s x)
+    pub set : (o : Options) → P (setting s (Some o))
+    pub begun : (n : ℕ) (v : ScopesValue) → scopes_pushed s.scopes n ≡ Ok v → P (pushing_by s n (Ok v))
+    pub ended : (n : ℕ) (v : ScopesValue) → scopes_popped s.scopes n ≡ Ok v → P (popping_by s n (Ok v))
+    pub emptied : (o : Options) → P (resetting s o)
+    pub modelled : s.standing ≡ Some Sat → s.options.produce_models ≡ true → P (Model, s)
 
   module _ (h : Holds) where
     by_choice : (b : Bool) → P (if b then (Done, s) else refuse s UnknownLogic)
@@ -69,28 +83,110 @@ module _ (s : StateValue) (P : Step → Type 0) where
       go (Ok r) e = by_objection x r.0 r.1 e
       go (Err f) e = h.refused (build_error f)
 
-    by_command : (n : CommandName) (es : Sexps) → P (obey s n es)
+    by_setting : (o : Option Options) → P (setting s o)
+    by_setting None = h.said unsupported
+    by_setting (Some o) = h.set o
+
+    by_setting_option : (x : Sexp) (es : Sexps) → P (setting_option s x es)
+    by_setting_option (atom k x) none = h.said unsupported
+    by_setting_option (atom k x) (more v none) = by_setting (with_option s.options x (is_true_value v))
+    by_setting_option (atom k x) (more v (more w es)) = h.said unsupported
+    by_setting_option (group xs) es = h.said unsupported
+
+    by_telling_option : (x : Sexp) → P (telling_option s x)
+    by_telling_option (atom k x) = h.said (option_text (option_value s.options x))
+    by_telling_option (group es) = h.said unsupported
+
+    by_reason : (o : Option Verdict) → P (telling_reason s o)
+    by_reason None = h.refused NoUnknownAnswer
+    by_reason (Some Sat) = h.refused NoUnknownAnswer
+    by_reason (Some Unsat) = h.refused NoUnknownAnswer
+    by_reason (Some Unknown) = h.said _
+
+    either : (b : Bool) (p q : Step) → P p → P q → P (if b then p else q)
+    either true p q h k = h
+    either false p q h k = k
+
+    by_telling : (x : List ℕ) → P (telling s x)
+    by_telling x =
+        either (bytes_eq x (codes ":name")) _ _ (h.said _)
+        (either (bytes_eq x (codes ":version")) _ _ (h.said _)
+        (either (bytes_eq x (codes ":error-behavior")) _ _ (h.said _)
+        (either (bytes_eq x (codes ":assertion-stack-levels")) _ _ (h.said _)
+        (either (bytes_eq x (codes ":reason-unknown")) _ _ (by_reason s.standing) (h.said unsupported)))))
+
+    by_telling_info : (x : Sexp) → P (telling_info s x)
+    by_telling_info (atom k x) = by_telling x
+    by_telling_info (group es) = h.said unsupported
+
+    by_echoing : (x : Sexp) → P (echoing s x)
+    by_echoing (atom k x) = h.said (between 34 x)
+    by_echoing (group es) = h.said unsupported
+
+    by_pushing : (n : ℕ) → P (pushing s n)
+    by_pushing n = go (scopes_pushed s.scopes n) refl where
+      go : (r : Result ScopesValue OutOfRange) → scopes_pushed s.scopes n ≡ r → P (pushing_by s n r)
+      go (Ok v) e = h.begun n v e
+      go (Err f) e = h.refused LevelOutOfRange
+
+    by_popping : (n : ℕ) → P (popping s n)
+    by_popping n = go (scopes_popped s.scopes n) refl where
+      go : (r : Result ScopesValue OutOfRange) → scopes_popped s.scopes n ≡ r → P (popping_by s n r)
+      go (Ok v) e = h.ended n v e
+      go (Err f) e = h.refused LevelOutOfRange
+
+    by_modelling : P (modelling s)
+    by_modelling = go s.options.produce_models s.standing refl refl where
+      go : (b : Bool) (o : Option Verdict) → s.options.produce_models ≡ b → s.standing ≡ o → P (if b then modelling_by s o else refuse s OptionOff)
+      go true None p q = h.refused NoModel
+      go true (Some Sat) p q = h.modelled q p
+      go true (Some Unsat) p q = h.refused NoModel
+      go true (Some Unknown) p q = h.refused NoModel
+      go false o p q = h.refused OptionOff
+
+    by_command : (n : CommandName) (es : Sexps) → (is_exit n ≡ true → P (Exit, s)) → P (obey s n es)
     unfolding obey
-    by_command name.SetLogic none = h.refused NotSupported
-    by_command name.SetLogic (more x none) = by_choosing x
-    by_command name.SetLogic (more x (more y es)) = h.refused NotSupported
-    by_command name.SetInfo none = h.refused NotSupported
-    by_command name.SetInfo (more x es) = h.kept
-    by_command name.DeclareConst es = by_declaring name.DeclareConst es
-    by_command name.DeclareFun es = by_declaring name.DeclareFun es
-    by_command name.DefineSort es = by_naming name.DefineSort es
-    by_command name.DefineFun es = by_defining name.DefineFun es
-    by_command name.Assert none = h.refused NotSupported
-    by_command name.Assert (more x none) = by_asserting x
-    by_command name.Assert (more x (more y es)) = h.refused NotSupported
-    by_command name.CheckSat none = h.checked
-    by_command name.CheckSat (more x es) = h.refused NotSupported
-    by_command _ es = h.refused NotSupported
+    by_command name.SetLogic none x = h.refused NotSupported
+    by_command name.SetLogic (more e none) x = by_choosing e
+    by_command name.SetLogic (more e (more f es)) x = h.refused NotSupported
+    by_command name.SetInfo none x = h.refused NotSupported
+    by_command name.SetInfo (more e es) x = h.kept
+    by_command name.SetOption none x = h.refused NotSupported
+    by_command name.SetOption (more e es) x = by_setting_option e es
+    by_command name.GetOption none x = h.refused NotSupported
+    by_command name.GetOption (more e none) x = by_telling_option e
+    by_command name.GetOption (more e (more f es)) x = h.refused NotSupported
+    by_command name.GetInfo none x = h.refused NotSupported
+    by_command name.GetInfo (more e none) x = by_telling_info e
+    by_command name.GetInfo (more e (more f es)) x = h.refused NotSupported
+    by_command name.Echo none x = h.refused NotSupported
+    by_command name.Echo (more e none) x = by_echoing e
+    by_command name.Echo (more e (more f es)) x = h.refused NotSupported
+    by_command name.DeclareConst es x = by_declaring name.DeclareConst es
+    by_command name.DeclareFun es x = by_declaring name.DeclareFun es
+    by_command name.DefineSort es x = by_naming name.DefineSort es
+    by_command name.DefineFun es x = by_defining name.DefineFun es
+    by_command name.Assert none x = h.refused NotSupported
+    by_command name.Assert (more e none) x = by_asserting e
+    by_command name.Assert (more e (more f es)) x = h.refused NotSupported
+    by_command name.Push es x = by_pushing (levels_meant es)
+    by_command name.Pop es x = by_popping (levels_meant es)
+    by_command name.Reset es x = h.emptied first_options
+    by_command name.ResetAssertions es x = h.emptied s.options
+    by_command name.CheckSat none x = h.checked
+    by_command name.CheckSat (more e es) x = h.refused NotSupported
+    by_command name.GetModel es x = by_modelling
+    by_command name.GetAssertions es x = h.said unsupported
+    by_command name.GetAssignment es x = h.said unsupported
+    by_command name.GetProof es x = h.said unsupported
+    by_command name.Exit es x = x refl
+    by_command _ es x = h.refused NotSupported
 
-    by_reading : (r : Result (CommandName × Sexps) SyntaxFault) → P (obey_read s r)
-    by_reading (Ok c) = by_command c.0 c.1
-    by_reading (Err f) = h.refused (syntax_error f)
+    by_reading : (r : Result (CommandName × Sexps) SyntaxFault) → (ends_read r ≡ true → P (Exit, s)) → P (obey_read s r)
+    by_reading (Ok c) x = by_command c.0 c.1 x
+    by_reading (Err f) x = h.refused (syntax_error f)
 
-    pub of_step : (r : Reading) → P (step s r)
-    of_step (Ok es) = by_reading (read (group es))
-    of_step (Err e) = h.refused e
+    -- where the step ends the run too
+    pub of_step : (r : Reading) → (ends r ≡ true → P (Exit, s)) → P (step s r)
+    of_step (Ok es) x = by_reading (read (group es)) x
+    of_step (Err e) x = h.refused e

@@ -1,9 +1,10 @@
 -- A declaration keeps those that were made, and is a constant that is a word.
-use Rattle.std.proofs.Common.{◌≡◌, ℕ, zero, suc, Bool, true, false, List, [], ◌∷◌, ◌++◌, length, refl, sym, ap, ◌∙◌, subst, inl, inr, ⊎_elim, arith, leb-true, length-append, Option, Some, None, Result, Ok, Err}
-use Rattle.std.specs.Prelude.{◌&&◌, nat_le, ◌⊎◌, slice_get, if◌then◌else◌, is_some, All}
+use Rattle.std.proofs.Common.{◌≡◌, ℕ, ◌<◌, zero, suc, Bool, true, false, List, [], ◌∷◌, ◌++◌, length, refl, sym, subst, arith, leb-true, length-append, Option, Some, None, Result, Ok, Err}
+use Rattle.std.specs.Prelude.{◌&&◌, nat_le, slice_get, if◌then◌else◌, All}
 use Rattle.std.specs.List.{AllByRecursion}
 use Rattle.std.specs.Str.{bytes_eq}
 use Rattle.std.proofs.lemmas.List.Elements.{All-push}
+use Rattle.std.proofs.lemmas.List.Quantifiers.{all_pairs_push}
 use Rattle.smt_text.specs.declared.token.TokenKind.{TokenKind}
 use Rattle.smt_text.specs.declared.token.TokenKind.TheVariants as kind
 use Rattle.smt_text.specs.declared.token.CommandName.{CommandName}
@@ -16,7 +17,7 @@ use Rattle.smt_terms.specs.declared.sort.Signature.{Signature}
 use Rattle.smt_terms.specs.declared.node.Node.{Node}
 use Rattle.smt_terms.specs.Terms.{IsSort, constant_signature}
 use Rattle.smt_build.specs.declared.fault.BuildFault.{BuildFault}
-use Rattle.smt_build.specs.declared.fault.BuildFault.TheVariants.{Declared, Reserved, UnknownSymbol, NotSupported}
+use Rattle.smt_build.specs.declared.fault.BuildFault.TheVariants.{Declared, Reserved, NotSupported}
 use Rattle.smt_build.specs.declared.symbols.LiveName.{LiveName}
 use Rattle.smt_build.specs.Literals.{decimal_value, value_in}
 use Rattle.smt_build.specs.Names.{SymbolsValue, Meanings, AreDeclared, meaning_in, is_taken, with_declaration}
@@ -24,7 +25,7 @@ use Rattle.smt_build.specs.Operators.{is_reserved}
 use Rattle.smt_build.specs.Sorts.{defined_sort, sort_named, word_of_width, width_sort, named_sort, indexed_sort, listed_sort, sort_in}
 use Rattle.smt_build.specs.Declaring.{Declaration, declare, declare_constant, constant_parts, function_parts, value_sort, constant, next}
 use Rattle.script_state.specs.Plain.{is_plain_sort}
-use Rattle.script_state.specs.States.{AreAllLive, IsPlainConstant, IsPlainName}
+use Rattle.script_state.specs.States.{AreLive, IsPlainConstant, IsPlainName}
 
 -- ---- sorts
 
@@ -135,33 +136,29 @@ get_longer [] ys i x e = absurd (let z : ⊥ = cc in z)
 get_longer (y ∷ xs) ys zero x e = e
 get_longer (y ∷ xs) ys (suc i) x e = get_longer xs ys i x e
 
-get_pushed : {X : Type 0} (xs : List X) (x : X) (k : ℕ) (y : X) → slice_get (xs ++ x ∷ []) k ≡ Some y → (slice_get xs k ≡ Some y) ⊎ ((k ≡ length xs) × (x ≡ y))
-get_pushed [] x zero y e = inr (refl, cc)
-get_pushed [] x (suc k) y e = absurd (let z : ⊥ = cc in z)
-get_pushed (z ∷ xs) x zero y e = inl e
-get_pushed (z ∷ xs) x (suc k) y e = ⊎_elim (λ h. inl h) (λ h. inr (ap suc h.0, h.1)) (get_pushed xs x k y e)
-
-module _ (v : SymbolsValue) (x : List ℕ) (s : Signature) (are : AreAllLive v) where
+module _ (v : SymbolsValue) (x : List ℕ) (s : Signature) (are : AreLive v) where
   abbrev last : LiveName
   last = record { name = x; declaration = length v.signatures }
 
-  live_each : (k : ℕ) (l : LiveName) → slice_get (v.live ++ last ∷ []) k ≡ Some l → l.declaration ≡ k
-  live_each k l e =
-      ⊎_elim
-      (λ old. are.each k l old)
-      (λ new. subst (λ (m : LiveName). m.declaration ≡ k) new.1 (sym are.count ∙ sym new.0))
-      (get_pushed v.live last k l e)
+  made_more : All (λ (l : LiveName). l.declaration < length (v.signatures ++ s ∷ [])) v.live
+  made_more k d lt = omega (arith, length-append v.signatures (s ∷ []), are.made k d lt)
 
-  live_more : AreAllLive (with_declaration v x s)
-  live_more = record { count = omega (arith, length-append v.live (last ∷ []), length-append v.signatures (s ∷ []), are.count); each = live_each }
+  live_more : AreLive (with_declaration v x s)
+  live_more = record {
+    rising = all_pairs_push (λ (a b : LiveName). a.declaration < b.declaration) v.live last are.rising (λ k d lt. are.made k d lt);
+    made = All-push (λ (l : LiveName). l.declaration < length (v.signatures ++ s ∷ [])) v.live last made_more (omega (arith, length-append v.signatures (s ∷ [])));
+  }
 
 -- what a declaration leaves of what is known of declarations
 pub record AreKept (v w : SymbolsValue) (nodes : List Node) : Type 0 where
-  pub live : AreAllLive v → AreAllLive w
+  pub live : AreLive v → AreLive w
   pub constants : All IsPlainConstant v.signatures → All IsPlainConstant w.signatures
   pub declared : AreDeclared v.signatures nodes → AreDeclared w.signatures nodes
+  pub last : LiveName
+  pub names : w.live ≡ v.live ++ last ∷ []
   pub definitions : w.definitions ≡ v.definitions
   pub sorts : w.sorts ≡ v.sorts
+  pub levels : w.levels ≡ v.levels
   pub longer : (d : ℕ) (s : Signature) → slice_get v.signatures d ≡ Some s → slice_get w.signatures d ≡ Some s
 
 kept_more : (v : SymbolsValue) (x : List ℕ) (s : Sort) (nodes : List Node) → (is_plain_sort s ≡ true) × IsSort s → AreKept v (with_declaration v x (constant_signature s)) nodes
@@ -169,8 +166,11 @@ kept_more v x s nodes plain = record {
   live = live_more v x (constant_signature s);
   constants = λ are. All-push IsPlainConstant v.signatures (constant_signature s) are (record { constant = refl; sort = plain.0; widths = plain.1 });
   declared = λ are. record { each = λ t k named. get_longer v.signatures (constant_signature s ∷ []) k _ (are.each t k named) };
+  last = record { name = x; declaration = length v.signatures };
+  names = refl;
   definitions = refl;
   sorts = refl;
+  levels = refl;
   longer = λ d r e. get_longer v.signatures (constant_signature s ∷ []) d r e;
 }
 

@@ -1,26 +1,31 @@
 -- A step leads from a state to a state, and keeps what was made.
-use Rattle.std.proofs.Common.{◌≡◌, ℕ, List, [], ◌∷◌, ◌++◌, refl, sym, subst, append-nil, Some, None, Ok}
+use Rattle.std.proofs.Common.{◌≡◌, ℕ, List, [], ◌∷◌, ◌++◌, refl, sym, ap, ◌∙◌, subst, append-nil, Some, None, Ok}
 use Rattle.std.specs.Prelude.{slice_get}
 use Rattle.smt_text.specs.declared.token.CommandName.{CommandName}
 use Rattle.smt_syntax.specs.Sexps.{Sexp, Sexps}
 use Rattle.smt_terms.specs.declared.sort.Signature.{Signature}
 use Rattle.smt_terms.specs.declared.node.Node.{Node}
 use Rattle.smt_terms.specs.Terms.{TermsValue, IsTermList}
-use Rattle.scope_selectors.specs.Scopes.{asserted}
+use Rattle.scope_selectors.specs.Scopes.{ScopesValue, asserted, pushed, popped}
 use Rattle.smt_build.specs.Building.{Grows}
 use Rattle.smt_build.specs.Names.{SymbolsValue}
 use Rattle.smt_build.specs.Declaring.{declare}
 use Rattle.smt_build.specs.Defining.{define_sort, define}
+use Rattle.smt_build.specs.Scoped.{AreOver}
 use Rattle.smt_build.specs.Terms.{term_of}
 use Rattle.smt_build.proofs.Longer.{GoOn, term_longer, term_is_held}
+use Rattle.smt_build.proofs.Kept.{IsNext, define_adds}
+use Rattle.smt_build.proofs.Scoped.{term_is_over}
+use Rattle.smt_build.proofs.ScopedCommands.{define_is_over}
 use Rattle.script_state.specs.Readings.{Reading}
 use Rattle.script_state.specs.States.{StateValue, RestValue, with_terms, IsState, Fit}
-use Rattle.script_state.specs.Steps.{Step, declaring, naming_sort, defining, objection, asserting_unless, step}
+use Rattle.script_state.specs.Steps.{Step, declaring, naming_sort, defining, objection, asserting_unless, pushing_by, popping_by, step}
 use Rattle.script_state.proofs.Declared.{declared_kept, get_longer}
-use Rattle.script_state.proofs.Defined.{sort_defined, function_defined}
+use Rattle.script_state.proofs.Defined.{sort_defined}
 use Rattle.script_state.proofs.Marking.{plain_grows}
-use Rattle.script_state.proofs.Asserting.{standing_state, declared_state, named_state, defined_state, grown_state, asserted_state}
-use Rattle.script_state.proofs.Cases.{Holds, of_step}
+use Rattle.script_state.proofs.Leveling.{pushed_is, popped_is, popped_signatures, begun_state, ended_state, emptied_state}
+use Rattle.script_state.proofs.Asserting.{opted_state, standing_state, declared_state, named_state, defined_state, grown_state, asserted_state}
+use Rattle.script_state.proofs.Cases.{of_step}
 
 -- the terms go on, and each declaration and each assertion keeps its number
 pub record Keeps (old new : StateValue) : Type 0 where
@@ -62,13 +67,13 @@ module _ (s : StateValue) (is : IsState s) where
 
   pub defined_goes_on : (n : CommandName) (es : Sexps) (w : SymbolsValue) (terms : TermsValue) → define s.symbols s.terms n es ≡ Ok (w, terms) → Goes (defining s (Ok (w, terms)))
   defined_goes_on n es w terms e =
-      let one = function_defined s.symbols s.terms w terms n es e in
-      let on : GoOn s.symbols.signatures s.terms terms = term_longer s.symbols s.terms terms one.1 one.2 is.bodies one.3 in
-      let grown = grown_state s terms on.grows is (on.list is.terms) in
-      subst (λ (u : SymbolsValue). Goes (defining s (Ok (u, terms)))) (sym one.4)
+      let one : IsNext s.symbols w s.terms terms = define_adds s.symbols s.terms is.bodies w terms n es e in
+      let over = subst (λ (u : SymbolsValue). AreOver u.live terms.nodes u.definitions) one.symbols (define_is_over s.symbols w s.terms terms n es is.terms is.bodies is.closed.bodies e) in
+      let grown = grown_state s terms one.terms.grows is (one.terms.list is.terms) in
+      subst (λ (u : SymbolsValue). Goes (defining s (Ok (u, terms)))) (sym one.symbols)
       (record {
-        state = defined_state s terms one.0 one.2 grown (term_is_held s.symbols s.terms terms one.1 one.2 is.bodies one.3);
-        keeps = record { behind = on.grows.behind; nodes = on.grows.nodes; signatures = λ d r h. h; assertions = λ a u h. h };
+        state = defined_state s terms one.name _ grown one.held over;
+        keeps = record { behind = one.terms.grows.behind; nodes = one.terms.grows.nodes; signatures = λ d r h. h; assertions = λ a u h. h };
       })
 
   by_asserting : (x : Sexp) (t : ℕ) (w : TermsValue) → term_of s.symbols s.terms x ≡ Ok (t, w) → objection w.nodes t ≡ None → Goes (asserting_unless None s t w)
@@ -76,20 +81,44 @@ module _ (s : StateValue) (is : IsState s) where
       let on : GoOn s.symbols.signatures s.terms w = term_longer s.symbols s.terms w x t is.bodies e in
       let grown = grown_state s w on.grows is (on.list is.terms) in
       record {
-        state = asserted_state (record { symbols = s.symbols; terms = w; scopes = s.scopes; standing = s.standing }) t (asserted s.scopes t None) grown (term_is_held s.symbols s.terms w x t is.bodies e) plain refl;
+        state = asserted_state (record { symbols = s.symbols; terms = w; scopes = s.scopes; options = s.options; standing = s.standing }) t (asserted s.scopes t None) grown (term_is_held s.symbols s.terms w x t is.bodies e) (term_is_over s.symbols s.terms w x t is.terms is.bodies is.closed.bodies e) plain refl;
         keeps = record { behind = on.grows.behind; nodes = on.grows.nodes; signatures = λ d r e. e; assertions = λ a u e. get_longer s.scopes.terms (t ∷ []) a u e };
       }
+
+  -- no term, no declaration and no assertion goes
+  goes_same : (to : StateValue) → IsState to → to.terms ≡ s.terms → to.symbols.signatures ≡ s.symbols.signatures → to.scopes.terms ≡ s.scopes.terms → GoesOn s to
+  goes_same to state terms signatures assertions = record {
+    state = state;
+    keeps = record {
+      behind = [];
+      nodes = ap (λ (t : TermsValue). t.nodes) terms ∙ sym (append-nil s.terms.nodes);
+      signatures = λ d r e. rw signatures e;
+      assertions = λ a t e. rw assertions e;
+    };
+  }
+
+  by_pushing : (n : ℕ) (v : ScopesValue) → pushed s.scopes n ≡ Ok v → Goes (pushing_by s n (Ok v))
+  by_pushing n v e = goes_same _ (begun_state s n v is s.options None e) refl refl (ap (λ (u : ScopesValue). u.terms) (pushed_is s.scopes v n e).1)
+
+  by_popping : (n : ℕ) (v : ScopesValue) → popped s.scopes n ≡ Ok v → Goes (popping_by s n (Ok v))
+  by_popping n v e = goes_same _ (ended_state s n v is s.options None e) refl (popped_signatures s.symbols n) (ap (λ (u : ScopesValue). u.terms) (popped_is s.scopes v n e).1)
 
   pub step_goes_on : (r : Reading) → GoesOn s (step s r).1
   step_goes_on r = of_step s Goes (record {
     refused = λ e. record { state = is; keeps = same };
     kept = record { state = is; keeps = same };
-    checked = record { state = standing_state s None is; keeps = record { behind = []; nodes = sym (append-nil s.terms.nodes); signatures = λ d r e. e; assertions = λ a t e. e } };
+    checked = goes_same _ (standing_state s None is) refl refl refl;
     declared = by_declaring;
     named = by_naming;
     defined = defined_goes_on;
     asserted = by_asserting;
-  }) r
+    said = λ x. record { state = is; keeps = same };
+    set = λ o. goes_same _ (opted_state s o s.standing is) refl refl refl;
+    begun = by_pushing;
+    ended = by_popping;
+    emptied = λ o. goes_same _ (emptied_state s o is) refl refl refl;
+    modelled = λ a b. record { state = is; keeps = same };
+  }) r (λ e. record { state = is; keeps = same })
 
 pub step_state : (s : StateValue) (r : Reading) → IsState s → IsState (step s r).1
 step_state s r is = (step_goes_on s is r).state

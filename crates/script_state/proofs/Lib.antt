@@ -1,11 +1,15 @@
+pub mod Closing
+pub mod Standing
 pub mod Lists
 pub mod Declared
 pub mod Defined
 pub mod Marking
 pub mod Asserting
+pub mod Leveling
 pub mod Cases
 pub mod Keeping
 pub mod Obeying
+pub mod Telling
 pub mod Applying
 pub mod Deciding
 pub mod Words

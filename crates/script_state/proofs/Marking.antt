@@ -40,6 +40,10 @@ plain_pushed nodes marks b have lt e = record { within = omega (arith, length-ap
       (λ le. let q : t ≡ length marks = omega (arith, length-append marks (b ∷ []), h) in rw q (get_or-append_seam marks b [] false ∙ e))
       (cases_lt t (length marks))
 
+-- no term is kept
+pub plain_none : (nodes : List Node) → HavePlain nodes []
+plain_none nodes = record { within = omega arith; each = λ t lt. absurd (omega (arith, lt)) }
+
 -- more terms
 pub plain_grown : (nodes more : List Node) (marks : List Bool) → HavePlain nodes marks → HavePlain (nodes ++ more) marks
 plain_grown nodes more marks have = record {

@@ -1,5 +1,5 @@
 -- What each command does, by its name and its arguments.
-use Rattle.std.proofs.Common.{◌≡◌, true, false, List, [], ◌∷◌, refl, sym, subst, Option, Some, None, Result}
+use Rattle.std.proofs.Common.{◌≡◌, true, false, List, [], ◌∷◌, refl, sym, subst, ◌⊎◌, inl, inr, Option, Result}
 use Rattle.std.specs.Prelude.{option_to_list}
 use Rattle.std.specs.declared.alloc.AllocError.{AllocError}
 use Rattle.smt_text.specs.declared.token.CommandName.{CommandName}
@@ -14,10 +14,11 @@ use Rattle.smt_build.specs.Declaring.{declare}
 use Rattle.smt_build.specs.Defining.{define, define_sort}
 use Rattle.smt_build.specs.Terms.{term_of}
 use Rattle.script_state.specs.declared.answer.Answer.{Answer}
-use Rattle.script_state.specs.declared.answer.Answer.TheVariants.{Done}
+use Rattle.script_state.specs.declared.answer.Answer.TheVariants.{Done, Exit}
 use Rattle.script_state.specs.States.{StateValue}
 use Rattle.script_state.specs.declared.error_text.ErrorText.TheVariants.{NotSupported}
-use Rattle.script_state.specs.Steps.{Step, choosing, declaring, naming_sort, defining, asserting, checking, refuse, obey, Answers}
+use Rattle.script_state.specs.Options.{first_options}
+use Rattle.script_state.specs.Steps.{Step, choosing, declaring, naming_sort, defining, asserting, checking, saying, unsupported, setting_option, telling_option, telling_info, echoing, levels_meant, pushing, popping, resetting, modelling, refuse, obey, Answers}
 
 module _ (s : StateValue) (signs : List Sign) (result : Result Answer AllocError) (new : StateValue) where
   -- the arguments stand at the spans of a command that is not left out
@@ -85,6 +86,58 @@ module _ (s : StateValue) (signs : List Sign) (result : Result Answer AllocError
       → Obeys k
   obeys_logic k span e ensures = subst Obeys (sym e) (λ es stand. logic_argument span es (stand refl) ensures)
 
+  -- one argument, that of an option, of information or of `echo`
+  option_argument : (span : Span) (es : Sexps) → AllStand signs (span ∷ []) es
+      → ((e : Sexp) → Stands signs span e → Answers (telling_option s e) result s new)
+      → Answers (obey s name.GetOption es) result s new
+  unfolding obey
+  option_argument span none stand ensures = absurd stand
+  option_argument span (more e none) stand ensures = ensures e stand.0
+  option_argument span (more e (more f es)) stand ensures = absurd stand.1
+
+  pub obeys_get_option : (k : Command) (span : Span) → k ≡ command.GetOption span
+      → ((e : Sexp) → Stands signs span e → Answers (telling_option s e) result s new)
+      → Obeys k
+  obeys_get_option k span e ensures = subst Obeys (sym e) (λ es stand. option_argument span es (stand refl) ensures)
+
+  information_argument : (span : Span) (es : Sexps) → AllStand signs (span ∷ []) es
+      → ((e : Sexp) → Stands signs span e → Answers (telling_info s e) result s new)
+      → Answers (obey s name.GetInfo es) result s new
+  unfolding obey
+  information_argument span none stand ensures = absurd stand
+  information_argument span (more e none) stand ensures = ensures e stand.0
+  information_argument span (more e (more f es)) stand ensures = absurd stand.1
+
+  pub obeys_get_info : (k : Command) (span : Span) → k ≡ command.GetInfo span
+      → ((e : Sexp) → Stands signs span e → Answers (telling_info s e) result s new)
+      → Obeys k
+  obeys_get_info k span e ensures = subst Obeys (sym e) (λ es stand. information_argument span es (stand refl) ensures)
+
+  echo_argument : (span : Span) (es : Sexps) → AllStand signs (span ∷ []) es
+      → ((e : Sexp) → Stands signs span e → Answers (echoing s e) result s new)
+      → Answers (obey s name.Echo es) result s new
+  unfolding obey
+  echo_argument span none stand ensures = absurd stand
+  echo_argument span (more e none) stand ensures = ensures e stand.0
+  echo_argument span (more e (more f es)) stand ensures = absurd stand.1
+
+  pub obeys_echo : (k : Command) (span : Span) → k ≡ command.Echo span
+      → ((e : Sexp) → Stands signs span e → Answers (echoing s e) result s new)
+      → Obeys k
+  obeys_echo k span e ensures = subst Obeys (sym e) (λ es stand. echo_argument span es (stand refl) ensures)
+
+  option_arguments : (span : Span) (spans : List Span) (es : Sexps) → AllStand signs (span ∷ spans) es
+      → ((e : Sexp) (vs : Sexps) → Stands signs span e → AllStand signs spans vs → Answers (setting_option s e vs) result s new)
+      → Answers (obey s name.SetOption es) result s new
+  unfolding obey
+  option_arguments span spans none stand ensures = absurd stand
+  option_arguments span spans (more e es) stand ensures = ensures e es stand.0 stand.1
+
+  pub obeys_set_option : (k : Command) (keyword : Span) (value : Option Span) → k ≡ command.SetOption keyword value
+      → ((e : Sexp) (vs : Sexps) → Stands signs keyword e → AllStand signs (option_to_list value) vs → Answers (setting_option s e vs) result s new)
+      → Obeys k
+  obeys_set_option k keyword value e ensures = subst Obeys (sym e) (λ es stand. option_arguments keyword (option_to_list value) es (stand refl) ensures)
+
   info_arguments : (span : Span) (spans : List Span) (es : Sexps) → AllStand signs (span ∷ spans) es → Answers (Done, s) result s new → Answers (obey s name.SetInfo es) result s new
   unfolding obey
   info_arguments span spans none stand ensures = absurd stand
@@ -101,6 +154,42 @@ module _ (s : StateValue) (signs : List Sign) (result : Result Answer AllocError
   pub obeys_check : (k : Command) → k ≡ command.CheckSat → Answers (checking s) result s new → Obeys k
   obeys_check k e ensures = subst Obeys (sym e) (λ es stand. no_argument es (stand refl) ensures)
 
+  -- the number of levels, which may be left out
+  pub obeys_push : (k : Command) (levels : Option Span) → k ≡ command.Push levels
+      → ((es : Sexps) → AllStand signs (option_to_list levels) es → Answers (pushing s (levels_meant es)) result s new)
+      → Obeys k
+  unfolding obey
+  obeys_push k levels e ensures = subst Obeys (sym e) (λ es stand. ensures es (stand refl))
+
+  pub obeys_pop : (k : Command) (levels : Option Span) → k ≡ command.Pop levels
+      → ((es : Sexps) → AllStand signs (option_to_list levels) es → Answers (popping s (levels_meant es)) result s new)
+      → Obeys k
+  unfolding obey
+  obeys_pop k levels e ensures = subst Obeys (sym e) (λ es stand. ensures es (stand refl))
+
+  -- commands that take no arguments
+  pub obeys_reset : (k : Command) → k ≡ command.Reset → Answers (resetting s first_options) result s new → Obeys k
+  unfolding obey
+  obeys_reset k e ensures = subst Obeys (sym e) (λ es stand. ensures)
+
+  pub obeys_reset_assertions : (k : Command) → k ≡ command.ResetAssertions → Answers (resetting s s.options) result s new → Obeys k
+  unfolding obey
+  obeys_reset_assertions k e ensures = subst Obeys (sym e) (λ es stand. ensures)
+
+  pub obeys_get_model : (k : Command) → k ≡ command.GetModel → Answers (modelling s) result s new → Obeys k
+  unfolding obey
+  obeys_get_model k e ensures = subst Obeys (sym e) (λ es stand. ensures)
+
+  pub obeys_exit : (k : Command) → k ≡ command.Exit → Answers (Exit, s) result s new → Obeys k
+  unfolding obey
+  obeys_exit k e ensures = subst Obeys (sym e) (λ es stand. ensures)
+
+  pub obeys_unsupported : Answers (saying s unsupported) result s new → (k : Command) → (k ≡ command.GetAssertions) ⊎ (k ≡ command.GetAssignment) ⊎ (k ≡ command.GetProof) → Obeys k
+  unfolding obey
+  obeys_unsupported ensures k (inl e) = subst Obeys (sym e) (λ es stand. ensures)
+  obeys_unsupported ensures k (inr (inl e)) = subst Obeys (sym e) (λ es stand. ensures)
+  obeys_unsupported ensures k (inr (inr e)) = subst Obeys (sym e) (λ es stand. ensures)
+
 module _ (s : StateValue) where
   left_out : (n : CommandName) (es : Sexps) → true ≡ is_left_out n → ◌≡◌ {A = Step} (obey s n es) (refuse s NotSupported)
   unfolding obey
@@ -111,20 +200,17 @@ module _ (s : StateValue) where
   left_out name.DeclareDatatypes es e = refl
   left_out _ es e = absurd (let z : ⊥ = cc in z)
 
-  -- every other command is not supported
-  pub obeys_other : (k : Command)
-      → ((span : Span) → k ≡ command.Assert span → ⊥) → (k ≡ command.CheckSat → ⊥) → ((n t : Span) → k ≡ command.DeclareConst n t → ⊥)
-      → ((n args t : Span) → k ≡ command.DeclareFun n args t → ⊥) → ((n ps t b : Span) → k ≡ command.DefineFun n ps t b → ⊥) → ((n ps t : Span) → k ≡ command.DefineSort n ps t → ⊥)
-      → ((keyword : Span) (value : Option Span) → k ≡ command.SetInfo keyword value → ⊥) → ((span : Span) → k ≡ command.SetLogic span → ⊥)
-      → is_not_supported k ≡ is_left_out (name_of k) → (es : Sexps) → ◌≡◌ {A = Step} (obey s (name_of k) es) (refuse s NotSupported)
+  -- commands that are not supported
+  abbrev pub IsOther : Command → Type 0
+  IsOther k = ((terms : Span) × (k ≡ command.CheckSatAssuming terms)) ⊎ (k ≡ command.GetUnsatAssumptions) ⊎ (k ≡ command.GetUnsatCore) ⊎ ((terms : Span) × (k ≡ command.GetValue terms)) ⊎ ((n : CommandName) × (k ≡ command.NotSupported n))
+
+  abbrev IsRefused : Command → Type 0
+  IsRefused k = is_not_supported k ≡ is_left_out (name_of k) → (es : Sexps) → ◌≡◌ {A = Step} (obey s (name_of k) es) (refuse s NotSupported)
+
+  pub obeys_other : (k : Command) → IsOther k → IsRefused k
   unfolding obey
-  obeys_other (command.Assert span) a b c d f g h i known es = absurd (a span refl)
-  obeys_other command.CheckSat a b c d f g h i known es = absurd (b refl)
-  obeys_other (command.DeclareConst n t) a b c d f g h i known es = absurd (c n t refl)
-  obeys_other (command.DeclareFun n args t) a b c d f g h i known es = absurd (d n args t refl)
-  obeys_other (command.DefineFun n ps t x) a b c d f g h i known es = absurd (f n ps t x refl)
-  obeys_other (command.DefineSort n ps t) a b c d f g h i known es = absurd (g n ps t refl)
-  obeys_other (command.SetInfo keyword value) a b c d f g h i known es = absurd (h keyword value refl)
-  obeys_other (command.SetLogic span) a b c d f g h i known es = absurd (i span refl)
-  obeys_other (command.NotSupported n) a b c d f g h i known es = left_out n es known
-  obeys_other _ a b c d f g h i known es = refl
+  obeys_other k (inl e) = subst IsRefused (sym e.1) (λ known es. refl)
+  obeys_other k (inr (inl e)) = subst IsRefused (sym e) (λ known es. refl)
+  obeys_other k (inr (inr (inl e))) = subst IsRefused (sym e) (λ known es. refl)
+  obeys_other k (inr (inr (inr (inl e)))) = subst IsRefused (sym e.1) (λ known es. refl)
+  obeys_other k (inr (inr (inr (inr e)))) = subst IsRefused (sym e.1) (λ known es. left_out e.0 es known)

@@ -1,5 +1,5 @@
 -- Which token stands at the front of a span.
-use Rattle.std.proofs.Common.{◌≡◌, ℕ, zero, suc, ◌<◌, ◌≤◌, Bool, true, false, List, [], ◌∷◌, ◌++◌, length, get_or, drop, take, refl, sym, ap, ◌∙◌, arith}
+use Rattle.std.proofs.Common.{◌≡◌, ℕ, zero, suc, ◌<◌, Bool, false, List, [], ◌∷◌, ◌++◌, length, get_or, drop, take, refl, ap, ◌∙◌, arith}
 use Rattle.smt_text.specs.Lexicon.{lexemes_of}
 use Rattle.smt_text.specs.declared.token.Token.{Token}
 use Rattle.smt_text.specs.declared.token.TokenKind.{TokenKind}

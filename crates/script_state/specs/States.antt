@@ -1,28 +1,60 @@
 -- The state of a session (SMT-LIB 2.6, section 4.1).
-use Rattle.std.specs.Prelude.{◌≡◌, ℕ, ◌<◌, ◌^◌, Bool, true, List, [], length, slice_get, All, Option, Some, None}
+use Rattle.std.specs.Prelude.{◌≡◌, ℕ, ◌<◌, ◌≤◌, ◌^◌, Bool, true, List, [], length, slice_get, take, All, AllPairs, Option, Some, None}
 use Rattle.std.specs.List.{AllByRecursion}
 use Rattle.smt_terms.specs.declared.sort.Sort.{Sort}
 use Rattle.smt_terms.specs.declared.sort.Sort.TheVariants as sort
 use Rattle.smt_terms.specs.declared.sort.Signature.{Signature}
+use Rattle.smt_terms.specs.declared.node.Node.{Node}
 use Rattle.smt_terms.specs.Terms.{TermsValue, IsSort, IsTermList, no_terms, sort_of}
 use Rattle.scope_selectors.specs.declared.live.Live.{Live}
-use Rattle.scope_selectors.specs.Scopes.{ScopesValue, AreScopes, no_scopes}
-use Rattle.smt_build.specs.Names.{SymbolsValue, AreDeclared, AreBodies, no_symbols}
+use Rattle.scope_selectors.specs.Scopes.{ScopesValue, AreScopes, no_scopes, made_within}
+use Rattle.smt_build.specs.declared.definition.Definition.{Definition}
 use Rattle.smt_build.specs.declared.symbols.LiveName.{LiveName}
+use Rattle.smt_build.specs.declared.symbols.Level.{Level}
+use Rattle.smt_build.specs.Names.{SymbolsValue, Meanings, AreDeclared, AreBodies, no_symbols}
+use Rattle.smt_build.specs.Scoped.{is_over, AreOver}
 use Rattle.script_state.specs.declared.answer.Verdict.{Verdict}
+use Rattle.script_state.specs.declared.options.Options.{Options}
+use Rattle.script_state.specs.Options.{first_options}
 use Rattle.script_state.specs.Plain.{is_plain, is_plain_sort, HavePlain}
 
--- the names and declarations, the terms, the levels with their assertions, and the verdict of the check that stands
+-- the names and declarations with their levels, the terms, the live assertions with their levels, the options, and the
+-- verdict of the check that stands
 pub record StateValue : Type 0 where
   pub symbols : SymbolsValue
   pub terms : TermsValue
   pub scopes : ScopesValue
+  pub options : Options
   pub standing : Option Verdict
 
--- each declaration that was made is live
-pub record AreAllLive (v : SymbolsValue) : Type 0 where
-  pub count : length v.live ≡ length v.signatures
-  pub each : (k : ℕ) (l : LiveName) → slice_get v.live k ≡ Some l → l.declaration ≡ k
+-- the live names stand for declarations that were made, in the order in which they were
+pub record AreLive (v : SymbolsValue) : Type 0 where
+  pub rising : AllPairs (λ (a b : LiveName). a.declaration < b.declaration) v.live
+  pub made : All (λ (l : LiveName). l.declaration < length v.signatures) v.live
+
+-- the bodies of these definitions and the terms of these assertions are over these live declarations
+pub record IsClosed (nodes : List Node) (live : List LiveName) (definitions : Meanings Definition) (asserted : List Live) : Type 0 where
+  pub bodies : AreOver live nodes definitions
+  pub terms : All (λ (a : Live). is_over live nodes a.term ≡ true) asserted
+
+-- the level above so many others begins with names, definitions and assertions that stand, and these are closed
+pub record IsLevel (v : StateValue) (k : ℕ) (l : Level) : Type 0 where
+  pub names : l.names ≤ length v.symbols.live
+  pub definitions : l.definitions ≤ length v.symbols.definitions
+  pub sorts : l.sorts ≤ length v.symbols.sorts
+  pub closed : IsClosed v.terms.nodes (take l.names v.symbols.live) (take l.definitions v.symbols.definitions) (made_within k v.scopes.live)
+
+-- a level begins with all that the one before it began with
+pub record IsBehind (a b : Level) : Type 0 where
+  pub names : a.names ≤ b.names
+  pub definitions : a.definitions ≤ b.definitions
+  pub sorts : a.sorts ≤ b.sorts
+
+-- names and assertions have the same levels
+pub record AreLevels (v : StateValue) : Type 0 where
+  pub count : length v.symbols.levels ≡ v.scopes.levels
+  pub rising : AllPairs IsBehind v.symbols.levels
+  pub each : (k : ℕ) (l : Level) → slice_get v.symbols.levels k ≡ Some l → IsLevel v k l
 
 -- the signature of a constant that is a Bool, or a word of 1 to 128 bits
 pub record IsPlainConstant (s : Signature) : Type 0 where
@@ -34,12 +66,13 @@ pub record IsPlainConstant (s : Signature) : Type 0 where
 abbrev pub IsPlainName : List ℕ × Sort → Type 0
 IsPlainName m = (is_plain_sort m.1 ≡ true) × IsSort m.1
 
--- The terms are a list of well-sorted terms and name declarations as they were made, which are constants and live; names of
--- sorts are plain, and the bodies of definitions are terms; each live assertion is a plain term of sort Bool.
+-- The terms are a list of well-sorted terms and name declarations as they were made, which are constants; names of sorts
+-- are plain, and the bodies of definitions are terms; each live assertion is a plain term of sort Bool. What is live names
+-- live declarations alone, and so it will where levels are popped.
 pub record IsState (v : StateValue) : Type 0 where
   pub terms : IsTermList v.terms.nodes
   pub scopes : AreScopes v.scopes
-  pub live : AreAllLive v.symbols
+  pub live : AreLive v.symbols
   pub constants : All IsPlainConstant v.symbols.signatures
   pub declared : AreDeclared v.symbols.signatures v.terms.nodes
   pub bodies : AreBodies (length v.terms.nodes) v.symbols.definitions
@@ -47,14 +80,16 @@ pub record IsState (v : StateValue) : Type 0 where
   pub held : All (λ (a : Live). a.term < length v.terms.nodes) v.scopes.live
   pub truths : All (λ (a : Live). sort_of v.terms.nodes a.term ≡ sort.Bool) v.scopes.live
   pub plain : All (λ (a : Live). is_plain v.terms.nodes a.term ≡ true) v.scopes.live
+  pub closed : IsClosed v.terms.nodes v.symbols.live v.symbols.definitions v.scopes.live
+  pub levels : AreLevels v
 
--- nothing declared, no terms, nothing asserted, and no check that stands
+-- nothing declared, no terms, nothing asserted, the first options, and no check that stands
 abbrev pub no_state : StateValue
-no_state = record { symbols = no_symbols; terms = no_terms (2 ^ 24); scopes = no_scopes; standing = None }
+no_state = record { symbols = no_symbols; terms = no_terms (2 ^ 24); scopes = no_scopes; options = first_options; standing = None }
 
 -- a check with this verdict stands
 abbrev pub concluded : StateValue → Verdict → StateValue
-concluded s v = record { symbols = s.symbols; terms = s.terms; scopes = s.scopes; standing = Some v }
+concluded s v = record { symbols = s.symbols; terms = s.terms; scopes = s.scopes; options = s.options; standing = Some v }
 
 -- ---- a state and its terms apart
 
@@ -62,12 +97,13 @@ concluded s v = record { symbols = s.symbols; terms = s.terms; scopes = s.scopes
 pub record RestValue : Type 0 where
   pub symbols : SymbolsValue
   pub scopes : ScopesValue
+  pub options : Options
   pub standing : Option Verdict
   pub marks : List Bool
 
 -- the state that has these terms
 abbrev pub with_terms : RestValue → TermsValue → StateValue
-with_terms r terms = record { symbols = r.symbols; terms = terms; scopes = r.scopes; standing = r.standing }
+with_terms r terms = record { symbols = r.symbols; terms = terms; scopes = r.scopes; options = r.options; standing = r.standing }
 
 -- the terms and the rest are those of a state
 pub record Fit (terms : TermsValue) (r : RestValue) : Type 0 where

@@ -4,19 +4,30 @@
 //! [`state::State::apply`] takes a chunk of the script. Its answer and the new state are those of the step that the
 //! definitions in `specs/` give for what the chunk reads as; a refused command is told its first fault, in the order of
 //! chunk, tokens, depth, form, and names, sorts and terms, and leaves the state as it was. A solver and a checker of proofs
-//! drive the same state, so that a command is refused in both or in none. Obeyed here are `set-logic`, `set-info`,
-//! `declare-const` of a Bool or a word, `assert` of a term over Bools and words, and `check-sat`; every other command that
-//! has its form is not supported. Each asserted term is plain: a check can give it bits. [`state::State::into_parts`] lends
-//! the terms to a log whose steps make terms. The crate stands on `smt_build` and `scope_selectors`, and on the crates
-//! that these stand on.
+//! drive the same state, so that a command is refused in both or in none. Every command is obeyed but those that need names
+//! of assertions, assumptions, cores or values of terms, and those of other logics, which are not supported: declarations and
+//! definitions of Bools and words, assertions and checks of plain terms, to which a check can give bits, levels
+//! ([`state::State`] keeps, for each, what stands once it ends), options and information, `echo`, `get-model` and `exit`. A
+//! line that a command says is part of its answer; a model and `exit` are answers of their own, which the session prints and
+//! ends by. [`state::State::into_parts`] lends the terms to a log whose steps make terms. The crate stands on `smt_build` and
+//! `scope_selectors`, and on the crates that these stand on.
 #![tactic(auto)]
 
 pub mod answer;
+mod assertions;
+mod commands;
 pub mod error_text;
+mod information;
 pub mod laws;
+mod levels;
 mod logic;
+pub mod options;
 mod plain;
+mod saying;
+#[cfg(test)]
+mod session_tests;
 pub mod state;
 #[cfg(test)]
 mod tests;
 mod whole;
+mod word;

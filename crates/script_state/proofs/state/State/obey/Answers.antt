@@ -1,6 +1,6 @@
 use Rattle.std.proofs.Common.{Ok, refl}
-use Rattle.script_state.specs.declared.answer.Answer.TheVariants.{Done}
-use Rattle.script_state.proofs.Obeying.{obeys_declaration, obeys_function, obeys_sort, obeys_definition, obeys_assertion, obeys_check, obeys_info, obeys_logic, obeys_other}
+use Rattle.script_state.specs.declared.answer.Answer.TheVariants.{Done, Exit}
+use Rattle.script_state.proofs.Obeying.{obeys_declaration, obeys_function, obeys_sort, obeys_definition, obeys_assertion, obeys_check, obeys_info, obeys_logic, obeys_set_option, obeys_get_option, obeys_get_info, obeys_echo, obeys_push, obeys_pop, obeys_reset, obeys_reset_assertions, obeys_get_model, obeys_exit, obeys_unsupported, obeys_other}
 use Rattle.script_state.proofs.state.State.obey.Goals as goal
 
 pub returns-in-DeclareConst : goal.returns-in-DeclareConst
@@ -27,5 +27,38 @@ returns-in-SetInfo c = obeys_info c.args.self.now _ (Ok Done) c.args.self.now _ 
 pub returns-in-SetLogic : goal.returns-in-SetLogic
 returns-in-SetLogic c = obeys_logic c.args.self.now _ (Ok c.set_logic.result) c.args.self.now _ _ c.in-SetLogic.is (c.set_logic.ensures c.args.self.now)
 
-pub returns-in_default : goal.returns-in_default
-returns-in_default c = λ es stand. obeys_other c.args.self.now c.args.command.now c.in_default.not-Assert c.in_default.not-CheckSat c.in_default.not-DeclareConst c.in_default.not-DeclareFun c.in_default.not-DefineFun c.in_default.not-DefineSort c.in_default.not-SetInfo c.in_default.not-SetLogic c.requires.known es
+pub returns-in-SetOption : goal.returns-in-SetOption
+returns-in-SetOption c = obeys_set_option _ _ _ _ _ _ _ c.in-SetOption.is c.set_option.ensures
+
+pub returns-in-GetOption : goal.returns-in-GetOption
+returns-in-GetOption c = obeys_get_option _ _ _ _ _ _ c.in-GetOption.is c.get_option.ensures
+
+pub returns-in-GetInfo : goal.returns-in-GetInfo
+returns-in-GetInfo c = obeys_get_info _ _ _ _ _ _ c.in-GetInfo.is c.get_info.ensures
+
+pub returns-in-Echo : goal.returns-in-Echo
+returns-in-Echo c = obeys_echo c.args.self.now _ _ c.args.self.now _ _ c.in-Echo.is (c.echo.ensures c.args.self.now)
+
+pub returns-in-Push : goal.returns-in-Push
+returns-in-Push c = obeys_push _ _ _ _ _ _ c.in-Push.is c.push.ensures
+
+pub returns-in-Pop : goal.returns-in-Pop
+returns-in-Pop c = obeys_pop c.args.self.now _ (Ok c.pop.result) c.pop.new.self _ _ c.in-Pop.is c.pop.ensures
+
+pub returns-in-Reset : goal.returns-in-Reset
+returns-in-Reset c = obeys_reset c.args.self.now _ (Ok c.reset.result) c.reset.new.self _ c.in-Reset.is (rw c.first.ensures at c.reset.ensures)
+
+pub returns-in-ResetAssertions : goal.returns-in-ResetAssertions
+returns-in-ResetAssertions c = obeys_reset_assertions c.args.self.now _ (Ok c.reset_assertions.result) c.reset_assertions.new.self _ c.in-ResetAssertions.is c.reset_assertions.ensures
+
+pub returns-in-GetModel : goal.returns-in-GetModel
+returns-in-GetModel c = obeys_get_model c.args.self.now _ (Ok c.get_model.result) c.args.self.now _ c.in-GetModel.is c.get_model.ensures
+
+pub returns-in-GetAssertions : goal.returns-in-GetAssertions
+returns-in-GetAssertions c = obeys_unsupported _ _ _ _ (c.say_unsupported.ensures c.args.self.now) _ c.in-GetAssertions.is
+
+pub returns-in-Exit : goal.returns-in-Exit
+returns-in-Exit c = obeys_exit c.args.self.now _ (Ok Exit) c.args.self.now _ c.in-Exit.is refl
+
+pub returns-in-CheckSatAssuming : goal.returns-in-CheckSatAssuming
+returns-in-CheckSatAssuming c = λ es stand. obeys_other c.args.self.now c.args.command.now c.in-CheckSatAssuming.is c.requires.known es

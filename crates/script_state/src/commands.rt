@@ -1,0 +1,105 @@
+//! Whole commands.
+
+ghost use Rattle.std.specs.Prelude.{◌≡◌, ◌+◌, ◌<◌, ◌^◌, Ok, false};
+ghost use Rattle.smt_syntax.specs.Sexps.{Sexps, signs_of};
+ghost use Rattle.smt_syntax.specs.Spans.{AllStand};
+ghost use Rattle.smt_syntax.specs.Commands.{name_of, spans_of, is_left_out, is_not_supported};
+ghost use Rattle.script_state.specs.Steps.{modelling, obey, Answers, Applies};
+
+use crate::answer::{Answer, Verdict};
+use crate::error_text::{ErrorText, syntax_error};
+use crate::logic::set_logic;
+use crate::options::Options;
+use crate::saying::{echo, say_unsupported};
+use crate::state::State;
+use crate::whole::is_list;
+use smt_syntax::command::{Command, SyntaxError, read_command};
+use smt_text::chunk::{Chunk, ChunkKind};
+use smt_text::token::Tokens;
+use smt_text::tokens::{TokensError, tokens};
+use std::alloc::{AllocError, Global};
+
+impl State {
+    /// The model of the check that stands is to be printed: the option's fault comes first.
+    fn get_model(&self) -> Answer
+        ensures { Answers (modelling self.now) (Ok result) self.now self.now }
+    {
+        if !self.options.produce_models {
+            return Answer::Refused(ErrorText::OptionOff);
+        }
+        match self.standing {
+            Some(Verdict::Sat) => Answer::Model,
+            _ => Answer::Refused(ErrorText::NoModel),
+        }
+    }
+
+    /// Does what the command says.
+    fn obey(
+        &mut self,
+        alloc: Global,
+        tokens: &Tokens<'_>,
+        command: &Command,
+    ) -> Result<Answer, AllocError>
+        requires arguments { (es : Sexps) × (is_left_out (name_of command.now) ≡ false → AllStand (signs_of tokens.now) (spans_of command.now) es) }
+        requires known { is_not_supported command.now ≡ is_left_out (name_of command.now) }
+        requires assertions { self.old.scopes.made + 1 < 2 ^ 32 }
+        ensures { (es : Sexps) → (is_left_out (name_of command.now) ≡ false → AllStand (signs_of tokens.now) (spans_of command.now) es)
+            → Answers (obey self.old (name_of command.now) es) result self.old self.new }
+    {
+        match command {
+            Command::DeclareConst { .. } => self.declare(alloc, tokens, command),
+            Command::DeclareFun { .. } => self.declare(alloc, tokens, command),
+            Command::DefineSort { .. } => self.define_sort(alloc, tokens, command),
+            Command::DefineFun { .. } => self.define(alloc, tokens, command),
+            Command::Assert { term } => self.assert(alloc, tokens, *term),
+            Command::CheckSat => Ok(self.check()),
+            Command::SetInfo { .. } => Ok(Answer::Done),
+            Command::SetLogic { logic } => Ok(set_logic(tokens, *logic)),
+            Command::SetOption { keyword, value } => {
+                self.set_option(alloc, tokens, *keyword, *value)
+            }
+            Command::GetOption { keyword } => self.get_option(alloc, tokens, *keyword),
+            Command::GetInfo { keyword } => self.get_info(alloc, tokens, *keyword),
+            Command::Echo { text } => echo(alloc, tokens, *text),
+            Command::Push { levels } => self.push(tokens, *levels),
+            Command::Pop { levels } => Ok(self.pop(tokens, *levels)),
+            Command::Reset => Ok(self.reset(Options::first())),
+            Command::ResetAssertions => Ok(self.reset_assertions()),
+            Command::GetModel => Ok(self.get_model()),
+            Command::GetAssertions | Command::GetAssignment | Command::GetProof => {
+                say_unsupported(alloc)
+            }
+            Command::Exit => Ok(Answer::Exit),
+            Command::CheckSatAssuming { .. }
+            | Command::GetUnsatAssumptions
+            | Command::GetUnsatCore
+            | Command::GetValue { .. }
+            | Command::NotSupported { .. } => Ok(Answer::Refused(ErrorText::NotSupported)),
+        }
+    }
+
+    /// Does what a whole command says.
+    pub(crate) fn apply_command(
+        &mut self,
+        alloc: Global,
+        chunk: &Chunk,
+    ) -> Result<Answer, AllocError>
+        requires balanced { chunk.now.kind ≡ ChunkKind.Balanced }
+        requires assertions { self.old.scopes.made + 1 < 2 ^ 32 }
+        ensures { Applies chunk.now result self.old self.new }
+    {
+        let all = match tokens(alloc, chunk) {
+            Ok(all) => all,
+            Err(TokensError::NoMemory) => return Err(AllocError),
+            Err(TokensError::Bad(_)) => return Ok(Answer::Refused(ErrorText::BadToken)),
+        };
+        if !is_list(&all) {
+            return Ok(Answer::Refused(ErrorText::MalformedCommand));
+        }
+        match read_command(alloc, &all) {
+            Ok(command) => self.obey(alloc, &all, &command),
+            Err(SyntaxError::NoMemory) => Err(AllocError),
+            Err(SyntaxError::Fault(fault)) => Ok(Answer::Refused(syntax_error(fault))),
+        }
+    }
+}
