@@ -1,7 +1,7 @@
 -- Answers are right where turns follow one after the other.
 use Rattle.std.proofs.Common.{List, [], ◌∷◌, ◌++◌, sym, subst, Option, Some, None}
 use Rattle.script_state.specs.declared.answer.Answer.{Answer}
-use Rattle.script_state.specs.declared.answer.Answer.TheVariants.{Done, Refused, Check}
+use Rattle.script_state.specs.declared.answer.Answer.TheVariants.{Done, Refused, Check, Says, Model, Exit}
 use Rattle.script_state.specs.States.{StateValue, no_state}
 use Rattle.script_state.specs.Steps.{step}
 use Rattle.proof_log.specs.declared.entry.Entry.{Entry}
@@ -16,12 +16,18 @@ use Rattle.accepted_proof.proofs.Refuting.{refuted}
 steps_of : (a : Answer) (s : StateValue) (log steps : List Entry) (shown : Option Record) → HasProof a s log steps shown → AreStepsOf s log steps
 steps_of Done s log steps shown h = subst (AreStepsOf s log) (sym h.0) tt
 steps_of (Refused e) s log steps shown h = subst (AreStepsOf s log) (sym h.0) tt
+steps_of (Says text) s log steps shown h = subst (AreStepsOf s log) (sym h.0) tt
+steps_of Model s log steps shown h = subst (AreStepsOf s log) (sym h.0) tt
+steps_of Exit s log steps shown h = subst (AreStepsOf s log) (sym h.0) tt
 steps_of Check s log steps None h = absurd h
 steps_of Check s log steps (Some r) h = h.0
 
 shows_right : (a : Answer) (s : StateValue) (log steps : List Entry) (shown : Option Record) → IsReached s log → HasProof a s log steps shown → IsRight s shown
 shows_right Done s log steps shown reached h = subst (IsRight s) (sym h.1) tt
 shows_right (Refused e) s log steps shown reached h = subst (IsRight s) (sym h.1) tt
+shows_right (Says text) s log steps shown reached h = subst (IsRight s) (sym h.1) tt
+shows_right Model s log steps shown reached h = subst (IsRight s) (sym h.1) tt
+shows_right Exit s log steps shown reached h = subst (IsRight s) (sym h.1) tt
 shows_right Check s log steps None reached h = absurd h
 shows_right Check s log steps (Some (Sat values)) reached h = h.1.1
 shows_right Check s log steps (Some (Unsat p)) reached h = refuted s log steps p reached h.0 h.1

@@ -1,6 +1,8 @@
 -- A proof without a bad line is that of turns which may follow one after the other.
-use Rattle.std.proofs.Common.{◌≡◌, ℕ, suc, true, false, List, [], ◌∷◌, ◌++◌, map, length, flat_map, slice_get, Option, Some, None, refl, sym, ap, ap₂, ◌∙◌, subst, inl, inr, append_assoc, append-nil}
-use Rattle.std.specs.Prelude.{All, IsSome, option_to_list}
+use Rattle.std.proofs.Common.{◌≡◌, ℕ, suc, Bool, true, false, List, [], ◌∷◌, ◌++◌, map, length, flat_map, slice_get, Option, Some, None, refl, sym, ap, ap₂, ◌∙◌, subst, inl, inr, append_assoc, append-nil}
+use Rattle.std.specs.Prelude.{◌⊎◌, ◌||◌, All, IsSome, option_to_list}
+use Rattle.std.proofs.Math.Bool.{or-true}
+use Rattle.std.proofs.lemmas.Bool.{false≢true}
 use Rattle.std.specs.List.{AllByRecursion}
 use Rattle.std.proofs.lemmas.List.{map-append}
 use Rattle.smt_values.specs.declared.value.Value.{Value}
@@ -8,7 +10,7 @@ use Rattle.smt_build.specs.declared.symbols.LiveName.{LiveName}
 use Rattle.script_state.specs.declared.answer.Answer.{Answer}
 use Rattle.script_state.specs.declared.answer.Answer.TheVariants as answer
 use Rattle.script_state.specs.States.{StateValue, concluded}
-use Rattle.script_state.specs.Steps.{step}
+use Rattle.script_state.specs.Steps.{step, ends}
 use Rattle.proof_log.specs.declared.entry.Entry.{Entry}
 use Rattle.proof_text.specs.declared.line.WrittenValue.{WrittenValue}
 use Rattle.proof_text.specs.declared.line.Line.{Line}
@@ -24,16 +26,22 @@ use Rattle.std.proofs.lemmas.List.Elements.{All-cons, All-nil}
 use Rattle.smt_text.specs.declared.chunk.Chunk.{Chunk}
 use Rattle.script_state.specs.Readings.{Reading, ReadsAs}
 use Rattle.accepted_proof.specs.declared.refusal.RuleName.{RuleName}
-use Rattle.accepted_proof.specs.Accepted.{AreRead}
+use Rattle.accepted_proof.specs.Accepted.{AreRead, EndLast, has_ended}
 use Rattle.accepted_proof.specs.Judged.{AtValue, refused, ReadEach}
-use Rattle.accepted_proof.proofs.Following.{place, lines_before, Keeping, shown_back, reach_here, reach_on, From, from_judged, judged_from}
+use Rattle.accepted_proof.proofs.Following.{place, lines_before, Keeping, shown_back, reach_here, reach_past, reach_last, From, from_judged, judged_from}
+use Rattle.script_state.proofs.Deciding.{ends_by_exit}
 
 -- ---- what is still to come
 
--- turns that may follow, and their lines
-record Ends (s : StateValue) (log : List Entry) (chunks : List Chunk) (ls : List (Option Line)) : Type 0 where
+-- turns of the first chunks that may follow, and their lines; chunks are left behind one that ends the run alone
+pub record Ends (s : StateValue) (log : List Entry) (chunks : List Chunk) (ls : List (Option Line)) : Type 0 where
   pub turns : List Turn
-  pub read : AreRead chunks turns
+  pub first : List Chunk
+  pub behind : List Chunk
+  pub cut : chunks ≡ first ++ behind
+  pub read : AreRead first turns
+  pub last : EndLast turns
+  pub all : (behind ≡ []) ⊎ (has_ended turns ≡ true)
   pub run : AreTurns s log turns
   pub lines : ls ≡ map Some (flat_map turn_lines turns)
 
@@ -73,26 +81,66 @@ HeldCompleted Good ls = (o : Owed) (j : Judging) (cs : List Reading) (chunks : L
 
 -- ---- commands
 
-passed_turn : (s : StateValue) (log : List Entry) (says : Reading) (c : Chunk) (chunks : List Chunk) (ls : List (Option Line)) (a : Answer) → a ≡ (step s says).0 → HasProof a (step s says).1 log [] None → ReadsAs c says → Ends (step s says).1 log chunks ls → Ends s log (c ∷ chunks) ls
-passed_turn s log says c chunks ls a e p r h = record {
-  turns = record { line = c.line; says = says; answer = a; steps = []; shown = None } ∷ h.turns;
-  read = (refl, r, h.read);
-  run = (record { answer = e; proof = p }, subst (λ l. AreTurns (step s says).1 l h.turns) (sym (append-nil log)) h.run);
-  lines = h.lines;
-}
+more_ended : (t : Turn) (turns : List Turn) (behind : List Chunk) → (behind ≡ []) ⊎ (has_ended turns ≡ true) → (behind ≡ []) ⊎ (has_ended (t ∷ turns) ≡ true)
+more_ended t turns behind (inl n) = inl n
+more_ended t turns behind (inr e) = inr (ap (λ b. ends t.says || b) e ∙ or-true (ends t.says))
 
-checked_turn : (Good : StateValue → Type 0) → Keeping Good → (s : StateValue) (log : List Entry) (says : Reading) (c : Chunk) (chunks : List Chunk) (ls : List (Option Line)) → answer.Check ≡ (step s says).0 → Good (step s says).1 → ReadsAs c says → EndsSteps (step s says).1 log chunks ls → Ends s log (c ∷ chunks) ls
-checked_turn Good keeps s log says c chunks ls e g r h = record {
-  turns = record { line = c.line; says = says; answer = answer.Check; steps = h.steps; shown = Some h.shown } ∷ h.further.turns;
-  read = (refl, r, h.further.read);
-  run = (record { answer = e; proof = (h.valid, shown_back Good keeps (step s says).1 log h.steps _ _ h.shown g h.valid h.ends) }, h.further.run);
-  lines = h.lines ∙ ap (λ x. map Some (step_lines h.steps ++ record_lines h.shown) ++ x) h.further.lines ∙ sym (map-append Some (step_lines h.steps ++ record_lines h.shown) (flat_map turn_lines h.further.turns));
-}
+-- a turn that does not end the run, and those behind it
+module _ (t : Turn) (go_on : ends t.says ≡ false) (turns : List Turn) where
+  last_behind : EndLast turns → EndLast (t ∷ turns)
+  last_behind l = (λ e. absurd (false≢true (sym go_on ∙ e)), l)
 
-by_answer : (Good : StateValue → Type 0) → Keeping Good → (a : Answer) (j : Judging) (says : Reading) (c : Chunk) (chunks : List Chunk) (ls : List (Option Line)) → a ≡ (step j.state says).0 → Good (step j.state says).1 → ReadsAs c says → Completes (owed_by a) (commanded j says) chunks ls → Ends j.state j.log (c ∷ chunks) ls
-by_answer Good keeps answer.Done j says c chunks ls e g r h = passed_turn j.state j.log says c chunks ls answer.Done e (refl, refl) r h
-by_answer Good keeps (answer.Refused f) j says c chunks ls e g r h = passed_turn j.state j.log says c chunks ls (answer.Refused f) e (refl, refl) r h
-by_answer Good keeps answer.Check j says c chunks ls e g r h = checked_turn Good keeps j.state j.log says c chunks ls e g r h
+passed_turn : (s : StateValue) (log : List Entry) (says : Reading) (c : Chunk) (chunks : List Chunk) (ls : List (Option Line)) (a : Answer) → a ≡ (step s says).0 → ends says ≡ false → HasProof a (step s says).1 log [] None → ReadsAs c says → Ends (step s says).1 log chunks ls → Ends s log (c ∷ chunks) ls
+passed_turn s log says c chunks ls a e go_on p r h =
+    let t : Turn = record { line = c.line; says = says; answer = a; steps = []; shown = None } in
+    record {
+      turns = t ∷ h.turns;
+      first = c ∷ h.first;
+      behind = h.behind;
+      cut = ap (λ x. c ∷ x) h.cut;
+      read = (refl, r, h.read);
+      last = last_behind t go_on h.turns h.last;
+      all = more_ended t h.turns h.behind h.all;
+      run = (record { answer = e; proof = p }, subst (λ l. AreTurns (step s says).1 l h.turns) (sym (append-nil log)) h.run);
+      lines = h.lines;
+    }
+
+checked_turn : (Good : StateValue → Type 0) → Keeping Good → (s : StateValue) (log : List Entry) (says : Reading) (c : Chunk) (chunks : List Chunk) (ls : List (Option Line)) → answer.Check ≡ (step s says).0 → ends says ≡ false → Good (step s says).1 → ReadsAs c says → EndsSteps (step s says).1 log chunks ls → Ends s log (c ∷ chunks) ls
+checked_turn Good keeps s log says c chunks ls e go_on g r h =
+    let t : Turn = record { line = c.line; says = says; answer = answer.Check; steps = h.steps; shown = Some h.shown } in
+    record {
+      turns = t ∷ h.further.turns;
+      first = c ∷ h.further.first;
+      behind = h.further.behind;
+      cut = ap (λ x. c ∷ x) h.further.cut;
+      read = (refl, r, h.further.read);
+      last = last_behind t go_on h.further.turns h.further.last;
+      all = more_ended t h.further.turns h.further.behind h.further.all;
+      run = (record { answer = e; proof = (h.valid, shown_back Good keeps (step s says).1 log h.steps _ _ h.shown g h.valid h.ends) }, h.further.run);
+      lines = h.lines ∙ ap (λ x. map Some (step_lines h.steps ++ record_lines h.shown) ++ x) h.further.lines ∙ sym (map-append Some (step_lines h.steps ++ record_lines h.shown) (flat_map turn_lines h.further.turns));
+    }
+
+by_answer : (Good : StateValue → Type 0) → Keeping Good → (a : Answer) (j : Judging) (says : Reading) (c : Chunk) (chunks : List Chunk) (ls : List (Option Line)) → a ≡ (step j.state says).0 → ends says ≡ false → Good (step j.state says).1 → ReadsAs c says → Completes (owed_by a) (commanded j says) chunks ls → Ends j.state j.log (c ∷ chunks) ls
+by_answer Good keeps answer.Done j says c chunks ls e f g r h = passed_turn j.state j.log says c chunks ls answer.Done e f (refl, refl) r h
+by_answer Good keeps (answer.Refused x) j says c chunks ls e f g r h = passed_turn j.state j.log says c chunks ls (answer.Refused x) e f (refl, refl) r h
+by_answer Good keeps (answer.Says x) j says c chunks ls e f g r h = passed_turn j.state j.log says c chunks ls (answer.Says x) e f (refl, refl) r h
+by_answer Good keeps answer.Model j says c chunks ls e f g r h = passed_turn j.state j.log says c chunks ls answer.Model e f (refl, refl) r h
+by_answer Good keeps answer.Exit j says c chunks ls e f g r h = passed_turn j.state j.log says c chunks ls answer.Exit e f (refl, refl) r h
+by_answer Good keeps answer.Check j says c chunks ls e f g r h = checked_turn Good keeps j.state j.log says c chunks ls e f g r h
+
+-- the command that ends the run, behind which there are no lines
+last_turn : (j : Judging) (says : Reading) (c : Chunk) (chunks : List Chunk) (ls : List (Option Line)) → ends says ≡ true → ReadsAs c says → ls ≡ [] → Ends j.state j.log (c ∷ chunks) ls
+last_turn j says c chunks ls e r none = record {
+  turns = record { line = c.line; says = says; answer = answer.Exit; steps = []; shown = None } ∷ [];
+  first = c ∷ [];
+  behind = chunks;
+  cut = refl;
+  read = (refl, r, tt);
+  last = (λ _. refl, tt);
+  all = inr (ap (λ b. b || false) e);
+  run = (record { answer = sym ((ends_by_exit j.state says).1 e); proof = (refl, refl) }, tt);
+  lines = none;
+}
 
 -- nothing follows where no command does and no record is owed
 abbrev NothingMore : (StateValue → Type 0) → List (Option Line) → Type 0
@@ -102,21 +150,34 @@ none_lines : {ls : List (Option Line)} → ls ≡ [] → ls ≡ map Some (flat_m
 none_lines e = e
 
 idle_completed : (Good : StateValue → Type 0) → Keeping Good → (ls : List (Option Line)) → NothingMore Good ls → HeldCompleted Good ls → (cs : List Reading) (chunks : List Chunk) (j : Judging) → j.owed ≡ Nothing → ReadEach chunks cs → Good j.state → Judged j cs ls None → Ends j.state j.log chunks ls
-idle_completed Good keeps ls none held [] [] j e r g h = record { turns = []; read = tt; run = tt; lines = none_lines (none j g e h) }
+idle_completed Good keeps ls none held [] [] j e r g h = record { turns = []; first = []; behind = []; cut = refl; read = tt; last = tt; all = inl refl; run = tt; lines = none_lines (none j g e h) }
 idle_completed Good keeps ls none held [] (c ∷ chunks) j e r g h = absurd r
 idle_completed Good keeps ls none held (s ∷ cs) [] j e r g h = absurd r
-idle_completed Good keeps ls none held (s ∷ cs) (c ∷ chunks) j e r g h =
-    let waits : is_idle j.owed ≡ true = ap is_idle e in
-    let h' = judged_from (commanded j s) cs ls None (subst (λ x. From x ls None) (reach_on j s cs waits) (from_judged j (s ∷ cs) ls None h)) in
-    let g' = keeps.commands j.state s g in
-    by_answer Good keeps (step j.state s).0 j s c chunks ls refl g' r.0
-    (go (λ p. idle_completed Good keeps ls none held cs chunks (commanded j s) p r.1 g' h') (owed_by (step j.state s).0) refl g' h')
+idle_completed Good keeps ls none held (s ∷ cs) (c ∷ chunks) j e r g h = by_end (λ p d. idle_completed Good keeps ls none held cs chunks (commanded j s) p r.1 (keeps.commands j.state s g) d) (ends s) refl
   where
-    go : (owed_by (step j.state s).0 ≡ Nothing → Completes Nothing (commanded j s) chunks ls) → (o : Owed) → owed_by (step j.state s).0 ≡ o → Good (step j.state s).1 → Judged (commanded j s) cs ls None → Completes o (commanded j s) chunks ls
-    go idle Nothing p g' h' = idle p
-    go idle Steps p g' h' = held Steps (commanded j s) cs chunks p refl r.1 g' h'
-    go idle (Values next left values) p g' h' = held (Values next left values) (commanded j s) cs chunks p refl r.1 g' h'
-    go idle (Over x) p g' h' = held (Over x) (commanded j s) cs chunks p refl r.1 g' h'
+    k : Judging
+    k = commanded j s
+
+    waits : is_idle j.owed ≡ true
+    waits = ap is_idle e
+
+    good : Good k.state
+    good = keeps.commands j.state s g
+
+    on : ends s ≡ false → Judged k cs ls None
+    on f = judged_from k cs ls None (subst (λ x. From x ls None) (reach_past j s cs waits f) (from_judged j (s ∷ cs) ls None h))
+
+    go : (owed_by (step j.state s).0 ≡ Nothing → Judged k cs ls None → Ends k.state k.log chunks ls) → Judged k cs ls None → (o : Owed) → owed_by (step j.state s).0 ≡ o → Completes o k chunks ls
+    go further d Nothing p = further p d
+    go further d Steps p = held Steps k cs chunks p refl r.1 good d
+    go further d (Values next left values) p = held (Values next left values) k cs chunks p refl r.1 good d
+    go further d (Over x) p = held (Over x) k cs chunks p refl r.1 good d
+
+    by_end : (owed_by (step j.state s).0 ≡ Nothing → Judged k cs ls None → Ends k.state k.log chunks ls) → (b : Bool) → ends s ≡ b → Ends j.state j.log (c ∷ chunks) ls
+    by_end further true f =
+        let over : Judged k [] ls None = judged_from k [] ls None (subst (λ x. From x ls None) (reach_last j s cs waits f) (from_judged j (s ∷ cs) ls None h)) in
+        last_turn j s c chunks ls f r.0 (none k good (ap owed_by ((ends_by_exit j.state s).1 f)) over)
+    by_end further false f = by_answer Good keeps (step j.state s).0 j s c chunks ls refl f good r.0 (go further (on f) (owed_by (step j.state s).0) refl)
 
 any_completed : (Good : StateValue → Type 0) → Keeping Good → (ls : List (Option Line)) → HeldCompleted Good ls → ((j : Judging) (cs : List Reading) (chunks : List Chunk) → j.owed ≡ Nothing → ReadEach chunks cs → Good j.state → Judged j cs ls None → Ends j.state j.log chunks ls) → Completed Good ls
 any_completed Good keeps ls held idle Nothing j cs chunks e r g h = idle j cs chunks e r g h
@@ -306,8 +367,5 @@ completed Good keeps (l ∷ ls) =
     any_completed Good keeps (l ∷ ls) held (λ j cs chunks. idle_completed Good keeps (l ∷ ls) (λ k g e h. absurd (none_line Good keeps l ls done k g e h)) held cs chunks j)
 
 -- a proof without a bad line is that of turns
-pub judged_turns : (Good : StateValue → Type 0) → Keeping Good → (chunks : List Chunk) (cs : List Reading) (ls : List (Option Line)) (s : StateValue) (log : List Entry) (n : ℕ) → Good s → ReadEach chunks cs → Judged (place s log Nothing n) cs ls None
-    → (turns : List Turn) × AreRead chunks turns × AreTurns s log turns × (ls ≡ map Some (flat_map turn_lines turns))
-judged_turns Good keeps chunks cs ls s log n g r h =
-    let c : Ends s log chunks ls = completed Good keeps ls Nothing (place s log Nothing n) cs chunks refl r g h in
-    (c.turns, c.read, c.run, c.lines)
+pub judged_turns : (Good : StateValue → Type 0) → Keeping Good → (chunks : List Chunk) (cs : List Reading) (ls : List (Option Line)) (s : StateValue) (log : List Entry) (n : ℕ) → Good s → ReadEach chunks cs → Judged (place s log Nothing n) cs ls None → Ends s log chunks ls
+judged_turns Good keeps chunks cs ls s log n g r h = completed Good keeps ls Nothing (place s log Nothing n) cs chunks refl r g h

@@ -17,7 +17,7 @@ use Rattle.smt_build.specs.declared.symbols.LiveName.{LiveName}
 use Rattle.script_state.specs.declared.answer.Answer.{Answer}
 use Rattle.script_state.specs.declared.answer.Answer.TheVariants as answer
 use Rattle.script_state.specs.States.{StateValue, concluded}
-use Rattle.script_state.specs.Steps.{step}
+use Rattle.script_state.specs.Steps.{step, ends}
 use Rattle.proof_log.specs.declared.entry.Entry.{Entry}
 use Rattle.proof_log.specs.declared.entry.Entry.TheVariants as entry
 use Rattle.proof_text.specs.declared.line.Head.{Head}
@@ -31,16 +31,32 @@ use Rattle.accepted_proof.specs.declared.refusal.Refusal.{Refusal}
 use Rattle.accepted_proof.specs.Models.{interpretation_of, IsModel, IsOfSignature, IsWrittenModel}
 use Rattle.accepted_proof.specs.Turns.{Turn, AreTurns, AreStepsOf, IsShown, IsAgainst, IsRefutation, HasProof, with_step, with_steps, verdict_of, concluded_by, state_after}
 use Rattle.accepted_proof.specs.Answers.{shown_lines, step_lines, turn_lines}
+use Rattle.accepted_proof.specs.Accepted.{EndLast}
 use Rattle.accepted_proof.specs.Judged.{Owed, Nothing, Steps, Values, Judging, stepped, valued, closed, owed_by, commanded, is_idle, reach, ending, IsStepOf, StepsBy, Goes, AtStep, IsValueOf, Moves, Judged}
 
 -- ---- one line more
 
 pub reach_here : (j : Judging) (cs : List Reading) → is_idle j.owed ≡ false → reach j cs ≡ (j, cs)
 reach_here j [] e = refl
-reach_here j (c ∷ cs) e = ap (λ (b : Bool). if b then reach (commanded j c) cs else (j, c ∷ cs)) e
+reach_here j (c ∷ cs) e = ap (λ (b : Bool). if b then (if ends c then (commanded j c, []) else reach (commanded j c) cs) else (j, c ∷ cs)) e
 
-pub reach_on : (j : Judging) (c : Reading) (cs : List Reading) → is_idle j.owed ≡ true → reach j (c ∷ cs) ≡ reach (commanded j c) cs
-reach_on j c cs e = ap (λ (b : Bool). if b then reach (commanded j c) cs else (j, c ∷ cs)) e
+pub reach_past : (j : Judging) (c : Reading) (cs : List Reading) → is_idle j.owed ≡ true → ends c ≡ false → reach j (c ∷ cs) ≡ reach (commanded j c) cs
+reach_past j c cs e f =
+    ap (λ (b : Bool). if b then (if ends c then (commanded j c, []) else reach (commanded j c) cs) else (j, c ∷ cs)) e
+    ∙ ap (λ (b : Bool). if b then (commanded j c, []) else reach (commanded j c) cs) f
+
+pub reach_last : (j : Judging) (c : Reading) (cs : List Reading) → is_idle j.owed ≡ true → ends c ≡ true → reach j (c ∷ cs) ≡ (commanded j c, [])
+reach_last j c cs e f =
+    ap (λ (b : Bool). if b then (if ends c then (commanded j c, []) else reach (commanded j c) cs) else (j, c ∷ cs)) e
+    ∙ ap (λ (b : Bool). if b then (commanded j c, []) else reach (commanded j c) cs) f
+
+-- whether the command ends the run or not, where none is behind one that does
+pub reach_on : (j : Judging) (c : Reading) (cs : List Reading) → is_idle j.owed ≡ true → (ends c ≡ true → cs ≡ []) → reach j (c ∷ cs) ≡ reach (commanded j c) cs
+reach_on j c cs e last = by_end (ends c) refl
+  where
+    by_end : (b : Bool) → ends c ≡ b → reach j (c ∷ cs) ≡ reach (commanded j c) cs
+    by_end true f = reach_last j c cs e f ∙ sym (ap (reach (commanded j c)) (last f))
+    by_end false f = reach_past j c cs e f
 
 -- what is judged from where the commands were done
 abbrev pub From : Judging × List Reading → List (Option Line) → Option Refusal → Type 0
@@ -59,8 +75,17 @@ judged_from j cs (l ∷ ls) o h = h
 pub judged_line : (j k : Judging) (cs : List Reading) (l : Option Line) (ls : List (Option Line)) (o : Option Refusal) → is_idle j.owed ≡ false → Moves j l k → Judged k cs ls o → Judged j cs (l ∷ ls) o
 judged_line j k cs l ls o e m h = subst (λ r. From r (l ∷ ls) o) (sym (reach_here j cs e)) (k, m, h)
 
-pub judged_command : (j : Judging) (c : Reading) (cs : List Reading) (ls : List (Option Line)) (o : Option Refusal) → is_idle j.owed ≡ true → Judged (commanded j c) cs ls o → Judged j (c ∷ cs) ls o
-judged_command j c cs ls o e h = judged_from j (c ∷ cs) ls o (subst (λ r. From r ls o) (sym (reach_on j c cs e)) (from_judged (commanded j c) cs ls o h))
+judged_reached : (j : Judging) (c : Reading) (cs ds : List Reading) (ls : List (Option Line)) (o : Option Refusal) → reach j (c ∷ cs) ≡ reach (commanded j c) ds → Judged (commanded j c) ds ls o → Judged j (c ∷ cs) ls o
+judged_reached j c cs ds ls o e h = judged_from j (c ∷ cs) ls o (subst (λ r. From r ls o) (sym e) (from_judged (commanded j c) ds ls o h))
+
+pub judged_past : (j : Judging) (c : Reading) (cs : List Reading) (ls : List (Option Line)) (o : Option Refusal) → is_idle j.owed ≡ true → ends c ≡ false → Judged (commanded j c) cs ls o → Judged j (c ∷ cs) ls o
+judged_past j c cs ls o e f h = judged_reached j c cs cs ls o (reach_past j c cs e f) h
+
+pub judged_last : (j : Judging) (c : Reading) (cs : List Reading) (ls : List (Option Line)) (o : Option Refusal) → is_idle j.owed ≡ true → ends c ≡ true → Judged (commanded j c) [] ls o → Judged j (c ∷ cs) ls o
+judged_last j c cs ls o e f h = judged_reached j c cs [] ls o (reach_last j c cs e f) h
+
+pub judged_command : (j : Judging) (c : Reading) (cs : List Reading) (ls : List (Option Line)) (o : Option Refusal) → is_idle j.owed ≡ true → (ends c ≡ true → cs ≡ []) → Judged (commanded j c) cs ls o → Judged j (c ∷ cs) ls o
+judged_command j c cs ls o e last h = judged_reached j c cs cs ls o (reach_on j c cs e last) h
 
 -- ---- states
 
@@ -95,7 +120,7 @@ model_in s u values e m h = record {
   model = m;
 }
 
-shown_on : (Good : StateValue → Type 0) → Keeping Good → (s : StateValue) (log steps : List Entry) (nodes : List Node) (all : List Entry) (r : Record) → Good s → AreStepsOf s log steps → IsShown s nodes all r → IsShown (with_steps s steps) nodes all r
+pub shown_on : (Good : StateValue → Type 0) → Keeping Good → (s : StateValue) (log steps : List Entry) (nodes : List Node) (all : List Entry) (r : Record) → Good s → AreStepsOf s log steps → IsShown s nodes all r → IsShown (with_steps s steps) nodes all r
 shown_on Good keeps s log steps nodes all (shown.Sat values) g a h = (h.0, model_in s (with_steps s steps) values (sym (same_symbols s steps)) (keeps.models s log steps (interpretation_of values) g a h.1.model) h.1)
 shown_on Good keeps s log steps nodes all (shown.Unsat p) g a h = refutation_in s (with_steps s steps) nodes all p (sym (same_scopes s steps)) h
 
@@ -227,18 +252,30 @@ steps_judged (e ∷ es) r s log n cs ls a h rest =
 abbrev ProofOn : Answer → StateValue → List Entry → List Entry → Option Record → Type 0
 ProofOn answer.Done s log steps o = (steps ≡ []) × (o ≡ None)
 ProofOn (answer.Refused e) s log steps o = (steps ≡ []) × (o ≡ None)
+ProofOn (answer.Says text) s log steps o = (steps ≡ []) × (o ≡ None)
+ProofOn answer.Model s log steps o = (steps ≡ []) × (o ≡ None)
+ProofOn answer.Exit s log steps o = (steps ≡ []) × (o ≡ None)
 ProofOn answer.Check s log steps None = ⊥
 ProofOn answer.Check s log steps (Some r) = AreStepsOf s log steps × IsShown (with_steps s steps) (with_steps s steps).terms.nodes (log ++ steps) r
 
 proof_on : (Good : StateValue → Type 0) → Keeping Good → (a : Answer) (s : StateValue) (log steps : List Entry) (o : Option Record) → Good s → HasProof a s log steps o → ProofOn a s log steps o
 proof_on Good keeps answer.Done s log steps o g h = h
 proof_on Good keeps (answer.Refused e) s log steps o g h = h
+proof_on Good keeps (answer.Says text) s log steps o g h = h
+proof_on Good keeps answer.Model s log steps o g h = h
+proof_on Good keeps answer.Exit s log steps o g h = h
 proof_on Good keeps answer.Check s log steps None g h = h
 proof_on Good keeps answer.Check s log steps (Some r) g h = (h.0, shown_on Good keeps s log steps _ _ r g h.0 h.1)
 
-good_after : (Good : StateValue → Type 0) → Keeping Good → (a : Answer) (s : StateValue) (log steps : List Entry) (o : Option Record) → Good s → HasProof a s log steps o → Good (concluded_by (with_steps s steps) o)
-good_after Good keeps answer.Done s log steps o g h = subst (λ x. Good (concluded_by (with_steps s x) o)) (sym h.0) (subst (λ x. Good (concluded_by s x)) (sym h.1) g)
-good_after Good keeps (answer.Refused e) s log steps o g h = subst (λ x. Good (concluded_by (with_steps s x) o)) (sym h.0) (subst (λ x. Good (concluded_by s x)) (sym h.1) g)
+good_unchecked : (Good : StateValue → Type 0) (s : StateValue) (steps : List Entry) (o : Option Record) → Good s → (steps ≡ []) × (o ≡ None) → Good (concluded_by (with_steps s steps) o)
+good_unchecked Good s steps o g h = subst (λ x. Good (concluded_by (with_steps s x) o)) (sym h.0) (subst (λ x. Good (concluded_by s x)) (sym h.1) g)
+
+pub good_after : (Good : StateValue → Type 0) → Keeping Good → (a : Answer) (s : StateValue) (log steps : List Entry) (o : Option Record) → Good s → HasProof a s log steps o → Good (concluded_by (with_steps s steps) o)
+good_after Good keeps answer.Done s log steps o g h = good_unchecked Good s steps o g h
+good_after Good keeps (answer.Refused e) s log steps o g h = good_unchecked Good s steps o g h
+good_after Good keeps (answer.Says text) s log steps o g h = good_unchecked Good s steps o g h
+good_after Good keeps answer.Model s log steps o g h = good_unchecked Good s steps o g h
+good_after Good keeps answer.Exit s log steps o g h = good_unchecked Good s steps o g h
 good_after Good keeps answer.Check s log steps None g h = absurd h
 good_after Good keeps answer.Check s log steps (Some r) g h = keeps.ends (with_steps s steps) (verdict_of r) (keeps.steps s log steps g h.0)
 
@@ -257,21 +294,24 @@ turn_judged : (a : Answer) (steps : List Entry) (o : Option Record) (s : StateVa
     → Judged (place s log (owed_by a) n) cs (lines_before ls (step_lines steps ++ shown_lines o)) None
 turn_judged answer.Done steps o s log n cs ls h rest = passed steps o s log n cs ls h rest
 turn_judged (answer.Refused f) steps o s log n cs ls h rest = passed steps o s log n cs ls h rest
+turn_judged (answer.Says text) steps o s log n cs ls h rest = passed steps o s log n cs ls h rest
+turn_judged answer.Model steps o s log n cs ls h rest = passed steps o s log n cs ls h rest
+turn_judged answer.Exit steps o s log n cs ls h rest = passed steps o s log n cs ls h rest
 turn_judged answer.Check steps None s log n cs ls h rest = absurd h
 turn_judged answer.Check steps (Some r) s log n cs ls h rest = steps_judged steps r s log n cs ls h.0 h.1 rest
 
 -- the answer of a turn is that of the step
-at_command : (s : StateValue) (log : List Entry) (n : ℕ) (says : Reading) (a : Answer) (cs : List Reading) (ls : List (Option Line)) → a ≡ (step s says).0 → Judged (place (step s says).1 log (owed_by a) n) cs ls None → Judged (place s log Nothing n) (says ∷ cs) ls None
-at_command s log n says a cs ls e h = judged_command (place s log Nothing n) says cs ls None refl (subst (λ b. Judged (place (step s says).1 log (owed_by b) n) cs ls None) e h)
+at_command : (s : StateValue) (log : List Entry) (n : ℕ) (says : Reading) (a : Answer) (cs : List Reading) (ls : List (Option Line)) → a ≡ (step s says).0 → (ends says ≡ true → cs ≡ []) → Judged (place (step s says).1 log (owed_by a) n) cs ls None → Judged (place s log Nothing n) (says ∷ cs) ls None
+at_command s log n says a cs ls e last h = judged_command (place s log Nothing n) says cs ls None refl last (subst (λ b. Judged (place (step s says).1 log (owed_by b) n) cs ls None) e h)
 
-pub turns_judged : (Good : StateValue → Type 0) → Keeping Good → (ts : List Turn) (s : StateValue) (log : List Entry) (n : ℕ) → Good s → AreTurns s log ts → Judged (place s log Nothing n) (map (λ (t : Turn). t.says) ts) (map Some (flat_map turn_lines ts)) None
-turns_judged Good keeps [] s log n g h = refl
-turns_judged Good keeps (t ∷ ts) s log n g h =
+pub turns_judged : (Good : StateValue → Type 0) → Keeping Good → (ts : List Turn) (s : StateValue) (log : List Entry) (n : ℕ) → Good s → EndLast ts → AreTurns s log ts → Judged (place s log Nothing n) (map (λ (t : Turn). t.says) ts) (map Some (flat_map turn_lines ts)) None
+turns_judged Good keeps [] s log n g last h = refl
+turns_judged Good keeps (t ∷ ts) s log n g last h =
     let g' = keeps.commands s t.says g in
     let p = proof_on Good keeps t.answer (step s t.says).1 log t.steps t.shown g' h.0.proof in
     let gs = good_after Good keeps t.answer (step s t.says).1 log t.steps t.shown g' h.0.proof in
-    let rest : Rest (state_after s t) (log ++ t.steps) (map (λ (t : Turn). t.says) ts) (map Some (flat_map turn_lines ts)) = λ m. turns_judged Good keeps ts (state_after s t) (log ++ t.steps) m gs h.1 in
+    let rest : Rest (state_after s t) (log ++ t.steps) (map (λ (t : Turn). t.says) ts) (map Some (flat_map turn_lines ts)) = λ m. turns_judged Good keeps ts (state_after s t) (log ++ t.steps) m gs last.1 h.1 in
     let lines = map Some (flat_map turn_lines ts) in
-    let j = at_command s log n t.says t.answer (map (λ (t : Turn). t.says) ts) (lines_before lines (turn_lines t)) h.0.answer
+    let j = at_command s log n t.says t.answer (map (λ (t : Turn). t.says) ts) (lines_before lines (turn_lines t)) h.0.answer (λ e. ap (map (λ (t : Turn). t.says)) (last.0 e))
     (turn_judged t.answer t.steps t.shown (step s t.says).1 log n (map (λ (t : Turn). t.says) ts) lines p rest) in
     subst (λ ls. Judged (place s log Nothing n) (map (λ (t : Turn). t.says) (t ∷ ts)) ls None) (sym (map-append Some (turn_lines t) (flat_map turn_lines ts))) j

@@ -2,9 +2,12 @@
 pub mod Reaching
 pub mod Refuting
 pub mod Answering
+pub mod Fronts
 pub mod Reading
 -- Lemmas of the laws on judging.
 pub mod Once
 pub mod Following
 pub mod Completing
 pub mod Good
+-- Lemmas of the law on models that are printed.
+pub mod Standing

@@ -138,7 +138,7 @@ reached_first = record {
       standing = λ k d lt. absurd (omega (arith, lt));
       within = omega arith;
     };
-    live = record { count = refl; each = λ k l e. absurd (let z : ⊥ = cc in z) };
+    live = record { rising = λ i j d lt below. absurd (omega (arith, below)); made = λ k d lt. absurd (omega (arith, lt)) };
     constants = λ k d lt. absurd (omega (arith, lt));
     declared = none_declared [];
     bodies = tt;
@@ -146,6 +146,8 @@ reached_first = record {
     held = λ k d lt. absurd (omega (arith, lt));
     truths = λ k d lt. absurd (omega (arith, lt));
     plain = λ k d lt. absurd (omega (arith, lt));
+    closed = record { bodies = tt; terms = λ k d lt. absurd (omega (arith, lt)) };
+    levels = record { count = refl; rising = λ i j d lt below. absurd (omega (arith, below)); each = λ k l e. absurd (let z : ⊥ = cc in z) };
   };
   steps = tt;
   selectors = λ a t c. let past = c.1 in absurd (omega (arith, past));

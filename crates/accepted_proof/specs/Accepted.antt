@@ -1,11 +1,12 @@
 -- Proofs of scripts (a script is a sequence of commands: SMT-LIB 2.6, section 3.9), and what stands beside answers.
-use Rattle.std.specs.Prelude.{◌≡◌, ◌⊎◌, ℕ, ◌==◌, Bool, true, not, List, [], ◌∷◌, ◌++◌, map, Option}
-use Rattle.std.specs.List.{list_all, list_any}
+use Rattle.std.specs.Prelude.{◌≡◌, ◌⊎◌, ℕ, ◌<◌, Bool, true, List, [], ◌∷◌, ◌++◌, length, map}
+use Rattle.std.specs.List.{list_any}
 use Rattle.smt_text.specs.declared.chunk.Chunk.{Chunk}
 use Rattle.smt_text.specs.Framing.{Held}
 use Rattle.smt_text.specs.Script.{AreChunks, Begins}
 use Rattle.script_state.specs.Readings.{Reading, ReadsAs}
 use Rattle.script_state.specs.States.{no_state}
+use Rattle.script_state.specs.Steps.{ends}
 use Rattle.accepted_proof.specs.Turns.{Turn, AreTurns}
 use Rattle.accepted_proof.specs.Answers.{answers_of, is_refused, proof_of}
 
@@ -20,21 +21,43 @@ AreRead (c ∷ cs) (t ∷ ts) = (t.line ≡ c.line) × ReadsAs c t.says × AreRe
 abbrev pub readings_of : List Turn → List (ℕ × Reading)
 readings_of turns = map (λ (t : Turn). (t.line, t.says)) turns
 
--- The proof is one of the script: its header, and for each check the lines of valid steps and of a record, and nothing more.
-pub record Accepted (script proof : List ℕ) (turns : List Turn) : Type 0 where
-  pub chunks : List Chunk
-  pub cut : AreChunks script chunks
-  pub read : AreRead chunks turns
-  pub run : AreTurns no_state [] turns
-  pub lines : proof ≡ proof_of turns
-
 -- the first chunks of a text
 abbrev pub IsFront : List ℕ → List Chunk → Type 0
 IsFront text chunks = ((rest : Held) × Begins (record { line = 1; bytes = text }) chunks rest) ⊎ AreChunks text chunks
 
--- no line ends there
-abbrev pub without_end : List ℕ → Type 0
-without_end bytes = list_all (λ b. not (b == 10)) bytes ≡ true
+-- no command but the last ends the run
+abbrev pub EndLast : List Turn → Type 0
+EndLast [] = Unit {0}
+EndLast (t ∷ ts) = (ends t.says ≡ true → ts ≡ []) × EndLast ts
+
+-- whether a command ends the run
+abbrev pub has_ended : List Turn → Bool
+has_ended turns = list_any (λ (t : Turn). ends t.says) turns
+
+-- the chunks are all that is read of the script: all of it, or what stands up to the command that ends the run
+abbrev pub AreAll : List ℕ → List Chunk → List Turn → Type 0
+AreAll script chunks turns = AreChunks script chunks ⊎ ((has_ended turns ≡ true) × IsFront script chunks)
+
+-- The proof is one of the script: its header, and for each check the lines of valid steps and of a record, and nothing more.
+pub record Accepted (script proof : List ℕ) (turns : List Turn) : Type 0 where
+  pub chunks : List Chunk
+  pub cut : AreAll script chunks turns
+  pub read : AreRead chunks turns
+  pub last : EndLast turns
+  pub run : AreTurns no_state [] turns
+  pub lines : proof ≡ proof_of turns
+
+-- a front of the answer to the next command of the script, which is not the whole answer
+pub record IsBegun (script : List ℕ) (chunks : List Chunk) (turns : List Turn) (begun : List ℕ) : Type 0 where
+  pub next : Chunk
+  pub turn : Turn
+  pub rest : List ℕ
+  pub front : IsFront script (chunks ++ next ∷ [])
+  pub read : AreRead (chunks ++ next ∷ []) (turns ++ turn ∷ [])
+  pub last : EndLast (turns ++ turn ∷ [])
+  pub run : AreTurns no_state [] (turns ++ turn ∷ [])
+  pub texts : answers_of (turns ++ turn ∷ []) ≡ answers_of turns ++ begun ++ rest
+  pub unfinished : 0 < length rest
 
 -- The answers that were written whole are those of the first commands of the script, and the proof is accepted to the last
 -- of their checks.
@@ -45,10 +68,11 @@ pub record StandsBeside (script answers proof : List ℕ) : Type 0 where
   pub begun : List ℕ
   pub front : IsFront script chunks
   pub read : AreRead chunks turns
+  pub last : EndLast turns
   pub run : AreTurns no_state [] turns
   pub lines : proof ≡ proof_of turns ++ more
   pub texts : answers ≡ answers_of turns ++ begun
-  pub unfinished : without_end begun
+  pub unfinished : (begun ≡ []) ⊎ IsBegun script chunks turns begun
 
 -- the answers are those to the whole script, and the proof is accepted
 pub record IsWhole (script answers proof : List ℕ) (turns : List Turn) : Type 0 where

@@ -1,21 +1,32 @@
 -- The texts of answers and of proofs.
-use Rattle.std.specs.Prelude.{ℕ, Bool, true, false, List, [], ◌∷◌, ◌++◌, codes, Option, Some, None, option_to_list}
+use Rattle.std.specs.Prelude.{ℕ, Bool, true, false, List, [], ◌∷◌, ◌++◌, codes, slice_get, if◌then◌else◌, Option, Some, None, option_to_list}
 use Rattle.std.specs.List.{flat_map}
 use Rattle.std.specs.Fmt.{decimal}
 use Rattle.script_state.specs.declared.answer.Answer.{Answer}
-use Rattle.script_state.specs.declared.answer.Answer.TheVariants.{Done, Refused, Check}
+use Rattle.script_state.specs.declared.answer.Answer.TheVariants.{Done, Refused, Check, Says, Model, Exit}
 use Rattle.script_state.specs.declared.answer.Verdict.{Verdict}
 use Rattle.script_state.specs.declared.answer.Verdict.TheVariants as verdict
 use Rattle.script_state.specs.declared.error_text.ErrorText.{ErrorText}
 use Rattle.script_state.specs.ErrorTexts.{text_of}
+use Rattle.script_state.specs.declared.options.Options.{Options}
+use Rattle.script_state.specs.States.{StateValue, no_state}
+use Rattle.script_state.specs.Steps.{step}
+use Rattle.smt_text.specs.Printing.{symbol_text}
+use Rattle.smt_terms.specs.declared.sort.Sort.{Sort}
+use Rattle.smt_terms.specs.declared.sort.Sort.TheVariants as sort
+use Rattle.smt_terms.specs.declared.sort.Signature.{Signature}
+use Rattle.smt_values.specs.declared.value.Value.{Value}
+use Rattle.smt_build.specs.declared.symbols.LiveName.{LiveName}
 use Rattle.proof_log.specs.declared.entry.Entry.{Entry}
 use Rattle.proof_text.specs.declared.line.Line.{Line}
 use Rattle.proof_text.specs.declared.line.Line.TheVariants as line
 use Rattle.proof_text.specs.declared.record.Record.{Record}
-use Rattle.proof_text.specs.Lines.{line_text}
+use Rattle.proof_text.specs.declared.record.Record.TheVariants.{Sat}
+use Rattle.proof_text.specs.Lines.{line_text, value_text as written_text}
 use Rattle.proof_text.specs.Entries.{entry_line}
-use Rattle.proof_text.specs.Records.{record_lines}
-use Rattle.accepted_proof.specs.Turns.{Turn, verdict_of}
+use Rattle.proof_text.specs.Records.{written_value, record_lines}
+use Rattle.accepted_proof.specs.Models.{value_for}
+use Rattle.accepted_proof.specs.Turns.{Turn, verdict_of, state_after}
 
 -- ---- answers (SMT-LIB 2.6, section 4.1.1)
 
@@ -32,16 +43,66 @@ abbrev pub shown_text : Option Record → List ℕ
 shown_text None = []
 shown_text (Some r) = verdict_text (verdict_of r)
 
-abbrev pub answer_text : ℕ → Answer → Option Record → List ℕ
-answer_text line Done shown = []
-answer_text line (Refused error) shown = error_text line error
-answer_text line Check shown = shown_text shown
+-- ---- models (SMT-LIB 2.6, section 4.2.6)
 
-abbrev pub turn_text : Turn → List ℕ
-turn_text t = answer_text t.line t.answer t.shown
+abbrev pub word_sort_text : ℕ → List ℕ
+word_sort_text n = codes "(_ BitVec " ++ decimal n ++ codes ")"
+
+abbrev pub sort_text : Sort → List ℕ
+sort_text sort.Bool = codes "Bool"
+sort_text (sort.Word n) = word_sort_text n
+sort_text (sort.Array n m) = codes "(Array " ++ word_sort_text n ++ codes " " ++ word_sort_text m ++ codes ")"
+
+-- a truth value, or a word by its digits, as in the lines of a proof
+abbrev pub value_text : Value → List ℕ
+value_text v = flat_map written_text (option_to_list (written_value v))
+
+-- the constant of a name, of this sort, with this value
+abbrev pub definition_text : List ℕ → Sort → Value → List ℕ
+definition_text name s v = codes "(define-fun " ++ symbol_text name ++ codes " () " ++ sort_text s ++ codes " " ++ value_text v ++ codes ")" ++ 10 ∷ []
+
+abbrev pub definition_by : List ℕ → Option Signature → Option Value → List ℕ
+definition_by name (Some s) (Some v) = definition_text name s.value v
+definition_by name _ _ = []
+
+-- the live names in the order of their declarations, each with its value
+abbrev pub definitions_text : StateValue → List (ℕ × Value) → List ℕ
+definitions_text s values = flat_map (λ (l : LiveName). definition_by l.name (slice_get s.symbols.signatures l.declaration) (value_for values l.declaration)) s.symbols.live
+
+abbrev pub model_text : StateValue → Option Record → List ℕ
+model_text s (Some (Sat values)) = codes "(" ++ 10 ∷ [] ++ definitions_text s values ++ codes ")" ++ 10 ∷ []
+model_text s _ = []
+
+-- ---- the answers to commands
+
+abbrev pub done_text : Options → List ℕ
+done_text o = if o.print_success then codes "success" ++ 10 ∷ [] else []
+
+-- how it is answered: the line on which the command begins, the state then, the record of the last check before, and that
+-- of the command's own
+abbrev pub answer_text : ℕ → Answer → StateValue → Option Record → Option Record → List ℕ
+answer_text line Done s last shown = done_text s.options
+answer_text line (Refused error) s last shown = error_text line error
+answer_text line Check s last shown = shown_text shown
+answer_text line (Says text) s last shown = text ++ 10 ∷ []
+answer_text line Model s last shown = model_text s last
+answer_text line Exit s last shown = done_text s.options
+
+-- in this state, where the last check before has this record
+abbrev pub turn_text : StateValue → Option Record → Turn → List ℕ
+turn_text s last t = answer_text t.line t.answer (step s t.says).1 last t.shown
+
+-- the record of the last check
+abbrev pub last_shown : Option Record → Option Record → Option Record
+last_shown last None = last
+last_shown last (Some r) = Some r
+
+abbrev pub answers_from : StateValue → Option Record → List Turn → List ℕ
+answers_from s last [] = []
+answers_from s last (t ∷ ts) = turn_text s last t ++ answers_from (state_after s t) (last_shown last t.shown) ts
 
 abbrev pub answers_of : List Turn → List ℕ
-answers_of turns = flat_map turn_text turns
+answers_of turns = answers_from no_state None turns
 
 -- ---- errors
 
@@ -49,6 +110,9 @@ abbrev pub is_error : Answer → Bool
 is_error Done = false
 is_error (Refused error) = true
 is_error Check = false
+is_error (Says text) = false
+is_error Model = false
+is_error Exit = false
 
 abbrev pub is_refused : Turn → Bool
 is_refused t = is_error t.answer

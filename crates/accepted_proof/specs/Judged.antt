@@ -1,13 +1,15 @@
 -- What is judged of the lines of a proof, one after the other: the first bad line and its rule, or that there is none.
 use Rattle.std.specs.Prelude.{◌≡◌, ◌⊎◌, ◌≤◌, ◌+◌, ℕ, Bool, true, false, if◌then◌else◌, List, [], ◌∷◌, ◌++◌, length, slice_get, Option, Some, None}
+use Rattle.std.specs.List.{list_any}
 use Rattle.smt_text.specs.declared.chunk.Chunk.{Chunk}
+use Rattle.smt_text.specs.Script.{AreChunks}
 use Rattle.smt_values.specs.declared.value.Value.{Value}
 use Rattle.smt_build.specs.declared.symbols.LiveName.{LiveName}
 use Rattle.script_state.specs.declared.answer.Answer.{Answer}
 use Rattle.script_state.specs.declared.answer.Answer.TheVariants as answer
 use Rattle.script_state.specs.States.{StateValue, no_state, concluded}
 use Rattle.script_state.specs.Readings.{Reading, ReadsAs}
-use Rattle.script_state.specs.Steps.{step}
+use Rattle.script_state.specs.Steps.{step, ends}
 use Rattle.proof_log.specs.declared.entry.Entry.{Entry}
 use Rattle.proof_log.specs.Logs.{state_of}
 use Rattle.proof_log.specs.Faults.{IsValid}
@@ -22,6 +24,7 @@ use Rattle.accepted_proof.specs.declared.refusal.RuleName.{RuleName}
 use Rattle.accepted_proof.specs.declared.refusal.RuleName.TheVariants as rule
 use Rattle.accepted_proof.specs.declared.refusal.Refusal.{Refusal}
 use Rattle.accepted_proof.specs.Models.{interpretation_of, IsModel, IsOfSignature}
+use Rattle.accepted_proof.specs.Accepted.{IsFront}
 use Rattle.accepted_proof.specs.Turns.{IsOfScript, IsRefutation, with_step, verdict_of}
 
 -- ---- where the judging stands
@@ -64,6 +67,9 @@ abbrev pub owed_by : Answer → Owed
 owed_by answer.Done = Nothing
 owed_by (answer.Refused e) = Nothing
 owed_by answer.Check = Steps
+owed_by (answer.Says text) = Nothing
+owed_by answer.Model = Nothing
+owed_by answer.Exit = Nothing
 
 -- a command that is refused is passed over, and a check owes its steps and its record
 abbrev pub commanded : Judging → Reading → Judging
@@ -141,10 +147,10 @@ is_idle Steps = false
 is_idle (Values next left values) = false
 is_idle (Over r) = false
 
--- the commands up to the next check are done
+-- the commands up to the next check are done; behind one that ends the run there are none
 abbrev pub reach : Judging → List Reading → Judging × List Reading
 reach j [] = (j, [])
-reach j (c ∷ cs) = if is_idle j.owed then reach (commanded j c) cs else (j, c ∷ cs)
+reach j (c ∷ cs) = if is_idle j.owed then (if ends c then (commanded j c, []) else reach (commanded j c) cs) else (j, c ∷ cs)
 
 -- what is judged where the text ends
 abbrev pub ending : Owed → ℕ → Option Refusal
@@ -177,3 +183,7 @@ ReadEach [] [] = Unit {0}
 ReadEach [] (s ∷ ss) = ⊥
 ReadEach (c ∷ cs) [] = ⊥
 ReadEach (c ∷ cs) (s ∷ ss) = ReadsAs c s × ReadEach cs ss
+
+-- these chunks, which read so, are all that is read of the script: all of it, or what stands up to a command that ends the run
+abbrev pub AreAllSaid : List ℕ → List Chunk → List Reading → Type 0
+AreAllSaid script chunks says = AreChunks script chunks ⊎ ((list_any ends says ≡ true) × IsFront script chunks)

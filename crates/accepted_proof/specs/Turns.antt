@@ -9,7 +9,7 @@ use Rattle.script_state.specs.Readings.{Reading}
 use Rattle.smt_build.specs.Names.{IsDeclared}
 use Rattle.scope_selectors.specs.declared.live.Live.{Live}
 use Rattle.script_state.specs.declared.answer.Answer.{Answer}
-use Rattle.script_state.specs.declared.answer.Answer.TheVariants.{Done, Refused, Check}
+use Rattle.script_state.specs.declared.answer.Answer.TheVariants.{Done, Refused, Check, Says, Model, Exit}
 use Rattle.script_state.specs.declared.answer.Verdict.{Verdict}
 use Rattle.script_state.specs.declared.answer.Verdict.TheVariants as verdict
 use Rattle.script_state.specs.States.{StateValue, concluded}
@@ -36,7 +36,7 @@ IsOfScript s (entry.Chain c hints) = Unit {0}
 
 -- the terms after a step
 abbrev pub with_step : StateValue → Entry → StateValue
-with_step s e = record { symbols = s.symbols; terms = terms_after s.terms e; scopes = s.scopes; standing = s.standing }
+with_step s e = record { symbols = s.symbols; terms = terms_after s.terms e; scopes = s.scopes; options = s.options; standing = s.standing }
 
 abbrev pub with_steps : StateValue → List Entry → StateValue
 with_steps s [] = s
@@ -87,6 +87,9 @@ pub record Turn : Type 0 where
 abbrev pub HasProof : Answer → StateValue → List Entry → List Entry → Option Record → Type 0
 HasProof Done s log steps shown = (steps ≡ []) × (shown ≡ None)
 HasProof (Refused e) s log steps shown = (steps ≡ []) × (shown ≡ None)
+HasProof (Says text) s log steps shown = (steps ≡ []) × (shown ≡ None)
+HasProof Model s log steps shown = (steps ≡ []) × (shown ≡ None)
+HasProof Exit s log steps shown = (steps ≡ []) × (shown ≡ None)
 HasProof Check s log steps None = ⊥
 HasProof Check s log steps (Some r) = AreStepsOf s log steps × IsShown s (with_steps s steps).terms.nodes (log ++ steps) r
 

@@ -3,14 +3,14 @@
 ghost use Rattle.std.specs.Prelude.{◌≡◌, ℕ, List, [], ◌∷◌, map, false, true, Option, Some, None};
 ghost use Rattle.std.specs.List.{flat_map};
 ghost use Rattle.smt_text.specs.declared.chunk.Chunk.{Chunk};
-ghost use Rattle.smt_text.specs.Script.{AreChunks};
 ghost use Rattle.script_state.specs.Readings.{Reading};
+ghost use Rattle.script_state.specs.Steps.{ends};
 ghost use Rattle.proof_text.specs.declared.line.Line.{Line};
 ghost use Rattle.accepted_proof.specs.declared.refusal.Refusal.{Refusal};
 ghost use Rattle.accepted_proof.specs.Turns.{Turn};
 ghost use Rattle.accepted_proof.specs.Answers.{turn_lines, proof_of};
 ghost use Rattle.accepted_proof.specs.Accepted.{Accepted};
-ghost use Rattle.accepted_proof.specs.Judged.{Judging, no_judging, is_idle, commanded, Moves, Judged, JudgedProof, ReadEach};
+ghost use Rattle.accepted_proof.specs.Judged.{Judging, no_judging, is_idle, commanded, Moves, Judged, JudgedProof, ReadEach, AreAllSaid};
 
 /// An accepted proof is judged to have no bad line.
 pub fn accepted_proofs_are_judged()
@@ -18,10 +18,10 @@ pub fn accepted_proofs_are_judged()
         → Judged no_judging (map (λ (t : Turn). t.says) turns) (map (λ l. Some l) (flat_map turn_lines turns)) None }
 {}
 
-/// A proof without a bad line is accepted.
+/// A proof without a bad line is accepted; what stands in the script behind a command that ends the run need not be read.
 pub fn judged_proofs_are_accepted()
     ensures { (script : List ℕ) (chunks : List Chunk) (says : List Reading) (lines : List (Option Line))
-        → AreChunks script chunks → ReadEach chunks says → Judged no_judging says lines None
+        → AreAllSaid script chunks says → ReadEach chunks says → Judged no_judging says lines None
         → (turns : List Turn) × (lines ≡ map (λ l. Some l) (flat_map turn_lines turns)) × Accepted script (proof_of turns) turns }
 {}
 
@@ -33,10 +33,13 @@ pub fn proofs_are_judged_one_way()
         → JudgedProof says lines o → JudgedProof says lines p → o ≡ p }
 {}
 
-/// What is judged of the rest, behind a line or a command, is judged of the whole.
+/// What is judged of the rest, behind a line or a command, is judged of the whole. Behind a command that ends the run no
+/// commands are left.
 pub fn the_rest_is_judged_as_the_whole()
     ensures line { (old new : Judging) (says : List Reading) (line : Option Line) (lines : List (Option Line)) (o : Option Refusal)
         → is_idle old.owed ≡ false → Moves old line new → Judged new says lines o → Judged old says (line ∷ lines) o }
     ensures command { (old : Judging) (says : List Reading) (first : Reading) (lines : List (Option Line)) (o : Option Refusal)
-        → is_idle old.owed ≡ true → Judged (commanded old first) says lines o → Judged old (first ∷ says) lines o }
+        → is_idle old.owed ≡ true → ends first ≡ false → Judged (commanded old first) says lines o → Judged old (first ∷ says) lines o }
+    ensures last { (old : Judging) (says : List Reading) (first : Reading) (lines : List (Option Line)) (o : Option Refusal)
+        → is_idle old.owed ≡ true → ends first ≡ true → Judged (commanded old first) [] lines o → Judged old (first ∷ says) lines o }
 {}

@@ -1,15 +1,21 @@
 //! What follows from the definitions alone.
 
-ghost use Rattle.std.specs.Prelude.{◌≡◌, ℕ, List, []};
+ghost use Rattle.std.specs.Prelude.{◌≡◌, ℕ, List, [], None};
 ghost use Rattle.script_state.specs.States.{no_state};
 ghost use Rattle.accepted_proof.specs.Turns.{Turn, AreTurns};
-ghost use Rattle.accepted_proof.specs.Right.{AreRight};
+ghost use Rattle.accepted_proof.specs.Right.{AreRight, ArePrinted};
 ghost use Rattle.accepted_proof.specs.Accepted.{Accepted, StandsBeside, readings_of};
 
 /// Where turns follow one after the other, each `sat` stands beside a model of the assertions that are live there, and
 /// where there is an `unsat` they have none.
 pub fn answers_are_right()
     ensures { (turns : List Turn) → AreTurns no_state [] turns → AreRight no_state turns }
+{}
+
+/// Where turns follow one after the other, a model is printed only where the last check has a record of one, and what is
+/// printed is a model of the assertions that are live then.
+pub fn models_are_printed_of_the_standing_check()
+    ensures { (turns : List Turn) → AreTurns no_state [] turns → ArePrinted no_state None turns }
 {}
 
 /// What an accepted proof shows is right, whoever wrote it.

@@ -1,11 +1,12 @@
 use Rattle.std.proofs.Common.{refl, []}
 use Rattle.script_state.specs.States.{no_state, IsState}
 use Rattle.accepted_proof.proofs.Completing.{judged_turns}
+use Rattle.accepted_proof.proofs.Reading.{all_of_turns}
 use Rattle.accepted_proof.proofs.Reaching.{reached_first}
 use Rattle.accepted_proof.proofs.Good.{states_keep}
 use Rattle.accepted_proof.proofs.judging.judged_proofs_are_accepted.Goals as goal
 
 pub returns : goal.returns
-returns c = λ script chunks says lines cut read h.
+returns c = λ script chunks says lines all read h.
     let t = judged_turns IsState states_keep chunks says lines no_state [] 2 reached_first.state read h in
-    (t.0, t.3, record { chunks = chunks; cut = cut; read = t.1; run = t.2; lines = refl })
+    (t.turns, t.lines, record { chunks = t.first; cut = all_of_turns script chunks t.first t.behind says t.turns t.cut all read t.read t.all; read = t.read; last = t.last; run = t.run; lines = refl })
