@@ -1,5 +1,5 @@
 -- The chunks of what is held.
-use Rattle.std.proofs.Common.{◌≡◌, ℕ, zero, suc, ◌+◌, ◌<◌, ◌≤◌, List, [], ◌∷◌, ◌++◌, length, Option, Some, None, refl, sym, ap, ◌∙◌, subst, arith, append-nil}
+use Rattle.std.proofs.Common.{◌≡◌, ℕ, zero, suc, ◌<◌, ◌≤◌, List, [], ◌∷◌, ◌++◌, length, Option, Some, None, refl, sym, ap, ◌∙◌, subst, arith, append-nil}
 use Rattle.std.specs.Prelude.{option_to_list}
 use Rattle.smt_text.specs.declared.chunk.Chunk.{Chunk}
 use Rattle.smt_text.specs.Search.{stop_at}
@@ -82,6 +82,13 @@ pub cut_one : (h : Held) (cs es : List Chunk) → AreCut h cs → AreCut h es �
 cut_one h cs es a b =
     let same = begins_one h a.whole b.whole a.rest b.rest a.begins b.begins a.ends b.ends in
     a.all ∙ ap (λ xs. xs ++ option_to_list (last_chunk a.rest)) same.0 ∙ ap (λ r. b.whole ++ option_to_list (last_chunk r)) same.1 ∙ sym b.all
+
+-- chunks, and those behind them
+pub cut_behind : (h : Held) (cs behind : List Chunk) (rest : Held) → Begins h cs rest → AreCut rest behind → AreCut h (cs ++ behind)
+cut_behind h [] behind rest b k = subst (λ (x : Held). AreCut x behind) b k
+cut_behind h (c ∷ cs) behind rest b k =
+    let m = cut_behind b.0 cs behind rest b.2 k in
+    record { whole = c ∷ m.whole; rest = m.rest; begins = (b.0, b.1, m.begins); ends = m.ends; all = ap (λ x. c ∷ x) m.all }
 
 -- ---- the end of a script
 

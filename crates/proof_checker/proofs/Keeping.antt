@@ -1,19 +1,20 @@
 -- What is judged behind a step is judged before it.
-use Rattle.std.proofs.Common.{◌≡◌, ℕ, ◌+◌, ◌<◌, ◌≤◌, Bool, true, false, List, [], ◌∷◌, ◌++◌, length, Option, Some, None, refl, sym, ap, ◌∙◌, subst, inl, inr, ⊎_elim, arith, append_assoc, append-nil}
-use Rattle.std.specs.Prelude.{◌⊎◌, Result, Ok, Err, IfOk, MatchResult}
+use Rattle.std.proofs.Common.{◌≡◌, ℕ, ◌<◌, ◌≤◌, Bool, true, false, List, [], ◌∷◌, ◌++◌, length, Option, Some, None, refl, sym, ap, ◌∙◌, subst, inl, inr, arith, append-nil}
+use Rattle.std.specs.Prelude.{◌⊎◌, ◌||◌, Result, Ok, Err, IfOk, MatchResult}
 use Rattle.std.specs.Result.{result_err}
+use Rattle.std.specs.List.{list_any}
 use Rattle.smt_text.specs.declared.chunk.Chunk.{Chunk}
 use Rattle.smt_text.specs.Framing.{Held}
 use Rattle.script_state.specs.declared.answer.Verdict.{Verdict}
 use Rattle.script_state.specs.Readings.{ReadsAs}
+use Rattle.script_state.specs.Steps.{ends}
 use Rattle.proof_text.specs.declared.line.Line.{Line}
 use Rattle.accepted_proof.specs.declared.refusal.Refusal.{Refusal}
-use Rattle.accepted_proof.specs.Judged as judged
-use Rattle.accepted_proof.specs.Judged.{Judging, no_judging, commanded, is_idle, ending, reach, Moves, IsHeader, bad_header, ReadEach}
+use Rattle.accepted_proof.specs.Judged.{Judging, no_judging, commanded, is_idle, ending, Moves, IsHeader, bad_header, ReadEach}
 use Rattle.accepted_proof.proofs.Following.{reach_here}
 use Rattle.proof_checker.specs.Checkers.{Says, CheckerValue, no_records, judged_so, GoesTo, answer_by, at_end}
-use Rattle.proof_checker.specs.Checked.{shown_at, AreCut, AreLines, Tells, TellsProof, IsTold}
-use Rattle.proof_checker.specs.Checkings.{and_more, MayCome, told_from, IsJudgedFrom, Judges, AreToCome, Keeps, verdicts_by, Concludes, held_by, IsSameScript, IsSameProof, TakesLine, TakesChunk, IsProofAtEnd, IsScriptAtEnd, IsAtLine, Stops, Advances}
+use Rattle.proof_checker.specs.Checked.{shown_at, AreCut, AreLines, Tells, IsTold}
+use Rattle.proof_checker.specs.Checkings.{and_more, MayCome, to_be_done, told_from, IsJudgedFrom, AreToCome, Keeps, verdicts_by, Concludes, held_by, IsSameScript, IsSameProof, TakesLine, TakesChunk, IsProofAtEnd, IsScriptAtEnd, IsLeft, HasNoCommand, IsAtLine, Stops, Advances}
 use Rattle.proof_checker.specs.declared.inputs.Inputs.{Inputs}
 use Rattle.proof_checker.specs.declared.checking.Checking.{Checking}
 use Rattle.proof_checker.specs.declared.checking.Judgement.{Judgement}
@@ -21,7 +22,7 @@ use Rattle.proof_checker.specs.declared.checking.Progress.{Progress}
 use Rattle.proof_checker.specs.declared.checking.Progress.TheVariants as progress
 use Rattle.proof_checker.specs.declared.checking.Step.{Step}
 use Rattle.proof_checker.specs.declared.checking.Step.TheVariants as step
-use Rattle.proof_checker.proofs.Splits.{lines_there, lines_nothing}
+use Rattle.proof_checker.proofs.Splits.{lines_there}
 use Rattle.proof_checker.proofs.Chunking.{more_none, cut_there, cut_one}
 use Rattle.proof_checker.proofs.Telling.{IsReached, tells_line, tells_end, tells_command, tells_over, over_of, ending_none, shown_behind}
 
@@ -69,18 +70,34 @@ no_rest : (rest : List Says) (behind : List Chunk) → behind ≡ [] → length 
 no_rest [] behind e h = refl
 no_rest (r ∷ rest) behind e h = absurd (let f : length (r ∷ rest) ≡ 0 = h ∙ ap length e in omega arith)
 
-reached : (i : Inputs) (c : CheckerValue) → IsAtLine i c → (s : List ℕ) (chunks behind : List Chunk) (says rest : List Says) → MayCome i.script_ended s → AreCut (and_more i.framer s) (chunks ++ behind) → ReadEach chunks says → length rest ≡ length behind → IsReached c.judging (says ++ rest)
-reached i c (inl e) s chunks behind says rest t k r n = reach_here c.judging (says ++ rest) e
-reached i c (inr e) s chunks behind says rest t k r n =
+none_reached : (j : Judging) (ended : Bool) → IsReached j (to_be_done ended [])
+none_reached j true = refl
+none_reached j false = refl
+
+reached : (i : Inputs) (c : CheckerValue) → IsAtLine i c → (s : List ℕ) (chunks behind : List Chunk) (says rest : List Says) → MayCome i.script_ended s → AreCut (and_more i.framer s) (chunks ++ behind) → ReadEach chunks says → length rest ≡ length behind → IsReached c.judging (to_be_done i.run_ended (says ++ rest))
+reached i c (inl e) s chunks behind says rest t k r n = reach_here c.judging (to_be_done i.run_ended (says ++ rest)) e
+reached i c (inr (inl e)) s chunks behind says rest t k r n = subst (λ b. IsReached c.judging (to_be_done b (says ++ rest))) (sym e) refl
+reached i c (inr (inr e)) s chunks behind says rest t k r n =
     let b = none_behind chunks behind (no_chunks i s (chunks ++ behind) e t k) in
     let none : says ++ rest ≡ [] = ap (λ x. x ++ rest) (no_readings chunks says b.0 r) ∙ no_rest rest behind b.1 n in
-    subst (IsReached c.judging) (sym none) refl
+    subst (λ x. IsReached c.judging (to_be_done i.run_ended x)) (sym none) (none_reached c.judging i.run_ended)
+
+-- what is judged where the run ended, or did not
+abbrev ToldBy : Bool → Held → List ℕ → Option CheckerValue → List Verdict → Option Refusal → Type 0
+ToldBy ended script proof c vs o = IsTold (told_from ended c) ended script proof vs o
 
 -- ---- a line
 
 module _ (old new : Inputs) (l : Option Line) (same : IsSameScript old new) (takes : TakesLine old new l) where
   cut_back : (s : List ℕ) (cs : List Chunk) → AreCut (and_more new.framer s) cs → AreCut (and_more old.framer s) cs
   cut_back s cs k = subst (λ (x : Held). AreCut (and_more x s) cs) same.framer k
+
+  -- the run ended or did not, as before
+  told_back : (c : Option CheckerValue) (cs : List Says) (ls : List (Option Line)) (vs : List Verdict) (o : Option Refusal) → told_from new.run_ended c cs ls vs o → told_from old.run_ended c cs ls vs o
+  told_back c cs ls vs o h = subst (λ b. told_from b c cs ls vs o) same.run h
+
+  whole_back : (behind : List Chunk) (says : List Says) (o : Option Refusal) → (o ≡ None → (behind ≡ []) ⊎ ((new.run_ended || list_any ends says) ≡ true)) → o ≡ None → (behind ≡ []) ⊎ ((old.run_ended || list_any ends says) ≡ true)
+  whole_back behind says o h = subst (λ b. o ≡ None → (behind ≡ []) ⊎ ((b || list_any ends says) ≡ true)) same.run h
 
   fewer : held_by new < held_by old
   fewer = let e : length new.framer.bytes ≡ length old.framer.bytes = ap (λ (x : Held). length x.bytes) same.framer in let f = takes.less in omega arith
@@ -99,8 +116,8 @@ module _ (old new : Inputs) (l : Option Line) (same : IsSameScript old new) (tak
             cut = cut_back s (h.chunks ++ h.behind) h.cut;
             read = h.read;
             split = takes.lines p h.lines t.proof h.split;
-            told = λ rest n. let q = h.told rest n in inl (head, subst (λ x. Tells no_judging (h.says ++ rest) h.lines x o) (sym q.1) q.2);
-            whole = h.whole;
+            told = λ rest n. let q = told_back (Some no_records) (h.says ++ rest) h.lines vs o (h.told rest n) in inl (head, subst (λ x. Tells no_judging (to_be_done old.run_ended (h.says ++ rest)) h.lines x o) (sym q.1) q.2);
+            whole = whole_back h.behind h.says o h.whole;
           };
       script = ap (λ (x : Inputs). x.script_ended) ki ∙ same.script;
       proof = ap (λ (x : Inputs). x.proof_ended) ki ∙ same.proof;
@@ -143,10 +160,10 @@ module _ (old new : Inputs) (l : Option Line) (same : IsSameScript old new) (tak
               read = h.read;
               split = takes.lines p h.lines t.proof h.split;
               told = λ rest n.
-                  let q = h.told rest n in
+                  let q = told_back (Some d) (h.says ++ rest) h.lines vs o (h.told rest n) in
                   let r = reached old c at s h.chunks h.behind h.says rest t.script k' h.read n in
-                  (shown_at d.judging ++ q.0, q.1 ∙ shown_behind (Moves c.judging l) c d q.0 goes, tells_line c.judging d.judging (h.says ++ rest) l h.lines q.0 o r goes.judged q.2);
-              whole = h.whole;
+                  (shown_at d.judging ++ q.0, q.1 ∙ shown_behind (Moves c.judging l) c d q.0 goes, tells_line c.judging d.judging (to_be_done old.run_ended (h.says ++ rest)) l h.lines q.0 o r goes.judged q.2);
+              whole = whole_back h.behind h.says o h.whole;
             };
         script = ap (λ (x : Inputs). x.script_ended) ki ∙ same.script;
         proof = ap (λ (x : Inputs). x.proof_ended) ki ∙ same.proof;
@@ -170,7 +187,7 @@ module _ (old new : Inputs) (l : Option Line) (same : IsSameScript old new) (tak
           split = takes.lines p ls.0 t.proof ls.1;
           told = λ rest n.
               let q = reached old c at s [] cs.0 [] rest t.script cs.1 tt n in
-              (shown_at d.judging ++ [], sym (append-nil d.verdicts) ∙ shown_behind (Moves c.judging l) c d [] goes, tells_line c.judging d.judging rest l ls.0 [] (Some r) q goes.judged (tells_over d.judging r (over_of d.judging.owed r e) rest ls.0));
+              (shown_at d.judging ++ [], sym (append-nil d.verdicts) ∙ shown_behind (Moves c.judging l) c d [] goes, tells_line c.judging d.judging (to_be_done old.run_ended rest) l ls.0 [] (Some r) q goes.judged (tells_over d.judging r (over_of d.judging.owed r e) (to_be_done old.run_ended rest) ls.0));
           whole = λ z. absurd (let y : ⊥ = cc in y);
         }))
 
@@ -198,7 +215,7 @@ module _ (old : Inputs) (end : IsProofAtEnd old) where
       }))
 
   module _ (c : CheckerValue) (o : Option Refusal) (e : ending c.judging.owed c.judging.line ≡ o) where
-    told_end : (s p : List ℕ) (behind : List Chunk) → AreToCome old s p → IsAtLine old c → AreCut (and_more old.framer s) behind → (o ≡ None → behind ≡ []) → IsJudgedFrom old (Some c) s p c.verdicts o
+    told_end : (s p : List ℕ) (behind : List Chunk) → AreToCome old s p → IsAtLine old c → AreCut (and_more old.framer s) behind → (o ≡ None → (behind ≡ []) ⊎ ((old.run_ended || false) ≡ true)) → IsJudgedFrom old (Some c) s p c.verdicts o
     told_end s p behind t at k w = record {
       chunks = [];
       behind = behind;
@@ -209,7 +226,7 @@ module _ (old : Inputs) (end : IsProofAtEnd old) where
       split = nothing_left p t.proof;
       told = λ rest n.
           let q = reached old c at s [] behind [] rest t.script k tt n in
-          ([], sym (append-nil c.verdicts), subst (λ x. Tells c.judging rest [] [] x) e (tells_end c.judging rest q));
+          ([], sym (append-nil c.verdicts), subst (λ x. Tells c.judging (to_be_done old.run_ended rest) [] [] x) e (tells_end c.judging (to_be_done old.run_ended rest) q));
       whole = w;
     }
 
@@ -217,7 +234,10 @@ module _ (old : Inputs) (end : IsProofAtEnd old) where
     ends_by s p t (inl i) =
         let cs = cut_there (and_more old.framer s) in
         told_end s p cs.0 t (inl i) cs.1 (λ z. absurd (let f = ending_none c.judging.owed c.judging.line (e ∙ z) in let y : ⊥ = cc in y))
-    ends_by s p t (inr i) = told_end s p [] t (inr i) (subst (λ (x : Held). AreCut x []) (sym (more_none old.framer s (t.script i.ended))) i.cut) (λ z. refl)
+    ends_by s p t (inr (inl i)) =
+        let cs = cut_there (and_more old.framer s) in
+        told_end s p cs.0 t (inr (inl i)) cs.1 (λ z. inr (ap (λ b. b || false) i))
+    ends_by s p t (inr (inr i)) = told_end s p [] t (inr (inr i)) (subst (λ (x : Held). AreCut x []) (sym (more_none old.framer s (t.script i.ended))) i.cut) (λ z. inl refl)
 
     pub ended : IsAtLine old c → (d : CheckerValue) → d.verdicts ≡ c.verdicts → (j : Judgement) → j.checker ≡ Some d → j.refusal ≡ o → Concludes old (Some c) j
     ended at d same j jc jr s p t =
@@ -227,28 +247,37 @@ module _ (old : Inputs) (end : IsProofAtEnd old) where
 
 -- ---- a command
 
+-- the same inputs, where a command ended the run, or did not
+abbrev pub run_by : Inputs → Bool → Inputs
+run_by i ended = record { framer = i.framer; script_ended = i.script_ended; run_ended = ended; reader = i.reader; proof_ended = i.proof_ended }
+
 module _ (old new : Inputs) (same : IsSameProof old new) where
-  pub command_done : (chunk : Chunk) → TakesChunk old new chunk → (c d : CheckerValue) (says : Says) → is_idle c.judging.owed ≡ true → ReadsAs chunk says → d ≡ judged_so c (commanded c.judging says) → (k : Checking) → k.inputs ≡ new → k.checker ≡ Some d → Advances old (Some c) (step.On k)
-  command_done chunk takes c d says idle reads e k ki kc = (
+  pub command_done : (chunk : Chunk) → (old.run_ended ≡ false) × TakesChunk old new chunk → (c d : CheckerValue) (says : Says) (ended : Bool) → is_idle c.judging.owed ≡ true → ReadsAs chunk says → d ≡ judged_so c (commanded c.judging says) → ended ≡ ends says → (k : Checking) → k.inputs ≡ run_by new ended → k.checker ≡ Some d → Advances old (Some c) (step.On k)
+  command_done chunk takes c d says ended idle reads e f k ki kc = (
     record {
       judged = λ s p vs o t h'.
-          let h : IsJudgedFrom new (Some (judged_so c (commanded c.judging says))) s p vs o = subst (λ (x : CheckerValue). IsJudgedFrom new (Some x) s p vs o) e (subst (λ (x : Option CheckerValue). IsJudgedFrom new x s p vs o) kc (subst (λ (x : Inputs). IsJudgedFrom x k.checker s p vs o) ki h')) in
-          record {
+          let g : IsJudgedFrom (run_by new ended) (Some (judged_so c (commanded c.judging says))) s p vs o = subst (λ (x : CheckerValue). IsJudgedFrom (run_by new ended) (Some x) s p vs o) e (subst (λ (x : Option CheckerValue). IsJudgedFrom (run_by new ended) x s p vs o) kc (subst (λ (x : Inputs). IsJudgedFrom x k.checker s p vs o) ki h')) in
+          let h : IsJudgedFrom (run_by new (ends says)) (Some (judged_so c (commanded c.judging says))) s p vs o = subst (λ b. IsJudgedFrom (run_by new b) (Some (judged_so c (commanded c.judging says))) s p vs o) f g in
+          before (sym takes.0) s p vs o (record {
             chunks = chunk ∷ h.chunks;
             behind = h.behind;
             says = says ∷ h.says;
             lines = h.lines;
-            cut = takes.chunks s (h.chunks ++ h.behind) t.script h.cut;
+            cut = takes.1.chunks s (h.chunks ++ h.behind) t.script h.cut;
             read = (reads, h.read);
             split = subst (λ x. AreLines (x.bytes ++ p) h.lines) same.reader h.split;
             told = λ rest n. let q = h.told rest n in (q.0, q.1, tells_command c.judging says (h.says ++ rest) h.lines q.0 o idle q.2);
             whole = h.whole;
-          };
+          });
       script = ap (λ (x : Inputs). x.script_ended) ki ∙ same.script;
       proof = ap (λ (x : Inputs). x.proof_ended) ki ∙ same.proof;
     },
-    subst (λ (x : Inputs). held_by x < held_by old) (sym ki) (let f = takes.less in let g : length new.reader.bytes ≡ length old.reader.bytes = ap (λ x. length x.bytes) same.reader in omega arith),
+    subst (λ (x : Inputs). held_by x < held_by old) (sym ki) (let f = takes.1.less in let g : length new.reader.bytes ≡ length old.reader.bytes = ap (λ x. length x.bytes) same.reader in omega arith),
   )
+    where
+      -- the run did not end before
+      before : false ≡ old.run_ended → (s p : List ℕ) (vs : List Verdict) (o : Option Refusal) → ToldBy false (and_more old.framer s) (old.reader.bytes ++ p) (Some c) vs o → IsJudgedFrom old (Some c) s p vs o
+      before on s p vs o h = subst (λ b. ToldBy b (and_more old.framer s) (old.reader.bytes ++ p) (Some c) vs o) on h
 
   -- at the end of the script
   module _ (was : IsScriptAtEnd old) (is : IsScriptAtEnd new) (le : length new.framer.bytes ≤ length old.framer.bytes) (c : CheckerValue) where
@@ -264,8 +293,8 @@ module _ (old new : Inputs) (same : IsSameProof old new) where
           cut = subst (λ x. AreCut (and_more old.framer s) x) (sym none) (subst (λ (x : Held). AreCut x []) (sym (more_none old.framer s (t.script was.ended))) was.cut);
           read = h.read;
           split = subst (λ x. AreLines (x.bytes ++ p) h.lines) same.reader h.split;
-          told = h.told;
-          whole = h.whole;
+          told = λ rest n. subst (λ b. told_from b (Some c) (h.says ++ rest) h.lines vs o) same.run (h.told rest n);
+          whole = subst (λ b. o ≡ None → (h.behind ≡ []) ⊎ ((b || list_any ends h.says) ≡ true)) same.run h.whole;
         }
 
     keeps_back : (k : Checking) → Keeps new (Some c) k → Keeps old (Some c) k
@@ -281,24 +310,38 @@ module _ (old new : Inputs) (same : IsSameProof old new) where
     advances_back (step.Stop (progress.Proof k)) h = (keeps_back k h.0, h.1)
     advances_back (step.Stop (progress.Done j)) h = λ s p t. judged_back s p (verdicts_by j.checker) j.refusal t (h s p (still old new s p same.script same.proof t))
 
-    pub result_back : {E : Type 0} (r : Result Step E) → IfOk r (λ x. Advances new (Some c) x) → IfOk r (λ x. Advances old (Some c) x)
-    result_back (Ok x) h = advances_back x h
-    result_back (Err e) h = tt
-
 -- ---- nothing was taken
 
-same_inputs : (old new : Inputs) → new.framer ≡ old.framer → new.reader ≡ old.reader → new.script_ended ≡ old.script_ended → new.proof_ended ≡ old.proof_ended → new ≡ old
-same_inputs old new a b c d = λ i. record { framer = a i; script_ended = c i; reader = b i; proof_ended = d i }
+same_inputs : (old new : Inputs) → new.framer ≡ old.framer → new.reader ≡ old.reader → new.script_ended ≡ old.script_ended → new.run_ended ≡ old.run_ended → new.proof_ended ≡ old.proof_ended → new ≡ old
+same_inputs old new a b c r d = λ i. record { framer = a i; script_ended = c i; run_ended = r i; reader = b i; proof_ended = d i }
 
 pub proof_asked : (old new : Inputs) → IsSameScript old new → (old.proof_ended ≡ false) × (new.reader ≡ old.reader) → (c : Option CheckerValue) (k : Checking) → k.inputs ≡ new → k.checker ≡ c → Keeps old c k × (k.inputs.proof_ended ≡ false)
 proof_asked old new same h c k e f =
-    let i = same_inputs old new same.framer h.1 same.script same.proof in
+    let i = same_inputs old new same.framer h.1 same.script same.run same.proof in
     (keeps_none old c k (e ∙ i) f, ap (λ (x : Inputs). x.proof_ended) (e ∙ i) ∙ h.0)
 
 pub script_asked : (old new : Inputs) → IsSameProof old new → (old.script_ended ≡ false) × (new.framer ≡ old.framer) → (c : Option CheckerValue) (k : Checking) → k.inputs ≡ new → k.checker ≡ c → Keeps old c k × (k.inputs.script_ended ≡ false)
 script_asked old new same h c k e f =
-    let i = same_inputs old new h.1 same.reader same.script same.proof in
+    let i = same_inputs old new h.1 same.reader same.script same.run same.proof in
     (keeps_none old c k (e ∙ i) f, ap (λ (x : Inputs). x.script_ended) (e ∙ i) ∙ h.0)
+
+-- ---- no command follows
+
+abbrev pub NoChunk : Inputs → Inputs → Type 0
+NoChunk old new = IsLeft old new ⊎ (IsScriptAtEnd old × IsScriptAtEnd new × (length new.framer.bytes ≤ length old.framer.bytes))
+
+module _ (old new : Inputs) (same : IsSameProof old new) where
+  pub no_command : NoChunk old new → HasNoCommand new
+  no_command (inl e) = inl (same.run ∙ e.0)
+  no_command (inr e) = inr e.1
+
+  line_back : (c : CheckerValue) → NoChunk old new → (r : Step) → Advances new (Some c) r → Advances old (Some c) r
+  line_back c (inl e) r h = subst (λ (x : Inputs). Advances x (Some c) r) (same_inputs old new e.1 same.reader same.script same.run same.proof) h
+  line_back c (inr e) r h = advances_back old new same e.0 e.1 e.2 c r h
+
+  pub result_back : {E : Type 0} → NoChunk old new → (c : CheckerValue) (r : Result Step E) → IfOk r (λ x. Advances new (Some c) x) → IfOk r (λ x. Advances old (Some c) x)
+  result_back e c (Ok x) h = line_back c e x h
+  result_back e c (Err f) h = tt
 
 -- ---- what the end is answered
 

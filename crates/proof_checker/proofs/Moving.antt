@@ -1,13 +1,17 @@
 -- How a checker moves.
-use Rattle.std.proofs.Common.{◌≡◌, ℕ, suc, ◌+◌, ◌<◌, ◌≤◌, List, [], ◌∷◌, ◌++◌, length, drop, get_or, Some, None, Result, Ok, Err, IfOk, MatchResult, length-append, length-drop, drop-cons, refl, sym, ap, ◌∙◌, subst, inl, inr, arith}
+use Rattle.std.proofs.Common.{◌≡◌, ℕ, suc, Bool, true, false, ◌+◌, ◌<◌, ◌≤◌, List, [], ◌∷◌, ◌++◌, length, drop, get_or, Some, None, Result, Ok, Err, IfOk, MatchResult, length-append, length-drop, drop-cons, refl, sym, ap, ◌∙◌, subst, inl, inr, arith}
+use Rattle.std.specs.Prelude.{MatchBool}
 use Rattle.std.proofs.Math.ListN.{drop_of_length-le}
+use Rattle.std.proofs.lemmas.Bool.{false_from_ne_true}
 use Rattle.std.specs.declared.alloc.AllocError.{AllocError}
 use Rattle.smt_values.specs.declared.value.Value.{Value}
 use Rattle.smt_build.specs.declared.symbols.LiveName.{LiveName}
 use Rattle.script_state.specs.declared.answer.Answer.{Answer}
+use Rattle.script_state.specs.declared.answer.Answer.TheVariants.{Exit}
 use Rattle.script_state.specs.declared.answer.Verdict.{Verdict}
 use Rattle.script_state.specs.States.{StateValue, IsState}
-use Rattle.script_state.specs.Steps.{Step, step}
+use Rattle.script_state.specs.Steps.{Step, step, ends}
+use Rattle.script_state.proofs.Deciding.{ends_by_exit}
 use Rattle.script_state.proofs.Keeping.{GoesOn, step_goes_on}
 use Rattle.proof_log.specs.declared.entry.Entry.{Entry}
 use Rattle.proof_log.specs.Stored.{LogValue, Stands}
@@ -37,7 +41,22 @@ pub commanded_to : (s new : StateValue) (log : List Entry) (o p : Owed) (n : ℕ
     → held new log p n told ≡ judged_so (held s log o n told) (commanded (held s log o n told).judging says)
 commanded_to s new log o p n told a says e owed = ap (λ x. held new log x n told) owed ∙ ap (λ (to : Step). held to.1 log (owed_by to.0) n told) (sym e)
 
+-- a command ends the run where it is answered so
+pub ended_by : (b : Bool) (a : Answer) (s new : StateValue) (says : Says) → MatchBool b (a ≡ Exit) (a ≡ Exit → ⊥) → ◌≡◌ {A = Step} (step s says) (a, new) → b ≡ ends says
+ended_by true a s new says exit e = sym ((ends_by_exit s says).0 (ap (λ (to : Step). to.0) e ∙ exit))
+ended_by false a s new says other e = sym (false_from_ne_true (ends says) (λ f. other (sym (ap (λ (to : Step). to.0) e) ∙ (ends_by_exit s says).1 f)))
+
 -- ---- the end
+
+-- values of a model are owed still
+ending_owed : (left : List LiveName) (values : List (ℕ × Value)) (n : ℕ) → ending (values_owed left values) n ≡ Some (record { line = n; rule = rule.End })
+ending_owed [] values n = refl
+ending_owed (next ∷ left) values n = refl
+
+pub stopped_values : (c d : CheckerValue) (e : Due) (live : List LiveName) (values : List (ℕ × Value)) → c.judging.owed ≡ owed_of e live values → e ≡ due.Values → d ≡ judged_so c (refused c.judging rule.End) → d ≡ at_end c (ending c.judging.owed c.judging.line)
+stopped_values c d e live values owed at end =
+    let ends : ending c.judging.owed c.judging.line ≡ Some (record { line = c.judging.line; rule = rule.End }) = ap (λ o. ending o c.judging.line) (owed ∙ ap (λ (x : Due). owed_of x live values) at) ∙ ending_owed (drop (length values) live) values c.judging.line in
+    end ∙ ap (at_end c) (sym ends)
 
 pub told_at_end : (s : StateValue) (log : List Entry) (o : Owed) (n : ℕ) (told : List Verdict) (d : CheckerValue) (t : Result (Unit {0}) Refusal)
     → d ≡ at_end (held s log o n told) (ending o n) → t ≡ answer_by d.judging.owed → MatchResult t (λ _. ending o n ≡ None) (λ r. ending o n ≡ Some r)

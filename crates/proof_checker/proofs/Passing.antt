@@ -1,11 +1,12 @@
 -- Of laws on what is judged of two texts.
-use Rattle.std.proofs.Common.{◌≡◌, ℕ, ◌+◌, ◌≤◌, List, [], ◌∷◌, ◌++◌, map, length, Option, Some, None, refl, sym, ap, ◌∙◌, subst, inl, inr, arith, append_assoc, append-nil}
-use Rattle.std.specs.Prelude.{◌⊎◌, Err}
-use Rattle.std.specs.List.{flat_map, AllByRecursion}
+use Rattle.std.proofs.Common.{◌≡◌, ℕ, ◌+◌, List, [], ◌∷◌, ◌++◌, map, length, Option, Some, None, refl, sym, ap, ◌∙◌, subst, inl, inr, arith, append_assoc, append-nil}
+use Rattle.std.specs.Prelude.{◌⊎◌, ◌||◌, true, Err}
+use Rattle.std.specs.List.{list_any, flat_map, AllByRecursion}
 use Rattle.smt_text.specs.declared.chunk.Chunk.{Chunk}
 use Rattle.smt_text.specs.Script.{AreChunks}
 use Rattle.script_state.specs.declared.answer.Verdict.{Verdict}
 use Rattle.script_state.specs.States.{no_state}
+use Rattle.script_state.specs.Steps.{ends}
 use Rattle.script_state.proofs.Deciding.{reads_one_way}
 use Rattle.proof_text.specs.declared.line.Line.{Line}
 use Rattle.proof_text.specs.declared.line.Line.TheVariants as line
@@ -13,17 +14,19 @@ use Rattle.proof_text.specs.Lines.{joined, words_of, line_text, IsLine}
 use Rattle.proof_text.proofs.Exact.{line_free}
 use Rattle.accepted_proof.specs.declared.refusal.Refusal.{Refusal}
 use Rattle.accepted_proof.specs.Turns.{Turn}
-use Rattle.accepted_proof.specs.Answers.{turn_lines, proof_of, header_text}
-use Rattle.accepted_proof.specs.Accepted.{AreRead, Accepted}
+use Rattle.accepted_proof.specs.Answers.{turn_lines, proof_of}
+use Rattle.accepted_proof.specs.Accepted.{AreRead, has_ended, AreAll, Accepted}
 use Rattle.accepted_proof.specs.Right.{AreRight}
-use Rattle.accepted_proof.specs.Judged.{no_judging, IsHeader, Judged, ReadEach}
+use Rattle.accepted_proof.proofs.Fronts.{front_fewer}
+use Rattle.accepted_proof.specs.Judged.{no_judging, Judged, ReadEach, AreAllSaid}
 use Rattle.script_state.specs.Readings.{ReadsAs}
 use Rattle.script_state.specs.declared.error_text.ErrorText.TheVariants.{UnfinishedCommand}
 use Rattle.proof_checker.specs.Checkers.{Says}
-use Rattle.proof_checker.specs.Checked.{AreCut, AreLines, Tells, TellsProof, IsTold, IsJudged, IsAccepted, verdicts_of}
+use Rattle.proof_checker.specs.Checked.{AreCut, AreLines, Tells, TellsProof, IsJudged, IsAccepted, verdicts_of}
 use Rattle.proof_checker.proofs.Splits.{lines_one}
-use Rattle.proof_checker.proofs.Chunking.{cut_one}
-use Rattle.proof_checker.proofs.Verdicts.{judged_of, tells_there, one_telling, one_proof_telling, proof_verdicts, line_verdict, of_turns}
+use Rattle.proof_checker.proofs.Chunking.{cut_there, cut_behind, cut_one}
+use Rattle.proof_checker.proofs.Telling.{tells_more, tells_less}
+use Rattle.proof_checker.proofs.Verdicts.{judged_of, tells_there, one_proof_telling, proof_verdicts, line_verdict, of_turns}
 
 -- ---- one thing at most
 
@@ -113,21 +116,45 @@ header_told (l ∷ ls) cs vs (inr h) = absurd (none_some _ h.2)
 
 abbrev pub JudgedLaw : Type 0
 JudgedLaw = (script : List ℕ) (chunks : List Chunk) (says : List Says) (lines : List (Option Line))
-    → AreChunks script chunks → ReadEach chunks says → Judged no_judging says lines None
+    → AreAllSaid script chunks says → ReadEach chunks says → Judged no_judging says lines None
     → (turns : List Turn) × (lines ≡ map (λ l. Some l) (flat_map turn_lines turns)) × Accepted script (proof_of turns) turns
 
 abbrev pub RightLaw : Type 0
 RightLaw = (script proof : List ℕ) (turns : List Turn) → Accepted script proof turns → AreRight no_state turns
 
-pub accepted_right : JudgedLaw → RightLaw → (script proof : List ℕ) (vs : List Verdict) → IsAccepted script proof vs → (turns : List Turn) × Accepted script (proof_of turns) turns × AreRight no_state turns × (vs ≡ verdicts_of turns)
-accepted_right law right script proof vs h =
-    let none = h.whole refl in
+-- the whole script is cut into these chunks
+all_cut : (script : List ℕ) (chunks : List Chunk) → AreCut (record { line = 1; bytes = script }) chunks → AreChunks script chunks
+all_cut script chunks k = record { whole = k.whole; rest = k.rest; begins = k.begins; ends = k.ends; all = k.all }
+
+-- the commands that are read, and what is told where no others are
+record IsAllTold (script : List ℕ) (chunks : List Chunk) (says : List Says) (lines : List (Option Line)) (vs : List Verdict) : Type 0 where
+  pub all : AreAllSaid script chunks says
+  pub rest : List (Option Line)
+  pub told : Tells no_judging says rest vs None
+
+all_told : (script proof : List ℕ) (vs : List Verdict) (h : IsAccepted script proof vs) → (h.behind ≡ []) ⊎ (list_any ends h.says ≡ true) → IsAllTold script h.chunks h.says h.lines vs
+all_told script proof vs h (inl none) =
     let said : TellsProof h.says h.lines vs None = subst (λ x. TellsProof x h.lines vs None) (append-nil h.says) (h.told [] (sym (ap length none))) in
     let m = header_told h.lines h.says vs said in
-    let cut = h.cut in
-    let chunks : AreChunks script h.chunks = record { whole = cut.whole; rest = cut.rest; begins = cut.begins; ends = cut.ends; all = sym (append-nil h.chunks) ∙ ap (λ x. h.chunks ++ x) (sym none) ∙ cut.all } in
-    let t = law script h.chunks h.says m.0 chunks h.read (judged_of m.0 no_judging h.says vs None m.1) in
-    (t.0, t.2, right script (proof_of t.0) t.0 t.2, proof_verdicts m.0 h.says vs m.1 ∙ ap (flat_map line_verdict) t.1 ∙ of_turns t.0)
+    record {
+      all = inl (all_cut script h.chunks (subst (AreCut (record { line = 1; bytes = script })) (ap (λ x. h.chunks ++ x) none ∙ append-nil h.chunks) h.cut));
+      rest = m.0;
+      told = m.1;
+    }
+all_told script proof vs h (inr ended) =
+    let more = some_readings h.behind in
+    let m = header_told h.lines (h.says ++ more) vs (h.told more (mapped_length (λ (x : Chunk). no_reading) h.behind)) in
+    record {
+      all = inr (ended, front_fewer script h.chunks h.behind (inr (all_cut script (h.chunks ++ h.behind) h.cut)));
+      rest = m.0;
+      told = tells_less m.0 more None no_judging h.says vs ended m.1;
+    }
+
+pub accepted_right : JudgedLaw → RightLaw → (script proof : List ℕ) (vs : List Verdict) → IsAccepted script proof vs → (turns : List Turn) × Accepted script (proof_of turns) turns × AreRight no_state turns × (vs ≡ verdicts_of turns)
+accepted_right law right script proof vs h =
+    let m = all_told script proof vs h (h.whole refl) in
+    let t = law script h.chunks h.says m.rest m.all h.read (judged_of m.rest no_judging h.says vs None m.told) in
+    (t.0, t.2, right script (proof_of t.0) t.0 t.2, proof_verdicts m.rest h.says vs m.told ∙ ap (flat_map line_verdict) t.1 ∙ of_turns t.0)
 
 -- ---- accepted proofs pass
 
@@ -148,6 +175,35 @@ lines_printed (l ∷ ls) h = line_first l (flat_map line_text ls) (map (λ l. So
 abbrev pub TurnsLaw : Type 0
 TurnsLaw = (script proof : List ℕ) (turns : List Turn) → Accepted script proof turns → Judged no_judging (map (λ (t : Turn). t.says) turns) (map (λ l. Some l) (flat_map turn_lines turns)) None
 
+-- a turn ends the run where its reading does
+ended_says : (turns : List Turn) → list_any ends (map (λ (t : Turn). t.says) turns) ≡ has_ended turns
+ended_says [] = refl
+ended_says (t ∷ ts) = ap (λ b. ends t.says || b) (ended_says ts)
+
+-- what is behind the chunks that are read, and that it does not matter
+record IsBehind (script : List ℕ) (chunks : List Chunk) (turns : List Turn) : Type 0 where
+  pub behind : List Chunk
+  pub cut : AreCut (record { line = 1; bytes = script }) (chunks ++ behind)
+  pub none : (behind ≡ []) ⊎ (list_any ends (map (λ (t : Turn). t.says) turns) ≡ true)
+
+whole_behind : (script : List ℕ) (chunks : List Chunk) (turns : List Turn) → AreChunks script chunks → IsBehind script chunks turns
+whole_behind script chunks turns a = record { behind = []; cut = record { whole = a.whole; rest = a.rest; begins = a.begins; ends = a.ends; all = append-nil chunks ∙ a.all }; none = inl refl }
+
+is_behind : (script : List ℕ) (chunks : List Chunk) (turns : List Turn) → AreAll script chunks turns → IsBehind script chunks turns
+is_behind script chunks turns (inl a) = whole_behind script chunks turns a
+is_behind script chunks turns (inr (e, inr a)) = whole_behind script chunks turns a
+is_behind script chunks turns (inr (e, inl b)) =
+    let k = cut_there b.0 in
+    record { behind = k.0; cut = cut_behind (record { line = 1; bytes = script }) chunks k.0 b.0 b.1 k.1; none = inr (ended_says turns ∙ e) }
+
+no_length : (rest : List Says) → length rest ≡ 0 → rest ≡ []
+no_length [] n = refl
+no_length (r ∷ rest) n = absurd (omega arith)
+
+told_behind : (lines : List (Option Line)) (says rest : List Says) (behind : List Chunk) (vs : List Verdict) → (behind ≡ []) ⊎ (list_any ends says ≡ true) → length rest ≡ length behind → Tells no_judging says lines vs None → Tells no_judging (says ++ rest) lines vs None
+told_behind lines says rest behind vs (inl none) n h = subst (λ x. Tells no_judging x lines vs None) (sym (ap (λ x. says ++ x) (no_length rest (n ∙ ap length none)) ∙ append-nil says)) h
+told_behind lines says rest behind vs (inr ended) n h = tells_more lines rest None no_judging says vs ended h
+
 pub accepted_pass : TurnsLaw → (script proof : List ℕ) (turns : List Turn) → Accepted script proof turns → AllByRecursion IsLine (flat_map turn_lines turns) → IsAccepted script proof (verdicts_of turns)
 accepted_pass law script proof turns h each =
     let says = map (λ (t : Turn). t.says) turns in
@@ -155,18 +211,15 @@ accepted_pass law script proof turns h each =
     let t = tells_there lines no_judging says None (law script proof turns h) in
     let same : t.0 ≡ verdicts_of turns = proof_verdicts lines says t.0 t.1 ∙ of_turns turns in
     let told : Tells no_judging says lines (verdicts_of turns) None = subst (λ x. Tells no_judging says lines x None) same t.1 in
+    let k = is_behind script h.chunks turns h.cut in
     record {
       chunks = h.chunks;
-      behind = [];
+      behind = k.behind;
       says = says;
       lines = Some (line.Header 0 100000) ∷ lines;
-      cut = record { whole = h.cut.whole; rest = h.cut.rest; begins = h.cut.begins; ends = h.cut.ends; all = append-nil h.chunks ∙ h.cut.all };
+      cut = k.cut;
       read = read_says h.chunks turns h.read;
       split = subst (λ (x : List ℕ). AreLines x (Some (line.Header 0 100000) ∷ lines)) (sym h.lines) (line_first (line.Header 0 100000) _ lines (omega arith, omega arith) (lines_printed (flat_map turn_lines turns) each));
-      told = λ rest n. subst (λ x. TellsProof x (Some (line.Header 0 100000) ∷ lines) (verdicts_of turns) None) (sym (ap (λ x. says ++ x) (no_length rest n) ∙ append-nil says)) (inl ((omega arith, omega arith), told));
-      whole = λ z. refl;
+      told = λ rest n. inl ((omega arith, omega arith), told_behind lines says rest k.behind (verdicts_of turns) k.none n told);
+      whole = λ z. k.none;
     }
-  where
-    no_length : (rest : List Says) → length rest ≡ 0 → rest ≡ []
-    no_length [] n = refl
-    no_length (r ∷ rest) n = absurd (omega arith)

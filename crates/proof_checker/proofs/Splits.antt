@@ -4,12 +4,11 @@ use Rattle.std.specs.Prelude.{◌&&◌, Result, Ok, Err}
 use Rattle.std.proofs.lemmas.Bool.{eq-eqb, eqb-true}
 use Rattle.proof_text.specs.declared.line.Line.{Line}
 use Rattle.proof_text.specs.declared.reader.LineFault.{LineFault}
-use Rattle.proof_text.specs.Lines.{line_text, IsLine}
 use Rattle.proof_text.specs.Held.{Held, without_feed, IsNext, Answers}
 use Rattle.proof_text.specs.Reading.{fields, line_of}
 use Rattle.proof_text.proofs.Exact.{line_once, answer_line, answer_none}
 use Rattle.proof_checker.specs.Checkers.{line_in, IsRead}
-use Rattle.proof_checker.specs.Checked.{IsLineOf, IsFirstLine, IsUnended, AreLines}
+use Rattle.proof_checker.specs.Checked.{IsLineOf, AreLines}
 
 -- ---- one line more
 

@@ -1,14 +1,17 @@
 -- What is told of the lines, one after the other.
-use Rattle.std.proofs.Common.{◌≡◌, ℕ, Bool, true, false, List, [], ◌∷◌, ◌++◌, length, Option, Some, None, refl, sym, ap, ◌∙◌, subst, append_assoc, append-nil}
-use Rattle.std.specs.Prelude.{if◌then◌else◌, option_to_list, Result, Ok, Err}
+use Rattle.std.proofs.Common.{◌≡◌, ℕ, Bool, true, false, List, [], ◌∷◌, ◌++◌, Option, Some, None, refl, sym, ap, ◌∙◌, subst, inl, inr, append_assoc, append-nil}
+use Rattle.std.specs.List.{list_any}
+use Rattle.std.specs.Prelude.{◌⊎◌, ◌||◌, if◌then◌else◌, option_to_list, Err}
 use Rattle.script_state.specs.declared.answer.Verdict.{Verdict}
+use Rattle.script_state.specs.Steps.{ends}
 use Rattle.proof_text.specs.declared.line.Line.{Line}
 use Rattle.accepted_proof.specs.declared.refusal.Refusal.{Refusal}
 use Rattle.accepted_proof.specs.Judged as judged
 use Rattle.accepted_proof.specs.Judged.{Owed, Judging, commanded, is_idle, reach, ending, Moves, MovesBy}
-use Rattle.accepted_proof.proofs.Following.{reach_here, reach_on}
+use Rattle.accepted_proof.proofs.Following.{reach_here, reach_past, reach_last}
 use Rattle.proof_checker.specs.Checkers.{Says, CheckerValue, and_shown, answer_by, GoesTo}
 use Rattle.proof_checker.specs.Checked.{shown_at, Tells}
+use Rattle.proof_checker.specs.Checkings.{to_be_done}
 
 -- what is told where the commands were done
 abbrev TellsFrom : Judging × List Says → List (Option Line) → List Verdict → Option Refusal → Type 0
@@ -33,8 +36,68 @@ tells_line j k cs l ls rest o e m h = subst (λ r. TellsFrom r (l ∷ ls) (shown
 pub tells_end : (j : Judging) (cs : List Says) → IsReached j cs → Tells j cs [] [] (ending j.owed j.line)
 tells_end j cs e = subst (λ r. TellsFrom r [] [] (ending j.owed j.line)) (sym e) (refl, refl)
 
-pub tells_command : (j : Judging) (c : Says) (cs : List Says) (ls : List (Option Line)) (vs : List Verdict) (o : Option Refusal) → is_idle j.owed ≡ true → Tells (commanded j c) cs ls vs o → Tells j (c ∷ cs) ls vs o
-tells_command j c cs ls vs o e h = tells_from j (c ∷ cs) ls vs o (subst (λ r. TellsFrom r ls vs o) (sym (reach_on j c cs e)) (from_tells (commanded j c) cs ls vs o h))
+tells_on : (j : Judging) (c : Says) (cs ds : List Says) (ls : List (Option Line)) (vs : List Verdict) (o : Option Refusal) → reach j (c ∷ cs) ≡ reach (commanded j c) ds → Tells (commanded j c) ds ls vs o → Tells j (c ∷ cs) ls vs o
+tells_on j c cs ds ls vs o e h = tells_from j (c ∷ cs) ls vs o (subst (λ r. TellsFrom r ls vs o) (sym e) (from_tells (commanded j c) ds ls vs o h))
+
+-- behind a command, which may end the run
+pub tells_command : (j : Judging) (c : Says) (cs : List Says) (ls : List (Option Line)) (vs : List Verdict) (o : Option Refusal) → is_idle j.owed ≡ true → Tells (commanded j c) (to_be_done (ends c) cs) ls vs o → Tells j (c ∷ cs) ls vs o
+tells_command j c cs ls vs o e = by_end (ends c) refl
+  where
+    by_end : (b : Bool) → ends c ≡ b → Tells (commanded j c) (to_be_done b cs) ls vs o → Tells j (c ∷ cs) ls vs o
+    by_end true f h = tells_on j c cs [] ls vs o (reach_last j c cs e f) h
+    by_end false f h = tells_on j c cs cs ls vs o (reach_past j c cs e f) h
+
+-- ---- where a command ends the run
+
+-- the same is reached, where commands are behind those of which one ends the run
+abbrev MoreBehind : List Says → Judging × List Says → Judging × List Says → Type 0
+MoreBehind rest r s = (s ≡ r) ⊎ ((s ≡ (r.0, r.1 ++ rest)) × (list_any ends r.1 ≡ true))
+
+reach_more : (cs : List Says) (j : Judging) (rest : List Says) → list_any ends cs ≡ true → MoreBehind rest (reach j cs) (reach j (cs ++ rest))
+reach_more [] j rest a = absurd (let z : ⊥ = cc in z)
+reach_more (c ∷ cs) j rest a = by_owed (λ k b. reach_more cs k rest b) (is_idle j.owed) (ends c) refl refl
+  where
+    by_owed : ((k : Judging) → list_any ends cs ≡ true → MoreBehind rest (reach k cs) (reach k (cs ++ rest))) → (b d : Bool) → is_idle j.owed ≡ b → ends c ≡ d → MoreBehind rest (reach j (c ∷ cs)) (reach j ((c ∷ cs) ++ rest))
+    by_owed more false d e f = subst (λ r. MoreBehind rest r (reach j ((c ∷ cs) ++ rest))) (sym (reach_here j (c ∷ cs) e)) (inr (reach_here j ((c ∷ cs) ++ rest) e, a))
+    by_owed more true true e f = inl (reach_last j c (cs ++ rest) e f ∙ sym (reach_last j c cs e f))
+    by_owed more true false e f =
+        subst (λ r. MoreBehind rest r (reach j ((c ∷ cs) ++ rest))) (sym (reach_past j c cs e f))
+        (subst (λ s. MoreBehind rest (reach (commanded j c) cs) s) (sym (reach_past j c (cs ++ rest) e f))
+        (more (commanded j c) (sym (ap (λ x. x || list_any ends cs) f) ∙ a)))
+
+end_more : (r s : Judging × List Says) (rest : List Says) (vs : List Verdict) (o : Option Refusal) → MoreBehind rest r s → TellsFrom r [] vs o → TellsFrom s [] vs o
+end_more r s rest vs o (inl e) h = subst (λ x. TellsFrom x [] vs o) (sym e) h
+end_more r s rest vs o (inr e) h = subst (λ x. TellsFrom x [] vs o) (sym e.0) h
+
+end_less : (r s : Judging × List Says) (rest : List Says) (vs : List Verdict) (o : Option Refusal) → MoreBehind rest r s → TellsFrom s [] vs o → TellsFrom r [] vs o
+end_less r s rest vs o (inl e) h = subst (λ x. TellsFrom x [] vs o) e h
+end_less r s rest vs o (inr e) h = let m : TellsFrom (r.0, r.1 ++ rest) [] vs o = subst (λ x. TellsFrom x [] vs o) e.0 h in m
+
+-- what is told of lines is told with more commands behind
+abbrev ToldMore : List (Option Line) → List Says → Option Refusal → Type 0
+ToldMore ls rest o = (j : Judging) (cs : List Says) (vs : List Verdict) → list_any ends cs ≡ true → Tells j cs ls vs o → Tells j (cs ++ rest) ls vs o
+
+abbrev ToldLess : List (Option Line) → List Says → Option Refusal → Type 0
+ToldLess ls rest o = (j : Judging) (cs : List Says) (vs : List Verdict) → list_any ends cs ≡ true → Tells j (cs ++ rest) ls vs o → Tells j cs ls vs o
+
+line_more : (l : Option Line) (ls : List (Option Line)) (r s : Judging × List Says) (rest : List Says) (vs : List Verdict) (o : Option Refusal) → ToldMore ls rest o → MoreBehind rest r s → TellsFrom r (l ∷ ls) vs o → TellsFrom s (l ∷ ls) vs o
+line_more l ls r s rest vs o told (inl e) h = subst (λ x. TellsFrom x (l ∷ ls) vs o) (sym e) h
+line_more l ls r s rest vs o told (inr e) h = subst (λ x. TellsFrom x (l ∷ ls) vs o) (sym e.0) (h.0, h.1, h.2, h.3, told h.0 r.1 h.1 e.1 h.4)
+
+line_less : (l : Option Line) (ls : List (Option Line)) (r s : Judging × List Says) (rest : List Says) (vs : List Verdict) (o : Option Refusal) → ToldLess ls rest o → MoreBehind rest r s → TellsFrom s (l ∷ ls) vs o → TellsFrom r (l ∷ ls) vs o
+line_less l ls r s rest vs o told (inl e) h = subst (λ x. TellsFrom x (l ∷ ls) vs o) e h
+line_less l ls r s rest vs o told (inr e) h =
+    let m : TellsFrom (r.0, r.1 ++ rest) (l ∷ ls) vs o = subst (λ x. TellsFrom x (l ∷ ls) vs o) e.0 h in
+    (m.0, m.1, m.2, m.3, told m.0 r.1 m.1 e.1 m.4)
+
+-- where a command ends the run, it does not matter which commands are behind
+pub tells_more : (ls : List (Option Line)) (rest : List Says) (o : Option Refusal) → ToldMore ls rest o
+tells_more [] rest o j cs vs a h = tells_from j (cs ++ rest) [] vs o (end_more (reach j cs) (reach j (cs ++ rest)) rest vs o (reach_more cs j rest a) (from_tells j cs [] vs o h))
+tells_more (l ∷ ls) rest o j cs vs a h = tells_from j (cs ++ rest) (l ∷ ls) vs o (line_more l ls (reach j cs) (reach j (cs ++ rest)) rest vs o (tells_more ls rest o) (reach_more cs j rest a) (from_tells j cs (l ∷ ls) vs o h))
+
+pub tells_less : (ls : List (Option Line)) (rest : List Says) (o : Option Refusal) → ToldLess ls rest o
+tells_less [] rest o j cs vs a h = tells_from j cs [] vs o (end_less (reach j cs) (reach j (cs ++ rest)) rest vs o (reach_more cs j rest a) (from_tells j (cs ++ rest) [] vs o h))
+tells_less (l ∷ ls) rest o j cs vs a h = tells_from j cs (l ∷ ls) vs o (line_less l ls (reach j cs) (reach j (cs ++ rest)) rest vs o (tells_less ls rest o) (reach_more cs j rest a) (from_tells j (cs ++ rest) (l ∷ ls) vs o h))
 
 -- ---- behind a refusal
 

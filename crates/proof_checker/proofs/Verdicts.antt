@@ -1,6 +1,6 @@
 -- The verdicts of accepted proofs are those of their lines.
-use Rattle.std.proofs.Common.{◌≡◌, ℕ, Bool, true, false, List, [], ◌∷◌, ◌++◌, map, length, flat_map, Option, Some, None, refl, sym, ap, ◌∙◌, subst, inl, inr, append_assoc, append-nil}
-use Rattle.std.specs.Prelude.{◌⊎◌, if◌then◌else◌, option_to_list, Result, Ok, Err}
+use Rattle.std.proofs.Common.{◌≡◌, ℕ, Bool, true, false, List, [], ◌∷◌, ◌++◌, map, flat_map, Option, Some, None, refl, sym, ap, ◌∙◌, subst, inl, inr, append_assoc, append-nil}
+use Rattle.std.specs.Prelude.{◌⊎◌, if◌then◌else◌, option_to_list}
 use Rattle.std.specs.Option.{option_map}
 use Rattle.std.proofs.lemmas.Grind.{flat_map-append}
 use Rattle.std.proofs.lemmas.List.{map-append}
@@ -10,7 +10,7 @@ use Rattle.script_state.specs.declared.answer.Answer.{Answer}
 use Rattle.script_state.specs.declared.answer.Answer.TheVariants as answer
 use Rattle.script_state.specs.declared.answer.Verdict.{Verdict}
 use Rattle.script_state.specs.declared.answer.Verdict.TheVariants as verdict
-use Rattle.script_state.specs.Steps.{step}
+use Rattle.script_state.specs.Steps.{step, ends}
 use Rattle.proof_log.specs.declared.entry.Entry.{Entry}
 use Rattle.proof_log.specs.declared.entry.Entry.TheVariants as entry
 use Rattle.proof_text.specs.declared.line.Head.{Head}
@@ -20,7 +20,7 @@ use Rattle.proof_text.specs.declared.line.WrittenValue.{WrittenValue}
 use Rattle.proof_text.specs.declared.record.Record.{Record}
 use Rattle.proof_text.specs.declared.record.Record.TheVariants as shown
 use Rattle.proof_text.specs.Entries.{head_of, entry_line}
-use Rattle.proof_text.specs.Records.{written_value, value_lines, record_lines}
+use Rattle.proof_text.specs.Records.{written_value, value_lines}
 use Rattle.accepted_proof.specs.declared.refusal.Refusal.{Refusal}
 use Rattle.accepted_proof.specs.declared.refusal.RuleName.{RuleName}
 use Rattle.accepted_proof.specs.Turns.{Turn, verdict_of}
@@ -127,6 +127,9 @@ brought (judged.Over r) j l k e h = inr (r, ap (λ (x : Judging). x.owed) h ∙ 
 owed_none : (a : Answer) → owing (owed_by a) ≡ []
 owed_none answer.Done = refl
 owed_none (answer.Refused e) = refl
+owed_none (answer.Says text) = refl
+owed_none answer.Model = refl
+owed_none answer.Exit = refl
 owed_none answer.Check = refl
 
 idle_none : (o : Owed) → is_idle o ≡ true → owing o ≡ []
@@ -135,13 +138,17 @@ idle_none judged.Steps e = refl
 idle_none (judged.Values next left values) e = absurd (let z : ⊥ = cc in z)
 idle_none (judged.Over r) e = refl
 
-reached_by : (b : Bool) (j : Judging) (c : Says) (cs : List Says) → is_idle j.owed ≡ b → owing (reach (commanded j c) cs).0.owed ≡ owing (commanded j c).owed → owing (if b then reach (commanded j c) cs else (j, c ∷ cs)).0.owed ≡ owing j.owed
-reached_by true j c cs e h = h ∙ owed_none (step j.state c).0 ∙ sym (idle_none j.owed e)
-reached_by false j c cs e h = refl
+owing_behind : (j : Judging) (c : Says) → is_idle j.owed ≡ true → owing (commanded j c).owed ≡ owing j.owed
+owing_behind j c e = owed_none (step j.state c).0 ∙ sym (idle_none j.owed e)
+
+reached_by : (b d : Bool) (j : Judging) (c : Says) (cs : List Says) → is_idle j.owed ≡ b → owing (reach (commanded j c) cs).0.owed ≡ owing (commanded j c).owed → owing (if b then (if d then (commanded j c, []) else reach (commanded j c) cs) else (j, c ∷ cs)).0.owed ≡ owing j.owed
+reached_by true true j c cs e h = owing_behind j c e
+reached_by true false j c cs e h = h ∙ owing_behind j c e
+reached_by false d j c cs e h = refl
 
 reach_owing : (cs : List Says) (j : Judging) → owing (reach j cs).0.owed ≡ owing j.owed
 reach_owing [] j = refl
-reach_owing (c ∷ cs) j = reached_by (is_idle j.owed) j c cs refl (reach_owing cs (commanded j c))
+reach_owing (c ∷ cs) j = reached_by (is_idle j.owed) (ends c) j c cs refl (reach_owing cs (commanded j c))
 
 -- behind a refusal it is refused
 over_told : (ls : List (Option Line)) (j : Judging) (cs : List Says) (vs : List Verdict) (o : Option Refusal) (r : Refusal) → j.owed ≡ judged.Over r → Tells j cs ls vs o → o ≡ None → ⊥

@@ -1,11 +1,12 @@
 -- What is judged of a script and a proof, both as texts: that the proof is accepted, or its first bad line.
-use Rattle.std.specs.Prelude.{◌≡◌, ◌≢◌, ◌⊎◌, ℕ, true, if◌then◌else◌, List, [], ◌∷◌, ◌++◌, length, Option, Some, None, option_to_list}
-use Rattle.std.specs.List.{flat_map}
+use Rattle.std.specs.Prelude.{◌≡◌, ◌≢◌, ◌⊎◌, ℕ, Bool, true, false, ◌||◌, if◌then◌else◌, List, [], ◌∷◌, ◌++◌, length, Option, Some, None, option_to_list}
+use Rattle.std.specs.List.{list_any, flat_map}
 use Rattle.std.specs.Option.{option_map}
 use Rattle.smt_text.specs.declared.chunk.Chunk.{Chunk}
 use Rattle.smt_text.specs.Framing.{Held, first_chunk, last_chunk}
 use Rattle.smt_text.specs.Script.{Begins}
 use Rattle.script_state.specs.declared.answer.Verdict.{Verdict}
+use Rattle.script_state.specs.Steps.{ends}
 use Rattle.proof_text.specs.declared.line.Line.{Line}
 use Rattle.proof_text.specs.Lines.{line_text, IsLine}
 use Rattle.proof_text.specs.Held.{without_feed}
@@ -67,8 +68,8 @@ TellsProof cs (l ∷ ls) vs o = (IsHeader l × Tells no_judging cs ls vs o) ⊎ 
 -- ---- texts
 
 -- The first commands of the script read so, and this is told of the lines, whatever the commands behind them read as. Where
--- there is no bad line, there are none behind them.
-pub record IsTold (Told : List Says → List (Option Line) → List Verdict → Option Refusal → Type 0) (script : Held) (proof : List ℕ) (verdicts : List Verdict) (refusal : Option Refusal) : Type 0 where
+-- there is no bad line, there are none behind them, or the run ended: by one of them, or before.
+pub record IsTold (Told : List Says → List (Option Line) → List Verdict → Option Refusal → Type 0) (ended : Bool) (script : Held) (proof : List ℕ) (verdicts : List Verdict) (refusal : Option Refusal) : Type 0 where
   pub chunks : List Chunk
   pub behind : List Chunk
   pub says : List Says
@@ -77,11 +78,11 @@ pub record IsTold (Told : List Says → List (Option Line) → List Verdict → 
   pub read : ReadEach chunks says
   pub split : AreLines proof lines
   pub told : (rest : List Says) → length rest ≡ length behind → Told (says ++ rest) lines verdicts refusal
-  pub whole : refusal ≡ None → behind ≡ []
+  pub whole : refusal ≡ None → (behind ≡ []) ⊎ ((ended || list_any ends says) ≡ true)
 
 -- what is judged of the proof of a script: the verdicts of the records that are accepted, and the first bad line, if there is one
 abbrev pub IsJudged : List ℕ → List ℕ → List Verdict → Option Refusal → Type 0
-IsJudged script proof verdicts refusal = IsTold TellsProof (record { line = 1; bytes = script }) proof verdicts refusal
+IsJudged script proof verdicts refusal = IsTold TellsProof false (record { line = 1; bytes = script }) proof verdicts refusal
 
 -- the proof is one of the script, and its records show these verdicts
 abbrev pub IsAccepted : List ℕ → List ℕ → List Verdict → Type 0

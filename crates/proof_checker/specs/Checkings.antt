@@ -1,11 +1,11 @@
 -- What contracts see of a check that reads its two texts in pieces.
-use Rattle.std.specs.Prelude.{◌≡◌, ◌⊎◌, ℕ, ◌+◌, ◌<◌, ◌≤◌, Bool, true, false, List, [], ◌∷◌, ◌++◌, length, Option, Some, None}
+use Rattle.std.specs.Prelude.{◌≡◌, ◌⊎◌, ℕ, ◌+◌, ◌<◌, ◌≤◌, Bool, true, false, if◌then◌else◌, List, [], ◌∷◌, ◌++◌, length, Option, Some, None}
 use Rattle.smt_text.specs.declared.chunk.Chunk.{Chunk}
 use Rattle.smt_text.specs.Framing.{Held}
 use Rattle.script_state.specs.declared.answer.Verdict.{Verdict}
 use Rattle.proof_text.specs.declared.line.Line.{Line}
 use Rattle.accepted_proof.specs.declared.refusal.Refusal.{Refusal}
-use Rattle.accepted_proof.specs.Judged.{is_idle, ReadEach}
+use Rattle.accepted_proof.specs.Judged.{is_idle}
 use Rattle.proof_checker.specs.Checkers.{Says, CheckerValue, IsRead, line_in}
 use Rattle.proof_checker.specs.Checked.{AreCut, AreLines, Tells, TellsProof, IsTold}
 use Rattle.proof_checker.specs.declared.inputs.Inputs.{Inputs}
@@ -30,14 +30,18 @@ and_more h more = record { line = h.line; bytes = h.bytes ++ more }
 abbrev pub MayCome : Bool → List ℕ → Type 0
 MayCome ended bytes = ended ≡ true → bytes ≡ []
 
+-- the commands that are still to be done: none, where the run ended
+abbrev pub to_be_done : Bool → List Says → List Says
+to_be_done ended cs = if ended then [] else cs
+
 -- what is told of the lines behind those that were judged; the verdicts are those of the whole
-abbrev pub told_from : Option CheckerValue → List Says → List (Option Line) → List Verdict → Option Refusal → Type 0
-told_from None cs ls vs o = TellsProof cs ls vs o
-told_from (Some c) cs ls vs o = (rest : List Verdict) × (vs ≡ c.verdicts ++ rest) × Tells c.judging cs ls rest o
+abbrev pub told_from : Bool → Option CheckerValue → List Says → List (Option Line) → List Verdict → Option Refusal → Type 0
+told_from ended None cs ls vs o = TellsProof (to_be_done ended cs) ls vs o
+told_from ended (Some c) cs ls vs o = (rest : List Verdict) × (vs ≡ c.verdicts ++ rest) × Tells c.judging (to_be_done ended cs) ls rest o
 
 -- what is judged, where these bytes of the script and of the proof are still to come
 abbrev pub IsJudgedFrom : Inputs → Option CheckerValue → List ℕ → List ℕ → List Verdict → Option Refusal → Type 0
-IsJudgedFrom i c script proof vs o = IsTold (told_from c) (and_more i.framer script) (i.reader.bytes ++ proof) vs o
+IsJudgedFrom i c script proof vs o = IsTold (told_from i.run_ended c) i.run_ended (and_more i.framer script) (i.reader.bytes ++ proof) vs o
 
 abbrev pub Judges : Checking → List ℕ → List ℕ → List Verdict → Option Refusal → Type 0
 Judges c script proof vs o = IsJudgedFrom c.inputs c.checker script proof vs o
@@ -76,12 +80,14 @@ held_by i = length i.framer.bytes + length i.reader.bytes
 pub record IsSameScript (old new : Inputs) : Type 0 where
   pub framer : new.framer ≡ old.framer
   pub script : new.script_ended ≡ old.script_ended
+  pub run : new.run_ended ≡ old.run_ended
   pub proof : new.proof_ended ≡ old.proof_ended
 
 -- all but the script's text is the same
 pub record IsSameProof (old new : Inputs) : Type 0 where
   pub reader : new.reader ≡ old.reader
   pub script : new.script_ended ≡ old.script_ended
+  pub run : new.run_ended ≡ old.run_ended
   pub proof : new.proof_ended ≡ old.proof_ended
 
 -- the line was taken, which is one of the proof where there is a line
@@ -109,14 +115,22 @@ GivesLine old new (line.Line l) = IsRead l × TakesLine old new (line_in l)
 GivesLine old new line.End = IsProofAtEnd old × (new.reader ≡ old.reader)
 GivesLine old new line.More = (old.proof_ended ≡ false) × (new.reader ≡ old.reader)
 
+-- the run ended, and nothing is taken
+abbrev pub IsLeft : Inputs → Inputs → Type 0
+IsLeft old new = (old.run_ended ≡ true) × (new.framer ≡ old.framer)
+
 abbrev pub GivesChunk : Inputs → Inputs → NextChunk → Type 0
-GivesChunk old new (chunk.Chunk c) = TakesChunk old new c
-GivesChunk old new chunk.End = IsScriptAtEnd old × IsScriptAtEnd new × (length new.framer.bytes ≤ length old.framer.bytes)
+GivesChunk old new (chunk.Chunk c) = (old.run_ended ≡ false) × TakesChunk old new c
+GivesChunk old new chunk.End = IsLeft old new ⊎ (IsScriptAtEnd old × IsScriptAtEnd new × (length new.framer.bytes ≤ length old.framer.bytes))
 GivesChunk old new chunk.More = (old.script_ended ≡ false) × (new.framer ≡ old.framer)
 
--- a record is owed, or the script is at its end
+-- no command follows: the run ended, or the script is at its end
+abbrev pub HasNoCommand : Inputs → Type 0
+HasNoCommand i = (i.run_ended ≡ true) ⊎ IsScriptAtEnd i
+
+-- a record is owed, or no command follows
 abbrev pub IsAtLine : Inputs → CheckerValue → Type 0
-IsAtLine i c = (is_idle c.judging.owed ≡ false) ⊎ IsScriptAtEnd i
+IsAtLine i c = (is_idle c.judging.owed ≡ false) ⊎ HasNoCommand i
 
 -- ---- how it goes on
 

@@ -4,6 +4,7 @@ ghost use Rattle.std.specs.Prelude.{◌≡◌, ◌+◌, ◌<◌, ◌^◌, ℕ, L
 ghost use Rattle.smt_values.specs.declared.value.Value.{Value as Held};
 ghost use Rattle.smt_build.specs.declared.symbols.LiveName.{LiveName as Name};
 ghost use Rattle.script_state.specs.Readings.{ReadsAs};
+ghost use Rattle.script_state.specs.Steps.{ends};
 ghost use Rattle.proof_text.specs.Lines.{IsLine};
 ghost use Rattle.proof_text.specs.declared.line.Line.TheVariants as line;
 ghost use Rattle.accepted_proof.specs.Judged as judged;
@@ -87,6 +88,19 @@ fn due_by(answer: Answer) -> Due
         Answer::Check => Due::Steps,
         Answer::Done => Due::Nothing,
         Answer::Refused(_) => Due::Nothing,
+        Answer::Says(_) => Due::Nothing,
+        Answer::Model => Due::Nothing,
+        Answer::Exit => Due::Nothing,
+    }
+}
+
+/// Whether a command that is answered so ends the run.
+fn is_exit(answer: &Answer) -> bool
+    ensures { MatchBool result (answer.now ≡ Answer.Exit) (answer.now ≡ Answer.Exit → ⊥) }
+{
+    match answer {
+        Answer::Exit => true,
+        _ => false,
     }
 }
 
@@ -131,12 +145,11 @@ impl Checker {
         self.verdicts.as_slice()
     }
 
-    /// Does a command of the script, and tells whether it is a check, whose steps and record are owed then. For want of
-    /// numbers of assertions the answer is want of memory.
-    pub fn command(self, alloc: Global, chunk: &Chunk) -> Result<(Checker, bool), AllocError>
+    /// Does a command of the script, and tells whether it ends the run: then no command follows. For want of numbers of
+    /// assertions the answer is want of memory.
+    pub fn apply(self, alloc: Global, chunk: &Chunk) -> Result<(Checker, bool), AllocError>
         requires { is_idle self.judging.owed ≡ true }
-        ensures command { IfOk result (λ r. (says : Says) × ReadsAs chunk.now says × (r.0 ≡ judged_so self (commanded self.judging says))) }
-        ensures check { IfOk result (λ r. r.1 ≡ not (is_idle r.0.judging.owed)) }
+        ensures { IfOk result (λ r. (says : Says) × ReadsAs chunk.now says × (r.0 ≡ judged_so self (commanded self.judging says)) × (r.1 ≡ ends says)) }
     {
         let Checker {
             mut state,
@@ -150,6 +163,7 @@ impl Checker {
             return Err(AllocError);
         }
         let answer = state.apply(alloc, chunk)?;
+        let ended = is_exit(&answer);
         let checker = Checker {
             state,
             log,
@@ -158,6 +172,17 @@ impl Checker {
             line,
             verdicts,
         };
+        Ok((checker, ended))
+    }
+
+    /// Does a command of the script, and tells whether it is a check, whose steps and record are owed then. For want of
+    /// numbers of assertions the answer is want of memory.
+    pub fn command(self, alloc: Global, chunk: &Chunk) -> Result<(Checker, bool), AllocError>
+        requires { is_idle self.judging.owed ≡ true }
+        ensures command { IfOk result (λ r. (says : Says) × ReadsAs chunk.now says × (r.0 ≡ judged_so self (commanded self.judging says))) }
+        ensures check { IfOk result (λ r. r.1 ≡ not (is_idle r.0.judging.owed)) }
+    {
+        let (checker, _) = self.apply(alloc, chunk)?;
         let check = checker.owes();
         Ok((checker, check))
     }

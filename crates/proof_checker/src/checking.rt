@@ -133,14 +133,15 @@ fn judge_line(alloc: Global, mut inputs: Inputs, checker: Checker) -> Result<Ste
     }
 }
 
-/// The next command of the script is done, or at its end the next line is judged.
+/// The next command of the script is done, or behind the last the next line is judged.
 fn do_command(alloc: Global, mut inputs: Inputs, checker: Checker) -> Result<Step, AllocError>
     requires { is_idle checker.judging.owed ≡ true }
     ensures { IfOk result (λ r. Advances inputs (Some checker) r) }
 {
     match inputs.next_chunk()? {
         NextChunk::Chunk(chunk) => {
-            let (checker, _) = checker.command(alloc, &chunk)?;
+            let (checker, ended) = checker.apply(alloc, &chunk)?;
+            inputs.run_ended = ended;
             Ok(Step::On(Checking {
                 inputs,
                 checker: Some(checker),
@@ -164,6 +165,7 @@ impl Checking {
             inputs: Inputs {
                 framer: Framer::new(alloc),
                 script_ended: false,
+                run_ended: false,
                 reader: ProofReader::new(alloc),
                 proof_ended: false,
             },
@@ -221,7 +223,8 @@ impl Checking {
     }
 
     /// Goes as far as what is held allows: first the header, then the script command by command, and at each check the lines
-    /// of the proof up to its record. Where more has to come, what is judged from here is judged of all.
+    /// of the proof up to its record. Behind a command that ends the run no more of the script is asked for. Where more has to
+    /// come, what is judged from here is judged of all.
     pub fn advance(self, alloc: Global) -> Result<Progress, AllocError>
         ensures { IfOk result (λ r. Stops self.inputs self.checker r) }
     {

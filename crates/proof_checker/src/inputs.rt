@@ -14,6 +14,8 @@ use std::alloc::{AllocError, Global};
 pub(crate) struct Inputs {
     pub(crate) framer: Framer,
     pub(crate) script_ended: bool,
+    /// A command ended the run, and no more of the script is read.
+    pub(crate) run_ended: bool,
     pub(crate) reader: ProofReader,
     pub(crate) proof_ended: bool,
 }
@@ -32,7 +34,7 @@ pub(crate) enum NextLine {
 #[derive(Drop)]
 pub(crate) enum NextChunk {
     Chunk(Chunk),
-    /// The script has no further chunk.
+    /// No further chunk of the script is read.
     End,
     /// More of the script has to come first.
     More,
@@ -59,11 +61,14 @@ impl Inputs {
         }
     }
 
-    /// The next chunk. One that is begun is closed by the end of the script.
+    /// The next chunk. One that is begun is closed by the end of the script. Where the run ended there is none.
     pub(crate) fn next_chunk(&mut self) -> Result<NextChunk, AllocError>
         ensures same { IsSameProof self.old self.new }
         ensures chunk { IfOk result (λ r. GivesChunk self.old self.new r) }
     {
+        if self.run_ended {
+            return Ok(NextChunk::End);
+        }
         if let Some(chunk) = self.framer.next()? {
             return Ok(NextChunk::Chunk(chunk));
         }

@@ -5,7 +5,7 @@
 //! `proof_log`, evaluates the values of a model with `smt_eval`, and looks up the selectors of a refutation. Its contracts
 //! say that it moves as the definitions of `accepted_proof` judge. A [`checking::Checking`] reads the two texts, in whatever
 //! pieces they come, and its contracts say what is judged of the whole texts: that the proof is accepted, or its first bad
-//! line. It shares nothing with search or session.
+//! line. Behind a command that ends the run it reads no more of the script. It shares nothing with search or session.
 #![tactic(auto)]
 
 mod check_laws;

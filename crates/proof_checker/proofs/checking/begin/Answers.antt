@@ -1,5 +1,5 @@
-use Rattle.std.proofs.Common.{refl, false, None, Some}
-use Rattle.proof_checker.proofs.Keeping.{keeps_none, headless, begun, unbegun}
+use Rattle.std.proofs.Common.{refl, None, Some}
+use Rattle.proof_checker.proofs.Keeping.{headless, begun, unbegun}
 use Rattle.proof_checker.proofs.checking.begin.Goals as goal
 
 pub returns-in-End : goal.returns-in-End

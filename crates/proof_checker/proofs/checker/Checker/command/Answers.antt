@@ -1,26 +1,4 @@
-use Rattle.std.proofs.Common.{◌≡◌, subst}
-use Rattle.script_state.specs.States.{IsState}
-use Rattle.proof_checker.specs.Checkers.{CheckerValue, judged_so, owed_of}
-use Rattle.accepted_proof.specs.Judged.{commanded}
-use Rattle.proof_checker.proofs.Moving.{held, still_stands, commanded_to}
 use Rattle.proof_checker.proofs.checker.Checker.command.Goals as goal
 
-pub invariant_of-checker : goal.invariant_of-checker
-invariant_of-checker c =
-    let told = c.in_ok-answer.ensures in
-    let before = c.self.inside in (
-      still_stands before.state c.apply.new.self before.log c.in_ok-answer.answer told.0 (subst IsState c.state.view_is c.state.invariant.0) c.self.invariant.0 told.2,
-      c.due_by.ensures.open c.apply.new.self.symbols.live before.values.items,
-    )
-
 pub returns-clause-command : goal.returns-clause-command
-returns-clause-command c =
-    let told = c.in_ok-answer.ensures in
-    let before = c.self.inside in
-    let new = c.apply.new.self in (
-      told.0,
-      told.1,
-      subst (λ (x : CheckerValue). held new before.log.entries (owed_of c.due_by.result new.symbols.live before.values.items) before.line before.verdicts.items ≡ judged_so x (commanded x.judging told.0)) c.self.view_is
-          (commanded_to before.state new before.log.entries (owed_of before.due before.state.symbols.live before.values.items) (owed_of c.due_by.result new.symbols.live before.values.items) before.line before.verdicts.items
-          c.in_ok-answer.answer told.0 told.2 (c.due_by.ensures.owed new.symbols.live before.values.items)),
-    )
+returns-clause-command c = let d = c.in_ok-checker.ensures in (d.0, d.1, d.2)

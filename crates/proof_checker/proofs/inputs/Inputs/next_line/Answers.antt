@@ -1,4 +1,4 @@
-use Rattle.std.proofs.Common.{◌≡◌, ◌≢◌, ℕ, List, ◌++◌, [], length, refl, sym, ap, ◌∙◌, subst, arith, None}
+use Rattle.std.proofs.Common.{◌≡◌, ◌≢◌, ℕ, List, ◌++◌, [], ap, ◌∙◌, subst}
 use Rattle.proof_text.specs.Held.{Held}
 use Rattle.proof_checker.specs.Checked.{AreLines}
 use Rattle.proof_checker.proofs.Splits.{line_answered, lines_next, less_next, lines_unended, some_less, read_answered}
