@@ -1,5 +1,5 @@
 -- A session goes on over the terms and the assertions that a command leaves.
-use Rattle.std.proofs.Common.{◌≡◌, ℕ, List, [], ◌∷◌, sym, subst, Some, Option}
+use Rattle.std.proofs.Common.{◌≡◌, ℕ, List, [], ◌∷◌, sym, subst, Some}
 use Rattle.std.specs.Prelude.{slice_get}
 use Rattle.script_state.specs.Readings.{Reading}
 use Rattle.script_state.specs.declared.answer.Answer.{Answer}
@@ -31,7 +31,7 @@ goes_on : (old new : StateValue) (a : Answer) (es : Reading) → IsState old →
 goes_on old new a es is e = subst (λ (to : Step). GoesOn old to.1) e (step_goes_on old is es)
 
 -- what is a session before a command is one behind it
-pub still_session : (old new : StateValue) (log : LogValue) (a : Answer) (es : Reading) → IsSession (record { state = old; log = log }) → ◌≡◌ {A = Step} (step old es) (a, new) → IsSession (record { state = new; log = log })
+pub still_session : (old new : StateValue) (log : LogValue) (a : Answer) (es : Reading) → IsSession old log → ◌≡◌ {A = Step} (step old es) (a, new) → IsSession new log
 still_session old new log a es h e =
     let g = goes_on old new a es h.state e in
     record {

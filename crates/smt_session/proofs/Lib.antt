@@ -7,4 +7,7 @@ pub mod Modeling
 pub mod Turning
 pub mod Going
 pub mod Printing
+pub mod Ending
+pub mod LineByLine
+pub mod Showing
 pub mod Responding

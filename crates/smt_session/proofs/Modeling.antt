@@ -1,6 +1,6 @@
 -- The values of declarations are a model of the live assertions.
 use Rattle.std.proofs.Common.{◌≡◌, ℕ, zero, suc, ◌+◌, ◌*◌, ◌%◌, ◌^◌, ◌<◌, Bool, true, false, List, [], ◌∷◌, ◌++◌, length, get_or, map, take, Some, None, Ok, refl, sym, ap, ◌∙◌, subst, arith}
-use Rattle.std.specs.Prelude.{◌==◌, if◌then◌else◌, All, IsSome, position, slice_get, slice_index_or, unwrap_or}
+use Rattle.std.specs.Prelude.{◌==◌, ◌||◌, if◌then◌else◌, All, Option, IsSome, position, slice_get, slice_index_or, unwrap_or}
 use Rattle.std.specs.List.{AllByRecursion}
 use Rattle.std.proofs.lemmas.Nat.{mod-mul-add}
 use Rattle.std.proofs.lemmas.Bool.{eqb-true, eq-eqb}
@@ -28,8 +28,10 @@ use Rattle.bit_blast.specs.Assigned.{assigned, IsLongAsWord}
 use Rattle.bit_blast.specs.Meanings.{AreBitsOf}
 use Rattle.smt_values.specs.declared.value.Value.{Value}
 use Rattle.smt_values.specs.declared.value.Value.TheVariants as held
-use Rattle.smt_values.specs.Held.{meaning, IsOfSort, constant_of}
+use Rattle.smt_values.specs.Held.{meaning, IsOfSort, constant_of, function_of}
 use Rattle.smt_build.specs.declared.symbols.LiveName.{LiveName}
+use Rattle.smt_build.specs.Scoped.{is_live}
+use Rattle.smt_build.proofs.ScopedValues.{AgreeOn, value_is_over}
 use Rattle.script_state.specs.Plain.{is_plain_sort}
 use Rattle.script_state.specs.States.{StateValue, IsState}
 use Rattle.plain_search.specs.Searches.{assignment}
@@ -193,8 +195,10 @@ items_more s log v live items l x h k = record {
 pub live_declared : (s : StateValue) (k : ℕ) (l : LiveName) → IsState s → slice_get s.symbols.live k ≡ Some l → (g : Signature) × (slice_get s.symbols.signatures l.declaration ≡ Some g) × (g.args ≡ []) × (is_plain_sort g.value ≡ true) × IsSort g.value
 live_declared s k l h e =
     let none : Signature = constant_signature sort.Bool in
-    let own : l.declaration ≡ k = h.live.each k l e in
-    let lt : l.declaration < length s.symbols.signatures = omega (arith, own, slice_get_within s.symbols.live k l e, h.live.count) in
+    let within = slice_get_within s.symbols.live k l e in
+    let item : Some (get_or s.symbols.live k l) ≡ Some l = sym (slice_get-get_or s.symbols.live k l within) ∙ e in
+    let own : get_or s.symbols.live k l ≡ l = cc in
+    let lt : l.declaration < length s.symbols.signatures = subst (λ (x : LiveName). x.declaration < length s.symbols.signatures) own (h.live.made k l within) in
     let plain = h.constants l.declaration (constant_signature sort.Bool) lt in
     (get_or s.symbols.signatures l.declaration none, slice_get-get_or s.symbols.signatures l.declaration none lt, plain.constant, plain.sort, plain.widths)
 
@@ -237,47 +241,112 @@ read_same sort.Bool n x w h = subst (λ y. read_at sort.Bool y ≡ y) (sym h.1) 
 read_same (sort.Word m) n x w h = subst (λ y. read_at (sort.Word m) y ≡ y) (sym h.1) (ap (of.VWord m) (mod_small h.0 (2 ^ m) h.2))
 read_same (sort.Array m k) n x w h = let q : ⊥ = cc in absurd q
 
-module _ (s : StateValue) (log : LogValue) (v : ℕ → Bool) (values : List (ℕ × Value)) (state : IsState s) (stands : Stands s.terms.nodes log) (items : AreDeclaredValues s log v s.symbols.live values) where
+-- where a live name has a declaration
+live_at : (live : List LiveName) (d : ℕ) → is_live live d ≡ true → (k : ℕ) × (slice_get (map (λ (l : LiveName). l.declaration) live) k ≡ Some d)
+live_at [] d h = let q : ⊥ = cc in absurd q
+live_at (l ∷ live) d h = go (l.declaration == d) refl (λ q. live_at live d q) h
+  where
+    go : (b : Bool) → (l.declaration == d) ≡ b → (is_live live d ≡ true → (k : ℕ) × (slice_get (map (λ (l : LiveName). l.declaration) live) k ≡ Some d)) → (b || is_live live d) ≡ true
+        → (k : ℕ) × (slice_get (l.declaration ∷ map (λ (l : LiveName). l.declaration) live) k ≡ Some d)
+    go true q rest h = (0, ap Some (eqb-true l.declaration d q))
+    go false q rest h = let r = rest h in (suc r.0, r.1)
+
+-- the value of a sort that has these bits, or false or zero
+abbrev value_by : (ℕ → Bool) → Sort → Option (List Literal) → of.Value
+value_by v s None = default_of s
+value_by v sort.Bool (Some []) = of.VBool false
+value_by v sort.Bool (Some (l ∷ ls)) = of.VBool (lit_true v l)
+value_by v (sort.Word n) (Some b) = of.VWord n (number v b)
+value_by v (sort.Array n m) (Some b) = default_of (sort.Array n m)
+
+value_by_bits : (v : ℕ → Bool) (s : Sort) (b : List Literal) → plain_width s ≡ Some (length b) → AreBitsOf v s b (read_at s (value_by v s (Some b)))
+value_by_bits v sort.Bool [] w = let q : ⊥ = cc in absurd q
+value_by_bits v sort.Bool (l ∷ []) w = (l, refl, refl)
+value_by_bits v sort.Bool (l ∷ m ∷ ls) w = let q : 1 ≡ suc (suc (length ls)) = cc in absurd (omega (arith, q))
+value_by_bits v (sort.Word n) b w =
+    let width : length b ≡ n = width_is (sort.Word n) n (length b) refl w in
+    (width, ap (of.VWord n) (mod_small (number v b) (2 ^ n) (subst (λ k. number v b < 2 ^ k) width (number_lt v b))))
+value_by_bits v (sort.Array n m) b w = let q : ⊥ = cc in absurd q
+
+-- the value that an assignment gives to a term, if it is there and has bits
+abbrev value_at : (ℕ → Bool) → LogValue → Sort → Option ℕ → of.Value
+value_at v log s None = default_of s
+value_at v log s (Some t) = value_by v s (bits_in log.bits t)
+
+-- the value that an assignment gives to a declared constant
+abbrev value_given : (ℕ → Bool) → LogValue → List Node → ℕ → Option Signature → of.Value
+value_given v log nodes d None = of.no_value
+value_given v log nodes d (Some g) = value_at v log g.value (position (same_node (leaf (Constant d g.value))) nodes)
+
+-- The values of live declarations, and for each other declaration the one that the assignment gives: under it each assertion
+-- that has a true selector is true, whether its declarations are live or not.
+module _ (s : StateValue) (log : LogValue) (v : ℕ → Bool) (values : List (ℕ × Value)) (state : IsState s) (terms : AreTerms s.terms) (stands : Stands s.terms.nodes log) (items : AreDeclaredValues s log v s.symbols.live values) where
+  abbrev constant_by : Bool → ℕ → of.Value
+  constant_by true d = constant_of (value_for values d)
+  constant_by false d = value_given v log s.terms.nodes d (slice_get s.symbols.signatures d)
+
+  abbrev given : Interpretation
+  given = record { constants = λ d. constant_by (is_live s.symbols.live d) d; functions = λ d. function_of (value_for values d) }
+
+  -- the bits of a live constant are those of its value
+  live_bits : (d t n : ℕ) (s' : Sort) (b : List Literal) → (node_at s.terms.nodes t).op ≡ Constant d s' → plain_width s' ≡ Some n → slice_get s.symbols.signatures d ≡ Some (constant_signature s') → is_live s.symbols.live d ≡ true → bits_in log.bits t ≡ Some b
+      → AreBitsOf v s' b (read_at s' (constant_of (value_for values d)))
+  live_bits d t n s' b op w declared live e =
+      let name = live_at s.symbols.live d live in
+      let found = value_found (IsDeclaredValue s.symbols.signatures s.terms.nodes log v) values d name.0 items.each (ap (λ xs. slice_get xs name.0) items.listed ∙ name.1) in
+      let same : Some found.2.signature ≡ Some (constant_signature s') = sym found.2.declared ∙ declared in
+      let sorts : found.2.signature.value ≡ s' = let r : found.2.signature ≡ constant_signature s' = cc in ap (λ x. x.value) r in
+      let x = found.0 in
+      let is : IsValueIn s.terms.nodes log v d s' found.0 = subst (λ r. IsValueIn s.terms.nodes log v d r x) sorts found.2.value in
+      let reads : read_at s' (constant_of (value_for values d)) ≡ meaning found.0 = ap (λ o. read_at s' (constant_of o)) found.1 ∙ read_same s' n (meaning x) w is.sorted in
+      subst (AreBitsOf v s' b) (sym reads) (is.bits t b op e)
+
+  -- the bits of any other constant are those of the value that it is given
+  other_bits : (d t : ℕ) (s' : Sort) (b : List Literal) → (node_at s.terms.nodes t).op ≡ Constant d s' → plain_width s' ≡ Some (length b) → slice_get s.symbols.signatures d ≡ Some (constant_signature s') → bits_in log.bits t ≡ Some b
+      → AreBitsOf v s' b (read_at s' (value_given v log s.terms.nodes d (slice_get s.symbols.signatures d)))
+  other_bits d t s' b op w declared e = rw declared (go (position (same_node (leaf (Constant d s'))) s.terms.nodes) refl)
+    where
+      go : (o : Option ℕ) → position (same_node (leaf (Constant d s'))) s.terms.nodes ≡ o → AreBitsOf v s' b (read_at s' (value_at v log s' o))
+      go None p = absurd (no_constant s.terms log d s' terms stands (sym p) t b op e)
+      go (Some u) p =
+          let here = same_constant s.terms log d s' u terms stands (sym p) t b op e in
+          let own : bits_in log.bits u ≡ Some b = ap (bits_in log.bits) (sym here) ∙ e in
+          rw own (value_by_bits v s' b w)
+
+  either_bits : (d t n : ℕ) (s' : Sort) (b : List Literal) → (node_at s.terms.nodes t).op ≡ Constant d s' → plain_width s' ≡ Some n → plain_width s' ≡ Some (length b) → slice_get s.symbols.signatures d ≡ Some (constant_signature s') → bits_in log.bits t ≡ Some b
+      → (l : Bool) → is_live s.symbols.live d ≡ l → AreBitsOf v s' b (read_at s' (constant_by l d))
+  either_bits d t n s' b op w wide declared e true live = live_bits d t n s' b op w declared live e
+  either_bits d t n s' b op w wide declared e false live = other_bits d t s' b op wide declared e
+
   -- the bits of a declared constant are those of its value
-  constant_bits : (t n : ℕ) (b : List Literal) → constant_width (node_at s.terms.nodes t).op ≡ Some n → bits_in log.bits t ≡ Some b → AreBitsOf v (sort_of s.terms.nodes t) b (value (interpretation_of values) s.terms.nodes t)
+  constant_bits : (t n : ℕ) (b : List Literal) → constant_width (node_at s.terms.nodes t).op ≡ Some n → bits_in log.bits t ≡ Some b → AreBitsOf v (sort_of s.terms.nodes t) b (value given s.terms.nodes t)
   constant_bits t n b w e =
       let nodes = s.terms.nodes in
-      let M = interpretation_of values in
-      let lt = ((stands_settled s.terms.nodes log state.terms stands).bits t b e).0 in
+      let settled = (stands_settled s.terms.nodes log state.terms stands).bits t b e in
+      let lt = settled.0 in
       let c = constant_of_width (node_at nodes t).op n w in
       let d = c.0 in
       let own = constant_term nodes t d c.1 state.terms lt c.2 in
+      let wide : plain_width c.1 ≡ Some (length b) = subst (λ r. plain_width r ≡ Some (length b)) own.1 settled.1 in
       let declared : slice_get s.symbols.signatures c.0 ≡ Some (constant_signature c.1) = state.declared.each t d (ap declaration_of c.2) ∙ ap (λ o. Some (signature_of o)) c.2 in
-      let within : c.0 < length s.symbols.live = omega (arith, state.live.count, slice_get_within s.symbols.signatures d (constant_signature c.1) declared) in
-      let name = live_at d within in
-      let found = value_found (IsDeclaredValue s.symbols.signatures nodes log v) values d d items.each (ap (λ xs. slice_get xs d) items.listed ∙ name) in
-      let g = found.2.signature in
-      let same : Some found.2.signature ≡ Some (constant_signature c.1) = sym found.2.declared ∙ declared in
-      let sorts : found.2.signature.value ≡ c.1 = let r : found.2.signature ≡ constant_signature c.1 = cc in ap (λ x. x.value) r in
-      let x = found.0 in
-      let is : IsValueIn s.terms.nodes log v c.0 c.1 found.0 = subst (λ r. IsValueIn nodes log v d r x) sorts found.2.value in
-      let reads : value (interpretation_of values) s.terms.nodes t ≡ meaning found.0 =
-      value_is M nodes t (state.terms t lt)
-      ∙ ap (λ o. of.op_value M o (map (value M nodes) (node_at nodes t).args)) c.2
-      ∙ ap (λ o. read_at c.1 (constant_of o)) found.1
-      ∙ read_same c.1 n (meaning x) c.3 is.sorted in
-      subst (λ r. AreBitsOf v r b (value M nodes t)) (sym own.1)
-      (subst (AreBitsOf v c.1 b) (sym reads) (is.bits t b c.2 e))
-    where
-      live_at : (d : ℕ) → d < length s.symbols.live → slice_get (map (λ (l : LiveName). l.declaration) s.symbols.live) d ≡ Some d
-      live_at d lt = names s.symbols.live d (λ l q. state.live.each d l q) lt
-        where
-          names : (live : List LiveName) (k : ℕ) → ((l : LiveName) → slice_get live k ≡ Some l → l.declaration ≡ d) → k < length live → slice_get (map (λ (l : LiveName). l.declaration) live) k ≡ Some d
-          names [] k h lt = absurd (omega arith)
-          names (l ∷ live) zero h lt = ap Some (h l refl)
-          names (l ∷ live) (suc k) h lt = names live k h (omega (arith, lt))
+      let reads : value given s.terms.nodes t ≡ read_at c.1 (given.constants c.0) =
+      value_is given nodes t (state.terms t lt)
+      ∙ ap (λ o. of.op_value given o (map (value given nodes) (node_at nodes t).args)) c.2 in
+      let bits : AreBitsOf v c.1 b (read_at c.1 (constant_by (is_live s.symbols.live c.0) c.0)) = either_bits c.0 t n c.1 b c.2 c.3 wide declared e (is_live s.symbols.live c.0) refl in
+      subst (λ r. AreBitsOf v r b (value given nodes t)) (sym own.1) (subst (AreBitsOf v c.1 b) (sym reads) bits)
+
+  -- they agree on what is live
+  agrees : AgreeOn s.symbols.live given (interpretation_of values)
+  agrees = record { constants = λ d live. ap (λ l. constant_by l d) live; functions = λ d vs live. refl }
 
   model_of : AreAllTrue log v → All (HasTrueSelector s.terms.nodes log v) s.scopes.live → IsModel s (interpretation_of values)
   model_of true_clauses selected k a lt =
-      let M = interpretation_of values in
-      let h = stored_values M s.terms.nodes log v state.terms stands (record { clauses = true_clauses; constants = constant_bits }) in
+      let h = stored_values given s.terms.nodes log v state.terms stands (record { clauses = true_clauses; constants = constant_bits }) in
       let r = selected k a lt in
-      subst (λ t. is_true (value M s.terms.nodes t) ≡ true) r.term (h.selectors _ r.selector r.made r.holds)
+      let t = (get_or s.scopes.live k a).term in
+      let holds : is_true (value given s.terms.nodes (get_or s.scopes.live k a).term) ≡ true = subst (λ t. is_true (value given s.terms.nodes t) ≡ true) r.term (h.selectors _ r.selector r.made r.holds) in
+      let same : value given s.terms.nodes (get_or s.scopes.live k a).term ≡ value (interpretation_of values) s.terms.nodes (get_or s.scopes.live k a).term = value_is_over s.symbols.live given (interpretation_of values) agrees s.terms.nodes state.terms t (state.closed.terms k a lt) in
+      subst (λ x. is_true x ≡ true) same holds
 
   sorted_of : (xs : List (ℕ × Value)) → AllByRecursion (IsDeclaredValue s.symbols.signatures s.terms.nodes log v) xs → All (λ (p : ℕ × Value). IsOfSignature p.1 (slice_get s.symbols.signatures p.0)) xs
   sorted_of [] h k d lt = absurd (omega (arith, lt))
@@ -305,8 +374,8 @@ same_assignment values = λ i x. at x i
     at zero = refl
     at (suc x) = same_at values x
 
-pub model_written : (s : StateValue) (log : LogValue) (values given : List Bool) (items : List (ℕ × Value)) → given ≡ values → IsState s → Stands s.terms.nodes log → AreDeclaredValues s log (assigned given) s.symbols.live items
+pub model_written : (s : StateValue) (log : LogValue) (values given : List Bool) (items : List (ℕ × Value)) → given ≡ values → IsState s → AreTerms s.terms → Stands s.terms.nodes log → AreDeclaredValues s log (assigned given) s.symbols.live items
     → AreAllTrue log (assignment values) → All (HasTrueSelector s.terms.nodes log (assignment values)) s.scopes.live → AreWritten (Sat items) × IsWrittenModel s items
-model_written s log values given items e state stands h true_clauses selected =
+model_written s log values given items e state terms stands h true_clauses selected =
     let same : assignment values ≡ assigned given = same_assignment values ∙ ap assigned (sym e) in
-    written_model s log (assigned given) items state stands h (subst (AreAllTrue log) same true_clauses) (subst (λ f. All (HasTrueSelector s.terms.nodes log f) s.scopes.live) same selected)
+    written_model s log (assigned given) items state terms stands h (subst (AreAllTrue log) same true_clauses) (subst (λ f. All (HasTrueSelector s.terms.nodes log f) s.scopes.live) same selected)

@@ -24,12 +24,12 @@ flat_map_append f (x ∷ xs) ys = ap (λ r. f x ++ r) (flat_map_append f xs ys) 
 pub text_append : (xs ys : List Entry) → text_of (xs ++ ys) ≡ text_of xs ++ text_of ys
 text_append xs ys = ap (flat_map line_text) (flat_map_append (λ e. option_to_list (entry_line e)) xs ys) ∙ flat_map_append line_text (step_lines xs) (step_lines ys)
 
-front : (es : List Entry) (k : ℕ) (e : Entry) → slice_get es k ≡ Some e → take (suc k) es ≡ take k es ++ e ∷ []
+pub front : (es : List Entry) (k : ℕ) (e : Entry) → slice_get es k ≡ Some e → take (suc k) es ≡ take k es ++ e ∷ []
 front [] k e h = let q : ⊥ = cc in absurd q
 front (x ∷ es) zero e h = let q : x ≡ e = cc in ap (λ r. r ∷ []) q
 front (x ∷ es) (suc k) e h = ap (λ r. x ∷ r) (front es k e h)
 
-dropped : (es : List Entry) (f k n : ℕ) (e : Entry) → n ≡ f + k → slice_get es n ≡ Some e → slice_get (drop f es) k ≡ Some e
+pub dropped : (es : List Entry) (f k n : ℕ) (e : Entry) → n ≡ f + k → slice_get es n ≡ Some e → slice_get (drop f es) k ≡ Some e
 dropped es zero k n e p h = let q : k ≡ n = omega arith in ap (slice_get es) q ∙ h
 dropped [] (suc f) k n e p h = let q : ⊥ = cc in absurd q
 dropped (x ∷ es) (suc f) k zero e p h = absurd (omega arith)
@@ -40,7 +40,7 @@ text_one : (e : Entry) (o : Option Line) (old new : List ℕ) → IsSome o → I
 text_one e None old new h k = let q : ⊥ = cc in absurd q
 text_one e (Some l) old new h k = k ∙ ap (λ r. old ++ r) (sym (append-nil (line_text l)))
 
-entry_of : (es : List Entry) (at : ℕ) (e : Entry) → 0 < at → entry_at es at ≡ Some e → slice_get es (at - 1) ≡ Some e
+pub entry_of : (es : List Entry) (at : ℕ) (e : Entry) → 0 < at → entry_at es at ≡ Some e → slice_get es (at - 1) ≡ Some e
 entry_of es zero e lt h = absurd (omega arith)
 entry_of es (suc at) e lt h = let q : suc at - 1 ≡ at = omega arith in ap (slice_get es) q ∙ h
 

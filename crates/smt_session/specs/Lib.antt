@@ -1,4 +1,5 @@
 pub mod Growing
+pub mod Reads
 pub mod Reaching
 pub mod Searched
 pub mod Modeled

@@ -1,17 +1,19 @@
 // A check: its steps, its verdict, and its record.
 
 ghost use Rattle.std.specs.Prelude.{◌≡◌, ◌++◌, ◌-◌, ◌<◌, IfOk, OnOk, drop, length};
-ghost use Rattle.std.specs.List.{flat_map};
-ghost use Rattle.proof_text.specs.Lines.{line_text};
+ghost use Rattle.std.specs.List.{flat_map, AllByRecursion};
+ghost use Rattle.proof_text.specs.Lines.{line_text, IsLine};
 ghost use Rattle.proof_text.specs.Records.{AreWritten, record_lines};
 ghost use Rattle.accepted_proof.specs.Answers.{step_lines};
 ghost use Rattle.accepted_proof.specs.Turns.{verdict_of};
 ghost use Rattle.smt_session.specs.Growing.{AreSelectors, AreLined};
+ghost use Rattle.smt_session.specs.Reads.{HaveDigits};
 ghost use Rattle.smt_session.specs.Sessions.{IsChecked, IsSession};
 
 use crate::encoding::{encode_all, select_all};
 use crate::model::model;
 use crate::reach::reach;
+use crate::readable::{read_record, read_step};
 use crate::solve::{push_chains, solve};
 use cnf_base::{Lit, Pos};
 use plain_search::{Outcome, Verdict as Found};
@@ -41,7 +43,7 @@ fn conclude(
     log: &mut Log,
     given: &[Lit],
 ) -> Result<Record, AllocError>
-    requires session { IsSession (record { state = state.now; log = log.old }) }
+    requires session { IsSession state.now log.old }
     requires given { AreSelectors log.old state.now.scopes.live given.now }
     ensures { IfOk result (IsChecked state.now log.old log.new) }
 {
@@ -61,7 +63,7 @@ fn conclude(
 
 /// Gives what the live assertions reach its bits, searches for a verdict, and gives the record that shows it.
 fn check(alloc: Global, state: &State, log: &mut Log) -> Result<Record, AllocError>
-    requires { IsSession (record { state = state.now; log = log.old }) }
+    requires { IsSession state.now log.old }
     ensures { IfOk result (IsChecked state.now log.old log.new) }
 {
     let marks = reach(alloc, state, log)?;
@@ -74,11 +76,15 @@ fn check(alloc: Global, state: &State, log: &mut Log) -> Result<Record, AllocErr
 fn write_steps(log: &Log, from: Pos, out: &mut Text) -> Result<(), AllocError>
     requires lined { AreLined log.now.entries }
     requires from { 0 < from }
-    ensures { OnOk result (out.new ≡ out.old ++ flat_map line_text (step_lines (drop (from - 1) log.now.entries))) }
+    ensures text { OnOk result (out.new ≡ out.old ++ flat_map line_text (step_lines (drop (from - 1) log.now.entries))) }
+    ensures readable { OnOk result (AllByRecursion IsLine (step_lines (drop (from - 1) log.now.entries))) }
 {
     'steps: for at in from..log.len() {
         match log.entry(at) {
-            Some(entry) => write_entry(entry, out)?,
+            Some(entry) => {
+                read_step(entry);
+                write_entry(entry, out)?;
+            }
             None => unreachable!(),
         }
     }
@@ -90,10 +96,13 @@ fn lines(alloc: Global, log: &Log, from: Pos, shown: &Record) -> Result<Text, Al
     requires lined { AreLined log.now.entries }
     requires from { 0 < from }
     requires written { AreWritten shown.now }
-    ensures { IfOk result (λ t. t ≡ flat_map line_text (step_lines (drop (from - 1) log.now.entries)) ++ flat_map line_text (record_lines shown.now)) }
+    requires digits { HaveDigits shown.now }
+    ensures text { IfOk result (λ t. t ≡ flat_map line_text (step_lines (drop (from - 1) log.now.entries)) ++ flat_map line_text (record_lines shown.now)) }
+    ensures readable { IfOk result (λ _. AllByRecursion IsLine (step_lines (drop (from - 1) log.now.entries) ++ record_lines shown.now)) }
 {
     let mut out = Text::new(alloc);
     write_steps(log, from, &mut out)?;
+    read_record(shown);
     write_record(shown, &mut out)?;
     Ok(out)
 }
@@ -107,9 +116,10 @@ pub(crate) struct Checked {
 
 /// Checks the live assertions, and prints the lines of the check.
 pub(crate) fn run_check(alloc: Global, state: &State, log: &mut Log) -> Result<Checked, AllocError>
-    requires { IsSession (record { state = state.now; log = log.old }) }
+    requires { IsSession state.now log.old }
     ensures checked { IfOk result (λ c. IsChecked state.now log.old log.new c.shown) }
     ensures text { IfOk result (λ c. c.text ≡ flat_map line_text (step_lines (drop (length log.old.entries) log.new.entries)) ++ flat_map line_text (record_lines c.shown)) }
+    ensures readable { IfOk result (λ c. AllByRecursion IsLine (step_lines (drop (length log.old.entries) log.new.entries) ++ record_lines c.shown)) }
 {
     let from = log.len();
     let shown = check(alloc, state, log)?;

@@ -70,6 +70,7 @@ fn declared_values(
 ) -> Result<Vec<(DeclId, Value)>, AllocError>
     requires stands { Stands state.now.terms.nodes log.now }
     ensures state { IsState state.now }
+    ensures terms { AreTerms state.now.terms }
     ensures values { IfOk result (λ items. AreDeclaredValues state.now log.now (assigned assignment.now) state.now.symbols.live items.items) }
 {
     let terms = state.terms();

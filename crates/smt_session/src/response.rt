@@ -1,12 +1,15 @@
 // What a command is answered, and why it is not.
 
-ghost use Rattle.std.specs.Prelude.{◌≡◌, ◌++◌, [], true, false, IfOk, OnOk};
-ghost use Rattle.std.specs.Fmt.{decimal};
-ghost use Rattle.accepted_proof.specs.Answers.{error_text, verdict_text};
+ghost use Rattle.std.specs.Prelude.{◌≡◌, ◌∷◌, ◌++◌, [], true, false, IfOk};
+ghost use Rattle.accepted_proof.specs.Answers.{error_text, verdict_text, done_text, model_text};
 ghost use Rattle.smt_session.specs.Sessions.{response};
 
+use crate::texts::{model_text, push_decimal};
+use proof_text::record::Record;
 use script_state::answer::Verdict;
 use script_state::error_text::ErrorText;
+use script_state::options::Options;
+use script_state::state::State;
 use smt_text::text::Text;
 use std::alloc::{AllocError, Global};
 
@@ -37,14 +40,6 @@ impl From<AllocError> for Stop {
     }
 }
 
-/// Appends a number in decimal.
-fn push_decimal(alloc: Global, number: u64, out: &mut Text) -> Result<(), AllocError>
-    ensures { OnOk result (out.new ≡ out.old ++ decimal number) }
-{
-    let digits = format!(in alloc; "{number}")?;
-    out.push_slice(digits.as_bytes())
-}
-
 /// The text of an error, with the line of the command's first byte.
 fn refusal_text(alloc: Global, line: u64, error: ErrorText) -> Result<Text, AllocError>
     ensures { IfOk result (λ t. t ≡ error_text line error) }
@@ -58,15 +53,33 @@ fn refusal_text(alloc: Global, line: u64, error: ErrorText) -> Result<Text, Allo
 }
 
 impl Response {
-    /// No text.
-    pub(crate) fn silent(alloc: Global) -> Response
-        ensures { result ≡ response [] false }
+    /// It is done, which is told where the option says so.
+    pub(crate) fn done(alloc: Global, options: Options, ends: bool) -> Result<Response, AllocError>
+        ensures { IfOk result (λ r. r ≡ response (done_text options) false ends) }
     {
-        Response {
-            text: Text::new(alloc),
+        let text: &[u8] = if options.print_success {
+            b"success\n"
+        } else {
+            b""
+        };
+        Ok(Response {
+            text: Text::from_slice(alloc, text)?,
+            error: false,
+            ends,
+        })
+    }
+
+    /// A line.
+    pub(crate) fn line(line: Text) -> Result<Response, AllocError>
+        ensures { IfOk result (λ r. r ≡ response (line ++ 10 ∷ []) false false) }
+    {
+        let mut text = line;
+        text.push(b'\n')?;
+        Ok(Response {
+            text,
             error: false,
             ends: false,
-        }
+        })
     }
 
     /// An error.
@@ -75,7 +88,7 @@ impl Response {
         line: u64,
         error: ErrorText,
     ) -> Result<Response, AllocError>
-        ensures { IfOk result (λ r. r ≡ response (error_text line error) true) }
+        ensures { IfOk result (λ r. r ≡ response (error_text line error) true false) }
     {
         let text = refusal_text(alloc, line, error)?;
         Ok(Response {
@@ -87,7 +100,7 @@ impl Response {
 
     /// The verdict of a check.
     pub(crate) fn verdict(alloc: Global, verdict: Verdict) -> Result<Response, AllocError>
-        ensures { IfOk result (λ r. r ≡ response (verdict_text verdict) false) }
+        ensures { IfOk result (λ r. r ≡ response (verdict_text verdict) false false) }
     {
         let text: &[u8] = match verdict {
             Verdict::Sat => b"sat\n",
@@ -96,6 +109,21 @@ impl Response {
         };
         Ok(Response {
             text: Text::from_slice(alloc, text)?,
+            error: false,
+            ends: false,
+        })
+    }
+
+    /// The model of the last check's record, where it has one.
+    pub(crate) fn model(
+        alloc: Global,
+        state: &State,
+        last: &Option<Record>,
+    ) -> Result<Response, AllocError>
+        ensures { IfOk result (λ r. r ≡ response (model_text state.now last.now) false false) }
+    {
+        Ok(Response {
+            text: model_text(alloc, state, last)?,
             error: false,
             ends: false,
         })

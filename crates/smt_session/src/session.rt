@@ -1,8 +1,9 @@
 // Sessions.
 
-ghost use Rattle.std.specs.Prelude.{◌≡◌, ◌≤◌, ℕ, List, [], Err, IfOk, OnOk, false};
+ghost use Rattle.std.specs.Prelude.{◌≡◌, ◌≤◌, ℕ, List, [], Option, None, Err, IfOk, OnOk};
 ghost use Rattle.std.specs.Io.KnownBytes.{Appends};
 ghost use Rattle.smt_desk.specs.Faults.{Rose};
+ghost use Rattle.proof_text.specs.declared.record.Record.{Record as RecordValue};
 ghost use Rattle.script_state.specs.States.{no_state};
 ghost use Rattle.smt_session.specs.Sessions.{IsAnswered, IsSession, Responds};
 
@@ -10,6 +11,7 @@ use crate::check::{run_check, verdict_of};
 use crate::response::{Response, Stop};
 use crate::settings::Settings;
 use proof_log::Log;
+use proof_text::record::Record;
 use script_state::answer::Answer;
 use script_state::state::State;
 use smt_desk::stream::{Sink, write_whole};
@@ -18,11 +20,12 @@ use smt_text::text::Text;
 use std::alloc::{AllocError, Global};
 use std::marker::Model;
 
-/// The state of a script's commands, and the log of its checks.
+/// The state of a script's commands, the log of its checks, and the record of the last one.
 #[derive(Drop)]
 pub struct Session {
     state: State,
     log: Log,
+    shown: Option<Record>,
     settings: Settings,
 }
 
@@ -31,9 +34,9 @@ impl Model for Session {
 
     ghost Value = { SessionValue };
 
-    ghost view = { λ s. record { state = s.state; log = s.log } };
+    ghost view = { λ s. record { state = s.state; log = s.log; shown = s.shown } };
 
-    ghost invariant = { λ s. IsSession (record { state = s.state; log = s.log }) };
+    ghost invariant = { λ s. IsSession s.state s.log };
 }
 
 /// Writes the lines of a check.
@@ -49,6 +52,13 @@ fn write_lines<Q: Sink>(text: &Text, proof: &mut Q) -> Result<(), Stop>
     }
 }
 
+/// A response, and the record of the last check.
+#[derive(Drop)]
+struct Reply {
+    response: Response,
+    shown: Option<Record>,
+}
+
 /// Checks the live assertions, and answers once the lines of the check are written.
 fn answer_check<Q: Sink>(
     alloc: Global,
@@ -56,11 +66,10 @@ fn answer_check<Q: Sink>(
     state: &mut State,
     log: &mut Log,
     proof: &mut Q,
-) -> Result<Response, Stop>
-    requires { IsSession (record { state = state.old; log = log.old }) }
-    ensures session { IfOk result (λ _. IsSession (record { state = state.new; log = log.new })) }
-    ensures response { IfOk result (λ r. Responds line Answer.Check state.old state.new log.old log.new r (Q.written proof.old) (Q.written proof.new)) }
-    ensures ends { IfOk result (λ r. r.ends ≡ false) }
+) -> Result<Reply, Stop>
+    requires { IsSession state.old log.old }
+    ensures session { IfOk result (λ _. IsSession state.new log.new) }
+    ensures response { IfOk result (λ r. (last : Option RecordValue) → Responds line Answer.Check state.old state.new log.old log.new last r.shown r.response (Q.written proof.old) (Q.written proof.new)) }
     ensures written { (bytes : List ℕ) × Appends (Q.written proof.old) (Q.written proof.new) bytes }
     ensures failed { result ≡ Err Stop.Failed → Rose (Q.faults proof.old) (Q.faults proof.new) }
     ensures later { Q.faults proof.old ≤ Q.faults proof.new }
@@ -70,42 +79,53 @@ fn answer_check<Q: Sink>(
     let response = Response::verdict(alloc, verdict)?;
     write_lines(&checked.text, proof)?;
     state.conclude(verdict);
-    Ok(response)
+    Ok(Reply {
+        response,
+        shown: Some(checked.shown),
+    })
 }
 
-/// Answers what the state says of a command.
+/// Answers what the state says of a command, where the last check has this record.
 fn respond<Q: Sink>(
     alloc: Global,
     line: u64,
     answer: Answer,
+    last: Option<Record>,
     state: &mut State,
     log: &mut Log,
     proof: &mut Q,
-) -> Result<Response, Stop>
-    requires { IsSession (record { state = state.old; log = log.old }) }
-    ensures session { IfOk result (λ _. IsSession (record { state = state.new; log = log.new })) }
-    ensures response { IfOk result (λ r. Responds line answer state.old state.new log.old log.new r (Q.written proof.old) (Q.written proof.new)) }
-    ensures ends { IfOk result (λ r. r.ends ≡ false) }
+) -> Result<Reply, Stop>
+    requires { IsSession state.old log.old }
+    ensures session { IfOk result (λ _. IsSession state.new log.new) }
+    ensures response { IfOk result (λ r. Responds line answer state.old state.new log.old log.new last r.shown r.response (Q.written proof.old) (Q.written proof.new)) }
     ensures written { (bytes : List ℕ) × Appends (Q.written proof.old) (Q.written proof.new) bytes }
     ensures failed { result ≡ Err Stop.Failed → Rose (Q.faults proof.old) (Q.faults proof.new) }
     ensures later { Q.faults proof.old ≤ Q.faults proof.new }
 {
-    match answer {
-        Answer::Done => Ok(Response::silent(alloc)),
-        Answer::Refused(error) => Ok(Response::refusal(alloc, line, error)?),
-        Answer::Check => answer_check(alloc, line, state, log, proof),
-    }
+    let response = match answer {
+        Answer::Done => Response::done(alloc, state.options(), false)?,
+        Answer::Refused(error) => Response::refusal(alloc, line, error)?,
+        Answer::Check => return answer_check(alloc, line, state, log, proof),
+        Answer::Says(text) => Response::line(text)?,
+        Answer::Model => Response::model(alloc, state, &last)?,
+        Answer::Exit => Response::done(alloc, state.options(), true)?,
+    };
+    Ok(Reply {
+        response,
+        shown: last,
+    })
 }
 
 impl Session {
     /// No command yet.
     pub fn new(alloc: Global, settings: Settings) -> Result<Session, AllocError>
-        ensures fresh { IfOk result (λ s. (s.state ≡ no_state) × (s.log.entries ≡ [])) }
+        ensures fresh { IfOk result (λ s. (s.state ≡ no_state) × (s.log.entries ≡ []) × (s.shown ≡ None)) }
     {
         let log = Log::new(alloc)?;
         Ok(Session {
             state: State::new(alloc),
             log,
+            shown: None,
             settings,
         })
     }
@@ -127,23 +147,26 @@ impl Session {
         ensures written { (lines : List ℕ) × Appends (Q.written proof.old) (Q.written proof.new) lines }
         ensures failed { result ≡ Err Stop.Failed → Rose (Q.faults proof.old) (Q.faults proof.new) }
         ensures later { Q.faults proof.old ≤ Q.faults proof.new }
-        ensures goes_on { IfOk result (λ r. r.1.ends ≡ false) }
     {
         let Session {
             mut state,
             mut log,
+            shown,
             settings,
         } = self;
         if state.assertions_made() == u32::MAX {
             return Err(Stop::NoMemory);
         }
         let answer = state.apply(alloc, chunk)?;
-        let response = respond(alloc, chunk.line, answer, &mut state, &mut log, proof)?;
+        let reply = respond(
+            alloc, chunk.line, answer, shown, &mut state, &mut log, proof,
+        )?;
         let session = Session {
             state,
             log,
+            shown: reply.shown,
             settings,
         };
-        Ok((session, response))
+        Ok((session, reply.response))
     }
 }

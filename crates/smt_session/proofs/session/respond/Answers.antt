@@ -1,14 +1,15 @@
-use Rattle.std.proofs.Common.{sym, subst}
-use Rattle.smt_session.specs.Sessions.{Responds}
-use Rattle.smt_session.proofs.Responding.{done_responds, refused_responds}
+use Rattle.std.proofs.Common.{ap, ◌∙◌, false, true}
+use Rattle.accepted_proof.specs.Answers.{done_text}
+use Rattle.smt_session.specs.Sessions.{response}
+use Rattle.smt_session.proofs.Responding.{done_responds, refused_responds, says_responds, model_responds, exit_responds}
 use Rattle.smt_session.proofs.session.respond.Goals as goal
+use Rattle.smt_session.proofs.session.respond.Goals.{in-Done+in_ok-response-in-Done, in-Refused+in_ok-response-in-Refused, in-Says+in_ok-response-in-Says, in-Model+in_ok-response-in-Model, in-Exit+in_ok-response-in-Exit}
 
-pub returns-in-Done-clause-response : goal.returns-in-Done-clause-response
-returns-in-Done-clause-response g c =
-    subst (λ a. Responds c.args.line a c.args.state.now c.args.state.now c.args.log.now c.args.log.now c.silent.result (g.Q.Sink.written c.args.proof.now) (g.Q.Sink.written c.args.proof.now)) (sym c.in-Done.is)
-    (done_responds c.args.line c.args.state.now c.args.log.now c.silent.result (g.Q.Sink.written c.args.proof.now) c.silent.ensures)
-
-pub returns-in_ok-refusal-in-Refused-clause-response : goal.returns-in_ok-refusal-in-Refused-clause-response
-returns-in_ok-refusal-in-Refused-clause-response g c =
-    subst (λ a. Responds c.args.line a c.args.state.now c.args.state.now c.args.log.now c.args.log.now c.in_ok-refusal-in-Refused.field-0 (g.Q.Sink.written c.args.proof.now) (g.Q.Sink.written c.args.proof.now)) (sym c.in-Refused.is)
-    (refused_responds c.args.line c.in-Refused.error c.args.state.now c.args.log.now c.in_ok-refusal-in-Refused.field-0 (g.Q.Sink.written c.args.proof.now) c.in_ok-refusal-in-Refused.ensures)
+pub returns-clause-response : goal.returns-clause-response
+returns-clause-response g c = elim c.match-answer.branch [
+  | in-Done+in_ok-response-in-Done w ↦ done_responds _ _ _ _ _ _ _ w.in-Done.is (w.response-is ∙ w.in_ok-response-in-Done.ensures ∙ ap (λ o. response (done_text o) false false) w.options.ensures)
+  | in-Refused+in_ok-response-in-Refused w ↦ refused_responds _ _ _ _ _ _ _ _ w.in-Refused.is (w.response-is ∙ w.in_ok-response-in-Refused.ensures)
+  | in-Says+in_ok-response-in-Says w ↦ says_responds _ _ _ _ _ _ _ _ w.in-Says.is (w.response-is ∙ w.in_ok-response-in-Says.ensures)
+  | in-Model+in_ok-response-in-Model w ↦ model_responds _ _ _ _ _ _ _ w.in-Model.is (w.response-is ∙ w.in_ok-response-in-Model.ensures)
+  | in-Exit+in_ok-response-in-Exit w ↦ exit_responds _ _ _ _ _ _ _ w.in-Exit.is (w.response-is ∙ w.in_ok-response-in-Exit.ensures ∙ ap (λ o. response (done_text o) false true) w.options-in-Exit.ensures)
+]
