@@ -1,5 +1,5 @@
 -- Of the end of a check, and of its run.
-use Rattle.std.proofs.Common.{◌≡◌, ◌≢◌, ℕ, ◌+◌, false, List, [], ◌∷◌, ◌++◌, length, get_or, codes, Option, Some, None, refl, sym, ap, ◌∙◌, subst, inl, inr, ⊎_elim, arith, append-nil, length-append}
+use Rattle.std.proofs.Common.{◌≡◌, ◌≢◌, ℕ, ◌+◌, false, List, [], ◌++◌, length, Option, Some, None, refl, sym, ap, ◌∙◌, subst, inl, inr, ⊎_elim, arith, append-nil, length-append}
 use Rattle.std.specs.Prelude.{◌⊎◌, Err, IfSome}
 use Rattle.std.specs.Io.KnownBytes.{Appends}
 use Rattle.script_state.specs.declared.answer.Verdict.{Verdict}
@@ -15,9 +15,6 @@ use Rattle.proof_checker.specs.declared.checking.Progress.{Progress}
 use Rattle.proof_checker.specs.declared.checking.Progress.TheVariants as progress
 use Rattle.smt_tool.specs.declared.status.Status.{Status}
 use Rattle.smt_tool.specs.declared.status.Status.TheVariants.{Done, Refused, Usage, ReadFault, WriteFault, NoMemory, TooLong}
-use Rattle.smt_tool.specs.declared.words.Command.{Command}
-use Rattle.smt_tool.specs.declared.words.Command.TheVariants.{Solve, Check}
-use Rattle.smt_tool.specs.Words.{Asks, IsToSolve, IsToCheck}
 use Rattle.smt_tool.specs.Runs.{ReadsBytes, ReadsWithin, Counts, HasCause, counts, input_limit}
 use Rattle.smt_tool.specs.Beside.{IsShort, IsWithoutFault}
 use Rattle.smt_tool.specs.Checks.{ReadsBoth, HasReadCause, status_of, ToldOf, IsEndOfCheck, IsFrontOfCheck, ReadsForStatus, HasCheckCause}
@@ -105,13 +102,6 @@ end_cause a b (Some r) = tt
 
 -- ---- a run
 
--- the words ask for one of both
-pub one_command : (ws : List (List ℕ)) → IsToSolve ws → IsToCheck ws → ⊥
-one_command ws s k =
-    let e : codes "solve" ∷ s.0 ∷ [] ≡ codes "check" ∷ k.0 ∷ [] = sym s.1.two ∙ k.1.two in
-    let f : 115 ≡ 99 = ap (λ (l : List (List ℕ)). get_or (get_or l 0 []) 0 0) e in
-    omega (arith, f)
-
 -- a short text is not too long
 not_too_long : (s s' : Option (List ℕ)) → IsShort s → ReadsBytes (input_limit + 1) s s' → ⊥
 not_too_long None s' x h = let e = x.told in let z : ⊥ = cc in z
@@ -140,18 +130,11 @@ write_end P k = absurd (⊎_elim (λ e. let z : ⊥ = cc in z) (λ e. let z : �
 pub memory_usage : NoMemory ≢ Usage
 memory_usage = λ e. let z : ⊥ = cc in z
 
+pub memory_long : NoMemory ≢ TooLong
+memory_long = λ e. let z : ⊥ = cc in z
+
 pub memory_end : (P : Type 0) → (NoMemory ≡ Done) ⊎ (NoMemory ≡ Refused) → P
 memory_end P k = absurd (⊎_elim (λ e. let z : ⊥ = cc in z) (λ e. let z : ⊥ = cc in z) k)
-
--- what the words ask for
-
-pub asks_solve : (k : Command) (ws : List (List ℕ)) (p : List ℕ) → k ≡ Solve → Asks k ws p → IsToSolve ws
-asks_solve Solve ws p e h = (p, h)
-asks_solve Check ws p e h = let z : ⊥ = cc in absurd z
-
-pub asks_check : (k : Command) (ws : List (List ℕ)) (p : List ℕ) → k ≡ Check → Asks k ws p → IsToCheck ws
-asks_check Solve ws p e h = let z : ⊥ = cc in absurd z
-asks_check Check ws p e h = (p, h)
 
 pub answered_unless : (s s' : Option (List ℕ)) (a b : Counts) (t : Status) → t ≢ Usage → (t ≡ TooLong → ReadsBytes (input_limit + 1) s s') → HasCause a b t → IsShort s → IsWithoutFault a b → (t ≡ Done) ⊎ ((t ≡ Refused) ⊎ (t ≡ NoMemory))
 answered_unless s s' a b Done u r h x z = inl refl

@@ -1,7 +1,7 @@
 -- What a part of a run read and wrote, and that no count fell.
 use Rattle.std.proofs.Common.{ℕ, ◌+◌, ◌-◌, ◌<◌, ◌≤◌, Bool, List, Option, ⊎_elim, sym, subst, arith}
 use Rattle.std.specs.Prelude.{Result, Ok, Err, IfErr}
-use Rattle.std.specs.Io.KnownBytes.{Consumes, IsAtEnd}
+use Rattle.std.specs.Io.KnownBytes.{Consumes}
 use Rattle.smt_desk.specs.Faults.{Rose}
 use Rattle.smt_tool.specs.declared.status.Status.{Status}
 use Rattle.smt_tool.specs.declared.status.Status.TheVariants.{Done, Refused, Usage, ReadFault, WriteFault, NoMemory, TooLong}
@@ -37,7 +37,7 @@ Progress-more room left n a b c p le q = record {
 
 -- ---- how a script was read
 
-at_most : (size left : ℕ) (s s' : Option (List ℕ)) → Progress size left s s' → ReadsWithin s s'
+pub at_most : (size left : ℕ) (s s' : Option (List ℕ)) → Progress size left s s' → ReadsWithin s s'
 at_most size left s s' p = (input_limit - left, omega arith, p.read)
 
 pub within_none : (s : Option (List ℕ)) → ReadsWithin s s
@@ -70,9 +70,9 @@ piece_read left b c NoMemory q = absurd q
 piece_read left b c TooLong q = (q.1.0, q.1.1)
 
 -- what is answered behind the end of the script
-pub read_whole : (old new : Option (List ℕ)) (r : Result Bool Status) → IfErr r StopsWriting → ReadsWithin old new → IsAtEnd new → IsRead old new r
-read_whole old new (Ok refused) h w e = (w, e)
-read_whole old new (Err s) h w e = read_stopped old new s h w
+pub read_whole : (old new : Option (List ℕ)) (r : Result Bool Status) → IfErr r StopsWriting → ReadsWithin old new → IsRead old new r
+read_whole old new (Ok refused) h w = w
+read_whole old new (Err s) h w = read_stopped old new s h w
 
 -- a cause that only the script has
 pub script_cause : (a b w w' q q' : ℕ) (s : Status) → HasCause (counts a 0 0) (counts b 0 0) s → HasCause (counts a w q) (counts b w' q') s

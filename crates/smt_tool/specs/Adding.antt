@@ -1,41 +1,52 @@
 -- What a run adds to the answers and to the proof, one turn after another.
-use Rattle.std.specs.Prelude.{◌≡◌, ◌⊎◌, ℕ, Bool, ◌||◌, List, [], ◌∷◌, ◌++◌, Option, None}
-use Rattle.std.specs.List.{flat_map}
+use Rattle.std.specs.Prelude.{◌≡◌, ◌⊎◌, ℕ, ◌<◌, Bool, false, ◌||◌, List, [], ◌∷◌, ◌++◌, length, Option, None}
+use Rattle.std.specs.List.{flat_map, AllByRecursion}
 use Rattle.std.specs.Io.KnownBytes.{Appends}
 use Rattle.smt_text.specs.declared.chunk.Chunk.{Chunk}
 use Rattle.smt_text.specs.Framing.{Held, first_chunk}
-use Rattle.smt_text.specs.Script.{Begins, AreChunks}
+use Rattle.smt_text.specs.Script.{Begins}
 use Rattle.script_state.specs.States.{StateValue, no_state}
 use Rattle.proof_log.specs.declared.entry.Entry.{Entry}
-use Rattle.proof_text.specs.Lines.{line_text}
+use Rattle.proof_text.specs.declared.record.Record.{Record}
+use Rattle.proof_text.specs.Lines.{line_text, IsLine}
 use Rattle.accepted_proof.specs.Turns.{Turn, AreTurns, state_after}
-use Rattle.accepted_proof.specs.Answers.{answers_of, turn_lines}
-use Rattle.accepted_proof.specs.Accepted.{AreRead, IsFront, without_end, has_error}
+use Rattle.accepted_proof.specs.Answers.{answers_from, last_shown, turn_lines}
+use Rattle.accepted_proof.specs.Accepted.{AreRead, AreAll, EndLast, IsFront, has_ended, has_error}
 use Rattle.smt_session.specs.Sessions.{SessionValue}
 use Rattle.smt_tool.specs.declared.answering.Answered.{Answered}
 
 -- ---- turns
 
--- the state and the log at one moment of a session
+-- the state, the log, and the record of the last check at one moment of a session
 pub record Moment : Type 0 where
   pub state : StateValue
   pub log : List Entry
+  pub shown : Option Record
 
 abbrev pub moment_of : SessionValue → Moment
-moment_of s = record { state = s.state; log = s.log.entries }
+moment_of s = record { state = s.state; log = s.log.entries; shown = s.shown }
 
 -- before the first command
 abbrev pub opening : Moment
-opening = record { state = no_state; log = [] }
+opening = record { state = no_state; log = []; shown = None }
+
+-- after a turn
+abbrev pub behind : Moment → Turn → Moment
+behind m t = record { state = state_after m.state t; log = m.log ++ t.steps; shown = last_shown m.shown t.shown }
 
 -- after the turns
 abbrev pub after : Moment → List Turn → Moment
 after m [] = m
-after m (t ∷ ts) = after (record { state = state_after m.state t; log = m.log ++ t.steps }) ts
+after m (t ∷ ts) = after (behind m t) ts
 
--- the chunks are the commands of these turns, which may follow one after the other
+-- the texts of the turns that follow
+abbrev pub answers_at : Moment → List Turn → List ℕ
+answers_at m turns = answers_from m.state m.shown turns
+
+-- the chunks are the commands of these turns, which may follow one after the other, and only the last ends the run
 pub record Follow (m : Moment) (chunks : List Chunk) (turns : List Turn) : Type 0 where
   pub read : AreRead chunks turns
+  pub last : EndLast turns
   pub run : AreTurns m.state m.log turns
 
 -- ---- what is added
@@ -52,11 +63,12 @@ streams a p = record { answers = a; proof = p }
 abbrev pub lines_of : List Turn → List ℕ
 lines_of turns = flat_map line_text (flat_map turn_lines turns)
 
--- the answers and the lines of the turns are added, and behind them begun and more
+-- the answers and the lines of the turns are added, and behind them begun and more; each line can be read
 pub record Adds (m : Moment) (from to : Streams) (chunks : List Chunk) (turns : List Turn) (begun more : List ℕ) : Type 0 where
   pub follow : Follow m chunks turns
-  pub answers : Appends from.answers to.answers (answers_of turns ++ begun)
+  pub answers : Appends from.answers to.answers (answers_at m turns ++ begun)
   pub proof : Appends from.proof to.proof (lines_of turns ++ more)
+  pub readable : AllByRecursion IsLine (flat_map turn_lines turns)
 
 -- the chunks are answered whole
 pub record Advances (m : Moment) (refused : Bool) (new : Answered) (from to : Streams) (chunks : List Chunk) : Type 0 where
@@ -64,18 +76,24 @@ pub record Advances (m : Moment) (refused : Bool) (new : Answered) (from to : St
   pub adds : Adds m from to chunks turns [] []
   pub after_is : moment_of new.session ≡ after m turns
   pub refused_is : new.refused ≡ (refused || has_error turns)
+  pub ended_is : new.ended ≡ has_ended turns
 
--- The chunks are answered whole, and behind them stands a front, without its end, of the answers to what comes next.
+-- nothing of what comes is answered, or a front of one answer which is not the whole
+abbrev pub IsBegunOf : List Turn → List ℕ → List ℕ → Type 0
+IsBegunOf coming begun rest = (begun ≡ []) ⊎ ((t : Turn) × (coming ≡ t ∷ []) × (0 < length rest))
+
+-- The chunks are answered whole and do not end the run, and behind them stands a front of the answer to what comes next.
 pub record Breaks (m : Moment) (from to : Streams) (chunks next : List Chunk) : Type 0 where
   pub turns : List Turn
   pub begun : List ℕ
   pub more : List ℕ
   pub adds : Adds m from to chunks turns begun more
-  pub unfinished : without_end begun
+  pub going : has_ended turns ≡ false
   pub coming : List Turn
   pub rest : List ℕ
   pub follow : Follow (after m turns) next coming
-  pub front : answers_of coming ≡ begun ++ rest
+  pub front : answers_at (after m turns) coming ≡ begun ++ rest
+  pub unfinished : IsBegunOf coming begun rest
 
 -- a stop at these chunks, of which none is answered whole
 pub record BreaksAt (m : Moment) (from to : Streams) (chunks : List Chunk) : Type 0 where
@@ -88,11 +106,11 @@ pub record BreaksAt (m : Moment) (from to : Streams) (chunks : List Chunk) : Typ
 abbrev pub with_piece : Held → List ℕ → Held
 with_piece h piece = record { line = h.line; bytes = h.bytes ++ piece }
 
--- the whole chunks that are held are answered
+-- the whole chunks that are held are answered, all of them or those up to the one that ends the run
 pub record AdvancesWithin (held rest : Held) (m : Moment) (refused : Bool) (new : Answered) (from to : Streams) : Type 0 where
   pub chunks : List Chunk
   pub begins : Begins held chunks rest
-  pub ends : first_chunk rest ≡ None
+  pub ends : new.ended ≡ false → first_chunk rest ≡ None
   pub advances : Advances m refused new from to chunks
 
 abbrev pub IsFrontOf : Held → List Chunk → Type 0
@@ -113,11 +131,11 @@ pub record AddsLast (m : Moment) (refused : Bool) (from to : Streams) (chunks : 
 
 -- ---- within a script
 
--- the whole script is answered
+-- the whole script is answered, or what stands up to the command that ends the run
 pub record AnswersAll (text : List ℕ) (from to : Streams) (refused : Bool) : Type 0 where
   pub chunks : List Chunk
   pub turns : List Turn
-  pub cut : AreChunks text chunks
+  pub cut : AreAll text chunks turns
   pub adds : Adds opening from to chunks turns [] []
   pub refused_is : refused ≡ has_error turns
 

@@ -1,12 +1,14 @@
 -- What stands in the answers and in the proof of a run.
-use Rattle.std.specs.Prelude.{◌≡◌, ◌⊎◌, ℕ, ◌≤◌, if◌then◌else◌, List, [], ◌++◌, Option, Some, IfSome, length}
+use Rattle.std.specs.Prelude.{◌≡◌, ◌⊎◌, ℕ, ◌≤◌, true, if◌then◌else◌, List, [], ◌++◌, Option, Some, IfSome, length}
+use Rattle.std.specs.Io.KnownBytes.{IsAtEnd}
 use Rattle.smt_desk.specs.Faults.{Rose}
 use Rattle.smt_text.specs.declared.chunk.Chunk.{Chunk}
 use Rattle.script_state.specs.States.{no_state}
 use Rattle.accepted_proof.specs.Turns.{Turn, AreTurns}
 use Rattle.accepted_proof.specs.Right.{AreRight}
 use Rattle.accepted_proof.specs.Answers.{answers_of, header_text}
-use Rattle.accepted_proof.specs.Accepted.{AreRead, IsFront, StandsBeside, IsWhole, has_error}
+use Rattle.accepted_proof.specs.Accepted.{AreRead, EndLast, IsFront, StandsBeside, IsWhole, has_ended, has_error}
+use Rattle.proof_checker.specs.Checked.{IsAccepted, verdicts_of}
 use Rattle.smt_tool.specs.declared.status.Status.{Status}
 use Rattle.smt_tool.specs.declared.status.Status.TheVariants.{Done, Refused}
 use Rattle.smt_tool.specs.Runs.{Counts, input_limit}
@@ -33,11 +35,12 @@ pub record IsBesideProof (text answered proved : List ℕ) : Type 0 where
 abbrev pub IsBeside : List ℕ → List ℕ → List ℕ → Type 0
 IsBeside text answered proved = IsUnbegun answered proved ⊎ IsBesideProof text answered proved
 
--- The answers are those to the whole script, the proof is accepted, the answers are right, and the status tells whether an
--- error is among them.
+-- The answers are those to all that is read of the script, the proof is accepted, a check of both texts accepts it, the
+-- answers are right, and the status tells whether an error is among them.
 pub record IsAllAnswered (status : Status) (text answered proved : List ℕ) : Type 0 where
   pub turns : List Turn
   pub whole : IsWhole text answered proved turns
+  pub checked : IsAccepted text proved (verdicts_of turns)
   pub right : AreRight no_state turns
   pub status_is : status ≡ (if has_error turns then Refused else Done)
 
@@ -48,8 +51,22 @@ pub record IsPrefix (text answered : List ℕ) : Type 0 where
   pub rest : List ℕ
   pub front : IsFront text chunks
   pub read : AreRead chunks turns
+  pub last : EndLast turns
   pub run : AreTurns no_state [] turns
   pub answers : answers_of turns ≡ answered ++ rest
+
+-- the last of the first commands of the script ends the run, and none before it does
+pub record IsEnded (text : List ℕ) : Type 0 where
+  pub chunks : List Chunk
+  pub turns : List Turn
+  pub front : IsFront text chunks
+  pub read : AreRead chunks turns
+  pub last : EndLast turns
+  pub ended : has_ended turns ≡ true
+
+-- the script was read to its end, or a command ended the run
+abbrev pub IsReadOut : Option (List ℕ) → Option (List ℕ) → Type 0
+IsReadOut old new = IsAtEnd new ⊎ IfSome old IsEnded
 
 -- a script that is told, and not too long
 pub record IsShort (script : Option (List ℕ)) : Type 0 where

@@ -65,9 +65,9 @@ ReadsPiece left old new (Err TooLong) = (left ≡ 0) × ReadsBytes 1 old new
 abbrev pub ReadsWithin : Option (List ℕ) → Option (List ℕ) → Type 0
 ReadsWithin old new = (n : ℕ) × (n ≤ input_limit) × ReadsBytes n old new
 
--- how much a script was read: to its end, or a front of it, and one byte too many only where it is too long
+-- how much a script was read: at most as much as may be read, and one byte more only where it is too long
 abbrev pub IsRead : Option (List ℕ) → Option (List ℕ) → Result Bool Status → Type 0
-IsRead old new (Ok refused) = ReadsWithin old new × IsAtEnd new
+IsRead old new (Ok refused) = ReadsWithin old new
 IsRead old new (Err Done) = ⊥
 IsRead old new (Err Refused) = ⊥
 IsRead old new (Err Usage) = ⊥

@@ -1,6 +1,6 @@
 // Commands and their answers.
 
-ghost use Rattle.std.specs.Prelude.{◌≡◌, if◌then◌else◌, [], ◌∷◌, IfOk, IfErr, option_to_list};
+ghost use Rattle.std.specs.Prelude.{◌≡◌, false, if◌then◌else◌, [], ◌∷◌, IfOk, IfErr, option_to_list};
 ghost use Rattle.smt_text.specs.Framing.{last_chunk};
 ghost use Rattle.smt_tool.specs.Runs.{AddsTo, IsLater, HasCause, StopsWriting, counts};
 ghost use Rattle.smt_tool.specs.Adding.{moment_of, streams, with_piece, Advances, BreaksAt, AdvancesWithin, BreaksWithin, AddsLast};
@@ -13,11 +13,12 @@ use smt_text::chunk::Chunk;
 use smt_text::framer::Framer;
 use std::alloc::Global;
 
-/// A session, and whether an error was among its responses.
+/// A session, whether an error was among its responses, and whether the last command ended the run.
 #[derive(Drop)]
 pub(crate) struct Answered {
     pub(crate) session: Session,
     pub(crate) refused: bool,
+    pub(crate) ended: bool,
 }
 
 /// The status of a run that came to its end.
@@ -57,13 +58,15 @@ fn answer<W: Sink, Q: Sink>(
         Err(_) => return Err(Status::WriteFault),
     }
     let refused = so_far.refused || response.error;
-    if response.ends {
-        return Err(end_status(refused));
-    }
-    Ok(Answered { session, refused })
+    let ended = response.ends;
+    Ok(Answered {
+        session,
+        refused,
+        ended,
+    })
 }
 
-/// Answers each whole command that is held.
+/// Answers each whole command that is held, up to the one that ends the run.
 fn answer_held<W: Sink, Q: Sink>(
     alloc: Global,
     so_far: Answered,
@@ -71,6 +74,7 @@ fn answer_held<W: Sink, Q: Sink>(
     answers: &mut W,
     proof: &mut Q,
 ) -> Result<Answered, Status>
+    requires { so_far.ended ≡ false }
     ensures turns { IfOk result (λ r. AdvancesWithin framer.old framer.new (moment_of so_far.session) so_far.refused r (streams (W.written answers.old) (Q.written proof.old)) (streams (W.written answers.new) (Q.written proof.new))) }
     ensures broken { IfErr result (λ _. BreaksWithin framer.old (moment_of so_far.session) (streams (W.written answers.old) (Q.written proof.old)) (streams (W.written answers.new) (Q.written proof.new))) }
     ensures answers { AddsTo (W.written answers.old) (W.written answers.new) }
@@ -80,13 +84,16 @@ fn answer_held<W: Sink, Q: Sink>(
     ensures cause { IfErr result (HasCause (counts 0 (W.faults answers.old) (Q.faults proof.old)) (counts 0 (W.faults answers.new) (Q.faults proof.new))) }
 {
     let mut so_far = so_far;
-    'commands: while let Some(chunk) = framer.next()? {
+    'commands: while !so_far.ended {
+        let Some(chunk) = framer.next()? else {
+            break;
+        };
         so_far = answer(alloc, so_far, &chunk, answers, proof)?;
     }
     Ok(so_far)
 }
 
-/// Takes the next piece of the script, and answers each command that is then whole.
+/// Takes the next piece of the script, and answers each command that is then whole, up to the one that ends the run.
 pub(crate) fn answer_piece<W: Sink, Q: Sink>(
     alloc: Global,
     so_far: Answered,
@@ -95,6 +102,7 @@ pub(crate) fn answer_piece<W: Sink, Q: Sink>(
     answers: &mut W,
     proof: &mut Q,
 ) -> Result<Answered, Status>
+    requires { so_far.ended ≡ false }
     ensures turns { IfOk result (λ r. AdvancesWithin (with_piece framer.old piece.now) framer.new (moment_of so_far.session) so_far.refused r (streams (W.written answers.old) (Q.written proof.old)) (streams (W.written answers.new) (Q.written proof.new))) }
     ensures broken { IfErr result (λ _. BreaksWithin (with_piece framer.old piece.now) (moment_of so_far.session) (streams (W.written answers.old) (Q.written proof.old)) (streams (W.written answers.new) (Q.written proof.new))) }
     ensures answers { AddsTo (W.written answers.old) (W.written answers.new) }

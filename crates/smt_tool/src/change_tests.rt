@@ -42,6 +42,13 @@ const TWICE: Proved = Proved {
     proof: b"smt_proof 1 cubes 0 budget 100000\ne 0\ne 1\ne 2\ns 0\nc -6 0 0.0 3.2 3.5 3.11 4.0\nunsat 5\nc -6 0 0.0 3.2 3.5 3.11 4.0\nunsat 6\n",
 };
 
+/// A false assertion in a level that is popped with its declaration, a model of what is asserted behind it, and a check behind
+/// `exit`, which is not read.
+const LEVELS: Proved = Proved {
+    script: b"(declare-const p Bool) (push 1) (declare-const q Bool) (assert false) (check-sat) (pop 1) (declare-const r Bool) (assert p) (check-sat) (exit) (check-sat)",
+    proof: b"smt_proof 1 cubes 0 budget 100000\ne 0\ns 0\nc -2 0 0.0 2.0\nunsat 3\nsat 2\nv 0 true\nv 2 false\n",
+};
+
 /// The proof with another text in place of a line, which is counted from 1. In the text a bar stands for each line feed.
 fn with_line(alloc: Global, proof: &[u8], at: u64, to: &str) -> Result<Vec<u8>, AllocError> {
     let mut changed = Vec::new(alloc);
@@ -284,6 +291,25 @@ fn values_of_words(rt: HostRuntime) -> Result<(), Fail> {
     10 10 sat v 0 #b01|\n\
     10 10 end \n\
     10 11 end v 1 #b01|v 1 #b01|",
+    )
+}
+
+#[test]
+fn levels_and_the_end_of_a_run(rt: HostRuntime) -> Result<(), Fail> {
+    judge_each(
+        &rt,
+        &LEVELS,
+        "1 0 accepted smt_proof 1 cubes 0 budget 100000|\n\
+    6 0 accepted f 1|s 1|sat 2|\n\
+    6 6 selector s 0|\n\
+    8 0 accepted v 2 true|\n\
+    6 6 unsat unsat 3|\n\
+    6 6 sat sat 1|\n\
+    6 6 sat sat 3|\n\
+    7 8 sat v 0 false|\n\
+    8 8 sat v 1 false|\n\
+    8 9 end v 2 false|unsat 3|\n\
+    8 9 end v 2 false|sat 2|",
     )
 }
 

@@ -97,6 +97,26 @@ fn a_script_without_a_check(rt: HostRuntime) {
     expect_answers(&rt, rt.alloc(), b"", proof, Status::Done, b"accepted 0\n");
 }
 
+#[test]
+fn nothing_behind_exit_is_a_command(rt: HostRuntime) {
+    let script = b"(assert false) (check-sat) (exit) (check-sat) (";
+    let wanted = b"unsat\naccepted 1\n";
+    expect_answers(&rt, rt.alloc(), script, PROOF, Status::Done, wanted);
+}
+
+#[test]
+fn a_script_is_not_read_on_behind_exit(rt: HostRuntime) {
+    let status = run(
+        rt.alloc(),
+        &["check", "PROOF"],
+        &mut MemSource::new(b"(exit)    (check-sat)", 10, &[2]),
+        &mut MemSource::new(b"smt_proof 1 cubes 0 budget 100000\n", 100, &[]),
+        &mut MemSink::new(rt.alloc(), 100, &[]),
+        &mut MemSink::new(rt.alloc(), 1, &[]),
+    );
+    assert_eq!(rt; status, Status::Done);
+}
+
 /// The status where the call of this number fails, of the script or of the proof.
 fn failing(alloc: Global, script: &[u64], proof: &[u64], answers: &[u64]) -> Status {
     run(

@@ -15,7 +15,7 @@ const DECLARED: &[u8] =
 const CHECK: &[u8] = b"\n(check-sat)\n";
 
 /// The status and the answers of a script.
-fn answer(alloc: Global, script: &[u8]) -> (Status, Vec<u8>) {
+pub(crate) fn answer(alloc: Global, script: &[u8]) -> (Status, Vec<u8>) {
     let mut source = MemSource::new(script, 4096, &[]);
     let mut unread = MemSource::new(b"", 1, &[]);
     let mut answers = MemSink::new(alloc, 100, &[]);
@@ -32,7 +32,7 @@ fn answer(alloc: Global, script: &[u8]) -> (Status, Vec<u8>) {
     (status, answers.into_bytes())
 }
 
-fn append(out: &mut Vec<u8>, bytes: &[u8]) -> Result<(), Fail> {
+pub(crate) fn append(out: &mut Vec<u8>, bytes: &[u8]) -> Result<(), Fail> {
     for byte in bytes {
         out.push(*byte)?;
     }

@@ -4,6 +4,7 @@ ghost use Rattle.std.specs.Prelude.{◌<◌, ◌≤◌, IfOk, IfErr, IfSome, Mat
 ghost use Rattle.std.specs.Io.KnownBytes.{Consumes};
 ghost use Rattle.smt_tool.specs.Runs.{AddsTo, IsLater, HasCause, counts, ReadsPiece, IsRead};
 ghost use Rattle.smt_tool.specs.Adding.{streams, AnswersAll, AnswersFront};
+ghost use Rattle.smt_tool.specs.Beside.{IsReadOut};
 
 use crate::answering::{Answered, answer_piece, answer_rest};
 use crate::status::Status;
@@ -41,8 +42,8 @@ pub(crate) fn read_piece<S: Source>(
     }
 }
 
-/// Answers a script to its end, and tells whether an error was among the responses. The error is the status of a run
-/// that ends before. The script is read into the buffer, piece by piece.
+/// Answers a script to its end, or to the command that ends the run, and tells whether an error was among the responses. The
+/// error is the status of a run that stops before. The script is read into the buffer, piece by piece.
 pub(crate) fn answer_script<S: Source, W: Sink, Q: Sink>(
     alloc: Global,
     settings: Settings,
@@ -53,6 +54,7 @@ pub(crate) fn answer_script<S: Source, W: Sink, Q: Sink>(
 ) -> Result<bool, Status>
     requires { 0 < length buffer.old }
     ensures read { IsRead (S.left script.old) (S.left script.new) result }
+    ensures read_out { IfOk result (λ _. IsReadOut (S.left script.old) (S.left script.new)) }
     ensures turns { IfSome (S.left script.old) (λ text. MatchResult result
         (λ refused. AnswersAll text (streams (W.written answers.old) (Q.written proof.old)) (streams (W.written answers.new) (Q.written proof.new)) refused)
         (λ _. AnswersFront text (streams (W.written answers.old) (Q.written proof.old)) (streams (W.written answers.new) (Q.written proof.new)))) }
@@ -63,16 +65,19 @@ pub(crate) fn answer_script<S: Source, W: Sink, Q: Sink>(
 {
     let mut framer = Framer::new(alloc);
     let session = Session::new(alloc, settings)?;
-    let refused = false;
-    let mut so_far = Answered { session, refused };
+    let mut so_far = Answered {
+        session,
+        refused: false,
+        ended: false,
+    };
     let mut left = INPUT_LIMIT;
-    'pieces: loop {
+    'pieces: while !so_far.ended {
         let size = read_piece(script, buffer, left)?;
         if size == 0 {
-            break;
+            return answer_rest(alloc, so_far, &mut framer, answers, proof);
         }
         left -= size as u64;
         so_far = answer_piece(alloc, so_far, &mut framer, &buffer[..size], answers, proof)?;
     }
-    answer_rest(alloc, so_far, &mut framer, answers, proof)
+    Ok(so_far.refused)
 }

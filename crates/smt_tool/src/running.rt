@@ -1,11 +1,11 @@
 // A run of the program over any source and any sinks.
 
 ghost use Rattle.std.specs.Prelude.{◌≡◌, ◌≢◌, ◌+◌, ◌++◌, ◌⊎◌, ◌≤◌, ℕ, List, IfErr, IfOk, OnOk, length, map};
-ghost use Rattle.std.specs.Io.KnownBytes.{Appends, IsAtEnd};
+ghost use Rattle.std.specs.Io.KnownBytes.{Appends};
 ghost use Rattle.accepted_proof.specs.Answers.{header_text};
 ghost use Rattle.smt_tool.specs.Words.{IsToSolve, IsToCheck, AreTaken};
 ghost use Rattle.smt_tool.specs.Runs.{AddsTo, BeginsWith, ReadsBytes, ReadsWithin, IsLater, HasCause, StopsWriting, counts, input_limit};
-ghost use Rattle.smt_tool.specs.Beside.{Told, IsBeside, IsAllAnswered, IsPrefix, IsShort, IsWithoutFault};
+ghost use Rattle.smt_tool.specs.Beside.{Told, IsBeside, IsAllAnswered, IsPrefix, IsReadOut, IsShort, IsWithoutFault};
 ghost use Rattle.smt_tool.specs.Checks.{ReadsForStatus, HasCheckCause, ToldOf, IsEndOfCheck, IsFrontOfCheck};
 
 use crate::answering::end_status;
@@ -13,8 +13,9 @@ use crate::checking::check;
 use crate::command_line::plan;
 use crate::reading::answer_script;
 use crate::status::Status;
-use crate::words::Command;
+use crate::words::{Command, Unplanned};
 use accepted_proof::answers_are_right;
+use proof_checker::accepted_proofs_pass;
 use smt_desk::stream::{Sink, Source, write_whole};
 use smt_session::settings::Settings;
 use smt_text::text::Text;
@@ -58,7 +59,7 @@ fn solve<S: Source, W: Sink, Q: Sink>(
     ensures beside { Told (S.left script.old) (W.written answers.old) (W.written answers.new) (Q.written proof.old) (Q.written proof.new) IsBeside }
     ensures whole { (result ≡ Status.Done) ⊎ (result ≡ Status.Refused) → Told (S.left script.old) (W.written answers.old) (W.written answers.new) (Q.written proof.old) (Q.written proof.new) (IsAllAnswered result) }
     ensures prefix { Told (S.left script.old) (W.written answers.old) (W.written answers.new) (Q.written proof.old) (Q.written proof.new) (λ text answered proved. IsPrefix text answered) }
-    ensures at_end { (result ≡ Status.Done) ⊎ (result ≡ Status.Refused) → IsAtEnd (S.left script.new) }
+    ensures at_end { (result ≡ Status.Done) ⊎ (result ≡ Status.Refused) → IsReadOut (S.left script.old) (S.left script.new) }
     ensures within { result ≢ Status.TooLong → ReadsWithin (S.left script.old) (S.left script.new) }
     ensures too_long { result ≡ Status.TooLong → ReadsBytes (input_limit + 1) (S.left script.old) (S.left script.new) }
     ensures answers { AddsTo (W.written answers.old) (W.written answers.new) }
@@ -68,6 +69,7 @@ fn solve<S: Source, W: Sink, Q: Sink>(
     ensures cause { HasCause (counts (S.faults script.old) (W.faults answers.old) (Q.faults proof.old)) (counts (S.faults script.new) (W.faults answers.new) (Q.faults proof.new)) result }
 {
     answers_are_right();
+    accepted_proofs_pass();
     match open_proof(alloc, &settings, proof) {
         Ok(()) => {}
         Err(status) => return status,
@@ -115,9 +117,9 @@ pub fn run<S: Source, P: Source, W: Sink, Q: Sink>(
     answers: &mut W,
     proof_out: &mut Q,
 ) -> Status
-    // The words come first: where they are not taken, nothing is read or written.
+    // The words come first: where they are not taken, nothing is read or written. To read them takes memory.
     ensures usage { result ≡ Status.Usage → ¬ (AreTaken (map (λ w. w.now) words.now)) }
-    ensures usage_always { ¬ (AreTaken (map (λ w. w.now) words.now)) → result ≡ Status.Usage }
+    ensures usage_always { ¬ (AreTaken (map (λ w. w.now) words.now)) → (result ≡ Status.Usage) ⊎ (result ≡ Status.NoMemory) }
     ensures untouched { result ≡ Status.Usage → (script.new ≡ script.old) × (proof_in.new ≡ proof_in.old) × (answers.new ≡ answers.old) × (proof_out.new ≡ proof_out.old) }
     // `solve` reads no proof, and `check` writes none.
     ensures unread { IsToSolve (map (λ w. w.now) words.now) → proof_in.new ≡ proof_in.old }
@@ -127,6 +129,8 @@ pub fn run<S: Source, P: Source, W: Sink, Q: Sink>(
     // checks, and they are right: each `sat` has a model, and where there is an `unsat` there is none.
     ensures beside { IsToSolve (map (λ w. w.now) words.now) → Told (S.left script.old) (W.written answers.old) (W.written answers.new) (Q.written proof_out.old) (Q.written proof_out.new) IsBeside }
     // At the end of a run all is answered, the proof is accepted, and the status tells whether an error is among the answers.
+    // `check` over the same script and the bytes that were added to the proof then gives `Done`, as `judged` says, since one
+    // thing at most is judged of two texts.
     ensures whole { IsToSolve (map (λ w. w.now) words.now) → (result ≡ Status.Done) ⊎ (result ≡ Status.Refused) → Told (S.left script.old) (W.written answers.old) (W.written answers.new) (Q.written proof_out.old) (Q.written proof_out.new) (IsAllAnswered result) }
     // What was answered before a stop is a front of the answers to the first commands.
     ensures prefix { IsToSolve (map (λ w. w.now) words.now) → Told (S.left script.old) (W.written answers.old) (W.written answers.new) (Q.written proof_out.old) (Q.written proof_out.new) (λ text answered proved. IsPrefix text answered) }
@@ -144,9 +148,9 @@ pub fn run<S: Source, P: Source, W: Sink, Q: Sink>(
         → IsWithoutFault (counts (S.faults script.old) (W.faults answers.old) (P.faults proof_in.old)) (counts (S.faults script.new) (W.faults answers.new) (P.faults proof_in.new))
         → (result ≡ Status.Done) ⊎ ((result ≡ Status.Refused) ⊎ (result ≡ Status.NoMemory)) }
 
-    // A run of `solve` comes to its end only at the end of the script, of which it reads 2^32 bytes, and one more where there
-    // is one. Of both inputs of a check no more is read.
-    ensures at_end { IsToSolve (map (λ w. w.now) words.now) → (result ≡ Status.Done) ⊎ (result ≡ Status.Refused) → IsAtEnd (S.left script.new) }
+    // A run of `solve` comes to its end only at the end of the script or at a command that ends the run. It reads 2^32 bytes of
+    // the script, and one more where there is one. Of both inputs of a check no more is read.
+    ensures at_end { IsToSolve (map (λ w. w.now) words.now) → (result ≡ Status.Done) ⊎ (result ≡ Status.Refused) → IsReadOut (S.left script.old) (S.left script.new) }
     ensures within { IsToSolve (map (λ w. w.now) words.now) → result ≢ Status.TooLong → ReadsWithin (S.left script.old) (S.left script.new) }
     ensures too_long { IsToSolve (map (λ w. w.now) words.now) → result ≡ Status.TooLong → ReadsBytes (input_limit + 1) (S.left script.old) (S.left script.new) }
     ensures both_within { IsToCheck (map (λ w. w.now) words.now) → ReadsForStatus (S.left script.old) (S.left script.new) (P.left proof_in.old) (P.left proof_in.new) result }
@@ -162,11 +166,12 @@ pub fn run<S: Source, P: Source, W: Sink, Q: Sink>(
     ensures cause { IsToSolve (map (λ w. w.now) words.now) → HasCause (counts (S.faults script.old) (W.faults answers.old) (Q.faults proof_out.old)) (counts (S.faults script.new) (W.faults answers.new) (Q.faults proof_out.new)) result }
     ensures cause_of_check { IsToCheck (map (λ w. w.now) words.now) → HasCheckCause (counts (S.faults script.old) (W.faults answers.old) (P.faults proof_in.old)) (counts (S.faults script.new) (W.faults answers.new) (P.faults proof_in.new)) result }
 {
-    match plan(words) {
+    match plan(alloc, words) {
         Ok(plan) => match plan.command {
             Command::Solve => solve(alloc, plan.settings, script, answers, proof_out),
             Command::Check => check_proof(alloc, script, proof_in, answers),
         },
-        Err(_) => Status::Usage,
+        Err(Unplanned::Usage) => Status::Usage,
+        Err(Unplanned::NoMemory) => Status::NoMemory,
     }
 }

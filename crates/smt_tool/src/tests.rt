@@ -1,4 +1,3 @@
-use crate::command_line::plan;
 use crate::running::run;
 use crate::status::Status;
 use smt_desk::memory::{MemSink, MemSource};
@@ -160,15 +159,4 @@ fn each_call_of_each_stream_fails_in_turn(rt: HostRuntime) {
             assert!(rt; right, "stream {stream}, call {call}");
         }
     }
-}
-
-#[test]
-fn words(rt: HostRuntime) {
-    assert!(rt; plan(&["solve", "proof"]).is_ok());
-    assert!(rt; plan(&["solve"]).is_err());
-    assert!(rt; plan(&[]).is_err());
-    assert!(rt; plan(&["check", "proof"]).is_ok());
-    assert!(rt; plan(&["solve", "--workers"]).is_err());
-    assert!(rt; plan(&["solve", "proof", "script"]).is_err());
-    assert!(rt; plan(&["solve", "proof", "--workers", "65"]).is_err());
 }

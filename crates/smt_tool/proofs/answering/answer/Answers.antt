@@ -21,4 +21,4 @@ returns-clause-turn g c =
       | then-so_far w ↦ rw (w.refused-is, w.if-so_far.true) refl
       | else-so_far w ↦ rw (w.refused-is, w.if-so_far.false) refl
     ] in
-    turn_advances _ _ _ _ _ _ c.in-Ok.ensures.answered c.args.so_far _ _ _ refl refl told (rw c.as_slice.ensures at c.in-Ok-write_whole.ensures.bytes)
+    turn_advances _ _ _ _ _ _ c.in-Ok.ensures.answered c.args.so_far _ _ _ refl refl told refl (rw c.as_slice.ensures at c.in-Ok-write_whole.ensures.bytes)

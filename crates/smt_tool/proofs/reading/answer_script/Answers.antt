@@ -4,9 +4,9 @@ use Rattle.std.proofs.KnownBytes.{Consumes-nil, Consumes-trans}
 use Rattle.smt_text.proofs.Cuts.{Begins-append}
 use Rattle.smt_text.proofs.Driver.{framed_none}
 use Rattle.smt_tool.proofs.Parts.{adds_more, cause_after}
-use Rattle.smt_tool.proofs.Written.{Progress-none, Progress-more, Progress-resize, Written-none, Written-more, within_none, within_more, read_stopped, read_failed, read_whole, piece_read, script_cause}
-use Rattle.smt_tool.proofs.Turning.{Advances-none, Advances-trans, Begins-trans, held_none, held_stop, held_more, held_behind}
-use Rattle.smt_tool.proofs.Telling.{front_told, rest_told}
+use Rattle.smt_tool.proofs.Written.{Progress-none, Progress-more, Progress-resize, Written-none, Written-more, within_none, within_more, read_stopped, read_failed, read_whole, at_most, piece_read, script_cause}
+use Rattle.smt_tool.proofs.Turning.{goes_on, is_over, Advances-none, Advances-trans, Begins-trans, held_none, held_stop, held_more, held_behind}
+use Rattle.smt_tool.proofs.Telling.{front_told, rest_told, ended_told, ended_read}
 use Rattle.smt_tool.proofs.reading.answer_script.Goals as goal
 
 pub returns-in_err-session-clause-read : goal.returns-in_err-session-clause-read
@@ -25,8 +25,8 @@ pieces-init g c =
       consumed = Consumes-nil (g.S.Source.left c.args.script.now);
       chunks = [];
       begins = framed.0;
-      ends = framed.1;
-      advances = Advances-none _ _ _ _ (λ i. record { state = fresh.0 i; log = fresh.1 i }) refl;
+      ends = λ going. framed.1;
+      advances = Advances-none _ _ _ _ (λ i. record { state = fresh.0 i; log = fresh.1 i; shown = fresh.2 i }) refl refl;
     }
 
 pub returns-in_err-session-clause-turns : goal.returns-in_err-session-clause-turns
@@ -40,7 +40,7 @@ returns-in_err-size-clause-turns g c =
     let inv = c.pieces.invariant in
     let more = piece_read _ _ _ _ c.in_err-size.ensures.read in
     rw p.1 (front_told _ _ (inv.text ++ more.0) _ _ (Consumes-trans _ (g.S.Source.left c.pieces.script) _ _ _ inv.consumed more.1)
-    (held_more (record { line = 1; bytes = inv.text }) more.0 _ _ _ (held_stop _ _ _ _ _ _ _ _ inv.begins inv.advances)))
+    (held_more (record { line = 1; bytes = inv.text }) more.0 _ _ _ (held_stop _ _ _ _ _ _ _ _ (goes_on c.pieces.so_far.ended c.pieces-test.true) inv.begins inv.advances)))
 
 pub returns-in_err-so_far-clause-turns : goal.returns-in_err-so_far-clause-turns
 returns-in_err-so_far-clause-turns g c =
@@ -48,7 +48,7 @@ returns-in_err-so_far-clause-turns g c =
     let inv = c.pieces.invariant in
     let piece = take c.in_ok-size.size c.read_piece.new.buffer in
     rw p.1 (front_told _ _ (inv.text ++ piece) _ _ (Consumes-trans _ (g.S.Source.left c.pieces.script) _ _ _ inv.consumed c.in_ok-size.ensures.bytes)
-    (held_behind _ _ _ _ _ _ _ _ _ (Begins-append _ _ _ piece inv.begins) inv.advances c.in_err-so_far.ensures.broken))
+    (held_behind _ _ _ _ _ _ _ _ _ (goes_on c.pieces.so_far.ended c.pieces-test.true) (Begins-append _ _ _ piece inv.begins) inv.advances c.in_err-so_far.ensures.broken))
 
 pub returns-in_err-size-clause-read : goal.returns-in_err-size-clause-read
 returns-in_err-size-clause-read g c =
@@ -78,30 +78,42 @@ pieces-preserved g c =
       chunks = c.pieces.invariant.chunks ++ c.in_ok-so_far.ensures.turns.chunks;
       begins = Begins-trans _ _ _ _ _ (Begins-append _ _ _ (take c.in_ok-size.size c.read_piece.new.buffer) c.pieces.invariant.begins) c.in_ok-so_far.ensures.turns.begins;
       ends = c.in_ok-so_far.ensures.turns.ends;
-      advances = Advances-trans _ _ _ _ _ _ _ _ _ c.pieces.invariant.advances c.in_ok-so_far.ensures.turns.advances;
+      advances = Advances-trans _ _ _ _ _ _ _ _ _ (goes_on c.pieces.so_far.ended c.pieces-test.true) c.pieces.invariant.advances c.in_ok-so_far.ensures.turns.advances;
       written =
           Written-more _ _ _ _ _ _ _ _ _ c.pieces.invariant.written c.in_ok-so_far.ensures.answers c.in_ok-so_far.ensures.proof
           (record { script = c.read_piece.ensures.later; answers = c.answer_piece.ensures.later.answers; proof = c.answer_piece.ensures.later.proof });
     }
 
-pub returns-clause-read : goal.returns-clause-read
-returns-clause-read g c =
+pub returns-then-size-eq0-clause-read : goal.returns-then-size-eq0-clause-read
+returns-then-size-eq0-clause-read g c =
     read_whole _ _ _ c.answer_rest.ensures.stopped
     (within_more _ _ _ _ _ _ c.pieces.invariant.read c.in_ok-size.ensures.read.0 c.in_ok-size.ensures.read.1)
-    (c.in_ok-size.ensures.read.2 c.if-size-eq0.true)
+
+pub returns-then-size-eq0-clause-turns : goal.returns-then-size-eq0-clause-turns
+returns-then-size-eq0-clause-turns g c =
+    let inv = c.pieces.invariant in
+    let all = Consumes-trans _ (g.S.Source.left c.pieces.script) _ _ _ inv.consumed c.in_ok-size.ensures.bytes in
+    let all' = rw (c.if-size-eq0.true, append-nil) at all in
+    rest_told _ _ inv.text _ _ _ _ inv.chunks _ _ (goes_on c.pieces.so_far.ended c.pieces-test.true) all' (c.in_ok-size.ensures.read.2 c.if-size-eq0.true) inv.begins (inv.ends (goes_on c.pieces.so_far.ended c.pieces-test.true)) inv.advances c.answer_rest.ensures.turns c.answer_rest.ensures.broken
+
+pub returns-then-size-eq0-clause-answers : goal.returns-then-size-eq0-clause-answers
+returns-then-size-eq0-clause-answers g c = adds_more _ _ _ c.pieces.invariant.written.answers c.answer_rest.ensures.answers
+
+pub returns-then-size-eq0-clause-proof : goal.returns-then-size-eq0-clause-proof
+returns-then-size-eq0-clause-proof g c = adds_more _ _ _ c.pieces.invariant.written.proof c.answer_rest.ensures.proof
+
+pub returns-clause-read : goal.returns-clause-read
+returns-clause-read g c = at_most _ _ _ _ c.pieces.invariant.read
+
+pub returns-clause-read_out : goal.returns-clause-read_out
+returns-clause-read_out g c =
+    let inv = c.pieces.invariant in
+    ended_read _ _ inv.text _ _ _ inv.chunks _ (is_over c.pieces.so_far.ended c.pieces-test.false) inv.consumed inv.begins inv.advances
 
 pub returns-clause-turns : goal.returns-clause-turns
 returns-clause-turns g c =
     let inv = c.pieces.invariant in
-    let all = Consumes-trans _ (g.S.Source.left c.pieces.script) _ _ _ inv.consumed c.in_ok-size.ensures.bytes in
-    let all' = rw (c.if-size-eq0.true, append-nil) at all in
-    rest_told _ _ inv.text _ _ _ _ inv.chunks _ _ all' (c.in_ok-size.ensures.read.2 c.if-size-eq0.true) inv.begins inv.ends inv.advances c.answer_rest.ensures.turns c.answer_rest.ensures.broken
-
-pub returns-clause-answers : goal.returns-clause-answers
-returns-clause-answers g c = adds_more _ _ _ c.pieces.invariant.written.answers c.answer_rest.ensures.answers
-
-pub returns-clause-proof : goal.returns-clause-proof
-returns-clause-proof g c = adds_more _ _ _ c.pieces.invariant.written.proof c.answer_rest.ensures.proof
+    ended_told _ _ inv.text _ _ _ inv.chunks _ (is_over c.pieces.so_far.ended c.pieces-test.false) inv.consumed inv.begins inv.advances
 
 pub returns-in_err-size-clause-cause : goal.returns-in_err-size-clause-cause
 returns-in_err-size-clause-cause g c =

@@ -18,7 +18,7 @@ invariant-pieces g l =
       consumed : Consumes (g.S.Source.left l.fn.script) (g.S.Source.left l.script) text;
       chunks : List Chunk;
       begins : Begins (record { line = 1; bytes = text }) chunks l.framer;
-      ends : first_chunk l.framer ≡ None;
+      ends : l.so_far.ended ≡ false → first_chunk l.framer ≡ None;
       advances : Advances opening false l.so_far (streams (g.W.Sink.written l.fn.answers) (g.Q.Sink.written l.fn.proof)) (streams (g.W.Sink.written l.answers) (g.Q.Sink.written l.proof)) chunks;
     }
 

@@ -1,0 +1,15 @@
+use Rattle.std.proofs.Common.{refl}
+use Rattle.smt_tool.proofs.WordsTaken.{found_rows, names_in, no_names}
+use Rattle.smt_tool.proofs.command_line.plan_of.Goals as goal
+
+pub returns-in_err-get_str-clause-none : goal.returns-in_err-get_str-clause-none
+returns-in_err-get_str-clause-none c = λ _ command proof script.
+    no_names c.args.found.now c.in_ok-name.files.now c.in_ok-name.name.now _ proof script
+    (found_rows c.args.found.now c.in_ok-name.files.now c.in_ok-name.name.now c.in_ok-name.ensures.name c.in_ok-name.ensures.rows)
+    c.in_err-get_str.ensures
+
+pub returns-clause-some : goal.returns-clause-some
+returns-clause-some c =
+    names_in c.args.found.now c.in_ok-name.files.now c.in_ok-name.name.now c.in_ok-get_str.field-0.now c.in_ok-command_named.field-0 c.get_str-2.result
+    (found_rows c.args.found.now c.in_ok-name.files.now c.in_ok-name.name.now c.in_ok-name.ensures.name c.in_ok-name.ensures.rows)
+    ((c.in_ok-command_named.ensures c.in_ok-command_named.field-0).0 refl) c.in_ok-get_str.ensures c.get_str-2.ensures
