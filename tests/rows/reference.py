@@ -3,7 +3,8 @@
 
 usage: reference.py SCRIPT PROOF
 
-Reads a script over Bools and words (declare-const, assert, check-sat, with all operators of Core and of words) and the
+Reads a script over Bools and words (declare-const, assert, push, pop, reset, check-sat, exit, with all operators of Core
+and of words) and the
 proof file that the solver wrote for it, and replays every line by the rules of the format. Prints the verdict of each
 record and `accepted N`, or `refused line L: why`. It shares no code with the solver or its checker. terms.py reads the
 script and has the values of terms, circuits.py has the gates of each operator.
@@ -103,7 +104,8 @@ def record(log, kind, words, lines):
     if kind == "sat":
         sat_record(log.script, n, lines)
     else:
-        need(all(l < 0 and -l in log.selectors for l in log.clause(n, 0)), "unsat: another literal")
+        live = log.script.live
+        need(all(l < 0 and log.selectors.get(-l) in live for l in log.clause(n, 0)), "unsat: another literal")
 
 
 def value_of(word, sort):
@@ -115,16 +117,18 @@ def value_of(word, sort):
 
 
 def sat_record(script, count, lines):
-    need(count == len(script.sorts), "sat: not every declaration")
-    model = []
-    for d, sort in enumerate(script.sorts):
+    live = sorted(script.names.values())
+    need(count == len(live), "sat: not every live declaration")
+    model = [0] * len(script.sorts)
+    for d in live:
+        sort = script.sorts[d]
         need(lines, "end")
         n, line = lines.popleft()
         beginning = "v %d " % d
         need(line.startswith(beginning), "sat: another value is due, line %d" % n)
-        model.append(value_of(line.removeprefix(beginning), sort))
+        model[d] = value_of(line.removeprefix(beginning), sort)
     values = script.terms.values(model)
-    need(all(values[t] == 1 for t in script.asserted), "sat: an assertion is false")
+    need(all(values[script.asserted[a]] == 1 for a in script.live), "sat: an assertion is false")
 
 
 def check(script_text, proof):

@@ -5,9 +5,9 @@ usage: run.py [PROGRAM]    (default: the program that `rt run` leaves in crates/
 
 A row is a file NAME.row with the sections `== words`, `== script`, `== answers`, `== status` and, where the proof file
 is fixed to the byte, `== proof`. The word PROOF stands for a new file, which has the text of `== given` where the row has
-that section. A section's text ends before the next line that
-begins with `==`; a last line `\\` takes away the line feed before it. Whatever a `solve` wrote is replayed by
-reference.py too, unless the row says `== no replay`.
+that section, and the word SCRIPT for a file that has the script, which standard input has not then. A section's text ends
+before the next line that begins with `==`; a last line `\\` takes away the line feed before it. Whatever a `solve` wrote
+is replayed by reference.py too, unless the row says `== no replay`.
 """
 import pathlib
 import re
@@ -29,11 +29,13 @@ def sections(path):
 
 def faults(program, row, folder):
     proof = folder / "proof"
-    words = [str(proof) if w == "PROOF" else w for w in row["words"].split()]
+    named = folder / "named"
+    words = [{"PROOF": str(proof), "SCRIPT": str(named)}.get(w, w) for w in row["words"].split()]
     script = row.get("script", "").encode("latin-1")
+    named.write_bytes(script)
     if "given" in row:
         proof.write_bytes(row["given"].encode("latin-1"))
-    ran = subprocess.run([program, *words], input=script, capture_output=True, timeout=120)
+    ran = subprocess.run([program, *words], input=b"" if str(named) in words else script, capture_output=True, timeout=120)
     if ran.stdout.decode("latin-1") != row.get("answers", ""):
         yield "answers: %r" % ran.stdout
     if ran.returncode != int(row["status"]):

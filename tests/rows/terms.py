@@ -229,15 +229,21 @@ def width_of(text):
     return n
 
 
+def levels_meant(count):
+    need(len(count) < 2, "no number of levels")
+    return number(count[0]) if count else 1
+
+
 class Script:
     """The commands, one at a time. What has a fault or is not read is skipped, as the session does."""
 
     def __init__(self, text):
         self.text = text
         self.terms, self.names, self.sorts, self.asserted = Terms(), {}, [], []
+        self.live, self.levels = [], []
 
     def checks(self):
-        """Runs the commands, and yields at each check."""
+        """Runs the commands up to the one that ends the run, and yields at each check."""
         for pieces in chunks(self.text):
             held = len(self.terms.nodes)
             try:
@@ -247,11 +253,33 @@ class Script:
                     case ["assert", e]:
                         t = self.term(e)
                         need(self.terms.sorts[t] == BOOL, "assert of a word")
+                        self.live.append(len(self.asserted))
                         self.asserted.append(t)
+                    case ["push", *count]:
+                        self.push(count)
+                    case ["pop", *count]:
+                        self.pop(count)
+                    case ["reset"] | ["reset-assertions"]:
+                        self.names, self.live, self.levels = {}, [], []
                     case ["check-sat"]:
                         yield
+                    case ["exit"]:
+                        return
             except Refused:
                 self.terms.cut(held)
+
+    def push(self, count):
+        n = levels_meant(count)
+        need(len(self.levels) + n <= 1000000, "level out of range")
+        self.levels += [(dict(self.names), len(self.live))] * n
+
+    def pop(self, count):
+        n = levels_meant(count)
+        need(n <= len(self.levels), "level out of range")
+        if n:
+            names, live = self.levels[-n]
+            self.names, self.live = dict(names), self.live[:live]
+            del self.levels[-n:]
 
     def declare(self, name, sort):
         need(isinstance(name, str) and (SYMBOL.fullmatch(name) or QUOTED.fullmatch(name)), "no symbol")
