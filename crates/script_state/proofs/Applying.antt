@@ -16,7 +16,7 @@ use Rattle.script_state.specs.declared.error_text.ErrorText.{ErrorText}
 use Rattle.script_state.specs.declared.error_text.ErrorText.TheVariants.{UnfinishedCommand, TextOutsideCommand, BadToken, MalformedCommand}
 use Rattle.std.specs.declared.alloc.AllocError.{AllocError}
 use Rattle.script_state.specs.ErrorTexts.{syntax_error}
-use Rattle.script_state.specs.Readings.{is_list, Reading, ReadsBy, ReadsAs}
+use Rattle.script_state.specs.Readings.{is_list, Spelled, Reading, ReadsBy, ReadsAs}
 use Rattle.script_state.specs.States.{StateValue}
 use Rattle.script_state.specs.Steps.{Step, obey, obey_read, refuse, Answers, Applies}
 use Rattle.script_state.proofs.Lists.{spells_list, spells_no_list}
@@ -44,16 +44,19 @@ module _ (chunk : Chunk) (s : StateValue) where
         abbrev pub the_list : (es : Sexps) × (signs_of ts ≡ spelling (group es))
         the_list = spells_list (signs_of ts) listed
 
-        reads : ReadsAs chunk (Ok the_list.0)
-        reads = reads_as (Ok the_list.0) Balanced balanced (ts, are, the_list.1)
+        abbrev the_chunk : Spelled
+        the_chunk = record { list = the_list.0; tokens = ts }
+
+        reads : ReadsAs chunk (Ok the_chunk)
+        reads = reads_as (Ok the_chunk) Balanced balanced (are, the_list.1)
 
         pub applies_fault : (f : SyntaxFault) (told : ErrorText) → told ≡ syntax_error f → read (group the_list.0) ≡ Err f → Applies chunk (Ok (Refused told)) s s
         applies_fault f told t e =
-            let P : Result (CommandName × Sexps) SyntaxFault → Type 0 = λ r. ◌≡◌ {A = Step} (obey_read s r) (refuse s told) in
-            (Ok the_list.0, reads, subst P (sym e) (ap (λ q. refuse s q) (sym t)))
+            let P : Result (CommandName × Sexps) SyntaxFault → Type 0 = λ r. ◌≡◌ {A = Step} (obey_read s ts r) (refuse s told) in
+            (Ok the_chunk, reads, subst P (sym e) (ap (λ q. refuse s q) (sym t)))
 
-        pub applies_command : (k : Command) (args : Sexps) (result : Result Answer AllocError) (new : StateValue) → read (group the_list.0) ≡ Ok (name_of k, args) → Answers (obey s (name_of k) args) result s new → Applies chunk result s new
+        pub applies_command : (k : Command) (args : Sexps) (result : Result Answer AllocError) (new : StateValue) → read (group the_list.0) ≡ Ok (name_of k, args) → Answers (obey s ts (name_of k) args) result s new → Applies chunk result s new
         applies_command k args (Ok a) new e answers =
-            let P : Result (CommandName × Sexps) SyntaxFault → Type 0 = λ r. ◌≡◌ {A = Step} (obey_read s r) (a, new) in
-            (Ok the_list.0, reads, subst P (sym e) answers)
+            let P : Result (CommandName × Sexps) SyntaxFault → Type 0 = λ r. ◌≡◌ {A = Step} (obey_read s ts r) (a, new) in
+            (Ok the_chunk, reads, subst P (sym e) answers)
         applies_command k args (Err f) new e answers = answers

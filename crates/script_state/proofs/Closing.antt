@@ -1,7 +1,7 @@
 -- What is live names live declarations alone, also as names, terms, definitions and assertions are added.
-use Rattle.std.proofs.Common.{◌≡◌, ◌<◌, true, List, [], ◌∷◌, ◌++◌, length, ◌∙◌}
+use Rattle.std.proofs.Common.{◌≡◌, ◌<◌, true, List, [], ◌++◌, length, ◌∙◌}
 use Rattle.std.specs.Prelude.{All}
-use Rattle.std.proofs.lemmas.List.Elements.{All-nil, All-push}
+use Rattle.std.proofs.lemmas.List.Elements.{All-nil}
 use Rattle.smt_terms.specs.declared.node.Node.{Node}
 use Rattle.scope_selectors.specs.declared.live.Live.{Live}
 use Rattle.smt_build.specs.declared.definition.Definition.{Definition}
@@ -23,9 +23,6 @@ module _ (live : List LiveName) (nodes : List Node) (ds : Meanings Definition) (
     bodies = bodies_over_more live more nodes ds is.bodies;
     terms = λ k d lt. over_more live more nodes _ (is.terms k d lt);
   }
-
-  pub closed_asserted : (a : Live) → is_over live nodes a.term ≡ true → IsClosed nodes live ds xs → IsClosed nodes live ds (xs ++ a ∷ [])
-  closed_asserted a over is = record { bodies = is.bodies; terms = All-push (λ (b : Live). is_over live nodes b.term ≡ true) xs a is.terms over }
 
 -- nothing is closed
 pub closed_none : (nodes : List Node) → IsClosed nodes [] [] []

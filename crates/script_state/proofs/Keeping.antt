@@ -1,7 +1,8 @@
 -- A step leads from a state to a state, and keeps what was made.
-use Rattle.std.proofs.Common.{◌≡◌, ℕ, List, [], ◌∷◌, ◌++◌, refl, sym, ap, ◌∙◌, subst, append-nil, Some, None, Ok}
+use Rattle.std.proofs.Common.{◌≡◌, ℕ, List, [], ◌∷◌, ◌++◌, refl, sym, ap, ◌∙◌, subst, append-nil, Option, Some, None, Ok}
 use Rattle.std.specs.Prelude.{slice_get}
 use Rattle.smt_text.specs.declared.token.CommandName.{CommandName}
+use Rattle.smt_text.specs.Lexicon.{Lexeme}
 use Rattle.smt_syntax.specs.Sexps.{Sexp, Sexps}
 use Rattle.smt_terms.specs.declared.sort.Signature.{Signature}
 use Rattle.smt_terms.specs.declared.node.Node.{Node}
@@ -12,19 +13,21 @@ use Rattle.smt_build.specs.Names.{SymbolsValue}
 use Rattle.smt_build.specs.Declaring.{declare}
 use Rattle.smt_build.specs.Defining.{define_sort, define}
 use Rattle.smt_build.specs.Scoped.{AreOver}
-use Rattle.smt_build.specs.Terms.{term_of}
-use Rattle.smt_build.proofs.Longer.{GoOn, term_longer, term_is_held}
+use Rattle.smt_build.specs.Asserting.{assertion}
 use Rattle.smt_build.proofs.Kept.{IsNext, define_adds}
-use Rattle.smt_build.proofs.Scoped.{term_is_over}
 use Rattle.smt_build.proofs.ScopedCommands.{define_is_over}
+use Rattle.script_state.specs.declared.answer.Asked.{Asked}
+use Rattle.script_state.specs.declared.answer.Verdict.TheVariants.{Sat}
 use Rattle.script_state.specs.Readings.{Reading}
 use Rattle.script_state.specs.States.{StateValue, RestValue, with_terms, IsState, Fit}
-use Rattle.script_state.specs.Steps.{Step, declaring, naming_sort, defining, objection, asserting_unless, pushing_by, popping_by, step}
+use Rattle.script_state.specs.Steps.{Step, declaring, naming_sort, defining, objection, asserting_unless, asking, assuming_by, value_objection, valuing_by, pushing_by, popping_by, step}
 use Rattle.script_state.proofs.Declared.{declared_kept, get_longer}
 use Rattle.script_state.proofs.Defined.{sort_defined}
 use Rattle.script_state.proofs.Marking.{plain_grows}
 use Rattle.script_state.proofs.Leveling.{pushed_is, popped_is, popped_signatures, begun_state, ended_state, emptied_state}
-use Rattle.script_state.proofs.Asserting.{opted_state, standing_state, declared_state, named_state, defined_state, grown_state, asserted_state}
+use Rattle.script_state.proofs.Asserting.{opted_state, fallen_state, declared_state, named_state, defined_state, grown_state, asserted_state}
+use Rattle.script_state.proofs.Naming.{assertion_is}
+use Rattle.script_state.proofs.Judging.{assumed_is, valued_is}
 use Rattle.script_state.proofs.Cases.{of_step}
 
 -- the terms go on, and each declaration and each assertion keeps its number
@@ -76,13 +79,34 @@ module _ (s : StateValue) (is : IsState s) where
         keeps = record { behind = one.terms.grows.behind; nodes = one.terms.grows.nodes; signatures = λ d r h. h; assertions = λ a u h. h };
       })
 
-  by_asserting : (x : Sexp) (t : ℕ) (w : TermsValue) → term_of s.symbols s.terms x ≡ Ok (t, w) → objection w.nodes t ≡ None → Goes (asserting_unless None s t w)
-  by_asserting x t w e plain =
-      let on : GoOn s.symbols.signatures s.terms w = term_longer s.symbols s.terms w x t is.bodies e in
-      let grown = grown_state s w on.grows is (on.list is.terms) in
+  pub asserted_goes_on : (name : Option (List ℕ)) (x : Sexp) (t : ℕ) (v : SymbolsValue) (w : TermsValue) → assertion s.symbols s.terms x ≡ Ok (t, v, w) → objection w.nodes t ≡ None → Goes (asserting_unless None s name t v w)
+  asserted_goes_on name x t v w e plain =
+      let one = assertion_is s.symbols v s.terms w x t is.terms is.bodies is.closed.bodies e in
+      let grown = grown_state s w one.on.grows is (one.on.list is.terms) in
+      subst (λ (u : SymbolsValue). Goes (asserting_unless None s name t u w)) (sym one.symbols)
+      (record {
+        state = asserted_state (record { symbols = s.symbols; terms = w; scopes = s.scopes; options = s.options; standing = s.standing; assumed = s.assumed }) one.more t name (asserted s.scopes t name) grown one.bodies one.over one.held one.here plain refl;
+        keeps = record { behind = one.on.grows.behind; nodes = one.on.grows.nodes; signatures = λ d r e. e; assertions = λ a u e. get_longer s.scopes.terms (t ∷ []) a u e };
+      })
+
+  -- more terms, that are asked for
+  abbrev with_asked : TermsValue → StateValue
+  with_asked w = record { symbols = s.symbols; terms = w; scopes = s.scopes; options = s.options; standing = s.standing; assumed = s.assumed }
+
+  pub assumed_goes_on : (tokens : List Lexeme) (es : Sexps) (asked : List Asked) (w : TermsValue) → asking objection s.symbols s.terms tokens [] es ≡ Ok (asked, w) → Goes (assuming_by s (Ok (asked, w)))
+  assumed_goes_on tokens es asked w e =
+      let on = assumed_is s.symbols s.terms w tokens es asked is.terms is.bodies is.closed.bodies e in
       record {
-        state = asserted_state (record { symbols = s.symbols; terms = w; scopes = s.scopes; options = s.options; standing = s.standing }) t (asserted s.scopes t None) grown (term_is_held s.symbols s.terms w x t is.bodies e) (term_is_over s.symbols s.terms w x t is.terms is.bodies is.closed.bodies e) plain refl;
-        keeps = record { behind = on.grows.behind; nodes = on.grows.nodes; signatures = λ d r e. e; assertions = λ a u e. get_longer s.scopes.terms (t ∷ []) a u e };
+        state = opted_state (with_asked w) s.options None (Some asked) (grown_state s w on.0.grows is (on.0.list is.terms)) on.1;
+        keeps = record { behind = on.0.grows.behind; nodes = on.0.grows.nodes; signatures = λ d r e. e; assertions = λ a t e. e };
+      }
+
+  pub valued_goes_on : (tokens : List Lexeme) (es : Sexps) (asked : List Asked) (w : TermsValue) → asking value_objection s.symbols s.terms tokens [] es ≡ Ok (asked, w) → Goes (valuing_by s asked w (Some Sat))
+  valued_goes_on tokens es asked w e =
+      let on = valued_is s.symbols s.terms w tokens es asked is.terms is.bodies is.closed.bodies e in
+      record {
+        state = grown_state s w on.0.grows is (on.0.list is.terms);
+        keeps = record { behind = on.0.grows.behind; nodes = on.0.grows.nodes; signatures = λ d r e. e; assertions = λ a t e. e };
       }
 
   -- no term, no declaration and no assertion goes
@@ -107,17 +131,21 @@ module _ (s : StateValue) (is : IsState s) where
   step_goes_on r = of_step s Goes (record {
     refused = λ e. record { state = is; keeps = same };
     kept = record { state = is; keeps = same };
-    checked = goes_same _ (standing_state s None is) refl refl refl;
+    checked = goes_same _ (fallen_state s is) refl refl refl;
     declared = by_declaring;
     named = by_naming;
     defined = defined_goes_on;
-    asserted = by_asserting;
+    asserted = asserted_goes_on;
+    assumed = assumed_goes_on;
     said = λ x. record { state = is; keeps = same };
-    set = λ o. goes_same _ (opted_state s o s.standing is) refl refl refl;
+    set = λ o. goes_same _ (opted_state s o s.standing s.assumed is is.assumed) refl refl refl;
     begun = by_pushing;
     ended = by_popping;
     emptied = λ o. goes_same _ (emptied_state s o is) refl refl refl;
     modelled = λ a b. record { state = is; keeps = same };
+    valued = λ tokens es asked w e a b. valued_goes_on tokens es asked w e;
+    refuted = λ a b. record { state = is; keeps = same };
+    refuted_assumed = λ asked a b c. record { state = is; keeps = same };
   }) r (λ e. record { state = is; keeps = same })
 
 pub step_state : (s : StateValue) (r : Reading) → IsState s → IsState (step s r).1

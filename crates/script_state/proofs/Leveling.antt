@@ -21,7 +21,7 @@ use Rattle.script_state.specs.declared.answer.Verdict.{Verdict}
 use Rattle.script_state.specs.declared.options.Options.{Options}
 use Rattle.script_state.specs.Plain.{is_plain}
 use Rattle.script_state.specs.States.{StateValue, AreLive, IsPlainConstant, IsPlainName, IsState, no_state}
-use Rattle.script_state.proofs.Asserting.{opted_state}
+use Rattle.script_state.proofs.Asserting.{none_assumed, opted_state}
 use Rattle.script_state.proofs.Closing.{closed_none}
 use Rattle.script_state.proofs.Standing.{get_within, within_all, begun, ended, levels_begun, levels_ended}
 
@@ -92,6 +92,7 @@ begun_state v n w is o s e =
       plain = is.plain;
       closed = is.closed;
       levels = levels_begun v n is o s;
+      assumed = none_assumed v.terms.nodes v.symbols.live;
     })
 
 -- ---- end
@@ -127,11 +128,12 @@ to_level v k l is o s le here =
       plain = All-filter (λ (a : Live). nat_le a.level k) (λ (a : Live). is_plain v.terms.nodes a.term ≡ true) v.scopes.live is.plain;
       closed = level.closed;
       levels = levels_ended v k l is here o s;
+      assumed = none_assumed v.terms.nodes (take l.names v.symbols.live);
     }
 
 -- these levels less
 abbrev pub left : StateValue → ℕ → Options → Option Verdict → StateValue
-left v n o s = record { symbols = symbols_popped v.symbols n; terms = v.terms; scopes = fewer v.scopes n; options = o; standing = s }
+left v n o s = record { symbols = symbols_popped v.symbols n; terms = v.terms; scopes = fewer v.scopes n; options = o; standing = s; assumed = None }
 
 get_none : {X : Type 0} (xs : List X) (i : ℕ) → slice_get xs i ≡ None → length xs ≤ i
 get_none [] i e = omega arith
@@ -147,11 +149,11 @@ left_state v n is o s le =
     none_ends : slice_get v.symbols.levels (v.scopes.levels - n) ≡ None → v.scopes.levels - n ≡ v.scopes.levels
     none_ends e = omega (arith, get_none v.symbols.levels (v.scopes.levels - n) e, is.levels.count)
 
-    go : (l : Option Level) → slice_get v.symbols.levels (v.scopes.levels - n) ≡ l → IsState (record { symbols = popped_to v.symbols (v.scopes.levels - n) l; terms = v.terms; scopes = fewer v.scopes n; options = o; standing = s })
+    go : (l : Option Level) → slice_get v.symbols.levels (v.scopes.levels - n) ≡ l → IsState (record { symbols = popped_to v.symbols (v.scopes.levels - n) l; terms = v.terms; scopes = fewer v.scopes n; options = o; standing = s; assumed = None })
     go (Some l) e = to_level v (v.scopes.levels - n) l is o s (omega arith) e
-    go None e = rw (none_ends e, within_all v.scopes.levels v.scopes.live is.scopes.standing) (opted_state v o s is)
+    go None e = rw (none_ends e, within_all v.scopes.levels v.scopes.live is.scopes.standing) (opted_state v o s None is (none_assumed v.terms.nodes v.symbols.live))
 
-pub ended_state : (v : StateValue) (n : ℕ) (w : ScopesValue) → IsState v → (o : Options) (s : Option Verdict) → popped v.scopes n ≡ Ok w → IsState (record { symbols = symbols_popped v.symbols n; terms = v.terms; scopes = w; options = o; standing = s })
+pub ended_state : (v : StateValue) (n : ℕ) (w : ScopesValue) → IsState v → (o : Options) (s : Option Verdict) → popped v.scopes n ≡ Ok w → IsState (record { symbols = symbols_popped v.symbols n; terms = v.terms; scopes = w; options = o; standing = s; assumed = None })
 ended_state v n w is o s e = let p = popped_is v.scopes w n e in rw p.1 (left_state v n is o s p.0)
 
 pub popped_signatures : (v : SymbolsValue) (n : ℕ) → (symbols_popped v n).signatures ≡ v.signatures
@@ -162,7 +164,7 @@ popped_signatures v n = go (slice_get v.levels (length v.levels - n)) where
 
 -- ---- all levels end
 
-pub emptied_state : (v : StateValue) (o : Options) → IsState v → IsState (record { symbols = emptied v.symbols; terms = v.terms; scopes = without_assertions v.scopes; options = o; standing = None })
+pub emptied_state : (v : StateValue) (o : Options) → IsState v → IsState (record { symbols = emptied v.symbols; terms = v.terms; scopes = without_assertions v.scopes; options = o; standing = None; assumed = None })
 emptied_state v o is = record {
   terms = is.terms;
   scopes = record {
@@ -184,6 +186,7 @@ emptied_state v o is = record {
   plain = All-nil (λ (a : Live). is_plain v.terms.nodes a.term ≡ true);
   closed = closed_none v.terms.nodes;
   levels = record { count = refl; rising = λ i j d lt within. absurd (omega (arith, within)); each = λ k l e. absurd (omega (arith, get_within [] k l e)) };
+  assumed = none_assumed v.terms.nodes [];
 }
 
 -- ---- the first state
@@ -210,6 +213,7 @@ first_state = record {
   plain = All-nil (λ (a : Live). is_plain [] a.term ≡ true);
   closed = closed_none [];
   levels = record { count = refl; rising = λ i j d lt within. absurd (omega (arith, within)); each = λ k l e. absurd (omega (arith, get_within [] k l e)) };
+  assumed = none_assumed [] [];
 } where
   none_declared : (t d : ℕ) → declaration_of (node_at [] t).op ≡ Some d → ⊥
   none_declared t d e = cc

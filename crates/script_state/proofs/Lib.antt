@@ -6,6 +6,12 @@ pub mod Defined
 pub mod Marking
 pub mod Asserting
 pub mod Leveling
+pub mod Naming
+pub mod Asking
+pub mod Gathering
+pub mod Listing
+pub mod Writing
+pub mod Judging
 pub mod Cases
 pub mod Keeping
 pub mod Obeying

@@ -2,6 +2,7 @@
 use Rattle.std.proofs.Common.{◌≡◌, true, false, List, [], ◌∷◌, refl, sym, subst, ◌⊎◌, inl, inr, Option, Result}
 use Rattle.std.specs.Prelude.{option_to_list}
 use Rattle.std.specs.declared.alloc.AllocError.{AllocError}
+use Rattle.smt_text.specs.Lexicon.{Lexeme}
 use Rattle.smt_text.specs.declared.token.CommandName.{CommandName}
 use Rattle.smt_text.specs.declared.token.CommandName.TheVariants as name
 use Rattle.smt_syntax.specs.declared.span.Span.{Span}
@@ -12,21 +13,23 @@ use Rattle.smt_syntax.specs.Spans.{Stands, AllStand}
 use Rattle.smt_syntax.specs.Commands.{name_of, spans_of, is_left_out, is_not_supported}
 use Rattle.smt_build.specs.Declaring.{declare}
 use Rattle.smt_build.specs.Defining.{define, define_sort}
-use Rattle.smt_build.specs.Terms.{term_of}
+use Rattle.smt_build.specs.Asserting.{assertion}
+use Rattle.smt_build.specs.Naming.{name_of_assertion}
 use Rattle.script_state.specs.declared.answer.Answer.{Answer}
 use Rattle.script_state.specs.declared.answer.Answer.TheVariants.{Done, Exit}
+use Rattle.script_state.specs.Written.{listed}
 use Rattle.script_state.specs.States.{StateValue}
 use Rattle.script_state.specs.declared.error_text.ErrorText.TheVariants.{NotSupported}
 use Rattle.script_state.specs.Options.{first_options}
-use Rattle.script_state.specs.Steps.{Step, choosing, declaring, naming_sort, defining, asserting, checking, saying, unsupported, setting_option, telling_option, telling_info, echoing, levels_meant, pushing, popping, resetting, modelling, refuse, obey, Answers}
+use Rattle.script_state.specs.Steps.{Step, choosing, declaring, naming_sort, defining, asserting, checking, assuming_listed, valuing_listed, saying, unsupported, setting_option, telling_option, telling_info, echoing, levels_meant, pushing, popping, resetting, modelling, refuting, refuting_assumed, refuse, obey, Answers}
 
-module _ (s : StateValue) (signs : List Sign) (result : Result Answer AllocError) (new : StateValue) where
+module _ (s : StateValue) (tokens : List Lexeme) (signs : List Sign) (result : Result Answer AllocError) (new : StateValue) where
   -- the arguments stand at the spans of a command that is not left out
   abbrev pub HasArguments : Command → Sexps → Type 0
   HasArguments k es = is_left_out (name_of k) ≡ false → AllStand signs (spans_of k) es
 
   abbrev pub Obeys : Command → Type 0
-  Obeys k = (es : Sexps) → HasArguments k es → Answers (obey s (name_of k) es) result s new
+  Obeys k = (es : Sexps) → HasArguments k es → Answers (obey s tokens (name_of k) es) result s new
 
   pub obeys_declaration : (k : Command) (n t : Span) → k ≡ command.DeclareConst n t
       → ((es : Sexps) → AllStand signs (spans_of k) es → Answers (declaring s (declare s.symbols (name_of k) es)) result s new)
@@ -61,21 +64,21 @@ module _ (s : StateValue) (signs : List Sign) (result : Result Answer AllocError
       subst P (sym e) (λ ensures es stand. ensures es (stand refl))
 
   one_argument : (span : Span) (es : Sexps) → AllStand signs (span ∷ []) es
-      → ((e : Sexp) → Stands signs span e → Answers (asserting s (term_of s.symbols s.terms e)) result s new)
-      → Answers (obey s name.Assert es) result s new
+      → ((e : Sexp) → Stands signs span e → Answers (asserting s (name_of_assertion e) (assertion s.symbols s.terms e)) result s new)
+      → Answers (obey s tokens name.Assert es) result s new
   unfolding obey
   one_argument span none stand ensures = absurd stand
   one_argument span (more e none) stand ensures = ensures e stand.0
   one_argument span (more e (more f es)) stand ensures = absurd stand.1
 
   pub obeys_assertion : (k : Command) (span : Span) → k ≡ command.Assert span
-      → ((e : Sexp) → Stands signs span e → Answers (asserting s (term_of s.symbols s.terms e)) result s new)
+      → ((e : Sexp) → Stands signs span e → Answers (asserting s (name_of_assertion e) (assertion s.symbols s.terms e)) result s new)
       → Obeys k
   obeys_assertion k span e ensures = subst Obeys (sym e) (λ es stand. one_argument span es (stand refl) ensures)
 
   logic_argument : (span : Span) (es : Sexps) → AllStand signs (span ∷ []) es
       → ((e : Sexp) → Stands signs span e → Answers (choosing s e) result s new)
-      → Answers (obey s name.SetLogic es) result s new
+      → Answers (obey s tokens name.SetLogic es) result s new
   unfolding obey
   logic_argument span none stand ensures = absurd stand
   logic_argument span (more e none) stand ensures = ensures e stand.0
@@ -86,10 +89,37 @@ module _ (s : StateValue) (signs : List Sign) (result : Result Answer AllocError
       → Obeys k
   obeys_logic k span e ensures = subst Obeys (sym e) (λ es stand. logic_argument span es (stand refl) ensures)
 
+  -- one argument, that is a list of terms
+  assuming_argument : (span : Span) (es : Sexps) → AllStand signs (span ∷ []) es
+      → ((e : Sexp) → Stands signs span e → Answers (assuming_listed s (listed tokens) e) result s new)
+      → Answers (obey s tokens name.CheckSatAssuming es) result s new
+  unfolding obey
+  assuming_argument span none stand ensures = absurd stand
+  assuming_argument span (more e none) stand ensures = ensures e stand.0
+  assuming_argument span (more e (more f es)) stand ensures = absurd stand.1
+
+  pub obeys_check_assuming : (k : Command) (span : Span) → k ≡ command.CheckSatAssuming span
+      → ((e : Sexp) → Stands signs span e → Answers (assuming_listed s (listed tokens) e) result s new)
+      → Obeys k
+  obeys_check_assuming k span e ensures = subst Obeys (sym e) (λ es stand. assuming_argument span es (stand refl) ensures)
+
+  valuing_argument : (span : Span) (es : Sexps) → AllStand signs (span ∷ []) es
+      → ((e : Sexp) → Stands signs span e → Answers (valuing_listed s (listed tokens) e) result s new)
+      → Answers (obey s tokens name.GetValue es) result s new
+  unfolding obey
+  valuing_argument span none stand ensures = absurd stand
+  valuing_argument span (more e none) stand ensures = ensures e stand.0
+  valuing_argument span (more e (more f es)) stand ensures = absurd stand.1
+
+  pub obeys_get_value : (k : Command) (span : Span) → k ≡ command.GetValue span
+      → ((e : Sexp) → Stands signs span e → Answers (valuing_listed s (listed tokens) e) result s new)
+      → Obeys k
+  obeys_get_value k span e ensures = subst Obeys (sym e) (λ es stand. valuing_argument span es (stand refl) ensures)
+
   -- one argument, that of an option, of information or of `echo`
   option_argument : (span : Span) (es : Sexps) → AllStand signs (span ∷ []) es
       → ((e : Sexp) → Stands signs span e → Answers (telling_option s e) result s new)
-      → Answers (obey s name.GetOption es) result s new
+      → Answers (obey s tokens name.GetOption es) result s new
   unfolding obey
   option_argument span none stand ensures = absurd stand
   option_argument span (more e none) stand ensures = ensures e stand.0
@@ -102,7 +132,7 @@ module _ (s : StateValue) (signs : List Sign) (result : Result Answer AllocError
 
   information_argument : (span : Span) (es : Sexps) → AllStand signs (span ∷ []) es
       → ((e : Sexp) → Stands signs span e → Answers (telling_info s e) result s new)
-      → Answers (obey s name.GetInfo es) result s new
+      → Answers (obey s tokens name.GetInfo es) result s new
   unfolding obey
   information_argument span none stand ensures = absurd stand
   information_argument span (more e none) stand ensures = ensures e stand.0
@@ -115,7 +145,7 @@ module _ (s : StateValue) (signs : List Sign) (result : Result Answer AllocError
 
   echo_argument : (span : Span) (es : Sexps) → AllStand signs (span ∷ []) es
       → ((e : Sexp) → Stands signs span e → Answers (echoing s e) result s new)
-      → Answers (obey s name.Echo es) result s new
+      → Answers (obey s tokens name.Echo es) result s new
   unfolding obey
   echo_argument span none stand ensures = absurd stand
   echo_argument span (more e none) stand ensures = ensures e stand.0
@@ -128,7 +158,7 @@ module _ (s : StateValue) (signs : List Sign) (result : Result Answer AllocError
 
   option_arguments : (span : Span) (spans : List Span) (es : Sexps) → AllStand signs (span ∷ spans) es
       → ((e : Sexp) (vs : Sexps) → Stands signs span e → AllStand signs spans vs → Answers (setting_option s e vs) result s new)
-      → Answers (obey s name.SetOption es) result s new
+      → Answers (obey s tokens name.SetOption es) result s new
   unfolding obey
   option_arguments span spans none stand ensures = absurd stand
   option_arguments span spans (more e es) stand ensures = ensures e es stand.0 stand.1
@@ -138,7 +168,7 @@ module _ (s : StateValue) (signs : List Sign) (result : Result Answer AllocError
       → Obeys k
   obeys_set_option k keyword value e ensures = subst Obeys (sym e) (λ es stand. option_arguments keyword (option_to_list value) es (stand refl) ensures)
 
-  info_arguments : (span : Span) (spans : List Span) (es : Sexps) → AllStand signs (span ∷ spans) es → Answers (Done, s) result s new → Answers (obey s name.SetInfo es) result s new
+  info_arguments : (span : Span) (spans : List Span) (es : Sexps) → AllStand signs (span ∷ spans) es → Answers (Done, s) result s new → Answers (obey s tokens name.SetInfo es) result s new
   unfolding obey
   info_arguments span spans none stand ensures = absurd stand
   info_arguments span spans (more e es) stand ensures = ensures
@@ -146,7 +176,7 @@ module _ (s : StateValue) (signs : List Sign) (result : Result Answer AllocError
   pub obeys_info : (k : Command) (keyword : Span) (value : Option Span) → k ≡ command.SetInfo keyword value → Answers (Done, s) result s new → Obeys k
   obeys_info k keyword value e ensures = subst Obeys (sym e) (λ es stand. info_arguments keyword (option_to_list value) es (stand refl) ensures)
 
-  no_argument : (es : Sexps) → AllStand signs [] es → Answers (checking s) result s new → Answers (obey s name.CheckSat es) result s new
+  no_argument : (es : Sexps) → AllStand signs [] es → Answers (checking s) result s new → Answers (obey s tokens name.CheckSat es) result s new
   unfolding obey
   no_argument none stand ensures = ensures
   no_argument (more e es) stand ensures = absurd stand
@@ -180,6 +210,14 @@ module _ (s : StateValue) (signs : List Sign) (result : Result Answer AllocError
   unfolding obey
   obeys_get_model k e ensures = subst Obeys (sym e) (λ es stand. ensures)
 
+  pub obeys_get_core : (k : Command) → k ≡ command.GetUnsatCore → Answers (refuting s) result s new → Obeys k
+  unfolding obey
+  obeys_get_core k e ensures = subst Obeys (sym e) (λ es stand. ensures)
+
+  pub obeys_get_assumptions : (k : Command) → k ≡ command.GetUnsatAssumptions → Answers (refuting_assumed s) result s new → Obeys k
+  unfolding obey
+  obeys_get_assumptions k e ensures = subst Obeys (sym e) (λ es stand. ensures)
+
   pub obeys_exit : (k : Command) → k ≡ command.Exit → Answers (Exit, s) result s new → Obeys k
   unfolding obey
   obeys_exit k e ensures = subst Obeys (sym e) (λ es stand. ensures)
@@ -190,8 +228,8 @@ module _ (s : StateValue) (signs : List Sign) (result : Result Answer AllocError
   obeys_unsupported ensures k (inr (inl e)) = subst Obeys (sym e) (λ es stand. ensures)
   obeys_unsupported ensures k (inr (inr e)) = subst Obeys (sym e) (λ es stand. ensures)
 
-module _ (s : StateValue) where
-  left_out : (n : CommandName) (es : Sexps) → true ≡ is_left_out n → ◌≡◌ {A = Step} (obey s n es) (refuse s NotSupported)
+module _ (s : StateValue) (tokens : List Lexeme) where
+  left_out : (n : CommandName) (es : Sexps) → true ≡ is_left_out n → ◌≡◌ {A = Step} (obey s tokens n es) (refuse s NotSupported)
   unfolding obey
   left_out name.DeclareSort es e = refl
   left_out name.DefineFunRec es e = refl
@@ -200,17 +238,9 @@ module _ (s : StateValue) where
   left_out name.DeclareDatatypes es e = refl
   left_out _ es e = absurd (let z : ⊥ = cc in z)
 
-  -- commands that are not supported
-  abbrev pub IsOther : Command → Type 0
-  IsOther k = ((terms : Span) × (k ≡ command.CheckSatAssuming terms)) ⊎ (k ≡ command.GetUnsatAssumptions) ⊎ (k ≡ command.GetUnsatCore) ⊎ ((terms : Span) × (k ≡ command.GetValue terms)) ⊎ ((n : CommandName) × (k ≡ command.NotSupported n))
-
+  -- a command that is not supported
   abbrev IsRefused : Command → Type 0
-  IsRefused k = is_not_supported k ≡ is_left_out (name_of k) → (es : Sexps) → ◌≡◌ {A = Step} (obey s (name_of k) es) (refuse s NotSupported)
+  IsRefused k = is_not_supported k ≡ is_left_out (name_of k) → (es : Sexps) → ◌≡◌ {A = Step} (obey s tokens (name_of k) es) (refuse s NotSupported)
 
-  pub obeys_other : (k : Command) → IsOther k → IsRefused k
-  unfolding obey
-  obeys_other k (inl e) = subst IsRefused (sym e.1) (λ known es. refl)
-  obeys_other k (inr (inl e)) = subst IsRefused (sym e) (λ known es. refl)
-  obeys_other k (inr (inr (inl e))) = subst IsRefused (sym e) (λ known es. refl)
-  obeys_other k (inr (inr (inr (inl e)))) = subst IsRefused (sym e.1) (λ known es. refl)
-  obeys_other k (inr (inr (inr (inr e)))) = subst IsRefused (sym e.1) (λ known es. left_out e.0 es known)
+  pub obeys_other : (k : Command) (n : CommandName) → k ≡ command.NotSupported n → IsRefused k
+  obeys_other k n e = subst IsRefused (sym e) (λ known es. left_out n es known)

@@ -1,5 +1,5 @@
 -- Levels stand as what is live grows, as more levels begin, and as levels end.
-use Rattle.std.proofs.Common.{◌≡◌, ℕ, zero, suc, ◌+◌, ◌-◌, ◌<◌, ◌≤◌, Bool, true, false, List, [], ◌∷◌, ◌++◌, length, get_or, refl, sym, ap, subst, ◌∙◌, ◌⊎◌, inl, inr, arith, append-nil, length-append, leb-true, Option, Some}
+use Rattle.std.proofs.Common.{◌≡◌, ℕ, zero, suc, ◌+◌, ◌-◌, ◌<◌, ◌≤◌, Bool, true, false, List, [], ◌∷◌, ◌++◌, length, get_or, refl, sym, ap, subst, ◌∙◌, ◌⊎◌, inl, inr, arith, append-nil, length-append, leb-true, Option, Some, None}
 use Rattle.std.specs.Prelude.{nat_le, replicate, slice_get, take, All, AllPairs}
 use Rattle.std.proofs.lemmas.Bool.{cases_lt, le-leb, lt-leb, leb-false}
 use Rattle.std.proofs.lemmas.List.{take_all, take-take, take-append-le, length-take-le, length-replicate, get_or-replicate, get_or_append_left, get_or-append_right, get_or-take}
@@ -133,9 +133,9 @@ rising_pushed xs n y rising behind i j d lt within =
           | inr late ↦ rw (copied_right xs n y i d late (omega (arith, lt, within))) (record { names = omega arith; definitions = omega arith; sorts = omega arith })
         ]
 
--- these levels more, none of them with an assertion
+-- these levels more, none of them with an assertion, and nothing is assumed
 abbrev pub begun : StateValue → ℕ → ScopesValue → Options → Option Verdict → StateValue
-begun v n scopes o s = record { symbols = pushed v.symbols n; terms = v.terms; scopes = scopes; options = o; standing = s }
+begun v n scopes o s = record { symbols = pushed v.symbols n; terms = v.terms; scopes = scopes; options = o; standing = s; assumed = None }
 
 module _ (v : StateValue) (n : ℕ) (is : IsState v) (o : Options) (s : Option Verdict) where
   abbrev new_scopes : ScopesValue
@@ -178,6 +178,7 @@ ended v k l o s = record {
   scopes = record { levels = k; live = made_within k v.scopes.live; made = v.scopes.made; terms = v.scopes.terms };
   options = o;
   standing = s;
+  assumed = None;
 }
 
 module _ (v : StateValue) (k : ℕ) (l : Level) (is : IsState v) (here : slice_get v.symbols.levels k ≡ Some l) (o : Options) (s : Option Verdict) where

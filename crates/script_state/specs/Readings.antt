@@ -9,9 +9,14 @@ use Rattle.smt_syntax.specs.Sexps.{Sign, open_paren, close_paren, word, Sexps, g
 use Rattle.script_state.specs.declared.error_text.ErrorText.{ErrorText}
 use Rattle.script_state.specs.declared.error_text.ErrorText.TheVariants.{UnfinishedCommand, TextOutsideCommand, BadToken, MalformedCommand}
 
--- the S-expressions in the list of a command, or why there is none
+-- the S-expressions in the list of a command, and its tokens
+pub record Spelled : Type 0 where
+  pub list : Sexps
+  pub tokens : List Lexeme
+
+-- a command, or why there is none
 abbrev pub Reading : Type 0
-Reading = Result Sexps ErrorText
+Reading = Result Spelled ErrorText
 
 -- the tokens spell no list
 abbrev pub SpellNoList : List Sign → Type 0
@@ -21,12 +26,12 @@ SpellNoList tokens = (es : Sexps) → tokens ≢ spelling (group es)
 abbrev pub IsNoList : List ℕ → ErrorText → Type 0
 IsNoList text e = ((e ≡ BadToken) × ((place : ℕ) × IsBadAt text place)) ⊎ ((e ≡ MalformedCommand) × ((ts : List Lexeme) × AreTokens text ts × SpellNoList (signs_of ts)))
 
--- Text reads as the S-expressions in the list that its tokens spell, or as the first of its faults: that it is no whole
+-- Text reads as its tokens and the S-expressions in the list that they spell, or as the first of its faults: that it is no whole
 -- command comes before a fault of its tokens.
 abbrev pub ReadsBy : ChunkKind → List ℕ → Reading → Type 0
 ReadsBy Unfinished text r = r ≡ Err UnfinishedCommand
 ReadsBy Stray text r = r ≡ Err TextOutsideCommand
-ReadsBy Balanced text (Ok es) = (ts : List Lexeme) × AreTokens text ts × (signs_of ts ≡ spelling (group es))
+ReadsBy Balanced text (Ok c) = AreTokens text c.tokens × (signs_of c.tokens ≡ spelling (group c.list))
 ReadsBy Balanced text (Err e) = IsNoList text e
 
 -- what a chunk reads as

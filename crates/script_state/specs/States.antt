@@ -13,19 +13,30 @@ use Rattle.smt_build.specs.declared.symbols.LiveName.{LiveName}
 use Rattle.smt_build.specs.declared.symbols.Level.{Level}
 use Rattle.smt_build.specs.Names.{SymbolsValue, Meanings, AreDeclared, AreBodies, no_symbols}
 use Rattle.smt_build.specs.Scoped.{is_over, AreOver}
+use Rattle.script_state.specs.declared.answer.Asked.{Asked}
 use Rattle.script_state.specs.declared.answer.Verdict.{Verdict}
 use Rattle.script_state.specs.declared.options.Options.{Options}
 use Rattle.script_state.specs.Options.{first_options}
 use Rattle.script_state.specs.Plain.{is_plain, is_plain_sort, HavePlain}
 
--- the names and declarations with their levels, the terms, the live assertions with their levels, the options, and the
--- verdict of the check that stands
+-- the names and declarations with their levels, the terms, the live assertions with their levels, the options, the verdict
+-- of the check that stands, and what that check assumes, or the one that is begun; there is no such list where it was asked
+-- without assumptions
 pub record StateValue : Type 0 where
   pub symbols : SymbolsValue
   pub terms : TermsValue
   pub scopes : ScopesValue
   pub options : Options
   pub standing : Option Verdict
+  pub assumed : Option (List Asked)
+
+abbrev pub all_asked : Option (List Asked) → List Asked
+all_asked None = []
+all_asked (Some asked) = asked
+
+-- the assumptions of the check that stands, or of the one that is begun
+abbrev pub assumptions : StateValue → List Asked
+assumptions s = all_asked s.assumed
 
 -- the live names stand for declarations that were made, in the order in which they were
 pub record AreLive (v : SymbolsValue) : Type 0 where
@@ -66,9 +77,22 @@ pub record IsPlainConstant (s : Signature) : Type 0 where
 abbrev pub IsPlainName : List ℕ × Sort → Type 0
 IsPlainName m = (is_plain_sort m.1 ≡ true) × IsSort m.1
 
+-- a plain term over the live declarations
+pub record IsAsked (nodes : List Node) (live : List LiveName) (a : Asked) : Type 0 where
+  pub held : a.term < length nodes
+  pub plain : is_plain nodes a.term ≡ true
+  pub closed : is_over live nodes a.term ≡ true
+
+-- a plain term of sort Bool over the live declarations
+pub record IsAssumption (nodes : List Node) (live : List LiveName) (a : Asked) : Type 0 where
+  pub held : a.term < length nodes
+  pub truth : sort_of nodes a.term ≡ sort.Bool
+  pub plain : is_plain nodes a.term ≡ true
+  pub closed : is_over live nodes a.term ≡ true
+
 -- The terms are a list of well-sorted terms and name declarations as they were made, which are constants; names of sorts
--- are plain, and the bodies of definitions are terms; each live assertion is a plain term of sort Bool. What is live names
--- live declarations alone, and so it will where levels are popped.
+-- are plain, and the bodies of definitions are terms; each live assertion is a plain term of sort Bool, and so is each
+-- assumption. What is live names live declarations alone, and so it will where levels are popped.
 pub record IsState (v : StateValue) : Type 0 where
   pub terms : IsTermList v.terms.nodes
   pub scopes : AreScopes v.scopes
@@ -82,14 +106,15 @@ pub record IsState (v : StateValue) : Type 0 where
   pub plain : All (λ (a : Live). is_plain v.terms.nodes a.term ≡ true) v.scopes.live
   pub closed : IsClosed v.terms.nodes v.symbols.live v.symbols.definitions v.scopes.live
   pub levels : AreLevels v
+  pub assumed : All (IsAssumption v.terms.nodes v.symbols.live) (assumptions v)
 
 -- nothing declared, no terms, nothing asserted, the first options, and no check that stands
 abbrev pub no_state : StateValue
-no_state = record { symbols = no_symbols; terms = no_terms (2 ^ 24); scopes = no_scopes; options = first_options; standing = None }
+no_state = record { symbols = no_symbols; terms = no_terms (2 ^ 24); scopes = no_scopes; options = first_options; standing = None; assumed = None }
 
 -- a check with this verdict stands
 abbrev pub concluded : StateValue → Verdict → StateValue
-concluded s v = record { symbols = s.symbols; terms = s.terms; scopes = s.scopes; options = s.options; standing = Some v }
+concluded s v = record { symbols = s.symbols; terms = s.terms; scopes = s.scopes; options = s.options; standing = Some v; assumed = s.assumed }
 
 -- ---- a state and its terms apart
 
@@ -99,11 +124,12 @@ pub record RestValue : Type 0 where
   pub scopes : ScopesValue
   pub options : Options
   pub standing : Option Verdict
+  pub assumed : Option (List Asked)
   pub marks : List Bool
 
 -- the state that has these terms
 abbrev pub with_terms : RestValue → TermsValue → StateValue
-with_terms r terms = record { symbols = r.symbols; terms = terms; scopes = r.scopes; options = r.options; standing = r.standing }
+with_terms r terms = record { symbols = r.symbols; terms = terms; scopes = r.scopes; options = r.options; standing = r.standing; assumed = r.assumed }
 
 -- the terms and the rest are those of a state
 pub record Fit (terms : TermsValue) (r : RestValue) : Type 0 where

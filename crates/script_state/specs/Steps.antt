@@ -1,5 +1,5 @@
 -- What each command of a script does to the state of a session, and how it is answered (SMT-LIB 2.6, section 4.2).
-use Rattle.std.specs.Prelude.{◌≡◌, ℕ, Bool, true, false, ◌||◌, List, ◌++◌, codes, if◌then◌else◌, Option, Some, None, Result, Ok, Err}
+use Rattle.std.specs.Prelude.{◌≡◌, ℕ, Bool, true, false, ◌||◌, List, [], ◌∷◌, ◌++◌, length, All, codes, if◌then◌else◌, Option, Some, None, Result, Ok, Err}
 use Rattle.std.specs.Fmt.{decimal}
 use Rattle.std.specs.Str.{bytes_eq}
 use Rattle.smt_text.specs.declared.token.TokenKind.TheVariants as kind
@@ -7,34 +7,40 @@ use Rattle.smt_text.specs.declared.token.CommandName.{CommandName}
 use Rattle.smt_text.specs.declared.token.CommandName.TheVariants as name
 use Rattle.std.specs.declared.alloc.AllocError.{AllocError}
 use Rattle.smt_text.specs.declared.chunk.Chunk.{Chunk}
+use Rattle.smt_text.specs.Lexicon.{Lexeme}
 use Rattle.smt_text.specs.Printing.{between}
 use Rattle.smt_syntax.specs.declared.command.SyntaxFault.{SyntaxFault}
 use Rattle.smt_syntax.specs.Sexps.{Sexp, Sexps, atom, group, none, more}
 use Rattle.smt_syntax.specs.Commands.{read}
+use Rattle.smt_syntax.specs.Walk.{◌>>=◌}
 use Rattle.smt_terms.specs.declared.sort.Sort.TheVariants as sort
 use Rattle.smt_terms.specs.declared.node.Node.{Node}
 use Rattle.smt_terms.specs.Same.{same_sort}
-use Rattle.smt_terms.specs.Terms.{TermsValue, sort_of}
+use Rattle.smt_terms.specs.Terms.{TermsValue, sort_of, cut_at}
 use Rattle.scope_selectors.specs.declared.fault.OutOfRange.{OutOfRange}
 use Rattle.scope_selectors.specs.Scopes.{ScopesValue, asserted, without_assertions, pushed as scopes_pushed, popped as scopes_popped}
 use Rattle.smt_build.specs.Literals.{value_in, decimal_value}
-use Rattle.smt_build.specs.Names.{emptied, pushed, popped}
+use Rattle.smt_build.specs.Names.{SymbolsValue, emptied, pushed, popped}
+use Rattle.smt_build.specs.Asserting.{Assertion, assertion}
+use Rattle.smt_build.specs.Naming.{name_of_assertion}
 use Rattle.smt_build.specs.Building.{Built}
 use Rattle.smt_build.specs.Declaring.{Declaration, declare}
 use Rattle.smt_build.specs.Defining.{SortDefinition, FunctionDefinition, define_sort, define}
 use Rattle.smt_build.specs.Terms.{term_of}
 use Rattle.script_state.specs.declared.answer.Answer.{Answer}
-use Rattle.script_state.specs.declared.answer.Answer.TheVariants.{Done, Refused, Check, Says, Model, Exit}
+use Rattle.script_state.specs.declared.answer.Answer.TheVariants.{Done, Refused, Check, Says, Model, Values, Core, Assumptions, Exit}
+use Rattle.script_state.specs.declared.answer.Asked.{Asked}
 use Rattle.script_state.specs.declared.answer.Verdict.{Verdict}
 use Rattle.script_state.specs.declared.answer.Verdict.TheVariants as verdict
 use Rattle.script_state.specs.declared.options.Options.{Options}
 use Rattle.script_state.specs.declared.error_text.ErrorText.{ErrorText}
-use Rattle.script_state.specs.declared.error_text.ErrorText.TheVariants.{WrongArguments, NotSupported, UnknownLogic, LevelOutOfRange, NoModel, OptionOff, NoUnknownAnswer}
+use Rattle.script_state.specs.declared.error_text.ErrorText.TheVariants.{WrongArguments, NotSupported, UnknownLogic, LevelOutOfRange, NoModel, NoRefutation, OptionOff, NoUnknownAnswer}
 use Rattle.script_state.specs.ErrorTexts.{syntax_error, build_error}
 use Rattle.script_state.specs.Options.{first_options, option_value, with_option}
 use Rattle.script_state.specs.Plain.{is_plain}
-use Rattle.script_state.specs.States.{StateValue}
+use Rattle.script_state.specs.States.{StateValue, IsAsked}
 use Rattle.script_state.specs.Readings.{Reading, ReadsAs}
+use Rattle.script_state.specs.Written.{written, behind, listed}
 
 -- an answer with the state then
 abbrev pub Step : Type 0
@@ -59,35 +65,68 @@ choosing s e = if names_logic e then (Done, s) else refuse s UnknownLogic
 
 -- the declaration is made, and no check stands
 abbrev pub declaring : StateValue → Declaration → Step
-declaring s (Ok d) = (Done, record { symbols = d.1; terms = s.terms; scopes = s.scopes; options = s.options; standing = None })
+declaring s (Ok d) = (Done, record { symbols = d.1; terms = s.terms; scopes = s.scopes; options = s.options; standing = None; assumed = None })
 declaring s (Err f) = refuse s (build_error f)
 
 -- the name of a sort is defined, and no check stands
 abbrev pub naming_sort : StateValue → SortDefinition → Step
-naming_sort s (Ok v) = (Done, record { symbols = v; terms = s.terms; scopes = s.scopes; options = s.options; standing = None })
+naming_sort s (Ok v) = (Done, record { symbols = v; terms = s.terms; scopes = s.scopes; options = s.options; standing = None; assumed = None })
 naming_sort s (Err f) = refuse s (build_error f)
 
 -- a function is defined, and no check stands
 abbrev pub defining : StateValue → FunctionDefinition → Step
-defining s (Ok d) = (Done, record { symbols = d.0; terms = d.1; scopes = s.scopes; options = s.options; standing = None })
+defining s (Ok d) = (Done, record { symbols = d.0; terms = d.1; scopes = s.scopes; options = s.options; standing = None; assumed = None })
 defining s (Err f) = refuse s (build_error f)
 
 -- why a term cannot be asserted: it is no Bool, or no check can decide it
 abbrev pub objection : List Node → ℕ → Option ErrorText
 objection nodes t = if same_sort (sort_of nodes t) sort.Bool then (if is_plain nodes t then None else Some NotSupported) else Some WrongArguments
 
--- the term is asserted in the innermost level, and no check stands, unless it cannot be asserted
-abbrev pub asserting_unless : Option ErrorText → StateValue → ℕ → TermsValue → Step
-asserting_unless None s t terms = (Done, record { symbols = s.symbols; terms = terms; scopes = asserted s.scopes t None; options = s.options; standing = None })
-asserting_unless (Some e) s t terms = refuse s e
+-- the term is asserted in the innermost level, under its name if it has one, and no check stands, unless it cannot be asserted
+abbrev pub asserting_unless : Option ErrorText → StateValue → Option (List ℕ) → ℕ → SymbolsValue → TermsValue → Step
+asserting_unless None s name t symbols terms = (Done, record { symbols = symbols; terms = terms; scopes = asserted s.scopes t name; options = s.options; standing = None; assumed = None })
+asserting_unless (Some e) s name t symbols terms = refuse s e
 
-abbrev pub asserting : StateValue → Built → Step
-asserting s (Ok t) = asserting_unless (objection t.1.nodes t.0) s t.0 t.1
-asserting s (Err f) = refuse s (build_error f)
+abbrev pub asserting : StateValue → Option (List ℕ) → Assertion → Step
+asserting s name (Ok a) = asserting_unless (objection a.2.nodes a.0) s name a.0 a.1 a.2
+asserting s name (Err f) = refuse s (build_error f)
+
+-- ---- terms that a command asks for
+
+-- terms with their texts, and all terms then; or the error of the first that cannot be asked for
+abbrev pub Asking : Type 0
+Asking = Result (List Asked × TermsValue) ErrorText
+
+abbrev pub asking_unless : Option ErrorText → List Asked → List ℕ → ℕ → TermsValue → Asking
+asking_unless None found text t terms = Ok (found ++ record { term = t; text = text } ∷ [], terms)
+asking_unless (Some e) found text t terms = Err e
+
+-- `object` says why a term cannot be asked for
+abbrev pub asking_built : (List Node → ℕ → Option ErrorText) → List Asked → List ℕ → Built → Asking
+asking_built object found text (Ok b) = asking_unless (object b.1.nodes b.0) found text b.0 b.1
+asking_built object found text (Err f) = Err (build_error f)
+
+-- the terms, behind those that were found before, each after the other; the tokens begin with theirs
+unfoldable pub asking : (List Node → ℕ → Option ErrorText) → SymbolsValue → TermsValue → List Lexeme → List Asked → Sexps → Asking
+asking object symbols terms tokens found none = Ok (found, terms)
+asking object symbols terms tokens found (more e es) = asking_built object found (written tokens e) (term_of symbols terms e) >>= λ r. asking object symbols r.1 (behind tokens e) r.0 es
+
+-- the live assertions are to be checked with these assumptions, and no check stands
+abbrev pub assuming_by : StateValue → Asking → Step
+assuming_by s (Ok r) = (Check, record { symbols = s.symbols; terms = r.1; scopes = s.scopes; options = s.options; standing = None; assumed = Some r.0 })
+assuming_by s (Err e) = refuse s e
+
+abbrev pub assuming : StateValue → List Lexeme → Sexps → Step
+assuming s tokens es = assuming_by s (asking objection s.symbols s.terms tokens [] es)
+
+-- the form of the command lets lists alone be
+abbrev pub assuming_listed : StateValue → List Lexeme → Sexp → Step
+assuming_listed s tokens (group es) = assuming s tokens es
+assuming_listed s tokens (atom k x) = refuse s NotSupported
 
 -- the live assertions are to be checked, and no check stands
 abbrev pub checking : StateValue → Step
-checking s = (Check, record { symbols = s.symbols; terms = s.terms; scopes = s.scopes; options = s.options; standing = None })
+checking s = (Check, record { symbols = s.symbols; terms = s.terms; scopes = s.scopes; options = s.options; standing = None; assumed = None })
 
 -- ---- options and information (sections 4.1.7, 4.1.8)
 
@@ -106,7 +145,7 @@ is_true_value (group es) = false
 -- a check goes on to stand
 abbrev pub setting : StateValue → Option Options → Step
 setting s None = saying s unsupported
-setting s (Some o) = (Done, record { symbols = s.symbols; terms = s.terms; scopes = s.scopes; options = o; standing = s.standing })
+setting s (Some o) = (Done, record { symbols = s.symbols; terms = s.terms; scopes = s.scopes; options = o; standing = s.standing; assumed = s.assumed })
 
 abbrev pub setting_option : StateValue → Sexp → Sexps → Step
 setting_option s (atom k x) (more v none) = setting s (with_option s.options x (is_true_value v))
@@ -152,7 +191,7 @@ levels_meant (more (atom k x) es) = value_in 10 decimal_value x
 levels_meant _ = 1
 
 abbrev pub pushing_by : StateValue → ℕ → Result ScopesValue OutOfRange → Step
-pushing_by s n (Ok v) = (Done, record { symbols = pushed s.symbols n; terms = s.terms; scopes = v; options = s.options; standing = None })
+pushing_by s n (Ok v) = (Done, record { symbols = pushed s.symbols n; terms = s.terms; scopes = v; options = s.options; standing = None; assumed = None })
 pushing_by s n (Err f) = refuse s LevelOutOfRange
 
 -- so many levels more, and no check stands
@@ -160,7 +199,7 @@ abbrev pub pushing : StateValue → ℕ → Step
 pushing s n = pushing_by s n (scopes_pushed s.scopes n)
 
 abbrev pub popping_by : StateValue → ℕ → Result ScopesValue OutOfRange → Step
-popping_by s n (Ok v) = (Done, record { symbols = popped s.symbols n; terms = s.terms; scopes = v; options = s.options; standing = None })
+popping_by s n (Ok v) = (Done, record { symbols = popped s.symbols n; terms = s.terms; scopes = v; options = s.options; standing = None; assumed = None })
 popping_by s n (Err f) = refuse s LevelOutOfRange
 
 -- so many levels less, with their assertions, declarations and definitions, and no check stands
@@ -169,7 +208,7 @@ popping s n = popping_by s n (scopes_popped s.scopes n)
 
 -- the first level alone, and nothing in it; the numbers of declarations, assertions and terms go on
 abbrev pub resetting : StateValue → Options → Step
-resetting s o = (Done, record { symbols = emptied s.symbols; terms = s.terms; scopes = without_assertions s.scopes; options = o; standing = None })
+resetting s o = (Done, record { symbols = emptied s.symbols; terms = s.terms; scopes = without_assertions s.scopes; options = o; standing = None; assumed = None })
 
 -- ---- the check that stands (section 4.2.6)
 
@@ -181,41 +220,101 @@ modelling_by s _ = refuse s NoModel
 abbrev pub modelling : StateValue → Step
 modelling s = if s.options.produce_models then modelling_by s s.standing else refuse s OptionOff
 
+-- why a term has no value that can be told: a check could not decide it
+abbrev pub value_objection : List Node → ℕ → Option ErrorText
+value_objection nodes t = if is_plain nodes t then None else Some NotSupported
+
+abbrev pub valuing_by : StateValue → List Asked → TermsValue → Option Verdict → Step
+valuing_by s asked terms (Some verdict.Sat) = (Values asked, record { symbols = s.symbols; terms = terms; scopes = s.scopes; options = s.options; standing = s.standing; assumed = s.assumed })
+valuing_by s asked terms _ = refuse s NoModel
+
+-- the values of these terms are to be printed: faults of the terms come first, then that of the option
+abbrev pub valuing_asked : StateValue → Asking → Step
+valuing_asked s (Ok r) = if s.options.produce_models then valuing_by s r.0 r.1 s.standing else refuse s OptionOff
+valuing_asked s (Err e) = refuse s e
+
+abbrev pub valuing : StateValue → List Lexeme → Sexps → Step
+valuing s tokens es = valuing_asked s (asking value_objection s.symbols s.terms tokens [] es)
+
+abbrev pub valuing_listed : StateValue → List Lexeme → Sexp → Step
+valuing_listed s tokens (group es) = valuing s tokens es
+valuing_listed s tokens (atom k x) = refuse s NotSupported
+
+abbrev pub refuting_by : StateValue → Option Verdict → Step
+refuting_by s (Some verdict.Unsat) = (Core, s)
+refuting_by s _ = refuse s NoRefutation
+
+-- the names of a core are to be printed
+abbrev pub refuting : StateValue → Step
+refuting s = if s.options.produce_unsat_cores then refuting_by s s.standing else refuse s OptionOff
+
+abbrev pub refuting_assumed_by : StateValue → Option Verdict → Option (List Asked) → Step
+refuting_assumed_by s (Some verdict.Unsat) (Some asked) = (Assumptions, s)
+refuting_assumed_by s _ _ = refuse s NoRefutation
+
+-- assumptions that cannot hold are to be printed; the check has to have been asked with assumptions
+abbrev pub refuting_assumed : StateValue → Step
+refuting_assumed s = if s.options.produce_unsat_assumptions then refuting_assumed_by s s.standing s.assumed else refuse s OptionOff
+
 -- ---- commands
 
--- what a command of this name with these arguments does
-unfoldable pub obey : StateValue → CommandName → Sexps → Step
-obey s name.SetLogic (more logic none) = choosing s logic
-obey s name.SetInfo (more keyword es) = (Done, s)
-obey s name.SetOption (more keyword es) = setting_option s keyword es
-obey s name.GetOption (more keyword none) = telling_option s keyword
-obey s name.GetInfo (more keyword none) = telling_info s keyword
-obey s name.Echo (more text none) = echoing s text
-obey s name.DeclareConst es = declaring s (declare s.symbols name.DeclareConst es)
-obey s name.DeclareFun es = declaring s (declare s.symbols name.DeclareFun es)
-obey s name.DefineSort es = naming_sort s (define_sort s.symbols name.DefineSort es)
-obey s name.DefineFun es = defining s (define s.symbols s.terms name.DefineFun es)
-obey s name.Assert (more e none) = asserting s (term_of s.symbols s.terms e)
-obey s name.Push es = pushing s (levels_meant es)
-obey s name.Pop es = popping s (levels_meant es)
-obey s name.Reset es = resetting s first_options
-obey s name.ResetAssertions es = resetting s s.options
-obey s name.CheckSat none = checking s
-obey s name.GetModel es = modelling s
-obey s name.GetAssertions es = saying s unsupported
-obey s name.GetAssignment es = saying s unsupported
-obey s name.GetProof es = saying s unsupported
-obey s name.Exit es = (Exit, s)
-obey s _ es = refuse s NotSupported
+-- what a command of this name with these arguments does, which these tokens spell
+unfoldable pub obey : StateValue → List Lexeme → CommandName → Sexps → Step
+obey s tokens name.SetLogic (more logic none) = choosing s logic
+obey s tokens name.SetInfo (more keyword es) = (Done, s)
+obey s tokens name.SetOption (more keyword es) = setting_option s keyword es
+obey s tokens name.GetOption (more keyword none) = telling_option s keyword
+obey s tokens name.GetInfo (more keyword none) = telling_info s keyword
+obey s tokens name.Echo (more text none) = echoing s text
+obey s tokens name.DeclareConst es = declaring s (declare s.symbols name.DeclareConst es)
+obey s tokens name.DeclareFun es = declaring s (declare s.symbols name.DeclareFun es)
+obey s tokens name.DefineSort es = naming_sort s (define_sort s.symbols name.DefineSort es)
+obey s tokens name.DefineFun es = defining s (define s.symbols s.terms name.DefineFun es)
+obey s tokens name.Assert (more e none) = asserting s (name_of_assertion e) (assertion s.symbols s.terms e)
+obey s tokens name.Push es = pushing s (levels_meant es)
+obey s tokens name.Pop es = popping s (levels_meant es)
+obey s tokens name.Reset es = resetting s first_options
+obey s tokens name.ResetAssertions es = resetting s s.options
+obey s tokens name.CheckSat none = checking s
+obey s tokens name.CheckSatAssuming (more e none) = assuming_listed s (listed tokens) e
+obey s tokens name.GetModel es = modelling s
+obey s tokens name.GetValue (more e none) = valuing_listed s (listed tokens) e
+obey s tokens name.GetUnsatCore es = refuting s
+obey s tokens name.GetUnsatAssumptions es = refuting_assumed s
+obey s tokens name.GetAssertions es = saying s unsupported
+obey s tokens name.GetAssignment es = saying s unsupported
+obey s tokens name.GetProof es = saying s unsupported
+obey s tokens name.Exit es = (Exit, s)
+obey s tokens _ es = refuse s NotSupported
 
-abbrev pub obey_read : StateValue → Result (CommandName × Sexps) SyntaxFault → Step
-obey_read s (Ok c) = obey s c.0 c.1
-obey_read s (Err f) = refuse s (syntax_error f)
+abbrev pub obey_read : StateValue → List Lexeme → Result (CommandName × Sexps) SyntaxFault → Step
+obey_read s tokens (Ok c) = obey s tokens c.0 c.1
+obey_read s tokens (Err f) = refuse s (syntax_error f)
 
 -- what a chunk does that reads so
 abbrev pub step : StateValue → Reading → Step
-step s (Ok es) = obey_read s (read (group es))
+step s (Ok c) = obey_read s c.tokens (read (group c.list))
 step s (Err e) = refuse s e
+
+-- ---- after an answer
+
+-- the state once a command is answered: the terms of `get-value` are forgotten
+abbrev pub settled : StateValue → Answer → StateValue → StateValue
+settled old (Values asked) new = old
+settled old _ new = new
+
+-- the terms from a number on are forgotten
+abbrev pub forgotten : StateValue → ℕ → StateValue
+forgotten s n = record { symbols = s.symbols; terms = cut_at s.terms n; scopes = s.scopes; options = s.options; standing = s.standing; assumed = s.assumed }
+
+-- Where the terms are forgotten that the values are asked of, the state is as before. The check that stands found a model,
+-- and the terms are plain, over the live declarations.
+pub record IsAskedValues (old new : StateValue) (asked : List Asked) : Type 0 where
+  pub back : forgotten new (length old.terms.nodes) ≡ old
+  pub limit : new.terms.limit ≡ old.terms.limit
+  pub standing : old.standing ≡ Some verdict.Sat
+  pub option : old.options.produce_models ≡ true
+  pub each : All (IsAsked new.terms.nodes old.symbols.live) asked
 
 -- ---- the end of a run
 
@@ -229,7 +328,7 @@ ends_read (Err f) = false
 
 -- `exit` ends the run: what stands behind it is not read
 abbrev pub ends : Reading → Bool
-ends (Ok es) = ends_read (read (group es))
+ends (Ok c) = ends_read (read (group c.list))
 ends (Err e) = false
 
 -- ---- what the code answers

@@ -1,23 +1,40 @@
 //! Declarations, definitions, assertions and checks (SMT-LIB 2.6, sections 4.2.3 to 4.2.5).
 
-ghost use Rattle.std.specs.Prelude.{◌≡◌, ◌+◌, ◌<◌, ◌^◌, Ok};
+ghost use Rattle.std.specs.Prelude.{◌≡◌, ◌+◌, ◌<◌, ◌^◌, IfOk, Ok};
 ghost use Rattle.smt_syntax.specs.Sexps.{Sexp, Sexps, signs_of};
 ghost use Rattle.smt_syntax.specs.Spans.{Stands, AllStand};
 ghost use Rattle.smt_syntax.specs.Commands.{name_of, spans_of};
 ghost use Rattle.smt_build.specs.Declaring.{declare};
 ghost use Rattle.smt_build.specs.Defining.{define, define_sort};
-ghost use Rattle.smt_build.specs.Terms.{term_of};
-ghost use Rattle.script_state.specs.Steps.{declaring, naming_sort, defining, asserting, checking, Answers};
+ghost use Rattle.smt_build.specs.Asserting.{assertion};
+ghost use Rattle.smt_build.specs.Naming.{name_of_assertion};
+ghost use Rattle.script_state.specs.Written.{listed};
+ghost use Rattle.script_state.specs.Steps.{declaring, naming_sort, defining, asserting, checking, assuming_listed, Answers};
 
 use crate::answer::Answer;
-use crate::error_text::build_error;
+use crate::asked::{AskError, Purpose, ask};
+use crate::error_text::{ErrorText, build_error};
 use crate::plain::{cut, objection};
 use crate::state::State;
+use crate::word::word_at;
 use smt_build::fault::BuildError;
+use smt_build::naming::name_of_assertion;
 use smt_syntax::command::Command;
 use smt_syntax::span::Span;
+use smt_text::text::Text;
 use smt_text::token::Tokens;
 use std::alloc::{AllocError, Global};
+
+/// The name of the assertion of the term at the span.
+fn name_at(alloc: Global, tokens: &Tokens<'_>, span: Span) -> Result<Option<Text>, AllocError>
+    ensures { IfOk result (λ name. (e : Sexp) → Stands (signs_of tokens.now) span e → name ≡ name_of_assertion e) }
+{
+    match name_of_assertion(alloc, tokens, span) {
+        Ok(Some(name)) => Ok(Some(Text::from_slice(alloc, name)?)),
+        Ok(None) => Ok(None),
+        Err(error) => Err(error),
+    }
+}
 
 impl State {
     /// Makes the declaration of a command.
@@ -34,6 +51,7 @@ impl State {
         match self.symbols.declare(alloc, tokens, command) {
             Ok(_) => {
                 self.standing = None;
+                self.assumed = None;
                 Ok(Answer::Done)
             }
             Err(BuildError::NoMemory) => Err(AllocError),
@@ -55,6 +73,7 @@ impl State {
         match self.symbols.define_sort(alloc, tokens, command) {
             Ok(()) => {
                 self.standing = None;
+                self.assumed = None;
                 Ok(Answer::Done)
             }
             Err(BuildError::NoMemory) => Err(AllocError),
@@ -76,6 +95,7 @@ impl State {
         match self.symbols.define(alloc, &mut self.terms, tokens, command) {
             Ok(()) => {
                 self.standing = None;
+                self.assumed = None;
                 Ok(Answer::Done)
             }
             Err(BuildError::NoMemory) => Err(AllocError),
@@ -83,7 +103,7 @@ impl State {
         }
     }
 
-    /// Asserts the term at the span.
+    /// Asserts the term at the span, under its name if it has one.
     pub(crate) fn assert(
         &mut self,
         alloc: Global,
@@ -93,10 +113,15 @@ impl State {
         requires stands { (e : Sexp) × Stands (signs_of tokens.now) span e }
         requires assertions { self.old.scopes.made + 1 < 2 ^ 32 }
         ensures { (e : Sexp) → Stands (signs_of tokens.now) span e
-            → Answers (asserting self.old (term_of self.old.symbols self.old.terms e)) result self.old self.new }
+            → Answers (asserting self.old (name_of_assertion e) (assertion self.old.symbols self.old.terms e)) result self.old self.new }
     {
         let len = self.terms.len();
-        let term = match self.symbols.elaborate(alloc, &mut self.terms, tokens, span) {
+        let count = self.symbols.definition_count();
+        let name = name_at(alloc, tokens, span)?;
+        let term = match self
+            .symbols
+            .assert_term(alloc, &mut self.terms, tokens, span)
+        {
             Ok(term) => term,
             Err(BuildError::NoMemory) => return Err(AllocError),
             Err(BuildError::Fault(fault)) => return Ok(Answer::Refused(build_error(fault))),
@@ -104,20 +129,24 @@ impl State {
         match objection(&self.terms, &mut self.plain, term) {
             Ok(None) => {}
             Ok(Some(error)) => {
+                self.symbols.cut_definitions(count);
                 cut(&mut self.terms, &mut self.plain, len);
                 return Ok(Answer::Refused(error));
             }
             Err(error) => {
+                self.symbols.cut_definitions(count);
                 cut(&mut self.terms, &mut self.plain, len);
                 return Err(error);
             }
         }
-        match self.scopes.assert(term, None) {
+        match self.scopes.assert(term, name) {
             Ok(_) => {
                 self.standing = None;
+                self.assumed = None;
                 Ok(Answer::Done)
             }
             Err(error) => {
+                self.symbols.cut_definitions(count);
                 cut(&mut self.terms, &mut self.plain, len);
                 Err(error)
             }
@@ -129,6 +158,46 @@ impl State {
         ensures { Answers (checking self.old) (Ok result) self.old self.new }
     {
         self.standing = None;
+        self.assumed = None;
         Answer::Check
+    }
+
+    /// The live assertions are to be checked with the assumptions in the list at the span, and no check stands.
+    pub(crate) fn check_assuming(
+        &mut self,
+        alloc: Global,
+        tokens: &Tokens<'_>,
+        list: Span,
+    ) -> Result<Answer, AllocError>
+        requires { (e : Sexp) × Stands (signs_of tokens.now) list e }
+        ensures { (e : Sexp) → Stands (signs_of tokens.now) list e → Answers (assuming_listed self.old (listed tokens.now) e) result self.old self.new }
+    {
+        if word_at(tokens, list).is_some() {
+            return Ok(Answer::Refused(ErrorText::NotSupported));
+        }
+        let len = self.terms.len();
+        match ask(
+            alloc,
+            &self.symbols,
+            &mut self.terms,
+            &mut self.plain,
+            tokens,
+            list,
+            Purpose::Assume,
+        ) {
+            Ok(asked) => {
+                self.standing = None;
+                self.assumed = Some(asked);
+                Ok(Answer::Check)
+            }
+            Err(AskError::NoMemory) => {
+                cut(&mut self.terms, &mut self.plain, len);
+                Err(AllocError)
+            }
+            Err(AskError::Refused(error)) => {
+                cut(&mut self.terms, &mut self.plain, len);
+                Ok(Answer::Refused(error))
+            }
+        }
     }
 }

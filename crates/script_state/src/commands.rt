@@ -1,19 +1,24 @@
 //! Whole commands.
 
 ghost use Rattle.std.specs.Prelude.{◌≡◌, ◌+◌, ◌<◌, ◌^◌, Ok, false};
-ghost use Rattle.smt_syntax.specs.Sexps.{Sexps, signs_of};
-ghost use Rattle.smt_syntax.specs.Spans.{AllStand};
+ghost use Rattle.smt_syntax.specs.Sexps.{Sexp, Sexps, signs_of};
+ghost use Rattle.smt_syntax.specs.Spans.{Stands, AllStand};
 ghost use Rattle.smt_syntax.specs.Commands.{name_of, spans_of, is_left_out, is_not_supported};
-ghost use Rattle.script_state.specs.Steps.{modelling, obey, Answers, Applies};
+ghost use Rattle.script_state.specs.Written.{listed};
+ghost use Rattle.script_state.specs.Steps.{modelling, valuing_listed, refuting, refuting_assumed, obey, Answers, Applies};
 
 use crate::answer::{Answer, Verdict};
+use crate::asked::{AskError, Purpose, ask};
 use crate::error_text::{ErrorText, syntax_error};
 use crate::logic::set_logic;
 use crate::options::Options;
+use crate::plain::cut;
 use crate::saying::{echo, say_unsupported};
 use crate::state::State;
 use crate::whole::is_list;
+use crate::word::word_at;
 use smt_syntax::command::{Command, SyntaxError, read_command};
+use smt_syntax::span::Span;
 use smt_text::chunk::{Chunk, ChunkKind};
 use smt_text::token::Tokens;
 use smt_text::tokens::{TokensError, tokens};
@@ -33,6 +38,80 @@ impl State {
         }
     }
 
+    /// The values of the terms in the list at the span are to be printed: their faults come first, then the option's.
+    fn get_value(
+        &mut self,
+        alloc: Global,
+        tokens: &Tokens<'_>,
+        list: Span,
+    ) -> Result<Answer, AllocError>
+        requires { (e : Sexp) × Stands (signs_of tokens.now) list e }
+        ensures { (e : Sexp) → Stands (signs_of tokens.now) list e → Answers (valuing_listed self.old (listed tokens.now) e) result self.old self.new }
+    {
+        if word_at(tokens, list).is_some() {
+            return Ok(Answer::Refused(ErrorText::NotSupported));
+        }
+        let len = self.terms.len();
+        let options = self.options;
+        match ask(
+            alloc,
+            &self.symbols,
+            &mut self.terms,
+            &mut self.plain,
+            tokens,
+            list,
+            Purpose::Evaluate,
+        ) {
+            Ok(asked) => {
+                if !options.produce_models {
+                    cut(&mut self.terms, &mut self.plain, len);
+                    return Ok(Answer::Refused(ErrorText::OptionOff));
+                }
+                match self.standing {
+                    Some(Verdict::Sat) => Ok(Answer::Values(asked)),
+                    _ => {
+                        cut(&mut self.terms, &mut self.plain, len);
+                        Ok(Answer::Refused(ErrorText::NoModel))
+                    }
+                }
+            }
+            Err(AskError::NoMemory) => {
+                cut(&mut self.terms, &mut self.plain, len);
+                Err(AllocError)
+            }
+            Err(AskError::Refused(error)) => {
+                cut(&mut self.terms, &mut self.plain, len);
+                Ok(Answer::Refused(error))
+            }
+        }
+    }
+
+    /// The names of a core are to be printed, in the same way.
+    fn get_unsat_core(&self) -> Answer
+        ensures { Answers (refuting self.now) (Ok result) self.now self.now }
+    {
+        if !self.options.produce_unsat_cores {
+            return Answer::Refused(ErrorText::OptionOff);
+        }
+        match self.standing {
+            Some(Verdict::Unsat) => Answer::Core,
+            _ => Answer::Refused(ErrorText::NoRefutation),
+        }
+    }
+
+    /// Assumptions that cannot hold are to be printed, in the same way; the check has to have been asked with assumptions.
+    fn get_unsat_assumptions(&self) -> Answer
+        ensures { Answers (refuting_assumed self.now) (Ok result) self.now self.now }
+    {
+        if !self.options.produce_unsat_assumptions {
+            return Answer::Refused(ErrorText::OptionOff);
+        }
+        match (self.standing, &self.assumed) {
+            (Some(Verdict::Unsat), Some(_)) => Answer::Assumptions,
+            _ => Answer::Refused(ErrorText::NoRefutation),
+        }
+    }
+
     /// Does what the command says.
     fn obey(
         &mut self,
@@ -44,7 +123,7 @@ impl State {
         requires known { is_not_supported command.now ≡ is_left_out (name_of command.now) }
         requires assertions { self.old.scopes.made + 1 < 2 ^ 32 }
         ensures { (es : Sexps) → (is_left_out (name_of command.now) ≡ false → AllStand (signs_of tokens.now) (spans_of command.now) es)
-            → Answers (obey self.old (name_of command.now) es) result self.old self.new }
+            → Answers (obey self.old tokens.now (name_of command.now) es) result self.old self.new }
     {
         match command {
             Command::DeclareConst { .. } => self.declare(alloc, tokens, command),
@@ -66,15 +145,15 @@ impl State {
             Command::Reset => Ok(self.reset(Options::first())),
             Command::ResetAssertions => Ok(self.reset_assertions()),
             Command::GetModel => Ok(self.get_model()),
+            Command::GetUnsatCore => Ok(self.get_unsat_core()),
+            Command::GetUnsatAssumptions => Ok(self.get_unsat_assumptions()),
             Command::GetAssertions | Command::GetAssignment | Command::GetProof => {
                 say_unsupported(alloc)
             }
             Command::Exit => Ok(Answer::Exit),
-            Command::CheckSatAssuming { .. }
-            | Command::GetUnsatAssumptions
-            | Command::GetUnsatCore
-            | Command::GetValue { .. }
-            | Command::NotSupported { .. } => Ok(Answer::Refused(ErrorText::NotSupported)),
+            Command::CheckSatAssuming { terms } => self.check_assuming(alloc, tokens, *terms),
+            Command::GetValue { terms } => self.get_value(alloc, tokens, *terms),
+            Command::NotSupported { .. } => Ok(Answer::Refused(ErrorText::NotSupported)),
         }
     }
 

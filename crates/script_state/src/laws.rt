@@ -1,15 +1,16 @@
 //! What follows from the definitions of readings and steps alone.
 
-ghost use Rattle.std.specs.Prelude.{◌≡◌, ◌↔◌, ◌+◌, ◌≤◌, true, Some};
+ghost use Rattle.std.specs.Prelude.{◌≡◌, ◌↔◌, ◌+◌, ◌≤◌, true, List, Some};
 ghost use Rattle.smt_terms.specs.Terms.{TermsValue, IsTermList};
 ghost use Rattle.smt_text.specs.declared.chunk.Chunk.{Chunk};
 ghost use Rattle.smt_build.specs.Building.{Grows};
 ghost use Rattle.script_state.specs.Readings.{Reading, ReadsAs};
-ghost use Rattle.script_state.specs.declared.answer.Answer.TheVariants.{Refused, Model, Exit};
-ghost use Rattle.script_state.specs.declared.answer.Verdict.TheVariants.{Sat};
+ghost use Rattle.script_state.specs.declared.answer.Answer.TheVariants.{Refused, Model, Values, Core, Assumptions, Exit};
+ghost use Rattle.script_state.specs.declared.answer.Asked.{Asked};
+ghost use Rattle.script_state.specs.declared.answer.Verdict.TheVariants.{Sat, Unsat};
 ghost use Rattle.script_state.specs.declared.error_text.ErrorText.{ErrorText};
 ghost use Rattle.script_state.specs.States.{StateValue, RestValue, IsState, Fit};
-ghost use Rattle.script_state.specs.Steps.{step, ends};
+ghost use Rattle.script_state.specs.Steps.{IsAskedValues, step, ends};
 
 /// A chunk reads in one way: as one list of S-expressions, or as one error.
 pub fn chunks_read_one_way()
@@ -44,4 +45,21 @@ pub fn runs_end_by_exit()
 /// A model is to be printed only where a check that found one stands, and the option is on.
 pub fn a_model_stands_after_sat()
     ensures { (s : StateValue) (r : Reading) → (step s r).0 ≡ Model → (s.standing ≡ Some Sat) × (s.options.produce_models ≡ true) }
+{}
+
+/// Values are to be printed only where a check that found a model stands, and the option is on; where the terms are
+/// forgotten that they are asked of, the state is as before. These are plain, and name live declarations alone.
+pub fn values_forget_to_the_old_state()
+    ensures { (s : StateValue) (r : Reading) (asked : List Asked) → IsState s → (step s r).0 ≡ Values asked → IsAskedValues s (step s r).1 asked }
+{}
+
+/// A core is to be printed only where a check that found a refutation stands, and the option is on; nothing else is done.
+pub fn a_core_stands_after_unsat()
+    ensures { (s : StateValue) (r : Reading) → (step s r).0 ≡ Core → (s.standing ≡ Some Unsat) × (s.options.produce_unsat_cores ≡ true) × ((step s r).1 ≡ s) }
+{}
+
+/// Assumptions are to be printed only where a check with assumptions that found a refutation stands, and the option is on;
+/// nothing else is done.
+pub fn assumptions_stand_after_unsat()
+    ensures { (s : StateValue) (r : Reading) → (step s r).0 ≡ Assumptions → (s.standing ≡ Some Unsat) × ((asked : List Asked) × (s.assumed ≡ Some asked)) × (s.options.produce_unsat_assumptions ≡ true) × ((step s r).1 ≡ s) }
 {}

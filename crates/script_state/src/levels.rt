@@ -41,6 +41,7 @@ impl State {
         match self.symbols.push(count) {
             Ok(()) => {
                 self.standing = None;
+                self.assumed = None;
                 Ok(Answer::Done)
             }
             Err(error) => {
@@ -61,6 +62,7 @@ impl State {
         }
         self.symbols.pop(count);
         self.standing = None;
+        self.assumed = None;
         Answer::Done
     }
 
@@ -90,6 +92,7 @@ impl State {
         self.scopes.reset();
         self.options = options;
         self.standing = None;
+        self.assumed = None;
         Answer::Done
     }
 

@@ -4,16 +4,20 @@
 //! [`state::State::apply`] takes a chunk of the script. Its answer and the new state are those of the step that the
 //! definitions in `specs/` give for what the chunk reads as; a refused command is told its first fault, in the order of
 //! chunk, tokens, depth, form, and names, sorts and terms, and leaves the state as it was. A solver and a checker of proofs
-//! drive the same state, so that a command is refused in both or in none. Every command is obeyed but those that need names
-//! of assertions, assumptions, cores or values of terms, and those of other logics, which are not supported: declarations and
-//! definitions of Bools and words, assertions and checks of plain terms, to which a check can give bits, levels
-//! ([`state::State`] keeps, for each, what stands once it ends), options and information, `echo`, `get-model` and `exit`. A
-//! line that a command says is part of its answer; a model and `exit` are answers of their own, which the session prints and
-//! ends by. [`state::State::into_parts`] lends the terms to a log whose steps make terms. The crate stands on `smt_build` and
+//! drive the same state, so that a command is refused in both or in none. Every command is obeyed but those of other logics,
+//! which are not supported: declarations and definitions of Bools and words, assertions with their names, checks of plain
+//! terms, to which a check can give bits, with assumptions and without, levels ([`state::State`] keeps, for each, what stands
+//! once it ends), options and information, `echo`, `get-model`, `get-value`, cores, unsat assumptions and `exit`. A line that
+//! a command says is part of its answer; a model, values, names and assumptions that are to be printed, and `exit`, are
+//! answers of their own, which the session prints and ends by. [`state::State::forget`] forgets the terms whose values were
+//! printed. [`state::State::into_parts`] lends the terms to a log whose steps make terms. The crate stands on `smt_build` and
 //! `scope_selectors`, and on the crates that these stand on.
 #![tactic(auto)]
 
 pub mod answer;
+mod asked;
+#[cfg(test)]
+mod asked_tests;
 mod assertions;
 mod commands;
 pub mod error_text;
@@ -31,3 +35,4 @@ pub mod state;
 mod tests;
 mod whole;
 mod word;
+mod written;

@@ -4,7 +4,7 @@ ghost use Rattle.std.specs.Prelude.{◌≡◌, ◌<◌, ◌≤◌, ◌&&◌, fal
 ghost use Rattle.std.specs.List.{list_all, AllByRecursion};
 ghost use Rattle.smt_terms.specs.Terms.{AreTerms, cut_at};
 ghost use Rattle.script_state.specs.Plain.{is_plain_sort, is_plain_operator, is_plain_op, is_plain, HavePlain};
-ghost use Rattle.script_state.specs.Steps.{objection};
+ghost use Rattle.script_state.specs.Steps.{objection, value_objection};
 
 use crate::error_text::ErrorText;
 use smt_terms::node::{Node, Op, TermId};
@@ -93,6 +93,24 @@ fn extend(marks: &mut Vec<bool>, terms: &Terms) -> Result<(), AllocError>
     Ok(())
 }
 
+/// Why a term's value cannot be told, `None` exactly where it can.
+pub(crate) fn value_objection(
+    terms: &Terms,
+    marks: &mut Vec<bool>,
+    term: TermId,
+) -> Result<Option<ErrorText>, AllocError>
+    requires held { term < length terms.now.nodes }
+    requires marks { HavePlain terms.now.nodes marks.old.items }
+    ensures objection { IfOk result (λ o. o ≡ value_objection terms.now.nodes term) }
+    ensures marks { HavePlain terms.now.nodes marks.new.items }
+{
+    extend(marks, terms)?;
+    if is_marked(marks, term) {
+        return Ok(None);
+    }
+    Ok(Some(ErrorText::NotSupported))
+}
+
 /// Why a term cannot be asserted, `None` exactly where it can.
 pub(crate) fn objection(
     terms: &Terms,
@@ -107,11 +125,7 @@ pub(crate) fn objection(
     if terms.sort(term) != Sort::Bool {
         return Ok(Some(ErrorText::WrongArguments));
     }
-    extend(marks, terms)?;
-    if is_marked(marks, term) {
-        return Ok(None);
-    }
-    Ok(Some(ErrorText::NotSupported))
+    value_objection(terms, marks, term)
 }
 
 /// Forgets the terms from this number on.

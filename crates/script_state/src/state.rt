@@ -2,12 +2,13 @@
 
 ghost use Rattle.std.specs.Prelude.{◌≡◌, ◌+◌, ◌<◌, ◌^◌, slice_get};
 ghost use Rattle.std.specs.Option.{option_copied};
-ghost use Rattle.script_state.specs.States.{no_state, concluded, with_terms, IsState, Fit};
-ghost use Rattle.script_state.specs.Steps.{Applies};
+ghost use Rattle.script_state.specs.States.{assumptions, no_state, concluded, with_terms, IsState, Fit};
+ghost use Rattle.script_state.specs.Steps.{forgotten, Applies};
 
-use crate::answer::{Answer, Verdict};
+use crate::answer::{Answer, Asked, AskedTerms, Verdict};
 use crate::error_text::ErrorText;
 use crate::options::Options;
+use crate::plain::cut;
 use scope_selectors::live::Live;
 use scope_selectors::scopes::Scopes;
 use smt_build::symbols::{LiveName, Symbols};
@@ -25,6 +26,8 @@ pub struct State {
     pub(crate) scopes: Scopes,
     pub(crate) options: Options,
     pub(crate) standing: Option<Verdict>,
+    /// What the check that stands assumes, or the one that is begun.
+    pub(crate) assumed: Option<AskedTerms>,
     /// For each of the first terms whether it is plain.
     pub(crate) plain: Vec<bool>,
 }
@@ -35,9 +38,9 @@ impl Model for State {
 
     ghost Value = { StateValue };
 
-    ghost view = { λ s. record { symbols = s.symbols; terms = s.terms; scopes = s.scopes; options = s.options; standing = s.standing } };
+    ghost view = { λ s. record { symbols = s.symbols; terms = s.terms; scopes = s.scopes; options = s.options; standing = s.standing; assumed = s.assumed } };
 
-    ghost invariant = { λ s. IsState (record { symbols = s.symbols; terms = s.terms; scopes = s.scopes; options = s.options; standing = s.standing }) × HavePlain s.terms.nodes s.plain.items };
+    ghost invariant = { λ s. IsState (record { symbols = s.symbols; terms = s.terms; scopes = s.scopes; options = s.options; standing = s.standing; assumed = s.assumed }) × HavePlain s.terms.nodes s.plain.items };
 }
 
 /// What a state has beside its terms.
@@ -47,6 +50,7 @@ pub struct Rest {
     scopes: Scopes,
     options: Options,
     standing: Option<Verdict>,
+    assumed: Option<AskedTerms>,
     plain: Vec<bool>,
 }
 
@@ -55,7 +59,7 @@ impl Model for Rest {
 
     ghost Value = { RestValue };
 
-    ghost view = { λ r. record { symbols = r.symbols; scopes = r.scopes; options = r.options; standing = r.standing; marks = r.plain.items } };
+    ghost view = { λ r. record { symbols = r.symbols; scopes = r.scopes; options = r.options; standing = r.standing; assumed = r.assumed; marks = r.plain.items } };
 }
 
 impl State {
@@ -69,6 +73,7 @@ impl State {
             scopes: Scopes::new(alloc),
             options: Options::first(),
             standing: None,
+            assumed: None,
             plain: Vec::new(alloc),
         }
     }
@@ -92,6 +97,16 @@ impl State {
         self.standing = Some(verdict);
     }
 
+    /// Forgets the terms from this number on, as is done once the values are printed that a command asks for.
+    pub fn forget(&mut self, len: u32)
+        requires { IsState (forgotten self.old len) }
+        ensures { self.new ≡ forgotten self.old len }
+    {
+        if len < self.terms.len() {
+            cut(&mut self.terms, &mut self.plain, len);
+        }
+    }
+
     /// The terms, and the rest of the state. More terms may be made before they are put together again.
     pub fn into_parts(self) -> (Terms, Rest)
         ensures state { self ≡ with_terms result.1 result.0 }
@@ -103,6 +118,7 @@ impl State {
             scopes,
             options,
             standing,
+            assumed,
             plain,
         } = self;
         let rest = Rest {
@@ -110,6 +126,7 @@ impl State {
             scopes,
             options,
             standing,
+            assumed,
             plain,
         };
         (terms, rest)
@@ -125,6 +142,7 @@ impl State {
             scopes,
             options,
             standing,
+            assumed,
             plain,
         } = rest;
         State {
@@ -133,6 +151,7 @@ impl State {
             scopes,
             options,
             standing,
+            assumed,
             plain,
         }
     }
@@ -142,6 +161,17 @@ impl State {
         ensures { result ≡ self.now.standing }
     {
         self.standing
+    }
+
+    /// What the check that stands assumes, or the one that is begun; nothing where it was asked without assumptions.
+    pub fn assumptions(&self) -> &[Asked]
+        ensures assumptions { result.now ≡ assumptions self.now }
+        ensures state { IsState self.now }
+    {
+        match &self.assumed {
+            Some(asked) => asked.as_slice(),
+            None => &[],
+        }
     }
 
     /// The options.

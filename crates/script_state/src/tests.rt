@@ -15,6 +15,8 @@ pub(crate) enum Told {
     Done,
     Check,
     Model,
+    Core,
+    Assumptions,
     Exit,
     Refused(ErrorText),
 }
@@ -25,6 +27,8 @@ fn is_told(answer: &Answer, told: Told) -> bool {
         (Answer::Done, Told::Done) => true,
         (Answer::Check, Told::Check) => true,
         (Answer::Model, Told::Model) => true,
+        (Answer::Core, Told::Core) => true,
+        (Answer::Assumptions, Told::Assumptions) => true,
         (Answer::Exit, Told::Exit) => true,
         (Answer::Refused(error), Told::Refused(other)) => *error == other,
         _ => false,
@@ -39,7 +43,8 @@ fn is_said(answer: &Answer, line: &[u8]) -> bool {
     }
 }
 
-fn apply_as(
+/// The answer to what the chunk of this kind says.
+pub(crate) fn apply_as(
     rt: &(impl Abort + AllocGlobal),
     state: &mut State,
     kind: ChunkKind,

@@ -225,14 +225,14 @@ impl Symbols {
     }
 
     /// How many definitions of functions are live.
-    pub(crate) fn definition_count(&self) -> usize
+    pub fn definition_count(&self) -> usize
         ensures { result ≡ length self.now.definitions }
     {
         self.definitions.len()
     }
 
     /// Forgets the definitions behind so many. Takes no memory.
-    pub(crate) fn cut_definitions(&mut self, len: usize)
+    pub fn cut_definitions(&mut self, len: usize)
         ensures { self.new ≡ with_definitions self.old len }
     {
         self.definitions.truncate(len);

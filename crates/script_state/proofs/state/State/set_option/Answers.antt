@@ -5,7 +5,7 @@ use Rattle.script_state.proofs.Asserting.{opted_state}
 use Rattle.script_state.proofs.state.State.set_option.Goals as goal
 
 pub invariant_of-self : goal.invariant_of-self
-invariant_of-self c = (opted_state _ _ _ c.self.invariant.0, c.self.invariant.1)
+invariant_of-self c = (opted_state _ _ _ _ c.self.invariant.0 c.self.invariant.0.assumed, c.self.invariant.1)
 
 pub returns-in-None : goal.returns-in-None
 returns-in-None c = λ e es a b.
