@@ -1,11 +1,11 @@
 -- Counts, signs and writes.
-use Rattle.std.proofs.Common.{ℕ, ◌≡◌, ◌≢◌, ◌+◌, ◌-◌, ◌/◌, ◌%◌, ◌<◌, ◌≤◌, ◌⊎◌, ◌++◌, zero, suc, List, [], ◌∷◌, length, take, cond, Bool, eqb, true, false, refl, sym, ◌∙◌, subst, inl, inr, arith}
+use Rattle.std.proofs.Common.{ℕ, ◌≡◌, ◌≢◌, ◌+◌, ◌-◌, ◌/◌, ◌%◌, ◌<◌, ◌≤◌, ◌⊎◌, ◌++◌, zero, suc, List, [], ◌∷◌, length, take, cond, Bool, eqb, true, false, refl, subst, inl, inr, arith}
 use Rattle.std.proofs.Math.ListN.{get_or, set}
 use Rattle.std.proofs.lemmas.List.{get_or-set_other, get_or-set_same, take_more, get_or_past}
 use Rattle.std.proofs.lemmas.Bool.{cases_lt}
 use Rattle.std.proofs.lemmas.Bool.Decides.{eqb_tells}
 use Rattle.cdcl_core.specs.Chains.{times, first_of, rest_of}
-use Rattle.cdcl_core.specs.Stamps.{neg}
+use Rattle.cdcl_core.specs.Stamps.{neg, IsFalseBut}
 
 pub cond_true : (b : Bool) (m n : ℕ) → b ≡ true → cond b m n ≡ m
 cond_true b m n e = rw e refl
@@ -79,17 +79,12 @@ set_cases xs i v j h = elim (eqb_tells j i) [
   | inr p ↦ inr (p.1, get_or-set_other xs i j v 0 p.1)
 ]
 
--- what holds of each literal of the front of a clause
-pub scan_none : (xs ss : List ℕ) (o : ℕ) → (m : ℕ) → 0 < times m (take 0 xs) → m ≢ o → 0 < get_or ss (neg m) 0
-scan_none xs ss o m h ne = absurd (omega (arith, times_nil m))
-
-pub scan_more : (xs ss : List ℕ) (o i x : ℕ) → i < length xs → get_or xs i 0 ≡ x → ((m : ℕ) → 0 < times m (take i xs) → m ≢ o → 0 < get_or ss (neg m) 0) → (x ≢ o → 0 < get_or ss (neg x) 0) → (m : ℕ) → 0 < times m (take (i + 1) xs) → m ≢ o → 0 < get_or ss (neg m) 0
-scan_more xs ss o i x hi e below here m h ne =
-    let e2 : times m (take (i + 1) xs) ≡ times m (take i xs) + bit (eqb x m) = rw (take_more xs i 0 hi, e) (times_push m x (take i xs)) in
-    elim (same_or_not x m) [
-      | inl p ↦ let ne2 : x ≢ o = λ z. ne (sym p.0 ∙ z) in rw (sym p.0) (here ne2)
-      | inr p ↦ below m (omega (arith, e2, h, p.1)) ne
-    ]
+-- what holds of each literal of a part of a clause
+pub read_more : (xs ss : List ℕ) (o start i x : ℕ) → get_or xs i 0 ≡ x → ((m : ℕ) → start ≤ m → m < i → IsFalseBut ss o (get_or xs m 0)) → IsFalseBut ss o x → (m : ℕ) → start ≤ m → m < i + 1 → IsFalseBut ss o (get_or xs m 0)
+read_more xs ss o start i x e below here m lo hi = elim (eqb_tells m i) [
+  | inl p ↦ rw (p.1, e) here
+  | inr p ↦ below m lo (omega (arith, hi, p.1))
+]
 
 pub item_in : (xs : List ℕ) (i d : ℕ) → i < length xs → 0 < times (get_or xs i d) xs
 unfolding times

@@ -1,12 +1,12 @@
 -- What each call on linked places leaves of them.
-use Rattle.std.proofs.Common.{ℕ, take, zero, suc, ◌≡◌, ◌≢◌, ◌+◌, ◌-◌, ◌^◌, ◌<◌, ◌≤◌, List, [], ◌∷◌, ◌++◌, length, replicate, map, refl, sym, ◌∙◌, ap, subst, arith}
+use Rattle.std.proofs.Common.{ℕ, take, zero, suc, ◌≡◌, ◌≢◌, ◌+◌, ◌-◌, ◌/◌, ◌^◌, ◌<◌, ◌≤◌, List, [], ◌∷◌, ◌++◌, length, replicate, map, refl, sym, ◌∙◌, ap, subst, arith}
 use Rattle.std.proofs.Math.ListN.{get_or, set, length-set}
 use Rattle.std.proofs.Math.Seq.{map-set_same}
 use Rattle.std.specs.List.{sum_by}
-use Rattle.std.proofs.lemmas.List.{get_or-map, length-map, get_or_default, map-set, map-append, append-nil, take_all, length-append, length-replicate}
+use Rattle.std.proofs.lemmas.List.{get_or-set_other, get_or-set_same, get_or-map, length-map, get_or_default, map-set, map-append, append-nil, take_all, length-append, length-replicate}
 use Rattle.cdcl_core.specs.declared.lists.Place.{Place}
 use Rattle.cdcl_core.specs.Lists.{Lists}
-use Rattle.cdcl_core.specs.Tables.{nexts, literals, shown, IsWell, AreFew}
+use Rattle.cdcl_core.specs.Tables.{nexts, literals, shown, IsWell, AreFew, HaveStarts}
 use Rattle.cdcl_core.specs.Chains.{follow, IsChain, lists_of, times, IsLinked, first_of, rest_of}
 use Rattle.cdcl_core.proofs.Moves.{moved_by, exchanged_by, first_by, place_within, popped, pushed, grown, chain_at}
 
@@ -195,3 +195,43 @@ list_small ps rs V i e f h = let l : length V.lists ≡ length rs = (lists_lengt
 
 pub place_small : (ps : List Place) (rs : List ℕ) (V : Lists) (i : ℕ) → shown ps rs ≡ V → AreFew ps rs → i < length V.literals → i < 2 ^ 32
 place_small ps rs V i e f h = let l : length V.literals ≡ length ps = (lists_length ps rs V e).1 in omega (arith, l, f.places, h)
+
+pub kept_starts : (ps : List Place) (p : ℕ) (x : Place) (starts : List ℕ) → HaveStarts ps starts → HaveStarts (set ps p x) starts
+kept_starts ps p x starts h = rw length-set h
+
+-- a table that became as long as asked for has its starts
+pub grown_starts : (xs ys : List Place) (starts : List ℕ) (n m : ℕ) (d : Place) → ys ≡ take n xs ++ replicate (n - m) d → m ≡ length xs → m < n → n / 2 + 1 ≤ length starts → HaveStarts ys starts
+grown_starts xs ys starts n m d e em lt enough =
+    let len : length ys ≡ length xs + (n - m) = rw (resized xs ys n m d e em lt, length-append, length-replicate) refl in
+    omega (arith, len, em, lt, enough)
+
+-- the clause of a place has a start
+pub has_start : (ps : List Place) (rs : List ℕ) (V : Lists) (starts : List ℕ) (i : ℕ) → shown ps rs ≡ V → HaveStarts ps starts → i < length V.literals → i / 2 < length starts
+has_start ps rs V starts i e h below = let l : length V.literals ≡ length ps = (lists_length ps rs V e).1 in omega (arith, l, h, below)
+
+-- the first place of a list is its head
+pub head_is : (ps : List Place) (rs : List ℕ) (V : Lists) (i p : ℕ) → shown ps rs ≡ V → IsWell ps rs → i < length V.lists → p ≡ first_of (get_or V.lists i []) → p ≡ get_or rs i p
+head_is ps rs V i p e w h f =
+    let hir : i < length rs = rw (lists_length ps rs V e).0 at h in
+    let r : get_or rs i 0 ≡ first_of (get_or V.lists i []) = first_is ps rs V i (get_or rs i 0) e w h (sym (get_or_default rs i (get_or rs i 0) 0 hir)) in
+    f ∙ (sym r ∙ sym (get_or_default rs i p 0 hir))
+
+-- the place after the first one is the first once that is moved
+pub next_first : (ps : List Place) (rs : List ℕ) (V : Lists) (i j p n : ℕ) → shown ps (set (set rs i n) j p) ≡ V → IsWell ps (set (set rs i n) j p) → i < length V.lists → i ≢ j → n ≡ first_of (get_or V.lists i [])
+next_first ps rs V i j p n e w h ne =
+    let len : length V.lists ≡ length (set (set rs i n) j p) = (lists_length ps (set (set rs i n) j p) V e).0 in
+    let hir : i < length rs = (let l : length (set (set rs i n) j p) ≡ length rs = rw (length-set, length-set) refl in omega (arith, h, len, l)) in
+    first_is ps (set (set rs i n) j p) V i n e w h (sym (get_or-set_other (set rs i n) j i p n ne ∙ get_or-set_same rs i n n hir))
+
+pub place_few : (ps : List Place) (rs : List ℕ) (p : ℕ) → AreFew ps rs → p < length ps → p < 2 ^ 32
+place_few ps rs p f h = omega (arith, f.places, h)
+
+-- a list is still there once two roots were written
+pub shown_list : (ps : List Place) (rs : List ℕ) (V : Lists) (i j p n : ℕ) (qs : List Place) → shown ps rs ≡ V → i < length V.lists → i < length (shown qs (set (set rs i n) j p)).lists
+shown_list ps rs V i j p n qs e h =
+    let a : length V.lists ≡ length rs = (lists_length ps rs V e).0 in
+    let b : length (shown qs (set (set rs i n) j p)).lists ≡ length rs = rw (length-map, length-set, length-set) refl in
+    omega (arith, a, b, h)
+
+pub more_starts : (ps : List Place) (starts more : List ℕ) → HaveStarts ps starts → length starts ≤ length more → HaveStarts ps more
+more_starts ps starts more h le = omega (arith, h, le)

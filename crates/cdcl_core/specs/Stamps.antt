@@ -27,6 +27,14 @@ IsTrueAt ss j l = (0 < slice_index ss l) × (slice_index ss l ≤ j + 1)
 abbrev pub IsFalse : List ℕ → List ℕ → Type 0
 IsFalse ss c = (l : ℕ) → Has c l → 0 < slice_index ss (neg l)
 
+-- the literal is false, unless it is this one
+abbrev pub IsFalseBut : List ℕ → ℕ → ℕ → Type 0
+IsFalseBut ss other l = l ≢ other → 0 < slice_index ss (neg l)
+
+-- the literal stands in the clause, is not this one, and is not false
+abbrev pub IsFreeIn : List ℕ → List ℕ → ℕ → ℕ → Type 0
+IsFreeIn ss c other l = Has c l × ((l ≢ other) × (slice_index ss (neg l) ≡ 0))
+
 -- at the end of level j the clause has a true literal, or two that are not false
 abbrev pub RestsAt : List ℕ → ℕ → List ℕ → Type 0
 RestsAt ss j c =

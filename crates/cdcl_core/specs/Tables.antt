@@ -1,5 +1,5 @@
 -- The tables behind linked places.
-use Rattle.std.specs.Prelude.{ℕ, ◌≤◌, ◌^◌, List, map, length}
+use Rattle.std.specs.Prelude.{ℕ, ◌≤◌, ◌*◌, ◌^◌, List, map, length}
 use Rattle.cdcl_core.specs.declared.lists.Place.{Place}
 use Rattle.cdcl_core.specs.Lists.{Lists}
 use Rattle.cdcl_core.specs.Chains.{lists_of, IsLinked}
@@ -20,3 +20,7 @@ IsWell ps rs = IsLinked (nexts ps) rs
 pub record AreFew (ps : List Place) (rs : List ℕ) : Type 0 where
   pub places : length ps ≤ 2 ^ 32
   pub lists : length rs ≤ 2 ^ 32
+
+-- each clause, with two places, has a start of its scan
+abbrev pub HaveStarts : List Place → List ℕ → Type 0
+HaveStarts ps starts = length ps ≤ 2 * length starts

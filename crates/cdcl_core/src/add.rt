@@ -85,7 +85,7 @@ fn hang(w: &mut Watches, slot: usize, clause: Clause, a: usize, b: usize)
     ensures literals { w.new.lists.literals ≡ slice_set (slice_set w.old.lists.literals (2 * slot) a) (2 * slot + 1) b }
     ensures lists { let moved = slice_set (slice_set w.old.lists.lists 1 (rest_of (slice_index_or w.old.lists.lists 1 []))) (a + 1) ((2 * slot) ∷ slice_index_or w.old.lists.lists (a + 1) []) in w.new.lists.lists ≡ slice_set moved (b + 1) ((2 * slot + 1) ∷ slice_index_or moved (b + 1) []) }
 {
-    w.lists.set_literal(2 * slot, a);
+    w.lists.rewatch(2 * slot, a, 0);
     w.lists.set_literal(2 * slot + 1, b);
     w.lists.move_first(1, a + 1);
     w.lists.push_first(b + 1, 2 * slot + 1);

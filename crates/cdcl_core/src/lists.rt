@@ -21,6 +21,8 @@ struct Place {
 pub(crate) struct WatchLists {
     places: Vec<Place>,
     heads: Vec<u32>,
+    // by clause, two places to each: where the last scan of its literals ended; a scan is right wherever it starts
+    starts: Vec<u32>,
 }
 
 impl Model for WatchLists {
@@ -28,11 +30,22 @@ impl Model for WatchLists {
 
     ghost Value = { Lists };
 
-    ghost use Rattle.cdcl_core.specs.Tables.{shown, IsWell, AreFew};
+    ghost use Rattle.cdcl_core.specs.Tables.{shown, IsWell, AreFew, HaveStarts};
 
     ghost view = { λ s. shown s.places.items s.heads.items };
 
-    ghost invariant = { λ s. IsWell s.places.items s.heads.items × AreFew s.places.items s.heads.items };
+    ghost invariant = { λ s. IsWell s.places.items s.heads.items × (AreFew s.places.items s.heads.items × HaveStarts s.places.items s.starts.items) };
+}
+
+// Has at least `count` elements, and none fewer than before.
+fn lengthen_starts(starts: &mut Vec<u32>, count: usize) -> Result<(), AllocError>
+    ensures more { length starts.old.items ≤ length starts.new.items }
+    ensures enough { OnOk result (count ≤ length starts.new.items) }
+{
+    if starts.len() < count {
+        starts.resize(count, 0)?;
+    }
+    Ok(())
 }
 
 impl WatchLists {
@@ -44,6 +57,7 @@ impl WatchLists {
         Ok(WatchLists {
             places: Vec::new(alloc),
             heads: Vec::new(alloc),
+            starts: Vec::new(alloc),
         })
     }
 
@@ -95,6 +109,54 @@ impl WatchLists {
         self.places[place as usize].next = self.heads[to];
         self.heads[from] = after;
         self.heads[to] = place;
+    }
+
+    /// Moves `place`, the first of the list `from`, to the front of the list `to`: the place that is the first of `from`
+    /// now, or 0.
+    #[inline(always)]
+    pub(crate) fn pass(&mut self, from: usize, to: usize, place: usize) -> usize
+        requires from { from < length self.old.lists }
+        requires to { to < length self.old.lists }
+        requires apart { from ≢ to }
+        requires pending { 0 < first_of (slice_index_or self.old.lists from []) }
+        requires first { place ≡ first_of (slice_index_or self.old.lists from []) }
+        ensures moved { self.new ≡ record { lists = slice_set (slice_set self.old.lists from (rest_of (slice_index_or self.old.lists from []))) to (first_of (slice_index_or self.old.lists from []) ∷ slice_index_or self.old.lists to []); literals = self.old.literals } }
+        ensures next { result ≡ first_of (slice_index_or self.new.lists from []) }
+        ensures once { (q : ℕ) → sum_by (times q) self.old.lists ≤ 1 }
+    {
+        let after = self.places[place].next;
+        self.places[place].next = self.heads[to];
+        self.heads[from] = after;
+        self.heads[to] = place as u32;
+        after as usize
+    }
+
+    /// Where the last scan of the clause of this place ended.
+    #[inline(always)]
+    pub(crate) fn start(&self, place: usize) -> usize
+        requires { place < length self.now.literals }
+    {
+        self.starts[place / 2] as usize
+    }
+
+    // Keeps where a scan of the clause of this place ended.
+    #[inline(always)]
+    fn set_start(&mut self, place: usize, start: usize)
+        requires { place < length self.old.literals }
+        ensures { self.new ≡ self.old }
+    {
+        self.starts[place / 2] = (start % MOST) as u32;
+    }
+
+    /// Gives a place another literal, which a scan of its clause found at `start`.
+    #[inline(always)]
+    pub(crate) fn rewatch(&mut self, place: usize, literal: usize, start: usize)
+        requires place { place < length self.old.literals }
+        requires literal { literal < length self.old.lists }
+        ensures { self.new ≡ record { lists = self.old.lists; literals = slice_set self.old.literals place literal } }
+    {
+        self.set_start(place, start);
+        self.set_literal(place, literal);
     }
 
     /// Exchanges two lists.
@@ -154,6 +216,7 @@ impl WatchLists {
             if count > MOST {
                 return Err(AllocError);
             }
+            lengthen_starts(&mut self.starts, count / 2 + 1)?;
             self.places.resize(
                 count,
                 Place {

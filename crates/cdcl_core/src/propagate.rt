@@ -5,7 +5,7 @@ ghost use Rattle.cnf_base.specs.declared.clause.ClauseId.{ClauseId};
 ghost use Rattle.cdcl_core.specs.Levels.{IsExtended};
 ghost use Rattle.cdcl_core.specs.Search.{literals_of, level_of, rows_of, clause_of, IsAtRest, IsConflict};
 ghost use Rattle.cdcl_core.specs.Chains.{first_of, rest_of};
-ghost use Rattle.cdcl_core.specs.Stamps.{neg as neg_of, codes, Has, IsFalse};
+ghost use Rattle.cdcl_core.specs.Stamps.{neg as neg_of, codes, Has, IsFalse, IsFalseBut, IsFreeIn};
 ghost use Rattle.cdcl_core.specs.Watched.{kind_at, IsFree};
 ghost use Rattle.cdcl_core.specs.State.{IsSettled, IsVisiting, IsPropagated, IsFixed, IsGrown, all_codes};
 
@@ -13,28 +13,52 @@ use crate::trail::{Trail, enqueue, neg};
 use crate::watches::{Kind, Watches};
 use cnf_base::{ClauseId, Lit};
 
-// A literal of the clause, other than the given one, that is not false.
+// Of the literals at these places of the clause the first that is not false and not the given one, and its place.
 #[inline(always)]
-fn scan(clause: &[Lit], stamps: &[u64], other: usize) -> Option<usize>
+fn scan_part(
+    clause: &[Lit],
+    stamps: &[u64],
+    other: usize,
+    start: usize,
+    end: usize,
+) -> Option<(usize, usize)>
     requires within { (l : ℕ) → Has (codes clause.now) l → l < length stamps.now }
     requires even { length stamps.now % 2 ≡ 0 }
-    ensures { MatchOption result ((l : ℕ) → Has (codes clause.now) l → l ≢ other → 0 < slice_index stamps.now (neg_of l)) (λ l. Has (codes clause.now) l × (l ≢ other × slice_index stamps.now (neg_of l) ≡ 0)) }
+    requires end { end ≤ length clause.now }
+    ensures { MatchOption result ((i : ℕ) → start ≤ i → i < end → IsFalseBut stamps.now other (slice_index (codes clause.now) i)) (λ found. IsFreeIn stamps.now (codes clause.now) other found.0) }
 {
-    for l in clause {
-        let code = l.code() as usize;
+    for k in start..end {
+        let code = clause[k].code() as usize;
         if code != other && stamps[neg(code)] == 0 {
-            return Some(code);
+            return Some((code, k));
         }
     }
     None
 }
 
-// Visits the first place of list 0, and gives the slot of a false clause, or 0.
+// A literal of the clause, other than the given one, that is not false, and its place: the search begins at `start`, and goes
+// on with the literals before it.
 #[inline(always)]
-fn step(w: &mut Watches, t: &mut Trail, p: usize, stop: usize) -> usize
-    requires visiting { IsVisiting w.old t.old p stop }
+fn scan(clause: &[Lit], stamps: &[u64], other: usize, start: usize) -> Option<(usize, usize)>
+    requires within { (l : ℕ) → Has (codes clause.now) l → l < length stamps.now }
+    requires even { length stamps.now % 2 ≡ 0 }
+    ensures { MatchOption result ((l : ℕ) → Has (codes clause.now) l → IsFalseBut stamps.now other l) (λ found. IsFreeIn stamps.now (codes clause.now) other found.0) }
+{
+    let start = if start < clause.len() { start } else { 0 };
+    match scan_part(clause, stamps, other, start, clause.len()) {
+        Some(found) => Some(found),
+        None => scan_part(clause, stamps, other, 0, start),
+    }
+}
+
+// Visits the first place of list 0: the place that is the first of list 0 now, and the slot of a false clause, or 0.
+#[inline(always)]
+fn step(w: &mut Watches, t: &mut Trail, p: usize, place: usize) -> (usize, usize)
+    requires visiting { IsVisiting w.old t.old p 0 }
     requires pending { 0 < first_of (slice_index_or w.old.lists.lists 0 []) }
-    ensures visiting { IsVisiting w.new t.new p result }
+    requires first { place ≡ first_of (slice_index_or w.old.lists.lists 0 []) }
+    ensures visiting { IsVisiting w.new t.new p result.1 }
+    ensures next { result.0 ≡ first_of (slice_index_or w.new.lists.lists 0 []) }
     ensures shorter { slice_index_or w.new.lists.lists 0 [] ≡ rest_of (slice_index_or w.old.lists.lists 0 []) }
     ensures same { w.new ≡ record w.old { lists = w.new.lists } }
     ensures head { t.new.head ≡ t.old.head }
@@ -42,31 +66,75 @@ fn step(w: &mut Watches, t: &mut Trail, p: usize, stop: usize) -> usize
     ensures size { length t.new.stamps.items ≡ length t.old.stamps.items }
     ensures grown { IsGrown t.old t.new }
 {
-    let place = w.lists.first(0);
     let mate = neg(place);
     let other = w.lists.literal(mate);
-    if stop != 0 || t.stamps[other] != 0 {
-        w.lists.move_first(0, p + 1);
-        return stop;
+    if t.stamps[other] != 0 {
+        return (w.lists.pass(0, p + 1, place), 0);
     }
     let slot = place / 2;
-    let found = scan(w.clauses[slot].literals(), t.stamps.as_slice(), other);
+    let start = w.lists.start(place);
+    let found = scan(
+        w.clauses[slot].literals(),
+        t.stamps.as_slice(),
+        other,
+        start,
+    );
     match found {
-        Some(f) => {
-            w.lists.set_literal(place, f);
-            w.lists.move_first(0, f + 1);
-            0
+        Some((literal, at)) => {
+            w.lists.rewatch(place, literal, at);
+            (w.lists.pass(0, literal + 1, place), 0)
         }
         None => {
-            w.lists.move_first(0, p + 1);
+            let next = w.lists.pass(0, p + 1, place);
             let against = neg(other);
             if t.stamps[against] != 0 {
-                return slot;
+                return (next, slot);
             }
             let name = w.ids[slot];
             enqueue(t, other, slot, Some(name));
-            0
+            (next, 0)
         }
+    }
+}
+
+// Visits the places that watch `p`, whose opposite is the next literal of the trail, up to one of a false clause: its slot,
+// or 0.
+#[inline(always)]
+fn visit_some(w: &mut Watches, t: &mut Trail, p: usize) -> usize
+    requires settled { IsSettled w.old t.old }
+    requires within { p < length t.old.stamps.items }
+    requires next { slice_index t.old.codes.items t.old.head ≡ neg_of p }
+    requires more { t.old.head < t.old.len }
+    ensures visiting { IsVisiting w.new t.new p result }
+    ensures idle { result ≡ 0 → slice_index_or w.new.lists.lists 0 [] ≡ [] }
+    ensures same { w.new ≡ record w.old { lists = w.new.lists } }
+    ensures head { t.new.head ≡ t.old.head }
+    ensures level { t.new.level ≡ t.old.level }
+    ensures size { length t.new.stamps.items ≡ length t.old.stamps.items }
+    ensures grown { IsGrown t.old t.new }
+{
+    w.lists.exchange(0, p + 1);
+    let mut place = w.lists.first(0);
+    'places: while place != 0 {
+        let (next, stop) = step(w, t, p, place);
+        if stop != 0 {
+            return stop;
+        }
+        place = next;
+    }
+    0
+}
+
+// Puts the places that were not visited back.
+fn put_back(w: &mut Watches, t: &Trail, p: usize, stop: usize)
+    requires visiting { IsVisiting w.old t.now p stop }
+    requires stopped { stop ≢ 0 }
+    ensures visiting { IsVisiting w.new t.now p stop }
+    ensures idle { slice_index_or w.new.lists.lists 0 [] ≡ [] }
+    ensures same { w.new ≡ record w.old { lists = w.new.lists } }
+{
+    'places: while w.lists.first(0) != 0 {
+        w.lists.move_first(0, p + 1);
     }
 }
 
@@ -85,10 +153,9 @@ fn visit(w: &mut Watches, t: &mut Trail, p: usize) -> usize
     ensures size { length t.new.stamps.items ≡ length t.old.stamps.items }
     ensures grown { IsGrown t.old t.new }
 {
-    w.lists.exchange(0, p + 1);
-    let mut stop = 0;
-    'places: while w.lists.first(0) != 0 {
-        stop = step(w, t, p, stop);
+    let stop = visit_some(w, t, p);
+    if stop != 0 {
+        put_back(w, t, p, stop);
     }
     stop
 }

@@ -73,7 +73,7 @@ impl Minimizer {
     pub(crate) fn new(alloc: Global, places: usize) -> Result<Minimizer, AllocError> {
         Ok(Minimizer {
             verdicts: vec![in alloc; Verdict::Unknown; places]?,
-            waiting: Vec::new(alloc),
+            waiting: Vec::with_capacity(alloc, 64)?,
             levels: 0,
         })
     }

@@ -32,7 +32,7 @@ fn places_of(alloc: Global, rows: &[Row]) -> Result<Vec<usize>, AllocError>
     requires once { (i k : ℕ) → i < length rows.now → k < length rows.now → literal_at rows.now i ≡ literal_at rows.now k → i ≡ k }
     ensures { IfOk result (λ v. HasPlaces v.items rows.now (length rows.now)) }
 {
-    let mut places: Vec<usize> = Vec::new(alloc);
+    let mut places: Vec<usize> = Vec::with_capacity(alloc, rows.len().saturating_mul(4))?;
     for i in 0..rows.len() {
         let code = rows[i].0.code() as usize;
         lengthen(&mut places, code)?;
@@ -87,6 +87,15 @@ pub(crate) fn top_of(marks: &[bool], end: usize) -> usize
     top
 }
 
+// How many places are marked.
+fn count(marks: &[bool]) -> usize {
+    let mut count = 0usize;
+    for mark in marks {
+        count = count.wrapping_add(usize::from(*mark));
+    }
+    count
+}
+
 impl Walk {
     /// Rests on the literals of a false clause.
     pub(crate) fn start(
@@ -102,7 +111,7 @@ impl Walk {
     {
         let places = places_of(alloc, rows)?;
         let mut marks = vec![in alloc; false; rows.len()]?;
-        let mut hints = Vec::new(alloc);
+        let mut hints = Vec::with_capacity(alloc, rows.len().saturating_add(1))?;
         hints.push(conflict)?;
         let Some(clause) = watches.clause(conflict) else {
             return Err(AllocError);
@@ -253,7 +262,7 @@ impl Walk {
         ensures each { IfOk result (λ c. (p : ℕ) → p < length rows.now → IsSet self.now.marks.items p → Contains c (negated (literal_at rows.now p))) }
         ensures only { IfOk result (λ c. (l : Literal) → Contains c l → (p : ℕ) × ((p < length rows.now) × (IsSet self.now.marks.items p × (l ≡ negated (literal_at rows.now p))))) }
     {
-        let mut literals: Vec<Lit> = Vec::new(alloc);
+        let mut literals: Vec<Lit> = Vec::with_capacity(alloc, count(self.marks.as_slice()))?;
         for i in 0..rows.len() {
             if self.marks[i] {
                 literals.push(rows[i].0.negated())?;

@@ -36,7 +36,7 @@ fn learn_once(
 {
     let (clause, hints, level) = learn(alloc, watches, trail, conflict)?;
     let id = ClauseId { pos, part: 0 };
-    choices.weigh(log, &clause, hints.as_slice(), id, trail.level())?;
+    choices.weigh(trail.literals(), &clause, hints.as_slice(), id)?;
     log.learn(&clause, hints.as_slice())?;
     choices.take_back(trail.literals(), level);
     watches.backjump(trail, level);

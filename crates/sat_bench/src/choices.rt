@@ -6,7 +6,6 @@ ghost use Rattle.cdcl_core.specs.Levels.{IsOpen};
 ghost use Rattle.cdcl_core.specs.Search.{literals_of, level_of, rows_of};
 ghost use Rattle.cdcl_core.specs.State.{IsConsistent};
 
-use crate::log::Log;
 use cdcl_core::Trail;
 use cnf_base::{Clause, ClauseId, Lit};
 use search_heuristics::{
@@ -101,35 +100,33 @@ impl Choices {
         }
     }
 
-    // Whether a literal of the clause got its value at the level.
-    fn reaches(&self, literals: &[Lit], level: u64) -> bool {
-        for literal in literals {
-            let variable = literal.variable() as usize;
-            if variable < self.levels.len() && self.levels[variable] == level {
-                return true;
+    // Raises the activities of the literals that were resolved: their reasons are the hints but the last, which is the
+    // conflict. Both stand in the order of the trail.
+    fn meet_resolved(&mut self, rows: &[Row], hints: &[ClauseId]) {
+        let mut before = hints.len().wrapping_sub(1);
+        for row in rows.iter().rev() {
+            let Some(hint) = hints.get(before.wrapping_sub(1)) else {
+                break;
+            };
+            if row.2 == Some(*hint) {
+                self.meet(row.0);
+                before = before.wrapping_sub(1);
             }
         }
-        false
     }
 
-    /// Weighs a clause that was learnt from a conflict at this level, and of its hints those that have a literal of the level:
-    /// the others made the clause shorter.
+    /// Weighs a clause that was learnt on a trail with these rows, by these hints.
     pub fn weigh(
         &mut self,
-        log: &Log,
+        rows: &[Row],
         clause: &Clause,
         hints: &[ClauseId],
         name: ClauseId,
-        level: u64,
     ) -> Result<(), AllocError> {
         self.conflicts = self.conflicts.wrapping_add(1);
-        for hint in hints {
-            let literals = log.literals(*hint);
-            if self.reaches(literals, level) {
-                for literal in literals {
-                    self.meet(*literal);
-                }
-            }
+        self.meet_resolved(rows, hints);
+        for literal in clause.literals() {
+            self.meet(*literal);
         }
         self.order.decay();
         let glue = self.glue(clause.literals())?;

@@ -87,9 +87,9 @@ impl VariableOrder {
         }
     }
 
-    /// Makes later conflicts weigh more: by a sixteenth.
+    /// Makes later conflicts weigh more: by a twenty-fourth.
     pub fn decay(&mut self) {
-        self.increment = self.increment.wrapping_add(self.increment / 16);
+        self.increment = self.increment.wrapping_add(self.increment / 24);
         if self.increment >= HIGHEST / 4 {
             self.shrink();
         }

@@ -1,36 +1,5 @@
-use Rattle.std.proofs.Common.{rules, ◌≡◌, ◌≢◌, ◌<◌, length, arith, get_or}
-use Rattle.std.proofs.lemmas.List.{length-map}
-use Rattle.cdcl_core.proofs.Counting.{scan_none, scan_more, neg_below}
-use Rattle.cdcl_core.proofs.Clauses.{code_read, code_in}
-use Rattle.cdcl_core.specs.Stamps.{neg as neg_of, codes, Has}
+use Rattle.cdcl_core.proofs.Clauses.{none_weaker, two_parts}
 use Rattle.cdcl_core.proofs.propagate.scan.Goals as goal
-use Rattle.cdcl_core.proofs.propagate.scan.Goals.{else-code-other-via-then-code-other+else-stamps-neg-eq0, else-code-other-via-else-code-other}
 
-pub loop-l-init : goal.loop-l-init
-loop-l-init c = scan_none (codes c.args.clause.now) c.args.stamps.now c.args.other
-
-pub bounds-stamps-neg : goal.bounds-stamps-neg
-bounds-stamps-neg c =
-    let has : Has (codes c.args.clause.now) c.code-code.result = code_in c.args.clause.now c.loop-l.l-index c.l-item.result c.code-code.result c.loop-l-test.true c.l-item.is c.code-code.ensures.code in
-    rw c.neg.ensures (neg_below _ (length c.args.stamps.now) (c.requires.within _ has) c.requires.even)
-
-pub offset_bounds-stamps-neg : goal.offset_bounds-stamps-neg
-offset_bounds-stamps-neg c =
-    let has : Has (codes c.args.clause.now) c.code-code.result = code_in c.args.clause.now c.loop-l.l-index c.l-item.result c.code-code.result c.loop-l-test.true c.l-item.is c.code-code.ensures.code in
-    let b : c.neg.result < length c.args.stamps.now = rw c.neg.ensures (neg_below _ (length c.args.stamps.now) (c.requires.within _ has) c.requires.even) in
-    search rules
-
-pub returns-then-stamps-neg-eq0 : goal.returns-then-stamps-neg-eq0
-returns-then-stamps-neg-eq0 c =
-    let has : Has (codes c.args.clause.now) c.code-code.result = code_in c.args.clause.now c.loop-l.l-index c.l-item.result c.code-code.result c.loop-l-test.true c.l-item.is c.code-code.ensures.code in
-    (has, (c.if-code-other.true, rw c.neg.ensures at c.if-stamps-neg-eq0.true))
-
-pub loop-l-preserved : goal.loop-l-preserved
-loop-l-preserved c =
-    let e : get_or (codes c.args.clause.now) c.loop-l.l-index 0 ≡ c.code-code.result = code_read c.args.clause.now c.loop-l.l-index c.l-item.result c.code-code.result c.loop-l-test.true c.l-item.is c.code-code.ensures.code in
-    let within : c.loop-l.l-index < length (codes c.args.clause.now) = rw length-map c.loop-l-test.true in
-    scan_more (codes c.args.clause.now) c.args.stamps.now c.args.other c.loop-l.l-index c.code-code.result within e c.loop-l.invariant
-    (elim c.else-code-other.branch [
-      | else-code-other-via-then-code-other+else-stamps-neg-eq0 w ↦ (λ ne. let h : get_or c.args.stamps.now (neg_of c.code-code.result) 0 ≢ 0 = rw w.neg.ensures at w.if-stamps-neg-eq0.false in omega (arith, h))
-      | else-code-other-via-else-code-other w ↦ (λ ne. absurd (ne w.if-code-other.false))
-    ])
+pub returns-in-None : goal.returns-in-None
+returns-in-None c = none_weaker _ c.scan_part-in-None.result (λ before. two_parts c.args.clause.now c.args.stamps.now c.args.other _ c.in-None.ensures before) c.scan_part-in-None.ensures

@@ -1,4 +1,4 @@
-use Rattle.std.proofs.Common.{◌≡◌, ◌∙◌}
+use Rattle.std.proofs.Common.{◌∙◌}
 use Rattle.cdcl_core.specs.Search.{literals_of, level_of}
 use Rattle.cdcl_learn.specs.Rows.{AreDecidedFirst}
 use Rattle.cdcl_learn.proofs.Facts.{rising_of}
