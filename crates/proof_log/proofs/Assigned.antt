@@ -1,6 +1,9 @@
--- An assignment that satisfies a log gives terms the bits of their values.
-use Rattle.std.proofs.Common.{◌≡◌, ℕ, suc, ◌<◌, Bool, true, false, not, ◌||◌, List, [], ◌∷◌, ◌++◌, length, map, Option, Some, None, refl, sym, ap, ◌∙◌, subst, ⊎_elim}
-use Rattle.std.specs.Prelude.{slice_get}
+-- An assignment that makes the clauses of the steps of some terms true gives these terms the bits of their values.
+use Rattle.std.proofs.Common.{◌≡◌, ℕ, zero, suc, ◌+◌, ◌<◌, ◌≤◌, Bool, true, false, not, ◌||◌, List, [], ◌∷◌, ◌++◌, length, map, Option, Some, None, refl, sym, ap, ◌∙◌, subst, ⊎_elim, arith}
+use Rattle.std.specs.Prelude.{◌⊎◌, Contains, slice_get}
+use Rattle.std.specs.List.{AllByRecursion}
+use Rattle.std.proofs.lemmas.Bool.{eq-eqb}
+use Rattle.std.proofs.lemmas.List.Elements.{Contains-append_right}
 use Rattle.cnf_base.specs.Literals.{Literal, positive_of}
 use Rattle.cnf_base.specs.Clauses.{lit_true, clause_true, all_true}
 use Rattle.cnf_base.specs.Gates.{gates_clauses}
@@ -17,11 +20,12 @@ use Rattle.bit_blast.specs.Meanings.{AreBitsOf, EachIsBits}
 use Rattle.bit_blast.proofs.Fixing.{clauses_fix}
 use Rattle.proof_log.specs.declared.entry.Entry.{Entry}
 use Rattle.proof_log.specs.declared.entry.Entry.TheVariants as step
-use Rattle.proof_log.specs.Logs.{Asserted, LogState, start, clause_in, clause_at, constant_width, IsStep, leaf_after, block_after, selector_clause, selector_after, after, state_from, state_of, AreSteps, IsLog}
-use Rattle.proof_log.specs.Stored.{LogValue, Stands}
-use Rattle.proof_log.specs.Assigned.{Satisfies, AreValues}
-use Rattle.proof_log.proofs.Sound.{with_value_cases}
-use Rattle.proof_log.proofs.Staying.{Holds, steps_hold}
+use Rattle.proof_log.specs.Logs.{Asserted, LogState, start, clause_in, clause_at, entry_at, with_value, constant_width, IsStep, IsLeaf, IsEncoding, IsSelector, leaf_after, block_after, selector_clause, selector_after, after, state_from, state_of, AreSteps, IsLog}
+use Rattle.proof_log.specs.Places.{GivesBits, GivesSelector}
+use Rattle.proof_log.specs.Stored.{LogValue, IsKept, Stands}
+use Rattle.proof_log.specs.Assigned.{IsTrueAt, AreClosed, Satisfies, AreValues}
+use Rattle.proof_log.proofs.Ordered.{steps_length}
+use Rattle.proof_log.proofs.Staying.{Holds, state_from-append, steps_parts, steps_hold}
 use Rattle.proof_log.proofs.Standing.{stands_over}
 
 -- ---- clauses of a position
@@ -38,41 +42,87 @@ row_true : (v : ℕ → Bool) (row : List (List Literal)) → ((k : ℕ) (c : Li
 row_true v [] h = refl
 row_true v (c ∷ cs) h = rw (h 0 c refl) (row_true v cs (λ k d e. h (suc k) d e))
 
+-- ---- the log before a step and behind it
+
+record Parts (log : List Entry) (p : ℕ) (e : Entry) : Type 0 where
+  pub before : List Entry
+  pub more : List Entry
+  pub whole : log ≡ before ++ e ∷ more
+  pub place : p ≡ suc (length before)
+
+parts : (log : List Entry) (p : ℕ) (e : Entry) → entry_at log p ≡ Some e → Parts log p e
+parts log zero e h = let q : ⊥ = cc in absurd q
+parts [] (suc p) e h = let q : ⊥ = cc in absurd q
+parts (x ∷ log) (suc zero) e h = let q : x ≡ e = cc in record { before = []; more = log; whole = ap (λ y. y ∷ log) q; place = refl }
+parts (x ∷ log) (suc (suc p)) e h =
+    let k = parts log (suc p) e h in
+    record { before = x ∷ k.before; more = k.more; whole = ap (λ l. x ∷ l) k.whole; place = ap suc k.place }
+
+-- what stands before the step, that it may stand there, and that what it leaves stays
+record Reached (nodes : List Node) (log : List Entry) (p : ℕ) (e : Entry) : Type 0 where
+  pub state : LogState
+  pub step : IsStep nodes state e
+  pub place : p ≡ length state.clauses
+  pub before : Holds state (state_of nodes log)
+  pub behind : Holds (after nodes state e) (state_of nodes log)
+
+reached_step : (nodes : List Node) (log : List Entry) (p : ℕ) (e : Entry) → IsLog nodes log → entry_at log p ≡ Some e → Reached nodes log p e
+reached_step nodes log p e is h =
+    let k = parts log p e h in
+    let whole : IsLog nodes (k.before ++ e ∷ k.more) = subst (IsLog nodes) k.whole is in
+    let split = steps_parts nodes start k.before (e ∷ k.more) whole in
+    let s = state_of nodes k.before in
+    let all : state_of nodes log ≡ state_from nodes s (e ∷ k.more) = ap (state_of nodes) k.whole ∙ state_from-append nodes start k.before (e ∷ k.more) in
+    record {
+      state = state_of nodes k.before;
+      step = split.1.0;
+      place = k.place ∙ sym (steps_length nodes start k.before ∙ omega arith);
+      before = subst (Holds (state_of nodes k.before)) (sym all) (steps_hold nodes (state_of nodes k.before) (e ∷ k.more) split.1);
+      behind = subst (Holds (after nodes (state_of nodes k.before) e)) (sym all) (steps_hold nodes (after nodes (state_of nodes k.before) e) k.more split.1.1);
+    }
+
+same_value : {A : Type 0} (f : ℕ → Option A) (x : ℕ) (a b : A) → f x ≡ Some a → f x ≡ Some b → a ≡ b
+same_value f x a b e h = let q : Some a ≡ Some b = sym e ∙ h in cc
+
+new_value : {A : Type 0} (f : ℕ → Option A) (x : ℕ) (a : A) → with_value f x a x ≡ Some a
+new_value f x a = rw (eq-eqb x x refl) refl
+
 -- ---- assignments
 
-module _ (M : Interpretation) (nodes : List Node) (all : IsTermList nodes) (v : ℕ → Bool) (one : v 1 ≡ true) where
-  abbrev Satisfied : LogState → Type 0
-  Satisfied s = Satisfies M nodes s.bits s.clauses v
+module _ (M : Interpretation) (nodes : List Node) (all : IsTermList nodes) (reached : ℕ → Type 0) (log : LogValue) (kept : IsKept nodes log) (v : ℕ → Bool) (h : Satisfies M nodes reached log v) where
+  abbrev Valued : ℕ → Type 0
+  Valued t = (b : List Literal) → bits_in log.bits t ≡ Some b → AreBitsOf v (sort_of nodes t) b (value M nodes t)
 
-  abbrev Valued : LogState → Type 0
-  Valued s = AreValues M nodes s.bits s.selectors v
+  -- the bits of a term, as the steps leave them
+  found : (s : LogState) → Holds s (state_of nodes log.entries) → (t : ℕ) (b : List Literal) → s.bits t ≡ Some b → bits_in log.bits t ≡ Some b
+  found s holds t b e = kept.bits t ∙ holds.bits t b e
 
-  -- what satisfies the second state satisfies the first
-  fewer : (s r : LogState) → Holds s r → Satisfied r → Satisfied s
-  fewer s r h k = record {
-    clauses = λ id c e. k.clauses id c (h.clauses id c e);
-    constants = λ t n b w e. k.constants t n b w (h.bits t b e);
-  }
+  true_row : (s : LogState) (row : List (List Literal)) (p : ℕ) (r : LogState) → r.clauses ≡ s.clauses ++ row ∷ [] → Holds r (state_of nodes log.entries) → p ≡ length s.clauses → IsTrueAt log v p
+      → (k : ℕ) (c : List Literal) → slice_get row k ≡ Some c → clause_true v c ≡ true
+  true_row s row p r rows holds place is k c e =
+      let id : ClauseId = record { pos = length s.clauses; part = k } in
+      let own : clause_at r.clauses id ≡ Some c = ap (λ x. clause_at x id) rows ∙ last_clause s.clauses row k ∙ e in
+      let there : clause_at log.clauses id ≡ Some c = ap (λ x. clause_at x id) kept.clauses ∙ holds.clauses id c own in
+      is k c (ap (λ q. clause_at log.clauses (record { pos = q; part = k })) place ∙ there)
 
-  leaf_valued : (s : LogState) (t n k : ℕ) → constant_width (node_at nodes t).op ≡ Some n → Valued s → Satisfied (leaf_after s t (Some k)) → Valued (leaf_after s t (Some k))
-  leaf_valued s t n k w h i = record {
-    bits = λ u b e.
-        ⊎_elim
-        (λ p. i.constants u n b (subst (λ x. constant_width (node_at nodes x).op ≡ Some n) (sym p.0) w) e)
-        (λ p. h.bits u b p)
-        (with_value_cases s.bits t _ u b e);
-    selectors = h.selectors;
-  }
+  one : v 1 ≡ true
+  one =
+      let e : (v 1 || false) ≡ true = h.first 0 _ (ap (λ x. clause_at x (record { pos = 0; part = 0 })) kept.clauses ∙ (steps_hold nodes start log.entries kept.steps).clauses (record { pos = 0; part = 0 }) _ refl) in
+      holds (v 1) e
+    where
+      holds : (b : Bool) → (b || false) ≡ true → b ≡ true
+      holds true e = refl
+      holds false e = e
 
   -- the rows of arguments are the bits of their values
-  each_valued : (bits : ℕ → Option (List Literal)) → ((t : ℕ) (b : List Literal) → bits t ≡ Some b → AreBitsOf v (sort_of nodes t) b (value M nodes t))
-      → (args : List ℕ) (rows : List (List Literal)) → all_bits bits args ≡ Some rows → EachIsBits v (map (sort_of nodes) args) rows (map (value M nodes) args)
-  each_valued bits h [] rows e =
+  each_valued : (s : LogState) → Holds s (state_of nodes log.entries) → (args : List ℕ) (rows : List (List Literal)) → AllByRecursion Valued args → all_bits s.bits args ≡ Some rows
+      → EachIsBits v (map (sort_of nodes) args) rows (map (value M nodes) args)
+  each_valued s holds [] rows each e =
       let q : [] ≡ rows = cc in
       subst (λ r. EachIsBits v [] r []) q tt
-  each_valued bits h (t ∷ ts) rows e = go (bits t) (all_bits bits ts) refl (λ bs q. each_valued bits h ts bs q) e
+  each_valued s holds (t ∷ ts) rows each e = go (s.bits t) (all_bits s.bits ts) refl (λ bs q. each_valued s holds ts bs each.1 q) e
     where
-      go : (o : Option (List Literal)) (os : Option (List (List Literal))) → bits t ≡ o
+      go : (o : Option (List Literal)) (os : Option (List (List Literal))) → s.bits t ≡ o
           → ((bs : List (List Literal)) → os ≡ Some bs → EachIsBits v (map (sort_of nodes) ts) bs (map (value M nodes) ts))
           → with_first o os ≡ Some rows
           → EachIsBits v (sort_of nodes t ∷ map (sort_of nodes) ts) rows (value M nodes t ∷ map (value M nodes) ts)
@@ -81,7 +131,7 @@ module _ (M : Interpretation) (nodes : List Node) (all : IsTermList nodes) (v : 
       go (Some b) (Some bs) p rest e =
           let r : b ∷ bs ≡ rows = cc in
           subst (λ w. EachIsBits v (sort_of nodes t ∷ map (sort_of nodes) ts) w (value M nodes t ∷ map (value M nodes) ts)) r
-          (h t b p, rest bs refl)
+          (each.0 b (found s holds t b p), rest bs refl)
 
   block_rows : (s : LogState) (n : Node) (b : Block) → block_of s.next s.bits n ≡ Some b → (rows : List (List Literal)) × (all_bits s.bits n.args ≡ Some rows) × (built (circuit_of n.op) s.next rows ≡ Some b)
   block_rows s n b e = go (all_bits s.bits n.args) refl e
@@ -90,23 +140,60 @@ module _ (M : Interpretation) (nodes : List Node) (all : IsTermList nodes) (v : 
       go None p e = let r : ⊥ = cc in absurd r
       go (Some rows) p e = (rows, p, e)
 
-  block_valued : (s : LogState) (t : ℕ) (b : Block) → t < length nodes → block_of s.next s.bits (node_at nodes t) ≡ Some b → Valued s → Satisfied (block_after s t (Some b)) → Valued (block_after s t (Some b))
-  block_valued s t b within e h i =
+  -- a term whose bits a circuit gave
+  block_valued : (s : LogState) (t p : ℕ) (b : Block) → t < length nodes → block_of s.next s.bits (node_at nodes t) ≡ Some b → Holds s (state_of nodes log.entries) → Holds (block_after s t (Some b)) (state_of nodes log.entries)
+      → p ≡ length s.clauses → IsTrueAt log v p → AllByRecursion Valued (node_at nodes t).args → Valued t
+  block_valued s t p b within e before behind place is each c q =
       let node = node_at nodes t in
       let k = block_rows s (node_at nodes t) b e in
-      let each = each_valued s.bits h.bits node.args k.0 k.1 in
+      let args = each_valued s before node.args k.0 each k.1 in
       let term = all t within in
-      let satisfied = row_true v (gates_clauses s.next b.gates) (λ j c q. i.clauses (record { pos = length s.clauses; part = j }) c (last_clause s.clauses (gates_clauses s.next b.gates) j ∙ q)) in
-      let is = clauses_fix M v s.next node.op (map (sort_of nodes) node.args) k.0 (map (value M nodes) node.args) (sort_of nodes t) b one term.rank each k.2 satisfied in
-      let own : AreBitsOf v (sort_of nodes t) b.bits (value M nodes t) = subst (AreBitsOf v (sort_of nodes t) b.bits) (sym (value_is M nodes t term)) is in
-      record {
-        bits = λ u c q.
-            ⊎_elim
-            (λ p. subst (λ x. AreBitsOf v (sort_of nodes x) c (value M nodes x)) (sym p.0) (subst (λ x. AreBitsOf v (sort_of nodes t) x (value M nodes t)) p.1 own))
-            (λ p. h.bits u c p)
-            (with_value_cases s.bits t b.bits u c q);
-        selectors = h.selectors;
-      }
+      let satisfied = row_true v (gates_clauses s.next b.gates) (true_row s (gates_clauses s.next b.gates) p (block_after s t (Some b)) refl behind place is) in
+      let fixed = clauses_fix M v s.next node.op (map (sort_of nodes) node.args) k.0 (map (value M nodes) node.args) (sort_of nodes t) b one term.rank args k.2 satisfied in
+      let own : AreBitsOf v (sort_of nodes t) b.bits (value M nodes t) = subst (AreBitsOf v (sort_of nodes t) b.bits) (sym (value_is M nodes t term)) fixed in
+      let bits : bits_in log.bits t ≡ Some b.bits = found (block_after s t (Some b)) behind t b.bits (new_value s.bits t b.bits) in
+      subst (λ x. AreBitsOf v (sort_of nodes t) x (value M nodes t)) (same_value (bits_in log.bits) t b.bits c bits q) own
+
+  encode_valued : (t p : ℕ) → entry_at log.entries p ≡ Some (step.Encode t) → IsTrueAt log v p → AllByRecursion Valued (node_at nodes t).args → Valued t
+  encode_valued t p e is each =
+      let r = reached_step nodes log.entries p (step.Encode t) kept.steps e in
+      let i : IsEncoding nodes r.state t = r.step in
+      block_valued r.state t p i.block i.term i.circuit r.before (subst (λ o. Holds (block_after r.state t o) (state_of nodes log.entries)) i.circuit r.behind) r.place is each
+
+  leaf_valued : (t p : ℕ) → reached t → entry_at log.entries p ≡ Some (step.Leaf t) → Valued t
+  leaf_valued t p in_it e c q =
+      let r = reached_step nodes log.entries p (step.Leaf t) kept.steps e in
+      let i : IsLeaf nodes r.state t = r.step in
+      h.constants t i.width c in_it i.constant q
+
+  -- ---- all terms, each behind its arguments
+
+  args_valued : (n t : ℕ) (args : List ℕ) → ((u : ℕ) → u < n → reached u → Valued u) → t < suc n → AllByRecursion (λ a. a < t) args → ((u : ℕ) → Contains args u → reached u) → AllByRecursion Valued args
+  args_valued n t [] ih lt earlier among = tt
+  args_valued n t (u ∷ us) ih lt earlier among = (
+    ih u (omega (arith, earlier.0)) (among u (0, omega arith, refl)),
+    args_valued n t us ih lt earlier.1 (λ w k. among w (Contains-append_right (u ∷ []) us w k)),
+  )
+
+  term_within : (t p : ℕ) → entry_at log.entries p ≡ Some (step.Encode t) → t < length nodes
+  term_within t p e =
+      let r = reached_step nodes log.entries p (step.Encode t) kept.steps e in
+      let i : IsEncoding nodes r.state t = r.step in
+      i.term
+
+  valued_below : (n t : ℕ) → t < n → reached t → Valued t
+  valued_below zero t lt in_it = absurd (omega arith)
+  valued_below (suc n) t lt in_it =
+      let k = h.steps t in_it in
+      ⊎_elim
+      (λ e. leaf_valued t k.0 in_it e)
+      (λ e. encode_valued t k.0 e k.2 (args_valued n t (node_at nodes t).args (valued_below n) lt (all t (term_within t k.0 e)).earlier (λ u. h.closed t u in_it)))
+      k.1
+
+  pub valued : (t : ℕ) → reached t → Valued t
+  valued t in_it = valued_below (suc t) t (omega arith) in_it
+
+  -- ---- selectors
 
   -- a selector that is true implies its bit
   implied : (p q : Bool) → (not p || (q || false)) ≡ true → p ≡ true → q ≡ true
@@ -114,64 +201,31 @@ module _ (M : Interpretation) (nodes : List Node) (all : IsTermList nodes) (v : 
   implied true false h e = h
   implied false q h e = let r : ⊥ = cc in absurd r
 
-  selector_valued : (s : LogState) (x t : ℕ) (l : Literal) → sort_of nodes t ≡ sort.Bool → s.bits t ≡ Some (l ∷ []) → Valued s → Satisfied (selector_after s x t (Some (l ∷ []))) → Valued (selector_after s x t (Some (l ∷ [])))
-  selector_valued s x t l bool e h i =
-      let new : Asserted = record { literal = positive_of s.next; term = t } in
-      let clause : clause_true v (selector_clause s.next l) ≡ true = i.clauses (record { pos = length s.clauses; part = 0 }) (selector_clause s.next l) (last_clause s.clauses (selector_clause s.next l ∷ []) 0) in
-      let means = subst (λ w. AreBitsOf v w (l ∷ []) (value M nodes t)) bool (h.bits t (l ∷ []) e) in
-      let same : l ≡ means.0 = let q = means.1 in cc in
-      let own : lit_true v (positive_of s.next) ≡ true → is_true (value M nodes t) ≡ true = λ p. ap is_true means.2 ∙ ap (lit_true v) (sym same) ∙ implied (v s.next) (lit_true v l) clause p in
-      record {
-        bits = h.bits;
-        selectors = λ a r q.
-            ⊎_elim
-            (λ p. subst (λ (y : Asserted). lit_true v y.literal ≡ true → is_true (value M nodes y.term) ≡ true) p.1 own)
-            (λ p. h.selectors a r p)
-            (with_value_cases s.selectors x new a r q);
-      }
+  selector_valued : (s : LogState) (a t p : ℕ) (bit : Literal) → s.bits t ≡ Some (bit ∷ []) → sort_of nodes t ≡ sort.Bool → Holds s (state_of nodes log.entries)
+      → Holds (selector_after s a t (Some (bit ∷ []))) (state_of nodes log.entries) → p ≡ length s.clauses → IsTrueAt log v p → (r : Asserted) → (state_of nodes log.entries).selectors a ≡ Some r → reached r.term
+      → lit_true v r.literal ≡ true → is_true (value M nodes r.term) ≡ true
+  selector_valued s a t p bit encoded bool before behind place is r made in_it holds =
+      let own : Asserted = record { literal = positive_of s.next; term = t } in
+      let same : own ≡ r = same_value (state_of nodes log.entries).selectors a own r (behind.selectors a own (new_value s.selectors a own)) made in
+      let among : reached t = subst (λ (x : Asserted). reached x.term) (sym same) in_it in
+      let row : List (List Literal) = selector_clause s.next bit ∷ [] in
+      let clause : clause_true v (selector_clause s.next bit) ≡ true = true_row s row p (selector_after s a t (Some (bit ∷ []))) refl behind place is 0 (selector_clause s.next bit) refl in
+      let means = subst (λ w. AreBitsOf v w (bit ∷ []) (value M nodes t)) bool (valued t among (bit ∷ []) (found s before t (bit ∷ []) encoded)) in
+      let literal : bit ≡ means.0 = let q = means.1 in cc in
+      let told : lit_true v (positive_of s.next) ≡ true → is_true (value M nodes t) ≡ true = λ q. ap is_true means.2 ∙ ap (lit_true v) (sym literal) ∙ implied (v s.next) (lit_true v bit) clause q in
+      (subst (λ (y : Asserted). lit_true v y.literal ≡ true → is_true (value M nodes y.term) ≡ true) same told) holds
 
-  step_valued : (s : LogState) (e : Entry) → IsStep nodes s e → Valued s → Satisfied (after nodes s e) → Valued (after nodes s e)
-  step_valued s (step.Node n) i h k = record { bits = h.bits; selectors = h.selectors }
-  step_valued s (step.Leaf t) i h k =
-      (subst (λ o. Satisfied (leaf_after s t o) → Valued (leaf_after s t o)) (sym i.constant)
-      (leaf_valued s t i.width i.width i.constant h)) k
-  step_valued s (step.Encode t) i h k =
-      (subst (λ o. Satisfied (block_after s t o) → Valued (block_after s t o)) (sym i.circuit)
-      (block_valued s t i.block i.term i.circuit h)) k
-  step_valued s (step.Selector x t) i h k =
-      (subst (λ o. Satisfied (selector_after s x t o) → Valued (selector_after s x t o)) (sym i.encoded)
-      (selector_valued s x t i.bit i.sort i.encoded h)) k
-  step_valued s (step.Chain c hints) i h k = record { bits = h.bits; selectors = h.selectors }
+  pub selected : (a p : ℕ) (r : Asserted) → reached r.term → (state_of nodes log.entries).selectors a ≡ Some r → GivesSelector log.entries a p → IsTrueAt log v p → lit_true v r.literal ≡ true → is_true (value M nodes r.term) ≡ true
+  selected a p r in_it made gives is holds =
+      let t = gives.0 in
+      let k = reached_step nodes log.entries p (step.Selector a t) kept.steps gives.1 in
+      let i : IsSelector nodes k.state a t = k.step in
+      selector_valued k.state a t p i.bit i.encoded i.sort k.before (subst (λ o. Holds (selector_after k.state a t o) (state_of nodes log.entries)) i.encoded k.behind) k.place is r made in_it holds
 
-  pub steps_valued : (s : LogState) (log : List Entry) → AreSteps nodes s log → Valued s → Satisfied (state_from nodes s log) → Valued (state_from nodes s log)
-  steps_valued s [] i h k = h
-  steps_valued s (e ∷ log) i h k =
-      let r = after nodes s e in
-      let here = fewer r (state_from nodes r log) (steps_hold nodes r log i.1) k in
-      steps_valued r log i.1 (step_valued s e i.0 h here) k
-
--- position 0 has the clause that variable 1 is true
-first_true : (nodes : List Node) (log : List Entry) (v : ℕ → Bool) → IsLog nodes log → ((id : ClauseId) (c : List Literal) → clause_at (state_of nodes log).clauses id ≡ Some c → clause_true v c ≡ true) → v 1 ≡ true
-first_true nodes log v i h =
-    let e : (v 1 || false) ≡ true = h (record { pos = 0; part = 0 }) _ ((steps_hold nodes start log i).clauses (record { pos = 0; part = 0 }) _ refl) in
-    holds (v 1) e
-  where
-    holds : (b : Bool) → (b || false) ≡ true → b ≡ true
-    holds true e = refl
-    holds false e = e
-
-pub log_values : (M : Interpretation) (nodes : List Node) (log : List Entry) (v : ℕ → Bool) → IsTermList nodes → IsLog nodes log
-    → Satisfies M nodes (state_of nodes log).bits (state_of nodes log).clauses v → AreValues M nodes (state_of nodes log).bits (state_of nodes log).selectors v
-log_values M nodes log v all i h =
-    steps_valued M nodes all v (first_true nodes log v i h.clauses) start log i
-    (record { bits = λ t b e. let q : ⊥ = cc in absurd q; selectors = λ a r e. let q : ⊥ = cc in absurd q }) h
-
-pub stored_values : (M : Interpretation) (nodes : List Node) (log : LogValue) (v : ℕ → Bool) → IsTermList nodes → Stands nodes log
-    → Satisfies M nodes (bits_in log.bits) log.clauses v → AreValues M nodes (bits_in log.bits) (state_of nodes log.entries).selectors v
-stored_values M nodes log v all stands h =
-    let k = stands_over nodes log stands in
-    let values = log_values M nodes log.entries v all k.steps (record {
-      clauses = λ id c e. h.clauses id c (ap (λ rows. clause_at rows id) k.clauses ∙ e);
-      constants = λ t n b w e. h.constants t n b w (k.bits t ∙ e);
-    }) in
-    record { bits = λ t b e. values.bits t b (sym (k.bits t) ∙ e); selectors = values.selectors }
+pub terms_valued : (M : Interpretation) (nodes : List Node) (reached : ℕ → Type 0) (log : LogValue) (v : ℕ → Bool) → IsTermList nodes → Stands nodes log → Satisfies M nodes reached log v → AreValues M nodes reached log v
+terms_valued M nodes reached log v all stands h =
+    let kept = stands_over nodes log stands in
+    record {
+      bits = λ t b in_it e. valued M nodes all reached log kept v h t in_it b e;
+      selectors = λ a p r in_it made gives is holds. selected M nodes all reached log kept v h a p r in_it made gives is holds;
+    }

@@ -1,5 +1,7 @@
 pub mod Growing
 mod Finding
+pub mod Placing
+pub mod Placed
 pub mod Sound
 pub mod Staying
 pub mod Selecting
@@ -9,3 +11,5 @@ pub mod Settled
 pub mod Assigned
 mod Tried
 mod Worked
+pub mod Growth
+pub mod Lines

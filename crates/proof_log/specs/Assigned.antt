@@ -1,22 +1,37 @@
--- What an assignment of the variables says of the terms of a log.
-use Rattle.std.specs.Prelude.{◌≡◌, ℕ, Bool, true, List, Option, Some}
+-- What an assignment of the variables says of terms of a log, where it makes the clauses of their steps true.
+use Rattle.std.specs.Prelude.{◌≡◌, ℕ, Bool, true, List, Some, Contains}
 use Rattle.cnf_base.specs.Literals.{Literal}
 use Rattle.cnf_base.specs.Clauses.{lit_true, clause_true}
-use Rattle.cnf_base.specs.declared.clause.ClauseId.{ClauseId}
 use Rattle.smt_terms.specs.declared.node.Node.{Node}
 use Rattle.smt_terms.specs.Nodes.{node_at}
 use Rattle.smt_terms.specs.Terms.{sort_of}
+use Rattle.smt_terms.specs.Bits.{bits_in}
 use Rattle.smt_terms.specs.Values.{Interpretation, is_true, value}
 use Rattle.bit_blast.specs.Meanings.{AreBitsOf}
-use Rattle.proof_log.specs.Logs.{Asserted, clause_at, constant_width}
+use Rattle.proof_log.specs.Logs.{Asserted, clause_at, constant_width, state_of}
+use Rattle.proof_log.specs.Places.{GivesBits, GivesSelector}
+use Rattle.proof_log.specs.Stored.{LogValue}
 
--- Under the assignment every clause is true, and the bits of each declared constant are those of its value.
-pub record Satisfies (M : Interpretation) (nodes : List Node) (held : ℕ → Option (List Literal)) (rows : List (List (List Literal))) (v : ℕ → Bool) : Type 0 where
-  pub clauses : (id : ClauseId) (c : List Literal) → clause_at rows id ≡ Some c → clause_true v c ≡ true
-  pub constants : (t n : ℕ) (b : List Literal) → constant_width (node_at nodes t).op ≡ Some n → held t ≡ Some b → AreBitsOf v (sort_of nodes t) b (value M nodes t)
+-- the clauses of the position are true
+abbrev pub IsTrueAt : LogValue → (ℕ → Bool) → ℕ → Type 0
+IsTrueAt log v p = (k : ℕ) (c : List Literal) → clause_at log.clauses (record { pos = p; part = k }) ≡ Some c → clause_true v c ≡ true
 
--- Under the assignment the bits of each term are those of its value, and where the selector of an assertion is true, the
--- assertion's term is.
-pub record AreValues (M : Interpretation) (nodes : List Node) (held : ℕ → Option (List Literal)) (asserted : ℕ → Option Asserted) (v : ℕ → Bool) : Type 0 where
-  pub bits : (t : ℕ) (b : List Literal) → held t ≡ Some b → AreBitsOf v (sort_of nodes t) b (value M nodes t)
-  pub selectors : (a : ℕ) (r : Asserted) → asserted a ≡ Some r → lit_true v r.literal ≡ true → is_true (value M nodes r.term) ≡ true
+-- the terms that the first terms reach through arguments are among the first terms
+abbrev pub AreClosed : List Node → (ℕ → Type 0) → Type 0
+AreClosed nodes reached = (t u : ℕ) → reached t → Contains (node_at nodes t).args u → reached u
+
+-- Of these terms, which are closed under arguments, each got its bits by a step whose clauses are true under the
+-- assignment, and the bits of each declared constant are those of its value. Position 0 has the clause that variable 1 is
+-- true.
+pub record Satisfies (M : Interpretation) (nodes : List Node) (reached : ℕ → Type 0) (log : LogValue) (v : ℕ → Bool) : Type 0 where
+  pub first : IsTrueAt log v 0
+  pub closed : AreClosed nodes reached
+  pub steps : (t : ℕ) → reached t → (p : ℕ) × GivesBits log.entries t p × IsTrueAt log v p
+  pub constants : (t n : ℕ) (b : List Literal) → reached t → constant_width (node_at nodes t).op ≡ Some n → bits_in log.bits t ≡ Some b → AreBitsOf v (sort_of nodes t) b (value M nodes t)
+
+-- Under the assignment the bits of each of these terms are those of its value. Where the selector of an assertion of such
+-- a term is true, and the clauses of the step that made it, the term is true.
+pub record AreValues (M : Interpretation) (nodes : List Node) (reached : ℕ → Type 0) (log : LogValue) (v : ℕ → Bool) : Type 0 where
+  pub bits : (t : ℕ) (b : List Literal) → reached t → bits_in log.bits t ≡ Some b → AreBitsOf v (sort_of nodes t) b (value M nodes t)
+  pub selectors : (a p : ℕ) (r : Asserted) → reached r.term → (state_of nodes log.entries).selectors a ≡ Some r → GivesSelector log.entries a p → IsTrueAt log v p
+      → lit_true v r.literal ≡ true → is_true (value M nodes r.term) ≡ true

@@ -1,10 +1,9 @@
 //! What the definitions of logs promise together.
 
-ghost use Rattle.std.specs.Prelude.{◌++◌, ℕ, Bool, List};
+ghost use Rattle.std.specs.Prelude.{◌++◌, ℕ, Bool, List, Contains};
 ghost use Rattle.smt_terms.specs.declared.node.Node.{Node};
 ghost use Rattle.smt_terms.specs.Terms.{TermsValue, IsTermList};
 ghost use Rattle.smt_terms.specs.Values.{Interpretation};
-ghost use Rattle.smt_terms.specs.Bits.{bits_in};
 ghost use Rattle.proof_log.specs.declared.entry.Entry.{Entry};
 ghost use Rattle.proof_log.specs.Logs.{LogState, IsStep, IsLog, state_of};
 ghost use Rattle.proof_log.specs.Meanings.{LogIsSound, LogIsOrdered, StaysLog, IsLogOver};
@@ -49,19 +48,11 @@ pub fn stored_logs_are_settled()
     ensures { (nodes : List Node) (log : LogValue) → IsTermList nodes → Stands nodes log → IsSettled nodes log }
 {}
 
-/// Where an assignment makes every clause of a log true, and the bits of each declared constant are those of its value in
-/// an interpretation, the bits of every term are those of its value, and each assertion whose selector is true is true.
-pub fn satisfied_logs_have_values()
-    ensures { (M : Interpretation) (nodes : List Node) (log : List Entry) (v : ℕ → Bool) →
-        IsTermList nodes → IsLog nodes log →
-        Satisfies M nodes (state_of nodes log).bits (state_of nodes log).clauses v →
-        AreValues M nodes (state_of nodes log).bits (state_of nodes log).selectors v }
-{}
-
-/// The same of a stored log.
-pub fn satisfied_stored_logs_have_values()
-    ensures { (M : Interpretation) (nodes : List Node) (log : LogValue) (v : ℕ → Bool) →
-        IsTermList nodes → Stands nodes log →
-        Satisfies M nodes (bits_in log.bits) log.clauses v →
-        AreValues M nodes (bits_in log.bits) (state_of nodes log.entries).selectors v }
+/// Where an assignment makes true the clauses of the steps that gave some terms bits, and these terms are closed under
+/// arguments, and the bits of each declared constant among them are those of its value in an interpretation: then the bits
+/// of each of them are those of its value. An assertion of such a term is true, if its selector is and the clauses of the
+/// step that made it.
+pub fn satisfied_terms_have_values()
+    ensures { (M : Interpretation) (nodes : List Node) (reached : List ℕ) (log : LogValue) (v : ℕ → Bool) →
+        IsTermList nodes → Stands nodes log → Satisfies M nodes (Contains reached) log v → AreValues M nodes (Contains reached) log v }
 {}

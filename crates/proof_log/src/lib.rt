@@ -4,15 +4,18 @@
 //! definitions in `specs/` say which steps are valid, what they leave, and what each variable means under an
 //! interpretation of the declarations. The laws say that every clause of every log is true in every interpretation, that
 //! the bits of a term are those of its value and a selector is the value of its assertion's term, that more steps and
-//! more terms keep all this, and that an assignment under which every clause of a log is true gives each term the bits of
-//! its value. `Log::push` adds a step that is known to be valid, `Log::try_push` one that may not be. The
+//! more terms keep all this, and that an assignment under which the clauses of the steps of some terms are true gives each
+//! of them the bits of its value. `Log::push` adds a step that is known to be valid, `Log::try_push` one that may not be. The
 //! crate stands on `bit_blast`, `hint_chain`, `smt_terms` and `cnf_base`.
 #![tactic(auto)]
 
+pub mod board;
+pub mod diary;
 pub mod entry;
 mod fault;
 mod laws;
 mod log;
+mod places;
 mod pushing;
 mod selectors;
 mod steps;
@@ -21,8 +24,8 @@ mod trying;
 pub use fault::{Kept, PushError, StepFault, StepKind};
 pub use laws::{
     logs_are_ordered, logs_are_sound, more_steps_keep_logs, more_terms_keep_logs,
-    more_terms_keep_stored_logs, satisfied_logs_have_values, satisfied_stored_logs_have_values,
-    stored_logs_are_settled, valid_steps_stand,
+    more_terms_keep_stored_logs, satisfied_terms_have_values, stored_logs_are_settled,
+    valid_steps_stand,
 };
 pub use log::Log;
 

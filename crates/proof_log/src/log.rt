@@ -7,6 +7,7 @@ ghost use Rattle.smt_terms.specs.Terms.{IsTermList, Agrees};
 ghost use Rattle.proof_log.specs.declared.entry.Entry.TheVariants as step;
 ghost use Rattle.proof_log.specs.Logs.{clause_at, entry_at, state_of};
 ghost use Rattle.proof_log.specs.Meanings.{IsSound};
+ghost use Rattle.proof_log.specs.Places.{GivesBits, GivesSelector, IsPlaceOf};
 ghost use Rattle.proof_log.specs.Stored.{Stands, IsPushed, selector_in};
 ghost use Rattle.proof_log.specs.Faults.{IsValid, MakesNoTerm, IsNewNode, with_node, IsDeclared, Answers};
 
@@ -19,7 +20,7 @@ use cnf_base::{Clause, ClauseId, Lit, Pos};
 use hint_chain::{Clauses, Marks};
 use smt_terms::bits::Bits;
 use smt_terms::fault::MakeError;
-use smt_terms::node::Node;
+use smt_terms::node::{Node, TermId};
 use smt_terms::terms::Terms;
 use std::alloc::{AllocError, Global};
 use std::marker::Model;
@@ -87,6 +88,20 @@ impl Log {
         ensures { option_copied result ≡ entry_at self.now.entries at }
     {
         self.steps.entry(at)
+    }
+
+    /// The position of the step that gave a term its bits, a Leaf or an Encode step; `None` exactly where there is none.
+    pub fn step_of(&self, term: TermId) -> Option<Pos>
+        ensures { IsPlaceOf (GivesBits self.now.entries term) result }
+    {
+        self.steps.of_term(term)
+    }
+
+    /// The position of the Selector step of an assertion; `None` exactly where there is none.
+    pub fn selector_step_of(&self, assertion: AssertId) -> Option<Pos>
+        ensures { IsPlaceOf (GivesSelector self.now.entries assertion) result }
+    {
+        self.steps.of_assertion(assertion)
     }
 
     /// The bits of terms.

@@ -6,6 +6,7 @@ ghost use Rattle.smt_terms.specs.Bits.{bits_in};
 ghost use Rattle.smt_terms.specs.Nodes.{node_at};
 ghost use Rattle.bit_blast.specs.Blocks.{block_of, EachShort};
 ghost use Rattle.proof_log.specs.Logs.{constant_width, plain_width};
+ghost use Rattle.proof_log.specs.Places.{IsPlain};
 ghost use Rattle.proof_log.specs.Stored.{with_leaf, with_plain, IsSelected, Encodes};
 
 use crate::entry::{AssertId, Entry};
@@ -150,6 +151,7 @@ impl Log {
         over: u32,
         entry: Entry,
     ) -> Result<(), AllocError>
+        requires { IsPlain entry }
         ensures ok { OnOk result (self.new ≡ with_plain self.old over entry) }
         ensures err { OnErr result (self.new ≡ self.old) }
     {

@@ -7,11 +7,12 @@ ghost use Rattle.cnf_base.specs.Literals.{true_literal};
 ghost use Rattle.smt_terms.specs.Terms.{Agrees, make};
 ghost use Rattle.proof_log.specs.declared.entry.Entry.TheVariants as step;
 ghost use Rattle.proof_log.specs.Logs.{entry_at, with_value};
+ghost use Rattle.proof_log.specs.Places.{GivesBits, GivesSelector, IsPlaceOf, IsForTerm, IsPlain};
 ghost use Rattle.proof_log.specs.Stored.{with_step, selector_in};
 ghost use Rattle.proof_log.specs.Faults.{NodeIsMade};
 
 use crate::entry::{AssertId, Entry};
-use crate::selectors;
+use crate::{places, selectors};
 use cnf_base::{Clause, ClauseId, Lit, Pos};
 use hint_chain::Clauses;
 use smt_terms::bits::Bits;
@@ -65,15 +66,21 @@ fn lone(clause: &Clause, part: u32) -> Option<&Clause>
 pub(crate) struct Steps {
     first: Clause,
     steps: Vec<Step>,
+    // The positions of the steps that gave bits and selectors, by term and by assertion.
+    terms: Vec<Option<Pos>>,
+    assertions: Vec<Option<Pos>>,
 }
 
 impl Model for Steps {
     ghost use Rattle.std.specs.Prelude.{[], ◌∷◌, map};
+    ghost use Rattle.proof_log.specs.Places.{ArePlaces};
     ghost use Rattle.proof_log.specs.Stored.{StepsValue};
 
     ghost Value = { StepsValue };
 
     ghost view = { λ s. record { entries = map (λ x. x.entry) s.steps.items; clauses = (s.first ∷ []) ∷ map (λ x. x.clauses) s.steps.items } };
+
+    ghost invariant = { λ s. ArePlaces (map (λ x. x.entry) s.steps.items) s.terms.items s.assertions.items };
 }
 
 impl Clauses for Steps {
@@ -101,6 +108,8 @@ impl Steps {
         Ok(Steps {
             first: Clause::of_one(alloc, Lit::TRUE)?,
             steps: Vec::new(alloc),
+            terms: Vec::new(alloc),
+            assertions: Vec::new(alloc),
         })
     }
 
@@ -124,8 +133,23 @@ impl Steps {
         }
     }
 
-    /// One step more, with these clauses.
+    /// The position of the step that gave a term its bits.
+    pub(crate) fn of_term(&self, term: TermId) -> Option<Pos>
+        ensures { IsPlaceOf (GivesBits self.now.entries term) result }
+    {
+        places::place_of(&self.terms, term)
+    }
+
+    /// The position of the step that gave an assertion its selector.
+    pub(crate) fn of_assertion(&self, assertion: AssertId) -> Option<Pos>
+        ensures { IsPlaceOf (GivesSelector self.now.entries assertion) result }
+    {
+        places::place_of(&self.assertions, assertion)
+    }
+
+    /// One step more, with these clauses, which gives neither bits nor a selector.
     pub(crate) fn push(&mut self, entry: Entry, made: Vec<Clause>) -> Result<(), AllocError>
+        requires { IsPlain entry }
         ensures ok { OnOk result (self.new ≡ with_step self.old entry made.items) }
         ensures err { OnErr result (self.new ≡ self.old) }
     {
@@ -143,13 +167,17 @@ impl Steps {
         made: Vec<Clause>,
     ) -> Result<(), AllocError>
         requires new { bits_in bits.old term ≡ None }
+        requires entry { IsForTerm term entry }
         ensures step { OnOk result (self.new ≡ with_step self.old entry made.items) }
         ensures bits { OnOk result (bits.new ≡ with_bits bits.old term row.now) }
         ensures err { OnErr result (self.new ≡ self.old) }
         ensures err_bits { OnErr result (bits.new ≡ bits.old) }
     {
+        let at = self.len();
+        places::grow(&mut self.terms, term)?;
         self.steps.reserve(1)?;
         bits.set(term, row)?;
+        places::set(&mut self.terms, term, at);
         self.steps.push_reserved(Step { entry, made });
         Ok(())
     }
@@ -163,14 +191,18 @@ impl Steps {
         entry: Entry,
         made: Vec<Clause>,
     ) -> Result<(), AllocError>
+        requires { (t : ℕ) × (entry ≡ step.Selector assertion t) }
         ensures step { OnOk result (self.new ≡ with_step self.old entry made.items) }
         ensures held { OnOk result ((a : ℕ) → selector_in held.new.items a ≡ with_value (selector_in held.old.items) assertion selector a) }
         ensures err { OnErr result (self.new ≡ self.old) }
         ensures err_held { OnErr result (held.new.items ≡ held.old.items) }
     {
+        let at = self.len();
+        places::grow(&mut self.assertions, assertion)?;
         self.steps.reserve(1)?;
         selectors::grow(held, assertion)?;
         selectors::set(held, assertion, selector);
+        places::set(&mut self.assertions, assertion, at);
         self.steps.push_reserved(Step { entry, made });
         Ok(())
     }

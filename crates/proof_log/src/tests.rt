@@ -102,6 +102,9 @@ fn clauses_are_found_by_position_and_part(rt: HostRuntime) -> Result<(), Fail> {
     assert!(rt; proof.log.clause(ClauseId { pos: 2, part: 1 }).is_none());
     assert!(rt; matches!(proof.log.entry(1), Some(Entry::Encode(0))));
     assert!(rt; proof.log.selector(0) == Some(Lit::new(2, true)));
+    assert!(rt; proof.log.step_of(0) == Some(1));
+    assert!(rt; proof.log.selector_step_of(0) == Some(2));
+    assert!(rt; proof.log.selector_step_of(1).is_none());
     Ok(())
 }
 

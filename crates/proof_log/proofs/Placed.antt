@@ -1,0 +1,89 @@
+-- Each term that has bits got them by a step, and each selector was made by one.
+use Rattle.std.proofs.Common.{◌≡◌, ℕ, suc, List, [], ◌∷◌, ◌++◌, length, append_assoc, append-nil, Option, Some, None, refl, sym, ap, ◌∙◌, subst, inl, inr, ⊎_elim}
+use Rattle.std.specs.Prelude.{◌⊎◌, IsSome, slice_get}
+use Rattle.std.proofs.lemmas.Option.{slice_get-get_or}
+use Rattle.cnf_base.specs.Literals.{Literal}
+use Rattle.smt_terms.specs.declared.node.Node.{Node}
+use Rattle.smt_terms.specs.Nodes.{node_at}
+use Rattle.smt_terms.specs.Bits.{bits_in}
+use Rattle.bit_blast.specs.Blocks.{Block, block_of}
+use Rattle.proof_log.specs.declared.entry.Entry.{Entry}
+use Rattle.proof_log.specs.declared.entry.Entry.TheVariants as step
+use Rattle.proof_log.specs.Logs.{Asserted, LogState, start, constant_width, leaf_after, block_after, selector_after, after, state_from, state_of}
+use Rattle.proof_log.specs.Places.{GivesBits, GivesSelector, IsPlaceOf}
+use Rattle.proof_log.specs.Stored.{LogValue, Stands, selector_in, literal_of}
+use Rattle.proof_log.proofs.Placing.{bits_more, entry_last}
+use Rattle.proof_log.proofs.Selecting.{log_selects}
+use Rattle.proof_log.proofs.Sound.{with_value_cases}
+use Rattle.proof_log.proofs.Standing.{stands_over}
+
+-- a step among these gave the term its bits
+abbrev IsGivenIn : List Entry → ℕ → Type 0
+IsGivenIn log t = (p : ℕ) × GivesBits log t p
+
+abbrev AreGivenIn : List Entry → (ℕ → Option (List Literal)) → Type 0
+AreGivenIn log bits = (t : ℕ) (b : List Literal) → bits t ≡ Some b → IsGivenIn log t
+
+more_given : (log : List Entry) (e : Entry) (bits : ℕ → Option (List Literal)) → AreGivenIn log bits → AreGivenIn (log ++ e ∷ []) bits
+more_given log e bits h t b q = let k = h t b q in (k.0, bits_more log e t k.0 k.1)
+
+leaf_given : (log : List Entry) (s : LogState) (t : ℕ) (o : Option ℕ) → AreGivenIn log s.bits → AreGivenIn (log ++ step.Leaf t ∷ []) (leaf_after s t o).bits
+leaf_given log s t None h = more_given log (step.Leaf t) s.bits h
+leaf_given log s t (Some n) h = λ u b q.
+    ⊎_elim
+    (λ p. subst (IsGivenIn (log ++ step.Leaf t ∷ [])) (sym p.0) (suc (length log), inl (entry_last log (step.Leaf t))))
+    (λ p. more_given log (step.Leaf t) s.bits h u b p)
+    (with_value_cases s.bits t _ u b q)
+
+block_given : (log : List Entry) (s : LogState) (t : ℕ) (o : Option Block) → AreGivenIn log s.bits → AreGivenIn (log ++ step.Encode t ∷ []) (block_after s t o).bits
+block_given log s t None h = more_given log (step.Encode t) s.bits h
+block_given log s t (Some n) h = λ u b q.
+    ⊎_elim
+    (λ p. subst (IsGivenIn (log ++ step.Encode t ∷ [])) (sym p.0) (suc (length log), inr (entry_last log (step.Encode t))))
+    (λ p. more_given log (step.Encode t) s.bits h u b p)
+    (with_value_cases s.bits t _ u b q)
+
+selector_same : (s : LogState) (a t : ℕ) (o : Option (List Literal)) → (selector_after s a t o).bits ≡ s.bits
+selector_same s a t None = refl
+selector_same s a t (Some []) = refl
+selector_same s a t (Some (b ∷ bs)) = refl
+
+step_given : (nodes : List Node) (log : List Entry) (s : LogState) (e : Entry) → AreGivenIn log s.bits → AreGivenIn (log ++ e ∷ []) (after nodes s e).bits
+step_given nodes log s (step.Node n) h = more_given log (step.Node n) s.bits h
+step_given nodes log s (step.Leaf t) h = leaf_given log s t (constant_width (node_at nodes t).op) h
+step_given nodes log s (step.Encode t) h = block_given log s t (block_of s.next s.bits (node_at nodes t)) h
+step_given nodes log s (step.Selector a t) h =
+    subst (AreGivenIn (log ++ step.Selector a t ∷ [])) (sym (selector_same s a t (s.bits t))) (more_given log (step.Selector a t) s.bits h)
+step_given nodes log s (step.Chain c hints) h = more_given log (step.Chain c hints) s.bits h
+
+steps_given : (nodes : List Node) (before : List Entry) (s : LogState) (log : List Entry) → AreGivenIn before s.bits → AreGivenIn (before ++ log) (state_from nodes s log).bits
+steps_given nodes before s [] h = subst (λ l. AreGivenIn l s.bits) (sym (append-nil before)) h
+steps_given nodes before s (e ∷ log) h =
+    subst (λ l. AreGivenIn l (state_from nodes (after nodes s e) log).bits) (append_assoc before (e ∷ []) log)
+    (steps_given nodes (before ++ e ∷ []) (after nodes s e) log (step_given nodes before s e h))
+
+log_given : (nodes : List Node) (log : List Entry) → AreGivenIn log (state_of nodes log).bits
+log_given nodes log = steps_given nodes [] start log (λ t b e. let q : ⊥ = cc in absurd q)
+
+-- ---- what a look-up of positions finds
+
+some_place : (P : ℕ → Type 0) (o : Option ℕ) → IsPlaceOf P o → (p : ℕ) × P p → IsSome o
+some_place P None h k = absurd (h k.0 k.1)
+some_place P (Some p) h k = refl
+
+-- where a term has bits, the position of its step is found
+pub bits_placed : (nodes : List Node) (log : LogValue) (t : ℕ) (b : List Literal) (o : Option ℕ) → Stands nodes log → bits_in log.bits t ≡ Some b → IsPlaceOf (GivesBits log.entries t) o → IsSome o
+bits_placed nodes log t b o stands e h =
+    some_place (GivesBits log.entries t) o h (log_given nodes log.entries t b (sym ((stands_over nodes log stands).bits t) ∙ e))
+
+asserted_of : (o : Option Asserted) (l : Literal) → literal_of o ≡ Some l → (r : Asserted) × (o ≡ Some r)
+asserted_of None l e = let q : ⊥ = cc in absurd q
+asserted_of (Some r) l e = (r, refl)
+
+-- where an assertion has a selector, the position of its step is found
+pub selector_placed : (nodes : List Node) (log : LogValue) (a : ℕ) (l : Literal) (o : Option ℕ) → Stands nodes log → selector_in log.selectors a ≡ Some l → IsPlaceOf (GivesSelector log.entries a) o → IsSome o
+selector_placed nodes log a l o stands e h =
+    let r = asserted_of ((state_of nodes log.entries).selectors a) l (sym ((stands_over nodes log stands).selectors a) ∙ e) in
+    let among = (log_selects nodes log.entries a r.0 r.1).1 in
+    some_place (GivesSelector log.entries a) o h
+    (suc among.0, (r.0.term, slice_get-get_or log.entries among.0 (step.Selector a r.0.term) among.1 ∙ ap Some among.2))

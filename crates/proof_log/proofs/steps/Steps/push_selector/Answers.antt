@@ -1,0 +1,10 @@
+use Rattle.std.proofs.Common.{suc, ◌∙◌, sym, ap, length}
+use Rattle.proof_log.proofs.Placing.{assertion_kept}
+use Rattle.proof_log.proofs.steps.Steps.push_selector.Goals as goal
+
+pub invariant_of-self-2 : goal.invariant_of-self-2
+invariant_of-self-2 c =
+    assertion_kept (λ x. x.entry) c.self.inside.steps.items c.reserve.new.self.items c.push_reserved.new.self.items _ c.args.assertion c.requires.0 c.len-at.result c.self.inside.terms.items c.self.inside.assertions.items c.grow.new.held.items c.set-2.new.held.items
+    c.in_ok-reserve.ensures.items c.push_reserved.ensures.items
+    (c.len-at.ensures ∙ ap (λ v. suc (length v.entries)) (sym c.self.view_is))
+    c.requires.1 c.in_ok-grow.ensures.same c.set-2.ensures c.self.invariant
