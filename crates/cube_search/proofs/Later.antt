@@ -1,0 +1,161 @@
+-- A search over a log that grew.
+use Rattle.std.proofs.Common.{◌≡◌, ℕ, suc, ◌<◌, ◌≤◌, true, List, length, Option, Some, None, refl, sym, ap, ◌∙◌, subst, arith}
+use Rattle.std.specs.Prelude.{Contains}
+use Rattle.cnf_base.specs.Literals.{Literal}
+use Rattle.cnf_base.specs.Assignments.{AreBelow}
+use Rattle.cnf_base.specs.declared.clause.ClauseId.{ClauseId}
+use Rattle.cnf_base.proofs.Agreeing.{AreBelow-more}
+use Rattle.hint_chain.specs.Chains.{Lookup, IsChain}
+use Rattle.hint_chain.proofs.Growing.{IsChain-grows}
+use Rattle.smt_terms.specs.declared.node.Node.{Node}
+use Rattle.proof_log.specs.declared.entry.Entry.{Entry}
+use Rattle.proof_log.specs.declared.entry.Entry.TheVariants as step
+use Rattle.proof_log.specs.Logs.{clause_at, entry_at, state_of, IsStep, IsLog}
+use Rattle.proof_log.specs.Boards.{Grows, IsLater, IsPutAt}
+use Rattle.proof_log.specs.Diaries.{Subject, look_of, is_chain, blank}
+use Rattle.proof_log.proofs.Growth.{grown_holds, grown_length, clause_stays, clause_place, entry_stays, entry_within, clauses_exist, put_is_new}
+use Rattle.proof_log.proofs.Lines.{IsProlonged, blank_within, lines_within, diary_longer}
+use Rattle.local_names.specs.Names.{global, global_clause, local_look}
+use Rattle.local_names.proofs.Renamed.{contains_map, contains_of_map, chain_of_local, found_local}
+use Rattle.cdcl_core.specs.declared.watches.Watches.{Watches}
+use Rattle.cdcl_core.specs.Search.{clause_of}
+use Rattle.cdcl_learn.specs.Puts.{StandsIn, IsAgainst}
+use Rattle.cube_search.specs.Numbers.{global_found, global_look, AreNumbers, AreNumbered}
+use Rattle.cube_search.proofs.Naming.{below_member, below_each, numbers_below, against_global, against_below}
+use Rattle.cube_search.specs.Keeping.{IsKept}
+use Rattle.cube_search.specs.declared.keeper.Keeper.{Keeper}
+use Rattle.cube_search.specs.Running.{IsSearchOf}
+
+-- ---- chains
+
+pub chain_entry : (o : Option Entry) → is_chain o ≡ true → (c : List Literal) × (hints : List ClauseId) × (o ≡ Some (step.Chain c hints))
+chain_entry None e = let f : ⊥ = cc in absurd f
+chain_entry (Some (step.Node n)) e = let f : ⊥ = cc in absurd f
+chain_entry (Some (step.Leaf t)) e = let f : ⊥ = cc in absurd f
+chain_entry (Some (step.Encode t)) e = let f : ⊥ = cc in absurd f
+chain_entry (Some (step.Selector a t)) e = let f : ⊥ = cc in absurd f
+chain_entry (Some (step.Chain c hints)) e = (c, hints, refl)
+
+pub chain_within : (log : List Entry) (p : ℕ) → is_chain (entry_at log p) ≡ true → p ≤ length log
+chain_within log p e = let k = chain_entry (entry_at log p) e in entry_within log p (step.Chain k.0 k.1) k.2
+
+-- ---- what is held
+
+same_nodes : (look : Lookup) (variables opening taken : List ℕ) (from seen : ℕ) (nodes : List Node) (log log' : List Entry) → Grows log log' → IsLog nodes log' → IsSearchOf look variables opening taken from seen nodes log → IsSearchOf look variables opening taken from seen nodes log'
+same_nodes look variables opening taken from seen nodes log log' grows stands h =
+    let more = grown_holds nodes log log' grows stands in
+    let longer = grown_length log log' grows in
+    record {
+      holding = record {
+        sound = λ id c e. more.clauses id c (h.holding.sound id c e);
+        among = h.holding.among;
+        covered = h.holding.covered;
+        complete = λ id c k e.
+            let low = h.placed.before id.pos k in
+            h.holding.complete id c k (sym (clause_stays nodes log log' id grows (omega (arith, low, h.placed.from_seen, h.placed.within))) ∙ e);
+        occurs = λ x k. let o = h.holding.occurs x k in (o.0, o.1, o.2, o.3, more.clauses o.0 o.1 o.4, o.5, o.6);
+      };
+      placed = record {
+        before = h.placed.before;
+        chains = λ p k. let q = h.placed.chains p k in (q.0, ap is_chain (entry_stays log log' p grows (chain_within log p q.1)) ∙ q.1);
+        from_seen = h.placed.from_seen;
+        within = omega (arith, h.placed.within, longer);
+      };
+      listed = h.listed;
+      stands = stands;
+    }
+
+pub search_later : (look : Lookup) (variables opening taken : List ℕ) (from seen : ℕ) (nodes nodes' : List Node) (log log' : List Entry) (known known' : ℕ → Type 0) → IsLater nodes nodes' log log' known known' → IsSearchOf look variables opening taken from seen nodes log → IsSearchOf look variables opening taken from seen nodes' log'
+search_later look variables opening taken from seen nodes nodes' log log' known known' l h =
+    subst (λ n. IsSearchOf look variables opening taken from seen n log') (sym l.nodes)
+    (same_nodes look variables opening taken from seen nodes log log' l.grows (subst (λ n. IsLog n log') l.nodes l.stands) h)
+
+-- the next variable does not fall
+below_later_same : (nodes : List Node) (log log' : List Entry) (given : List Literal) → Grows log log' → IsLog nodes log' → AreBelow (state_of nodes log).next given → AreBelow (state_of nodes log').next given
+below_later_same nodes log log' given grows stands h = AreBelow-more (state_of nodes log).next (state_of nodes log').next (grown_holds nodes log log' grows stands).next given h
+
+pub below_later : (nodes nodes' : List Node) (log log' : List Entry) (known known' : ℕ → Type 0) (given : List Literal) → IsLater nodes nodes' log log' known known' → AreBelow (state_of nodes log).next given → AreBelow (state_of nodes' log').next given
+below_later nodes nodes' log log' known known' given l h =
+    subst (λ n. AreBelow (state_of n log').next given) (sym l.nodes) (below_later_same nodes log log' given l.grows (subst (λ n. IsLog n log') l.nodes l.stands) h)
+
+-- ---- the diary
+
+kept_prolonged : (g g' : Subject) (look : Lookup) (variables : List ℕ) (k : Keeper) (seen : ℕ) → IsProlonged g g' → g.from ≤ suc (length g.log) → seen ≤ suc (length g.log) → ((i : ClauseId) → i.pos ≤ length g.log → look_of g' i ≡ look_of g i) → IsKept g look variables k seen → IsKept g' look variables k seen
+kept_prolonged g g' look variables k seen p from within same h =
+    let d = diary_longer g g' p from k.lines.items h.stand in
+    let inside = lines_within g (blank g) k.lines.items h.stand (blank_within g from) in
+    record {
+      stand = d.0;
+      puts = ap (λ s. s.puts) d.1 ∙ h.puts;
+      chains = omega (arith, h.chains, ap (λ s. s.chains) d.1);
+      drops = omega (arith, h.drops, ap (λ s. s.drops) d.1);
+      held = λ id c e. ap (λ s. s.held id.pos) d.1 ∙ h.held id c e;
+      complete = λ id c held e.
+          let old = sym (ap (λ s. s.held id.pos) d.1) ∙ held in
+          h.complete id c old (sym (same id (inside id.pos old)) ∙ e);
+      lined = λ q le lt e. h.lined q le lt (sym (ap is_chain (entry_stays g.log g'.log q p.grows (omega (arith, lt, within)))) ∙ e);
+      start = omega (arith, h.start, p.from);
+      begun = h.begun;
+      later = h.later;
+    }
+
+same_kept : (nodes : List Node) (log log' : List Entry) (given : List Literal) (from seen : ℕ) (look : Lookup) (variables : List ℕ) (k : Keeper) → Grows log log' → from ≤ suc (length log) → seen ≤ suc (length log) → IsKept (record { nodes = nodes; log = log; given = given; from = from }) look variables k seen → IsKept (record { nodes = nodes; log = log'; given = given; from = from }) look variables k seen
+same_kept nodes log log' given from seen look variables k grows low within h =
+    kept_prolonged (record { nodes = nodes; log = log; given = given; from = from }) (record { nodes = nodes; log = log'; given = given; from = from }) look variables k seen
+    (record { nodes = refl; given = refl; from = refl; grows = grows }) low within (λ i le. clause_stays nodes log log' i grows le) h
+
+pub kept_later : (nodes nodes' : List Node) (log log' : List Entry) (known known' : ℕ → Type 0) (given : List Literal) (from seen : ℕ) (look : Lookup) (variables : List ℕ) (k : Keeper) → IsLater nodes nodes' log log' known known' → from ≤ suc (length log) → seen ≤ suc (length log) → IsKept (record { nodes = nodes; log = log; given = given; from = from }) look variables k seen → IsKept (record { nodes = nodes'; log = log'; given = given; from = from }) look variables k seen
+kept_later nodes nodes' log log' known known' given from seen look variables k l low within h =
+    subst (λ n. IsKept (record { nodes = n; log = log'; given = given; from = from }) look variables k seen) (sym l.nodes)
+    (same_kept nodes log log' given from seen look variables k l.grows low within h)
+
+-- ---- chains that may be put
+
+module _ (names : List ℕ) (bound : ℕ) (w : Watches) (variables opening taken : List ℕ) (near : List Literal) (from seen : ℕ) (nodes : List Node) (log : List Entry) (numbered : AreNumbered names bound w near) (h : IsSearchOf (global_look names (clause_of w)) variables opening taken from seen nodes log) where
+  -- what is held stands under its variables in the log
+  pub held_stands : (id : ClauseId) (c : List Literal) → clause_of w id ≡ Some c → clause_at (state_of nodes log).clauses id ≡ Some (global_clause names c)
+  held_stands id c e = h.holding.sound id (global_clause names c) (ap (global_found names) e)
+
+  -- and is found there under its numbers
+  pub held_near : (id : ClauseId) (c : List Literal) → clause_of w id ≡ Some c → local_look names (clause_at (state_of nodes log).clauses) id ≡ Some c
+  held_near id c e = found_local names (clause_at (state_of nodes log).clauses) c id numbered.numbers.once (numbers_below bound (length names) c numbered.within (numbered.clauses id c e)) (held_stands id c e)
+
+  -- a chain over clauses that are held is one over those of the log
+  pub held_chain : (c : List Literal) (hints : List ClauseId) → AreBelow (length names) c → IsChain (clause_of w) c hints → IsChain (clause_at (state_of nodes log).clauses) (global_clause names c) hints
+  held_chain c hints below k =
+      chain_of_local names (clause_at (state_of nodes log).clauses) c hints numbered.numbers.once below
+      (IsChain-grows (clause_of w) (local_look names (clause_at (state_of nodes log).clauses)) held_near c hints k)
+
+  pub closing_step : (c : List Literal) (hints : List ClauseId) → AreBelow (state_of nodes log).next (global_clause names near) → IsAgainst near c → IsChain (clause_of w) c hints → IsStep nodes (state_of nodes log) (step.Chain (global_clause names c) hints)
+  closing_step c hints below against k = (
+    against_below (state_of nodes log).next (global_clause names near) (global_clause names c) below (against_global names near c against),
+    held_chain c hints (against_below (length names) near c numbered.literals against) k,
+  )
+
+  -- the literals of a learnt clause are those of its hints
+  pub learnt_numbers : (c : List Literal) (hints : List ClauseId) → ((l : Literal) → Contains c l → StandsIn (clause_of w) hints l) → AreNumbers bound c
+  learnt_numbers c hints stands l k = let s = stands l k in numbered.clauses s.0 s.1.0 s.1.1.1.0 l s.1.1.1.1
+
+  pub learnt_below : (c : List Literal) (hints : List ClauseId) → ((l : Literal) → Contains c l → StandsIn (clause_of w) hints l) → AreBelow (length names) c
+  learnt_below c hints stands = numbers_below bound (length names) c numbered.within (learnt_numbers c hints stands)
+
+  pub learnt_step : (c : List Literal) (hints : List ClauseId) → ((l : Literal) → Contains c l → StandsIn (clause_of w) hints l) → IsChain (clause_of w) c hints → IsStep nodes (state_of nodes log) (step.Chain (global_clause names c) hints)
+  learnt_step c hints stands k = (below_each (state_of nodes log).next (global_clause names c) below, held_chain c hints (learnt_below c hints stands) k)
+    where
+      below : (l : Literal) → Contains (global_clause names c) l → l.variable < (state_of nodes log).next
+      below l m =
+          let near_l = contains_of_map (global names) c l m in
+          let s = stands near_l.0 near_l.1 in
+          below_member (state_of nodes log).next (global_clause names s.1.0) l
+          (clauses_exist nodes log h.listed h.stands s.0 (global_clause names s.1.0) (held_stands s.0 s.1.0 s.1.1.1.0))
+          (subst (Contains (global_clause names s.1.0)) near_l.2 (contains_map (global names) s.1.0 near_l.0 s.1.1.1.1))
+
+  -- the position of a put is that of no held clause
+  pub put_is_fresh : (new : List Entry) (e : Entry) (at : ℕ) → IsPutAt log e at new → clause_of w (record { pos = at; part = 0 }) ≡ None
+  put_is_fresh new e at p = go (clause_of w (record { pos = at; part = 0 })) refl
+    where
+      go : (o : Option (List Literal)) → clause_of w (record { pos = at; part = 0 }) ≡ o → o ≡ None
+      go None q = refl
+      go (Some c) q =
+          let le = clause_place nodes log (record { pos = at; part = 0 }) (global_clause names c) (held_stands (record { pos = at; part = 0 }) c q) in
+          absurd (omega (arith, le, put_is_new log new e at p))

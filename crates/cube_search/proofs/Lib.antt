@@ -1,0 +1,14 @@
+pub mod Sets
+pub mod Courses
+pub mod Trails
+pub mod Values
+pub mod Naming
+pub mod Filling
+pub mod Later
+pub mod Keeping
+pub mod Putting
+pub mod Spent
+pub mod Beginning
+pub mod Moving
+pub mod Steps
+pub mod Assuming

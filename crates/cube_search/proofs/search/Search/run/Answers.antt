@@ -1,0 +1,38 @@
+use Rattle.std.proofs.Common.{◌∙◌, ap}
+use Rattle.std.proofs.lemmas.Bool.{MatchBool-at_false}
+use Rattle.proof_log.proofs.Growth.{later_then}
+use Rattle.cube_search.proofs.Assuming.{none_of}
+use Rattle.cube_search.proofs.Steps.{same_given, some_of_match, run_end}
+use Rattle.cube_search.proofs.search.Search.run.Goals as goal
+
+pub steps-init : goal.steps-init
+steps-init g c = record {
+  opening = c.in_ok-take_news.ensures.run.opening ∙ c.begin.ensures.opening;
+  from = c.in_ok-take_news.ensures.run.from ∙ c.begin.ensures.from;
+  given = same_given c.begin.new.self c.take_news.new.self c.in_ok-take_news.ensures.run ∙ c.in_ok-begin.ensures.given;
+  later = c.in_ok-take_news.ensures.later;
+  running = c.in_ok-take_news.ensures.running;
+  upto = λ separate. MatchBool-at_false _ _ c.if-branch.false c.in_ok-take_news.ensures.news (c.in_ok-begin.ensures.writing separate);
+}
+
+pub returns-in_err-end-clause-later : goal.returns-in_err-end-clause-later
+returns-in_err-end-clause-later g c = later_then (g.B.Board.nodes c.args.board.now) (g.B.Board.nodes c.steps.board) (g.B.Board.nodes c.step.new.board) (g.B.Board.log c.args.board.now) (g.B.Board.log c.steps.board) (g.B.Board.log c.step.new.board) (g.B.Board.knows c.args.board.now) (g.B.Board.knows c.steps.board) (g.B.Board.knows c.step.new.board) c.steps.invariant.later c.step.ensures.later
+
+pub returns-in-Some-clause-later : goal.returns-in-Some-clause-later
+returns-in-Some-clause-later g c = later_then (g.B.Board.nodes c.args.board.now) (g.B.Board.nodes c.steps.board) (g.B.Board.nodes c.step.new.board) (g.B.Board.log c.args.board.now) (g.B.Board.log c.steps.board) (g.B.Board.log c.step.new.board) (g.B.Board.knows c.args.board.now) (g.B.Board.knows c.steps.board) (g.B.Board.knows c.step.new.board) c.steps.invariant.later c.step.ensures.later
+
+pub returns-in-Some-clause-end : goal.returns-in-Some-clause-end
+returns-in-Some-clause-end g c =
+    run_end _ _ c.steps.self c.step.new.self (g.B.Board.nodes c.step.new.board) (g.B.Board.log c.step.new.board) (g.B.Board.knows c.step.new.board) (g.B.Board.found c.step.new.board) c.args.given.now c.args.self.now.from c.args.self.now.opening.items c.args.cube c.args.budget c.in-Some.end
+    c.steps.invariant.upto c.steps.invariant.given c.steps.invariant.from (ap (λ v. v.items) c.steps.invariant.opening) c.in_ok-end.ensures.run.names
+    (some_of_match _ _ c.in_ok-end.field-0 c.in-Some.end c.in-Some.is c.in_ok-end.ensures.end)
+
+pub steps-preserved : goal.steps-preserved
+steps-preserved g c = record {
+  opening = c.in_ok-end.ensures.run.opening ∙ c.steps.invariant.opening;
+  from = c.in_ok-end.ensures.run.from ∙ c.steps.invariant.from;
+  given = same_given c.steps.self c.step.new.self c.in_ok-end.ensures.run ∙ c.steps.invariant.given;
+  later = later_then (g.B.Board.nodes c.args.board.now) (g.B.Board.nodes c.steps.board) (g.B.Board.nodes c.step.new.board) (g.B.Board.log c.args.board.now) (g.B.Board.log c.steps.board) (g.B.Board.log c.step.new.board) (g.B.Board.knows c.args.board.now) (g.B.Board.knows c.steps.board) (g.B.Board.knows c.step.new.board) c.steps.invariant.later c.step.ensures.later;
+  running = c.in_ok-end.ensures.running;
+  upto = λ separate. none_of _ c.in_ok-end.field-0 c.in_default.not-Some c.in_ok-end.ensures.end (c.steps.invariant.upto separate);
+}

@@ -1,0 +1,50 @@
+-- How a search ends.
+use Rattle.std.specs.Prelude.{◌≡◌, ◌≤◌, ◌⊎◌, ℕ, suc, Bool, true, false, List, length, Some, Contains, slice_index_or}
+use Rattle.cnf_base.specs.Literals.{Literal, positive_of}
+use Rattle.cnf_base.specs.Clauses.{lit_true, clause_true}
+use Rattle.cnf_base.specs.declared.clause.ClauseId.{ClauseId}
+use Rattle.proof_log.specs.declared.diary.Diary.{Diary}
+use Rattle.proof_log.specs.declared.diary.DiaryLine.TheVariants.{Put}
+use Rattle.proof_log.specs.Logs.{clause_at, state_of}
+use Rattle.proof_log.specs.Diaries.{Subject, IsSpent}
+use Rattle.local_names.specs.Names.{global_values}
+use Rattle.cdcl_learn.specs.Puts.{IsAgainst}
+use Rattle.cube_search.specs.declared.ends.End.{End}
+use Rattle.cube_search.specs.declared.ends.End.TheVariants.{Closed, Model, Spent, Stopped}
+use Rattle.cube_search.specs.Keeping.{AreImported}
+
+-- the value of each variable; those without one are false
+abbrev pub assignment : List Bool → ℕ → Bool
+assignment values x = slice_index_or values x false
+
+-- the literal is made true where it is positive, and nothing else
+pub record IsMadeTrue (old new : ℕ → Bool) (l : Literal) : Type 0 where
+  pub kept : (x : ℕ) → old x ≡ true → new x ≡ true
+  pub only : (x : ℕ) → new x ≡ true → (old x ≡ true) ⊎ (l ≡ positive_of x)
+  pub made : l.positive ≡ true → new l.variable ≡ true
+
+-- every clause of these positions is true, and each given literal
+pub record IsModel (rows : List (List (List Literal))) (positions : List ℕ) (given : List Literal) (v : ℕ → Bool) : Type 0 where
+  pub clauses : (id : ClauseId) (c : List Literal) → Contains positions id.pos → clause_at rows id ≡ Some c → clause_true v c ≡ true
+  pub literals : (l : Literal) → Contains given l → lit_true v l ≡ true
+
+-- clause 0 of the position has only opposites of given literals
+abbrev pub IsClosing : List (List (List Literal)) → List Literal → ℕ → Type 0
+IsClosing rows given p = (c : List Literal) × (clause_at rows (record { pos = p; part = 0 }) ≡ Some c) × IsAgainst given c
+
+-- The diary has spent the budget, its puts are from its start on, and from there each chain that is known has a line. It starts
+-- where the search's own chains begin or later.
+pub record IsSpentDiary (g : Subject) (knows : ℕ → Type 0) (budget : ℕ) (d : Diary) : Type 0 where
+  pub spent : IsSpent g budget d.lines
+  pub imported : AreImported d.lines g.log knows d.start
+  pub start : g.from ≤ d.start
+  pub within : d.start ≤ suc (length g.log)
+  pub later : (p : ℕ) → Contains d.lines (Put p) → d.start ≤ p
+
+-- What an end says of a board after it, of which the search holds these positions from the opening, with their variables under the numbers
+-- of these names. That of a diary it says where the condition holds.
+abbrev pub IsEnd : Type 0 → Subject → (ℕ → Type 0) → Bool → List ℕ → List ℕ → ℕ → ℕ → End → Type 0
+IsEnd condition g knows found positions names cube budget (Closed p) = IsClosing (state_of g.nodes g.log).clauses g.given p
+IsEnd condition g knows found positions names cube budget (Model values) = IsModel (state_of g.nodes g.log).clauses positions g.given (global_values names (assignment values.items))
+IsEnd condition g knows found positions names cube budget (Spent d) = (d.cube ≡ cube) × (condition → IsSpentDiary g knows budget d)
+IsEnd condition g knows found positions names cube budget Stopped = found ≡ true

@@ -1,0 +1,6 @@
+pub mod Holding
+pub mod Numbers
+pub mod Courses
+pub mod Keeping
+pub mod Running
+pub mod Ends

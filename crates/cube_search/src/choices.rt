@@ -1,0 +1,222 @@
+//! What a search chooses: variables, signs, restarts, and the clauses that it drops.
+
+ghost use Rattle.std.specs.Prelude.{◌<◌, ◌^◌, IfSome};
+ghost use Rattle.cdcl_core.specs.Levels.{IsOpen};
+ghost use Rattle.cdcl_core.specs.Search.{literals_of, level_of};
+ghost use Rattle.cdcl_core.specs.State.{IsConsistent};
+
+use crate::model::Row;
+use cdcl_core::{Trail, Watches};
+use cnf_base::{ClauseId, Lit, Pos};
+use search_heuristics::{
+    GlueCounter, Learnt, Phases, Restarts, VariableOrder, drops_are_due, worse_half,
+};
+use std::alloc::{AllocError, Global};
+
+/// The state of the choices.
+#[derive(Drop)]
+pub struct Choices {
+    alloc: Global,
+    order: VariableOrder,
+    phases: Phases,
+    restarts: Restarts,
+    counter: GlueCounter,
+    // by variable: the level at which it got its value
+    levels: Vec<u64>,
+    // by variable: the number of the last conflict that met it
+    met: Vec<u64>,
+    // how many rows of the trail were seen
+    seen: usize,
+    conflicts: u64,
+    // the chains that may be dropped, with their worth
+    chains: Vec<Pos>,
+    learnt: Vec<Learnt>,
+}
+
+impl Choices {
+    /// For the variables below the bound.
+    pub(crate) fn new(alloc: Global, bound: u64) -> Result<Choices, AllocError> {
+        let bound = bound as usize;
+        let mut order = VariableOrder::new(alloc);
+        order.reserve(bound)?;
+        let mut phases = Phases::new(alloc);
+        phases.reserve(bound)?;
+        let mut counter = GlueCounter::new(alloc);
+        counter.reserve(bound)?;
+        Ok(Choices {
+            alloc,
+            order,
+            phases,
+            restarts: Restarts::new(),
+            counter,
+            levels: vec![in alloc; 0; bound]?,
+            met: vec![in alloc; 0; bound]?,
+            seen: 0,
+            conflicts: 0,
+            chains: Vec::new(alloc),
+            learnt: Vec::new(alloc),
+        })
+    }
+
+    /// Sees the new rows of the trail.
+    pub(crate) fn see(&mut self, rows: &[Row]) {
+        for i in self.seen..rows.len() {
+            let variable = rows[i].0.variable() as usize;
+            if variable < self.levels.len() {
+                self.levels[variable] = rows[i].1;
+            }
+        }
+        self.seen = rows.len();
+    }
+
+    /// Keeps the signs of the literals above the level, whose variables become open.
+    pub(crate) fn take_back(&mut self, rows: &[Row], level: u64) {
+        let mut end = rows.len();
+        for _ in 0..rows.len() {
+            let Some(row) = rows.get(end.wrapping_sub(1)) else {
+                break;
+            };
+            if row.1 <= level {
+                break;
+            }
+            self.phases.save(row.0.variable(), row.0.is_positive());
+            self.order.insert(row.0.variable());
+            end = end.wrapping_sub(1);
+        }
+        self.seen = end;
+    }
+
+    // Raises the activity of a variable that is not fixed, once for each conflict.
+    fn meet(&mut self, literal: Lit) {
+        let variable = literal.variable() as usize;
+        if variable < self.met.len()
+            && variable < self.levels.len()
+            && self.met[variable] != self.conflicts
+            && self.levels[variable] != 0
+        {
+            self.met[variable] = self.conflicts;
+            self.order.bump(literal.variable());
+        }
+    }
+
+    // Whether a literal of the clause got its value at the level.
+    fn reaches(&self, literals: &[Lit], level: u64) -> bool {
+        for literal in literals {
+            let variable = literal.variable() as usize;
+            if variable < self.levels.len() && self.levels[variable] == level {
+                return true;
+            }
+        }
+        false
+    }
+
+    /// Weighs a clause that was learnt from a conflict at this level, and of its hints those that have a literal of the level:
+    /// the others made the clause shorter.
+    pub(crate) fn weigh(
+        &mut self,
+        watches: &Watches,
+        clause: &[Lit],
+        hints: &[ClauseId],
+        level: u64,
+    ) -> Result<(), AllocError> {
+        self.conflicts = self.conflicts.wrapping_add(1);
+        for hint in hints {
+            if let Some(found) = watches.clause(*hint) {
+                let literals = found.literals();
+                if self.reaches(literals, level) {
+                    for literal in literals {
+                        self.meet(*literal);
+                    }
+                }
+            }
+        }
+        self.order.decay();
+        let glue = self.glue(clause)?;
+        self.restarts.meet(glue);
+        let size = clause.len() % (1 << 32);
+        self.learnt.push(Learnt {
+            glue: (glue % (1 << 32)) as u32,
+            size: size as u32,
+        })?;
+        Ok(())
+    }
+
+    /// Names the clause that was weighed last.
+    pub(crate) fn name(&mut self, at: Pos) -> Result<(), AllocError> {
+        self.chains.push(at)?;
+        Ok(())
+    }
+
+    // The number of levels of the literals.
+    fn glue(&mut self, literals: &[Lit]) -> Result<u64, AllocError> {
+        let mut levels: Vec<u64> = Vec::new(self.alloc);
+        for literal in literals {
+            let variable = literal.variable() as usize;
+            if variable < self.levels.len() {
+                levels.push(self.levels[variable])?;
+            }
+        }
+        Ok(self.counter.glue(levels.as_slice()))
+    }
+
+    /// Whether the search is to restart now; then it counts one.
+    pub(crate) fn restarts_now(&mut self) -> bool {
+        let due = self.restarts.is_due();
+        if due {
+            self.restarts.restart();
+        }
+        due
+    }
+
+    /// Whether so many chains are held that some are to be dropped.
+    pub(crate) fn drops_now(&self) -> bool {
+        drops_are_due(self.conflicts, self.learnt.len() as u64)
+    }
+
+    /// The chains that are to be dropped; they are forgotten.
+    pub(crate) fn worst(&mut self) -> Result<Vec<Pos>, AllocError> {
+        let places = worse_half(self.alloc, self.learnt.as_slice())?;
+        let mut goes = vec![in self.alloc; false; self.learnt.len()]?;
+        for place in &places {
+            if *place < goes.len() {
+                goes[*place] = true;
+            }
+        }
+        let mut worst: Vec<Pos> = Vec::new(self.alloc);
+        let mut chains: Vec<Pos> = Vec::new(self.alloc);
+        let mut learnt: Vec<Learnt> = Vec::new(self.alloc);
+        for i in 0..goes.len() {
+            if i < self.chains.len() && i < self.learnt.len() {
+                if goes[i] {
+                    worst.push(self.chains[i])?;
+                } else {
+                    chains.push(self.chains[i])?;
+                    learnt.push(self.learnt[i])?;
+                }
+            }
+        }
+        self.chains = chains;
+        self.learnt = learnt;
+        Ok(worst)
+    }
+
+    /// An open literal of one of the variables below the bound, None where the order has none.
+    pub(crate) fn pick(&mut self, trail: &Trail, bound: u64) -> Option<Lit>
+        requires consistent { IsConsistent trail.now }
+        requires bound { bound < 2 ^ 63 }
+        ensures { IfSome result (λ l. IsOpen (literals_of trail.now) (level_of trail.now) l) }
+    {
+        for _ in 0..u64::MAX {
+            let Some(variable) = self.order.pop() else {
+                return None;
+            };
+            if variable > 0 && variable < bound {
+                let literal = Lit::new(variable, self.phases.is_positive(variable));
+                if trail.value(literal).is_none() {
+                    return Some(literal);
+                }
+            }
+        }
+        None
+    }
+}

@@ -1,0 +1,6 @@
+mod Splits
+mod Pairs
+mod Merges
+mod Resolving
+mod Levels
+mod Growing

@@ -1,0 +1,3 @@
+pub mod Cubes
+pub mod Closing
+pub mod Resolvents

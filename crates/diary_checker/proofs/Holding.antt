@@ -1,0 +1,66 @@
+-- What is held after one position more, and what is filed.
+use Rattle.std.proofs.Common.{◌≡◌, ℕ, ◌+◌, Bool, true, false, not, List, Option, Some, refl, sym, ap, ◌∙◌, ⊎_elim, arith}
+use Rattle.std.specs.Prelude.{◌&&◌, ltb, if◌then◌else◌, Contains}
+use Rattle.std.proofs.lemmas.Bool.{cases_lt, lt-ltb, le-ltb, eq-eqb, ne_eqb}
+use Rattle.cnf_base.specs.Literals.{Literal}
+use Rattle.cnf_base.specs.declared.clause.ClauseId.{ClauseId}
+use Rattle.hint_chain.specs.Chains.{Lookup}
+use Rattle.proof_log.specs.Diaries.{with_held}
+use Rattle.proof_log.proofs.Lines.{held_cases}
+use Rattle.diary_checker.specs.Tables.{filed_under, first_of, IsFiled}
+use Rattle.diary_checker.specs.Uses.{AreFiled}
+use Rattle.diary_checker.proofs.Sets.{eq_or_not}
+
+ltb_same : (p at : ℕ) → (p ≡ at → ⊥) → ltb p at ≡ ltb p (at + 1)
+ltb_same p at ne =
+    ⊎_elim
+    (λ lt. lt-ltb p at lt ∙ sym (lt-ltb p (at + 1) (omega arith)))
+    (λ le. le-ltb p at le ∙ sym (le-ltb p (at + 1) (omega arith)))
+    (cases_lt p at)
+
+and_false : (b : Bool) → (b && false) ≡ false
+and_false true = refl
+and_false false = refl
+
+pub chain_more : (chain old : ℕ → Bool) (at : ℕ) → chain at ≡ true → ((p : ℕ) → old p ≡ (ltb p at && not (chain p))) → (p : ℕ) → old p ≡ (ltb p (at + 1) && not (chain p))
+chain_more chain old at is h p =
+    ⊎_elim
+    (λ e.
+    let here : chain p ≡ true = ap chain e ∙ is in
+    h p ∙ (ap (λ b. ltb p at && not b) here ∙ (and_false (ltb p at) ∙ sym (ap (λ b. ltb p (at + 1) && not b) here ∙ and_false (ltb p (at + 1))))))
+    (λ ne. h p ∙ ap (λ b. b && not (chain p)) (ltb_same p at ne))
+    (eq_or_not p at)
+
+pub plain_more : (chain old new : ℕ → Bool) (at : ℕ) → chain at ≡ false → ((p : ℕ) → new p ≡ with_held old at true p) → ((p : ℕ) → old p ≡ (ltb p at && not (chain p))) → (p : ℕ) → new p ≡ (ltb p (at + 1) && not (chain p))
+plain_more chain old new at is w h p =
+    ⊎_elim
+    (λ e.
+    let here : chain p ≡ false = ap chain e ∙ is in
+    let left : new p ≡ true = w p ∙ ap (λ b. if b then true else old p) (eq-eqb p at e) in
+    let right : (ltb p (at + 1) && not (chain p)) ≡ true = ap (λ b. ltb p (at + 1) && not b) here ∙ ap (λ b. b && true) (lt-ltb p (at + 1) (omega arith)) in
+    left ∙ sym right)
+    (λ ne. w p ∙ (ap (λ b. if b then true else old p) (ne_eqb p at ne) ∙ (h p ∙ ap (λ b. b && not (chain p)) (ltb_same p at ne))))
+    (eq_or_not p at)
+
+pub filed_more : (look : Lookup) (old new : ℕ → Bool) (lists lists' : List (List ClauseId)) (at : ℕ) →
+    ((p : ℕ) → new p ≡ with_held old at true p) →
+    ((k : Option Literal) (i : ClauseId) → Contains (filed_under lists k) i → Contains (filed_under lists' k) i) →
+    ((id : ClauseId) (c : List Literal) → id.pos ≡ at → look id ≡ Some c → IsFiled lists' id c) →
+    AreFiled look old lists → AreFiled look new lists'
+filed_more look old new lists lists' at w kept here h id c held is =
+    ⊎_elim
+    (λ e. here id c e is)
+    (λ before. kept (first_of c) id (h id c before is))
+    (held_cases old at true id.pos (sym (w id.pos) ∙ held))
+
+-- a position less, where nothing more is filed
+pub filed_less : (look : Lookup) (old new : ℕ → Bool) (lists : List (List ClauseId)) (at : ℕ) →
+    ((p : ℕ) → new p ≡ with_held old at false p) → AreFiled look old lists → AreFiled look new lists
+filed_less look old new lists at w h id c held is =
+    ⊎_elim
+    (λ e. let a = sym (w id.pos) ∙ held in let b = ap (λ t. if t then false else old id.pos) (eq-eqb id.pos at e) in let f : false ≡ true = sym b ∙ a in absurd (true_is_not_false f))
+    (λ before. h id c before is)
+    (held_cases old at false id.pos (sym (w id.pos) ∙ held))
+  where
+    true_is_not_false : false ≡ true → ⊥
+    true_is_not_false f = cc

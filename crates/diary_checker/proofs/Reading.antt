@@ -1,0 +1,192 @@
+-- Lines that are taken and refused, and what follows for the lines of a diary.
+use Rattle.std.proofs.Common.{◌≡◌, ℕ, suc, ◌+◌, ◌-◌, ◌<◌, ◌≤◌, Bool, true, false, not, List, [], ◌∷◌, ◌++◌, length, Option, Some, sym, ap, ◌∙◌, subst, arith, add-one}
+use Rattle.std.specs.Prelude.{◌≢◌, ◌↔◌, ◌&&◌, ltb, MatchBool, Result, Ok, Err, IfOk}
+use Rattle.cnf_base.specs.Literals.{Literal}
+use Rattle.cnf_base.specs.declared.clause.ClauseId.{ClauseId}
+use Rattle.hint_chain.specs.Chains.{Lookup}
+use Rattle.proof_log.specs.declared.entry.Entry.{Entry}
+use Rattle.proof_log.specs.declared.entry.Entry.TheVariants as step
+use Rattle.proof_log.specs.declared.diary.DiaryLine.{DiaryLine}
+use Rattle.proof_log.specs.declared.diary.DiaryLine.TheVariants.{Take, Put, Drop}
+use Rattle.proof_log.specs.Logs.{clause_at, entry_at}
+use Rattle.proof_log.specs.Stored.{LogValue}
+use Rattle.proof_log.specs.Diaries.{Subject, DiaryState, look_of, is_chain, blank, with_held, count_new, allowed, IsGoodPut, IsLine, line_after, lines_after, EndsInPut, IsSpent}
+use Rattle.proof_log.proofs.Lines.{are_lines_snoc, lines_after_snoc, ends_in_put}
+use Rattle.diary_checker.specs.Tables.{IsSetOf, bit_in}
+use Rattle.diary_checker.specs.Uses.{AreFiled}
+use Rattle.diary_checker.specs.Readers.{ReaderValue, state_in, IsAbout, IsSetUp, HasRead, is_put, IsTaken, IsDecided}
+
+-- ---- the start
+
+pub look_is : (g : Subject) (log : LogValue) → IsAbout g log → clause_at log.clauses ≡ look_of g
+look_is g log about = ap clause_at about.clauses
+
+pub filed_here : (g : Subject) (log : LogValue) (r : ReaderValue) → IsAbout g log → IsSetUp g r → AreFiled (clause_at log.clauses) (bit_in r.held) r.filed
+filed_here g log r about set_up = subst (λ (k : Lookup). AreFiled k (bit_in r.held) r.filed) (sym (look_is g log about)) set_up.filed
+
+pub begun : (g : Subject) (log : LogValue) (given : List Literal) (from : ℕ) (r : ReaderValue) → IsAbout g log → g.given ≡ given → g.from ≡ from → IsSetOf r.given given →
+    ((p : ℕ) → bit_in r.held p ≡ (ltb p from && not (is_chain (entry_at log.entries p)))) →
+    AreFiled (clause_at log.clauses) (bit_in r.held) r.filed →
+    r.chains ≡ 0 → r.puts ≡ 0 → r.drops ≡ 0 → r.ended ≡ false → HasRead g [] r
+begun g log given from r about e f set held filed chains puts drops ended = record {
+  set_up = record { given = subst (IsSetOf r.given) (sym e) set; filed = subst (λ (k : Lookup). AreFiled k (bit_in r.held) r.filed) (look_is g log about) filed };
+  stand = tt;
+  state = λ i. record { held = λ p. same p i; chains = chains i; puts = puts i; drops = drops i };
+  ended = ((λ h. let bad : false ≡ true = sym ended ∙ h in absurd (not_both bad)), (λ b. absurd b));
+}
+  where
+    not_both : false ≡ true → ⊥
+    not_both h = cc
+
+    same : (p : ℕ) → bit_in r.held p ≡ (ltb p g.from && not (is_chain (entry_at g.log p)))
+    same p = held p ∙ (ap (λ n. ltb p n && not (is_chain (entry_at log.entries p))) (sym f) ∙ ap (λ l. ltb p g.from && not (is_chain (entry_at l p))) about.entries)
+
+-- ---- one line
+
+module _ (g : Subject) (log : LogValue) (at : ℕ) (old new : ReaderValue) (about : IsAbout g log) (set_up : IsSetUp g old) (given : new.given ≡ old.given) where
+  still : (AreFiled (clause_at log.clauses) (bit_in old.held) old.filed → AreFiled (clause_at log.clauses) (bit_in new.held) new.filed) → IsSetUp g new
+  still filed = record {
+    given = subst (λ t. IsSetOf t g.given) (sym given) set_up.given;
+    filed =
+        subst (λ (k : Lookup). AreFiled k (bit_in new.held) new.filed) (look_is g log about)
+        (filed (subst (λ (k : Lookup). AreFiled k (bit_in old.held) old.filed) (sym (look_is g log about)) set_up.filed));
+  }
+
+  pub take_taken : at ≤ length log.entries →
+      ((p : ℕ) → bit_in new.held p ≡ with_held (bit_in old.held) at true p) →
+      (AreFiled (clause_at log.clauses) (bit_in old.held) old.filed → AreFiled (clause_at log.clauses) (bit_in new.held) new.filed) →
+      new.chains ≡ old.chains + count_new (is_chain (entry_at log.entries at)) (bit_in old.held at) → new.puts ≡ old.puts → new.drops ≡ 0 → new.ended ≡ false →
+      IsTaken g old new (Take at)
+  take_taken within held filed chains puts drops ended = record {
+    valid = subst (λ l. at ≤ length l) about.entries within;
+    set_up = still filed;
+    state = λ i. record { held = λ p. held p i; chains = chains' i; puts = puts i; drops = drops i };
+    ended = ended;
+  }
+    where
+      chains' : new.chains ≡ old.chains + count_new (is_chain (entry_at g.log at)) (bit_in old.held at)
+      chains' = chains ∙ ap (λ l. old.chains + count_new (is_chain (entry_at l at)) (bit_in old.held at)) about.entries
+
+  pub put_taken : (c : List Literal) (hints : List ClauseId) → entry_at log.entries at ≡ Some (step.Chain c hints) → IsGoodPut g (bit_in old.held) c hints →
+      ((p : ℕ) → bit_in new.held p ≡ with_held (bit_in old.held) at true p) →
+      (AreFiled (clause_at log.clauses) (bit_in old.held) old.filed → AreFiled (clause_at log.clauses) (bit_in new.held) new.filed) →
+      new.chains ≡ old.chains + 1 → new.puts ≡ old.puts + 1 → new.drops ≡ allowed (old.puts + 1) (old.chains + 1) → new.ended ≡ true →
+      IsTaken g old new (Put at)
+  put_taken c hints is good held filed chains puts drops ended = record {
+    valid = (c, hints, subst (λ l. entry_at l at ≡ Some (step.Chain c hints)) about.entries is, good);
+    set_up = still filed;
+    state = λ i. record { held = λ p. held p i; chains = chains' i; puts = puts' i; drops = drops' i };
+    ended = ended;
+  }
+    where
+      chains' : new.chains ≡ suc old.chains
+      chains' = chains ∙ add-one old.chains
+
+      puts' : new.puts ≡ suc old.puts
+      puts' = puts ∙ add-one old.puts
+
+      drops' : new.drops ≡ allowed (suc old.puts) (suc old.chains)
+      drops' = drops ∙ (ap (λ n. allowed n (old.chains + 1)) (add-one old.puts) ∙ ap (λ n. allowed (suc old.puts) n) (add-one old.chains))
+
+  pub drop_taken : 0 < old.drops → bit_in old.held at ≡ true → is_chain (entry_at log.entries at) ≡ true →
+      ((p : ℕ) → bit_in new.held p ≡ with_held (bit_in old.held) at false p) →
+      (AreFiled (clause_at log.clauses) (bit_in old.held) old.filed → AreFiled (clause_at log.clauses) (bit_in new.held) new.filed) →
+      new.chains ≡ old.chains - 1 → new.puts ≡ old.puts → new.drops ≡ old.drops - 1 → new.ended ≡ false →
+      IsTaken g old new (Drop at)
+  drop_taken some is_held chain held filed chains puts drops ended = record {
+    valid = (is_held, subst (λ l. is_chain (entry_at l at) ≡ true) about.entries chain, some);
+    set_up = still filed;
+    state = λ i. record { held = λ p. held p i; chains = chains i; puts = puts i; drops = drops i };
+    ended = ended;
+  }
+
+-- the same of what the reader was, which is that
+pub at_old : (g : Subject) (v old new : ReaderValue) (l : DiaryLine) → v ≡ old → IsTaken g v new l → IsTaken g old new l
+at_old g v old new l e t = subst (λ o. IsTaken g o new l) e t
+
+-- ---- refused
+
+pub take_refused : (g : Subject) (log : LogValue) (at : ℕ) (old : ReaderValue) → IsAbout g log → suc (length log.entries) ≤ at → ¬ (IsLine g (state_in old) (Take at))
+take_refused g log at old about past within =
+    let within' : at ≤ length log.entries = subst (λ l. at ≤ length l) (sym about.entries) within in
+    absurd (omega arith)
+
+pub put_refused : (g : Subject) (log : LogValue) (at : ℕ) (old : ReaderValue) → IsAbout g log → ((c : List Literal) (hints : List ClauseId) → entry_at log.entries at ≢ Some (step.Chain c hints)) → ¬ (IsLine g (state_in old) (Put at))
+put_refused g log at old about none p = none p.0 p.1 (subst (λ l. entry_at l at ≡ Some (step.Chain p.0 p.1)) (sym about.entries) p.2)
+
+same_step : (o : Option Entry) (c c' : List Literal) (hints hints' : List ClauseId) → o ≡ Some (step.Chain c hints) → o ≡ Some (step.Chain c' hints') → (c ≡ c') × (hints ≡ hints')
+same_step o c c' hints hints' e f = (cc, cc)
+
+pub put_not_good : (g : Subject) (log : LogValue) (at : ℕ) (v old : ReaderValue) (c : List Literal) (hints : List ClauseId) → v ≡ old → IsAbout g log → entry_at log.entries at ≡ Some (step.Chain c hints) → ¬ (IsGoodPut g (bit_in v.held) c hints) → ¬ (IsLine g (state_in old) (Put at))
+put_not_good g log at v old c hints e about is bad p =
+    let at_g = subst (λ l. entry_at l at ≡ Some (step.Chain c hints)) about.entries is in
+    let same = same_step (entry_at g.log at) p.0 c p.1 hints p.2 at_g in
+    let good = subst (λ hs. IsGoodPut g (bit_in old.held) c hs) same.1 (subst (λ d. IsGoodPut g (bit_in old.held) d p.1) same.0 p.3) in
+    bad (subst (λ (o : ReaderValue). IsGoodPut g (bit_in o.held) c hints) (sym e) good)
+
+pub drop_not_chain : (g : Subject) (log : LogValue) (at : ℕ) (old : ReaderValue) → IsAbout g log → is_chain (entry_at log.entries at) ≡ false → ¬ (IsLine g (state_in old) (Drop at))
+drop_not_chain g log at old about no_chain p =
+    let e : is_chain (entry_at log.entries at) ≡ true = subst (λ l. is_chain (entry_at l at) ≡ true) (sym about.entries) p.1 in
+    let f : false ≡ true = sym no_chain ∙ e in
+    absurd (not_both f)
+  where
+    not_both : false ≡ true → ⊥
+    not_both h = cc
+
+-- ---- the lines of a diary
+
+ends_not_take : (ls : List DiaryLine) (p : ℕ) → EndsInPut (ls ++ Take p ∷ []) → ⊥
+ends_not_take [] p h = h
+ends_not_take (Take q ∷ []) p h = h
+ends_not_take (Put q ∷ []) p h = h
+ends_not_take (Drop q ∷ []) p h = h
+ends_not_take (Take q ∷ m ∷ ls) p h = ends_not_take (m ∷ ls) p h
+ends_not_take (Put q ∷ m ∷ ls) p h = ends_not_take (m ∷ ls) p h
+ends_not_take (Drop q ∷ m ∷ ls) p h = ends_not_take (m ∷ ls) p h
+
+ends_not_drop : (ls : List DiaryLine) (p : ℕ) → EndsInPut (ls ++ Drop p ∷ []) → ⊥
+ends_not_drop [] p h = h
+ends_not_drop (Take q ∷ []) p h = h
+ends_not_drop (Put q ∷ []) p h = h
+ends_not_drop (Drop q ∷ []) p h = h
+ends_not_drop (Take q ∷ m ∷ ls) p h = ends_not_drop (m ∷ ls) p h
+ends_not_drop (Put q ∷ m ∷ ls) p h = ends_not_drop (m ∷ ls) p h
+ends_not_drop (Drop q ∷ m ∷ ls) p h = ends_not_drop (m ∷ ls) p h
+
+ends : (ls : List DiaryLine) (l : DiaryLine) (b : Bool) → b ≡ is_put l → (b ≡ true) ↔ EndsInPut (ls ++ l ∷ [])
+ends ls (Take p) b e = ((λ h. let f : false ≡ true = sym e ∙ h in let g : ⊥ = cc in absurd g), (λ h. absurd (ends_not_take ls p h)))
+ends ls (Put p) b e = ((λ h. ends_in_put ls p), (λ h. e))
+ends ls (Drop p) b e = ((λ h. let f : false ≡ true = sym e ∙ h in let g : ⊥ = cc in absurd g), (λ h. absurd (ends_not_drop ls p h)))
+
+pub read_more : (g : Subject) (lines : List DiaryLine) (old new : ReaderValue) (l : DiaryLine) → HasRead g lines old → IsTaken g old new l → IsLine g (lines_after g (blank g) lines) l × HasRead g (lines ++ l ∷ []) new
+read_more g lines old new l r t =
+    let valid = subst (λ (s : DiaryState). IsLine g s l) r.state t.valid in (
+      valid,
+      record {
+        set_up = t.set_up;
+        stand = are_lines_snoc g (blank g) lines l r.stand valid;
+        state = t.state ∙ (ap (λ (s : DiaryState). line_after g s l) r.state ∙ sym (lines_after_snoc g (blank g) lines l));
+        ended = ends lines l new.ended t.ended;
+      },
+    )
+
+pub read_line : {E : Type 0} (g : Subject) (lines : List DiaryLine) (old new : ReaderValue) (l : DiaryLine) (r : Result Bool E) → HasRead g lines old → IfOk r (IsDecided g old new l) →
+    IfOk r (λ taken. MatchBool taken (IsLine g (lines_after g (blank g) lines) l × HasRead g (lines ++ l ∷ []) new) ((¬ (IsLine g (lines_after g (blank g) lines) l)) × (new ≡ old)))
+read_line g lines old new l (Ok true) read h = read_more g lines old new l read h
+read_line g lines old new l (Ok false) read h = ((λ k. h.invalid (subst (λ (s : DiaryState). IsLine g s l) (sym read.state) k)), h.same)
+read_line g lines old new l (Err e) read h = tt
+
+-- ---- the budget
+
+pub is_spent : (g : Subject) (lines : List DiaryLine) (r : ReaderValue) (budget : ℕ) → HasRead g lines r → r.ended ≡ true → r.puts ≡ suc budget → IsSpent g budget lines
+is_spent g lines r budget read ended puts = record {
+  stand = read.stand;
+  puts = sym (ap (λ (s : DiaryState). s.puts) read.state) ∙ puts;
+  last = read.ended.0 ended;
+}
+
+pub spent_ended : (g : Subject) (lines : List DiaryLine) (r : ReaderValue) (budget : ℕ) → HasRead g lines r → IsSpent g budget lines → r.ended ≡ true
+spent_ended g lines r budget read s = read.ended.1 s.last
+
+pub spent_puts : (g : Subject) (lines : List DiaryLine) (r : ReaderValue) (budget : ℕ) → HasRead g lines r → IsSpent g budget lines → r.puts ≡ suc budget
+spent_puts g lines r budget read s = ap (λ (t : DiaryState). t.puts) read.state ∙ s.puts

@@ -1,0 +1,26 @@
+use Rattle.std.proofs.Common.{◌≡◌, ◌+◌, refl, sym, subst, arith}
+use Rattle.proof_log.specs.declared.diary.DiaryLine.TheVariants.{Put}
+use Rattle.diary_checker.specs.Readers.{IsSetUp}
+use Rattle.diary_checker.proofs.Reading.{put_taken, put_not_good, at_old, look_is, filed_here}
+use Rattle.diary_checker.proofs.reader.DiaryReader.put.Goals as goal
+
+pub returns-then-not-branch : goal.returns-then-not-branch
+returns-then-not-branch c = λ g about set_up.
+    let set_up' = subst (IsSetUp g) (sym c.self.view_is) set_up in
+    let bad = rw c.if-not-branch.true at c.in_ok-is_good_put.ensures in
+    let not_good = rw (c.literals.ensures, c.as_slice.ensures) at (bad g (sym (look_is g c.args.log.now about)) set_up'.given (filed_here g c.args.log.now _ about set_up')) in
+    record {
+      invalid = put_not_good g c.args.log.now c.args.at _ _ c.in-Some.clause.now c.in-Some.hints.now c.self.view_is about c.in-Some.ensures not_good;
+      same = c.self.view_is;
+    }
+
+pub returns : goal.returns
+returns c = λ g about set_up.
+    let set_up' = subst (IsSetUp g) (sym c.self.view_is) set_up in
+    let ok = rw c.if-not-branch.false at c.in_ok-is_good_put.ensures in
+    let good = rw (c.literals.ensures, c.as_slice.ensures) at (ok g (sym (look_is g c.args.log.now about)) set_up'.given (filed_here g c.args.log.now _ about set_up')) in
+    let chains : c.in-Some-checked_add.chains ≡ c.self.inside.chains + 1 = omega (arith, c.in-Some-checked_add.ensures) in
+    let puts : c.in-Some-checked_add-2.puts ≡ c.self.inside.puts + 1 = omega (arith, c.in-Some-checked_add-2.ensures) in
+    let drops = rw (chains, puts) at c.droppable-self-inside.ensures in
+    at_old g _ _ _ (Put c.args.at) c.self.view_is
+    (put_taken g c.args.log.now c.args.at _ _ about set_up' refl c.in-Some.clause.now c.in-Some.hints.now c.in-Some.ensures good c.in_ok-hold.ensures.held c.in_ok-hold.ensures.filed chains puts drops refl)

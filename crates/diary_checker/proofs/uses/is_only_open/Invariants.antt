@@ -1,0 +1,8 @@
+use Rattle.std.proofs.Common.{◌≡◌, ◌<◌, take}
+use Rattle.std.specs.Prelude.{◌⊎◌, Contains}
+use Rattle.cnf_base.specs.Literals.{Literal, negated}
+use Rattle.diary_checker.specs.Tables.{number_of}
+use Rattle.diary_checker.proofs.uses.is_only_open.Given as goal
+
+abbrev pub invariant-loop-l : goal.invariant-loop-l
+invariant-loop-l l = (k : Literal) → Contains (take l.l-index l.clause) k → (k ≡ l.sole) ⊎ (0 < number_of l.trues (negated k))

@@ -1,0 +1,62 @@
+-- What the reader of a diary keeps, and when it has read the lines of one.
+use Rattle.std.specs.Prelude.{◌≡◌, ℕ, ◌↔◌, Bool, true, false, List, MatchBool}
+use Rattle.cnf_base.specs.declared.clause.ClauseId.{ClauseId}
+use Rattle.proof_log.specs.declared.diary.DiaryLine.{DiaryLine}
+use Rattle.proof_log.specs.declared.diary.DiaryLine.TheVariants.{Take, Put, Drop}
+use Rattle.proof_log.specs.Logs.{state_of}
+use Rattle.proof_log.specs.Stored.{LogValue}
+use Rattle.proof_log.specs.Diaries.{Subject, DiaryState, look_of, blank, IsLine, line_after, AreLines, lines_after, EndsInPut}
+use Rattle.diary_checker.specs.Tables.{Stamps, IsSetOf, bit_in}
+use Rattle.diary_checker.specs.Uses.{AreFiled}
+
+-- the given literals, a bit for each position, the counts of chains held, of puts and of drops that are left, whether the
+-- last line was a put, and the clauses by their first literal
+pub record ReaderValue : Type 0 where
+  pub given : Stamps
+  pub held : List Bool
+  pub chains : ℕ
+  pub puts : ℕ
+  pub drops : ℕ
+  pub ended : Bool
+  pub filed : List (List ClauseId)
+
+abbrev pub state_in : ReaderValue → DiaryState
+state_in r = record { held = bit_in r.held; chains = r.chains; puts = r.puts; drops = r.drops }
+
+-- the log that is at hand is the one that the diary is about
+pub record IsAbout (g : Subject) (log : LogValue) : Type 0 where
+  pub entries : log.entries ≡ g.log
+  pub clauses : log.clauses ≡ (state_of g.nodes g.log).clauses
+
+-- the given literals are the diary's, and each held clause is filed under its first literal
+pub record IsSetUp (g : Subject) (r : ReaderValue) : Type 0 where
+  pub given : IsSetOf r.given g.given
+  pub filed : AreFiled (look_of g) (bit_in r.held) r.filed
+
+-- the reader took these lines, which stand, one after the other
+pub record HasRead (g : Subject) (lines : List DiaryLine) (r : ReaderValue) : Type 0 where
+  pub set_up : IsSetUp g r
+  pub stand : AreLines g (blank g) lines
+  pub state : state_in r ≡ lines_after g (blank g) lines
+  pub ended : (r.ended ≡ true) ↔ EndsInPut lines
+
+-- ---- one line
+
+abbrev pub is_put : DiaryLine → Bool
+is_put (Take p) = false
+is_put (Put p) = true
+is_put (Drop p) = false
+
+pub record IsTaken (g : Subject) (old new : ReaderValue) (l : DiaryLine) : Type 0 where
+  pub valid : IsLine g (state_in old) l
+  pub set_up : IsSetUp g new
+  pub state : state_in new ≡ line_after g (state_in old) l
+  pub ended : new.ended ≡ is_put l
+
+pub record IsRefused (g : Subject) (old new : ReaderValue) (l : DiaryLine) : Type 0 where
+  pub invalid : ¬ (IsLine g (state_in old) l)
+  pub same : new ≡ old
+
+-- the line was taken, or refused
+abbrev pub IsDecided : Subject → ReaderValue → ReaderValue → DiaryLine → Bool → Type 0
+IsDecided g old new l taken = MatchBool taken (IsTaken g old new l) (IsRefused g old new l)

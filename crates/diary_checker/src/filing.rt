@@ -1,0 +1,100 @@
+//! What is held, with its clauses filed.
+
+ghost use Rattle.std.specs.Prelude.{◌≡◌, ◌&&◌, ◌+◌, not, ltb, true, false, ℕ, List, Option, Some, Contains, OnOk};
+ghost use Rattle.cnf_base.specs.Literals.{Literal};
+ghost use Rattle.cnf_base.specs.declared.clause.ClauseId.{ClauseId};
+ghost use Rattle.proof_log.specs.Logs.{clause_at, entry_at};
+ghost use Rattle.proof_log.specs.Diaries.{is_chain, with_held};
+ghost use Rattle.diary_checker.specs.Tables.{bit_in, filed_under, first_of, IsFiled};
+ghost use Rattle.diary_checker.specs.Uses.{AreFiled};
+
+use crate::positions::Positions;
+use crate::watches::Watches;
+use cnf_base::{ClauseId, Lit, Pos};
+use proof_log::Log;
+use proof_log::entry::Entry;
+use std::alloc::AllocError;
+
+// Whether a chain stands at a position.
+pub(crate) fn is_chain_at(log: &Log, at: Pos) -> bool
+    ensures { result ≡ is_chain (entry_at log.now.entries at) }
+{
+    match log.entry(at) {
+        Some(Entry::Chain(_, _)) => true,
+        _ => false,
+    }
+}
+
+fn first(clause: &[Lit]) -> Option<Lit>
+    ensures { result ≡ first_of clause.now }
+{
+    match clause {
+        [] => None,
+        [l, ..] => Some(*l),
+    }
+}
+
+// Files each clause of a position under its first literal. A position with as many clauses as there are names has no room.
+fn file(watches: &mut Watches, log: &Log, at: Pos) -> Result<(), AllocError>
+    ensures kept { (k : Option Literal) (i : ClauseId) → Contains (filed_under watches.old k) i → Contains (filed_under watches.new k) i }
+    ensures filed { OnOk result ((id : ClauseId) (c : List Literal) → id.pos ≡ at → clause_at log.now.clauses id ≡ Some c → IsFiled watches.new id c) }
+{
+    for part in 0..u32::MAX {
+        let id = ClauseId { pos: at, part };
+        let Some(clause) = log.clause(id) else {
+            return Ok(());
+        };
+        watches.add(first(clause.literals()), id)?;
+    }
+    Err(AllocError)
+}
+
+// Holds a position, and files its clauses unless they are.
+pub(crate) fn hold(
+    held: &mut Positions,
+    watches: &mut Watches,
+    log: &Log,
+    at: Pos,
+) -> Result<(), AllocError>
+    ensures held { OnOk result ((p : ℕ) → bit_in held.new p ≡ with_held (bit_in held.old) at true p) }
+    ensures filed { OnOk result (AreFiled (clause_at log.now.clauses) (bit_in held.old) watches.old → AreFiled (clause_at log.now.clauses) (bit_in held.new) watches.new) }
+{
+    if held.has(at) {
+        return Ok(());
+    }
+    file(watches, log, at)?;
+    held.set(at, true)
+}
+
+// Holds a position unless it is a chain's.
+fn hold_plain(
+    held: &mut Positions,
+    watches: &mut Watches,
+    log: &Log,
+    at: Pos,
+) -> Result<(), AllocError>
+    ensures held { OnOk result (((p : ℕ) → bit_in held.old p ≡ (ltb p at && not (is_chain (entry_at log.now.entries p)))) → (p : ℕ) → bit_in held.new p ≡ (ltb p (at + 1) && not (is_chain (entry_at log.now.entries p)))) }
+    ensures filed { OnOk result (AreFiled (clause_at log.now.clauses) (bit_in held.old) watches.old → AreFiled (clause_at log.now.clauses) (bit_in held.new) watches.new) }
+{
+    if is_chain_at(log, at) {
+        return Ok(());
+    }
+    hold(held, watches, log, at)
+}
+
+// Holds all positions before one that are no chain's.
+pub(crate) fn hold_start(
+    held: &mut Positions,
+    watches: &mut Watches,
+    log: &Log,
+    from: Pos,
+) -> Result<(), AllocError>
+    requires none { (p : ℕ) → bit_in held.old p ≡ false }
+    ensures held { OnOk result ((p : ℕ) → bit_in held.new p ≡ (ltb p from && not (is_chain (entry_at log.now.entries p)))) }
+    ensures filed { OnOk result (AreFiled (clause_at log.now.clauses) (bit_in held.new) watches.new) }
+{
+    for at in 0..from {
+        hold_plain(held, watches, log, at)?;
+    }
+    Ok(())
+}

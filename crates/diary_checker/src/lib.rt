@@ -1,0 +1,23 @@
+//! The reading of diaries, which decides line by line what may stand, and at the end whether a budget was spent.
+//!
+//! A diary says what a search held and put, line by line. `DiaryReader` takes its lines one after the other over the log
+//! that it is about: `line` answers true exactly where the line may stand after those that were taken, and then it is one
+//! of them; `is_spent` answers true exactly where they have spent a budget. What a diary is, and when it has spent its
+//! budget, is defined in `proof_log`; `specs/Readers` says what the reader keeps. A put is decided in a time that is linear
+//! in the literals of its clause, of its hints' clauses and of the held clauses whose first literal stands in it. The crate
+//! stands on `proof_log`, `hint_chain`, `smt_terms` and `cnf_base`.
+#![tactic(auto)]
+
+mod conditions;
+mod filing;
+mod goodness;
+mod positions;
+mod reader;
+mod table;
+mod uses;
+mod watches;
+
+pub use reader::DiaryReader;
+
+#[cfg(test)]
+mod tests;

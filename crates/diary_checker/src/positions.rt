@@ -1,0 +1,69 @@
+//! Bits by position.
+
+ghost use Rattle.std.specs.Prelude.{◌≡◌, ◌<◌, ℕ, false, length, OnOk, OnErr};
+ghost use Rattle.proof_log.specs.Diaries.{with_held};
+ghost use Rattle.diary_checker.specs.Tables.{bit_in};
+
+use cnf_base::Pos;
+use std::alloc::{AllocError, Global};
+use std::marker::Model;
+
+/// Which positions are held.
+#[derive(Debug, Drop)]
+pub(crate) struct Positions {
+    bits: Vec<bool>,
+}
+
+impl Model for Positions {
+    ghost use Rattle.std.specs.Prelude.{List, Bool};
+
+    ghost Value = { List Bool };
+
+    ghost view = { λ p. p.bits.items };
+}
+
+impl Positions {
+    /// No position is held.
+    pub(crate) fn new(alloc: Global) -> Positions
+        ensures { (at : ℕ) → bit_in result at ≡ false }
+    {
+        Positions {
+            bits: Vec::new(alloc),
+        }
+    }
+
+    /// Whether a position is held.
+    pub(crate) fn has(&self, at: Pos) -> bool
+        ensures { result ≡ bit_in self.now at }
+    {
+        match self.bits.get(at as usize) {
+            Some(bit) => *bit,
+            None => false,
+        }
+    }
+
+    /// Says of a position whether it is held.
+    pub(crate) fn set(&mut self, at: Pos, held: bool) -> Result<(), AllocError>
+        ensures ok { OnOk result ((p : ℕ) → bit_in self.new p ≡ with_held (bit_in self.old) at held p) }
+        ensures err { OnErr result ((p : ℕ) → bit_in self.new p ≡ bit_in self.old p) }
+    {
+        let place = at as usize;
+        grow(&mut self.bits, place)?;
+        self.bits[place] = held;
+        Ok(())
+    }
+}
+
+// Makes room for a place.
+fn grow(bits: &mut Vec<bool>, place: usize) -> Result<(), AllocError>
+    ensures same { (p : ℕ) → bit_in bits.new.items p ≡ bit_in bits.old.items p }
+    ensures room { OnOk result (place < length bits.new.items) }
+{
+    let Some(wanted) = place.checked_add(1) else {
+        return Err(AllocError);
+    };
+    if bits.len() < wanted {
+        bits.resize(wanted, false)?;
+    }
+    Ok(())
+}

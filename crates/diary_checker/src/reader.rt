@@ -1,0 +1,208 @@
+//! The reader of a diary.
+
+ghost use Rattle.std.specs.Prelude.{◌≡◌, ◌≢◌, ◌+◌, ◌++◌, ◌∷◌, [], suc, ℕ, Bool, List, Option, Some, IfOk, IfSome, MatchBool, MatchOption};
+ghost use Rattle.cnf_base.specs.Literals.{Literal};
+ghost use Rattle.cnf_base.specs.declared.clause.ClauseId.{ClauseId};
+ghost use Rattle.proof_log.specs.declared.entry.Entry.TheVariants as step;
+ghost use Rattle.proof_log.specs.declared.diary.DiaryLine.{DiaryLine};
+ghost use Rattle.proof_log.specs.declared.diary.DiaryLine.TheVariants as row;
+ghost use Rattle.proof_log.specs.Logs.{entry_at};
+ghost use Rattle.proof_log.specs.Diaries.{Subject, blank, lines_after, count_new, allowed, IsLine, IsSpent};
+ghost use Rattle.diary_checker.specs.Readers.{IsAbout, IsSetUp, HasRead, IsDecided};
+
+use crate::conditions::insert;
+use crate::filing::{hold, hold_start, is_chain_at};
+use crate::goodness::{Scratch, is_good_put};
+use crate::positions::Positions;
+use crate::table::LiteralNumbers;
+use crate::watches::Watches;
+use cnf_base::{Clause, Lit, Pos};
+use proof_log::Log;
+use proof_log::diary::DiaryLine;
+use proof_log::entry::{Entry, Hints};
+use std::alloc::{AllocError, Global};
+use std::marker::Model;
+
+/// A reader of the lines of one diary over a log, one after the other: what is held after the lines that it took.
+#[derive(Debug, Drop)]
+pub struct DiaryReader {
+    given: LiteralNumbers,
+    held: Positions,
+    watches: Watches,
+    chains: u64,
+    puts: u64,
+    drops: u64,
+    ended: bool,
+    scratch: Scratch,
+}
+
+impl Model for DiaryReader {
+    ghost use Rattle.diary_checker.specs.Readers.{ReaderValue};
+
+    ghost Value = { ReaderValue };
+
+    ghost view = { λ r. record { given = r.given; held = r.held; chains = r.chains; puts = r.puts; drops = r.drops; ended = r.ended; filed = r.watches } };
+}
+
+impl DiaryReader {
+    /// The reader of a diary over this log that starts at a position, for a search that takes the given literals as true.
+    /// It has read no line.
+    pub fn new(
+        alloc: Global,
+        log: &Log,
+        given: &[Lit],
+        from: Pos,
+    ) -> Result<DiaryReader, AllocError>
+        ensures { IfOk result (λ r. (g : Subject) → IsAbout g log.now → g.given ≡ given.now → g.from ≡ from → HasRead g [] r) }
+    {
+        let mut held = Positions::new(alloc);
+        let mut watches = Watches::new(alloc);
+        hold_start(&mut held, &mut watches, log, from)?;
+        let mut literals = LiteralNumbers::new(alloc);
+        insert(&mut literals, given)?;
+        Ok(DiaryReader {
+            given: literals,
+            held,
+            watches,
+            chains: 0,
+            puts: 0,
+            drops: 0,
+            ended: false,
+            scratch: Scratch::new(alloc),
+        })
+    }
+
+    /// Takes one line more and answers true exactly where it may stand after those that were taken, else all is as before.
+    /// The log is the one that the reader was made over. After want of memory the reader is of no use.
+    pub fn line(&mut self, log: &Log, line: DiaryLine) -> Result<bool, AllocError>
+        ensures { (g : Subject) (lines : List DiaryLine) → IsAbout g log.now → HasRead g lines self.old → IfOk result (λ taken. MatchBool taken
+            (IsLine g (lines_after g (blank g) lines) line × HasRead g (lines ++ line ∷ []) self.new)
+            ((¬ (IsLine g (lines_after g (blank g) lines) line)) × (self.new ≡ self.old))) }
+    {
+        self.decide(log, line)
+    }
+
+    /// Whether the lines that were taken have spent the budget.
+    pub fn is_spent(&self, budget: u64) -> bool
+        ensures { (g : Subject) (lines : List DiaryLine) → HasRead g lines self.now → MatchBool result (IsSpent g budget lines) (¬ (IsSpent g budget lines)) }
+    {
+        self.ended && is_one_more(self.puts, budget)
+    }
+
+    fn decide(&mut self, log: &Log, line: DiaryLine) -> Result<bool, AllocError>
+        ensures { (g : Subject) → IsAbout g log.now → IsSetUp g self.old → IfOk result (IsDecided g self.old self.new line) }
+    {
+        match line {
+            DiaryLine::Take(at) => self.take(log, at),
+            DiaryLine::Put(at) => self.put(log, at),
+            DiaryLine::Drop(at) => self.give_up(log, at),
+        }
+    }
+
+    fn take(&mut self, log: &Log, at: Pos) -> Result<bool, AllocError>
+        ensures { (g : Subject) → IsAbout g log.now → IsSetUp g self.old → IfOk result (IsDecided g self.old self.new (row.Take at)) }
+    {
+        if log.len() <= at {
+            return Ok(false);
+        }
+        let Some(chains) = counted(self.chains, is_chain_at(log, at), self.held.has(at)) else {
+            return Err(AllocError);
+        };
+        hold(&mut self.held, &mut self.watches, log, at)?;
+        self.chains = chains;
+        self.drops = 0;
+        self.ended = false;
+        Ok(true)
+    }
+
+    fn put(&mut self, log: &Log, at: Pos) -> Result<bool, AllocError>
+        ensures { (g : Subject) → IsAbout g log.now → IsSetUp g self.old → IfOk result (IsDecided g self.old self.new (row.Put at)) }
+    {
+        let Some((clause, hints)) = chain_at(log, at) else {
+            return Ok(false);
+        };
+        if !is_good_put(
+            log,
+            &self.held,
+            &self.given,
+            &self.watches,
+            &mut self.scratch,
+            clause.literals(),
+            hints.as_slice(),
+        )? {
+            return Ok(false);
+        }
+        let Some(chains) = self.chains.checked_add(1) else {
+            return Err(AllocError);
+        };
+        let Some(puts) = self.puts.checked_add(1) else {
+            return Err(AllocError);
+        };
+        hold(&mut self.held, &mut self.watches, log, at)?;
+        self.chains = chains;
+        self.puts = puts;
+        self.drops = droppable(puts, chains);
+        self.ended = true;
+        Ok(true)
+    }
+
+    fn give_up(&mut self, log: &Log, at: Pos) -> Result<bool, AllocError>
+        ensures { (g : Subject) → IsAbout g log.now → IsSetUp g self.old → IfOk result (IsDecided g self.old self.new (row.Drop at)) }
+    {
+        if self.drops == 0 {
+            return Ok(false);
+        }
+        if !self.held.has(at) {
+            return Ok(false);
+        }
+        if !is_chain_at(log, at) {
+            return Ok(false);
+        }
+        self.held.set(at, false)?;
+        self.chains = self.chains.saturating_sub(1);
+        self.drops -= 1;
+        self.ended = false;
+        Ok(true)
+    }
+}
+
+// The clause and the hints of the chain at a position, if a chain stands there.
+fn chain_at(log: &Log, at: Pos) -> Option<(&Clause, &Hints)>
+    ensures { MatchOption result
+        ((c : List Literal) (hints : List ClauseId) → entry_at log.now.entries at ≢ Some (step.Chain c hints))
+        (λ r. entry_at log.now.entries at ≡ Some (step.Chain r.0.now r.1.now)) }
+{
+    match log.entry(at) {
+        Some(Entry::Chain(clause, hints)) => Some((clause, hints)),
+        _ => None,
+    }
+}
+
+// One chain more, where it is a chain and was not held.
+fn counted(chains: u64, is_chain: bool, was_held: bool) -> Option<u64>
+    ensures { IfSome result (λ n. n ≡ chains + count_new is_chain was_held) }
+{
+    if was_held {
+        return Some(chains);
+    }
+    if is_chain {
+        return chains.checked_add(1);
+    }
+    Some(chains)
+}
+
+// How many chains may be dropped after so many puts.
+fn droppable(puts: u64, chains: u64) -> u64
+    ensures { result ≡ allowed puts chains }
+{
+    if puts % 2000 == 0 { chains / 2 } else { 0 }
+}
+
+fn is_one_more(puts: u64, budget: u64) -> bool
+    ensures { MatchBool result (puts ≡ suc budget) (puts ≢ suc budget) }
+{
+    if puts == 0 {
+        return false;
+    }
+    puts - 1 == budget
+}

@@ -1,0 +1,225 @@
+-- Each clause of a step that is none of those of reached terms has a variable that stands in no clause of these.
+use Rattle.std.proofs.Common.{◌≡◌, ℕ, zero, suc, ◌+◌, ◌<◌, ◌≤◌, Bool, true, false, List, [], ◌∷◌, length, Some, refl, sym, ap, ◌∙◌, subst, inl, inr, ⊎_elim, arith}
+use Rattle.std.specs.Prelude.{◌⊎◌, ◌==◌, Contains, slice_get}
+use Rattle.std.specs.List.{AllByRecursion}
+use Rattle.std.proofs.lemmas.Bool.{eqb-true, eq-eqb}
+use Rattle.std.proofs.lemmas.List.Elements.{All-contains, Contains-append_right, Contains-append_cases, Contains-push_cases}
+use Rattle.cnf_base.specs.Literals.{Literal, negative_of, true_literal}
+use Rattle.cnf_base.specs.Assignments.{fresh_bits}
+use Rattle.cnf_base.specs.Gates.{gates_clauses}
+use Rattle.smt_terms.specs.declared.node.Node.{Node}
+use Rattle.smt_terms.specs.Nodes.{node_at}
+use Rattle.smt_terms.specs.Terms.{IsTermList}
+use Rattle.proof_log.specs.declared.entry.Entry.{Entry}
+use Rattle.proof_log.specs.declared.entry.Entry.TheVariants as step
+use Rattle.proof_log.specs.Logs.{start, clause_in, entry_at, selector_clause, state_of, IsLog}
+use Rattle.proof_log.specs.Meanings.{Owns}
+use Rattle.proof_log.specs.Places.{GivesBits}
+use Rattle.proof_log.specs.Diaries.{is_chain}
+use Rattle.proof_log.proofs.Growth.{clause_place}
+use Rattle.proof_log.proofs.Ordered.{log_is_ordered}
+use Rattle.proof_log.proofs.Standing.{stands_over}
+use Rattle.cube_search.specs.Holding.{Occurs, AreSeparate}
+use Rattle.reached_steps.specs.Circuits.{IsOfBlock}
+use Rattle.reached_steps.specs.Reached.{IsOfTerms, AreReachedSteps, ReachedStepsAreSeparate, StoredStepsAreSeparate}
+use Rattle.reached_steps.proofs.Inputs.{AreOf}
+use Rattle.reached_steps.proofs.Clauses.{each_in, each_if, each_weaker}
+use Rattle.reached_steps.proofs.Steps.{row_has, steps_add, before_step, IsEncodeStep, each_row, one_before, leaf_step, encode_step, selector_step, plain_row}
+
+-- ---- lists
+
+no_element : {A : Type 0} (x : A) → Contains [] x → ⊥
+no_element x h = omega (arith, h.1)
+
+pub is_in : (xs : List ℕ) (x : ℕ) → Contains xs x ⊎ (Contains xs x → ⊥)
+is_in [] x = inr (no_element x)
+is_in (y ∷ xs) x = go (y == x) refl (is_in xs x)
+  where
+    go : (b : Bool) → (y == x) ≡ b → Contains xs x ⊎ (Contains xs x → ⊥) → Contains (y ∷ xs) x ⊎ (Contains (y ∷ xs) x → ⊥)
+    go true e k = inl (0, omega arith, eqb-true y x e)
+    go false e (inl k) = inl (Contains-append_right (y ∷ []) xs x k)
+    go false e (inr k) = inr (λ h.
+        ⊎_elim
+        (λ p. ⊎_elim (λ q. no_element x q) (λ q. let r : (y == x) ≡ true = eq-eqb y x q in let f : ⊥ = cc in f) (Contains-push_cases [] y x p))
+        k
+        (Contains-append_cases (y ∷ []) xs x h))
+
+there : {A : Type 0} (xs : List A) (i : ℕ) → i < length xs → (x : A) × (slice_get xs i ≡ Some x)
+there [] i lt = absurd (omega arith)
+there (y ∷ xs) zero lt = (y, refl)
+there (y ∷ xs) (suc i) lt = there xs i (omega arith)
+
+only_literal : (l m : Literal) → Contains (l ∷ []) m → l ≡ m
+only_literal l m h = ⊎_elim (λ q. absurd (no_element m q)) (λ q. q) (Contains-push_cases [] l m h)
+
+only_clause : (c d : List Literal) → Contains (c ∷ []) d → c ≡ d
+only_clause c d h = ⊎_elim (λ q. absurd (no_element d q)) (λ q. q) (Contains-push_cases [] c d h)
+
+one_of_two : (l m x : Literal) → Contains (l ∷ m ∷ []) x → (l ≡ x) ⊎ (m ≡ x)
+one_of_two l m x h = ⊎_elim (λ p. inl (only_literal l x p)) (λ p. inr (only_literal m x p)) (Contains-append_cases (l ∷ []) (m ∷ []) x h)
+
+-- the first position has the clause of variable 1 alone
+first_row : (nodes : List Node) (log : List Entry) (k : ℕ) (c : List Literal) → clause_in (slice_get (state_of nodes log).clauses 0) k ≡ Some c → Contains ((true_literal ∷ []) ∷ []) c
+first_row nodes log k c e =
+    let r = steps_add nodes start log in
+    row_has (state_of nodes log).clauses 0 k ((true_literal ∷ []) ∷ []) c (ap (λ rows. slice_get rows 0) r.1) e
+
+-- ---- variables
+
+module _ (nodes : List Node) (log : List Entry) (positions : List ℕ) (all : IsTermList nodes) (is : IsLog nodes log) (h : AreReachedSteps nodes log positions) where
+  -- variable 1, or one that a step at one of the positions made
+  abbrev Own : ℕ → Type 0
+  Own x = (x ≡ 1) ⊎ ((p : ℕ) × Contains positions (suc p) × Owns nodes log p x)
+
+  owned : (p x : ℕ) → Contains positions (suc p) → p < length log → (before_step nodes log p).next ≤ x → x < (before_step nodes log (suc p)).next → Own x
+  owned p x k within le lt = inr (p, k, record { step = within; from = le; upto = lt })
+
+  -- ---- bits
+
+  abbrev Known : ℕ → Type 0
+  Known t = (b : List Literal) → (state_of nodes log).bits t ≡ Some b → AreOf Own b
+
+  same_bits : (t : ℕ) (b c : List Literal) → (state_of nodes log).bits t ≡ Some b → (state_of nodes log).bits t ≡ Some c → AreOf Own b → AreOf Own c
+  same_bits t b c e f k = let q : Some b ≡ Some c = sym e ∙ f in let r : b ≡ c = cc in subst (AreOf Own) r k
+
+  leaf_known : (t p : ℕ) → Contains positions (suc p) → slice_get log p ≡ Some (step.Leaf t) → Known t
+  leaf_known t p k e c q =
+      let r = leaf_step nodes log all is p t e in
+      let g = (before_step nodes log p).next in
+      same_bits t (fresh_bits g r.width) c r.bits q
+      (fresh_known r.width g (λ x le lt. owned p x k r.within le (omega (arith, lt, r.next))))
+    where
+      fresh_known : (n g : ℕ) → ((x : ℕ) → g ≤ x → x < g + n → Own x) → AreOf Own (fresh_bits g n)
+      fresh_known zero g f = tt
+      fresh_known (suc n) g f = (f g (omega arith) (omega arith), fresh_known n (suc g) (λ x le lt. f x (omega arith) (omega arith)))
+
+  -- the variables of a block whose position is held, and whose arguments are known
+  block_own : (t p x : ℕ) (r : IsEncodeStep nodes log p t) → Contains positions (suc p) → AllByRecursion Known (node_at nodes t).args → IsOfBlock (before_step nodes log p).next r.rows r.block x → Own x
+  block_own t p x r k each (inl one) = inl one
+  block_own t p x r k each (inr (inl in_row)) =
+      let s = before_step nodes log p in
+      let known = each_weaker Known (λ u. (b : List Literal) → s.bits u ≡ Some b → AreOf Own b) (node_at nodes t).args (λ u f b e. f b (r.before.bits u b e)) each in
+      let rows = each_row (AreOf Own) s.bits (node_at nodes t).args r.rows known r.arguments in
+      subst Own in_row.4 (each_in (λ (l : Literal). Own l.variable) in_row.0 in_row.1 (each_in (AreOf Own) r.rows in_row.0 rows in_row.2) in_row.3)
+  block_own t p x r k each (inr (inr gate)) = owned p x k r.within gate.0 (omega (arith, gate.1, r.next))
+
+  encode_known : (t p : ℕ) → Contains positions (suc p) → slice_get log p ≡ Some (step.Encode t) → AllByRecursion Known (node_at nodes t).args → Known t
+  encode_known t p k e each c q =
+      let r = encode_step nodes log all is p t e in
+      same_bits t r.block.bits c r.bits q (each_if (λ (l : Literal). Own l.variable) r.block.bits (λ l m. block_own t p l.variable r k each (r.stands.bits l m)))
+
+  gives_known : (t q : ℕ) → GivesBits log t q → Contains positions q → AllByRecursion Known (node_at nodes t).args → Known t
+  gives_known t zero (inl e) k each = let f : ⊥ = cc in absurd f
+  gives_known t zero (inr e) k each = let f : ⊥ = cc in absurd f
+  gives_known t (suc p) (inl e) k each = leaf_known t p k e
+  gives_known t (suc p) (inr e) k each = encode_known t p k e each
+
+  -- ---- all terms, each behind its arguments
+
+  gives_within : (t q : ℕ) → GivesBits log t q → t < length nodes
+  gives_within t zero (inl e) = let f : ⊥ = cc in absurd f
+  gives_within t zero (inr e) = let f : ⊥ = cc in absurd f
+  gives_within t (suc p) (inl e) = (leaf_step nodes log all is p t e).term
+  gives_within t (suc p) (inr e) = (encode_step nodes log all is p t e).term
+
+  args_known : (n t : ℕ) (args : List ℕ) → ((u : ℕ) → u < n → Contains h.reached u → Known u) → t < suc n → AllByRecursion (λ a. a < t) args → ((u : ℕ) → Contains args u → Contains h.reached u) → AllByRecursion Known args
+  args_known n t [] ih lt earlier among = tt
+  args_known n t (u ∷ us) ih lt earlier among =
+      (ih u (omega (arith, earlier.0)) (among u (0, omega arith, refl)), args_known n t us ih lt earlier.1 (λ w k. among w (Contains-append_right (u ∷ []) us w k)))
+
+  known_below : (n t : ℕ) → t < n → Contains h.reached t → Known t
+  known_below zero t lt in_it = absurd (omega arith)
+  known_below (suc n) t lt in_it =
+      let k = All-contains (λ u. (p : ℕ) × GivesBits log u p × Contains positions p) h.reached t h.terms in_it in
+      gives_known t k.0 k.1 k.2 (args_known n t (node_at nodes t).args (known_below n) lt (all t (gives_within t k.0 k.1)).earlier (λ u. h.closed t u in_it))
+
+  known : (t : ℕ) → Contains h.reached t → Known t
+  known t in_it = known_below (suc t) t (omega arith) in_it
+
+  -- ---- clauses of the positions
+
+  encode_clause : (t q k : ℕ) (c : List Literal) (l : Literal) → Contains h.reached t → Contains positions q → entry_at log q ≡ Some (step.Encode t) → clause_in (slice_get (state_of nodes log).clauses q) k ≡ Some c → Contains c l → Own l.variable
+  encode_clause t zero k c l in_it held e g m = let f : ⊥ = cc in absurd f
+  encode_clause t (suc p) k c l in_it held e g m =
+      let r = encode_step nodes log all is p t e in
+      let row = gates_clauses (before_step nodes log p).next r.block.gates in
+      block_own t p l.variable r held (each_if Known (node_at nodes t).args (λ u n. known u (h.closed t u in_it n)))
+      (r.stands.clauses c l (row_has (state_of nodes log).clauses (suc p) k row c r.row g) m)
+
+  leaf_clause : (t q k : ℕ) (c : List Literal) → entry_at log q ≡ Some (step.Leaf t) → clause_in (slice_get (state_of nodes log).clauses q) k ≡ Some c → ⊥
+  leaf_clause t zero k c e g = cc
+  leaf_clause t (suc p) k c e g = no_element c (row_has (state_of nodes log).clauses (suc p) k [] c (leaf_step nodes log all is p t e).row g)
+
+  selector_clause_own : (a t q k : ℕ) (c : List Literal) (l : Literal) → Contains h.reached t → Contains positions q → entry_at log q ≡ Some (step.Selector a t) → clause_in (slice_get (state_of nodes log).clauses q) k ≡ Some c → Contains c l → Own l.variable
+  selector_clause_own a t zero k c l in_it held e g m = let f : ⊥ = cc in absurd f
+  selector_clause_own a t (suc p) k c l in_it held e g m =
+      let r = selector_step nodes log all is p a t e in
+      let x = (before_step nodes log p).next in
+      let is_clause = only_clause (selector_clause x r.bit) c (row_has (state_of nodes log).clauses (suc p) k (selector_clause x r.bit ∷ []) c r.row g) in
+      let literal = one_of_two (negative_of x) r.bit l (subst (λ d. Contains d l) (sym is_clause) m) in
+      let selects : Own x = owned p x held r.within (omega arith) (omega (arith, r.next)) in
+      ⊎_elim
+      (λ y. subst (λ (z : Literal). Own z.variable) y selects)
+      (λ y. subst (λ (z : Literal). Own z.variable) y (known t in_it (r.bit ∷ []) r.bits).0)
+      literal
+
+  first_clause : (k : ℕ) (c : List Literal) (l : Literal) → clause_in (slice_get (state_of nodes log).clauses 0) k ≡ Some c → Contains c l → Own l.variable
+  first_clause k c l g m =
+      let is_clause = only_clause (true_literal ∷ []) c (first_row nodes log k c g) in
+      let literal = only_literal true_literal l (subst (λ d. Contains d l) (sym is_clause) m) in
+      inl (ap (λ (z : Literal). z.variable) (sym literal))
+
+  position_own : (q k : ℕ) (c : List Literal) (l : Literal) → Contains positions q → IsOfTerms log h.reached q → clause_in (slice_get (state_of nodes log).clauses q) k ≡ Some c → Contains c l → Own l.variable
+  position_own q k c l held (inl z) g m = first_clause k c l (ap (λ i. clause_in (slice_get (state_of nodes log).clauses i) k) (sym z) ∙ g) m
+  position_own q k c l held (inr (inl (t, in_it, inl e))) g m = absurd (leaf_clause t q k c e g)
+  position_own q k c l held (inr (inl (t, in_it, inr e))) g m = encode_clause t q k c l in_it held e g m
+  position_own q k c l held (inr (inr (a, t, in_it, e))) g m = selector_clause_own a t q k c l in_it held e g m
+
+  occurs_own : (x : ℕ) → Occurs (state_of nodes log).clauses positions x → Own x
+  occurs_own x (id, c, l, held, g, m, e) = subst Own e (position_own id.pos id.part c l held (h.only id.pos held) g m)
+
+  -- ---- clauses of other positions
+
+  -- what a step at another position made is not among these variables
+  fresh : (p x : ℕ) → (Contains positions (suc p) → ⊥) → p < length log → (before_step nodes log p).next ≤ x → x < (before_step nodes log (suc p)).next → Own x → ⊥
+  fresh p x out within le lt (inl e) = omega (arith, one_before nodes log all is p)
+  fresh p x out within le lt (inr (q, held, owns)) =
+      let same : p ≡ q = (log_is_ordered nodes log all is).once x p q (record { step = within; from = le; upto = lt }) owns in
+      out (subst (λ i. Contains positions (suc i)) (sym same) held)
+
+  abbrev HasNew : List Literal → Type 0
+  HasNew c = (l : Literal) × Contains c l × (Occurs (state_of nodes log).clauses positions l.variable → ⊥)
+
+  other_clause : (p k : ℕ) (c : List Literal) (e : Entry) → slice_get log p ≡ Some e → is_chain (Some e) ≡ false → (Contains positions (suc p) → ⊥) → clause_in (slice_get (state_of nodes log).clauses (suc p)) k ≡ Some c → HasNew c
+  other_clause p k c (step.Node n) e plain out g = absurd (no_element c (row_has (state_of nodes log).clauses (suc p) k [] c (plain_row nodes log all is p n e) g))
+  other_clause p k c (step.Leaf t) e plain out g = absurd (leaf_clause t (suc p) k c e g)
+  other_clause p k c (step.Encode t) e plain out g =
+      let r = encode_step nodes log all is p t e in
+      let row = gates_clauses (before_step nodes log p).next r.block.gates in
+      let own = r.stands.own c (row_has (state_of nodes log).clauses (suc p) k row c r.row g) in
+      (own.0, own.1, (λ o. fresh p own.0.variable out r.within own.2.0 (omega (arith, own.2.1, r.next)) (occurs_own own.0.variable o)))
+  other_clause p k c (step.Selector a t) e plain out g =
+      let r = selector_step nodes log all is p a t e in
+      let x = (before_step nodes log p).next in
+      let is_clause = only_clause (selector_clause x r.bit) c (row_has (state_of nodes log).clauses (suc p) k (selector_clause x r.bit ∷ []) c r.row g) in
+      let first : Contains c (negative_of x) = subst (λ d. Contains d (negative_of x)) is_clause (0, omega arith, refl) in
+      (negative_of x, first, (λ o. fresh p x out r.within (omega arith) (omega (arith, r.next)) (occurs_own x o)))
+  other_clause p k c (step.Chain d hints) e plain out g = let f : ⊥ = cc in absurd f
+
+  separate_at : (q k : ℕ) (c : List Literal) → q ≤ length log → is_chain (entry_at log q) ≡ false → (Contains positions q → ⊥) → clause_in (slice_get (state_of nodes log).clauses q) k ≡ Some c → HasNew c
+  separate_at zero k c le plain out g = absurd (out h.first)
+  separate_at (suc p) k c le plain out g =
+      let found = there log p (omega arith) in
+      other_clause p k c found.0 found.1 (ap is_chain (sym found.1) ∙ plain) out g
+
+pub reached_are_separate : ReachedStepsAreSeparate
+reached_are_separate nodes log positions from all is h id c lt plain g =
+    ⊎_elim
+    (λ held. inl held)
+    (λ out. inr (separate_at nodes log positions all is h id.pos id.part c (clause_place nodes log id c g) plain out g))
+    (is_in positions id.pos)
+
+pub stored_are_separate : StoredStepsAreSeparate
+stored_are_separate nodes log positions from all stands h =
+    let k = stands_over nodes log stands in
+    subst (λ rows. AreSeparate rows log.entries positions from) (sym k.clauses) (reached_are_separate nodes log.entries positions from all k.steps h)

@@ -1,0 +1,261 @@
+-- What a step of a log found before it, and what it left: new variables, bits of a term, and the clauses of its position.
+use Rattle.std.proofs.Common.{◌≡◌, ℕ, zero, suc, ◌+◌, ◌<◌, List, [], ◌∷◌, ◌++◌, append_assoc, append-nil, length, length-append, take, Option, Some, None, refl, sym, ap, ◌∙◌, subst, arith}
+use Rattle.std.specs.Prelude.{Contains, slice_get}
+use Rattle.std.specs.List.{AllByRecursion}
+use Rattle.std.proofs.lemmas.Bool.{eq-eqb}
+use Rattle.std.proofs.lemmas.List.Elements.{Contains-append_right}
+use Rattle.cnf_base.specs.Literals.{Literal}
+use Rattle.cnf_base.specs.Assignments.{AreBelow, fresh_bits}
+use Rattle.cnf_base.specs.Gates.{gates_clauses}
+use Rattle.smt_terms.specs.declared.node.Node.{Node}
+use Rattle.smt_terms.specs.Nodes.{node_at}
+use Rattle.smt_terms.specs.Terms.{IsTermList}
+use Rattle.bit_blast.specs.Blocks.{Block, with_first, all_bits, block_over, block_of, built, circuit_of}
+use Rattle.proof_log.specs.declared.entry.Entry.{Entry}
+use Rattle.proof_log.specs.declared.entry.Entry.TheVariants as step
+use Rattle.proof_log.specs.Logs.{LogState, start, clause_in, with_value, constant_width, IsStep, IsLeaf, IsEncoding, IsSelector, leaf_after, block_after, selector_clause, selector_after, after, state_from, state_of, AreSteps, IsLog}
+use Rattle.proof_log.proofs.Growth.{get_end}
+use Rattle.proof_log.proofs.Ordered.{any_interpretation, log_is_ordered}
+use Rattle.proof_log.proofs.Sound.{log_suits}
+use Rattle.proof_log.proofs.Staying.{Holds, steps_hold}
+use Rattle.reached_steps.specs.Circuits.{StandsOnArguments}
+use Rattle.reached_steps.proofs.Clauses.{blocks_stand}
+
+-- ---- lists
+
+pub got_in : {A : Type 0} (xs : List A) (k : ℕ) (x : A) → slice_get xs k ≡ Some x → Contains xs x
+got_in [] k x e = let q : ⊥ = cc in absurd q
+got_in (y ∷ xs) zero x e = let q : y ≡ x = cc in (0, omega arith, q)
+got_in (y ∷ xs) (suc k) x e = Contains-append_right (y ∷ []) xs x (got_in xs k x e)
+
+-- a clause of a position is one of its row
+pub row_has : (rows : List (List (List Literal))) (q k : ℕ) (row : List (List Literal)) (c : List Literal) → slice_get rows q ≡ Some row → clause_in (slice_get rows q) k ≡ Some c → Contains row c
+row_has rows q k row c e h = got_in row k c (sym (ap (λ o. clause_in o k) e) ∙ h)
+
+new_value : {A : Type 0} (f : ℕ → Option A) (x : ℕ) (a : A) → with_value f x a x ≡ Some a
+new_value f x a = rw (eq-eqb x x refl) refl
+
+-- ---- rows of clauses
+
+-- the clauses that a step adds
+abbrev block_row : LogState → Option Block → List (List Literal)
+block_row s None = []
+block_row s (Some b) = gates_clauses s.next b.gates
+
+abbrev selector_row : LogState → Option (List Literal) → List (List Literal)
+selector_row s None = []
+selector_row s (Some []) = []
+selector_row s (Some (bit ∷ bits)) = selector_clause s.next bit ∷ []
+
+abbrev pub row_of : List Node → LogState → Entry → List (List Literal)
+row_of nodes s (step.Node n) = []
+row_of nodes s (step.Leaf t) = []
+row_of nodes s (step.Encode t) = block_row s (block_of s.next s.bits (node_at nodes t))
+row_of nodes s (step.Selector a t) = selector_row s (s.bits t)
+row_of nodes s (step.Chain c hints) = c ∷ []
+
+leaf_adds : (s : LogState) (t : ℕ) (o : Option ℕ) → (leaf_after s t o).clauses ≡ s.clauses ++ [] ∷ []
+leaf_adds s t None = refl
+leaf_adds s t (Some n) = refl
+
+block_adds : (s : LogState) (t : ℕ) (o : Option Block) → (block_after s t o).clauses ≡ s.clauses ++ block_row s o ∷ []
+block_adds s t None = refl
+block_adds s t (Some b) = refl
+
+selector_adds : (s : LogState) (a t : ℕ) (o : Option (List Literal)) → (selector_after s a t o).clauses ≡ s.clauses ++ selector_row s o ∷ []
+selector_adds s a t None = refl
+selector_adds s a t (Some []) = refl
+selector_adds s a t (Some (bit ∷ bits)) = refl
+
+step_adds : (nodes : List Node) (s : LogState) (e : Entry) → (after nodes s e).clauses ≡ s.clauses ++ row_of nodes s e ∷ []
+step_adds nodes s (step.Node n) = refl
+step_adds nodes s (step.Leaf t) = leaf_adds s t (constant_width (node_at nodes t).op)
+step_adds nodes s (step.Encode t) = block_adds s t (block_of s.next s.bits (node_at nodes t))
+step_adds nodes s (step.Selector a t) = selector_adds s a t (s.bits t)
+step_adds nodes s (step.Chain c hints) = refl
+
+pub steps_add : (nodes : List Node) (s : LogState) (log : List Entry) → (rest : List (List (List Literal))) × ((state_from nodes s log).clauses ≡ s.clauses ++ rest)
+steps_add nodes s [] = ([], sym (append-nil s.clauses))
+steps_add nodes s (e ∷ log) =
+    let one = step_adds nodes s e in
+    let k = steps_add nodes (after nodes s e) log in
+    (row_of nodes s e ∷ k.0, k.1 ∙ ap (λ l. l ++ k.0) one ∙ append_assoc s.clauses (row_of nodes s e ∷ []) k.0)
+
+-- the row that a step added stays
+row_stays : (nodes : List Node) (s : LogState) (e : Entry) (log : List Entry) → slice_get (state_from nodes s (e ∷ log)).clauses (length s.clauses) ≡ Some (row_of nodes s e)
+row_stays nodes s e log =
+    let k = steps_add nodes (after nodes s e) log in
+    ap (λ rs. slice_get rs (length s.clauses)) (k.1 ∙ ap (λ l. l ++ k.0) (step_adds nodes s e) ∙ append_assoc s.clauses (row_of nodes s e ∷ []) k.0)
+    ∙ get_end s.clauses (row_of nodes s e) k.0
+
+-- ---- a step among others
+
+-- What the step with number p, counted from 0, stands behind, and what it leaves, where the steps began at a state.
+pub record IsMade (nodes : List Node) (s : LogState) (log : List Entry) (p : ℕ) (e : Entry) : Type 0 where
+  pub step : IsStep nodes (state_from nodes s (take p log)) e
+  pub leaves : state_from nodes s (take (suc p) log) ≡ after nodes (state_from nodes s (take p log)) e
+  pub row : slice_get (state_from nodes s log).clauses (length s.clauses + p) ≡ Some (row_of nodes (state_from nodes s (take p log)) e)
+  pub before : Holds (state_from nodes s (take p log)) (state_from nodes s log)
+  pub behind : Holds (state_from nodes s (take (suc p) log)) (state_from nodes s log)
+  pub within : p < length log
+
+made_first : (nodes : List Node) (s : LogState) (e : Entry) (log : List Entry) → AreSteps nodes s (e ∷ log) → IsMade nodes s (e ∷ log) zero e
+made_first nodes s e log h =
+    let n : length s.clauses ≡ length s.clauses + 0 = omega arith in
+    record {
+      step = h.0;
+      leaves = refl;
+      row = subst (λ i. slice_get (state_from nodes s (e ∷ log)).clauses i ≡ Some (row_of nodes s e)) n (row_stays nodes s e log);
+      before = steps_hold nodes s (e ∷ log) h;
+      behind = steps_hold nodes (after nodes s e) log h.1;
+      within = omega arith;
+    }
+
+made : (nodes : List Node) (s : LogState) (log : List Entry) (p : ℕ) (e : Entry) → AreSteps nodes s log → slice_get log p ≡ Some e → IsMade nodes s log p e
+made nodes s [] p e h g = let q : ⊥ = cc in absurd q
+made nodes s (d ∷ log) zero e h g = let q : d ≡ e = cc in subst (IsMade nodes s (d ∷ log) zero) q (made_first nodes s d log h)
+made nodes s (d ∷ log) (suc p) e h g =
+    let k = made nodes (after nodes s d) log p e h.1 g in
+    let n : length (after nodes s d).clauses + p ≡ length s.clauses + suc p = omega (arith, ap length (step_adds nodes s d), length-append s.clauses (row_of nodes s d ∷ [])) in
+    record {
+      step = k.step;
+      leaves = k.leaves;
+      row = subst (λ i. slice_get (state_from nodes (after nodes s d) log).clauses i ≡ Some (row_of nodes (state_from nodes (after nodes s d) (take p log)) e)) n k.row;
+      before = k.before;
+      behind = k.behind;
+      within = omega (arith, k.within);
+    }
+
+first_steps : (nodes : List Node) (s : LogState) (log : List Entry) (p : ℕ) → AreSteps nodes s log → AreSteps nodes s (take p log)
+first_steps nodes s log zero h = tt
+first_steps nodes s [] (suc p) h = tt
+first_steps nodes s (e ∷ log) (suc p) h = (h.0, first_steps nodes (after nodes s e) log p h.1)
+
+-- ---- the steps of a log that make variables
+
+-- the state before the step with this number
+abbrev pub before_step : List Node → List Entry → ℕ → LogState
+before_step nodes log p = state_of nodes (take p log)
+
+pub record IsLeafStep (nodes : List Node) (log : List Entry) (p t : ℕ) : Type 0 where
+  pub width : ℕ
+  pub term : t < length nodes
+  pub bits : (state_of nodes log).bits t ≡ Some (fresh_bits (before_step nodes log p).next width)
+  pub next : (before_step nodes log (suc p)).next ≡ (before_step nodes log p).next + width
+  pub row : slice_get (state_of nodes log).clauses (suc p) ≡ Some []
+  pub within : p < length log
+
+pub record IsEncodeStep (nodes : List Node) (log : List Entry) (p t : ℕ) : Type 0 where
+  pub block : Block
+  pub rows : List (List Literal)
+  pub term : t < length nodes
+  pub arguments : all_bits (before_step nodes log p).bits (node_at nodes t).args ≡ Some rows
+  pub stands : StandsOnArguments (before_step nodes log p).next rows block
+  pub bits : (state_of nodes log).bits t ≡ Some block.bits
+  pub next : (before_step nodes log (suc p)).next ≡ (before_step nodes log p).next + length block.gates
+  pub row : slice_get (state_of nodes log).clauses (suc p) ≡ Some (gates_clauses (before_step nodes log p).next block.gates)
+  pub before : Holds (before_step nodes log p) (state_of nodes log)
+  pub within : p < length log
+
+pub record IsSelectorStep (nodes : List Node) (log : List Entry) (p t : ℕ) : Type 0 where
+  pub bit : Literal
+  pub bits : (state_of nodes log).bits t ≡ Some (bit ∷ [])
+  pub next : (before_step nodes log (suc p)).next ≡ suc (before_step nodes log p).next
+  pub row : slice_get (state_of nodes log).clauses (suc p) ≡ Some (selector_clause (before_step nodes log p).next bit ∷ [])
+  pub within : p < length log
+
+-- the rows of the arguments of a block
+block_rows : (s : LogState) (n : Node) (b : Block) → block_of s.next s.bits n ≡ Some b → (rows : List (List Literal)) × (all_bits s.bits n.args ≡ Some rows) × (built (circuit_of n.op) s.next rows ≡ Some b)
+block_rows s n b e = go (all_bits s.bits n.args) refl e
+  where
+    go : (o : Option (List (List Literal))) → all_bits s.bits n.args ≡ o → block_over n.op s.next o ≡ Some b → (rows : List (List Literal)) × (all_bits s.bits n.args ≡ Some rows) × (built (circuit_of n.op) s.next rows ≡ Some b)
+    go None p e = let r : ⊥ = cc in absurd r
+    go (Some rows) p e = (rows, p, e)
+
+-- each row of bits is such where the bits of each of the terms are
+pub each_row : (P : List Literal → Type 0) (bits : ℕ → Option (List Literal)) (args : List ℕ) (rows : List (List Literal)) → AllByRecursion (λ t. (b : List Literal) → bits t ≡ Some b → P b) args → all_bits bits args ≡ Some rows → AllByRecursion P rows
+each_row P bits [] rows each e = let q : [] ≡ rows = cc in subst (AllByRecursion P) q tt
+each_row P bits (t ∷ ts) rows each e = go (bits t) (all_bits bits ts) refl (λ bs q. each_row P bits ts bs each.1 q) e
+  where
+    go : (o : Option (List Literal)) (os : Option (List (List Literal))) → bits t ≡ o → ((bs : List (List Literal)) → os ≡ Some bs → AllByRecursion P bs) → with_first o os ≡ Some rows → AllByRecursion P rows
+    go None os p rest e = let r : ⊥ = cc in absurd r
+    go (Some b) None p rest e = let r : ⊥ = cc in absurd r
+    go (Some b) (Some bs) p rest e = let r : b ∷ bs ≡ rows = cc in subst (AllByRecursion P) r (each.0 b p, rest bs refl)
+
+pub always : {A : Type 0} (P : A → Type 0) (xs : List A) → ((x : A) → P x) → AllByRecursion P xs
+always P [] f = tt
+always P (x ∷ xs) f = (f x, always P xs f)
+
+module _ (nodes : List Node) (log : List Entry) (all : IsTermList nodes) (is : IsLog nodes log) where
+  -- variable 1 is there before each step
+  pub one_before : (p : ℕ) → 1 < (before_step nodes log p).next
+  one_before p = (log_suits any_interpretation nodes all (take p log) (first_steps nodes start log p is)).next
+
+  bits_before : (p t : ℕ) (b : List Literal) → (before_step nodes log p).bits t ≡ Some b → AreBelow (before_step nodes log p).next b
+  bits_before p t b e = ((log_is_ordered nodes (take p log) all (first_steps nodes start log p is)).bits t b e).1
+
+  leaf_of : (s r : LogState) (t n : ℕ) → r ≡ leaf_after s t (Some n) → Holds r (state_of nodes log) → (r.next ≡ s.next + n) × ((state_of nodes log).bits t ≡ Some (fresh_bits s.next n))
+  leaf_of s r t n e h = (ap (λ x. x.next) e, h.bits t (fresh_bits s.next n) (ap (λ x. x.bits t) e ∙ new_value s.bits t (fresh_bits s.next n)))
+
+  pub leaf_step : (p t : ℕ) → slice_get log p ≡ Some (step.Leaf t) → IsLeafStep nodes log p t
+  leaf_step p t e =
+      let m = made nodes start log p (step.Leaf t) is e in
+      let s = before_step nodes log p in
+      let i : IsLeaf nodes (before_step nodes log p) t = m.step in
+      let n : 1 + p ≡ suc p = omega arith in
+      let k = leaf_of s (before_step nodes log (suc p)) t i.width (m.leaves ∙ ap (leaf_after s t) i.constant) m.behind in
+      record {
+        width = i.width;
+        term = i.term;
+        bits = k.1;
+        next = k.0;
+        row = subst (λ q. slice_get (state_of nodes log).clauses q ≡ Some []) n m.row;
+        within = m.within;
+      }
+
+  block_is : (s r : LogState) (t : ℕ) (b : Block) → r ≡ block_after s t (Some b) → Holds r (state_of nodes log) → (r.next ≡ s.next + length b.gates) × ((state_of nodes log).bits t ≡ Some b.bits)
+  block_is s r t b e h = (ap (λ x. x.next) e, h.bits t b.bits (ap (λ x. x.bits t) e ∙ new_value s.bits t b.bits))
+
+  pub encode_step : (p t : ℕ) → slice_get log p ≡ Some (step.Encode t) → IsEncodeStep nodes log p t
+  encode_step p t e =
+      let m = made nodes start log p (step.Encode t) is e in
+      let s = before_step nodes log p in
+      let node = node_at nodes t in
+      let i : IsEncoding nodes (before_step nodes log p) t = m.step in
+      let n : 1 + p ≡ suc p = omega arith in
+      let k = block_is s (before_step nodes log (suc p)) t i.block (m.leaves ∙ ap (block_after s t) i.circuit) m.behind in
+      let rows = block_rows s (node_at nodes t) i.block i.circuit in
+      let below = each_row (AreBelow s.next) s.bits node.args rows.0 (always (λ u. (b : List Literal) → s.bits u ≡ Some b → AreBelow s.next b) node.args (bits_before p)) rows.1 in
+      record {
+        block = i.block;
+        rows = rows.0;
+        term = i.term;
+        arguments = rows.1;
+        stands = blocks_stand s.next node.op rows.0 i.block (one_before p) below rows.2;
+        bits = k.1;
+        next = k.0;
+        row = subst (λ q. slice_get (state_of nodes log).clauses q ≡ Some (gates_clauses s.next i.block.gates)) n (m.row ∙ ap (λ o. Some (block_row s o)) i.circuit);
+        before = m.before;
+        within = m.within;
+      }
+
+  pub selector_step : (p a t : ℕ) → slice_get log p ≡ Some (step.Selector a t) → IsSelectorStep nodes log p t
+  selector_step p a t e =
+      let m = made nodes start log p (step.Selector a t) is e in
+      let s = before_step nodes log p in
+      let i : IsSelector nodes (before_step nodes log p) a t = m.step in
+      let n : 1 + p ≡ suc p = omega arith in
+      record {
+        bit = i.bit;
+        bits = m.before.bits t (i.bit ∷ []) i.encoded;
+        next = ap (λ x. x.next) (m.leaves ∙ ap (selector_after s a t) i.encoded);
+        row = subst (λ q. slice_get (state_of nodes log).clauses q ≡ Some (selector_clause s.next i.bit ∷ [])) n (m.row ∙ ap (λ o. Some (selector_row s o)) i.encoded);
+        within = m.within;
+      }
+
+  -- the clauses of a position that is no step of a circuit or of a selector, and no chain's
+  pub plain_row : (p : ℕ) (n : Node) → slice_get log p ≡ Some (step.Node n) → slice_get (state_of nodes log).clauses (suc p) ≡ Some []
+  plain_row p n e =
+      let m = made nodes start log p (step.Node n) is e in
+      let k : 1 + p ≡ suc p = omega arith in
+      subst (λ q. slice_get (state_of nodes log).clauses q ≡ Some []) k m.row

@@ -1,0 +1,9 @@
+//! Worked searches over boards: a proved caller of `cube_search`.
+//!
+//! The tests search the log of four assertions over two truth values, whose clauses contradict one another, on a board of that log
+//! alone, and on one whose first `sync` tells a clause that was not there before. It is a crate of its own, since a crate with tests is
+//! proved twice.
+#![tactic(auto)]
+
+#[cfg(test)]
+mod tests;
