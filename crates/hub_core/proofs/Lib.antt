@@ -1,0 +1,3 @@
+pub mod Sounds
+pub mod Accounts
+pub mod Acts
