@@ -25,7 +25,7 @@ use Rattle.proof_text.specs.declared.line.WrittenValue.TheVariants as value
 use Rattle.proof_text.specs.declared.line.Line.{Line}
 use Rattle.proof_text.specs.declared.line.Line.TheVariants as line
 use Rattle.proof_text.specs.Lines.{spaced, joined, with_number, head_words, literal_text, hint_text, digit_of, value_text, words_of, line_text, IsNumber, IsHead, IsLiteral, IsHint, IsValue, IsLine}
-use Rattle.proof_text.specs.Reading.{◌>>=◌, each_of, fields, look_up, is_digit, number_of, number_in, number_at, wide_at, ended, only_number, numbers_of, signed, literal_of, literals_at, hint_of, hints_of, chain_of, indexed_names, with_index, indexed_at, named_at, head_at, term_of, digit_in, digits_of, binary_of, value_of, value_at, declared_of, exactly, header_of, keywords, one_number, line_by, line_of}
+use Rattle.proof_text.specs.Reading.{◌>>=◌, each_of, fields, look_up, is_digit, number_of, number_in, number_at, wide_at, ended, only_number, numbers_of, signed, literal_of, literals_at, hint_of, hints_of, chain_of, indexed_names, with_index, indexed_at, named_at, head_at, term_of, digit_in, digits_of, binary_of, value_of, value_at, declared_of, exactly, header_of, unknown_of, keywords, one_number, line_by, line_of}
 use Rattle.proof_text.proofs.Numerals.{number_reads, number_says, decimal_digits, not_eqb, digit_range, low_enough}
 use Rattle.proof_text.proofs.Fields.{is_free, joined_by, fields_joined, joined_fields, digits_free, both}
 
@@ -296,6 +296,10 @@ keyword_name key.Chain = codes "c"
 keyword_name key.Sat = codes "sat"
 keyword_name key.Value = codes "v"
 keyword_name key.Unsat = codes "unsat"
+keyword_name key.Unknown = codes "unknown"
+keyword_name key.Take = codes "="
+keyword_name key.Put = codes "+"
+keyword_name key.Drop = codes "-"
 
 keyword_says : (w : List ℕ) (k : Keyword) → look_up keywords w ≡ Some k → w ≡ keyword_name k
 unfolding keyword_name
@@ -457,6 +461,10 @@ words_read (line.Chain clause hints) h = rw (literals_read clause (map hint_text
 words_read (line.Sat n) h = rw (number_in_reads n h) refl
 words_read (line.Value d v) h = rw (number_in_reads d h.0, value_reads v h.1) refl
 words_read (line.Unsat p) h = rw (number_in_reads p h) refl
+words_read (line.Unknown n g c) h = rw (number_in_reads n h.0, number_in_reads g h.1, number_in_reads c h.2) refl
+words_read (line.Take p) h = rw (number_in_reads p h) refl
+words_read (line.Put p) h = rw (number_in_reads p h) refl
+words_read (line.Drop p) h = rw (number_in_reads p h) refl
 
 exactly_says : (word : List ℕ) (ws rest : List (List ℕ)) → exactly word ws ≡ Some rest → ws ≡ word ∷ rest
 exactly_says word [] rest e = absurd (let z : ⊥ = cc in z)
@@ -541,6 +549,18 @@ declared_says ws l e =
     subst (IsReadLine (codes "v" ∷ ws)) q.0
     (record { words = ap (λ vs. codes "v" ∷ vs) (s.words ∙ ap (λ vs. decimal b.0.0 ∷ vs) (t.words ∙ ap (λ vs. value_text d.0.0 ∷ vs) q.1)); fits = (s.bound, t.fits) })
 
+unknown_says : (ws : List (List ℕ)) (l : Line) → unknown_of ws ≡ Some l → IsReadLine (codes "unknown" ∷ ws) l
+unknown_says ws l e =
+    let a = bind_some (number_at ws) (λ a. number_at a.1 >>= λ b. only_number b.1 >>= λ n. Some (line.Unknown a.0 b.0 n)) l e in
+    let b = bind_some (number_at a.0.1) (λ b. only_number b.1 >>= λ n. Some (line.Unknown a.0.0 b.0 n)) l a.2 in
+    let n = bind_some (only_number b.0.1) (λ n. Some (line.Unknown a.0.0 b.0.0 n)) l b.2 in
+    let same : line.Unknown a.0.0 b.0.0 n.0 ≡ l = let q = n.2 in cc in
+    let s = number_at_says ws a.0 a.1 in
+    let t = number_at_says a.0.1 b.0 b.1 in
+    let u = only_number_says b.0.1 n.0 n.1 in
+    subst (IsReadLine (codes "unknown" ∷ ws)) same
+    (record { words = ap (λ vs. codes "unknown" ∷ vs) (s.words ∙ ap (λ vs. decimal a.0.0 ∷ vs) (t.words ∙ ap (λ vs. decimal b.0.0 ∷ vs) u.words)); fits = (s.bound, t.bound, u.bound) })
+
 keyword_read : (k : Keyword) (ws : List (List ℕ)) (l : Line) → line_by k ws ≡ Some l → IsReadLine (keyword_name k ∷ ws) l
 unfolding keyword_name
 keyword_read key.Header ws l e = header_says ws l e
@@ -552,6 +572,10 @@ keyword_read key.Chain ws l e = chain_says ws l e
 keyword_read key.Sat ws l e = one_number_says line.Sat (codes "sat") (λ n. refl) (λ n k. k) ws l e
 keyword_read key.Value ws l e = declared_says ws l e
 keyword_read key.Unsat ws l e = one_number_says line.Unsat (codes "unsat") (λ n. refl) (λ n k. k) ws l e
+keyword_read key.Unknown ws l e = unknown_says ws l e
+keyword_read key.Take ws l e = one_number_says line.Take (codes "=") (λ n. refl) (λ n k. k) ws l e
+keyword_read key.Put ws l e = one_number_says line.Put (codes "+") (λ n. refl) (λ n k. k) ws l e
+keyword_read key.Drop ws l e = one_number_says line.Drop (codes "-") (λ n. refl) (λ n k. k) ws l e
 
 words_say : (ws : List (List ℕ)) (l : Line) → line_of ws ≡ Some l → IsReadLine ws l
 words_say [] l e = absurd (let z : ⊥ = cc in z)
@@ -686,6 +710,10 @@ words_clear (line.Chain clause hints) h = (
 words_clear (line.Sat n) h = (refl, (number_clear n h, tt))
 words_clear (line.Value d v) h = (refl, (number_clear d h.0, (value_clear v, tt)))
 words_clear (line.Unsat n) h = (refl, (number_clear n h, tt))
+words_clear (line.Unknown n g c) h = (refl, (number_clear n h.0, (number_clear g h.1, (number_clear c h.2, tt))))
+words_clear (line.Take n) h = (refl, (number_clear n h, tt))
+words_clear (line.Put n) h = (refl, (number_clear n h, tt))
+words_clear (line.Drop n) h = (refl, (number_clear n h, tt))
 
 clear_free : (mark : ℕ) (w : List ℕ) → mark ≤ 32 → is_clear w ≡ true → is_free mark w ≡ true
 clear_free mark [] low h = refl
@@ -723,6 +751,10 @@ some_words (line.Chain clause hints) = omega arith
 some_words (line.Sat n) = omega arith
 some_words (line.Value d v) = omega arith
 some_words (line.Unsat n) = omega arith
+some_words (line.Unknown n g c) = omega arith
+some_words (line.Take n) = omega arith
+some_words (line.Put n) = omega arith
+some_words (line.Drop n) = omega arith
 
 pub line_reads : (l : Line) → IsLine l → line_of (fields 32 (joined (words_of l))) ≡ Some l
 line_reads l h = rw (joined_split (words_of l) (some_words l) (words_clear l h)) (words_read l h)

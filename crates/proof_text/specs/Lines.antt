@@ -10,7 +10,7 @@ use Rattle.proof_text.specs.declared.line.Head.TheVariants.{Plain, Word, Extract
 use Rattle.proof_text.specs.declared.line.WrittenValue.{WrittenValue}
 use Rattle.proof_text.specs.declared.line.WrittenValue.TheVariants as value
 use Rattle.proof_text.specs.declared.line.Line.{Line}
-use Rattle.proof_text.specs.declared.line.Line.TheVariants.{Header, Term, Leaf, Encode, Selector, Chain, Sat, Value, Unsat}
+use Rattle.proof_text.specs.declared.line.Line.TheVariants.{Header, Term, Leaf, Encode, Selector, Chain, Sat, Value, Unsat, Unknown, Take, Put, Drop}
 
 -- each behind a space
 abbrev pub spaced : List (List ℕ) → List ℕ
@@ -62,6 +62,10 @@ words_of (Chain clause hints) = codes "c" ∷ (map literal_text clause ++ codes 
 words_of (Sat count) = with_number (codes "sat") count
 words_of (Value d v) = codes "v" ∷ decimal d ∷ value_text v ∷ []
 words_of (Unsat p) = with_number (codes "unsat") p
+words_of (Unknown cube start count) = codes "unknown" ∷ decimal cube ∷ decimal start ∷ decimal count ∷ []
+words_of (Take p) = with_number (codes "=") p
+words_of (Put p) = with_number (codes "+") p
+words_of (Drop p) = with_number (codes "-") p
 
 -- a line as it is written
 abbrev pub line_text : Line → List ℕ
@@ -109,3 +113,7 @@ IsLine (Chain clause hints) = AllByRecursion IsLiteral clause × AllByRecursion 
 IsLine (Sat count) = IsNumber count
 IsLine (Value d v) = IsNumber d × IsValue v
 IsLine (Unsat p) = IsNumber p
+IsLine (Unknown cube start count) = IsNumber cube × IsNumber start × IsNumber count
+IsLine (Take p) = IsNumber p
+IsLine (Put p) = IsNumber p
+IsLine (Drop p) = IsNumber p

@@ -190,6 +190,9 @@ header_of ws =
     exactly (codes "1") ws >>= λ a. exactly (codes "cubes") a >>= λ b. number_at b >>= λ c.
     exactly (codes "budget") c.1 >>= λ d. only_number d >>= λ n. Some (line.Header c.0 n)
 
+abbrev pub unknown_of : List (List ℕ) → Option Line
+unknown_of ws = number_at ws >>= λ a. number_at a.1 >>= λ b. only_number b.1 >>= λ n. Some (line.Unknown a.0 b.0 n)
+
 abbrev pub keywords : List (List ℕ × Keyword)
 keywords =
     (codes "smt_proof", key.Header)
@@ -201,6 +204,10 @@ keywords =
     ∷ (codes "sat", key.Sat)
     ∷ (codes "v", key.Value)
     ∷ (codes "unsat", key.Unsat)
+    ∷ (codes "unknown", key.Unknown)
+    ∷ (codes "=", key.Take)
+    ∷ (codes "+", key.Put)
+    ∷ (codes "-", key.Drop)
     ∷ []
 
 abbrev pub one_number : (ℕ → Line) → List (List ℕ) → Option Line
@@ -216,6 +223,10 @@ line_by key.Chain ws = chain_of ws
 line_by key.Sat ws = one_number line.Sat ws
 line_by key.Value ws = declared_of ws
 line_by key.Unsat ws = one_number line.Unsat ws
+line_by key.Unknown ws = unknown_of ws
+line_by key.Take ws = one_number line.Take ws
+line_by key.Put ws = one_number line.Put ws
+line_by key.Drop ws = one_number line.Drop ws
 
 abbrev pub line_of : List (List ℕ) → Option Line
 line_of [] = None

@@ -3,12 +3,14 @@ use Rattle.std.specs.Prelude.{ℕ, suc, zero, ◌/◌, ◌%◌, ◌^◌, ◌==�
 use Rattle.std.specs.List.{flat_map, AllByRecursion}
 use Rattle.smt_values.specs.declared.value.Value.{Value}
 use Rattle.smt_values.specs.declared.value.Value.TheVariants as kept
+use Rattle.proof_log.specs.declared.diary.DiaryLine.{DiaryLine}
+use Rattle.proof_log.specs.declared.diary.DiaryLine.TheVariants as diary
 use Rattle.proof_text.specs.declared.line.WrittenValue.{WrittenValue}
 use Rattle.proof_text.specs.declared.line.WrittenValue.TheVariants as written
 use Rattle.proof_text.specs.declared.line.Line.{Line}
 use Rattle.proof_text.specs.declared.line.Line.TheVariants as line
 use Rattle.proof_text.specs.declared.record.Record.{Record}
-use Rattle.proof_text.specs.declared.record.Record.TheVariants.{Sat, Unsat}
+use Rattle.proof_text.specs.declared.record.Record.TheVariants.{Sat, Unsat, Unknown}
 
 -- so many low binary digits of a number, the highest first
 unfoldable pub binary : ℕ → ℕ → List Bool
@@ -29,8 +31,15 @@ value_lines p = map (line.Value p.0) (option_to_list (written_value p.1))
 abbrev pub AreWritten : Record → Type 0
 AreWritten (Sat values) = AllByRecursion (λ (p : ℕ × Value). IsSome (written_value p.1)) values
 AreWritten (Unsat p) = Unit {0}
+AreWritten (Unknown d) = Unit {0}
+
+abbrev pub diary_line : DiaryLine → Line
+diary_line (diary.Take p) = line.Take p
+diary_line (diary.Put p) = line.Put p
+diary_line (diary.Drop p) = line.Drop p
 
 -- the lines of a record
 abbrev pub record_lines : Record → List Line
 record_lines (Sat values) = line.Sat (length values) ∷ flat_map value_lines values
 record_lines (Unsat p) = line.Unsat p ∷ []
+record_lines (Unknown d) = line.Unknown d.cube d.start (length d.lines) ∷ map diary_line d.lines

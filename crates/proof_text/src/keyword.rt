@@ -15,6 +15,10 @@ pub(crate) enum Keyword {
     Sat,
     Value,
     Unsat,
+    Unknown,
+    Take,
+    Put,
+    Drop,
 }
 
 /// An operator behind whose name numbers stand.
@@ -31,7 +35,7 @@ pub(crate) enum Indexed {
 }
 
 /// The words that lines begin with.
-pub(crate) const KEYWORDS: [(&[u8], Keyword); 9] = [
+pub(crate) const KEYWORDS: [(&[u8], Keyword); 13] = [
     (b"smt_proof", Keyword::Header),
     (b"t", Keyword::Term),
     (b"f", Keyword::Leaf),
@@ -41,6 +45,10 @@ pub(crate) const KEYWORDS: [(&[u8], Keyword); 9] = [
     (b"sat", Keyword::Sat),
     (b"v", Keyword::Value),
     (b"unsat", Keyword::Unsat),
+    (b"unknown", Keyword::Unknown),
+    (b"=", Keyword::Take),
+    (b"+", Keyword::Put),
+    (b"-", Keyword::Drop),
 ];
 
 /// The names of the operators with numbers.

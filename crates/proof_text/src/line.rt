@@ -58,4 +58,16 @@ pub enum Line {
     },
     /// `unsat P`, the place of a refutation.
     Unsat(u64),
+    /// `unknown N G C`, a cube, where its diary starts, and how many lines of the diary follow.
+    Unknown {
+        cube: u64,
+        start: u64,
+        count: u64,
+    },
+    /// `= P`, a place that is held from here on.
+    Take(u64),
+    /// `+ P`, the place of a chain that is put.
+    Put(u64),
+    /// `- P`, the place of a chain that is held no longer.
+    Drop(u64),
 }

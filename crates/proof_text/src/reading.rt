@@ -2,7 +2,7 @@
 
 ghost use Rattle.std.specs.Prelude.{◌≡◌, IfOk};
 ghost use Rattle.std.specs.Option.{option_map};
-ghost use Rattle.proof_text.specs.Reading.{fields, behind, numbers_of, literal_of, literals_at, hint_of, hints_of, chain_of, indexed_at, indexed_head_at, head_at, term_of, digit_in, digits_of, binary_of, value_of, declared_of, header_of, one_number, line_by, line_of};
+ghost use Rattle.proof_text.specs.Reading.{fields, behind, numbers_of, literal_of, literals_at, hint_of, hints_of, chain_of, indexed_at, indexed_head_at, head_at, term_of, digit_in, digits_of, binary_of, value_of, declared_of, header_of, unknown_of, one_number, line_by, line_of};
 
 use crate::keyword::{INDEXED_NAMES, Indexed, KEYWORDS, Keyword, look_up};
 use crate::line::{Head, Line, WrittenValue};
@@ -232,6 +232,15 @@ fn header(rest: &[u8]) -> Option<Line>
     Some(Line::Header { cubes, budget })
 }
 
+fn unknown(rest: &[u8]) -> Option<Line>
+    ensures { result ≡ unknown_of (behind 32 rest.now) }
+{
+    let (cube, rest) = number_at(b' ', rest)?;
+    let (start, rest) = number_at(b' ', rest)?;
+    let count = only_number(b' ', rest)?;
+    Some(Line::Unknown { cube, start, count })
+}
+
 fn line_by(alloc: Global, keyword: Keyword, rest: &[u8]) -> Result<Option<Line>, AllocError>
     ensures { IfOk result (λ o. o ≡ line_by keyword (behind 32 rest.now)) }
 {
@@ -245,6 +254,10 @@ fn line_by(alloc: Global, keyword: Keyword, rest: &[u8]) -> Result<Option<Line>,
         Keyword::Sat => Ok(only_number(b' ', rest).map(Line::Sat)),
         Keyword::Value => declared(alloc, rest),
         Keyword::Unsat => Ok(only_number(b' ', rest).map(Line::Unsat)),
+        Keyword::Unknown => Ok(unknown(rest)),
+        Keyword::Take => Ok(only_number(b' ', rest).map(Line::Take)),
+        Keyword::Put => Ok(only_number(b' ', rest).map(Line::Put)),
+        Keyword::Drop => Ok(only_number(b' ', rest).map(Line::Drop)),
     }
 }
 

@@ -3,10 +3,12 @@
 ghost use Rattle.std.specs.Prelude.{◌≡◌, ◌++◌, ◌≤◌, ◌∷◌, length, take, map, IsSome, IfSome, OnOk, OnErr};
 ghost use Rattle.std.specs.List.{flat_map, AllByRecursion};
 ghost use Rattle.proof_text.specs.Lines.{digit_of, value_text, line_text};
-ghost use Rattle.proof_text.specs.Records.{binary, written_value, value_lines, AreWritten, record_lines};
+ghost use Rattle.proof_text.specs.declared.line.Line.TheVariants.{Unknown};
+ghost use Rattle.proof_text.specs.Records.{binary, written_value, value_lines, diary_line, AreWritten, record_lines};
 
-use crate::write::{push_line, push_with_number, whole_or_none};
+use crate::write::{push_line, push_spaced, push_with_number, whole_or_none};
 use cnf_base::Pos;
+use proof_log::diary::{Diary, DiaryLine};
 use smt_terms::sort::DeclId;
 use smt_text::text::Text;
 use smt_values::Value;
@@ -45,11 +47,12 @@ impl DeclaredValues {
     }
 }
 
-/// What ends a check: a model's values, or the place of a refutation.
+/// What ends a check: a model's values, the place of a refutation, or the diary of a cube on which the budget was spent.
 #[derive(Debug, Drop)]
 pub enum Record {
     Sat(DeclaredValues),
     Unsat(Pos),
+    Unknown(Diary),
 }
 
 /// Appends so many low binary digits of a number, the highest first.
@@ -116,6 +119,38 @@ fn push_values(values: &[(DeclId, Value)], out: &mut Text) -> Result<(), AllocEr
     Ok(())
 }
 
+fn push_diary_line(line: DiaryLine, out: &mut Text) -> Result<(), AllocError>
+    ensures ok { OnOk result (out.new ≡ out.old ++ line_text (diary_line line)) }
+    ensures err { OnErr result (take (length out.old) out.new ≡ out.old) }
+{
+    match line {
+        DiaryLine::Take(at) => push_line(out, b"=", at),
+        DiaryLine::Put(at) => push_line(out, b"+", at),
+        DiaryLine::Drop(at) => push_line(out, b"-", at),
+    }
+}
+
+fn push_diary_lines(lines: &[DiaryLine], out: &mut Text) -> Result<(), AllocError>
+    ensures ok { OnOk result (out.new ≡ out.old ++ flat_map line_text (map diary_line lines.now)) }
+    ensures err { OnErr result (take (length out.old) out.new ≡ out.old) }
+{
+    for line in lines {
+        push_diary_line(*line, out)?;
+    }
+    Ok(())
+}
+
+/// Appends the line that a diary begins with.
+fn push_unknown(cube: u64, start: Pos, count: u64, out: &mut Text) -> Result<(), AllocError>
+    ensures ok { OnOk result (out.new ≡ out.old ++ line_text (Unknown cube start count)) }
+    ensures err { OnErr result (take (length out.old) out.new ≡ out.old) }
+{
+    push_with_number(out, b"unknown", cube)?;
+    push_spaced(out, start)?;
+    push_spaced(out, count)?;
+    out.push(b'\n')
+}
+
 fn push_record(shown: &Record, out: &mut Text) -> Result<(), AllocError>
     requires { AreWritten shown.now }
     ensures ok { OnOk result (out.new ≡ out.old ++ flat_map line_text (record_lines shown.now)) }
@@ -128,6 +163,11 @@ fn push_record(shown: &Record, out: &mut Text) -> Result<(), AllocError>
             push_values(values, out)
         }
         Record::Unsat(pos) => push_line(out, b"unsat", *pos),
+        Record::Unknown(diary) => {
+            let lines = diary.lines.as_slice();
+            push_unknown(diary.cube as u64, diary.start, lines.len() as u64, out)?;
+            push_diary_lines(lines, out)
+        }
     }
 }
 

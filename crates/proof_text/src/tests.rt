@@ -5,6 +5,7 @@ use crate::line::{Head, Line, WrittenValue};
 use crate::reader::{LineFault, ProofReader};
 use crate::record::{DeclaredValues, Record, write_record};
 use cnf_base::{Clause, ClauseId, Lit};
+use proof_log::diary::{Diary, DiaryLine, DiaryLines};
 use proof_log::entry::{Entry, Hints};
 use smt_terms::operator::Operator;
 use smt_text::text::Text;
@@ -45,6 +46,24 @@ fn values_are_printed_high_digit_first(rt: HostRuntime) -> Result<(), Fail> {
     let mut out = Text::new(alloc);
     write_record(&Record::Sat(DeclaredValues::from_vec(values)), &mut out)?;
     assert!(rt; out.as_slice() == b"sat 2\nv 0 true\nv 2 #b0011\n".as_slice());
+    Ok(())
+}
+
+#[test]
+fn a_diary_is_printed_behind_its_cube_and_its_start(rt: HostRuntime) -> Result<(), Fail> {
+    let alloc = rt.alloc();
+    let lines = Vec::from_array(
+        alloc,
+        [DiaryLine::Take(9), DiaryLine::Put(12), DiaryLine::Drop(9)],
+    )?;
+    let diary = Diary {
+        cube: 3,
+        start: 7,
+        lines: DiaryLines::from_vec(lines),
+    };
+    let mut out = Text::new(alloc);
+    write_record(&Record::Unknown(diary), &mut out)?;
+    assert!(rt; out.as_slice() == b"unknown 3 7 3\n= 9\n+ 12\n- 9\n".as_slice());
     Ok(())
 }
 
@@ -133,6 +152,27 @@ fn chains_and_terms_are_read(rt: HostRuntime) -> Result<(), Fail> {
         panic!(rt; "a value")
     };
     assert!(rt; digits.as_slice() == [false, false, true, true].as_slice());
+    Ok(())
+}
+
+#[test]
+fn diaries_are_read(rt: HostRuntime) -> Result<(), Fail> {
+    let alloc = rt.alloc();
+    let first = only_line(alloc, b"unknown 3 7 2\n")?;
+    assert!(rt;
+        matches!(
+            first,
+            Some(Ok(Line::Unknown {
+                cube: 3,
+                start: 7,
+                count: 2
+            }))
+        )
+    );
+    let put = only_line(alloc, b"+ 12\n")?;
+    assert!(rt; matches!(put, Some(Ok(Line::Put(12)))));
+    assert!(rt; is_fault(alloc, b"unknown 3 7\n")?, "no count");
+    assert!(rt; is_fault(alloc, b"-12\n")?, "no space");
     Ok(())
 }
 
