@@ -5,9 +5,14 @@ pub mod Answering
 pub mod Fronts
 pub mod Reading
 -- Lemmas of the laws on judging.
+pub mod Settling
 pub mod Once
 pub mod Following
 pub mod Completing
 pub mod Good
--- Lemmas of the law on models that are printed.
+-- Lemmas of the law on split variables.
+pub mod Splitting
+-- Lemmas of the law on what is printed.
 pub mod Standing
+-- A worked row of the definitions.
+mod Worked

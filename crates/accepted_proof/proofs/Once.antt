@@ -32,9 +32,12 @@ use Rattle.proof_text.specs.declared.line.Line.TheVariants as line
 use Rattle.proof_text.specs.Entries.{head_of, written_literal, written_hint, entry_line}
 use Rattle.proof_text.specs.Records.{binary, written_value}
 use Rattle.accepted_proof.specs.declared.refusal.Refusal.{Refusal}
+use Rattle.proof_log.specs.declared.diary.DiaryLine.{DiaryLine}
+use Rattle.proof_log.specs.declared.diary.DiaryLine.TheVariants as diary
+use Rattle.accepted_proof.specs.Searching.{Limits}
 use Rattle.accepted_proof.specs.Models.{IsOfSignature}
 use Rattle.accepted_proof.specs.Turns.{IsOfScript}
-use Rattle.accepted_proof.specs.Judged.{Owed, Nothing, Steps, Values, Over, Judging, stepped, Decides, StepsBy, Goes, AtStep, AtValue, MovesBy, reach, no_judging, Judged, JudgedProof}
+use Rattle.accepted_proof.specs.Judged.{Owed, Nothing, Steps, Values, Noted, Over, Judging, stepped, Decides, StepsBy, Goes, Opens, AtStep, AtValue, Notes, AtDiary, MovesBy, reach, no_judging, IsHeader, Judged, JudgedProof}
 
 -- ---- steps
 
@@ -243,6 +246,10 @@ begun_once j count k m (inl x) (inr y) = absurd (y.0 x.0)
 begun_once j count k m (inr x) (inl y) = absurd (x.0 y.0)
 begun_once j count k m (inr x) (inr y) = x.1 ∙ sym y.1
 
+opened_once : (j : Judging) (cube start count : ℕ) (k m : Judging) → Opens j cube start count k → Opens j cube start count m → k ≡ m
+opened_once j cube start zero k m x y = x ∙ sym y
+opened_once j cube start (suc left) k m x y = decided_once _ _ _ k m x y
+
 at_step_once : (j : Judging) (l : Line) (k m : Judging) → AtStep j l k → AtStep j l m → k ≡ m
 at_step_once j (line.Header c b) k m x y = x ∙ sym y
 at_step_once j (line.Term h args) k m x y = stepped_once j _ k m x y
@@ -253,6 +260,10 @@ at_step_once j (line.Chain c hs) k m x y = stepped_once j _ k m x y
 at_step_once j (line.Sat n) k m x y = begun_once j n k m x y
 at_step_once j (line.Value d w) k m x y = x ∙ sym y
 at_step_once j (line.Unsat p) k m x y = decided_once _ _ _ k m x y
+at_step_once j (line.Unknown c g n) k m x y = opened_once j c g n k m x y
+at_step_once j (line.Take p) k m x y = x ∙ sym y
+at_step_once j (line.Put p) k m x y = x ∙ sym y
+at_step_once j (line.Drop p) k m x y = x ∙ sym y
 
 one_value : (j : Judging) (next : LiveName) (left : List LiveName) (values : List (ℕ × Value)) (d : ℕ) (w : WrittenValue) (k m : Judging) → AtValue j next left values (line.Value d w) k → AtValue j next left values (line.Value d w) m → k ≡ m
 one_value j next left values d w k m (inl x) (inl y) =
@@ -266,12 +277,24 @@ at_value_once : (j : Judging) (next : LiveName) (left : List LiveName) (values :
 at_value_once j next left values (line.Value d w) k m x y = one_value j next left values d w k m x y
 at_value_once j next left values _ k m x y = x ∙ sym y
 
+noted_once : (j : Judging) (cube start left : ℕ) (lines : List DiaryLine) (l : DiaryLine) (k m : Judging) → Notes j cube start left lines l k → Notes j cube start left lines l m → k ≡ m
+noted_once j cube start zero lines l k m x y = decided_once _ _ _ k m x y
+noted_once j cube start (suc left) lines l k m x y = decided_once _ _ _ k m x y
+
+at_diary_once : (j : Judging) (cube start left : ℕ) (lines : List DiaryLine) (l : Line) (k m : Judging) → AtDiary j cube start left lines l k → AtDiary j cube start left lines l m → k ≡ m
+at_diary_once j cube start left lines (line.Take p) k m x y = noted_once j cube start left lines (diary.Take p) k m x y
+at_diary_once j cube start left lines (line.Put p) k m x y = noted_once j cube start left lines (diary.Put p) k m x y
+at_diary_once j cube start left lines (line.Drop p) k m x y = noted_once j cube start left lines (diary.Drop p) k m x y
+at_diary_once j cube start left lines _ k m x y = x ∙ sym y
+
 pub moved_once : (o : Owed) (j : Judging) (l : Option Line) (k m : Judging) → MovesBy o j l k → MovesBy o j l m → k ≡ m
 moved_once Nothing j l k m x y = x ∙ sym y
 moved_once Steps j None k m x y = x ∙ sym y
 moved_once Steps j (Some l) k m x y = at_step_once j l k m x y
 moved_once (Values next left values) j None k m x y = x ∙ sym y
 moved_once (Values next left values) j (Some l) k m x y = at_value_once j next left values l k m x y
+moved_once (Noted cube start left lines) j None k m x y = x ∙ sym y
+moved_once (Noted cube start left lines) j (Some l) k m x y = at_diary_once j cube start left lines l k m x y
 moved_once (Over r) j l k m x y = x ∙ sym y
 
 -- at most one thing is judged
@@ -281,10 +304,18 @@ judged_once (l ∷ ls) j cs o p a b =
     let e = moved_once (reach j cs).0.owed (reach j cs).0 l a.0 b.0 a.1 b.1 in
     judged_once ls b.0 (reach j cs).1 o p (subst (λ k. Judged k (reach j cs).1 ls o) e a.2) b.2
 
+-- a header has one pair of limits
+pub same_limits : (l : Option Line) (limits bounds : Limits) → IsHeader l limits → IsHeader l bounds → limits ≡ bounds
+same_limits l limits bounds h k =
+    let e : line.Header limits.cubes limits.budget ≡ line.Header bounds.cubes bounds.budget = some_back _ _ l h.written k.written in
+    let c : limits.cubes ≡ bounds.cubes = cc in
+    let b : limits.budget ≡ bounds.budget = cc in
+    (λ i. record { cubes = c i; budget = b i })
+
 -- the same of whole proofs
 pub proof_judged_once : (cs : List Reading) (ls : List (Option Line)) (o p : Option Refusal) → JudgedProof cs ls o → JudgedProof cs ls p → o ≡ p
 proof_judged_once cs [] o p a b = a ∙ sym b
-proof_judged_once cs (l ∷ ls) o p (inl x) (inl y) = judged_once ls no_judging cs o p x.1 y.1
-proof_judged_once cs (l ∷ ls) o p (inl x) (inr y) = absurd (y.0 x.0)
-proof_judged_once cs (l ∷ ls) o p (inr x) (inl y) = absurd (x.0 y.0)
+proof_judged_once cs (l ∷ ls) o p (inl x) (inl y) = judged_once ls (no_judging y.0) cs o p (subst (λ v. Judged (no_judging v) cs ls o) (same_limits l x.0 y.0 x.1 y.1) x.2) y.2
+proof_judged_once cs (l ∷ ls) o p (inl x) (inr y) = absurd (y.0 x.0 x.1)
+proof_judged_once cs (l ∷ ls) o p (inr x) (inl y) = absurd (x.0 y.0 y.1)
 proof_judged_once cs (l ∷ ls) o p (inr x) (inr y) = x.1 ∙ sym y.1

@@ -110,9 +110,10 @@ pub record Stay (old new : StateValue) : Type 0 where
   pub nodes : new.terms.nodes ≡ old.terms.nodes ++ behind
   pub scopes : new.scopes ≡ old.scopes
   pub symbols : new.symbols ≡ old.symbols
+  pub assumed : new.assumed ≡ old.assumed
 
 pub steps_stay : (s : StateValue) (steps : List Entry) → Stay s (with_steps s steps)
-steps_stay s [] = record { behind = []; nodes = sym (append-nil s.terms.nodes); scopes = refl; symbols = refl }
+steps_stay s [] = record { behind = []; nodes = sym (append-nil s.terms.nodes); scopes = refl; symbols = refl; assumed = refl }
 steps_stay s (e ∷ es) =
     let here = terms_longer s.terms e in
     let rest = steps_stay (with_step s e) es in
@@ -121,6 +122,7 @@ steps_stay s (e ∷ es) =
       nodes = rest.nodes ∙ ap (λ ns. ns ++ rest.behind) here.1 ∙ append_assoc s.terms.nodes here.0 rest.behind;
       scopes = rest.scopes;
       symbols = rest.symbols;
+      assumed = rest.assumed;
     }
 
 -- ---- where a script begins
@@ -148,6 +150,7 @@ reached_first = record {
     plain = λ k d lt. absurd (omega (arith, lt));
     closed = record { bodies = tt; terms = λ k d lt. absurd (omega (arith, lt)) };
     levels = record { count = refl; rising = λ i j d lt below. absurd (omega (arith, below)); each = λ k l e. absurd (let z : ⊥ = cc in z) };
+    assumed = λ k d lt. absurd (omega (arith, lt));
   };
   steps = tt;
   selectors = λ a t c. let past = c.1 in absurd (omega (arith, past));

@@ -7,6 +7,7 @@ use Rattle.smt_text.specs.Script.{AreChunks}
 use Rattle.script_state.specs.Readings.{Reading}
 use Rattle.script_state.specs.Steps.{ends}
 use Rattle.script_state.proofs.Deciding.{reads_one_way}
+use Rattle.accepted_proof.specs.Searching.{Limits}
 use Rattle.accepted_proof.specs.Turns.{Turn}
 use Rattle.accepted_proof.specs.Accepted.{AreRead, IsFront, EndLast, has_ended, AreAll, Accepted, readings_of}
 use Rattle.accepted_proof.specs.Judged.{ReadEach, AreAllSaid}
@@ -45,8 +46,8 @@ read_more (c ∷ cs) more (t ∷ ts) (u ∷ us) a b e l m =
 read_within : (cs es : List Chunk) (ts us : List Turn) → IsMore cs es → AreRead cs ts → AreRead es us → has_ended ts ≡ true → EndLast ts → EndLast us → readings_of ts ≡ readings_of us
 read_within cs es ts us m a b e l k = read_more cs m.0 ts us a (subst (λ x. AreRead x us) m.1 b) e l k
 
-pub accepted_read_one : (script proof other : List ℕ) (ts us : List Turn) → Accepted script proof ts → Accepted script other us → readings_of ts ≡ readings_of us
-accepted_read_one script proof other ts us a b = by_cut a.cut b.cut
+pub accepted_read_one : (limits bounds : Limits) (script proof other : List ℕ) (ts us : List Turn) → Accepted limits script proof ts → Accepted bounds script other us → readings_of ts ≡ readings_of us
+accepted_read_one limits bounds script proof other ts us a b = by_cut a.cut b.cut
   where
     by_cut : AreAll script a.chunks ts → AreAll script b.chunks us → readings_of ts ≡ readings_of us
     by_cut (inl x) (inl y) = read_one b.chunks ts us (subst (λ cs. AreRead cs ts) (chunks_one script a.chunks b.chunks x y) a.read) b.read

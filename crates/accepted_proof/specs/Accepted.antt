@@ -7,6 +7,7 @@ use Rattle.smt_text.specs.Script.{AreChunks, Begins}
 use Rattle.script_state.specs.Readings.{Reading, ReadsAs}
 use Rattle.script_state.specs.States.{no_state}
 use Rattle.script_state.specs.Steps.{ends}
+use Rattle.accepted_proof.specs.Searching.{Limits, AreLimits}
 use Rattle.accepted_proof.specs.Turns.{Turn, AreTurns}
 use Rattle.accepted_proof.specs.Answers.{answers_of, is_refused, proof_of}
 
@@ -39,29 +40,31 @@ abbrev pub AreAll : List ℕ → List Chunk → List Turn → Type 0
 AreAll script chunks turns = AreChunks script chunks ⊎ ((has_ended turns ≡ true) × IsFront script chunks)
 
 -- The proof is one of the script: its header, and for each check the lines of valid steps and of a record, and nothing more.
-pub record Accepted (script proof : List ℕ) (turns : List Turn) : Type 0 where
+pub record Accepted (limits : Limits) (script proof : List ℕ) (turns : List Turn) : Type 0 where
+  pub allowed : AreLimits limits
   pub chunks : List Chunk
   pub cut : AreAll script chunks turns
   pub read : AreRead chunks turns
   pub last : EndLast turns
-  pub run : AreTurns no_state [] turns
-  pub lines : proof ≡ proof_of turns
+  pub run : AreTurns limits no_state [] turns
+  pub lines : proof ≡ proof_of limits turns
 
 -- a front of the answer to the next command of the script, which is not the whole answer
-pub record IsBegun (script : List ℕ) (chunks : List Chunk) (turns : List Turn) (begun : List ℕ) : Type 0 where
+pub record IsBegun (limits : Limits) (script : List ℕ) (chunks : List Chunk) (turns : List Turn) (begun : List ℕ) : Type 0 where
   pub next : Chunk
   pub turn : Turn
   pub rest : List ℕ
   pub front : IsFront script (chunks ++ next ∷ [])
   pub read : AreRead (chunks ++ next ∷ []) (turns ++ turn ∷ [])
   pub last : EndLast (turns ++ turn ∷ [])
-  pub run : AreTurns no_state [] (turns ++ turn ∷ [])
+  pub run : AreTurns limits no_state [] (turns ++ turn ∷ [])
   pub texts : answers_of (turns ++ turn ∷ []) ≡ answers_of turns ++ begun ++ rest
   pub unfinished : 0 < length rest
 
 -- The answers that were written whole are those of the first commands of the script, and the proof is accepted to the last
 -- of their checks.
-pub record StandsBeside (script answers proof : List ℕ) : Type 0 where
+pub record StandsBeside (limits : Limits) (script answers proof : List ℕ) : Type 0 where
+  pub allowed : AreLimits limits
   pub chunks : List Chunk
   pub turns : List Turn
   pub more : List ℕ
@@ -69,14 +72,14 @@ pub record StandsBeside (script answers proof : List ℕ) : Type 0 where
   pub front : IsFront script chunks
   pub read : AreRead chunks turns
   pub last : EndLast turns
-  pub run : AreTurns no_state [] turns
-  pub lines : proof ≡ proof_of turns ++ more
+  pub run : AreTurns limits no_state [] turns
+  pub lines : proof ≡ proof_of limits turns ++ more
   pub texts : answers ≡ answers_of turns ++ begun
-  pub unfinished : (begun ≡ []) ⊎ IsBegun script chunks turns begun
+  pub unfinished : (begun ≡ []) ⊎ IsBegun limits script chunks turns begun
 
 -- the answers are those to the whole script, and the proof is accepted
-pub record IsWhole (script answers proof : List ℕ) (turns : List Turn) : Type 0 where
-  pub accepted : Accepted script proof turns
+pub record IsWhole (limits : Limits) (script answers proof : List ℕ) (turns : List Turn) : Type 0 where
+  pub accepted : Accepted limits script proof turns
   pub texts : answers ≡ answers_of turns
 
 -- whether an error is among the answers

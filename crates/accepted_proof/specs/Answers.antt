@@ -1,9 +1,10 @@
 -- The texts of answers and of proofs.
-use Rattle.std.specs.Prelude.{ℕ, Bool, true, false, List, [], ◌∷◌, ◌++◌, codes, slice_get, if◌then◌else◌, Option, Some, None, option_to_list}
+use Rattle.std.specs.Prelude.{ℕ, Bool, true, false, List, [], ◌∷◌, ◌++◌, codes, map, slice_get, if◌then◌else◌, Option, Some, None, option_to_list}
 use Rattle.std.specs.List.{flat_map}
 use Rattle.std.specs.Fmt.{decimal}
 use Rattle.script_state.specs.declared.answer.Answer.{Answer}
-use Rattle.script_state.specs.declared.answer.Answer.TheVariants.{Done, Refused, Check, Says, Model, Exit}
+use Rattle.script_state.specs.declared.answer.Answer.TheVariants.{Done, Refused, Check, Says, Model, Values, Core, Assumptions, Exit}
+use Rattle.script_state.specs.declared.answer.Asked.{Asked}
 use Rattle.script_state.specs.declared.answer.Verdict.{Verdict}
 use Rattle.script_state.specs.declared.answer.Verdict.TheVariants as verdict
 use Rattle.script_state.specs.declared.error_text.ErrorText.{ErrorText}
@@ -17,15 +18,22 @@ use Rattle.smt_terms.specs.declared.sort.Sort.TheVariants as sort
 use Rattle.smt_terms.specs.declared.sort.Signature.{Signature}
 use Rattle.smt_values.specs.declared.value.Value.{Value}
 use Rattle.smt_build.specs.declared.symbols.LiveName.{LiveName}
+use Rattle.cnf_base.specs.Literals.{Literal}
+use Rattle.smt_terms.specs.declared.node.Node.{Node}
+use Rattle.smt_terms.specs.Values.{Value as MeaningValue, VBool, VWord, VArray, Interpretation, value}
 use Rattle.proof_log.specs.declared.entry.Entry.{Entry}
+use Rattle.proof_log.specs.Logs.{LogState, state_of}
 use Rattle.proof_text.specs.declared.line.Line.{Line}
 use Rattle.proof_text.specs.declared.line.Line.TheVariants as line
 use Rattle.proof_text.specs.declared.record.Record.{Record}
 use Rattle.proof_text.specs.declared.record.Record.TheVariants.{Sat}
-use Rattle.proof_text.specs.Lines.{line_text, value_text as written_text}
+use Rattle.proof_text.specs.declared.line.WrittenValue.TheVariants as written
+use Rattle.proof_text.specs.Lines.{joined, line_text, value_text as written_text}
 use Rattle.proof_text.specs.Entries.{entry_line}
-use Rattle.proof_text.specs.Records.{written_value, record_lines}
-use Rattle.accepted_proof.specs.Models.{value_for}
+use Rattle.proof_text.specs.Records.{binary, written_value, record_lines}
+use Rattle.accepted_proof.specs.Models.{value_for, interpretation_of}
+use Rattle.accepted_proof.specs.Searching.{Limits}
+use Rattle.accepted_proof.specs.Cores.{core_names, blamed_assumptions, refuting_clause}
 use Rattle.accepted_proof.specs.Turns.{Turn, verdict_of, state_after}
 
 -- ---- answers (SMT-LIB 2.6, section 4.1.1)
@@ -73,46 +81,77 @@ abbrev pub model_text : StateValue → Option Record → List ℕ
 model_text s (Some (Sat values)) = codes "(" ++ 10 ∷ [] ++ definitions_text s values ++ codes ")" ++ 10 ∷ []
 model_text s _ = []
 
+-- ---- values (SMT-LIB 2.6, section 4.2.6)
+
+-- a truth value, or a word by its digits; no term of an array is asked for
+abbrev pub meaning_text : MeaningValue → List ℕ
+meaning_text (VBool b) = written_text (written.Bool b)
+meaning_text (VWord n x) = written_text (written.Word (binary n x))
+meaning_text (VArray n m f) = []
+
+-- the term as it was written, and its value
+abbrev pub asked_text : List Node → Interpretation → Asked → List ℕ
+asked_text nodes M a = codes "(" ++ a.text ++ codes " " ++ meaning_text (value M nodes a.term) ++ codes ")"
+
+-- in parentheses, with one space between
+abbrev pub list_text : List (List ℕ) → List ℕ
+list_text items = codes "(" ++ joined items ++ codes ")" ++ 10 ∷ []
+
+abbrev pub values_text : List Node → List Asked → Option Record → List ℕ
+values_text nodes asked (Some (Sat values)) = list_text (map (asked_text nodes (interpretation_of values)) asked)
+values_text nodes asked _ = []
+
+-- ---- cores (section 4.2.7)
+
+-- the names of a core, as they can be read back
+abbrev pub core_text : StateValue → LogState → Option (List Literal) → List ℕ
+core_text s log (Some clause) = list_text (map symbol_text (core_names s log clause))
+core_text s log None = []
+
+-- the assumptions that are blamed, as they were written
+abbrev pub assumptions_text : StateValue → LogState → Option (List Literal) → List ℕ
+assumptions_text s log (Some clause) = list_text (map (λ (a : Asked). a.text) (blamed_assumptions s log clause))
+assumptions_text s log None = []
+
 -- ---- the answers to commands
 
 abbrev pub done_text : Options → List ℕ
 done_text o = if o.print_success then codes "success" ++ 10 ∷ [] else []
 
--- how it is answered: the line on which the command begins, the state then, the record of the last check before, and that
--- of the command's own
-abbrev pub answer_text : ℕ → Answer → StateValue → Option Record → Option Record → List ℕ
-answer_text line Done s last shown = done_text s.options
-answer_text line (Refused error) s last shown = error_text line error
-answer_text line Check s last shown = shown_text shown
-answer_text line (Says text) s last shown = text ++ 10 ∷ []
-answer_text line Model s last shown = model_text s last
-answer_text line Exit s last shown = done_text s.options
+-- how it is answered: the line on which the command begins, the state then, the log, the record of the last check before,
+-- and that of the command's own
+abbrev pub answer_text : ℕ → Answer → StateValue → List Entry → Option Record → Option Record → List ℕ
+answer_text line Done s log last shown = done_text s.options
+answer_text line (Refused error) s log last shown = error_text line error
+answer_text line Check s log last shown = shown_text shown
+answer_text line (Says text) s log last shown = text ++ 10 ∷ []
+answer_text line Model s log last shown = model_text s last
+answer_text line (Values asked) s log last shown = values_text s.terms.nodes asked last
+answer_text line Core s log last shown = core_text s (state_of s.terms.nodes log) (refuting_clause (state_of s.terms.nodes log) last)
+answer_text line Assumptions s log last shown = assumptions_text s (state_of s.terms.nodes log) (refuting_clause (state_of s.terms.nodes log) last)
+answer_text line Exit s log last shown = done_text s.options
 
--- in this state, where the last check before has this record
-abbrev pub turn_text : StateValue → Option Record → Turn → List ℕ
-turn_text s last t = answer_text t.line t.answer (step s t.says).1 last t.shown
+-- in this state, with this log, where the last check before has this record
+abbrev pub turn_text : StateValue → List Entry → Option Record → Turn → List ℕ
+turn_text s log last t = answer_text t.line t.answer (step s t.says).1 log last t.shown
 
 -- the record of the last check
 abbrev pub last_shown : Option Record → Option Record → Option Record
 last_shown last None = last
 last_shown last (Some r) = Some r
 
-abbrev pub answers_from : StateValue → Option Record → List Turn → List ℕ
-answers_from s last [] = []
-answers_from s last (t ∷ ts) = turn_text s last t ++ answers_from (state_after s t) (last_shown last t.shown) ts
+abbrev pub answers_from : StateValue → List Entry → Option Record → List Turn → List ℕ
+answers_from s log last [] = []
+answers_from s log last (t ∷ ts) = turn_text s log last t ++ answers_from (state_after s t) (log ++ t.steps) (last_shown last t.shown) ts
 
 abbrev pub answers_of : List Turn → List ℕ
-answers_of turns = answers_from no_state None turns
+answers_of turns = answers_from no_state [] None turns
 
 -- ---- errors
 
 abbrev pub is_error : Answer → Bool
-is_error Done = false
 is_error (Refused error) = true
-is_error Check = false
-is_error (Says text) = false
-is_error Model = false
-is_error Exit = false
+is_error _ = false
 
 abbrev pub is_refused : Turn → Bool
 is_refused t = is_error t.answer
@@ -130,9 +169,8 @@ step_lines steps = flat_map (λ e. option_to_list (entry_line e)) steps
 abbrev pub turn_lines : Turn → List Line
 turn_lines t = step_lines t.steps ++ shown_lines t.shown
 
--- so many cubes' depth and such a budget
-abbrev pub header_text : List ℕ
-header_text = line_text (line.Header 0 100000)
+abbrev pub header_text : Limits → List ℕ
+header_text limits = line_text (line.Header limits.cubes limits.budget)
 
-abbrev pub proof_of : List Turn → List ℕ
-proof_of turns = header_text ++ flat_map line_text (flat_map turn_lines turns)
+abbrev pub proof_of : Limits → List Turn → List ℕ
+proof_of limits turns = header_text limits ++ flat_map line_text (flat_map turn_lines turns)

@@ -1,16 +1,27 @@
 -- Models of the live assertions (SMT-LIB 2.6, section 4.2.5: what `sat` and `unsat` say).
 use Rattle.std.specs.Prelude.{◌≡◌, ℕ, ◌==◌, true, if◌then◌else◌, List, [], ◌∷◌, map, slice_get, All, Option, Some, None}
+use Rattle.smt_terms.specs.declared.node.Node.{Node}
 use Rattle.smt_terms.specs.declared.sort.Signature.{Signature}
 use Rattle.smt_terms.specs.Values.{HasSort, Interpretation, is_true, value}
 use Rattle.smt_values.specs.declared.value.Value.{Value}
 use Rattle.smt_values.specs.Held.{meaning, constant_of, function_of}
 use Rattle.smt_build.specs.declared.symbols.LiveName.{LiveName}
 use Rattle.scope_selectors.specs.declared.live.Live.{Live}
-use Rattle.script_state.specs.States.{StateValue}
+use Rattle.script_state.specs.declared.answer.Asked.{Asked}
+use Rattle.script_state.specs.States.{StateValue, assumptions}
 
--- an interpretation under which each live assertion is true
-abbrev pub IsModel : StateValue → Interpretation → Type 0
-IsModel s M = All (λ (a : Live). is_true (value M s.terms.nodes a.term) ≡ true) s.scopes.live
+-- the term of the assertion is true
+abbrev pub Holds : List Node → Interpretation → Live → Type 0
+Holds nodes M a = is_true (value M nodes a.term) ≡ true
+
+-- the assumption is true
+abbrev pub HoldsAssumed : List Node → Interpretation → Asked → Type 0
+HoldsAssumed nodes M a = is_true (value M nodes a.term) ≡ true
+
+-- an interpretation under which each live assertion and each assumption is true
+pub record IsModel (s : StateValue) (M : Interpretation) : Type 0 where
+  pub asserted : All (Holds s.terms.nodes M) s.scopes.live
+  pub assumed : All (HoldsAssumed s.terms.nodes M) (assumptions s)
 
 abbrev pub HasNoModel : StateValue → Type 0
 HasNoModel s = (M : Interpretation) → IsModel s M → ⊥
@@ -31,7 +42,8 @@ abbrev pub IsOfSignature : Value → Option Signature → Type 0
 IsOfSignature v None = ⊥
 IsOfSignature v (Some s) = (s.args ≡ []) × HasSort s.value (meaning v)
 
--- a value of its sort for each live declaration, in the order of the declarations, under which each live assertion is true
+-- a value of its sort for each live declaration, in the order of the declarations, under which each live assertion and each
+-- assumption is true
 pub record IsWrittenModel (s : StateValue) (values : List (ℕ × Value)) : Type 0 where
   pub listed : map (λ (p : ℕ × Value). p.0) values ≡ map (λ (l : LiveName). l.declaration) s.symbols.live
   pub sorted : All (λ (p : ℕ × Value). IsOfSignature p.1 (slice_get s.symbols.signatures p.0)) values

@@ -1,7 +1,7 @@
 -- A command with its answer (SMT-LIB 2.6, sections 4.1.1 and 4.2), and for a check the steps and the record that stand in
 -- the proof. A step adds what later ones may name; chains are those of LRAT (Cruz-Filipe, Heule, Hunt, Kaufmann and
 -- Schneider-Kamp 2017) without deletions.
-use Rattle.std.specs.Prelude.{◌≡◌, ℕ, List, [], ◌∷◌, ◌++◌, slice_get, Contains, Option, Some, None, IsSome}
+use Rattle.std.specs.Prelude.{◌≡◌, ◌⊎◌, ℕ, List, [], ◌∷◌, ◌++◌, slice_get, Contains, Option, Some, None, IsSome}
 use Rattle.std.specs.List.{AllByRecursion}
 use Rattle.cnf_base.specs.Literals.{Literal, negated}
 use Rattle.smt_terms.specs.declared.node.Node.{Node}
@@ -9,11 +9,12 @@ use Rattle.script_state.specs.Readings.{Reading}
 use Rattle.smt_build.specs.Names.{IsDeclared}
 use Rattle.scope_selectors.specs.declared.live.Live.{Live}
 use Rattle.script_state.specs.declared.answer.Answer.{Answer}
-use Rattle.script_state.specs.declared.answer.Answer.TheVariants.{Done, Refused, Check, Says, Model, Exit}
+use Rattle.script_state.specs.declared.answer.Answer.TheVariants.{Check}
+use Rattle.script_state.specs.declared.answer.Asked.{Asked}
 use Rattle.script_state.specs.declared.answer.Verdict.{Verdict}
 use Rattle.script_state.specs.declared.answer.Verdict.TheVariants as verdict
-use Rattle.script_state.specs.States.{StateValue, concluded}
-use Rattle.script_state.specs.Steps.{step}
+use Rattle.script_state.specs.States.{StateValue, concluded, assumptions}
+use Rattle.script_state.specs.Steps.{step, settled}
 use Rattle.proof_log.specs.declared.entry.Entry.{Entry}
 use Rattle.proof_log.specs.declared.entry.Entry.TheVariants as entry
 use Rattle.proof_log.specs.Logs.{Asserted, clause_at, state_of}
@@ -21,8 +22,9 @@ use Rattle.proof_log.specs.Faults.{IsValid, terms_after}
 use Rattle.proof_text.specs.Entries.{entry_line}
 use Rattle.proof_text.specs.Records.{AreWritten}
 use Rattle.proof_text.specs.declared.record.Record.{Record}
-use Rattle.proof_text.specs.declared.record.Record.TheVariants.{Sat, Unsat}
+use Rattle.proof_text.specs.declared.record.Record.TheVariants.{Sat, Unsat, Unknown}
 use Rattle.accepted_proof.specs.Models.{IsWrittenModel}
+use Rattle.accepted_proof.specs.Searching.{Limits, IsUnknown}
 
 -- ---- steps of a check
 
@@ -36,7 +38,7 @@ IsOfScript s (entry.Chain c hints) = Unit {0}
 
 -- the terms after a step
 abbrev pub with_step : StateValue → Entry → StateValue
-with_step s e = record { symbols = s.symbols; terms = terms_after s.terms e; scopes = s.scopes; options = s.options; standing = s.standing }
+with_step s e = record { symbols = s.symbols; terms = terms_after s.terms e; scopes = s.scopes; options = s.options; standing = s.standing; assumed = s.assumed }
 
 abbrev pub with_steps : StateValue → List Entry → StateValue
 with_steps s [] = s
@@ -57,21 +59,34 @@ pub record IsAgainst (s : StateValue) (nodes : List Node) (log : List Entry) (l 
   pub made : (state_of nodes log).selectors assertion.assertion ≡ Some selector
   pub negation : l ≡ negated selector.literal
 
--- the first clause of the position has negated selectors of live assertions alone
+-- the literal is the negated bit of an assumption
+pub record IsAgainstAssumed (s : StateValue) (nodes : List Node) (log : List Entry) (l : Literal) : Type 0 where
+  pub assumption : Asked
+  pub assumed : Contains (assumptions s) assumption
+  pub bit : Literal
+  pub bits : (state_of nodes log).bits assumption.term ≡ Some (bit ∷ [])
+  pub negation : l ≡ negated bit
+
+abbrev pub IsAgainstOne : StateValue → List Node → List Entry → Literal → Type 0
+IsAgainstOne s nodes log l = IsAgainst s nodes log l ⊎ IsAgainstAssumed s nodes log l
+
+-- the first clause of the position has negated selectors of live assertions and negated bits of assumptions alone
 pub record IsRefutation (s : StateValue) (nodes : List Node) (log : List Entry) (p : ℕ) : Type 0 where
   pub clause : List Literal
   pub stands : clause_at (state_of nodes log).clauses (record { pos = p; part = 0 }) ≡ Some clause
-  pub against : AllByRecursion (IsAgainst s nodes log) clause
+  pub against : AllByRecursion (IsAgainstOne s nodes log) clause
 
--- the record may end a check of the live assertions, over these terms and this log
-abbrev pub IsShown : StateValue → List Node → List Entry → Record → Type 0
-IsShown s nodes log (Sat values) = AreWritten (Sat values) × IsWrittenModel s values
-IsShown s nodes log (Unsat p) = IsRefutation s nodes log p
+-- the record may end a check of the live assertions under the assumptions, within these limits, over these terms and this log
+abbrev pub IsShown : Limits → StateValue → List Node → List Entry → Record → Type 0
+IsShown limits s nodes log (Sat values) = AreWritten (Sat values) × IsWrittenModel s values
+IsShown limits s nodes log (Unsat p) = IsRefutation s nodes log p
+IsShown limits s nodes log (Unknown d) = IsUnknown limits s nodes log d
 
 -- the verdict that a record shows
 abbrev pub verdict_of : Record → Verdict
 verdict_of (Sat values) = verdict.Sat
 verdict_of (Unsat p) = verdict.Unsat
+verdict_of (Unknown d) = verdict.Unknown
 
 -- ---- turns
 
@@ -84,29 +99,26 @@ pub record Turn : Type 0 where
   pub shown : Option Record
 
 -- a check has steps and a record, and no other command has
-abbrev pub HasProof : Answer → StateValue → List Entry → List Entry → Option Record → Type 0
-HasProof Done s log steps shown = (steps ≡ []) × (shown ≡ None)
-HasProof (Refused e) s log steps shown = (steps ≡ []) × (shown ≡ None)
-HasProof (Says text) s log steps shown = (steps ≡ []) × (shown ≡ None)
-HasProof Model s log steps shown = (steps ≡ []) × (shown ≡ None)
-HasProof Exit s log steps shown = (steps ≡ []) × (shown ≡ None)
-HasProof Check s log steps None = ⊥
-HasProof Check s log steps (Some r) = AreStepsOf s log steps × IsShown s (with_steps s steps).terms.nodes (log ++ steps) r
+abbrev pub HasProof : Limits → Answer → StateValue → List Entry → List Entry → Option Record → Type 0
+HasProof limits Check s log steps None = ⊥
+HasProof limits Check s log steps (Some r) = AreStepsOf s log steps × IsShown limits s (with_steps s steps).terms.nodes (log ++ steps) r
+HasProof limits _ s log steps shown = (steps ≡ []) × (shown ≡ None)
 
--- the turn may follow in this state, with this log
-pub record IsTurn (s : StateValue) (log : List Entry) (t : Turn) : Type 0 where
+-- the turn may follow in this state, with this log, within these limits
+pub record IsTurn (limits : Limits) (s : StateValue) (log : List Entry) (t : Turn) : Type 0 where
   pub answer : t.answer ≡ (step s t.says).0
-  pub proof : HasProof t.answer (step s t.says).1 log t.steps t.shown
+  pub proof : HasProof limits t.answer (step s t.says).1 log t.steps t.shown
 
 -- a check that has a record stands with its verdict
 abbrev pub concluded_by : StateValue → Option Record → StateValue
 concluded_by s None = s
 concluded_by s (Some r) = concluded s (verdict_of r)
 
+-- the terms of `get-value` are forgotten
 abbrev pub state_after : StateValue → Turn → StateValue
-state_after s t = concluded_by (with_steps (step s t.says).1 t.steps) t.shown
+state_after s t = settled s t.answer (concluded_by (with_steps (step s t.says).1 t.steps) t.shown)
 
 -- the turns may follow one after the other
-abbrev pub AreTurns : StateValue → List Entry → List Turn → Type 0
-AreTurns s log [] = Unit {0}
-AreTurns s log (t ∷ ts) = IsTurn s log t × AreTurns (state_after s t) (log ++ t.steps) ts
+abbrev pub AreTurns : Limits → StateValue → List Entry → List Turn → Type 0
+AreTurns limits s log [] = Unit {0}
+AreTurns limits s log (t ∷ ts) = IsTurn limits s log t × AreTurns limits (state_after s t) (log ++ t.steps) ts

@@ -7,6 +7,7 @@ ghost use Rattle.script_state.specs.Readings.{Reading};
 ghost use Rattle.script_state.specs.Steps.{ends};
 ghost use Rattle.proof_text.specs.declared.line.Line.{Line};
 ghost use Rattle.accepted_proof.specs.declared.refusal.Refusal.{Refusal};
+ghost use Rattle.accepted_proof.specs.Searching.{Limits, AreLimits};
 ghost use Rattle.accepted_proof.specs.Turns.{Turn};
 ghost use Rattle.accepted_proof.specs.Answers.{turn_lines, proof_of};
 ghost use Rattle.accepted_proof.specs.Accepted.{Accepted};
@@ -14,15 +15,15 @@ ghost use Rattle.accepted_proof.specs.Judged.{Judging, no_judging, is_idle, comm
 
 /// An accepted proof is judged to have no bad line.
 pub fn accepted_proofs_are_judged()
-    ensures { (script proof : List ℕ) (turns : List Turn) → Accepted script proof turns
-        → Judged no_judging (map (λ (t : Turn). t.says) turns) (map (λ l. Some l) (flat_map turn_lines turns)) None }
+    ensures { (limits : Limits) (script proof : List ℕ) (turns : List Turn) → Accepted limits script proof turns
+        → Judged (no_judging limits) (map (λ (t : Turn). t.says) turns) (map (λ l. Some l) (flat_map turn_lines turns)) None }
 {}
 
 /// A proof without a bad line is accepted; what stands in the script behind a command that ends the run need not be read.
 pub fn judged_proofs_are_accepted()
-    ensures { (script : List ℕ) (chunks : List Chunk) (says : List Reading) (lines : List (Option Line))
-        → AreAllSaid script chunks says → ReadEach chunks says → Judged no_judging says lines None
-        → (turns : List Turn) × (lines ≡ map (λ l. Some l) (flat_map turn_lines turns)) × Accepted script (proof_of turns) turns }
+    ensures { (limits : Limits) (script : List ℕ) (chunks : List Chunk) (says : List Reading) (lines : List (Option Line))
+        → AreLimits limits → AreAllSaid script chunks says → ReadEach chunks says → Judged (no_judging limits) says lines None
+        → (turns : List Turn) × (lines ≡ map (λ l. Some l) (flat_map turn_lines turns)) × Accepted limits script (proof_of limits turns) turns }
 {}
 
 /// One thing at most is judged of a proof.

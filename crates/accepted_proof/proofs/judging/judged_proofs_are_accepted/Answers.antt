@@ -7,6 +7,6 @@ use Rattle.accepted_proof.proofs.Good.{states_keep}
 use Rattle.accepted_proof.proofs.judging.judged_proofs_are_accepted.Goals as goal
 
 pub returns : goal.returns
-returns c = λ script chunks says lines all read h.
-    let t = judged_turns IsState states_keep chunks says lines no_state [] 2 reached_first.state read h in
-    (t.turns, t.lines, record { chunks = t.first; cut = all_of_turns script chunks t.first t.behind says t.turns t.cut all read t.read t.all; read = t.read; last = t.last; run = t.run; lines = refl })
+returns c = λ limits script chunks says lines allowed all read h.
+    let t = judged_turns IsState states_keep limits chunks says lines no_state [] 2 reached_first.state read h in
+    (t.turns, t.lines, record { allowed = allowed; chunks = t.first; cut = all_of_turns script chunks t.first t.behind says t.turns t.cut all read t.read t.all; read = t.read; last = t.last; run = t.run; lines = refl })

@@ -1,0 +1,4 @@
+mod Reached
+mod Splitting
+mod Cubed
+pub mod Searched
