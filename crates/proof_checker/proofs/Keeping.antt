@@ -10,6 +10,7 @@ use Rattle.script_state.specs.Readings.{ReadsAs}
 use Rattle.script_state.specs.Steps.{ends}
 use Rattle.proof_text.specs.declared.line.Line.{Line}
 use Rattle.accepted_proof.specs.declared.refusal.Refusal.{Refusal}
+use Rattle.accepted_proof.specs.Searching.{Limits}
 use Rattle.accepted_proof.specs.Judged.{Judging, no_judging, commanded, is_idle, ending, Moves, IsHeader, bad_header, ReadEach}
 use Rattle.accepted_proof.proofs.Following.{reach_here}
 use Rattle.proof_checker.specs.Checkers.{Says, CheckerValue, no_records, judged_so, GoesTo, answer_by, at_end}
@@ -103,11 +104,11 @@ module _ (old new : Inputs) (l : Option Line) (same : IsSameScript old new) (tak
   fewer = let e : length new.framer.bytes ≡ length old.framer.bytes = ap (λ (x : Held). length x.bytes) same.framer in let f = takes.less in omega arith
 
   -- the header
-  pub begun : (c : CheckerValue) → IsHeader l → c ≡ no_records → (k : Checking) → k.inputs ≡ new → k.checker ≡ Some c → Advances old None (step.On k)
-  begun c head e k ki kc = (
+  pub begun : (c : CheckerValue) (limits : Limits) → IsHeader l limits → c ≡ no_records limits → (k : Checking) → k.inputs ≡ new → k.checker ≡ Some c → Advances old None (step.On k)
+  begun c limits head e k ki kc = (
     record {
       judged = λ s p vs o t h'.
-          let h : IsJudgedFrom new (Some no_records) s p vs o = subst (λ (x : CheckerValue). IsJudgedFrom new (Some x) s p vs o) e (subst (λ (x : Option CheckerValue). IsJudgedFrom new x s p vs o) kc (subst (λ (x : Inputs). IsJudgedFrom x k.checker s p vs o) ki h')) in
+          let h : IsJudgedFrom new (Some (no_records limits)) s p vs o = subst (λ (x : CheckerValue). IsJudgedFrom new (Some x) s p vs o) e (subst (λ (x : Option CheckerValue). IsJudgedFrom new x s p vs o) kc (subst (λ (x : Inputs). IsJudgedFrom x k.checker s p vs o) ki h')) in
           record {
             chunks = h.chunks;
             behind = h.behind;
@@ -116,7 +117,7 @@ module _ (old new : Inputs) (l : Option Line) (same : IsSameScript old new) (tak
             cut = cut_back s (h.chunks ++ h.behind) h.cut;
             read = h.read;
             split = takes.lines p h.lines t.proof h.split;
-            told = λ rest n. let q = told_back (Some no_records) (h.says ++ rest) h.lines vs o (h.told rest n) in inl (head, subst (λ x. Tells no_judging (to_be_done old.run_ended (h.says ++ rest)) h.lines x o) (sym q.1) q.2);
+            told = λ rest n. let q = told_back (Some (no_records limits)) (h.says ++ rest) h.lines vs o (h.told rest n) in inl (limits, head, subst (λ x. Tells (no_judging limits) (to_be_done old.run_ended (h.says ++ rest)) h.lines x o) (sym q.1) q.2);
             whole = whole_back h.behind h.says o h.whole;
           };
       script = ap (λ (x : Inputs). x.script_ended) ki ∙ same.script;
@@ -126,7 +127,7 @@ module _ (old new : Inputs) (l : Option Line) (same : IsSameScript old new) (tak
   )
 
   -- no header
-  pub unbegun : (f : Refusal) → (IsHeader l → ⊥) → f ≡ bad_header → (j : Judgement) → j.checker ≡ None → j.refusal ≡ Some f → Concludes old None j
+  pub unbegun : (f : Refusal) → ((limits : Limits) → IsHeader l limits → ⊥) → f ≡ bad_header → (j : Judgement) → j.checker ≡ None → j.refusal ≡ Some f → Concludes old None j
   unbegun f head e j jc jr s p t =
       let cs = cut_there (and_more old.framer s) in
       let ls = lines_there (new.reader.bytes ++ p) in

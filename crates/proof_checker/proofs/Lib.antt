@@ -8,3 +8,5 @@ pub mod Verdicts
 pub mod Passing
 pub mod Moving
 pub mod Valued
+pub mod Noting
+pub mod Heading

@@ -1,5 +1,5 @@
 -- How a checker moves.
-use Rattle.std.proofs.Common.{◌≡◌, ℕ, suc, Bool, true, false, ◌+◌, ◌<◌, ◌≤◌, List, [], ◌∷◌, ◌++◌, length, drop, get_or, Some, None, Result, Ok, Err, IfOk, MatchResult, length-append, length-drop, drop-cons, refl, sym, ap, ◌∙◌, subst, inl, inr, arith}
+use Rattle.std.proofs.Common.{◌≡◌, ℕ, suc, Bool, true, false, ◌+◌, ◌<◌, ◌≤◌, List, [], ◌∷◌, ◌++◌, length, drop, get_or, Some, None, Result, Ok, Err, IfOk, MatchResult, length-append, length-drop, drop-cons, refl, sym, ap, ap₂, ◌∙◌, subst, inl, inr, arith}
 use Rattle.std.specs.Prelude.{MatchBool}
 use Rattle.std.proofs.Math.ListN.{drop_of_length-le}
 use Rattle.std.proofs.lemmas.Bool.{false_from_ne_true}
@@ -7,11 +7,12 @@ use Rattle.std.specs.declared.alloc.AllocError.{AllocError}
 use Rattle.smt_values.specs.declared.value.Value.{Value}
 use Rattle.smt_build.specs.declared.symbols.LiveName.{LiveName}
 use Rattle.script_state.specs.declared.answer.Answer.{Answer}
-use Rattle.script_state.specs.declared.answer.Answer.TheVariants.{Exit}
+use Rattle.script_state.specs.declared.answer.Answer.TheVariants.{Values, Exit}
+use Rattle.script_state.specs.declared.answer.Asked.{Asked}
 use Rattle.script_state.specs.declared.answer.Verdict.{Verdict}
 use Rattle.script_state.specs.States.{StateValue, IsState}
-use Rattle.script_state.specs.Steps.{Step, step, ends}
-use Rattle.script_state.proofs.Deciding.{ends_by_exit}
+use Rattle.script_state.specs.Steps.{Step, step, settled, forgotten, IsAskedValues, ends}
+use Rattle.script_state.proofs.Deciding.{values_after_sat, ends_by_exit}
 use Rattle.script_state.proofs.Keeping.{GoesOn, step_goes_on}
 use Rattle.proof_log.specs.declared.entry.Entry.{Entry}
 use Rattle.proof_log.specs.Stored.{LogValue, Stands}
@@ -22,29 +23,50 @@ use Rattle.accepted_proof.specs.declared.refusal.Refusal.{Refusal}
 use Rattle.accepted_proof.specs.declared.refusal.RuleName.TheVariants as rule
 use Rattle.accepted_proof.specs.Judged as judged
 use Rattle.accepted_proof.specs.Judged.{Owed, refused, commanded, owed_by, ending, IsValueOf, Goes, MovesBy}
+use Rattle.accepted_proof.specs.Searching.{Limits}
+use Rattle.accepted_proof.proofs.Settling.{settled_by}
 use Rattle.proof_checker.specs.declared.due.Due.{Due}
 use Rattle.proof_checker.specs.declared.due.Due.TheVariants as due
 use Rattle.proof_checker.specs.Checkers.{Says, CheckerValue, GoesTo, IsOwedValues, IsOpen, judged_so, answer_by, at_end, owed_of, values_owed}
 
 -- a checker's value by its parts
-abbrev pub held : StateValue → List Entry → Owed → ℕ → List Verdict → CheckerValue
-held s log o n told = record { judging = record { state = s; log = log; owed = o; line = n }; verdicts = told }
+abbrev pub held : Limits → StateValue → List Entry → Owed → ℕ → List Verdict → CheckerValue
+held limits s log o n told = record { judging = record { limits = limits; state = s; log = log; owed = o; line = n }; verdicts = told }
 
 -- ---- commands
 
-pub still_stands : (old new : StateValue) (log : LogValue) (a : Answer) (says : Says) → IsState old → Stands old.terms.nodes log → ◌≡◌ {A = Step} (step old says) (a, new) → Stands new.terms.nodes log
-still_stands old new log a says is stands e =
-    let g : GoesOn old new = subst (λ (to : Step). GoesOn old to.1) e (step_goes_on old is says) in
-    subst (λ ns. Stands ns log) (sym g.keeps.nodes) (stands_longer old.terms.nodes g.keeps.behind log stands)
+-- what is asked for is forgotten, and the state is as before
+asked_back : (s new : StateValue) (says : Says) (a : Answer) (asked : List Asked) → IsState s → ◌≡◌ {A = Step} (step s says) (a, new) → a ≡ Values asked → forgotten new (length s.terms.nodes) ≡ s
+asked_back s new says a asked is e f =
+    let told : IsAskedValues s (step s says).1 asked = values_after_sat s says asked is (ap (λ (to : Step). to.0) e ∙ f) in
+    ap (λ (to : Step). forgotten to.1 (length s.terms.nodes)) (sym e) ∙ told.back
 
-pub commanded_to : (s new : StateValue) (log : List Entry) (o p : Owed) (n : ℕ) (told : List Verdict) (a : Answer) (says : Says) → ◌≡◌ {A = Step} (step s says) (a, new) → p ≡ owed_by a
-    → held new log p n told ≡ judged_so (held s log o n told) (commanded (held s log o n told).judging says)
-commanded_to s new log o p n told a says e owed = ap (λ x. held new log x n told) owed ∙ ap (λ (to : Step). held to.1 log (owed_by to.0) n told) (sym e)
+pub forgets_to_state : (s new : StateValue) (says : Says) (a : Answer) (asked : List Asked) (n : ℕ) → IsState s → ◌≡◌ {A = Step} (step s says) (a, new) → a ≡ Values asked → n ≡ length s.terms.nodes → IsState (forgotten new n)
+forgets_to_state s new says a asked n is e f held = subst IsState (sym (ap (forgotten new) held ∙ asked_back s new says a asked is e f)) is
+
+pub settled_asked : (s new left : StateValue) (says : Says) (a : Answer) (asked : List Asked) (n : ℕ) → IsState s → ◌≡◌ {A = Step} (step s says) (a, new) → a ≡ Values asked → n ≡ length s.terms.nodes → left ≡ forgotten new n
+    → left ≡ settled s (step s says).0 (step s says).1
+settled_asked s new left says a asked n is e f held forgets =
+    forgets ∙ ap (forgotten new) held ∙ asked_back s new says a asked is e f ∙ ap (λ x. settled s x (step s says).1) (sym (ap (λ (to : Step). to.0) e ∙ f))
+
+-- any other answer leaves the state of the step
+pub settled_other : (s new : StateValue) (says : Says) (a : Answer) → ◌≡◌ {A = Step} (step s says) (a, new) → ((asked : List Asked) → a ≡ Values asked → ⊥) → new ≡ settled s (step s says).0 (step s says).1
+settled_other s new says a e other = settled_by (λ x. new ≡ x) s new a (λ asked f. absurd (other asked f)) refl ∙ ap (λ (to : Step). settled s to.0 to.1) (sym e)
+
+pub still_stands : (old new : StateValue) (log : LogValue) (says : Says) → IsState old → Stands old.terms.nodes log → new ≡ settled old (step old says).0 (step old says).1 → Stands new.terms.nodes log
+still_stands old new log says is stands e =
+    let g : GoesOn old (step old says).1 = step_goes_on old is says in
+    let behind : Stands (step old says).1.terms.nodes log = subst (λ ns. Stands ns log) (sym g.keeps.nodes) (stands_longer old.terms.nodes g.keeps.behind log stands) in
+    subst (λ (x : StateValue). Stands x.terms.nodes log) (sym e) (settled_by (λ (x : StateValue). Stands x.terms.nodes log) old (step old says).1 (step old says).0 (λ asked f. stands) behind)
+
+pub commanded_to : (limits : Limits) (s new : StateValue) (log : List Entry) (o p : Owed) (n : ℕ) (told : List Verdict) (a : Answer) (says : Says) → a ≡ (step s says).0 → new ≡ settled s (step s says).0 (step s says).1 → p ≡ owed_by a
+    → held limits new log p n told ≡ judged_so (held limits s log o n told) (commanded (held limits s log o n told).judging says)
+commanded_to limits s new log o p n told a says e f owed = ap₂ (λ x y. held limits x log y n told) f (owed ∙ ap owed_by e)
 
 -- a command ends the run where it is answered so
-pub ended_by : (b : Bool) (a : Answer) (s new : StateValue) (says : Says) → MatchBool b (a ≡ Exit) (a ≡ Exit → ⊥) → ◌≡◌ {A = Step} (step s says) (a, new) → b ≡ ends says
-ended_by true a s new says exit e = sym ((ends_by_exit s says).0 (ap (λ (to : Step). to.0) e ∙ exit))
-ended_by false a s new says other e = sym (false_from_ne_true (ends says) (λ f. other (sym (ap (λ (to : Step). to.0) e) ∙ (ends_by_exit s says).1 f)))
+pub ended_by : (b : Bool) (a : Answer) (s : StateValue) (says : Says) → MatchBool b (a ≡ Exit) (a ≡ Exit → ⊥) → a ≡ (step s says).0 → b ≡ ends says
+ended_by true a s says exit e = sym ((ends_by_exit s says).0 (sym e ∙ exit))
+ended_by false a s says other e = sym (false_from_ne_true (ends says) (λ f. other (e ∙ (ends_by_exit s says).1 f)))
 
 -- ---- the end
 
@@ -58,12 +80,13 @@ stopped_values c d e live values owed at end =
     let ends : ending c.judging.owed c.judging.line ≡ Some (record { line = c.judging.line; rule = rule.End }) = ap (λ o. ending o c.judging.line) (owed ∙ ap (λ (x : Due). owed_of x live values) at) ∙ ending_owed (drop (length values) live) values c.judging.line in
     end ∙ ap (at_end c) (sym ends)
 
-pub told_at_end : (s : StateValue) (log : List Entry) (o : Owed) (n : ℕ) (told : List Verdict) (d : CheckerValue) (t : Result (Unit {0}) Refusal)
-    → d ≡ at_end (held s log o n told) (ending o n) → t ≡ answer_by d.judging.owed → MatchResult t (λ _. ending o n ≡ None) (λ r. ending o n ≡ Some r)
-told_at_end s log judged.Nothing n told d t e a = subst (λ x. MatchResult x (λ _. ending judged.Nothing n ≡ None) (λ r. ending judged.Nothing n ≡ Some r)) (sym (a ∙ ap (λ (x : CheckerValue). answer_by x.judging.owed) e)) refl
-told_at_end s log judged.Steps n told d t e a = subst (λ x. MatchResult x (λ _. ending judged.Steps n ≡ None) (λ r. ending judged.Steps n ≡ Some r)) (sym (a ∙ ap (λ (x : CheckerValue). answer_by x.judging.owed) e)) refl
-told_at_end s log (judged.Values next left values) n told d t e a = subst (λ x. MatchResult x (λ _. ending (judged.Values next left values) n ≡ None) (λ r. ending (judged.Values next left values) n ≡ Some r)) (sym (a ∙ ap (λ (x : CheckerValue). answer_by x.judging.owed) e)) refl
-told_at_end s log (judged.Over f) n told d t e a = subst (λ x. MatchResult x (λ _. ending (judged.Over f) n ≡ None) (λ r. ending (judged.Over f) n ≡ Some r)) (sym (a ∙ ap (λ (x : CheckerValue). answer_by x.judging.owed) e)) refl
+pub told_at_end : (limits : Limits) (s : StateValue) (log : List Entry) (o : Owed) (n : ℕ) (told : List Verdict) (d : CheckerValue) (t : Result (Unit {0}) Refusal)
+    → d ≡ at_end (held limits s log o n told) (ending o n) → t ≡ answer_by d.judging.owed → MatchResult t (λ _. ending o n ≡ None) (λ r. ending o n ≡ Some r)
+told_at_end limits s log judged.Nothing n told d t e a = subst (λ x. MatchResult x (λ _. ending judged.Nothing n ≡ None) (λ r. ending judged.Nothing n ≡ Some r)) (sym (a ∙ ap (λ (x : CheckerValue). answer_by x.judging.owed) e)) refl
+told_at_end limits s log judged.Steps n told d t e a = subst (λ x. MatchResult x (λ _. ending judged.Steps n ≡ None) (λ r. ending judged.Steps n ≡ Some r)) (sym (a ∙ ap (λ (x : CheckerValue). answer_by x.judging.owed) e)) refl
+told_at_end limits s log (judged.Values next left values) n told d t e a = subst (λ x. MatchResult x (λ _. ending (judged.Values next left values) n ≡ None) (λ r. ending (judged.Values next left values) n ≡ Some r)) (sym (a ∙ ap (λ (x : CheckerValue). answer_by x.judging.owed) e)) refl
+told_at_end limits s log (judged.Noted cube start left lines) n told d t e a = subst (λ x. MatchResult x (λ _. ending (judged.Noted cube start left lines) n ≡ None) (λ r. ending (judged.Noted cube start left lines) n ≡ Some r)) (sym (a ∙ ap (λ (x : CheckerValue). answer_by x.judging.owed) e)) refl
+told_at_end limits s log (judged.Over f) n told d t e a = subst (λ x. MatchResult x (λ _. ending (judged.Over f) n ≡ None) (λ r. ending (judged.Over f) n ≡ Some r)) (sym (a ∙ ap (λ (x : CheckerValue). answer_by x.judging.owed) e)) refl
 
 -- ---- values
 
@@ -71,6 +94,7 @@ told_at_end s log (judged.Over f) n told d t e a = subst (λ x. MatchResult x (�
 pub are_left : (d : Due) (live : List LiveName) (values : List (ℕ × Value)) → IsOwedValues (owed_of d live values) → (d ≡ due.Values) × (length values < length live)
 are_left due.Nothing live values h = absurd h
 are_left due.Steps live values h = absurd h
+are_left (due.Noted m) live values h = absurd h
 are_left (due.Over r) live values h = absurd h
 are_left due.Values live values h = (refl, left (drop (length values) live) refl h) where
   left : (rest : List LiveName) → drop (length values) live ≡ rest → IsOwedValues (values_owed rest values) → length values < length live
@@ -92,10 +116,10 @@ are_owed d live values e h = subst (λ x. IsOwedValues (owed_of x live values)) 
       absurd (omega (arith, length-drop (length values) live))
   go (next ∷ rest) q = tt
 
-pub owed_values : (s : StateValue) (log : List Entry) (o : Owed) (n : ℕ) (told : List Verdict) (values : List (ℕ × Value)) → length values < length s.symbols.live
-    → GoesTo (Goes (held s log o n told).judging (drop (length values) s.symbols.live) values) (held s log o n told) (held s log (values_owed (drop (length values) s.symbols.live) values) (n + 1) told)
-owed_values s log o n told values less = go (drop (length values) s.symbols.live) refl where
-  go : (rest : List LiveName) → drop (length values) s.symbols.live ≡ rest → GoesTo (Goes (held s log o n told).judging rest values) (held s log o n told) (held s log (values_owed rest values) (n + 1) told)
+pub owed_values : (limits : Limits) (s : StateValue) (log : List Entry) (o : Owed) (n : ℕ) (told : List Verdict) (values : List (ℕ × Value)) → length values < length s.symbols.live
+    → GoesTo (Goes (held limits s log o n told).judging (drop (length values) s.symbols.live) values) (held limits s log o n told) (held limits s log (values_owed (drop (length values) s.symbols.live) values) (n + 1) told)
+owed_values limits s log o n told values less = go (drop (length values) s.symbols.live) refl where
+  go : (rest : List LiveName) → drop (length values) s.symbols.live ≡ rest → GoesTo (Goes (held limits s log o n told).judging rest values) (held limits s log o n told) (held limits s log (values_owed rest values) (n + 1) told)
   go [] e =
       let none : length (drop (length values) s.symbols.live) ≡ 0 = ap length e in
       absurd (omega (arith, length-drop (length values) s.symbols.live))
@@ -110,10 +134,10 @@ goes_whole c values same r e whole h =
     (subst (λ vs. IfOk r (λ d. GoesTo (Goes c.judging [] vs) c d)) e h)
 
 -- what was owed before is not looked at
-goes_same : (s : StateValue) (log : List Entry) (o p : Owed) (n : ℕ) (told : List Verdict) (rest : List LiveName) (values : List (ℕ × Value)) (d : CheckerValue)
-    → GoesTo (Goes (held s log p n told).judging rest values) (held s log p n told) d → GoesTo (Goes (held s log o n told).judging rest values) (held s log o n told) d
-goes_same s log o p n told [] values d h = record { judged = h.judged; verdicts = h.verdicts }
-goes_same s log o p n told (next ∷ left) values d h = record { judged = h.judged; verdicts = h.verdicts }
+goes_same : (limits : Limits) (s : StateValue) (log : List Entry) (o p : Owed) (n : ℕ) (told : List Verdict) (rest : List LiveName) (values : List (ℕ × Value)) (d : CheckerValue)
+    → GoesTo (Goes (held limits s log p n told).judging rest values) (held limits s log p n told) d → GoesTo (Goes (held limits s log o n told).judging rest values) (held limits s log o n told) d
+goes_same limits s log o p n told [] values d h = record { judged = h.judged; verdicts = h.verdicts }
+goes_same limits s log o p n told (next ∷ left) values d h = record { judged = h.judged; verdicts = h.verdicts }
 
 -- the next value is owed
 next_owed : (d : Due) (live : List LiveName) (values : List (ℕ × Value)) (next : LiveName) → IsOwedValues (owed_of d live values) → next ≡ get_or live (length values) next
@@ -123,40 +147,40 @@ next_owed d live values next h at =
     ap (λ x. owed_of x live values) left.0
     ∙ ap (λ x. values_owed x values) (drop-cons live (length values) next left.1 ∙ ap (λ x. x ∷ drop (suc (length values)) live) (sym at))
 
-pub value_refused : (s : StateValue) (log : List Entry) (e : Due) (n : ℕ) (told : List Verdict) (values : List (ℕ × Value)) (next : LiveName) (d : ℕ) (w : WrittenValue) (to : CheckerValue)
+pub value_refused : (limits : Limits) (s : StateValue) (log : List Entry) (e : Due) (n : ℕ) (told : List Verdict) (values : List (ℕ × Value)) (next : LiveName) (d : ℕ) (w : WrittenValue) (to : CheckerValue)
     → IsOwedValues (owed_of e s.symbols.live values) → next ≡ get_or s.symbols.live (length values) next
     → ((v : Value) → IsValueOf s next d w v → ⊥)
-    → to ≡ judged_so (held s log (owed_of e s.symbols.live values) n told) (refused (held s log (owed_of e s.symbols.live values) n told).judging rule.Sat)
-    → GoesTo (MovesBy (owed_of e s.symbols.live values) (held s log (owed_of e s.symbols.live values) n told).judging (Some (line.Value d w))) (held s log (owed_of e s.symbols.live values) n told) to
-value_refused s log e n told values next d w to h at none same =
+    → to ≡ judged_so (held limits s log (owed_of e s.symbols.live values) n told) (refused (held limits s log (owed_of e s.symbols.live values) n told).judging rule.Sat)
+    → GoesTo (MovesBy (owed_of e s.symbols.live values) (held limits s log (owed_of e s.symbols.live values) n told).judging (Some (line.Value d w))) (held limits s log (owed_of e s.symbols.live values) n told) to
+value_refused limits s log e n told values next d w to h at none same =
     let o : Owed = owed_of e s.symbols.live values in
     let left : List LiveName = drop (suc (length values)) s.symbols.live in
-    subst (λ x. GoesTo (MovesBy x (held s log o n told).judging (Some (line.Value d w))) (held s log o n told) to) (sym (next_owed e s.symbols.live values next h at))
-    (subst (λ x. GoesTo (MovesBy (judged.Values next left values) (held s log o n told).judging (Some (line.Value d w))) (held s log o n told) x) (sym same)
+    subst (λ x. GoesTo (MovesBy x (held limits s log o n told).judging (Some (line.Value d w))) (held limits s log o n told) to) (sym (next_owed e s.symbols.live values next h at))
+    (subst (λ x. GoesTo (MovesBy (judged.Values next left values) (held limits s log o n told).judging (Some (line.Value d w))) (held limits s log o n told) x) (sym same)
     (record { judged = inr (none, refl); verdicts = refl }))
 
-pub value_taken : (s : StateValue) (log : List Entry) (e : Due) (n : ℕ) (told : List Verdict) (values longer : List (ℕ × Value)) (next : LiveName) (d : ℕ) (w : WrittenValue) (v : Value) (to : CheckerValue)
+pub value_taken : (limits : Limits) (s : StateValue) (log : List Entry) (e : Due) (n : ℕ) (told : List Verdict) (values longer : List (ℕ × Value)) (next : LiveName) (d : ℕ) (w : WrittenValue) (v : Value) (to : CheckerValue)
     → IsOwedValues (owed_of e s.symbols.live values) → next ≡ get_or s.symbols.live (length values) next
     → IsValueOf s next d w v → longer ≡ values ++ (next.declaration, v) ∷ []
-    → GoesTo (Goes (held s log judged.Steps n told).judging (drop (length longer) s.symbols.live) longer) (held s log judged.Steps n told) to
-    → GoesTo (MovesBy (owed_of e s.symbols.live values) (held s log (owed_of e s.symbols.live values) n told).judging (Some (line.Value d w))) (held s log (owed_of e s.symbols.live values) n told) to
-value_taken s log e n told values longer next d w v to h at is more goes =
+    → GoesTo (Goes (held limits s log judged.Steps n told).judging (drop (length longer) s.symbols.live) longer) (held limits s log judged.Steps n told) to
+    → GoesTo (MovesBy (owed_of e s.symbols.live values) (held limits s log (owed_of e s.symbols.live values) n told).judging (Some (line.Value d w))) (held limits s log (owed_of e s.symbols.live values) n told) to
+value_taken limits s log e n told values longer next d w v to h at is more goes =
     let o : Owed = owed_of e s.symbols.live values in
     let left : List LiveName = drop (suc (length values)) s.symbols.live in
     let count : length longer ≡ suc (length values) = omega (arith, ap length more, length-append values ((next.declaration, v) ∷ [])) in
     let all : longer ≡ values ++ (d, v) ∷ [] = more ∙ ap (λ x. values ++ (x, v) ∷ []) (sym is.declaration) in
-    let g : GoesTo (Goes (held s log judged.Steps n told).judging left longer) (held s log judged.Steps n told) to =
-    subst (λ k. GoesTo (Goes (held s log judged.Steps n told).judging (drop k s.symbols.live) longer) (held s log judged.Steps n told) to) count goes in
-    let f : GoesTo (Goes (held s log judged.Steps n told).judging left (values ++ (d, v) ∷ [])) (held s log judged.Steps n told) to =
-    subst (λ vs. GoesTo (Goes (held s log judged.Steps n told).judging left vs) (held s log judged.Steps n told) to) all g in
-    let t = goes_same s log o judged.Steps n told left (values ++ (d, v) ∷ []) to f in
-    subst (λ x. GoesTo (MovesBy x (held s log o n told).judging (Some (line.Value d w))) (held s log o n told) to) (sym (next_owed e s.symbols.live values next h at))
+    let g : GoesTo (Goes (held limits s log judged.Steps n told).judging left longer) (held limits s log judged.Steps n told) to =
+    subst (λ k. GoesTo (Goes (held limits s log judged.Steps n told).judging (drop k s.symbols.live) longer) (held limits s log judged.Steps n told) to) count goes in
+    let f : GoesTo (Goes (held limits s log judged.Steps n told).judging left (values ++ (d, v) ∷ [])) (held limits s log judged.Steps n told) to =
+    subst (λ vs. GoesTo (Goes (held limits s log judged.Steps n told).judging left vs) (held limits s log judged.Steps n told) to) all g in
+    let t = goes_same limits s log o judged.Steps n told left (values ++ (d, v) ∷ []) to f in
+    subst (λ x. GoesTo (MovesBy x (held limits s log o n told).judging (Some (line.Value d w))) (held limits s log o n told) to) (sym (next_owed e s.symbols.live values next h at))
     (record { judged = inl (v, is, t.judged); verdicts = t.verdicts })
 
-pub value_pushed : (s : StateValue) (log : List Entry) (e : Due) (n : ℕ) (told : List Verdict) (values longer : List (ℕ × Value)) (next : LiveName) (d : ℕ) (w : WrittenValue) (v : Value) (r : Result CheckerValue AllocError)
+pub value_pushed : (limits : Limits) (s : StateValue) (log : List Entry) (e : Due) (n : ℕ) (told : List Verdict) (values longer : List (ℕ × Value)) (next : LiveName) (d : ℕ) (w : WrittenValue) (v : Value) (r : Result CheckerValue AllocError)
     → IsOwedValues (owed_of e s.symbols.live values) → next ≡ get_or s.symbols.live (length values) next
     → IsValueOf s next d w v → longer ≡ values ++ (next.declaration, v) ∷ []
-    → IfOk r (λ to. GoesTo (Goes (held s log judged.Steps n told).judging (drop (length longer) s.symbols.live) longer) (held s log judged.Steps n told) to)
-    → IfOk r (λ to. GoesTo (MovesBy (owed_of e s.symbols.live values) (held s log (owed_of e s.symbols.live values) n told).judging (Some (line.Value d w))) (held s log (owed_of e s.symbols.live values) n told) to)
-value_pushed s log e n told values longer next d w v (Ok to) h at is more goes = value_taken s log e n told values longer next d w v to h at is more goes
-value_pushed s log e n told values longer next d w v (Err x) h at is more goes = tt
+    → IfOk r (λ to. GoesTo (Goes (held limits s log judged.Steps n told).judging (drop (length longer) s.symbols.live) longer) (held limits s log judged.Steps n told) to)
+    → IfOk r (λ to. GoesTo (MovesBy (owed_of e s.symbols.live values) (held limits s log (owed_of e s.symbols.live values) n told).judging (Some (line.Value d w))) (held limits s log (owed_of e s.symbols.live values) n told) to)
+value_pushed limits s log e n told values longer next d w v (Ok to) h at is more goes = value_taken limits s log e n told values longer next d w v to h at is more goes
+value_pushed limits s log e n told values longer next d w v (Err x) h at is more goes = tt

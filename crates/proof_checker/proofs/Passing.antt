@@ -13,6 +13,7 @@ use Rattle.proof_text.specs.declared.line.Line.TheVariants as line
 use Rattle.proof_text.specs.Lines.{joined, words_of, line_text, IsLine}
 use Rattle.proof_text.proofs.Exact.{line_free}
 use Rattle.accepted_proof.specs.declared.refusal.Refusal.{Refusal}
+use Rattle.accepted_proof.specs.Searching.{Limits, AreLimits}
 use Rattle.accepted_proof.specs.Turns.{Turn}
 use Rattle.accepted_proof.specs.Answers.{turn_lines, proof_of}
 use Rattle.accepted_proof.specs.Accepted.{AreRead, has_ended, AreAll, Accepted}
@@ -109,18 +110,18 @@ none_some : (r : Refusal) → ◌≡◌ {A = Option Refusal} None (Some r) → �
 none_some r e = cc
 
 -- the lines behind the header
-header_told : (ls : List (Option Line)) (cs : List Says) (vs : List Verdict) → TellsProof cs ls vs None → (rest : List (Option Line)) × Tells no_judging cs rest vs None
+header_told : (ls : List (Option Line)) (cs : List Says) (vs : List Verdict) → TellsProof cs ls vs None → (limits : Limits) × AreLimits limits × (rest : List (Option Line)) × Tells (no_judging limits) cs rest vs None
 header_told [] cs vs h = absurd (none_some _ h.1)
-header_told (l ∷ ls) cs vs (inl h) = (ls, h.1)
+header_told (l ∷ ls) cs vs (inl h) = (h.0, h.1.allowed, ls, h.2)
 header_told (l ∷ ls) cs vs (inr h) = absurd (none_some _ h.2)
 
 abbrev pub JudgedLaw : Type 0
-JudgedLaw = (script : List ℕ) (chunks : List Chunk) (says : List Says) (lines : List (Option Line))
-    → AreAllSaid script chunks says → ReadEach chunks says → Judged no_judging says lines None
-    → (turns : List Turn) × (lines ≡ map (λ l. Some l) (flat_map turn_lines turns)) × Accepted script (proof_of turns) turns
+JudgedLaw = (limits : Limits) (script : List ℕ) (chunks : List Chunk) (says : List Says) (lines : List (Option Line))
+    → AreLimits limits → AreAllSaid script chunks says → ReadEach chunks says → Judged (no_judging limits) says lines None
+    → (turns : List Turn) × (lines ≡ map (λ l. Some l) (flat_map turn_lines turns)) × Accepted limits script (proof_of limits turns) turns
 
 abbrev pub RightLaw : Type 0
-RightLaw = (script proof : List ℕ) (turns : List Turn) → Accepted script proof turns → AreRight no_state turns
+RightLaw = (limits : Limits) (script proof : List ℕ) (turns : List Turn) → Accepted limits script proof turns → AreRight no_state turns
 
 -- the whole script is cut into these chunks
 all_cut : (script : List ℕ) (chunks : List Chunk) → AreCut (record { line = 1; bytes = script }) chunks → AreChunks script chunks
@@ -129,8 +130,10 @@ all_cut script chunks k = record { whole = k.whole; rest = k.rest; begins = k.be
 -- the commands that are read, and what is told where no others are
 record IsAllTold (script : List ℕ) (chunks : List Chunk) (says : List Says) (lines : List (Option Line)) (vs : List Verdict) : Type 0 where
   pub all : AreAllSaid script chunks says
+  pub limits : Limits
+  pub allowed : AreLimits limits
   pub rest : List (Option Line)
-  pub told : Tells no_judging says rest vs None
+  pub told : Tells (no_judging limits) says rest vs None
 
 all_told : (script proof : List ℕ) (vs : List Verdict) (h : IsAccepted script proof vs) → (h.behind ≡ []) ⊎ (list_any ends h.says ≡ true) → IsAllTold script h.chunks h.says h.lines vs
 all_told script proof vs h (inl none) =
@@ -138,23 +141,27 @@ all_told script proof vs h (inl none) =
     let m = header_told h.lines h.says vs said in
     record {
       all = inl (all_cut script h.chunks (subst (AreCut (record { line = 1; bytes = script })) (ap (λ x. h.chunks ++ x) none ∙ append-nil h.chunks) h.cut));
-      rest = m.0;
-      told = m.1;
+      limits = m.0;
+      allowed = m.1;
+      rest = m.2;
+      told = m.3;
     }
 all_told script proof vs h (inr ended) =
     let more = some_readings h.behind in
     let m = header_told h.lines (h.says ++ more) vs (h.told more (mapped_length (λ (x : Chunk). no_reading) h.behind)) in
     record {
       all = inr (ended, front_fewer script h.chunks h.behind (inr (all_cut script (h.chunks ++ h.behind) h.cut)));
-      rest = m.0;
-      told = tells_less m.0 more None no_judging h.says vs ended m.1;
+      limits = m.0;
+      allowed = m.1;
+      rest = m.2;
+      told = tells_less m.2 more None (no_judging m.0) h.says vs ended m.3;
     }
 
-pub accepted_right : JudgedLaw → RightLaw → (script proof : List ℕ) (vs : List Verdict) → IsAccepted script proof vs → (turns : List Turn) × Accepted script (proof_of turns) turns × AreRight no_state turns × (vs ≡ verdicts_of turns)
+pub accepted_right : JudgedLaw → RightLaw → (script proof : List ℕ) (vs : List Verdict) → IsAccepted script proof vs → (limits : Limits) × (turns : List Turn) × Accepted limits script (proof_of limits turns) turns × AreRight no_state turns × (vs ≡ verdicts_of turns)
 accepted_right law right script proof vs h =
     let m = all_told script proof vs h (h.whole refl) in
-    let t = law script h.chunks h.says m.rest m.all h.read (judged_of m.rest no_judging h.says vs None m.told) in
-    (t.0, t.2, right script (proof_of t.0) t.0 t.2, proof_verdicts m.rest h.says vs m.told ∙ ap (flat_map line_verdict) t.1 ∙ of_turns t.0)
+    let t = law m.limits script h.chunks h.says m.rest m.allowed m.all h.read (judged_of m.rest (no_judging m.limits) h.says vs None m.told) in
+    (m.limits, t.0, t.2, right m.limits script (proof_of m.limits t.0) t.0 t.2, proof_verdicts m.limits m.rest h.says vs m.told ∙ ap (flat_map line_verdict) t.1 ∙ of_turns t.0)
 
 -- ---- accepted proofs pass
 
@@ -173,7 +180,7 @@ lines_printed [] h = refl
 lines_printed (l ∷ ls) h = line_first l (flat_map line_text ls) (map (λ l. Some l) ls) h.0 (lines_printed ls h.1)
 
 abbrev pub TurnsLaw : Type 0
-TurnsLaw = (script proof : List ℕ) (turns : List Turn) → Accepted script proof turns → Judged no_judging (map (λ (t : Turn). t.says) turns) (map (λ l. Some l) (flat_map turn_lines turns)) None
+TurnsLaw = (limits : Limits) (script proof : List ℕ) (turns : List Turn) → Accepted limits script proof turns → Judged (no_judging limits) (map (λ (t : Turn). t.says) turns) (map (λ l. Some l) (flat_map turn_lines turns)) None
 
 -- a turn ends the run where its reading does
 ended_says : (turns : List Turn) → list_any ends (map (λ (t : Turn). t.says) turns) ≡ has_ended turns
@@ -200,26 +207,27 @@ no_length : (rest : List Says) → length rest ≡ 0 → rest ≡ []
 no_length [] n = refl
 no_length (r ∷ rest) n = absurd (omega arith)
 
-told_behind : (lines : List (Option Line)) (says rest : List Says) (behind : List Chunk) (vs : List Verdict) → (behind ≡ []) ⊎ (list_any ends says ≡ true) → length rest ≡ length behind → Tells no_judging says lines vs None → Tells no_judging (says ++ rest) lines vs None
-told_behind lines says rest behind vs (inl none) n h = subst (λ x. Tells no_judging x lines vs None) (sym (ap (λ x. says ++ x) (no_length rest (n ∙ ap length none)) ∙ append-nil says)) h
-told_behind lines says rest behind vs (inr ended) n h = tells_more lines rest None no_judging says vs ended h
+told_behind : (limits : Limits) (lines : List (Option Line)) (says rest : List Says) (behind : List Chunk) (vs : List Verdict) → (behind ≡ []) ⊎ (list_any ends says ≡ true) → length rest ≡ length behind → Tells (no_judging limits) says lines vs None → Tells (no_judging limits) (says ++ rest) lines vs None
+told_behind limits lines says rest behind vs (inl none) n h = subst (λ x. Tells (no_judging limits) x lines vs None) (sym (ap (λ x. says ++ x) (no_length rest (n ∙ ap length none)) ∙ append-nil says)) h
+told_behind limits lines says rest behind vs (inr ended) n h = tells_more lines rest None (no_judging limits) says vs ended h
 
-pub accepted_pass : TurnsLaw → (script proof : List ℕ) (turns : List Turn) → Accepted script proof turns → AllByRecursion IsLine (flat_map turn_lines turns) → IsAccepted script proof (verdicts_of turns)
-accepted_pass law script proof turns h each =
+pub accepted_pass : TurnsLaw → (limits : Limits) (script proof : List ℕ) (turns : List Turn) → Accepted limits script proof turns → AllByRecursion IsLine (flat_map turn_lines turns) → IsAccepted script proof (verdicts_of turns)
+accepted_pass law limits script proof turns h each =
     let says = map (λ (t : Turn). t.says) turns in
     let lines = map (λ l. Some l) (flat_map turn_lines turns) in
-    let t = tells_there lines no_judging says None (law script proof turns h) in
-    let same : t.0 ≡ verdicts_of turns = proof_verdicts lines says t.0 t.1 ∙ of_turns turns in
-    let told : Tells no_judging says lines (verdicts_of turns) None = subst (λ x. Tells no_judging says lines x None) same t.1 in
+    let header = line.Header limits.cubes limits.budget in
+    let t = tells_there lines (no_judging limits) says None (law limits script proof turns h) in
+    let same : t.0 ≡ verdicts_of turns = proof_verdicts limits lines says t.0 t.1 ∙ of_turns turns in
+    let told : Tells (no_judging limits) says lines (verdicts_of turns) None = subst (λ x. Tells (no_judging limits) says lines x None) same t.1 in
     let k = is_behind script h.chunks turns h.cut in
     record {
       chunks = h.chunks;
       behind = k.behind;
       says = says;
-      lines = Some (line.Header 0 100000) ∷ lines;
+      lines = Some header ∷ lines;
       cut = k.cut;
       read = read_says h.chunks turns h.read;
-      split = subst (λ (x : List ℕ). AreLines x (Some (line.Header 0 100000) ∷ lines)) (sym h.lines) (line_first (line.Header 0 100000) _ lines (omega arith, omega arith) (lines_printed (flat_map turn_lines turns) each));
-      told = λ rest n. inl ((omega arith, omega arith), told_behind lines says rest k.behind (verdicts_of turns) k.none n told);
+      split = subst (λ (x : List ℕ). AreLines x (Some header ∷ lines)) (sym h.lines) (line_first header _ lines (omega (arith, h.allowed.cubes), omega (arith, h.allowed.budget)) (lines_printed (flat_map turn_lines turns) each));
+      told = λ rest n. inl (limits, record { written = refl; allowed = h.allowed }, told_behind limits lines says rest k.behind (verdicts_of turns) k.none n told);
       whole = λ z. k.none;
     }

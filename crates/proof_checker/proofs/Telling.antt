@@ -118,12 +118,14 @@ pub over_of : (o : Owed) (r : Refusal) → answer_by o ≡ Err r → o ≡ judge
 over_of judged.Nothing r e = absurd (let z : ⊥ = cc in z)
 over_of judged.Steps r e = absurd (let z : ⊥ = cc in z)
 over_of (judged.Values next left values) r e = absurd (let z : ⊥ = cc in z)
+over_of (judged.Noted cube start left lines) r e = absurd (let z : ⊥ = cc in z)
 over_of (judged.Over q) r e = let z : q ≡ r = cc in ap judged.Over z
 
 pub ending_none : (o : Owed) (n : ℕ) → ending o n ≡ None → is_idle o ≡ true
 ending_none judged.Nothing n e = refl
 ending_none judged.Steps n e = absurd (let z : ⊥ = cc in z)
 ending_none (judged.Values next left values) n e = absurd (let z : ⊥ = cc in z)
+ending_none (judged.Noted cube start left lines) n e = absurd (let z : ⊥ = cc in z)
 ending_none (judged.Over q) n e = absurd (let z : ⊥ = cc in z)
 
 -- ---- verdicts
@@ -133,6 +135,7 @@ shown_by told judged.Nothing (Some v) = refl
 shown_by told judged.Nothing None = sym (append-nil told)
 shown_by told judged.Steps v = sym (append-nil told)
 shown_by told (judged.Values next left values) v = sym (append-nil told)
+shown_by told (judged.Noted cube start left lines) v = sym (append-nil told)
 shown_by told (judged.Over r) v = sym (append-nil told)
 
 -- the verdicts behind a line

@@ -2,7 +2,7 @@
 use Rattle.std.proofs.Common.{◌≡◌, ℕ, zero, suc, ◌+◌, ◌*◌, ◌/◌, ◌%◌, ◌^◌, ◌<◌, ◌≤◌, Bool, true, false, List, [], ◌∷◌, ◌++◌, length, take, drop, get_or, slice_get, Option, Some, refl, sym, ap, ◌∙◌, subst, arith, add-one}
 use Rattle.std.specs.Prelude.{◌==◌, if◌then◌else◌, All}
 use Rattle.std.proofs.lemmas.List.{at_drop_more, take_more, take_all}
-use Rattle.std.proofs.lemmas.List.Elements.{recursion_from_All, All-more, All-same}
+use Rattle.std.proofs.lemmas.List.Elements.{recursion_from_All, All-more, All-same, All-weaker}
 use Rattle.std.proofs.Math.Nat.{div-div-eq-div-mul, pow-succ'}
 use Rattle.smt_terms.specs.declared.sort.Sort.{Sort}
 use Rattle.smt_terms.specs.declared.sort.Sort.TheVariants as sort
@@ -19,11 +19,12 @@ use Rattle.smt_values.specs.Held as set
 use Rattle.smt_eval.specs.Evaluated.{AreSuited, IsSuited, AreValues, held_value}
 use Rattle.scope_selectors.specs.declared.live.Live.{Live}
 use Rattle.script_state.specs.Plain.{is_plain_sort}
-use Rattle.script_state.specs.States.{StateValue, IsState, IsPlainConstant}
+use Rattle.script_state.specs.declared.answer.Asked.{Asked}
+use Rattle.script_state.specs.States.{StateValue, IsState, IsPlainConstant, IsAssumption, assumptions}
 use Rattle.proof_log.proofs.Growing.{each_get}
 use Rattle.proof_text.specs.declared.line.WrittenValue.TheVariants as written
 use Rattle.proof_text.specs.Records.{binary, written_value}
-use Rattle.accepted_proof.specs.Models.{value_for, interpretation_of, IsModel}
+use Rattle.accepted_proof.specs.Models.{value_for, interpretation_of}
 
 -- ---- models
 
@@ -65,30 +66,37 @@ pub truth_held : (M N : Interpretation) (s : StateValue) (values : List Value) (
 truth_held M N s values t v b e are lt here told =
     ap (λ m. is_true (value m s.terms.nodes t)) (sym e) ∙ ap is_true (sym (are.means t lt)) ∙ ap (λ x. is_true (meaning x)) (sym here) ∙ sym told
 
--- what is found of the live assertions, one by one
-module _ (s : StateValue) (h : IsState s) (interp : List (Option Value)) (values : List (ℕ × Value)) (evaluated : List Value) (terms : TermsValue) (live : List Live)
-    (held : terms ≡ s.terms) (given : (d : ℕ) → set_for interp d ≡ value_for values d) (are : AreValues (set.interpretation_of interp) terms.nodes evaluated) (all : live ≡ s.scopes.live) where
-  abbrev Holds : Live → Type 0
-  Holds a = is_true (value (interpretation_of values) s.terms.nodes a.term) ≡ true
+-- the terms of live assertions and of assumptions are held
+pub assertions_held : (s : StateValue) (live : List Live) → IsState s → live ≡ s.scopes.live → All (λ (a : Live). a.term < length s.terms.nodes) live
+assertions_held s live is e = All-same (λ (a : Live). a.term < length s.terms.nodes) live s.scopes.live e is.held
 
-  truth_told : (k : ℕ) (a : Live) (v : Value) (b : Bool) → k < length live → a ≡ get_or live k a → v ≡ held_value evaluated a.term → b ≡ is_true (meaning v) → is_true (value (interpretation_of values) s.terms.nodes a.term) ≡ b
+pub assumptions_held : (s : StateValue) (asked : List Asked) → IsState s → asked ≡ assumptions s → All (λ (a : Asked). a.term < length s.terms.nodes) asked
+assumptions_held s asked is e =
+    All-same (λ (a : Asked). a.term < length s.terms.nodes) asked (assumptions s) e
+    (All-weaker (IsAssumption s.terms.nodes s.symbols.live) (λ (a : Asked). a.term < length s.terms.nodes) (λ a h. h.held) (assumptions s) is.assumed)
+
+-- what is found of the terms of some items, one by one
+module _ {A : Type 0} (term : A → ℕ) (items : List A) (s : StateValue) (interp : List (Option Value)) (values : List (ℕ × Value)) (evaluated : List Value) (terms : TermsValue)
+    (within : All (λ (a : A). term a < length s.terms.nodes) items) (held : terms ≡ s.terms) (given : (d : ℕ) → set_for interp d ≡ value_for values d) (are : AreValues (set.interpretation_of interp) terms.nodes evaluated) where
+  abbrev IsTrue : A → Type 0
+  IsTrue a = is_true (value (interpretation_of values) s.terms.nodes (term a)) ≡ true
+
+  truth_told : (k : ℕ) (a : A) (v : Value) (b : Bool) → k < length items → a ≡ get_or items k a → v ≡ held_value evaluated (term a) → b ≡ is_true (meaning v) → is_true (value (interpretation_of values) s.terms.nodes (term a)) ≡ b
   truth_told k a v b lt here found told =
-      let at : a ≡ get_or s.scopes.live k a = here ∙ ap (λ ls. get_or ls k a) all in
-      let within : a.term < length s.terms.nodes = subst (λ (x : Live). x.term < length s.terms.nodes) (sym at) (h.held k a (subst (λ ls. k < length ls) all lt)) in
-      truth_held (set.interpretation_of interp) (interpretation_of values) s evaluated a.term v b (same_interpretation interp values given) (subst (λ (w : TermsValue). AreValues (set.interpretation_of interp) w.nodes evaluated) held are) within found told
+      let here_within : term a < length s.terms.nodes = subst (λ (x : A). term x < length s.terms.nodes) (sym here) (within k a lt) in
+      truth_held (set.interpretation_of interp) (interpretation_of values) s evaluated (term a) v b (same_interpretation interp values given) (subst (λ (w : TermsValue). AreValues (set.interpretation_of interp) w.nodes evaluated) held are) here_within found told
 
-  pub model_more : (k : ℕ) (a : Live) (v : Value) (b : Bool) → k < length live → a ≡ get_or live k a → v ≡ held_value evaluated a.term → b ≡ is_true (meaning v) → b ≡ true → All Holds (take k live) → All Holds (take (k + 1) live)
-  model_more k a v b lt here found told holds before = All-more Holds live k a lt before (subst Holds here (truth_told k a v b lt here found told ∙ holds))
+  pub all_more : (k : ℕ) (a : A) (v : Value) (b : Bool) → k < length items → a ≡ get_or items k a → v ≡ held_value evaluated (term a) → b ≡ is_true (meaning v) → b ≡ true → All IsTrue (take k items) → All IsTrue (take (k + 1) items)
+  all_more k a v b lt here found told holds before = All-more IsTrue items k a lt before (subst IsTrue here (truth_told k a v b lt here found told ∙ holds))
 
-  pub no_model : (k : ℕ) (a : Live) (v : Value) (b : Bool) → k < length live → a ≡ get_or live k a → v ≡ held_value evaluated a.term → b ≡ is_true (meaning v) → b ≡ false → IsModel s (interpretation_of values) → ⊥
-  no_model k a v b lt here found told fails model =
-      let at : a ≡ get_or s.scopes.live k a = here ∙ ap (λ ls. get_or ls k a) all in
-      let truth : Holds a = subst Holds (sym at) (model k a (subst (λ ls. k < length ls) all lt)) in
-      let other : is_true (value (interpretation_of values) s.terms.nodes a.term) ≡ false = truth_told k a v b lt here found told ∙ fails in
+  pub not_all : (k : ℕ) (a : A) (v : Value) (b : Bool) → k < length items → a ≡ get_or items k a → v ≡ held_value evaluated (term a) → b ≡ is_true (meaning v) → b ≡ false → All IsTrue items → ⊥
+  not_all k a v b lt here found told fails all =
+      let truth : IsTrue a = subst IsTrue (sym here) (all k a lt) in
+      let other : is_true (value (interpretation_of values) s.terms.nodes (term a)) ≡ false = truth_told k a v b lt here found told ∙ fails in
       let f : ⊥ = cc in f
 
-  pub model_whole : (k : ℕ) → length live ≤ k → All Holds (take k live) → IsModel s (interpretation_of values)
-  model_whole k le each = All-same Holds s.scopes.live (take k live) (sym all ∙ sym (take_all k live le)) each
+  pub all_whole : (k : ℕ) → length items ≤ k → All IsTrue (take k items) → All IsTrue items
+  all_whole k le each = All-same IsTrue items (take k items) (sym (take_all k items le)) each
 
 -- one value more, in front of those that were set
 pub values_more : (values : List (ℕ × Value)) (k n : ℕ) (p : ℕ × Value) (old new : List (Option Value)) → k < length values → n ≡ k + 1 → p ≡ get_or values k p → ((d : ℕ) → set_for old d ≡ value_for (drop n values) d)

@@ -1,5 +1,5 @@
 -- The verdicts of accepted proofs are those of their lines.
-use Rattle.std.proofs.Common.{◌≡◌, ℕ, Bool, true, false, List, [], ◌∷◌, ◌++◌, map, flat_map, Option, Some, None, refl, sym, ap, ◌∙◌, subst, inl, inr, append_assoc, append-nil}
+use Rattle.std.proofs.Common.{◌≡◌, ℕ, zero, suc, Bool, true, false, List, [], ◌∷◌, ◌++◌, map, flat_map, Option, Some, None, refl, sym, ap, ◌∙◌, subst, inl, inr, append_assoc, append-nil}
 use Rattle.std.specs.Prelude.{◌⊎◌, if◌then◌else◌, option_to_list}
 use Rattle.std.specs.Option.{option_map}
 use Rattle.std.proofs.lemmas.Grind.{flat_map-append}
@@ -20,14 +20,17 @@ use Rattle.proof_text.specs.declared.line.WrittenValue.{WrittenValue}
 use Rattle.proof_text.specs.declared.record.Record.{Record}
 use Rattle.proof_text.specs.declared.record.Record.TheVariants as shown
 use Rattle.proof_text.specs.Entries.{head_of, entry_line}
-use Rattle.proof_text.specs.Records.{written_value, value_lines}
+use Rattle.proof_text.specs.Records.{written_value, value_lines, diary_line}
 use Rattle.accepted_proof.specs.declared.refusal.Refusal.{Refusal}
 use Rattle.accepted_proof.specs.declared.refusal.RuleName.{RuleName}
 use Rattle.accepted_proof.specs.Turns.{Turn, verdict_of}
 use Rattle.accepted_proof.specs.Answers.{shown_lines, step_lines, turn_lines}
 use Rattle.accepted_proof.specs.Judged as judged
-use Rattle.accepted_proof.specs.Judged.{Owed, Judging, refused, owed_by, commanded, is_idle, reach, ending, StepsBy, Goes, AtStep, AtValue, Moves, MovesBy, Judged}
-use Rattle.accepted_proof.proofs.Once.{moved_once}
+use Rattle.accepted_proof.specs.Judged.{Owed, Judging, refused, owed_by, commanded, is_idle, reach, ending, StepsBy, Goes, Opens, Notes, AtStep, AtValue, AtDiary, Moves, MovesBy, Judged}
+use Rattle.accepted_proof.proofs.Once.{moved_once, same_limits}
+use Rattle.accepted_proof.specs.Searching.{Limits}
+use Rattle.proof_log.specs.declared.diary.DiaryLine.{DiaryLine}
+use Rattle.proof_log.specs.declared.diary.DiaryLine.TheVariants as diary
 use Rattle.proof_checker.specs.Checkers.{Says}
 use Rattle.proof_checker.specs.Checked.{shown_at, Tells, TellsProof, verdicts_of}
 use Rattle.proof_checker.proofs.Telling.{tells_over, ending_none}
@@ -52,9 +55,11 @@ one_telling (l ∷ ls) j cs vs us o q a b =
 
 pub one_proof_telling : (ls : List (Option Line)) (cs : List Says) (vs us : List Verdict) (o q : Option Refusal) → TellsProof cs ls vs o → TellsProof cs ls us q → (vs ≡ us) × (o ≡ q)
 one_proof_telling [] cs vs us o q a b = (a.0 ∙ sym b.0, a.1 ∙ sym b.1)
-one_proof_telling (l ∷ ls) cs vs us o q (inl a) (inl b) = one_telling ls judged.no_judging cs vs us o q a.1 b.1
-one_proof_telling (l ∷ ls) cs vs us o q (inl a) (inr b) = absurd (b.0 a.0)
-one_proof_telling (l ∷ ls) cs vs us o q (inr a) (inl b) = absurd (a.0 b.0)
+one_proof_telling (l ∷ ls) cs vs us o q (inl a) (inl b) =
+    let same : a.0 ≡ b.0 = same_limits l a.0 b.0 a.1 b.1 in
+    one_telling ls (judged.no_judging b.0) cs vs us o q (subst (λ x. Tells (judged.no_judging x) cs ls vs o) same a.2) b.2
+one_proof_telling (l ∷ ls) cs vs us o q (inl a) (inr b) = absurd (b.0 a.0 a.1)
+one_proof_telling (l ∷ ls) cs vs us o q (inr a) (inl b) = absurd (a.0 b.0 b.1)
 one_proof_telling (l ∷ ls) cs vs us o q (inr a) (inr b) = (a.1 ∙ sym b.1, a.2 ∙ sym b.2)
 
 -- ---- the verdicts of lines
@@ -62,11 +67,13 @@ one_proof_telling (l ∷ ls) cs vs us o q (inr a) (inr b) = (a.1 ∙ sym b.1, a.
 abbrev pub line_verdict : Option Line → List Verdict
 line_verdict (Some (line.Sat n)) = verdict.Sat ∷ []
 line_verdict (Some (line.Unsat p)) = verdict.Unsat ∷ []
+line_verdict (Some (line.Unknown cube start count)) = verdict.Unknown ∷ []
 line_verdict _ = []
 
 -- that of a record which is begun
 abbrev owing : Owed → List Verdict
 owing (judged.Values next left values) = verdict.Sat ∷ []
+owing (judged.Noted cube start left lines) = verdict.Unknown ∷ []
 owing _ = []
 
 abbrev IsOver : Owed → Type 0
@@ -91,6 +98,15 @@ gone : (j : Judging) (left : List LiveName) (values : List (ℕ × Value)) (k : 
 gone j [] values k h = decided _ j _ k _ (verdict.Sat ∷ []) [] refl h
 gone j (next ∷ left) values k h = subst (λ (x : Judging). Brings (verdict.Sat ∷ []) [] x) (sym h) (inl refl)
 
+opened : (j : Judging) (cube start count : ℕ) (k : Judging) → Opens j cube start count k → Brings [] (verdict.Unknown ∷ []) k
+opened j cube start zero k h = inr (at_refused j k _ h)
+opened j cube start (suc left) k h = decided _ j _ k _ [] (verdict.Unknown ∷ []) refl h
+
+-- a line of a diary, or the last
+noted : (j : Judging) (cube start left : ℕ) (lines : List DiaryLine) (l : DiaryLine) (k : Judging) → Notes j cube start left lines l k → Brings (verdict.Unknown ∷ []) [] k
+noted j cube start zero lines l k h = decided _ j _ k _ (verdict.Unknown ∷ []) [] refl h
+noted j cube start (suc left) lines l k h = decided _ j _ k _ (verdict.Unknown ∷ []) [] refl h
+
 at_step : (j : Judging) (l : Line) (k : Judging) → AtStep j l k → Brings [] (line_verdict (Some l)) k
 at_step j (line.Header c b) k h = inr (at_refused j k _ h)
 at_step j (line.Term d args) k h = stepped j _ k h
@@ -102,6 +118,10 @@ at_step j (line.Sat n) k (inl h) = gone j j.state.symbols.live [] k h.1
 at_step j (line.Sat n) k (inr h) = inr (at_refused j k _ h.1)
 at_step j (line.Value d w) k h = inr (at_refused j k _ h)
 at_step j (line.Unsat p) k h = decided _ j _ k _ [] (verdict.Unsat ∷ []) refl h
+at_step j (line.Unknown cube start count) k h = opened j cube start count k h
+at_step j (line.Take p) k h = inr (at_refused j k _ h)
+at_step j (line.Put p) k h = inr (at_refused j k _ h)
+at_step j (line.Drop p) k h = inr (at_refused j k _ h)
 
 at_value : (j : Judging) (next : LiveName) (left : List LiveName) (values : List (ℕ × Value)) (l : Line) (k : Judging) → AtValue j next left values l k → Brings (verdict.Sat ∷ []) (line_verdict (Some l)) k
 at_value j next left values (line.Value d w) k (inl h) = gone j left (values ++ (d, h.0) ∷ []) k h.2
@@ -114,6 +134,25 @@ at_value j next left values (line.Selector a) k h = inr (at_refused j k _ h)
 at_value j next left values (line.Chain c hs) k h = inr (at_refused j k _ h)
 at_value j next left values (line.Sat n) k h = inr (at_refused j k _ h)
 at_value j next left values (line.Unsat p) k h = inr (at_refused j k _ h)
+at_value j next left values (line.Unknown cube start count) k h = inr (at_refused j k _ h)
+at_value j next left values (line.Take p) k h = inr (at_refused j k _ h)
+at_value j next left values (line.Put p) k h = inr (at_refused j k _ h)
+at_value j next left values (line.Drop p) k h = inr (at_refused j k _ h)
+
+at_diary : (j : Judging) (cube start left : ℕ) (lines : List DiaryLine) (l : Line) (k : Judging) → AtDiary j cube start left lines l k → Brings (verdict.Unknown ∷ []) (line_verdict (Some l)) k
+at_diary j cube start left lines (line.Take p) k h = noted j cube start left lines (diary.Take p) k h
+at_diary j cube start left lines (line.Put p) k h = noted j cube start left lines (diary.Put p) k h
+at_diary j cube start left lines (line.Drop p) k h = noted j cube start left lines (diary.Drop p) k h
+at_diary j cube start left lines (line.Header c b) k h = inr (at_refused j k _ h)
+at_diary j cube start left lines (line.Term c b) k h = inr (at_refused j k _ h)
+at_diary j cube start left lines (line.Leaf t) k h = inr (at_refused j k _ h)
+at_diary j cube start left lines (line.Encode t) k h = inr (at_refused j k _ h)
+at_diary j cube start left lines (line.Selector a) k h = inr (at_refused j k _ h)
+at_diary j cube start left lines (line.Chain c hs) k h = inr (at_refused j k _ h)
+at_diary j cube start left lines (line.Sat n) k h = inr (at_refused j k _ h)
+at_diary j cube start left lines (line.Value d w) k h = inr (at_refused j k _ h)
+at_diary j cube start left lines (line.Unsat p) k h = inr (at_refused j k _ h)
+at_diary j cube start left lines (line.Unknown n g c) k h = inr (at_refused j k _ h)
 
 brought : (o : Owed) (j : Judging) (l : Option Line) (k : Judging) → j.owed ≡ o → MovesBy o j l k → Brings (owing o) (line_verdict l) k
 brought judged.Nothing j l k e h = inr (at_refused j k _ h)
@@ -121,21 +160,20 @@ brought judged.Steps j None k e h = inr (at_refused j k _ h)
 brought judged.Steps j (Some l) k e h = at_step j l k h
 brought (judged.Values next left values) j None k e h = inr (at_refused j k _ h)
 brought (judged.Values next left values) j (Some l) k e h = at_value j next left values l k h
+brought (judged.Noted cube start left lines) j None k e h = inr (at_refused j k _ h)
+brought (judged.Noted cube start left lines) j (Some l) k e h = at_diary j cube start left lines l k h
 brought (judged.Over r) j l k e h = inr (r, ap (λ (x : Judging). x.owed) h ∙ e)
 
 -- commands owe no value
 owed_none : (a : Answer) → owing (owed_by a) ≡ []
-owed_none answer.Done = refl
-owed_none (answer.Refused e) = refl
-owed_none (answer.Says text) = refl
-owed_none answer.Model = refl
-owed_none answer.Exit = refl
 owed_none answer.Check = refl
+owed_none _ = refl
 
 idle_none : (o : Owed) → is_idle o ≡ true → owing o ≡ []
 idle_none judged.Nothing e = refl
 idle_none judged.Steps e = refl
 idle_none (judged.Values next left values) e = absurd (let z : ⊥ = cc in z)
+idle_none (judged.Noted cube start left lines) e = absurd (let z : ⊥ = cc in z)
 idle_none (judged.Over r) e = refl
 
 owing_behind : (j : Judging) (c : Says) → is_idle j.owed ≡ true → owing (commanded j c).owed ≡ owing j.owed
@@ -171,8 +209,8 @@ told_verdicts (l ∷ ls) j cs vs h =
       | inr o ↦ absurd (over_told ls k (reach j cs).1 h.1 None o.0 o.1 h.4 refl)
     ]
 
-pub proof_verdicts : (ls : List (Option Line)) (cs : List Says) (vs : List Verdict) → Tells judged.no_judging cs ls vs None → vs ≡ flat_map line_verdict ls
-proof_verdicts ls cs vs h = told_verdicts ls judged.no_judging cs vs h ∙ ap (λ x. x ++ flat_map line_verdict ls) (reach_owing cs judged.no_judging)
+pub proof_verdicts : (limits : Limits) (ls : List (Option Line)) (cs : List Says) (vs : List Verdict) → Tells (judged.no_judging limits) cs ls vs None → vs ≡ flat_map line_verdict ls
+proof_verdicts limits ls cs vs h = told_verdicts ls (judged.no_judging limits) cs vs h ∙ ap (λ x. x ++ flat_map line_verdict ls) (reach_owing cs (judged.no_judging limits))
 
 -- ---- the lines of turns
 
@@ -206,10 +244,17 @@ of_values : (vs : List (ℕ × Value)) → of_lines (flat_map value_lines vs) �
 of_values [] = refl
 of_values (v ∷ vs) = of_both (value_lines v) (flat_map value_lines vs) ∙ ap (λ x. x ++ of_lines (flat_map value_lines vs)) (of_value v.0 (written_value v.1)) ∙ of_values vs
 
+of_noted : (ls : List DiaryLine) → of_lines (map diary_line ls) ≡ []
+of_noted [] = refl
+of_noted (diary.Take p ∷ ls) = of_noted ls
+of_noted (diary.Put p ∷ ls) = of_noted ls
+of_noted (diary.Drop p ∷ ls) = of_noted ls
+
 of_shown : (o : Option Record) → of_lines (shown_lines o) ≡ option_to_list (option_map verdict_of o)
 of_shown None = refl
 of_shown (Some (shown.Sat values)) = ap (λ x. verdict.Sat ∷ x) (of_values values)
 of_shown (Some (shown.Unsat p)) = refl
+of_shown (Some (shown.Unknown d)) = ap (λ x. verdict.Unknown ∷ x) (of_noted d.lines)
 
 pub of_turns : (ts : List Turn) → of_lines (flat_map turn_lines ts) ≡ verdicts_of ts
 of_turns [] = refl

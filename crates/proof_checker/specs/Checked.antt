@@ -11,6 +11,7 @@ use Rattle.proof_text.specs.declared.line.Line.{Line}
 use Rattle.proof_text.specs.Lines.{line_text, IsLine}
 use Rattle.proof_text.specs.Held.{without_feed}
 use Rattle.accepted_proof.specs.declared.refusal.Refusal.{Refusal}
+use Rattle.accepted_proof.specs.Searching.{Limits}
 use Rattle.accepted_proof.specs.Turns.{Turn, verdict_of}
 use Rattle.accepted_proof.specs.Judged.{Judging, no_judging, is_idle, reach, ending, Moves, IsHeader, bad_header, ReadEach}
 use Rattle.proof_checker.specs.Checkers.{Says}
@@ -63,7 +64,7 @@ Tells j cs (l ∷ ls) vs o = (k : Judging) × (rest : List Verdict) × Moves (re
 -- the same of all lines of a proof, as `JudgedProof` says
 abbrev pub TellsProof : List Says → List (Option Line) → List Verdict → Option Refusal → Type 0
 TellsProof cs [] vs o = (vs ≡ []) × (o ≡ Some bad_header)
-TellsProof cs (l ∷ ls) vs o = (IsHeader l × Tells no_judging cs ls vs o) ⊎ ((IsHeader l → ⊥) × (vs ≡ []) × (o ≡ Some bad_header))
+TellsProof cs (l ∷ ls) vs o = ((limits : Limits) × IsHeader l limits × Tells (no_judging limits) cs ls vs o) ⊎ (((limits : Limits) → IsHeader l limits → ⊥) × (vs ≡ []) × (o ≡ Some bad_header))
 
 -- ---- texts
 

@@ -1,8 +1,10 @@
 -- What contracts see of a checker, and of the lines that it is given.
-use Rattle.std.specs.Prelude.{◌≡◌, ◌<◌, ◌==◌, ℕ, Bool, false, List, [], ◌∷◌, ◌++◌, ◌+◌, drop, length, map, Option, Some, None, Result, Ok, Err}
+use Rattle.std.specs.Prelude.{◌≡◌, ◌<◌, ◌==◌, ℕ, zero, suc, Bool, true, false, List, [], ◌∷◌, ◌++◌, ◌+◌, drop, length, map, Option, Some, None, Result, Ok, Err}
 use Rattle.smt_values.specs.declared.value.Value.{Value}
 use Rattle.cnf_base.specs.Literals.{Literal, negated, code_of}
+use Rattle.smt_terms.specs.Bits.{TermBits, bits_in}
 use Rattle.scope_selectors.specs.declared.live.Live.{Live}
+use Rattle.script_state.specs.declared.answer.Asked.{Asked}
 use Rattle.script_state.specs.declared.answer.Verdict.{Verdict}
 use Rattle.script_state.specs.Readings.{Reading}
 use Rattle.script_state.specs.States.{StateValue, concluded}
@@ -18,10 +20,20 @@ use Rattle.proof_text.specs.declared.line.Line.{Line}
 use Rattle.proof_text.specs.declared.reader.LineFault.{LineFault}
 use Rattle.proof_text.specs.Lines.{IsLine}
 use Rattle.accepted_proof.specs.declared.refusal.Refusal.{Refusal}
+use Rattle.accepted_proof.specs.declared.refusal.RuleName.TheVariants as rule
+use Rattle.proof_text.specs.declared.record.Record.TheVariants as shown
 use Rattle.accepted_proof.specs.Judged as judged
-use Rattle.accepted_proof.specs.Judged.{Owed, Judging, no_judging, refused}
+use Rattle.accepted_proof.specs.Judged.{Owed, Judging, no_judging, refused, noted, closed, Decides, Notes, subject_at}
+use Rattle.accepted_proof.specs.Searching as searching
+use Rattle.accepted_proof.specs.Searching.{AreLimits, subject_of}
+use Rattle.check_cubes.specs.Searches.{only}
+use Rattle.diary_checker.specs.Readers.{HasRead}
+use Rattle.proof_log.specs.declared.diary.DiaryLine.{DiaryLine}
+use Rattle.proof_log.specs.Diaries.{blank, lines_after}
+use Rattle.proof_log.specs.Diaries as diaries
+use Rattle.proof_checker.specs.declared.due.Noting.{Noting}
 use Rattle.proof_checker.specs.declared.due.Due.{Due}
-use Rattle.proof_checker.specs.declared.due.Due.TheVariants.{Nothing, Steps, Values, Over}
+use Rattle.proof_checker.specs.declared.due.Due.TheVariants.{Nothing, Steps, Values, Noted, Over}
 
 -- what a chunk says, as `ReadsAs` has it
 abbrev pub Says : Type 0
@@ -52,6 +64,7 @@ abbrev pub owed_of : Due → List LiveName → List (ℕ × Value) → Owed
 owed_of Nothing live values = judged.Nothing
 owed_of Steps live values = judged.Steps
 owed_of Values live values = values_owed (drop (length values) live) values
+owed_of (Noted n) live values = judged.Noted n.cube n.start n.left n.lines
 owed_of (Over r) live values = judged.Over r
 
 -- what a line is answered
@@ -59,11 +72,12 @@ abbrev pub answer_by : Owed → Result (Unit {0}) Refusal
 answer_by judged.Nothing = Ok tt
 answer_by judged.Steps = Ok tt
 answer_by (judged.Values next left values) = Ok tt
+answer_by (judged.Noted cube start left lines) = Ok tt
 answer_by (judged.Over r) = Err r
 
 -- nothing is judged yet
-abbrev pub no_records : CheckerValue
-no_records = record { judging = no_judging; verdicts = [] }
+abbrev pub no_records : searching.Limits → CheckerValue
+no_records limits = record { judging = no_judging limits; verdicts = [] }
 
 -- it is judged otherwise, with the same verdicts
 abbrev pub judged_so : CheckerValue → Judging → CheckerValue
@@ -75,6 +89,7 @@ and_shown told judged.Nothing (Some v) = told ++ v ∷ []
 and_shown told judged.Nothing None = told
 and_shown told judged.Steps v = told
 and_shown told (judged.Values next left values) v = told
+and_shown told (judged.Noted cube start left lines) v = told
 and_shown told (judged.Over r) v = told
 
 -- it is judged as may be, and a record that ends the check adds its verdict
@@ -85,7 +100,7 @@ pub record GoesTo (To : Judging → Type 0) (old new : CheckerValue) : Type 0 wh
 -- how it is judged at the end of the text
 abbrev pub at_end : CheckerValue → Option Refusal → CheckerValue
 at_end c None = c
-at_end c (Some r) = record { judging = record { state = c.judging.state; log = c.judging.log; owed = judged.Over r; line = c.judging.line }; verdicts = c.verdicts }
+at_end c (Some r) = record { judging = record { limits = c.judging.limits; state = c.judging.state; log = c.judging.log; owed = judged.Over r; line = c.judging.line }; verdicts = c.verdicts }
 
 -- the step is the chain that is written so
 abbrev pub IsChainOf : List WrittenLiteral → List WrittenHint → Entry → Type 0
@@ -106,6 +121,10 @@ is_code (Some l) q = code_of (negated l) == q
 abbrev pub is_against : List (Option Literal) → Live → ℕ → Bool
 is_against selectors a q = is_code (selector_in selectors a.assertion) q
 
+-- the code is that of the negated bit of the assumption
+abbrev pub is_against_bit : List TermBits → Asked → ℕ → Bool
+is_against_bit bits a q = is_code (only (bits_in bits a.term)) q
+
 -- where values are owed, the one of some name is
 abbrev pub IsOpen : Due → List LiveName → List (ℕ × Value) → Type 0
 IsOpen Values live values = length values < length live
@@ -113,13 +132,52 @@ IsOpen _ live values = Unit {0}
 
 -- the next line, with all else the same
 abbrev pub gone_on : Judging → Judging
-gone_on j = record { state = j.state; log = j.log; owed = j.owed; line = j.line + 1 }
+gone_on j = record { limits = j.limits; state = j.state; log = j.log; owed = j.owed; line = j.line + 1 }
 
 -- the check ends with this verdict
 abbrev pub closed_with : CheckerValue → Verdict → CheckerValue
-closed_with c v = record { judging = record { state = concluded c.judging.state v; log = c.judging.log; owed = judged.Nothing; line = c.judging.line + 1 }; verdicts = c.verdicts ++ v ∷ [] }
+closed_with c v = record { judging = record { limits = c.judging.limits; state = concluded c.judging.state v; log = c.judging.log; owed = judged.Nothing; line = c.judging.line + 1 }; verdicts = c.verdicts ++ v ∷ [] }
 
 -- values of a model are owed
 abbrev pub IsOwedValues : Owed → Type 0
 IsOwedValues (judged.Values next left values) = Unit {0}
 IsOwedValues _ = ⊥
+
+-- where lines of a diary are owed, those so far were read, over the log as it is
+abbrev pub IsNoted : searching.Limits → StateValue → List Entry → Due → Type 0
+IsNoted limits s log (Noted n) = HasRead (subject_of limits s s.terms.nodes log n.cube n.start) n.lines n.reader
+IsNoted limits s log _ = Unit {0}
+
+-- one line more, which may stand there
+pub record HasLine (limits : searching.Limits) (s : StateValue) (log : List Entry) (old : Noting) (l : DiaryLine) (new : Noting) : Type 0 where
+  pub cube : new.cube ≡ old.cube
+  pub start : new.start ≡ old.start
+  pub left : new.left ≡ old.left
+  pub lines : new.lines ≡ old.lines ++ l ∷ []
+  pub noted : IsNoted limits s log (Noted new)
+
+-- the line may not stand there
+abbrev pub IsNoLine : searching.Limits → StateValue → List Entry → Noting → DiaryLine → Type 0
+IsNoLine limits s log n l =
+    let g = subject_of limits s s.terms.nodes log n.cube n.start in
+    diaries.IsLine g (lines_after g (blank g) n.lines) l → ⊥
+
+-- lines of a diary are owed
+abbrev pub IsOwedLines : Owed → Type 0
+IsOwedLines (judged.Noted cube start left lines) = Unit {0}
+IsOwedLines _ = ⊥
+
+-- one more line of a diary, where one is owed
+abbrev pub NotesBy : Owed → Judging → DiaryLine → Judging → Type 0
+NotesBy (judged.Noted cube start left lines) j l k = Notes j cube start left lines l k
+NotesBy _ j l k = ⊥
+
+-- where these lines go, of which so many are left
+abbrev pub LinesTo : Judging → Noting → ℕ → Judging → Type 0
+LinesTo j n zero k = Decides (diaries.IsSpent (subject_at j n.cube n.start) j.limits.budget n.lines) (closed j (shown.Unknown (record { cube = n.cube; start = n.start; lines = n.lines }))) (refused j rule.Diary) k
+LinesTo j n (suc left) k = k ≡ noted j n.cube n.start left n.lines
+
+-- the same, where the last of them may stand, or not
+abbrev pub ReadTo : Judging → Noting → Bool → Judging → Type 0
+ReadTo j n true k = LinesTo j n n.left k
+ReadTo j n false k = k ≡ refused j rule.Diary

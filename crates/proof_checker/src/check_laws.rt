@@ -6,6 +6,7 @@ ghost use Rattle.script_state.specs.declared.answer.Verdict.{Verdict};
 ghost use Rattle.script_state.specs.States.{no_state};
 ghost use Rattle.proof_text.specs.Lines.{IsLine};
 ghost use Rattle.accepted_proof.specs.declared.refusal.Refusal.{Refusal};
+ghost use Rattle.accepted_proof.specs.Searching.{Limits};
 ghost use Rattle.accepted_proof.specs.Turns.{Turn};
 ghost use Rattle.accepted_proof.specs.Answers.{turn_lines, proof_of};
 ghost use Rattle.accepted_proof.specs.Accepted.{Accepted};
@@ -21,11 +22,11 @@ pub fn texts_are_judged_one_way()
     ensures { (script proof : List ℕ) (vs us : List Verdict) (o q : Option Refusal) → IsJudged script proof vs o → IsJudged script proof us q → (vs ≡ us) × (o ≡ q) }
 {}
 
-/// What a check accepts is right, whoever wrote it: there are turns with these verdicts which make an accepted proof, each
-/// `sat` stands beside a model, and where there is an `unsat` there is none.
+/// What a check accepts is right, whoever wrote it: within some limits there are turns with these verdicts which make an
+/// accepted proof, each `sat` stands beside a model, and where there is an `unsat` there is none.
 pub fn what_is_accepted_is_right()
     ensures { (script proof : List ℕ) (vs : List Verdict) → IsAccepted script proof vs
-        → (turns : List Turn) × Accepted script (proof_of turns) turns × AreRight no_state turns × (vs ≡ verdicts_of turns) }
+        → (limits : Limits) × (turns : List Turn) × Accepted limits script (proof_of limits turns) turns × AreRight no_state turns × (vs ≡ verdicts_of turns) }
 {
     judged_proofs_are_accepted();
     accepted_proofs_are_right();
@@ -33,7 +34,7 @@ pub fn what_is_accepted_is_right()
 
 /// A check accepts the accepted proofs whose lines can be read, with the verdicts of their turns.
 pub fn accepted_proofs_pass()
-    ensures { (script proof : List ℕ) (turns : List Turn) → Accepted script proof turns → AllByRecursion IsLine (flat_map turn_lines turns) → IsAccepted script proof (verdicts_of turns) }
+    ensures { (limits : Limits) (script proof : List ℕ) (turns : List Turn) → Accepted limits script proof turns → AllByRecursion IsLine (flat_map turn_lines turns) → IsAccepted script proof (verdicts_of turns) }
 {
     accepted_proofs_are_judged();
 }

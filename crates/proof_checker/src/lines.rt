@@ -224,15 +224,6 @@ pub fn entry_of(
             None => Ok(None),
         },
         Line::Chain { clause, hints } => chain_of(alloc, log, clause.as_slice(), hints.as_slice()),
-        Line::Header {
-            cubes: _,
-            budget: _,
-        } => Ok(None),
-        Line::Sat(_) => Ok(None),
-        Line::Value {
-            declaration: _,
-            value: _,
-        } => Ok(None),
-        Line::Unsat(_) => Ok(None),
+        _ => Ok(None),
     }
 }

@@ -44,7 +44,7 @@ fn is_true(value: &Value) -> bool
     }
 }
 
-/// Whether each live assertion is true under the values.
+/// Whether each live assertion and each assumption is true under the values.
 pub fn is_model(
     alloc: Global,
     state: &State,
@@ -58,6 +58,11 @@ pub fn is_model(
     let evaluated = Values::of(alloc, state.terms(), &interp)?;
     for assertion in state.live() {
         if !is_true(evaluated.get(assertion.term)) {
+            return Ok(false);
+        }
+    }
+    for assumption in state.assumptions() {
+        if !is_true(evaluated.get(assumption.term)) {
             return Ok(false);
         }
     }

@@ -1,17 +1,19 @@
 // Refutations.
 
-ghost use Rattle.std.specs.Prelude.{◌≡◌, ◌==◌, ◌&&◌, ℕ, true, IfOk, MatchBool};
+ghost use Rattle.std.specs.Prelude.{◌≡◌, ◌==◌, ◌&&◌, ◌||◌, ℕ, true, IfOk, MatchBool};
 ghost use Rattle.std.specs.List.{list_any, list_all};
 ghost use Rattle.std.specs.Ordering.{nat_cmp};
 ghost use Rattle.std.specs.BTreeSet.{contains};
 ghost use Rattle.cnf_base.specs.Literals.{code_of};
 ghost use Rattle.proof_log.specs.Stored.{Stands};
 ghost use Rattle.accepted_proof.specs.Turns.{IsRefutation};
-ghost use Rattle.proof_checker.specs.Checkers.{is_against};
+ghost use Rattle.proof_checker.specs.Checkers.{is_against, is_against_bit};
 
+use check_cubes::bit_of;
 use cnf_base::{ClauseId, Lit, Pos};
 use proof_log::Log;
 use scope_selectors::live::Live;
+use script_state::answer::Asked;
 use script_state::state::State;
 use std::alloc::{AllocError, Global};
 use std::collections::BTreeSet;
@@ -29,6 +31,23 @@ fn codes_of(alloc: Global, log: &Log, live: &[Live]) -> Result<BTreeSet<u64>, Al
     Ok(codes)
 }
 
+/// These codes, and those of the negated bits of these assumptions.
+fn and_assumed(
+    log: &Log,
+    assumed: &[Asked],
+    codes: BTreeSet<u64>,
+) -> Result<BTreeSet<u64>, AllocError>
+    ensures { IfOk result (λ all. (q : ℕ) → contains nat_cmp all q ≡ (contains nat_cmp codes q || list_any (λ a. is_against_bit log.now.bits a q) assumed.now)) }
+{
+    let mut all = codes;
+    for assumption in assumed {
+        if let Some(bit) = bit_of(log, assumption.term) {
+            all.insert(bit.negated().code())?;
+        }
+    }
+    Ok(all)
+}
+
 /// Whether each literal is of one of these codes.
 fn are_among(literals: &[Lit], codes: &BTreeSet<u64>) -> bool
     ensures { result ≡ list_all (λ l. contains nat_cmp codes.now (code_of l)) literals.now }
@@ -41,7 +60,7 @@ fn are_among(literals: &[Lit], codes: &BTreeSet<u64>) -> bool
     true
 }
 
-/// Whether the first clause of a position has negated selectors of live assertions alone.
+/// Whether the first clause of a position has negated selectors of live assertions and negated bits of assumptions alone.
 pub fn is_refutation(alloc: Global, state: &State, log: &Log, pos: Pos) -> Result<bool, AllocError>
     requires { Stands state.now.terms.nodes log.now }
     ensures { IfOk result (λ b. MatchBool b
@@ -51,6 +70,7 @@ pub fn is_refutation(alloc: Global, state: &State, log: &Log, pos: Pos) -> Resul
     let Some(clause) = log.clause(ClauseId { pos, part: 0 }) else {
         return Ok(false)
     };
-    let codes = codes_of(alloc, log, state.live())?;
+    let selectors = codes_of(alloc, log, state.live())?;
+    let codes = and_assumed(log, state.assumptions(), selectors)?;
     Ok(are_among(clause.literals(), &codes))
 }

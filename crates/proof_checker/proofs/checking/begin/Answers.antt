@@ -9,7 +9,7 @@ pub returns-in-Ok : goal.returns-in-Ok
 returns-in-Ok c =
     let l = rw c.in-Line.is at c.in_ok-first.ensures.line in
     let h = rw c.in-Ok.is at c.in_ok-checker.ensures in
-    begun _ _ _ c.in_ok-first.ensures.same l.1 _ h.0 h.1 _ refl refl
+    begun _ _ _ c.in_ok-first.ensures.same l.1 _ h.0 h.1 h.2 _ refl refl
 
 pub returns-in-Err : goal.returns-in-Err
 returns-in-Err c =

@@ -16,6 +16,6 @@ pub returns : goal.returns
 returns c =
     let s = c.args.state.now in
     let codes = c.in_ok-codes.codes in
-    refutation_told s c.args.log.now (stands_over s.terms.nodes c.args.log.now c.requires) c.args.pos c.in-Some.clause.now c.live.result.now (contains nat_cmp codes) c.are_among.result
-    c.live.ensures.live c.in_ok-codes.ensures (sym c.in-Some.ensures.clause)
+    refutation_told s c.args.log.now (stands_over s.terms.nodes c.args.log.now c.requires) c.args.pos c.in-Some.clause.now c.live.result.now c.assumptions.result.now (contains nat_cmp c.in_ok-selectors.selectors) (contains nat_cmp codes) c.are_among.result
+    c.live.ensures.live c.assumptions.ensures.assumptions c.in_ok-selectors.ensures c.in_ok-codes.ensures (sym c.in-Some.ensures.clause)
     (c.are_among.ensures ∙ ap (λ ls. list_all (λ l. contains nat_cmp codes (code_of l)) ls) c.literals.ensures)

@@ -1,6 +1,7 @@
 use Rattle.std.proofs.Common.{◌+◌, ◌<◌, length, drop, sym, subst}
 use Rattle.accepted_proof.specs.Judged.{Goes}
 use Rattle.proof_checker.specs.declared.due.Due.TheVariants.{Values}
+use Rattle.check_cubes.specs.Searches.{limits_of}
 use Rattle.proof_checker.specs.Checkers.{CheckerValue, GoesTo, owed_of}
 use Rattle.proof_checker.proofs.Moving.{owed_values}
 use Rattle.proof_checker.proofs.checker.Checker.owe_values.Goals as goal
@@ -11,5 +12,5 @@ returns c =
     let values = c.args.values.items in
     let less : length values < length before.state.symbols.live =
     subst (λ (x : CheckerValue). length c.args.values.items < length x.judging.state.symbols.live) (sym c.self.view_is) c.requires.left in
-    subst (λ (x : CheckerValue). GoesTo (Goes x.judging (drop (length c.args.values.items) x.judging.state.symbols.live) c.args.values.items) x (record { judging = record { state = c.self.inside.state; log = c.self.inside.log.entries; owed = owed_of Values c.self.inside.state.symbols.live c.args.values.items; line = c.self.inside.line + 1 }; verdicts = c.self.inside.verdicts.items })) c.self.view_is
-    (owed_values before.state before.log.entries (owed_of before.due before.state.symbols.live before.values.items) before.line before.verdicts.items values less)
+    subst (λ (x : CheckerValue). GoesTo (Goes x.judging (drop (length c.args.values.items) x.judging.state.symbols.live) c.args.values.items) x (record { judging = record { limits = limits_of c.self.inside.limits; state = c.self.inside.state; log = c.self.inside.log.entries; owed = owed_of Values c.self.inside.state.symbols.live c.args.values.items; line = c.self.inside.line + 1 }; verdicts = c.self.inside.verdicts.items })) c.self.view_is
+    (owed_values (limits_of before.limits) before.state before.log.entries (owed_of before.due before.state.symbols.live before.values.items) before.line before.verdicts.items values less)

@@ -3,6 +3,7 @@ use Rattle.smt_build.specs.declared.symbols.LiveName.{LiveName}
 use Rattle.proof_text.specs.declared.line.Line.TheVariants as line
 use Rattle.accepted_proof.specs.Judged.{refused, MovesBy}
 use Rattle.accepted_proof.specs.declared.refusal.RuleName.TheVariants as rule
+use Rattle.check_cubes.specs.Searches.{limits_of}
 use Rattle.proof_checker.specs.Checkers.{CheckerValue, GoesTo, IsOwedValues, judged_so}
 use Rattle.proof_checker.proofs.Moving.{value_refused, value_pushed}
 use Rattle.proof_checker.proofs.checker.Checker.value.Goals as goal
@@ -14,7 +15,7 @@ returns-in_default c =
     let count : c.len.result ≡ length before.values.items = omega arith in
     let at : next ≡ get_or before.state.symbols.live (length before.values.items) next = c.index-declared-len.is ∙ ap₂ (λ xs k. get_or xs k next) c.declared.ensures count in
     subst (λ (x : CheckerValue). GoesTo (MovesBy x.judging.owed x.judging (Some (line.Value c.args.declaration c.args.written.now))) x c.refuse.result) c.self.view_is
-    (value_refused before.state before.log.entries before.due before.line before.verdicts.items before.values.items next c.args.declaration c.args.written.now c.refuse.result
+    (value_refused (limits_of before.limits) before.state before.log.entries before.due before.line before.verdicts.items before.values.items next c.args.declaration c.args.written.now c.refuse.result
     (subst (λ (x : CheckerValue). IsOwedValues x.judging.owed) (sym c.self.view_is) c.requires.values) at
     (λ v is. c.in_default.ensures next v (ap (λ (x : LiveName). x.declaration) c.index-declared-len.is) is)
     (subst (λ (x : CheckerValue). c.refuse.result ≡ judged_so x (refused x.judging rule.Sat)) (sym c.self.view_is) c.refuse.ensures))
@@ -27,7 +28,7 @@ returns c =
     let at : next ≡ get_or before.state.symbols.live (length before.values.items) next = c.index-declared-len.is ∙ ap₂ (λ xs k. get_or xs k next) c.declared.ensures count in
     let named = ap (λ (x : LiveName). x.declaration) c.index-declared-len.is in
     subst (λ (x : CheckerValue). IfOk c.go_to_values.result (λ to. GoesTo (MovesBy x.judging.owed x.judging (Some (line.Value c.args.declaration c.args.written.now))) x to)) c.self.view_is
-    (value_pushed before.state before.log.entries before.due before.line before.verdicts.items before.values.items c.push.new.self.items next c.args.declaration c.args.written.now c.in-Some.value c.go_to_values.result
+    (value_pushed (limits_of before.limits) before.state before.log.entries before.due before.line before.verdicts.items before.values.items c.push.new.self.items next c.args.declaration c.args.written.now c.in-Some.value c.go_to_values.result
     (subst (λ (x : CheckerValue). IsOwedValues x.judging.owed) (sym c.self.view_is) c.requires.values) at
     (c.in-Some.ensures next named)
     (c.in_ok-push.ensures.items ∙ ap (λ n. before.values.items ++ (n, c.in-Some.value) ∷ []) (sym named))

@@ -1,0 +1,219 @@
+// The lines of a diary.
+
+ghost use Rattle.std.specs.Prelude.{◌≡◌, ◌<◌, ◌+◌, ◌^◌, true, Some, List, [], IfOk, MatchBool};
+ghost use Rattle.proof_log.specs.declared.entry.Entry.{Entry as Step};
+ghost use Rattle.proof_log.specs.Stored.{Stands};
+ghost use Rattle.proof_log.specs.Diaries.{IsSpent};
+ghost use Rattle.script_state.specs.States.{StateValue};
+ghost use Rattle.accepted_proof.specs.Searching.{Limits, subject_of, given_literals};
+ghost use Rattle.accepted_proof.specs.Judged.{noted, Opens, MovesBy};
+ghost use Rattle.proof_checker.specs.declared.due.Due.TheVariants.{Noted};
+ghost use Rattle.proof_checker.specs.Checkers.{GoesTo, HasLine, IsNoLine, IsNoted, IsOwedLines, NotesBy, ReadTo, judged_so};
+
+use crate::checker::Checker;
+use crate::due::{Due, Noting};
+use accepted_proof::refusal::RuleName;
+use check_cubes::search;
+use cnf_base::{Lit, Pos};
+use diary_checker::DiaryReader;
+use proof_log::Log;
+use proof_log::diary::{DiaryLine, DiaryLines};
+use proof_text::line::Line;
+use script_state::answer::Verdict;
+use std::alloc::{AllocError, Global};
+
+/// A diary without a line, of which one is next and so many are left behind it.
+fn open(
+    alloc: Global,
+    log: &Log,
+    given: &[Lit],
+    cube: u64,
+    start: Pos,
+    left: u64,
+) -> Result<Noting, AllocError>
+    ensures parts { IfOk result (λ n. (n.cube ≡ cube) × (n.start ≡ start) × (n.left ≡ left) × (n.lines ≡ [])) }
+    ensures noted { IfOk result (λ n. (limits : Limits) (s : StateValue) → Stands s.terms.nodes log.now
+        → given.now ≡ given_literals limits s s.terms.nodes log.now.entries cube → IsNoted limits s log.now.entries (Noted n)) }
+{
+    let reader = DiaryReader::new(alloc, log, given, start)?;
+    let lines = DiaryLines::new(alloc);
+    Ok(Noting {
+        cube,
+        start,
+        left,
+        lines,
+        reader,
+    })
+}
+
+/// One line more, and whether it may stand there.
+fn with_line(log: &Log, noting: Noting, line: DiaryLine) -> Result<(Noting, bool), AllocError>
+    ensures { IfOk result (λ r. (limits : Limits) (s : StateValue) → Stands s.terms.nodes log.now → IsNoted limits s log.now.entries (Noted noting)
+        → MatchBool r.1 (HasLine limits s log.now.entries noting line r.0) (IsNoLine limits s log.now.entries noting line)) }
+{
+    let Noting {
+        cube,
+        start,
+        left,
+        mut lines,
+        mut reader,
+    } = noting;
+    let stands = reader.line(log, line)?;
+    lines.push(line)?;
+    let noting = Noting {
+        cube,
+        start,
+        left,
+        lines,
+        reader,
+    };
+    Ok((noting, stands))
+}
+
+/// The same lines, where one fewer is left.
+fn one_less(noting: Noting) -> Noting
+    requires { 0 < noting.left }
+    ensures left { result.left + 1 ≡ noting.left }
+    ensures same { (result.cube ≡ noting.cube) × (result.start ≡ noting.start) × (result.lines ≡ noting.lines) × (result.reader ≡ noting.reader) }
+{
+    let Noting {
+        cube,
+        start,
+        left,
+        lines,
+        reader,
+    } = noting;
+    Noting {
+        cube,
+        start,
+        left: left - 1,
+        lines,
+        reader,
+    }
+}
+
+/// Whether the lines so far have spent the budget.
+fn is_spent(noting: &Noting, budget: u64) -> bool
+    ensures { (limits : Limits) (s : StateValue) (log : List Step) → IsNoted limits s log (Noted noting.now)
+        → MatchBool result
+        (IsSpent (subject_of limits s s.terms.nodes log noting.now.cube noting.now.start) budget noting.now.lines)
+        (IsSpent (subject_of limits s s.terms.nodes log noting.now.cube noting.now.start) budget noting.now.lines → ⊥) }
+{
+    noting.reader.is_spent(budget)
+}
+
+impl Checker {
+    // So many lines of a diary are owed behind the next one.
+    fn owe_lines(self, noting: Noting) -> Checker
+        requires more { self.judging.line + 1 < 2 ^ 64 }
+        requires noted { IsNoted self.judging.limits self.judging.state self.judging.log (Noted noting) }
+        ensures { result ≡ judged_so self (noted self.judging noting.cube noting.start noting.left noting.lines) }
+    {
+        let Checker {
+            limits,
+            state,
+            log,
+            due: _,
+            values,
+            line,
+            verdicts,
+        } = self;
+        Checker {
+            limits,
+            state,
+            log,
+            due: Due::Noted(noting),
+            values,
+            line: line + 1,
+            verdicts,
+        }
+    }
+
+    // The line that begins the diary of a cube.
+    pub(crate) fn open_diary(
+        self,
+        alloc: Global,
+        cube: u64,
+        start: Pos,
+        count: u64,
+    ) -> Result<Checker, AllocError>
+        requires more { self.judging.line + 1 < 2 ^ 64 }
+        ensures { IfOk result (λ c. GoesTo (Opens self.judging cube start count) self c) }
+    {
+        if count == 0 {
+            return Ok(self.refuse(RuleName::Diary));
+        }
+        match search(alloc, &self.state, &self.log, self.limits, cube, start)? {
+            Some(given) => {
+                let noting = open(alloc, &self.log, given.as_slice(), cube, start, count - 1)?;
+                Ok(self.owe_lines(noting))
+            }
+            None => Ok(self.refuse(RuleName::Diary)),
+        }
+    }
+
+    // One line more of a diary, which stands there or does not.
+    fn judge_line(self, noting: Noting, stands: bool) -> Result<Checker, AllocError>
+        requires more { self.judging.line + 1 < 2 ^ 64 }
+        requires noted { stands ≡ true → IsNoted self.judging.limits self.judging.state self.judging.log (Noted noting) }
+        ensures { IfOk result (λ c. GoesTo (ReadTo self.judging noting stands) self c) }
+    {
+        if !stands {
+            return Ok(self.refuse(RuleName::Diary));
+        }
+        if noting.left > 0 {
+            let noting = one_less(noting);
+            return Ok(self.owe_lines(noting));
+        }
+        if is_spent(&noting, self.limits.budget) {
+            self.close(Verdict::Unknown)
+        } else {
+            Ok(self.refuse(RuleName::Diary))
+        }
+    }
+
+    // One line more of a diary.
+    fn note(self, line: DiaryLine) -> Result<Checker, AllocError>
+        requires lines { IsOwedLines self.judging.owed }
+        requires more { self.judging.line + 1 < 2 ^ 64 }
+        ensures { IfOk result (λ c. GoesTo (NotesBy self.judging.owed self.judging line) self c) }
+    {
+        let Checker {
+            limits,
+            state,
+            log,
+            due,
+            values,
+            line: number,
+            verdicts,
+        } = self;
+        let Due::Noted(noting) = due else {
+            unreachable!()
+        };
+        let (noting, stands) = with_line(&log, noting, line)?;
+        let checker = Checker {
+            limits,
+            state,
+            log,
+            due: Due::Steps,
+            values,
+            line: number,
+            verdicts,
+        };
+        checker.judge_line(noting, stands)
+    }
+
+    // A line where one of a diary is owed.
+    pub(crate) fn at_diary(self, line: &Line) -> Result<Checker, AllocError>
+        requires lines { IsOwedLines self.judging.owed }
+        requires more { self.judging.line + 1 < 2 ^ 64 }
+        ensures { IfOk result (λ c. GoesTo (MovesBy self.judging.owed self.judging (Some line.now)) self c) }
+    {
+        match line {
+            Line::Take(pos) => self.note(DiaryLine::Take(*pos)),
+            Line::Put(pos) => self.note(DiaryLine::Put(*pos)),
+            Line::Drop(pos) => self.note(DiaryLine::Drop(*pos)),
+            _ => Ok(self.refuse(RuleName::Line)),
+        }
+    }
+}

@@ -1,0 +1,58 @@
+// The first line of a proof.
+
+ghost use Rattle.std.specs.Prelude.{◌≡◌, IfOk, MatchOption, MatchResult};
+ghost use Rattle.accepted_proof.specs.Searching as searching;
+ghost use Rattle.accepted_proof.specs.Judged.{IsHeader, bad_header};
+ghost use Rattle.check_cubes.specs.Searches.{limits_of};
+ghost use Rattle.proof_checker.specs.Checkers.{line_in, no_records};
+
+use crate::checker::Checker;
+use crate::due::Due;
+use accepted_proof::refusal::{Refusal, RuleName};
+use check_cubes::Limits;
+use proof_log::Log;
+use proof_text::line::Line;
+use proof_text::reader::LineFault;
+use script_state::state::State;
+use std::alloc::{AllocError, Global};
+
+/// The limits of a header; nothing where the line is none, or has a number out of range.
+fn header_limits(first: &Result<Line, LineFault>) -> Option<Limits>
+    ensures { MatchOption result
+        ((limits : searching.Limits) → IsHeader (line_in first.now) limits → ⊥)
+        (λ l. IsHeader (line_in first.now) (limits_of l)) }
+{
+    match first {
+        Ok(Line::Header { cubes, budget }) => Limits::within(*cubes, *budget),
+        _ => None,
+    }
+}
+
+impl Checker {
+    /// A checker behind the first line of a proof, or the refusal of a first line that is no header.
+    pub fn new(
+        alloc: Global,
+        first: &Result<Line, LineFault>,
+    ) -> Result<Result<Checker, Refusal>, AllocError>
+        ensures { IfOk result (λ r. MatchResult r
+            (λ c. (limits : searching.Limits) × IsHeader (line_in first.now) limits × (c ≡ no_records limits))
+            (λ f. ((limits : searching.Limits) → IsHeader (line_in first.now) limits → ⊥) × (f ≡ bad_header))) }
+    {
+        let Some(limits) = header_limits(first) else {
+            return Ok(Err(Refusal {
+                line: 1,
+                rule: RuleName::Header,
+            }));
+        };
+        let log = Log::new(alloc)?;
+        Ok(Ok(Checker {
+            limits,
+            state: State::new(alloc),
+            log,
+            due: Due::Nothing,
+            values: Vec::new(alloc),
+            line: 2,
+            verdicts: Vec::new(alloc),
+        }))
+    }
+}

@@ -1,0 +1,115 @@
+// The lines of steps, and those that begin or are a record.
+
+ghost use Rattle.std.specs.Prelude.{◌≡◌, ◌+◌, ◌<◌, ◌^◌, IfOk};
+ghost use Rattle.proof_text.specs.Lines.{IsLine};
+ghost use Rattle.proof_text.specs.declared.line.Line.TheVariants as line;
+ghost use Rattle.accepted_proof.specs.Judged as judged;
+ghost use Rattle.accepted_proof.specs.Judged.{StepsBy, AtStep};
+ghost use Rattle.proof_checker.specs.Checkers.{GoesTo};
+
+use crate::checker::Checker;
+use crate::due::Due;
+use crate::refutations::is_refutation;
+use crate::steps::take_step;
+use accepted_proof::refusal::RuleName;
+use cnf_base::Pos;
+use proof_text::line::Line;
+use script_state::answer::Verdict;
+use std::alloc::{AllocError, Global};
+
+/// The rule of a step's line.
+fn rule_of(line: &Line) -> RuleName
+    ensures { result ≡ judged.rule_of line.now }
+{
+    match line {
+        Line::Term { head: _, args: _ } => RuleName::Node,
+        Line::Leaf(_) => RuleName::Leaf,
+        Line::Encode(_) => RuleName::Encode,
+        Line::Selector(_) => RuleName::Selector,
+        Line::Chain {
+            clause: _,
+            hints: _,
+        } => RuleName::Chain,
+        _ => RuleName::Line,
+    }
+}
+
+impl Checker {
+    // A step's line.
+    fn step(self, alloc: Global, line: &Line) -> Result<Checker, AllocError>
+        requires steps { self.judging.owed ≡ judged.Steps }
+        requires written { IsLine line.now }
+        requires more { self.judging.line + 1 < 2 ^ 64 }
+        ensures { IfOk result (λ c. GoesTo (StepsBy self.judging line.now) self c) }
+    {
+        let Checker {
+            limits,
+            state,
+            mut log,
+            due: _,
+            values,
+            line: number,
+            verdicts,
+        } = self;
+        let (state, taken) = take_step(alloc, state, &mut log, line)?;
+        let checker = Checker {
+            limits,
+            state,
+            log,
+            due: Due::Steps,
+            values,
+            line: number,
+            verdicts,
+        };
+        if taken {
+            Ok(checker.go_on())
+        } else {
+            Ok(checker.refuse(rule_of(line)))
+        }
+    }
+
+    // The line of a refutation.
+    fn refute(self, alloc: Global, pos: Pos) -> Result<Checker, AllocError>
+        requires more { self.judging.line + 1 < 2 ^ 64 }
+        ensures { IfOk result (λ c. GoesTo (AtStep self.judging (line.Unsat pos)) self c) }
+    {
+        if is_refutation(alloc, &self.state, &self.log, pos)? {
+            self.close(Verdict::Unsat)
+        } else {
+            Ok(self.refuse(RuleName::Unsat))
+        }
+    }
+
+    // A line where steps and a record are owed.
+    pub(crate) fn at_step(self, alloc: Global, line: &Line) -> Result<Checker, AllocError>
+        requires steps { self.judging.owed ≡ judged.Steps }
+        requires written { IsLine line.now }
+        requires more { self.judging.line + 1 < 2 ^ 64 }
+        ensures { IfOk result (λ c. GoesTo (AtStep self.judging line.now) self c) }
+    {
+        match line {
+            Line::Header {
+                cubes: _,
+                budget: _,
+            } => Ok(self.refuse(RuleName::Line)),
+            Line::Term { head: _, args: _ } => self.step(alloc, line),
+            Line::Leaf(_) => self.step(alloc, line),
+            Line::Encode(_) => self.step(alloc, line),
+            Line::Selector(_) => self.step(alloc, line),
+            Line::Chain {
+                clause: _,
+                hints: _,
+            } => self.step(alloc, line),
+            Line::Sat(count) => self.begin_values(alloc, *count),
+            Line::Value {
+                declaration: _,
+                value: _,
+            } => Ok(self.refuse(RuleName::Line)),
+            Line::Unsat(pos) => self.refute(alloc, *pos),
+            Line::Unknown { cube, start, count } => self.open_diary(alloc, *cube, *start, *count),
+            Line::Take(_) => Ok(self.refuse(RuleName::Line)),
+            Line::Put(_) => Ok(self.refuse(RuleName::Line)),
+            Line::Drop(_) => Ok(self.refuse(RuleName::Line)),
+        }
+    }
+}

@@ -1,0 +1,132 @@
+// The values of a model.
+
+ghost use Rattle.std.specs.Prelude.{◌+◌, ◌<◌, ◌^◌, [], drop, length, Some, IfOk};
+ghost use Rattle.proof_text.specs.declared.line.Line.TheVariants as line;
+ghost use Rattle.accepted_proof.specs.Judged.{Goes, AtStep, MovesBy};
+ghost use Rattle.proof_checker.specs.Checkers.{GoesTo, IsOwedValues};
+
+use crate::checker::Checker;
+use crate::due::Due;
+use crate::models::{declared_value, is_model};
+use accepted_proof::refusal::RuleName;
+use proof_text::line::{Line, WrittenValue};
+use script_state::answer::Verdict;
+use smt_terms::sort::DeclId;
+use smt_values::Value;
+use std::alloc::{AllocError, Global};
+
+impl Checker {
+    // Further values of a model are owed.
+    fn owe_values(self, values: Vec<(DeclId, Value)>) -> Checker
+        requires more { self.judging.line + 1 < 2 ^ 64 }
+        requires left { length values.items < length self.judging.state.symbols.live }
+        ensures { GoesTo (Goes self.judging (drop (length values.items) self.judging.state.symbols.live) values.items) self result }
+    {
+        let Checker {
+            limits,
+            state,
+            log,
+            due: _,
+            values: _,
+            line,
+            verdicts,
+        } = self;
+        Checker {
+            limits,
+            state,
+            log,
+            due: Due::Values,
+            values,
+            line: line + 1,
+            verdicts,
+        }
+    }
+
+    // The values of a model are all there, and are judged.
+    fn judge_model(self, alloc: Global, values: &[(DeclId, Value)]) -> Result<Checker, AllocError>
+        requires more { self.judging.line + 1 < 2 ^ 64 }
+        ensures { IfOk result (λ c. GoesTo (Goes self.judging [] values.now) self c) }
+    {
+        if is_model(alloc, &self.state, values)? {
+            self.close(Verdict::Sat)
+        } else {
+            Ok(self.refuse(RuleName::Sat))
+        }
+    }
+
+    // The next value of a model is owed, or all are there, and are judged.
+    fn go_to_values(
+        self,
+        alloc: Global,
+        values: Vec<(DeclId, Value)>,
+    ) -> Result<Checker, AllocError>
+        requires more { self.judging.line + 1 < 2 ^ 64 }
+        ensures { IfOk result (λ c. GoesTo (Goes self.judging (drop (length values.items) self.judging.state.symbols.live) values.items) self c) }
+    {
+        if values.len() < self.state.declared().len() {
+            Ok(self.owe_values(values))
+        } else {
+            self.judge_model(alloc, values.as_slice())
+        }
+    }
+
+    // The line that begins a model.
+    pub(crate) fn begin_values(self, alloc: Global, count: u64) -> Result<Checker, AllocError>
+        requires more { self.judging.line + 1 < 2 ^ 64 }
+        ensures { IfOk result (λ c. GoesTo (AtStep self.judging (line.Sat count)) self c) }
+    {
+        if self.state.declared().len() as u64 != count {
+            return Ok(self.refuse(RuleName::Sat));
+        }
+        self.go_to_values(alloc, Vec::new(alloc))
+    }
+
+    // The value of a declaration, where the values of a model are owed.
+    fn value(
+        self,
+        alloc: Global,
+        declaration: u64,
+        written: &WrittenValue,
+    ) -> Result<Checker, AllocError>
+        requires values { IsOwedValues self.judging.owed }
+        requires more { self.judging.line + 1 < 2 ^ 64 }
+        ensures { IfOk result (λ c. GoesTo (MovesBy self.judging.owed self.judging (Some (line.Value declaration written.now))) self c) }
+    {
+        let next = self.state.declared()[self.values.len()].declaration;
+        let Some(value) = declared_value(&self.state, next, declaration, written) else {
+            return Ok(self.refuse(RuleName::Sat))
+        };
+        let Checker {
+            limits,
+            state,
+            log,
+            due: _,
+            mut values,
+            line,
+            verdicts,
+        } = self;
+        values.push((next, value))?;
+        let checker = Checker {
+            limits,
+            state,
+            log,
+            due: Due::Steps,
+            values: Vec::new(alloc),
+            line,
+            verdicts,
+        };
+        checker.go_to_values(alloc, values)
+    }
+
+    // A line where the values of a model are owed.
+    pub(crate) fn at_value(self, alloc: Global, line: &Line) -> Result<Checker, AllocError>
+        requires values { IsOwedValues self.judging.owed }
+        requires more { self.judging.line + 1 < 2 ^ 64 }
+        ensures { IfOk result (λ c. GoesTo (MovesBy self.judging.owed self.judging (Some line.now)) self c) }
+    {
+        match line {
+            Line::Value { declaration, value } => self.value(alloc, *declaration, value),
+            _ => Ok(self.refuse(RuleName::Line)),
+        }
+    }
+}
