@@ -47,7 +47,7 @@ any_map_at p f (x ∷ xs) (suc k) d lt e = go (p (f x)) (any_map_at p f xs k d (
   go true h = refl
   go false h = h
 
-map_map : {X Y Z : Type 0} (f : Y → Z) (g : X → Y) (xs : List X) → map f (map g xs) ≡ map (λ x. f (g x)) xs
+pub map_map : {X Y Z : Type 0} (f : Y → Z) (g : X → Y) (xs : List X) → map f (map g xs) ≡ map (λ x. f (g x)) xs
 map_map f g [] = refl
 map_map f g (x ∷ xs) = ap (λ ys. f (g x) ∷ ys) (map_map f g xs)
 
@@ -128,7 +128,7 @@ sort_plain s (held.Fun t) h = absurd h
 
 -- ---- terms
 
-kind_is : (s : Sort) (v : Value) → is_table v ≡ false → of.HasSort s (meaning v) → kind_of v ≡ s
+pub kind_is : (s : Sort) (v : Value) → is_table v ≡ false → of.HasSort s (meaning v) → kind_of v ≡ s
 kind_is sort.Bool (held.Bool b) p h = refl
 kind_is sort.Bool (held.Word w) p h = let e = h.1 in cc
 kind_is sort.Bool (held.Array a) p h = let e = h.1 in cc

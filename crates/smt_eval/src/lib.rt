@@ -1,14 +1,17 @@
 //! The values of terms under an interpretation of the declarations.
 //!
 //! `Values::of` goes over a list of terms once, the lowest number first, and computes each term's value from those of its
-//! arguments. Its contract says that each is the value that the definition of `smt_terms` gives the term. The crate stands
-//! on the values and interpretations of `smt_values`.
+//! arguments. `values_of` computes the values of some terms from those of the terms that they reach alone. The contracts say
+//! that each is the value that the definition of `smt_terms` gives the term. The crate stands on the values and
+//! interpretations of `smt_values`.
 #![tactic(auto)]
 
 mod arrays;
+pub mod asked;
 mod evaluate;
 #[cfg(test)]
 mod tests;
 pub mod values;
 
+pub use asked::values_of;
 pub use values::Values;

@@ -1,5 +1,6 @@
 //! Worked values, with ample memory.
 
+use crate::asked::values_of;
 use crate::values::Values;
 use smt_terms::list::Arguments;
 use smt_terms::node::{Node, Op, TermId};
@@ -79,6 +80,22 @@ fn a_sum_of_bytes_wraps(rt: HostRuntime) -> Result<(), Fail> {
     assert!(rt; is_truth(values.get(4), false));
     assert!(rt; is_byte(values.get(5), 55));
     assert!(rt; is_byte(values.get(6), 100));
+    Ok(())
+}
+
+#[test]
+fn terms_are_evaluated_in_the_order_in_which_they_are_asked_for(
+    rt: HostRuntime,
+) -> Result<(), Fail> {
+    let alloc = rt.alloc();
+    let mut terms = adds_constant(alloc, Sort::Word(8)).expect(&rt, "a constant");
+    assert!(rt; adds_word(alloc, &mut terms, 8, 100, 1));
+    assert!(rt; adds(alloc, &mut terms, Operator::Bvor, &[0, 1], 2)?);
+    assert!(rt; terms.len() == 3);
+    let interp = Interp::new(alloc);
+    let asked = values_of(alloc, &terms, &interp, &[2, 0])?;
+    assert!(rt; is_byte(&asked[0], 100));
+    assert!(rt; is_byte(&asked[1], 0));
     Ok(())
 }
 
