@@ -1,7 +1,7 @@
 -- A command that ends the run is answered so, and no other is.
 use Rattle.std.proofs.Common.{◌≡◌, Bool, true, false, refl, sym, ◌∙◌}
 use Rattle.script_state.specs.declared.answer.Answer.{Answer}
-use Rattle.script_state.specs.declared.answer.Answer.TheVariants.{Done, Refused, Check, Says, Model, Exit}
+use Rattle.script_state.specs.declared.answer.Answer.TheVariants.{Done, Refused, Check, Says, Model, Values, Core, Assumptions, Exit}
 use Rattle.script_state.specs.Readings.{Reading}
 use Rattle.script_state.specs.States.{StateValue}
 use Rattle.script_state.specs.Steps.{step, ends}
@@ -26,3 +26,9 @@ ends_is s r = go (step s r).0 (ends r) refl refl
     go (Says x) true e f = absurd (other (Says x) (λ q. let z : ⊥ = cc in z) e f)
     go Model false e f = refl
     go Model true e f = absurd (other Model (λ q. let z : ⊥ = cc in z) e f)
+    go (Values x) false e f = refl
+    go (Values x) true e f = absurd (other (Values x) (λ q. let z : ⊥ = cc in z) e f)
+    go Core false e f = refl
+    go Core true e f = absurd (other Core (λ q. let z : ⊥ = cc in z) e f)
+    go Assumptions false e f = refl
+    go Assumptions true e f = absurd (other Assumptions (λ q. let z : ⊥ = cc in z) e f)

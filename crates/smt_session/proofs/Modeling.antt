@@ -1,6 +1,6 @@
--- The values of declarations are a model of the live assertions.
-use Rattle.std.proofs.Common.{◌≡◌, ℕ, zero, suc, ◌+◌, ◌*◌, ◌%◌, ◌^◌, ◌<◌, Bool, true, false, List, [], ◌∷◌, ◌++◌, length, get_or, map, take, Some, None, Ok, refl, sym, ap, ◌∙◌, subst, arith}
-use Rattle.std.specs.Prelude.{◌==◌, ◌||◌, if◌then◌else◌, All, Option, IsSome, position, slice_get, slice_index_or, unwrap_or}
+-- The values of declarations are a model of the live assertions and the assumptions.
+use Rattle.std.proofs.Common.{◌≡◌, ℕ, zero, suc, ◌+◌, ◌*◌, ◌%◌, ◌^◌, ◌<◌, ◌≤◌, Bool, true, false, List, [], ◌∷◌, ◌++◌, length, get_or, map, take, Some, None, Ok, refl, sym, ap, ◌∙◌, subst, arith}
+use Rattle.std.specs.Prelude.{◌==◌, ◌||◌, not, if◌then◌else◌, All, Contains, Option, IsSome, position, slice_get}
 use Rattle.std.specs.List.{AllByRecursion}
 use Rattle.std.proofs.lemmas.Nat.{mod-mul-add}
 use Rattle.std.proofs.lemmas.Bool.{eqb-true, eq-eqb}
@@ -24,25 +24,28 @@ use Rattle.smt_terms.specs.Values.{HasSort, Interpretation, is_true, default_of,
 use Rattle.smt_terms.specs.Bits.{bits_in}
 use Rattle.smt_terms.proofs.Typing.{constant_sort_ok, default_has_sort, value_is}
 use Rattle.smt_terms.proofs.Made.{no_place, at_place}
-use Rattle.bit_blast.specs.Assigned.{assigned, IsLongAsWord}
+use Rattle.bit_blast.specs.Assigned.{IsLongAsWord}
 use Rattle.bit_blast.specs.Meanings.{AreBitsOf}
 use Rattle.smt_values.specs.declared.value.Value.{Value}
 use Rattle.smt_values.specs.declared.value.Value.TheVariants as held
 use Rattle.smt_values.specs.Held.{meaning, IsOfSort, constant_of, function_of}
 use Rattle.smt_build.specs.declared.symbols.LiveName.{LiveName}
-use Rattle.smt_build.specs.Scoped.{is_live}
+use Rattle.smt_build.specs.Scoped.{is_live, is_over}
 use Rattle.smt_build.proofs.ScopedValues.{AgreeOn, value_is_over}
 use Rattle.script_state.specs.Plain.{is_plain_sort}
-use Rattle.script_state.specs.States.{StateValue, IsState}
-use Rattle.plain_search.specs.Searches.{assignment}
+use Rattle.script_state.specs.States.{StateValue, IsState, assumptions}
 use Rattle.proof_log.specs.Logs.{plain_width, constant_width}
 use Rattle.proof_log.specs.Stored.{LogValue, Stands}
-use Rattle.proof_log.proofs.Assigned.{stored_values}
+use Rattle.proof_log.proofs.Assigned.{terms_valued}
 use Rattle.proof_log.proofs.Settled.{stands_settled}
 use Rattle.proof_text.specs.Records.{written_value, AreWritten}
 use Rattle.proof_text.specs.declared.record.Record.TheVariants.{Sat}
 use Rattle.accepted_proof.specs.Models.{IsModel, value_for, interpretation_of, IsOfSignature, IsWrittenModel}
-use Rattle.smt_session.specs.Searched.{AreAllTrue, HasTrueSelector}
+use Rattle.local_names.specs.Names.{AreNames, global, number_of, global_values}
+use Rattle.local_names.proofs.Numbers.{literal_value, value_without}
+use Rattle.accepted_proof.specs.Searching.{roots}
+use Rattle.smt_session.specs.Searched.{AreSatisfied, HasTrueBit, HasTrueSelector}
+use Rattle.smt_session.proofs.Roots.{roots_live, roots_assumed}
 use Rattle.smt_session.specs.Modeled.{IsValueIn, IsDeclaredValue, AreDeclaredValues}
 
 -- ---- declared constants
@@ -339,14 +342,42 @@ module _ (s : StateValue) (log : LogValue) (v : ℕ → Bool) (values : List (�
   agrees : AgreeOn s.symbols.live given (interpretation_of values)
   agrees = record { constants = λ d live. ap (λ l. constant_by l d) live; functions = λ d vs live. refl }
 
-  model_of : AreAllTrue log v → All (HasTrueSelector s.terms.nodes log v) s.scopes.live → IsModel s (interpretation_of values)
-  model_of true_clauses selected k a lt =
-      let h = stored_values given s.terms.nodes log v state.terms stands (record { clauses = true_clauses; constants = constant_bits }) in
-      let r = selected k a lt in
-      let t = (get_or s.scopes.live k a).term in
-      let holds : is_true (value given s.terms.nodes (get_or s.scopes.live k a).term) ≡ true = subst (λ t. is_true (value given s.terms.nodes t) ≡ true) r.term (h.selectors _ r.selector r.made r.holds) in
-      let same : value given s.terms.nodes (get_or s.scopes.live k a).term ≡ value (interpretation_of values) s.terms.nodes (get_or s.scopes.live k a).term = value_is_over s.symbols.live given (interpretation_of values) agrees s.terms.nodes state.terms t (state.closed.terms k a lt) in
+  -- what is true under the values of all declarations is true under those of the live ones
+  true_over : (t : ℕ) → is_over s.symbols.live s.terms.nodes t ≡ true → is_true (value given s.terms.nodes t) ≡ true → is_true (value (interpretation_of values) s.terms.nodes t) ≡ true
+  true_over t over holds =
+      let same : value given s.terms.nodes t ≡ value (interpretation_of values) s.terms.nodes t = value_is_over s.symbols.live given (interpretation_of values) agrees s.terms.nodes state.terms t over in
       subst (λ x. is_true x ≡ true) same holds
+
+  -- the value of a term with one bit
+  bit_true : (t : ℕ) (b : Literal) → sort_of s.terms.nodes t ≡ sort.Bool → lit_true v b ≡ true → AreBitsOf v (sort_of s.terms.nodes t) (b ∷ []) (value given s.terms.nodes t) → is_true (value given s.terms.nodes t) ≡ true
+  bit_true t b truth holds bits =
+      let means = subst (λ w. AreBitsOf v w (b ∷ []) (value given s.terms.nodes t)) truth bits in
+      let own : b ≡ means.0 = let q = means.1 in cc in
+      ap is_true means.2 ∙ ap (lit_true v) (sym own) ∙ holds
+
+  model_of : AreSatisfied s.terms.nodes log (roots s) s.scopes.live v → All (HasTrueSelector s.terms.nodes log v) s.scopes.live → All (HasTrueBit log v) (assumptions s) → IsModel s (interpretation_of values)
+  model_of satisfied selected assumed =
+      let h = terms_valued given s.terms.nodes (Contains satisfied.reached) log v state.terms stands (record {
+        first = satisfied.first;
+        closed = satisfied.closed;
+        steps = satisfied.terms;
+        constants = λ t n b among w e. constant_bits t n b w e;
+      }) in
+      record {
+        asserted = λ k a lt.
+            (let r = selected k a lt in
+            let step = satisfied.selectors k a lt in
+            let reached : Contains satisfied.reached (get_or s.scopes.live k a).term = roots_live (Contains satisfied.reached) s satisfied.among k a lt in
+            let own : is_true (value given s.terms.nodes r.selector.term) ≡ true = h.selectors (get_or s.scopes.live k a).assertion step.0 r.selector (subst (Contains satisfied.reached) (sym r.term) reached) r.made step.1 step.2 r.holds in
+            let holds : is_true (value given s.terms.nodes (get_or s.scopes.live k a).term) ≡ true = subst (λ t. is_true (value given s.terms.nodes t) ≡ true) r.term own in
+            true_over (get_or s.scopes.live k a).term (state.closed.terms k a lt) holds);
+        assumed = λ k a lt.
+            (let r = assumed k a lt in
+            let own = state.assumed k a lt in
+            let t = (get_or (assumptions s) k a).term in
+            let reached : Contains satisfied.reached (get_or (assumptions s) k a).term = roots_assumed (Contains satisfied.reached) s satisfied.among k a lt in
+            true_over t own.closed (bit_true t r.bit own.truth r.holds (h.bits t (r.bit ∷ []) reached r.bits)));
+      }
 
   sorted_of : (xs : List (ℕ × Value)) → AllByRecursion (IsDeclaredValue s.symbols.signatures s.terms.nodes log v) xs → All (λ (p : ℕ × Value). IsOfSignature p.1 (slice_get s.symbols.signatures p.0)) xs
   sorted_of [] h k d lt = absurd (omega (arith, lt))
@@ -357,25 +388,17 @@ module _ (s : StateValue) (log : LogValue) (v : ℕ → Bool) (values : List (�
   written_all [] h = tt
   written_all (p ∷ ps) h = (h.0.value.written, written_all ps h.1)
 
-  pub written_model : AreAllTrue log v → All (HasTrueSelector s.terms.nodes log v) s.scopes.live → AreWritten (Sat values) × IsWrittenModel s values
-  written_model true_clauses selected = (written_all values items.each, record { listed = items.listed; sorted = sorted_of values items.each; model = model_of true_clauses selected })
+  pub written_model : AreSatisfied s.terms.nodes log (roots s) s.scopes.live v → All (HasTrueSelector s.terms.nodes log v) s.scopes.live → All (HasTrueBit log v) (assumptions s) → AreWritten (Sat values) × IsWrittenModel s values
+  written_model satisfied selected assumed = (written_all values items.each, record { listed = items.listed; sorted = sorted_of values items.each; model = model_of satisfied selected assumed })
 
--- ---- assignments
+-- ---- values of literals under the numbers of their variables
 
-same_at : (values : List Bool) (x : ℕ) → slice_index_or values x false ≡ unwrap_or (slice_get values x) false
-same_at [] x = refl
-same_at (b ∷ values) zero = refl
-same_at (b ∷ values) (suc x) = same_at values x
+pub literal_named : (names : List ℕ) (v : ℕ → Bool) (l near : Literal) → AreNames names → near.variable < length names → global names near ≡ l → lit_true v near ≡ lit_true (global_values names v) l
+literal_named names v l near are lt e = sym (literal_value names v near are.once lt) ∙ ap (lit_true (global_values names v)) e
 
-pub same_assignment : (values : List Bool) → assignment values ≡ assigned values
-same_assignment values = λ i x. at x i
+pub literal_unnamed : (names : List ℕ) (v : ℕ → Bool) (l : Literal) → length names ≤ number_of names l.variable → not l.positive ≡ lit_true (global_values names v) l
+literal_unnamed names v l le = go l.positive
   where
-    at : (x : ℕ) → assignment values x ≡ assigned values x
-    at zero = refl
-    at (suc x) = same_at values x
-
-pub model_written : (s : StateValue) (log : LogValue) (values given : List Bool) (items : List (ℕ × Value)) → given ≡ values → IsState s → AreTerms s.terms → Stands s.terms.nodes log → AreDeclaredValues s log (assigned given) s.symbols.live items
-    → AreAllTrue log (assignment values) → All (HasTrueSelector s.terms.nodes log (assignment values)) s.scopes.live → AreWritten (Sat items) × IsWrittenModel s items
-model_written s log values given items e state terms stands h true_clauses selected =
-    let same : assignment values ≡ assigned given = same_assignment values ∙ ap assigned (sym e) in
-    written_model s log (assigned given) items state terms stands h (subst (AreAllTrue log) same true_clauses) (subst (λ f. All (HasTrueSelector s.terms.nodes log f) s.scopes.live) same selected)
+    go : (b : Bool) → not b ≡ (if b then global_values names v l.variable else not (global_values names v l.variable))
+    go true = sym (value_without names v l.variable le)
+    go false = sym (ap not (value_without names v l.variable le))

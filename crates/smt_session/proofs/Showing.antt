@@ -15,8 +15,9 @@ use Rattle.smt_values.specs.Held.{meaning}
 use Rattle.script_state.specs.States.{StateValue, IsState, IsPlainConstant}
 use Rattle.proof_log.specs.declared.entry.Entry.{Entry}
 use Rattle.proof_text.specs.declared.record.Record.{Record}
-use Rattle.proof_text.specs.declared.record.Record.TheVariants.{Sat, Unsat}
+use Rattle.proof_text.specs.declared.record.Record.TheVariants.{Sat, Unsat, Unknown}
 use Rattle.accepted_proof.specs.Models.{IsOfSignature}
+use Rattle.accepted_proof.specs.Searching.{Limits}
 use Rattle.accepted_proof.specs.Turns.{IsShown}
 use Rattle.smt_session.specs.Reads.{HasDigit, HaveDigits}
 
@@ -42,6 +43,7 @@ digits_of : (signatures : List Signature) (values : List (ℕ × Value)) → All
 digits_of signatures [] all h = tt
 digits_of signatures (p ∷ ps) all h = (constant_digit signatures p.0 p.1 (slice_get signatures p.0) all refl h.0, digits_of signatures ps all h.1)
 
-pub shown_digits : (s : StateValue) (log : List Entry) (r : Record) → IsState s → IsShown s s.terms.nodes log r → HaveDigits r
-shown_digits s log (Sat values) state h = digits_of s.symbols.signatures values state.constants (recursion_from_All _ _ h.1.sorted)
-shown_digits s log (Unsat p) state h = tt
+pub shown_digits : (limits : Limits) (s : StateValue) (log : List Entry) (r : Record) → IsState s → IsShown limits s s.terms.nodes log r → HaveDigits r
+shown_digits limits s log (Sat values) state h = digits_of s.symbols.signatures values state.constants (recursion_from_All _ _ h.1.sorted)
+shown_digits limits s log (Unsat p) state h = tt
+shown_digits limits s log (Unknown d) state h = tt

@@ -1,11 +1,14 @@
 -- Bits and selectors stay where a log grows.
-use Rattle.std.proofs.Common.{◌≡◌, ℕ, zero, suc, ◌+◌, ◌<◌, Bool, false, take, ⊎_elim, List, [], ◌∷◌, ◌++◌, length, get_or, Option, Some, None, refl, sym, ap, ◌∙◌, subst, append_assoc, append-nil, arith}
-use Rattle.std.specs.Prelude.{map, IsSome, is_some, Contains}
+use Rattle.std.proofs.Common.{◌≡◌, ℕ, zero, suc, ◌+◌, ◌<◌, ◌≤◌, false, take, ⊎_elim, List, [], ◌∷◌, ◌++◌, length, get_or, Option, Some, None, refl, sym, ap, ◌∙◌, subst, append_assoc, append-nil, arith}
+use Rattle.std.specs.Prelude.{map, IsSome, is_some, All, Contains}
 use Rattle.std.specs.Option.{option_map}
 use Rattle.std.proofs.lemmas.Bool.{cases_lt}
 use Rattle.std.proofs.lemmas.List.{take_more}
+use Rattle.std.proofs.lemmas.List.Elements.{All-contains}
 use Rattle.cnf_base.specs.Literals.{Literal}
 use Rattle.smt_terms.specs.Bits.{bits_in}
+use Rattle.smt_terms.specs.Nodes.{node_at}
+use Rattle.smt_terms.specs.Terms.{IsTerm}
 use Rattle.scope_selectors.specs.declared.live.Live.{Live}
 use Rattle.script_state.specs.States.{StateValue}
 use Rattle.proof_log.specs.declared.entry.Entry.{Entry}
@@ -16,7 +19,14 @@ use Rattle.proof_log.proofs.Growing.{each_append}
 use Rattle.proof_log.proofs.Standing.{stands_over}
 use Rattle.proof_log.proofs.Staying.{log_stays}
 use Rattle.smt_session.specs.Growing.{IsStepFor, AreStepsFor, Grows, HasBits, AreSelectors}
-use Rattle.smt_session.specs.Reaching.{is_marked, IsMarked}
+use Rattle.smt_session.specs.Reaching.{AreOrdered}
+use Rattle.smt_session.proofs.PlainTerms.{earlier_arguments}
+use Rattle.smt_session.proofs.Reached.{contains_at, all_contained}
+
+pub any_default : (xs : List ℕ) (k d e : ℕ) → k < length xs → get_or xs k d ≡ get_or xs k e
+any_default [] k d e lt = absurd (omega arith)
+any_default (x ∷ xs) zero d e lt = refl
+any_default (x ∷ xs) (suc k) d e lt = any_default xs k d e (omega arith)
 
 pub some_value : {A : Type 0} (o : Option A) → IsSome o → (x : A) × (o ≡ Some x)
 some_value None h = let f : ⊥ = cc in absurd f
@@ -54,14 +64,17 @@ grows_more s a b c g h = record {
 grown : (s : StateValue) (old new : LogValue) (g : Grows s old new) → StaysLog s.terms.nodes old.entries g.added
 grown s old new g = log_stays s.terms.nodes old.entries g.added (subst (IsLog s.terms.nodes) g.entries (stands_over s.terms.nodes new g.stands).steps)
 
-pub bits_stay : (s : StateValue) (old new : LogValue) (t : ℕ) → Stands s.terms.nodes old → Grows s old new → HasBits old t → HasBits new t
-bits_stay s old new t h g has =
+pub bit_stays : (s : StateValue) (old new : LogValue) (t : ℕ) (row : List Literal) → Stands s.terms.nodes old → Grows s old new → bits_in old.bits t ≡ Some row → bits_in new.bits t ≡ Some row
+bit_stays s old new t row h g e =
     let nodes = s.terms.nodes in
     let a = stands_over s.terms.nodes old h in
     let b = stands_over s.terms.nodes new g.stands in
+    b.bits t ∙ ap (λ es. (state_of nodes es).bits t) g.entries ∙ (grown s old new g).bits t row (sym (a.bits t) ∙ e)
+
+pub bits_stay : (s : StateValue) (old new : LogValue) (t : ℕ) → Stands s.terms.nodes old → Grows s old new → HasBits old t → HasBits new t
+bits_stay s old new t h g has =
     let r = some_value (bits_in old.bits t) has in
-    is_some_of (bits_in new.bits t) r.0
-    (b.bits t ∙ ap (λ es. (state_of nodes es).bits t) g.entries ∙ (grown s old new g).bits t r.0 (sym (a.bits t) ∙ r.1))
+    is_some_of (bits_in new.bits t) r.0 (bit_stays s old new t r.0 h g r.1)
 
 pub selector_stays : (s : StateValue) (old new : LogValue) (a : ℕ) (l : Literal) → Stands s.terms.nodes old → Grows s old new → selector_in old.selectors a ≡ Some l → selector_in new.selectors a ≡ Some l
 selector_stays s old new a l h g e =
@@ -110,32 +123,47 @@ selector_of l (a ∷ live) (g ∷ given) x (suc k) e lt at =
     let r = selector_of l live given x k rest (omega arith) at in
     (r.0, (suc r.1.0, omega (arith, r.1.1), r.1.2), r.2)
 
--- what has no bits had none
-pub still_none : (s : StateValue) (old new : LogValue) (t : ℕ) → Stands s.terms.nodes old → Grows s old new → bits_in new.bits t ≡ None → bits_in old.bits t ≡ None
-still_none s old new t h g e =
-    none_of_not (bits_in old.bits t) (λ has. (let k : IsSome (bits_in new.bits t) = bits_stay s old new t h g has in let n : is_some (bits_in new.bits t) ≡ false = ap is_some e in let q : ⊥ = cc in q))
-
 -- what look-ups tell
 pub none_mapped : {A B : Type 0} (f : A → B) (r : Option A) (o : Option B) → option_map f r ≡ o → is_some r ≡ false → o ≡ None
 none_mapped f None o e h = sym e
 none_mapped f (Some x) o e h = let q : ⊥ = cc in absurd q
 
--- the marked terms up to one have bits
-pub record AreEncoded (s : StateValue) (old new : LogValue) (marks : List Bool) (bound : ℕ) : Type 0 where
+-- the terms of the list from a place on have bits
+pub record AreEncoded (s : StateValue) (old new : LogValue) (reached : List ℕ) (at : ℕ) : Type 0 where
   pub grows : Grows s old new
-  pub done : (t : ℕ) → t < bound → IsMarked marks t → HasBits new t
+  pub done : (k d : ℕ) → at ≤ k → k < length reached → HasBits new (get_or reached k d)
 
-pub encoded_more : (s : StateValue) (old mid new : LogValue) (marks : List Bool) (t : ℕ) → AreEncoded s old mid marks t → Grows s mid new → HasBits new t → AreEncoded s old new marks (t + 1)
-encoded_more s old mid new marks t h g here = record {
+pub encoded_none : (s : StateValue) (old : LogValue) (reached : List ℕ) (at : ℕ) → Stands s.terms.nodes old → length reached ≤ at → AreEncoded s old old reached at
+encoded_none s old reached at h le = record { grows = grows_none s old h; done = λ k d ge lt. absurd (omega (arith, le, ge, lt)) }
+
+pub encoded_more : (s : StateValue) (old mid new : LogValue) (reached : List ℕ) (at t : ℕ) → AreEncoded s old mid reached (suc at) → Grows s mid new → ((d : ℕ) → t ≡ get_or reached at d) → HasBits new t → AreEncoded s old new reached at
+encoded_more s old mid new reached at t h g own here = record {
   grows = grows_more s old mid new h.grows g;
-  done = λ u lt m. ⊎_elim (λ less. bits_stay s mid new u h.grows.stands g (h.done u less m)) (λ ge. (let q : t ≡ u = omega (arith, lt, ge) in subst (HasBits new) q here)) (cases_lt u t);
+  done = λ k d ge lt.
+      ⊎_elim
+      (λ same. (let e : at ≡ k = omega (arith, same, ge) in subst (λ i. HasBits new (get_or reached i d)) e (subst (HasBits new) (own d) here)))
+      (λ later. bits_stay s mid new (get_or reached k d) h.grows.stands g (h.done k d later lt))
+      (cases_lt k (suc at));
 }
 
-pub encoded_same : (s : StateValue) (old new : LogValue) (marks : List Bool) (t : ℕ) → AreEncoded s old new marks t → is_marked marks t ≡ false → AreEncoded s old new marks (t + 1)
-encoded_same s old new marks t h none = record {
-  grows = h.grows;
-  done = λ u lt m. ⊎_elim (λ less. h.done u less m) (λ ge. (let q : t ≡ u = omega (arith, lt, ge) in let e : is_marked marks u ≡ false = subst (λ x. is_marked marks x ≡ false) q none in let f : ⊥ = cc in absurd f)) (cases_lt u t);
-}
+-- arguments of a term of the list stand behind it
+pub encoded_arguments : (s : StateValue) (old new : LogValue) (reached : List ℕ) (at d t : ℕ) → AreOrdered s.terms.nodes reached → AreEncoded s old new reached (suc at) → at < length reached → t ≡ get_or reached at d → IsTerm s.terms.nodes t → All (HasBits new) (node_at s.terms.nodes t).args
+encoded_arguments s old new reached at d t ordered h lt own term =
+    all_contained (HasBits new) (node_at s.terms.nodes t).args (λ u p.
+    let in_it : Contains reached t = subst (Contains reached) (sym own) (contains_at reached at d lt) in
+    let k = ordered.closed t u in_it p in
+    let less : u < t = All-contains (λ a. a < t) (node_at s.terms.nodes t).args u (earlier_arguments s.terms.nodes t term) p in
+    let here : get_or reached k.0 u ≡ u = k.2 in
+    let place : t ≡ get_or reached at u = own ∙ any_default reached at d u lt in
+    let behind : suc at ≤ k.0 =
+    ⊎_elim
+    (λ (before : k.0 < at). (let f : get_or reached at u < get_or reached k.0 u = ordered.falling k.0 at u before lt in absurd (omega arith)))
+    (λ (le : at ≤ k.0). ⊎_elim
+    (λ (same : k.0 < suc at). (let e : k.0 ≡ at = omega (arith, le, same) in let f : get_or reached at u ≡ u = ap (λ i. get_or reached i u) (sym e) ∙ here in absurd (omega arith)))
+    (λ (later : suc at ≤ k.0). later)
+    (cases_lt k.0 (suc at)))
+    (cases_lt k.0 at) in
+    subst (HasBits new) here (h.done k.0 u behind k.1))
 
 -- one assertion more has its selector
 pub chosen_more : (s : StateValue) (mid new : LogValue) (live : List Live) (given more : List Literal) (k : ℕ) (a : Live) (x : Literal) → k < length live → a ≡ get_or live k a → Stands s.terms.nodes mid → Grows s mid new → AreSelectors mid (take k live) given → selector_in new.selectors a.assertion ≡ Some x → more ≡ given ++ x ∷ [] → AreSelectors new (take (k + 1) live) more

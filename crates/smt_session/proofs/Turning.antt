@@ -1,39 +1,30 @@
 -- The steps of a check are those of a turn, and its record is one that may end it.
-use Rattle.std.proofs.Common.{◌≡◌, ℕ, suc, List, [], ◌∷◌, ◌++◌, length, Option, Some, refl, sym, ap, ◌∙◌, subst, append_assoc, arith, length-append}
-use Rattle.std.specs.Prelude.{map, slice_get, Contains, IsSome, Bool, true}
+use Rattle.std.proofs.Common.{◌≡◌, ℕ, List, [], ◌∷◌, ◌++◌, Option, Some, refl, sym, ap, ◌∙◌, subst, inl, inr, ⊎_elim, arith}
+use Rattle.std.specs.Prelude.{◌⊎◌, map, slice_get, Contains, IsSome, Bool, true}
 use Rattle.std.specs.List.{AllByRecursion}
-use Rattle.std.proofs.lemmas.List.Elements.{All-contains, All-from_recursion, recursion_from_All}
+use Rattle.std.proofs.lemmas.List.Elements.{All-contains, All-from_recursion, All-weaker, recursion_from_All, Contains-append_cases}
 use Rattle.cnf_base.specs.Literals.{Literal, negated}
 use Rattle.cnf_base.specs.Clauses.{lit_true}
 use Rattle.cnf_base.proofs.Codes.{negated-negated}
-use Rattle.cnf_base.specs.declared.clause.ClauseId.{ClauseId}
-use Rattle.smt_terms.specs.declared.node.Node.{Node}
 use Rattle.smt_terms.specs.Terms.{TermsValue, IsTermList}
 use Rattle.scope_selectors.specs.declared.live.Live.{Live}
-use Rattle.script_state.specs.States.{StateValue}
+use Rattle.script_state.specs.States.{StateValue, assumptions}
 use Rattle.proof_log.specs.declared.entry.Entry.{Entry}
 use Rattle.proof_log.specs.declared.entry.Entry.TheVariants as step
 use Rattle.proof_log.specs.Logs.{Asserted, LogState, start, clause_at, IsStep, state_of, AreSteps, IsLog}
 use Rattle.proof_log.specs.Faults.{IsValid, MakesNoTerm}
 use Rattle.proof_log.specs.Stored.{LogValue, Stands, selector_in}
-use Rattle.proof_log.proofs.Ordered.{steps_length, log_is_ordered}
+use Rattle.proof_log.specs.Boards.{IsOfSearch, Grows as Prolongs}
+use Rattle.proof_log.proofs.Ordered.{log_is_ordered}
 use Rattle.proof_log.proofs.Standing.{stands_over}
 use Rattle.proof_log.proofs.Staying.{state_from-append, steps_parts}
 use Rattle.proof_text.specs.Entries.{entry_line}
-use Rattle.plain_search.specs.declared.Chain.{Chain}
-use Rattle.plain_search.specs.declared.Outcome.{Outcome}
-use Rattle.plain_search.specs.declared.Verdict.TheVariants.{Refuted}
-use Rattle.plain_search.specs.Searches.{IsRefuted, IsVerdict}
-use Rattle.smt_values.specs.declared.value.Value.{Value}
-use Rattle.proof_text.specs.Records.{AreWritten}
-use Rattle.proof_text.specs.declared.record.Record.TheVariants.{Sat, Unsat}
-use Rattle.accepted_proof.specs.Models.{IsWrittenModel}
-use Rattle.accepted_proof.specs.Turns.{AreStepsOf, with_step, with_steps, IsAgainst, IsRefutation}
-use Rattle.smt_session.specs.Growing.{IsStepFor, AreStepsFor, AreLined, Grows, AreSelectors}
-use Rattle.smt_session.specs.Searched.{IsFound, HasTrueSelector, chain_step}
-use Rattle.smt_session.specs.Sessions.{IsChecked}
-use Rattle.smt_session.proofs.Staying.{some_literal, selector_of, selector_stays}
-use Rattle.smt_session.proofs.Chains.{found_last}
+use Rattle.cube_tree.specs.Closing.{Closes}
+use Rattle.accepted_proof.specs.Turns.{AreStepsOf, with_step, with_steps, IsAgainstOne, IsRefutation}
+use Rattle.smt_session.specs.Growing.{IsStepFor, AreStepsFor, AreLined, Grows, AreGiven, AreSelectors}
+use Rattle.smt_session.specs.Searched.{HasTrueSelector}
+use Rattle.smt_session.proofs.Staying.{some_literal, selector_of, selector_stays, bit_stays}
+use Rattle.smt_session.proofs.Giving.{bit_of}
 
 -- ---- the steps
 
@@ -80,38 +71,36 @@ are_steps s old new g =
 
 -- ---- refutations
 
-length_steps : (nodes : List Node) (es : List Entry) → length (state_of nodes es).clauses ≡ suc (length es)
-length_steps nodes es = steps_length nodes start es ∙ omega arith
-
--- the last step's clause stands at the last position
-last_stands : (nodes : List Node) (es more : List Entry) (c : List Literal) (hints : List ClauseId) → more ≡ es ++ step.Chain c hints ∷ [] → clause_at (state_of nodes more).clauses (record { pos = length more; part = 0 }) ≡ Some c
-last_stands nodes es more c hints e =
-    let at : length more ≡ length (state_of nodes es).clauses = ap length e ∙ length-append es (step.Chain c hints ∷ []) ∙ omega arith ∙ sym (length_steps nodes es) in
-    ap (λ r. clause_at (state_of nodes r).clauses (record { pos = length more; part = 0 })) e
-    ∙ ap (λ r. clause_at r.clauses (record { pos = length more; part = 0 })) (state_from-append nodes start es (step.Chain c hints ∷ []))
-    ∙ found_last (state_of nodes es).clauses c (length more) at
-
-map_append : {A B : Type 0} (f : A → B) (xs ys : List A) → map f (xs ++ ys) ≡ map f xs ++ map f ys
-map_append f [] ys = refl
-map_append f (x ∷ xs) ys = ap (λ r. f x ∷ r) (map_append f xs ys)
-
-against : (s : StateValue) (old new : LogValue) (given : List Literal) (c : List Literal) → Stands s.terms.nodes old → Grows s old new → AreSelectors old s.scopes.live given → AllByRecursion (λ l. Contains given (negated l)) c → AllByRecursion (IsAgainst s s.terms.nodes new.entries) c
-against s old new given [] h g e all = tt
-against s old new given (l ∷ c) h g e all =
-    let a = selector_of old s.scopes.live given (negated l) all.0.0 e all.0.1 all.0.2 in
+-- a given literal is the selector of a live assertion, or the bit of an assumption
+given_of : (s : StateValue) (old new : LogValue) (given : List Literal) (l : Literal) → Stands s.terms.nodes old → Grows s old new → AreGiven s old given → Contains given (negated l) → IsAgainstOne s s.terms.nodes new.entries l
+given_of s old new given l h g e among =
+    ⊎_elim
+    (λ (c : Contains e.selectors (negated l)).
+    (let a = selector_of old s.scopes.live e.selectors (negated l) c.0 e.chosen c.1 c.2 in
     let now = selector_stays s old new a.0.assertion (negated l) h g a.2 in
     let r = some_literal _ (negated l) (sym ((stands_over s.terms.nodes new g.stands).selectors a.0.assertion) ∙ now) in
-    (record { assertion = a.0; live = a.1; selector = r.0; made = r.1; negation = sym (ap negated r.2 ∙ negated-negated l) }, against s old new given c h g e all.1)
+    inl (record { assertion = a.0; live = a.1; selector = r.0; made = r.1; negation = sym (ap negated r.2 ∙ negated-negated l) })))
+    (λ (c : Contains e.bits (negated l)).
+    (let a = bit_of old (assumptions s) e.bits (negated l) c.0 e.assumed c.1 c.2 in
+    let now = bit_stays s old new a.0.term (negated l ∷ []) h g a.2 in
+    inr (record { assumption = a.0; assumed = a.1; bit = negated l; bits = sym ((stands_over s.terms.nodes new g.stands).bits a.0.term) ∙ now; negation = sym (negated-negated l) })))
+    (Contains-append_cases e.selectors e.bits (negated l) (subst (λ (xs : List Literal). Contains xs (negated l)) e.all among))
 
-pub refutation : (s : StateValue) (old new : LogValue) (given : List Literal) (chains : List Chain) → Stands s.terms.nodes old → Grows s old new → new.entries ≡ old.entries ++ map chain_step chains → AreSelectors old s.scopes.live given → IsRefuted given chains → IsRefutation s s.terms.nodes new.entries (length new.entries)
-refutation s old new given chains h g e selectors r =
-    let split : new.entries ≡ (old.entries ++ map chain_step r.earlier) ++ chain_step r.last ∷ [] =
-    e ∙ ap (λ x. old.entries ++ map chain_step x) r.split ∙ ap (λ x. old.entries ++ x) (map_append chain_step r.earlier (r.last ∷ [])) ∙ sym (append_assoc old.entries (map chain_step r.earlier) (chain_step r.last ∷ [])) in
-    record {
-      clause = r.last.clause;
-      stands = last_stands s.terms.nodes (old.entries ++ map chain_step r.earlier) new.entries r.last.clause r.last.hints.items split;
-      against = against s old new given r.last.clause h g selectors (recursion_from_All _ _ r.against);
-    }
+against : (s : StateValue) (old new : LogValue) (given : List Literal) (c : List Literal) → Stands s.terms.nodes old → Grows s old new → AreGiven s old given → AllByRecursion (λ l. Contains given (negated l)) c → AllByRecursion (IsAgainstOne s s.terms.nodes new.entries) c
+against s old new given [] h g e all = tt
+against s old new given (l ∷ c) h g e all = (given_of s old new given l h g e all.0, against s old new given c h g e all.1)
+
+-- a clause of opposites of given literals alone
+pub refutation : (s : StateValue) (old new : LogValue) (given : List Literal) (at : ℕ) → Stands s.terms.nodes old → Grows s old new → AreGiven s old given
+    → Closes (clause_at (state_of s.terms.nodes new.entries).clauses) given [] at → IsRefutation s s.terms.nodes new.entries at
+refutation s old new given at h g e closes = record {
+  clause = closes.clause;
+  stands = closes.found;
+  against =
+      against s old new given closes.clause h g e
+      (recursion_from_All (λ l. Contains given (negated l)) closes.clause
+      (All-weaker (λ l. Contains [] (negated l) ⊎ Contains given (negated l)) (λ l. Contains given (negated l)) (λ l. ⊎_elim (λ q. absurd (omega (arith, q.1))) (λ q. q)) closes.clause closes.closing));
+}
 
 -- ---- selectors of live assertions
 
@@ -141,21 +130,14 @@ true_selectors s l v (a ∷ live) (x ∷ given) listed h each known e all =
 
 -- ---- what a check comes to
 
-chain_steps : (s : StateValue) (chains : List Chain) → AreStepsFor s (map chain_step chains)
-chain_steps s [] = tt
-chain_steps s (c ∷ cs) = ((tt, tt), chain_steps s cs)
+search_steps : (s : StateValue) (es : List Entry) → AllByRecursion IsOfSearch es → AreStepsFor s es
+search_steps s [] h = tt
+search_steps s (step.Node n ∷ es) h = absurd h.0
+search_steps s (step.Leaf t ∷ es) h = absurd h.0
+search_steps s (step.Encode t ∷ es) h = absurd h.0
+search_steps s (step.Selector a t ∷ es) h = absurd h.0
+search_steps s (step.Chain c hints ∷ es) h = ((tt, tt), search_steps s es h.1)
 
-grows_by_chains : (s : StateValue) (old new : LogValue) (chains : List Chain) → new.entries ≡ old.entries ++ map chain_step chains → Stands s.terms.nodes new → Grows s old new
-grows_by_chains s old new chains e h = record { added = map chain_step chains; entries = e; each = chain_steps s chains; stands = h }
-
-pub model_checked : (s : StateValue) (old new : LogValue) (chains : List Chain) (values : List (ℕ × Value)) → new.entries ≡ old.entries ++ map chain_step chains → Stands s.terms.nodes new → AreWritten (Sat values) × IsWrittenModel s values → IsChecked s old new (Sat values)
-model_checked s old new chains values e h shown = record { grows = grows_by_chains s old new chains e h; shown = shown }
-
-pub refuted_checked : (s : StateValue) (old new : LogValue) (given : List Literal) (chains : List Chain) (p : ℕ) → Stands s.terms.nodes old → new.entries ≡ old.entries ++ map chain_step chains → Stands s.terms.nodes new → AreSelectors old s.scopes.live given → IsRefuted given chains → p ≡ length new.entries → IsChecked s old new (Unsat p)
-refuted_checked s old new given chains p before e h selectors refuted at = record {
-  grows = grows_by_chains s old new chains e h;
-  shown = subst (IsRefutation s s.terms.nodes new.entries) (sym at) (refutation s old new given chains before (grows_by_chains s old new chains e h) e selectors refuted);
-}
-
-pub found_refuted : (log : LogValue) (given : List Literal) (found : Outcome) → IsFound log given found → found.verdict ≡ Refuted → IsRefuted given found.chains.items
-found_refuted log given found f e = subst (IsVerdict f.held given found.chains.items) e f.outcome.verdict
+-- a log that searches added to
+pub grows_by_searches : (s : StateValue) (old new : LogValue) → Prolongs old.entries new.entries → Stands s.terms.nodes new → Grows s old new
+grows_by_searches s old new g h = record { added = g.more; entries = g.is; each = search_steps s g.more g.of_search; stands = h }

@@ -28,7 +28,7 @@ use Rattle.proof_log.proofs.Settled.{stands_settled}
 use Rattle.proof_log.proofs.Standing.{stands_over}
 use Rattle.proof_log.proofs.Staying.{state_from-append}
 use Rattle.smt_session.specs.Growing.{HasBits}
-use Rattle.smt_session.proofs.Marking.{plain_op}
+use Rattle.smt_session.proofs.PlainTerms.{plain_op}
 use Rattle.smt_session.proofs.Staying.{some_value, is_some_of}
 
 -- ---- rows of arguments

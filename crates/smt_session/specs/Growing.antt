@@ -1,12 +1,13 @@
 -- A log that grows by the steps of a check.
-use Rattle.std.specs.Prelude.{◌≡◌, ◌<◌, ℕ, List, ◌++◌, length, map, slice_get, Some, IsSome}
+use Rattle.std.specs.Prelude.{◌≡◌, ◌<◌, ℕ, List, [], ◌∷◌, ◌++◌, length, map, slice_get, Some, IsSome}
 use Rattle.std.specs.List.{AllByRecursion}
 use Rattle.cnf_base.specs.Literals.{Literal}
 use Rattle.smt_terms.specs.declared.sort.Sort.TheVariants as sort
 use Rattle.smt_terms.specs.Terms.{sort_of}
 use Rattle.smt_terms.specs.Bits.{bits_in}
 use Rattle.scope_selectors.specs.declared.live.Live.{Live}
-use Rattle.script_state.specs.States.{StateValue}
+use Rattle.script_state.specs.declared.answer.Asked.{Asked}
+use Rattle.script_state.specs.States.{StateValue, assumptions}
 use Rattle.proof_log.specs.declared.entry.Entry.{Entry}
 use Rattle.proof_log.specs.Faults.{MakesNoTerm}
 use Rattle.proof_log.specs.Stored.{LogValue, Stands, selector_in}
@@ -44,3 +45,21 @@ pub record IsAsserted (s : StateValue) (a : Live) : Type 0 where
 -- these are the selectors of the assertions, in order
 abbrev pub AreSelectors : LogValue → List Live → List Literal → Type 0
 AreSelectors log live given = map (λ (a : Live). selector_in log.selectors a.assertion) live ≡ map Some given
+
+-- ---- what a check assumes
+
+-- the term has one bit
+abbrev pub HasBit : LogValue → ℕ → Type 0
+HasBit log t = (l : Literal) × (bits_in log.bits t ≡ Some (l ∷ []))
+
+-- these are the bits of the assumptions, in order
+abbrev pub AreBits : LogValue → List Asked → List Literal → Type 0
+AreBits log asked given = map (λ (a : Asked). bits_in log.bits a.term) asked ≡ map (λ l. Some (l ∷ [])) given
+
+-- these are the selectors of the live assertions, and then the bits of the assumptions
+pub record AreGiven (s : StateValue) (log : LogValue) (given : List Literal) : Type 0 where
+  pub selectors : List Literal
+  pub bits : List Literal
+  pub all : given ≡ selectors ++ bits
+  pub chosen : AreSelectors log s.scopes.live selectors
+  pub assumed : AreBits log (assumptions s) bits

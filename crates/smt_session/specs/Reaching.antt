@@ -1,36 +1,29 @@
--- Which terms live assertions reach that have no bits yet.
-use Rattle.std.specs.Prelude.{◌≡◌, ℕ, ◌≤◌, Bool, true, false, List, None, All, length, slice_index_or}
+-- Which terms some terms reach, through all arguments.
+use Rattle.std.specs.Prelude.{◌≡◌, ◌⊎◌, ℕ, ◌<◌, ◌≤◌, true, List, All, AllPairs, Contains, length}
 use Rattle.smt_terms.specs.declared.node.Node.{Node}
-use Rattle.smt_terms.specs.Nodes.{node_at}
-use Rattle.smt_terms.specs.Bits.{TermBits, bits_in}
-use Rattle.scope_selectors.specs.declared.live.Live.{Live}
 use Rattle.script_state.specs.Plain.{is_plain}
+use Rattle.proof_log.specs.Assigned.{AreClosed}
 
--- whether the term has a mark
-abbrev pub is_marked : List Bool → ℕ → Bool
-is_marked marks t = slice_index_or marks t false
+-- a plain term that there is
+abbrev pub IsPlainTerm : List Node → ℕ → Type 0
+IsPlainTerm nodes t = (t < length nodes) × (is_plain nodes t ≡ true)
 
-abbrev pub IsMarked : List Bool → ℕ → Type 0
-IsMarked marks t = is_marked marks t ≡ true
+-- plain terms, closed under arguments, each of which stands before all that were made earlier
+pub record AreOrdered (nodes : List Node) (reached : List ℕ) : Type 0 where
+  pub plain : All (IsPlainTerm nodes) reached
+  pub closed : AreClosed nodes (Contains reached)
+  pub falling : AllPairs (λ a b. b < a) reached
 
--- a mark or none for each term, and only plain terms have one
-pub record AreMarks (nodes : List Node) (marks : List Bool) : Type 0 where
-  pub count : length marks ≡ length nodes
-  pub plain : (t : ℕ) → IsMarked marks t → is_plain nodes t ≡ true
+-- the term is the greatest of the waiting ones below the bound, and those after it wait on
+pub record IsNext (bound : ℕ) (old new : List ℕ) (t : ℕ) : Type 0 where
+  pub below : t < bound
+  pub among : Contains old t
+  pub rest : (u : ℕ) → Contains old u → (bound ≤ u) ⊎ ((u ≡ t) ⊎ Contains new u)
+  pub fewer : (u : ℕ) → Contains new u → Contains old u
+  pub greatest : (u : ℕ) → Contains new u → u ≤ t
 
--- the arguments of this term have marks, if it has one and no bits
-abbrev pub IsClosedAt : List Node → List TermBits → List Bool → ℕ → Type 0
-IsClosedAt nodes bits marks t = IsMarked marks t → bits_in bits t ≡ None → All (IsMarked marks) (node_at nodes t).args
-
--- the terms of these assertions have marks, and with a term that has no bits its arguments
-pub record AreReached (nodes : List Node) (bits : List TermBits) (live : List Live) (marks : List Bool) : Type 0 where
-  pub each : AreMarks nodes marks
-  pub asserted : All (λ (a : Live). IsMarked marks a.term) live
-  pub closed : (t : ℕ) → IsClosedAt nodes bits marks t
-
--- these terms got marks, and only terms before a bound
-pub record Marks (nodes : List Node) (bound : ℕ) (old new : List Bool) (args : List ℕ) : Type 0 where
-  pub marks : AreMarks nodes new
-  pub kept : (t : ℕ) → IsMarked old t → IsMarked new t
-  pub same : (t : ℕ) → bound ≤ t → IsMarked new t → IsMarked old t
-  pub given : All (IsMarked new) args
+-- the terms of both lists, in any order
+pub record IsUnion (a b both : List ℕ) : Type 0 where
+  pub only : (u : ℕ) → Contains both u → Contains a u ⊎ Contains b u
+  pub first : (u : ℕ) → Contains a u → Contains both u
+  pub second : (u : ℕ) → Contains b u → Contains both u

@@ -5,7 +5,7 @@ use Rattle.smt_values.specs.declared.value.Value.{Value}
 use Rattle.smt_values.specs.declared.value.Value.TheVariants as kept
 use Rattle.proof_log.specs.declared.entry.Entry.{Entry}
 use Rattle.proof_text.specs.declared.record.Record.{Record}
-use Rattle.proof_text.specs.declared.record.Record.TheVariants.{Sat, Unsat}
+use Rattle.proof_text.specs.declared.record.Record.TheVariants.{Sat, Unsat, Unknown}
 use Rattle.proof_text.specs.Lines.{IsLine}
 use Rattle.proof_text.specs.Entries.{entry_line}
 
@@ -24,3 +24,4 @@ HasDigit (kept.Fun f) = Unit {0}
 abbrev pub HaveDigits : Record → Type 0
 HaveDigits (Sat values) = AllByRecursion (λ (p : ℕ × Value). HasDigit p.1) values
 HaveDigits (Unsat p) = Unit {0}
+HaveDigits (Unknown d) = Unit {0}

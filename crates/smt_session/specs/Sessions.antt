@@ -1,10 +1,11 @@
 -- What contracts see of a session.
-use Rattle.std.specs.Prelude.{◌≡◌, ℕ, Bool, true, false, List, ◌++◌, Option}
+use Rattle.std.specs.Prelude.{◌≡◌, ℕ, ◌<◌, Bool, true, false, List, ◌++◌, length, All, Option}
 use Rattle.std.specs.List.{flat_map, AllByRecursion}
 use Rattle.std.specs.Io.KnownBytes.{Appends}
 use Rattle.smt_text.specs.declared.chunk.Chunk.{Chunk}
 use Rattle.script_state.specs.declared.answer.Answer.{Answer}
-use Rattle.script_state.specs.declared.answer.Answer.TheVariants.{Exit}
+use Rattle.script_state.specs.declared.answer.Answer.TheVariants.{Values, Exit}
+use Rattle.script_state.specs.declared.answer.Asked.{Asked}
 use Rattle.script_state.specs.Readings.{ReadsAs}
 use Rattle.script_state.specs.States.{StateValue, IsState}
 use Rattle.script_state.specs.Steps.{ends}
@@ -12,16 +13,23 @@ use Rattle.proof_log.specs.declared.entry.Entry.{Entry}
 use Rattle.proof_log.specs.Stored.{LogValue, Stands}
 use Rattle.proof_text.specs.declared.record.Record.{Record}
 use Rattle.proof_text.specs.Lines.{line_text, IsLine}
+use Rattle.accepted_proof.specs.Searching.{Limits}
 use Rattle.accepted_proof.specs.Turns.{Turn, IsTurn, IsShown, HasProof, with_steps, concluded_by, state_after}
 use Rattle.accepted_proof.specs.Answers.{answer_text, is_error, is_refused, last_shown, shown_lines, step_lines, turn_lines, turn_text}
 use Rattle.smt_session.specs.declared.response.Response.{Response}
+use Rattle.smt_session.specs.declared.settings.Settings.{Settings}
 use Rattle.smt_session.specs.Growing.{AreStepsFor, Grows}
 
--- the state of the commands, the log of the checks, and the record of the last check
+-- the limits that settings give
+abbrev pub limits_of : Settings → Limits
+limits_of s = record { cubes = s.cubes; budget = s.budget }
+
+-- the state of the commands, the log of the checks, the record of the last check, and the limits of every check
 pub record SessionValue : Type 0 where
   pub state : StateValue
   pub log : LogValue
   pub shown : Option Record
+  pub limits : Limits
 
 -- the commands left a state, the log stands over its terms, and the steps are for the script
 pub record IsSession (s : StateValue) (log : LogValue) : Type 0 where
@@ -38,38 +46,49 @@ abbrev pub is_end : Answer → Bool
 is_end Exit = true
 is_end _ = false
 
--- the log grew by the steps of a check, which the record may end
-pub record IsChecked (s : StateValue) (old new : LogValue) (r : Record) : Type 0 where
-  pub grows : Grows s old new
-  pub shown : IsShown s s.terms.nodes new.entries r
+-- whether the values of terms are to be printed, which are then forgotten
+abbrev pub asks_values : Answer → Bool
+asks_values (Values asked) = true
+asks_values _ = false
 
--- How what the state says of a command is answered, which begins on this line, where the last check before has a record;
--- and what the state, the log and the record of the last check are then.
-pub record Responds (line : ℕ) (answer : Answer) (s s' : StateValue) (old new : LogValue) (last now : Option Record) (r : Response) (written written' : Option (List ℕ)) : Type 0 where
+-- the terms are held that values are asked of
+abbrev pub AreHeld : StateValue → Answer → Type 0
+AreHeld s (Values asked) = All (λ (a : Asked). a.term < length s.terms.nodes) asked
+AreHeld s _ = Unit {0}
+
+-- the log grew by the steps of a check, which the record may end within these limits
+pub record IsChecked (limits : Limits) (s : StateValue) (old new : LogValue) (r : Record) : Type 0 where
+  pub grows : Grows s old new
+  pub shown : IsShown limits s s.terms.nodes new.entries r
+
+-- How what the state says of a command is answered within these limits, which begins on this line, where the last check
+-- before has a record; and what the state, before terms are forgotten, the log and the record of the last check are then.
+pub record Responds (limits : Limits) (line : ℕ) (answer : Answer) (s s' : StateValue) (old new : LogValue) (last now : Option Record) (r : Response) (written written' : Option (List ℕ)) : Type 0 where
   pub steps : List Entry
   pub shown : Option Record
-  pub proof : HasProof answer s old.entries steps shown
+  pub proof : HasProof limits answer s old.entries steps shown
   pub state : s' ≡ concluded_by (with_steps s steps) shown
   pub log : new.entries ≡ old.entries ++ steps
   pub kept : now ≡ last_shown last shown
   pub lines : Appends written written' (flat_map line_text (step_lines steps ++ shown_lines shown))
   pub readable : AllByRecursion IsLine (step_lines steps ++ shown_lines shown)
-  pub text : r.text ≡ answer_text line answer s last shown
+  pub text : r.text ≡ answer_text line answer s old.entries last shown
   pub error : r.error ≡ is_error answer
   pub ends : r.ends ≡ is_end answer
 
--- The command is applied, and what is answered and written is that of a turn which may follow. Each line that is written can
--- be read.
+-- The command is applied, and what is answered and written is that of a turn which may follow within the limits, which stay.
+-- Each line that is written can be read.
 pub record IsAnswered (chunk : Chunk) (old new : SessionValue) (r : Response) (written written' : Option (List ℕ)) : Type 0 where
   pub turn : Turn
   pub line : turn.line ≡ chunk.line
   pub reads : ReadsAs chunk turn.says
-  pub stands : IsTurn old.state old.log.entries turn
+  pub stands : IsTurn old.limits old.state old.log.entries turn
   pub state : new.state ≡ state_after old.state turn
   pub log : new.log.entries ≡ old.log.entries ++ turn.steps
   pub shown : new.shown ≡ last_shown old.shown turn.shown
+  pub limits : new.limits ≡ old.limits
   pub lines : Appends written written' (flat_map line_text (turn_lines turn))
   pub readable : AllByRecursion IsLine (turn_lines turn)
-  pub text : r.text ≡ turn_text old.state old.shown turn
+  pub text : r.text ≡ turn_text old.state old.log.entries old.shown turn
   pub error : r.error ≡ is_refused turn
   pub ends : r.ends ≡ ends turn.says

@@ -2,21 +2,30 @@
 
 ghost use Rattle.std.specs.Prelude.{◌≡◌, ◌++◌, ◌-◌, ◌<◌, IfOk, OnOk, drop, length};
 ghost use Rattle.std.specs.List.{flat_map, AllByRecursion};
+ghost use Rattle.proof_log.specs.Stored.{Stands};
 ghost use Rattle.proof_text.specs.Lines.{line_text, IsLine};
 ghost use Rattle.proof_text.specs.Records.{AreWritten, record_lines};
 ghost use Rattle.accepted_proof.specs.Answers.{step_lines};
+ghost use Rattle.accepted_proof.specs.Searching.{roots, AreLimits, Rise, cube_variables};
 ghost use Rattle.accepted_proof.specs.Turns.{verdict_of};
-ghost use Rattle.smt_session.specs.Growing.{AreSelectors, AreLined};
+ghost use Rattle.check_cubes.specs.Searches.{limits_of};
+ghost use Rattle.smt_session.specs.Growing.{AreGiven, AreLined};
 ghost use Rattle.smt_session.specs.Reads.{HaveDigits};
+ghost use Rattle.smt_session.specs.Searched.{AreEnough};
 ghost use Rattle.smt_session.specs.Sessions.{IsChecked, IsSession};
 
-use crate::encoding::{encode_all, select_all};
+use crate::encoding::encode_all;
+use crate::given::give;
+use crate::learnt::add_learnt;
 use crate::model::model;
-use crate::reach::reach;
+use crate::positions::positions;
+use crate::reach::{reach, roots};
 use crate::readable::{read_record, read_step};
-use crate::solve::{push_chains, solve};
+use crate::solve::{Found, Searched, solve};
+use crate::workspace::Workspace;
+use check_cubes::{Limits, cube_variables};
 use cnf_base::{Lit, Pos};
-use plain_search::{Outcome, Verdict as Found};
+use cube_tree::Tree;
 use proof_log::Log;
 use proof_text::entry::write_entry;
 use proof_text::record::{Record, write_record};
@@ -32,44 +41,108 @@ pub(crate) fn verdict_of(shown: &Record) -> Verdict
     match shown {
         Record::Sat(_) => Verdict::Sat,
         Record::Unsat(_) => Verdict::Unsat,
+        Record::Unknown(_) => Verdict::Unknown,
     }
 }
 
-/// Searches for a verdict over the selectors of the live assertions, adds the clauses that the search learnt, and gives the
-/// record that shows the verdict.
+/// The cubes of a check: those of the variables by which the limits split it.
+fn split(alloc: Global, state: &State, log: &Log, limits: Limits) -> Result<Tree, AllocError>
+    requires limits { AreLimits (limits_of limits) }
+    requires stands { Stands state.now.terms.nodes log.now }
+    ensures variables { IfOk result (λ t. t ≡ cube_variables (limits_of limits) state.now state.now.terms.nodes log.now.entries) }
+    ensures rise { IfOk result (λ t. Rise 2 log.now.next t) }
+{
+    let variables = cube_variables(alloc, state, log, limits)?;
+    Tree::split(alloc, variables.as_slice(), limits.cubes)
+}
+
+/// What a check leaves to the next one, and its record.
+#[derive(Drop)]
+struct Concluded {
+    workspace: Workspace,
+    shown: Record,
+}
+
+/// Searches the cubes of a check under the selectors of the live assertions and the bits of the assumptions, over these steps
+/// and what earlier checks learnt of their variables, and gives the record that shows what was found.
 fn conclude(
     alloc: Global,
     state: &State,
-    log: &mut Log,
+    workspace: Workspace,
+    steps: Vec<Pos>,
     given: &[Lit],
-) -> Result<Record, AllocError>
-    requires session { IsSession state.now log.old }
-    requires given { AreSelectors log.old state.now.scopes.live given.now }
-    ensures { IfOk result (IsChecked state.now log.old log.new) }
+    limits: Limits,
+) -> Result<Concluded, AllocError>
+    requires session { IsSession state.now workspace.log }
+    requires steps { AreEnough state.now.terms.nodes workspace.log (roots state.now) state.now.scopes.live steps.items }
+    requires given { AreGiven state.now workspace.log given.now }
+    requires limits { AreLimits (limits_of limits) }
+    ensures { IfOk result (λ c. IsChecked (limits_of limits) state.now workspace.log c.workspace.log c.shown) }
 {
-    let Outcome { chains, verdict } = solve(alloc, state.terms(), log, given)?;
-    match verdict {
+    let Workspace { log, mut names } = workspace;
+    let tree = split(alloc, state, &log, limits)?;
+    let mut positions = steps;
+    add_learnt(alloc, &log, &mut names, &mut positions)?;
+    let Searched { workspace, found } = solve(
+        alloc,
+        state.terms(),
+        Workspace { log, names },
+        positions.as_slice(),
+        &tree,
+        given,
+        limits.budget,
+    )?;
+    match found {
+        Found::Refuted(at) => Ok(Concluded {
+            workspace,
+            shown: Record::Unsat(at),
+        }),
         Found::Model(values) => {
-            let values = model(alloc, state, log, values)?;
-            push_chains(alloc, state.terms(), log, chains.as_slice())?;
-            Ok(Record::Sat(values))
+            let values = model(
+                alloc,
+                state,
+                &workspace.log,
+                &workspace.names,
+                values.as_slice(),
+            )?;
+            Ok(Concluded {
+                workspace,
+                shown: Record::Sat(values),
+            })
         }
-        Found::Refuted => {
-            push_chains(alloc, state.terms(), log, chains.as_slice())?;
-            Ok(Record::Unsat(log.len() - 1))
-        }
+        Found::Spent(diary) => Ok(Concluded {
+            workspace,
+            shown: Record::Unknown(diary),
+        }),
     }
 }
 
-/// Gives what the live assertions reach its bits, searches for a verdict, and gives the record that shows it.
-fn check(alloc: Global, state: &State, log: &mut Log) -> Result<Record, AllocError>
-    requires { IsSession state.now log.old }
-    ensures { IfOk result (IsChecked state.now log.old log.new) }
+/// Gives what the live assertions and the assumptions reach its bits, searches for a verdict, and gives the record that
+/// shows it.
+fn check(
+    alloc: Global,
+    state: &State,
+    workspace: Workspace,
+    limits: Limits,
+) -> Result<Concluded, AllocError>
+    requires session { IsSession state.now workspace.log }
+    requires limits { AreLimits (limits_of limits) }
+    ensures { IfOk result (λ c. IsChecked (limits_of limits) state.now workspace.log c.workspace.log c.shown) }
 {
-    let marks = reach(alloc, state, log)?;
-    encode_all(alloc, state, log, marks.as_slice())?;
-    let given = select_all(alloc, state, log, state.live())?;
-    conclude(alloc, state, log, given.as_slice())
+    let Workspace { mut log, names } = workspace;
+    let roots = roots(alloc, state)?;
+    let reached = reach(alloc, state.terms(), roots.as_slice())?;
+    encode_all(alloc, state, &mut log, reached.as_slice())?;
+    let given = give(alloc, state, &mut log)?;
+    let steps = positions(alloc, state.terms(), &log, reached.as_slice(), state.live())?;
+    conclude(
+        alloc,
+        state,
+        Workspace { log, names },
+        steps,
+        given.as_slice(),
+        limits,
+    )
 }
 
 /// Appends the lines of the steps from a position on.
@@ -107,22 +180,33 @@ fn lines(alloc: Global, log: &Log, from: Pos, shown: &Record) -> Result<Text, Al
     Ok(out)
 }
 
-/// The record of a check, and the lines of its steps and the record.
+/// What a check leaves to the next one, its record, and the lines of its steps and the record.
 #[derive(Drop)]
 pub(crate) struct Checked {
+    pub(crate) workspace: Workspace,
     pub(crate) shown: Record,
     pub(crate) text: Text,
 }
 
-/// Checks the live assertions, and prints the lines of the check.
-pub(crate) fn run_check(alloc: Global, state: &State, log: &mut Log) -> Result<Checked, AllocError>
-    requires { IsSession state.now log.old }
-    ensures checked { IfOk result (λ c. IsChecked state.now log.old log.new c.shown) }
-    ensures text { IfOk result (λ c. c.text ≡ flat_map line_text (step_lines (drop (length log.old.entries) log.new.entries)) ++ flat_map line_text (record_lines c.shown)) }
-    ensures readable { IfOk result (λ c. AllByRecursion IsLine (step_lines (drop (length log.old.entries) log.new.entries) ++ record_lines c.shown)) }
+/// Checks the live assertions under the assumptions within the limits, and prints the lines of the check.
+pub(crate) fn run_check(
+    alloc: Global,
+    state: &State,
+    workspace: Workspace,
+    limits: Limits,
+) -> Result<Checked, AllocError>
+    requires session { IsSession state.now workspace.log }
+    requires limits { AreLimits (limits_of limits) }
+    ensures checked { IfOk result (λ c. IsChecked (limits_of limits) state.now workspace.log c.workspace.log c.shown) }
+    ensures text { IfOk result (λ c. c.text ≡ flat_map line_text (step_lines (drop (length workspace.log.entries) c.workspace.log.entries)) ++ flat_map line_text (record_lines c.shown)) }
+    ensures readable { IfOk result (λ c. AllByRecursion IsLine (step_lines (drop (length workspace.log.entries) c.workspace.log.entries) ++ record_lines c.shown)) }
 {
-    let from = log.len();
-    let shown = check(alloc, state, log)?;
-    let text = lines(alloc, log, from, &shown)?;
-    Ok(Checked { shown, text })
+    let from = workspace.log.len();
+    let Concluded { workspace, shown } = check(alloc, state, workspace, limits)?;
+    let text = lines(alloc, &workspace.log, from, &shown)?;
+    Ok(Checked {
+        workspace,
+        shown,
+        text,
+    })
 }

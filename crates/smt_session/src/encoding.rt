@@ -4,12 +4,13 @@ ghost use Rattle.std.specs.Prelude.{◌≡◌, ◌<◌, ℕ, All, IfOk, IsTrue, 
 ghost use Rattle.scope_selectors.specs.declared.live.Live.{Live as LiveValue};
 ghost use Rattle.smt_terms.specs.Bits.{bits_in};
 ghost use Rattle.smt_terms.specs.Nodes.{node_at};
+ghost use Rattle.smt_terms.specs.Terms.{IsTermList};
 ghost use Rattle.smt_terms.specs.Scalars.{is_fixed};
 ghost use Rattle.script_state.specs.Plain.{is_plain, is_plain_op};
 ghost use Rattle.proof_log.specs.Logs.{constant_width};
 ghost use Rattle.proof_log.specs.Stored.{Stands, selector_in};
 ghost use Rattle.smt_session.specs.Growing.{Grows, HasBits, IsAsserted, AreSelectors};
-ghost use Rattle.smt_session.specs.Reaching.{AreReached};
+ghost use Rattle.smt_session.specs.Reaching.{AreOrdered};
 
 use cnf_base::Lit;
 use proof_log::Log;
@@ -48,22 +49,23 @@ fn encode(alloc: Global, state: &State, log: &mut Log, term: TermId) -> Result<(
     Ok(())
 }
 
-/// Gives each marked term bits, and so each live assertion's.
+/// Gives each of the terms bits, the last of them first.
 pub(crate) fn encode_all(
     alloc: Global,
     state: &State,
     log: &mut Log,
-    marks: &[bool],
+    reached: &[TermId],
 ) -> Result<(), AllocError>
-    requires reached { AreReached state.now.terms.nodes log.old.bits state.now.scopes.live marks.now }
+    requires listed { IsTermList state.now.terms.nodes }
+    requires ordered { AreOrdered state.now.terms.nodes reached.now }
     requires stands { Stands state.now.terms.nodes log.old }
     ensures grows { IfOk result (λ _. Grows state.now log.old log.new) }
-    ensures bits { IfOk result (λ _. All (λ (a : LiveValue). HasBits log.new a.term) state.now.scopes.live) }
+    ensures bits { IfOk result (λ _. All (HasBits log.new) reached.now) }
 {
-    'terms: for term in 0..state.terms().len() {
-        if marks[term as usize] {
-            encode(alloc, state, log, term)?;
-        }
+    let mut at = reached.len();
+    'terms: while at > 0 {
+        at -= 1;
+        encode(alloc, state, log, reached[at])?;
     }
     Ok(())
 }

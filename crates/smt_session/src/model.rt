@@ -1,22 +1,27 @@
 // The values of the live declarations in an assignment of the log's variables.
 
-ghost use Rattle.std.specs.Prelude.{◌≡◌, true, All, IfOk, position};
+ghost use Rattle.std.specs.Prelude.{◌≡◌, true, All, IfOk, length, position};
+ghost use Rattle.cnf_base.specs.Clauses.{lit_true, number};
+ghost use Rattle.local_names.specs.Names.{global_values};
+ghost use Rattle.smt_words.specs.Words.{word};
 ghost use Rattle.smt_terms.specs.declared.node.Op.TheVariants.{Constant};
 ghost use Rattle.smt_terms.specs.Nodes.{leaf};
 ghost use Rattle.smt_terms.specs.Same.{same_node};
 ghost use Rattle.smt_terms.specs.Terms.{AreTerms, IsSort};
-ghost use Rattle.bit_blast.specs.Assigned.{assigned};
+ghost use Rattle.bit_blast.specs.Assigned.{IsLongAsWord};
 ghost use Rattle.script_state.specs.Plain.{is_plain_sort};
-ghost use Rattle.script_state.specs.States.{IsState};
-ghost use Rattle.plain_search.specs.Searches.{assignment};
+ghost use Rattle.script_state.specs.States.{IsState, assumptions};
+ghost use Rattle.cube_search.specs.Ends.{assignment};
 ghost use Rattle.proof_log.specs.Stored.{Stands};
 ghost use Rattle.proof_text.specs.Records.{AreWritten};
 ghost use Rattle.proof_text.specs.declared.record.Record.TheVariants.{Sat};
 ghost use Rattle.accepted_proof.specs.Models.{IsWrittenModel};
-ghost use Rattle.smt_session.specs.Searched.{AreAllTrue, HasTrueSelector};
+ghost use Rattle.accepted_proof.specs.Searching.{roots};
+ghost use Rattle.smt_session.specs.Searched.{AreSatisfied, HasTrueBit, HasTrueSelector};
 ghost use Rattle.smt_session.specs.Modeled.{IsValueIn, AreDeclaredValues};
 
-use bit_blast::Assignment;
+use cnf_base::Lit;
+use local_names::LocalNames;
 use proof_log::Log;
 use proof_text::record::DeclaredValues;
 use script_state::state::State;
@@ -24,6 +29,7 @@ use smt_terms::node::{Node, Op, TermId};
 use smt_terms::sort::{DeclId, Sort};
 use smt_terms::terms::{TERM_LIMIT, Terms};
 use smt_values::Value;
+use smt_words::Word;
 use std::alloc::{AllocError, Global};
 
 /// The term of a declared constant, if there is one.
@@ -34,12 +40,44 @@ fn constant_term(alloc: Global, terms: &Terms, declaration: DeclId, sort: Sort) 
     terms.find(&node)
 }
 
+/// Whether a literal under the number of its variable is true. Variables past the end are false.
+fn near_value(values: &[bool], near: Lit) -> bool
+    ensures { result ≡ lit_true (assignment values.now) near }
+{
+    let place = near.variable() as usize;
+    let value = values.get(place).copied().unwrap_or(false);
+    value == near.is_positive()
+}
+
+/// Whether a literal is true, where each variable has the value of its number, and one without a number is false.
+fn literal_value(names: &LocalNames, values: &[bool], literal: Lit) -> bool
+    ensures { result ≡ lit_true (global_values names.now (assignment values.now)) literal }
+{
+    match names.find(literal) {
+        Some(near) => near_value(values, near),
+        None => !literal.is_positive(),
+    }
+}
+
+/// The word with these bits.
+fn word_value(names: &LocalNames, values: &[bool], row: &[Lit]) -> Word
+    requires { IsLongAsWord row.now }
+    ensures { result ≡ word (length row.now) (number (global_values names.now (assignment values.now)) row.now) }
+{
+    let mut value: u128 = 0;
+    for i in (0..row.len()).rev() {
+        value = value * 2 + u128::from(literal_value(names, values, row[i]));
+    }
+    Word::new(row.len() as u32, value).unwrap()
+}
+
 /// The value of a declared constant: the one whose bits those of its term are, and false or zero where its term has none.
 fn constant_value(
     alloc: Global,
     terms: &Terms,
     log: &Log,
-    assignment: &Assignment,
+    names: &LocalNames,
+    values: &[bool],
     declaration: DeclId,
     sort: Sort,
 ) -> Value
@@ -47,7 +85,7 @@ fn constant_value(
     requires stands { Stands terms.now.nodes log.now }
     requires plain { is_plain_sort sort ≡ true }
     requires widths { IsSort sort }
-    ensures { IsValueIn terms.now.nodes log.now (assigned assignment.now) declaration sort result }
+    ensures { IsValueIn terms.now.nodes log.now (global_values names.now (assignment values.now)) declaration sort result }
 {
     let Some(term) = constant_term(alloc, terms, declaration, sort) else {
         return Value::default(alloc, sort)
@@ -56,8 +94,8 @@ fn constant_value(
         return Value::default(alloc, sort)
     };
     match sort {
-        Sort::Bool => Value::Bool(assignment.value(row[0])),
-        _ => Value::Word(assignment.word_of(log.bits(), term)),
+        Sort::Bool => Value::Bool(literal_value(names, values, row[0])),
+        _ => Value::Word(word_value(names, values, row)),
     }
 }
 
@@ -66,12 +104,13 @@ fn declared_values(
     alloc: Global,
     state: &State,
     log: &Log,
-    assignment: &Assignment,
+    names: &LocalNames,
+    values: &[bool],
 ) -> Result<Vec<(DeclId, Value)>, AllocError>
     requires stands { Stands state.now.terms.nodes log.now }
     ensures state { IsState state.now }
     ensures terms { AreTerms state.now.terms }
-    ensures values { IfOk result (λ items. AreDeclaredValues state.now log.now (assigned assignment.now) state.now.symbols.live items.items) }
+    ensures values { IfOk result (λ items. AreDeclaredValues state.now log.now (global_values names.now (assignment values.now)) state.now.symbols.live items.items) }
 {
     let terms = state.terms();
     // The contract of `len` says, beside their number, that no two terms are equal.
@@ -80,26 +119,27 @@ fn declared_values(
     let mut items = Vec::new(alloc);
     for live in state.declared() {
         let sort = state.signature(live.declaration).unwrap().value;
-        let value = constant_value(alloc, terms, log, assignment, live.declaration, sort);
+        let value = constant_value(alloc, terms, log, names, values, live.declaration, sort);
         items.push((live.declaration, value))?;
     }
     Ok(items)
 }
 
-/// The values of the live declarations where the variables from 1 on have these values: they are a model of the live
-/// assertions.
+/// The values of the live declarations where each variable has the value of its number: they are a model of the live
+/// assertions and the assumptions.
 pub(crate) fn model(
     alloc: Global,
     state: &State,
     log: &Log,
-    values: Vec<bool>,
+    names: &LocalNames,
+    values: &[bool],
 ) -> Result<DeclaredValues, AllocError>
     requires stands { Stands state.now.terms.nodes log.now }
-    requires clauses { AreAllTrue log.now (assignment values.items) }
-    requires selectors { All (HasTrueSelector state.now.terms.nodes log.now (assignment values.items)) state.now.scopes.live }
+    requires satisfied { AreSatisfied state.now.terms.nodes log.now (roots state.now) state.now.scopes.live (global_values names.now (assignment values.now)) }
+    requires selectors { All (HasTrueSelector state.now.terms.nodes log.now (global_values names.now (assignment values.now))) state.now.scopes.live }
+    requires assumed { All (HasTrueBit log.now (global_values names.now (assignment values.now))) (assumptions state.now) }
     ensures { IfOk result (λ values. AreWritten (Sat values) × IsWrittenModel state.now values) }
 {
-    let assignment = Assignment::new(values);
-    let items = declared_values(alloc, state, log, &assignment)?;
+    let items = declared_values(alloc, state, log, names, values)?;
     Ok(DeclaredValues::from_vec(items))
 }

@@ -1,77 +1,48 @@
-// Which terms the live assertions reach that have no bits yet.
+// Which terms some terms reach, through all arguments.
 
-ghost use Rattle.std.specs.Prelude.{◌≡◌, ◌<◌, ◌≤◌, ℕ, [], ◌∷◌, true, false, All, IfOk, length};
-ghost use Rattle.smt_terms.specs.Nodes.{node_at};
-ghost use Rattle.scope_selectors.specs.declared.live.Live.{Live as LiveValue};
-ghost use Rattle.script_state.specs.Plain.{is_plain};
-ghost use Rattle.smt_session.specs.Reaching.{AreMarks, AreReached, IsMarked, Marks};
+ghost use Rattle.std.specs.Prelude.{◌≡◌, All, IfOk, Contains};
+ghost use Rattle.accepted_proof.specs.Searching.{roots};
+ghost use Rattle.smt_session.specs.Reaching.{IsPlainTerm, AreOrdered};
 
-use proof_log::Log;
-use scope_selectors::live::Live;
+use crate::waiting::Waiting;
 use script_state::state::State;
 use smt_terms::node::TermId;
 use smt_terms::terms::Terms;
 use std::alloc::{AllocError, Global};
 
-/// Marks a plain term.
-fn mark(terms: &Terms, marks: &mut [bool], term: TermId)
-    requires held { term < length terms.now.nodes }
-    requires plain { is_plain terms.now.nodes term ≡ true }
-    requires marks { AreMarks terms.now.nodes marks.old }
-    ensures { (bound : ℕ) → term < bound → Marks terms.now.nodes bound marks.old marks.new (term ∷ []) }
+/// The terms of the live assertions, and then those of the assumptions.
+pub(crate) fn roots(alloc: Global, state: &State) -> Result<Vec<TermId>, AllocError>
+    ensures roots { IfOk result (λ r. r.items ≡ roots state.now) }
+    ensures plain { IfOk result (λ r. All (IsPlainTerm state.now.terms.nodes) r.items) }
 {
-    marks[term as usize] = true;
-}
-
-/// Marks the arguments of a plain term.
-fn mark_arguments(terms: &Terms, marks: &mut [bool], term: TermId)
-    requires held { term < length terms.now.nodes }
-    requires plain { is_plain terms.now.nodes term ≡ true }
-    requires marks { AreMarks terms.now.nodes marks.old }
-    ensures { Marks terms.now.nodes term marks.old marks.new (node_at terms.now.nodes term).args }
-{
-    let arguments = terms.node(term).args.as_slice();
-    'arguments: for argument in arguments {
-        mark(terms, marks, *argument);
+    let mut found = Vec::new(alloc);
+    'live: for assertion in state.live() {
+        found.push(assertion.term)?;
     }
-}
-
-/// Marks the terms of assertions.
-fn mark_live(terms: &Terms, marks: &mut [bool], live: &[Live])
-    requires held { All (λ (a : LiveValue). a.term < length terms.now.nodes) live.now }
-    requires plain { All (λ (a : LiveValue). is_plain terms.now.nodes a.term ≡ true) live.now }
-    requires marks { AreMarks terms.now.nodes marks.old }
-    ensures marks { AreMarks terms.now.nodes marks.new }
-    ensures live { All (λ (a : LiveValue). IsMarked marks.new a.term) live.now }
-{
-    'live: for assertion in live {
-        mark(terms, marks, assertion.term);
+    'assumed: for assumption in state.assumptions() {
+        found.push(assumption.term)?;
     }
+    Ok(found)
 }
 
-/// Marks what marked terms without bits have as arguments, from the last term to the first.
-fn mark_below(terms: &Terms, log: &Log, marks: &mut [bool], live: &[Live])
-    requires marks { AreMarks terms.now.nodes marks.old }
-    requires live { All (λ (a : LiveValue). IsMarked marks.old a.term) live.now }
-    ensures { AreReached terms.now.nodes log.now.bits live.now marks.new }
+/// The terms that plain terms reach, themselves among them: each once, the last made first. No other term is visited.
+pub(crate) fn reach(
+    alloc: Global,
+    terms: &Terms,
+    from: &[TermId],
+) -> Result<Vec<TermId>, AllocError>
+    requires plain { All (IsPlainTerm terms.now.nodes) from.now }
+    ensures ordered { IfOk result (λ r. AreOrdered terms.now.nodes r.items) }
+    ensures from { IfOk result (λ r. All (Contains r.items) from.now) }
 {
-    let mut term = terms.len();
-    'terms: while term > 0 {
-        term -= 1;
-        if marks[term as usize] && log.bits().of(term).is_none() {
-            mark_arguments(terms, marks, term);
-        }
+    let mut waiting = Waiting::new(alloc);
+    waiting.push_all(from)?;
+    let mut reached = Vec::new(alloc);
+    let mut bound = terms.len();
+    'terms: while let Some(term) = waiting.pop_below(bound) {
+        waiting.push_all(terms.node(term).args.as_slice())?;
+        reached.push(term)?;
+        bound = term;
     }
-}
-
-/// A mark for each term that the live assertions reach and that has no bits yet.
-pub(crate) fn reach(alloc: Global, state: &State, log: &Log) -> Result<Vec<bool>, AllocError>
-    ensures { IfOk result (λ marks. AreReached state.now.terms.nodes log.now.bits state.now.scopes.live marks.items) }
-{
-    let terms = state.terms();
-    let mut marks = Vec::new(alloc);
-    marks.resize(terms.len() as usize, false)?;
-    mark_live(terms, &mut marks, state.live());
-    mark_below(terms, log, &mut marks, state.live());
-    Ok(marks)
+    Ok(reached)
 }

@@ -4,12 +4,15 @@
 ghost use Rattle.std.specs.Prelude.{map, IfSome};
 ghost use Rattle.std.specs.List.{AllByRecursion};
 ghost use Rattle.smt_values.specs.declared.value.Value.{Value as Held};
+ghost use Rattle.proof_text.specs.declared.line.Line.TheVariants as Line;
 ghost use Rattle.proof_text.specs.Lines.{IsNumber, IsHead, IsLiteral, IsHint, IsLine};
 ghost use Rattle.proof_text.specs.Entries.{head_of, written_literal, written_hint};
-ghost use Rattle.proof_text.specs.Records.{value_lines, record_lines};
+ghost use Rattle.proof_text.specs.Records.{value_lines, diary_line, record_lines};
+ghost use Rattle.proof_text.specs.declared.record.Record.TheVariants.{Unknown};
 ghost use Rattle.smt_session.specs.Reads.{IsReadable, HasDigit, HaveDigits};
 
 use cnf_base::{Clause, ClauseId, Lit, Pos};
+use proof_log::diary::{Diary, DiaryLine};
 use proof_log::entry::{Entry, Hints};
 use proof_text::record::Record;
 use smt_terms::node::{Node, Op, TermId};
@@ -130,6 +133,48 @@ fn read_values(values: &[(DeclId, Value)])
     }
 }
 
+/// A line of a diary.
+fn read_diary_line(line: DiaryLine)
+    ensures { IsLine (diary_line line) }
+{
+    match line {
+        DiaryLine::Take(at) => {
+            let _number = at;
+        }
+        DiaryLine::Put(at) => {
+            let _number = at;
+        }
+        DiaryLine::Drop(at) => {
+            let _number = at;
+        }
+    }
+}
+
+/// The lines of a diary.
+fn read_diary_lines(lines: &[DiaryLine])
+    ensures { AllByRecursion IsLine (map diary_line lines.now) }
+{
+    for line in lines {
+        read_diary_line(*line);
+    }
+}
+
+/// The first line of a diary.
+fn read_beginning(cube: u32, start: Pos, count: usize)
+    ensures { IsLine (Line.Unknown cube start count) }
+{
+    let _numbers = (cube, start, count);
+}
+
+/// A diary.
+fn read_diary(diary: &Diary)
+    ensures { AllByRecursion IsLine (record_lines (Unknown diary.now)) }
+{
+    let lines = diary.lines.as_slice();
+    read_beginning(diary.cube, diary.start, lines.len());
+    read_diary_lines(lines);
+}
+
 /// The lines of a record.
 pub(crate) fn read_record(shown: &Record)
     requires { HaveDigits shown.now }
@@ -142,5 +187,6 @@ pub(crate) fn read_record(shown: &Record)
         Record::Unsat(place) => {
             let _number = *place;
         }
+        Record::Unknown(diary) => read_diary(diary),
     }
 }

@@ -1,15 +1,13 @@
 // What a command is answered, and why it is not.
 
 ghost use Rattle.std.specs.Prelude.{◌≡◌, ◌∷◌, ◌++◌, [], true, false, IfOk};
-ghost use Rattle.accepted_proof.specs.Answers.{error_text, verdict_text, done_text, model_text};
+ghost use Rattle.accepted_proof.specs.Answers.{error_text, verdict_text, done_text};
 ghost use Rattle.smt_session.specs.Sessions.{response};
 
-use crate::texts::{model_text, push_decimal};
-use proof_text::record::Record;
+use crate::texts::push_decimal;
 use script_state::answer::Verdict;
 use script_state::error_text::ErrorText;
 use script_state::options::Options;
-use script_state::state::State;
 use smt_text::text::Text;
 use std::alloc::{AllocError, Global};
 
@@ -75,11 +73,7 @@ impl Response {
     {
         let mut text = line;
         text.push(b'\n')?;
-        Ok(Response {
-            text,
-            error: false,
-            ends: false,
-        })
+        Ok(Response::told(text))
     }
 
     /// An error.
@@ -107,25 +101,17 @@ impl Response {
             Verdict::Unsat => b"unsat\n",
             Verdict::Unknown => b"unknown\n",
         };
-        Ok(Response {
-            text: Text::from_slice(alloc, text)?,
-            error: false,
-            ends: false,
-        })
+        Ok(Response::told(Text::from_slice(alloc, text)?))
     }
 
-    /// The model of the last check's record, where it has one.
-    pub(crate) fn model(
-        alloc: Global,
-        state: &State,
-        last: &Option<Record>,
-    ) -> Result<Response, AllocError>
-        ensures { IfOk result (λ r. r ≡ response (model_text state.now last.now) false false) }
+    /// A text that tells no error.
+    pub(crate) fn told(text: Text) -> Response
+        ensures { result ≡ response text false false }
     {
-        Ok(Response {
-            text: model_text(alloc, state, last)?,
+        Response {
+            text,
             error: false,
             ends: false,
-        })
+        }
     }
 }

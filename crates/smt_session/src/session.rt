@@ -1,15 +1,24 @@
 // Sessions.
 
-ghost use Rattle.std.specs.Prelude.{◌≡◌, ◌≤◌, ℕ, List, [], Option, None, Err, IfOk, OnOk};
+ghost use Rattle.std.specs.Prelude.{◌≡◌, ◌≤◌, ℕ, List, [], Option, None, Err, IfOk, OnOk, true, if◌then◌else◌};
 ghost use Rattle.std.specs.Io.KnownBytes.{Appends};
 ghost use Rattle.smt_desk.specs.Faults.{Rose};
 ghost use Rattle.proof_text.specs.declared.record.Record.{Record as RecordValue};
-ghost use Rattle.script_state.specs.States.{no_state};
-ghost use Rattle.smt_session.specs.Sessions.{IsAnswered, IsSession, Responds};
+ghost use Rattle.script_state.specs.States.{no_state, IsState};
+ghost use Rattle.script_state.specs.Steps.{forgotten};
+ghost use Rattle.accepted_proof.specs.Searching.{AreLimits};
+ghost use Rattle.check_cubes.specs.Searches as check_cubes;
+ghost use Rattle.smt_session.specs.Sessions.{AreHeld, IsAnswered, IsSession, Responds, asks_values, limits_of};
 
-use crate::check::{run_check, verdict_of};
+use crate::check::{Checked, run_check, verdict_of};
+use crate::cores::{assumptions_text, core_text};
 use crate::response::{Response, Stop};
 use crate::settings::Settings;
+use crate::texts::model_text;
+use crate::values::values_text;
+use crate::workspace::Workspace;
+use check_cubes::Limits;
+use local_names::LocalNames;
 use proof_log::Log;
 use proof_text::record::Record;
 use script_state::answer::Answer;
@@ -20,23 +29,25 @@ use smt_text::text::Text;
 use std::alloc::{AllocError, Global};
 use std::marker::Model;
 
-/// The state of a script's commands, the log of its checks, and the record of the last one.
+/// The state of a script's commands, the log of its checks, the record of the last one, and the limits of each.
 #[derive(Drop)]
 pub struct Session {
     state: State,
-    log: Log,
+    workspace: Workspace,
     shown: Option<Record>,
-    settings: Settings,
+    limits: Limits,
 }
 
 impl Model for Session {
+    ghost use Rattle.accepted_proof.specs.Searching.{AreLimits};
+    ghost use Rattle.check_cubes.specs.Searches.{limits_of};
     ghost use Rattle.smt_session.specs.Sessions.{SessionValue, IsSession};
 
     ghost Value = { SessionValue };
 
-    ghost view = { λ s. record { state = s.state; log = s.log; shown = s.shown } };
+    ghost view = { λ s. record { state = s.state; log = s.workspace.log; shown = s.shown; limits = limits_of s.limits } };
 
-    ghost invariant = { λ s. IsSession s.state s.log };
+    ghost invariant = { λ s. IsSession s.state s.workspace.log × AreLimits (limits_of s.limits) };
 }
 
 /// Writes the lines of a check.
@@ -52,37 +63,62 @@ fn write_lines<Q: Sink>(text: &Text, proof: &mut Q) -> Result<(), Stop>
     }
 }
 
-/// A response, and the record of the last check.
+/// A response, the record of the last check, and what the checks leave to the next one.
 #[derive(Drop)]
 struct Reply {
     response: Response,
     shown: Option<Record>,
+    workspace: Workspace,
 }
 
-/// Checks the live assertions, and answers once the lines of the check are written.
+/// Checks the live assertions under the assumptions, and answers once the lines of the check are written.
 fn answer_check<Q: Sink>(
     alloc: Global,
     line: u64,
     state: &mut State,
-    log: &mut Log,
+    workspace: Workspace,
+    limits: Limits,
     proof: &mut Q,
 ) -> Result<Reply, Stop>
-    requires { IsSession state.old log.old }
-    ensures session { IfOk result (λ _. IsSession state.new log.new) }
-    ensures response { IfOk result (λ r. (last : Option RecordValue) → Responds line Answer.Check state.old state.new log.old log.new last r.shown r.response (Q.written proof.old) (Q.written proof.new)) }
+    requires session { IsSession state.old workspace.log }
+    requires limits { AreLimits (check_cubes.limits_of limits) }
+    ensures session { IfOk result (λ r. IsSession state.new r.workspace.log) }
+    ensures response { IfOk result (λ r. (last : Option RecordValue) → Responds (check_cubes.limits_of limits) line Answer.Check state.old state.new workspace.log r.workspace.log last r.shown r.response (Q.written proof.old) (Q.written proof.new)) }
     ensures written { (bytes : List ℕ) × Appends (Q.written proof.old) (Q.written proof.new) bytes }
     ensures failed { result ≡ Err Stop.Failed → Rose (Q.faults proof.old) (Q.faults proof.new) }
     ensures later { Q.faults proof.old ≤ Q.faults proof.new }
 {
-    let checked = run_check(alloc, state, log)?;
-    let verdict = verdict_of(&checked.shown);
+    let Checked {
+        workspace,
+        shown,
+        text,
+    } = run_check(alloc, state, workspace, limits)?;
+    let verdict = verdict_of(&shown);
     let response = Response::verdict(alloc, verdict)?;
-    write_lines(&checked.text, proof)?;
+    write_lines(&text, proof)?;
     state.conclude(verdict);
     Ok(Reply {
         response,
-        shown: Some(checked.shown),
+        shown: Some(shown),
+        workspace,
     })
+}
+
+/// Whether the values of terms are asked for.
+fn asks_values(answer: &Answer) -> bool
+    ensures { result ≡ asks_values answer.now }
+{
+    matches!(answer, Answer::Values(_))
+}
+
+/// Forgets the terms from a number on, where values were asked for.
+fn settle(state: &mut State, asked: bool, len: u32)
+    requires { asked ≡ true → IsState (forgotten state.old len) }
+    ensures { state.new ≡ (if asked then forgotten state.old len else state.old) }
+{
+    if asked {
+        state.forget(len);
+    }
 }
 
 /// Answers what the state says of a command, where the last check has this record.
@@ -92,12 +128,16 @@ fn respond<Q: Sink>(
     answer: Answer,
     last: Option<Record>,
     state: &mut State,
-    log: &mut Log,
+    workspace: Workspace,
+    limits: Limits,
     proof: &mut Q,
 ) -> Result<Reply, Stop>
-    requires { IsSession state.old log.old }
-    ensures session { IfOk result (λ _. IsSession state.new log.new) }
-    ensures response { IfOk result (λ r. Responds line answer state.old state.new log.old log.new last r.shown r.response (Q.written proof.old) (Q.written proof.new)) }
+    requires session { IsSession state.old workspace.log }
+    requires held { AreHeld state.old answer }
+    requires limits { AreLimits (check_cubes.limits_of limits) }
+    ensures session { IfOk result (λ r. IsSession state.new r.workspace.log) }
+    ensures still { asks_values answer ≡ true → IfOk result (λ r. (state.new ≡ state.old) × (r.workspace.log ≡ workspace.log)) }
+    ensures response { IfOk result (λ r. Responds (check_cubes.limits_of limits) line answer state.old state.new workspace.log r.workspace.log last r.shown r.response (Q.written proof.old) (Q.written proof.new)) }
     ensures written { (bytes : List ℕ) × Appends (Q.written proof.old) (Q.written proof.new) bytes }
     ensures failed { result ≡ Err Stop.Failed → Rose (Q.faults proof.old) (Q.faults proof.new) }
     ensures later { Q.faults proof.old ≤ Q.faults proof.new }
@@ -105,34 +145,45 @@ fn respond<Q: Sink>(
     let response = match answer {
         Answer::Done => Response::done(alloc, state.options(), false)?,
         Answer::Refused(error) => Response::refusal(alloc, line, error)?,
-        Answer::Check => return answer_check(alloc, line, state, log, proof),
+        Answer::Check => return answer_check(alloc, line, state, workspace, limits, proof),
         Answer::Says(text) => Response::line(text)?,
-        Answer::Model => Response::model(alloc, state, &last)?,
+        Answer::Model => Response::told(model_text(alloc, state, &last)?),
+        Answer::Values(asked) => Response::told(values_text(
+            alloc,
+            state,
+            &last,
+            asked.as_slice(),
+        )?),
+        Answer::Core => Response::told(core_text(alloc, state, &workspace.log, &last)?),
+        Answer::Assumptions => {
+            Response::told(assumptions_text(alloc, state, &workspace.log, &last)?)
+        }
         Answer::Exit => Response::done(alloc, state.options(), true)?,
     };
     Ok(Reply {
         response,
         shown: last,
+        workspace,
     })
 }
 
 impl Session {
     /// No command yet.
     pub fn new(alloc: Global, settings: Settings) -> Result<Session, AllocError>
+        requires { AreLimits (limits_of settings) }
         ensures fresh { IfOk result (λ s. (s.state ≡ no_state) × (s.log.entries ≡ []) × (s.shown ≡ None)) }
+        ensures limits { IfOk result (λ s. s.limits ≡ limits_of settings) }
     {
-        let log = Log::new(alloc)?;
+        let workspace = Workspace {
+            log: Log::new(alloc)?,
+            names: LocalNames::new(alloc)?,
+        };
         Ok(Session {
             state: State::new(alloc),
-            log,
+            workspace,
             shown: None,
-            settings,
+            limits: settings.limits(),
         })
-    }
-
-    /// How its checks are searched.
-    pub fn settings(&self) -> Settings {
-        self.settings
     }
 
     /// Does what a command says, and answers it. A check's lines and record are written before. For want of numbers of
@@ -150,22 +201,25 @@ impl Session {
     {
         let Session {
             mut state,
-            mut log,
+            workspace,
             shown,
-            settings,
+            limits,
         } = self;
         if state.assertions_made() == u32::MAX {
             return Err(Stop::NoMemory);
         }
+        let len = state.terms().len();
         let answer = state.apply(alloc, chunk)?;
+        let asked = asks_values(&answer);
         let reply = respond(
-            alloc, chunk.line, answer, shown, &mut state, &mut log, proof,
+            alloc, chunk.line, answer, shown, &mut state, workspace, limits, proof,
         )?;
+        settle(&mut state, asked, len);
         let session = Session {
             state,
-            log,
+            workspace: reply.workspace,
             shown: reply.shown,
-            settings,
+            limits,
         };
         Ok((session, reply.response))
     }

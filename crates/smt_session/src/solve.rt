@@ -1,103 +1,215 @@
-//! The search for the verdict of a check, behind a contract that another search can meet.
+// The search of a check's cubes, one after the other (M. Heule, O. Kullmann, S. Wieringa and A. Biere, "Cube and Conquer:
+// Guiding CDCL SAT Solvers by Lookaheads", 2011).
 
-ghost use Rattle.std.specs.Prelude.{◌≡◌, ◌++◌, All, IfOk, OnOk, map};
-ghost use Rattle.cnf_base.specs.Assignments.{AreBelow};
-ghost use Rattle.cnf_base.specs.declared.clause.ClauseId.{ClauseId};
+ghost use Rattle.std.specs.Prelude.{◌≡◌, ◌<◌, ◌^◌, ◌+◌, ℕ, List, IfOk, OnOk, MatchOption, length};
 ghost use Rattle.smt_terms.specs.Terms.{IsTermList};
+ghost use Rattle.proof_log.specs.declared.entry.Entry.{Entry as Step};
+ghost use Rattle.proof_log.specs.Boards.{Grows};
 ghost use Rattle.proof_log.specs.Stored.{Stands};
-ghost use Rattle.smt_session.specs.Searched.{IsOfLog, IsHeld, IsFound, AreLearnt, chain_step};
+ghost use Rattle.smt_session.specs.Searched.{Problem, IsProblem, IsSearching, IsEndOf, IsModelOf, AreTried, IsFound, problem_of, problem};
 
-use cnf_base::{ClauseId, Lit, Pos};
-use plain_search::{Chain, Held, Outcome, search};
+use crate::workspace::Workspace;
+use cnf_base::{Lit, Pos};
+use cube_search::{End, Search};
+use cube_tree::{Tree, join};
 use proof_log::Log;
-use proof_log::entry::{Entry, Hints};
+use proof_log::board::LogBoard;
+use proof_log::diary::Diary;
 use smt_terms::terms::Terms;
 use std::alloc::{AllocError, Global};
 
-/// Positions that a search may name are below this one.
-const LAST_POSITION: u64 = 1 << 62;
+/// What the search of the cubes found.
+#[derive(Drop)]
+pub(crate) enum Found {
+    /// The first clause of the position has only opposites of assumed literals.
+    Refuted(Pos),
+    /// The value of each variable, by its local number. Those past the end are false.
+    Model(Vec<bool>),
+    /// The lowest cube on which the budget was spent.
+    Spent(Diary),
+}
 
-/// Variables that a search may name are below this one.
-const LAST_VARIABLE: u64 = 1 << 63;
+/// What the cubes so far came to.
+#[derive(Drop)]
+struct Tried {
+    /// The positions of the clauses that close them, up to the first that is spent.
+    closed: Vec<Pos>,
+    /// The first that is spent.
+    spent: Option<Diary>,
+}
 
-/// Puts the clauses of a position at the end. A position with more clauses than there are names is want of names.
-fn hold(
+impl Tried {
+    /// No cube was tried.
+    fn new(alloc: Global) -> Tried
+        ensures { (p : Problem) (log : List Step) → AreTried p log 0 result.closed.items result.spent }
+    {
+        Tried {
+            closed: Vec::new(alloc),
+            spent: None,
+        }
+    }
+
+    /// The next cube is closed.
+    fn close(&mut self, at: Pos) -> Result<(), AllocError>
+        ensures { OnOk result ((p : Problem) (log : List Step) (names : List ℕ) (cube : ℕ) → AreTried p log cube self.old.closed.items self.old.spent →
+            IsEndOf p log names cube (End.Closed at) → AreTried p log (cube + 1) self.new.closed.items self.new.spent) }
+    {
+        if self.spent.is_some() {
+            return Ok(());
+        }
+        self.closed.push(at)?;
+        Ok(())
+    }
+
+    /// The next cube is spent.
+    fn spend(&mut self, diary: Diary)
+        ensures { (p : Problem) (log : List Step) (names : List ℕ) (cube : ℕ) → AreTried p log cube self.old.closed.items self.old.spent →
+            IsEndOf p log names cube (End.Spent diary) → AreTried p log (cube + 1) self.new.closed.items self.new.spent }
+    {
+        if self.spent.is_none() {
+            self.spent = Some(diary);
+        }
+    }
+
+    /// Adds what the search of the next cube came to; gives the values of a model.
+    fn add(&mut self, end: End) -> Result<Option<Vec<bool>>, AllocError>
+        requires { end ≡ End.Stopped → ⊥ }
+        ensures { IfOk result (λ o. (p : Problem) (log : List Step) (names : List ℕ) (cube : ℕ) → AreTried p log cube self.old.closed.items self.old.spent →
+            IsEndOf p log names cube end → MatchOption o (AreTried p log (cube + 1) self.new.closed.items self.new.spent) (IsModelOf p log names)) }
+    {
+        match end {
+            End::Closed(at) => self.close(at)?,
+            End::Model(values) => return Ok(Some(values)),
+            End::Spent(diary) => self.spend(diary),
+            End::Stopped => unreachable!(),
+        }
+        Ok(None)
+    }
+
+    /// What all cubes came to together, of which none gave a model. Where each is closed, the clauses are joined.
+    fn conclude(
+        self,
+        alloc: Global,
+        terms: &Terms,
+        log: &mut Log,
+        tree: &Tree,
+    ) -> Result<Found, AllocError>
+        requires listed { IsTermList terms.now.nodes }
+        requires stands { Stands terms.now.nodes log.old }
+        requires tried { (p : Problem) × (p.nodes ≡ terms.now.nodes) × (p.variables ≡ tree.now) × AreTried p log.old.entries (2 ^ length tree.now) self.closed.items self.spent }
+        ensures stands { Stands terms.now.nodes log.new }
+        ensures grows { Grows log.old.entries log.new.entries }
+        ensures found { IfOk result (λ found. (p : Problem) (names : List ℕ) → p.nodes ≡ terms.now.nodes → p.variables ≡ tree.now →
+            AreTried p log.old.entries (2 ^ length tree.now) self.closed.items self.spent → IsFound p log.new.entries names found) }
+    {
+        let Tried { closed, spent } = self;
+        if let Some(diary) = spent {
+            return Ok(Found::Spent(diary));
+        }
+        let at = join(alloc, tree, terms, log, closed.as_slice())?;
+        Ok(Found::Refuted(at))
+    }
+}
+
+/// Searches a cube: under its literals and those that are assumed.
+fn search_cube(
     alloc: Global,
-    terms: &Terms,
-    log: &Log,
-    pos: Pos,
-    held: &mut Vec<Held>,
-) -> Result<(), AllocError>
-    requires listed { IsTermList terms.now.nodes }
-    requires stands { Stands terms.now.nodes log.now }
-    requires held { All (IsOfLog log.now) held.old.items }
-    ensures of_log { OnOk result (All (IsOfLog log.now) held.new.items) }
-    ensures position { OnOk result ((id : ClauseId) → id.pos ≡ pos → IsHeld log.now held.new.items id) }
-    ensures kept { OnOk result ((id : ClauseId) → IsHeld log.now held.old.items id → IsHeld log.now held.new.items id) }
+    search: &mut Search,
+    board: &mut LogBoard<'_>,
+    tree: &Tree,
+    assumed: &[Lit],
+    cube: u32,
+    budget: u64,
+) -> Result<End, AllocError>
+    requires cube { cube < 2 ^ length tree.now }
+    requires searching { IsSearching search.old board.old tree.now assumed.now budget }
+    ensures same { problem_of search.new board.new tree.now assumed.now budget ≡ problem_of search.old board.old tree.now assumed.now budget }
+    ensures grows { Grows board.old.log.entries board.new.log.entries }
+    ensures searching { OnOk result (IsSearching search.new board.new tree.now assumed.now budget) }
+    ensures end { IfOk result (IsEndOf (problem_of search.new board.new tree.now assumed.now budget) board.new.log.entries search.new.names cube) }
 {
-    'parts: for part in 0..u32::MAX {
-        let id = ClauseId { pos, part };
-        let Some(clause) = log.clause(id) else {
-            return Ok(())
-        };
-        let clause = clause.copy(alloc)?;
-        held.push(Held { id, clause })?;
-    }
-    Err(AllocError)
+    let mut given = Vec::from_slice(alloc, tree.cube(cube))?;
+    given.extend_from_slice(assumed)?;
+    search.run(board, cube, given.as_slice(), budget)
 }
 
-/// The clauses of a log, with their names.
-fn clauses(alloc: Global, terms: &Terms, log: &Log) -> Result<Vec<Held>, AllocError>
-    requires listed { IsTermList terms.now.nodes }
-    requires stands { Stands terms.now.nodes log.now }
-    ensures of_log { IfOk result (λ held. All (IsOfLog log.now) held.items) }
-    ensures all { IfOk result (λ held. (id : ClauseId) → IsHeld log.now held.items id) }
+/// Searches the cubes in the order of their numbers, also behind one that is spent, until one gives the values of a model.
+fn search_cubes(
+    alloc: Global,
+    search: &mut Search,
+    board: &mut LogBoard<'_>,
+    tree: &Tree,
+    assumed: &[Lit],
+    budget: u64,
+    tried: &mut Tried,
+) -> Result<Option<Vec<bool>>, AllocError>
+    requires searching { IsSearching search.old board.old tree.now assumed.now budget }
+    requires tried { (p : Problem) (log : List Step) → AreTried p log 0 tried.old.closed.items tried.old.spent }
+    ensures same { problem_of search.new board.new tree.now assumed.now budget ≡ problem_of search.old board.old tree.now assumed.now budget }
+    ensures grows { Grows board.old.log.entries board.new.log.entries }
+    ensures tried { IfOk result (λ o. MatchOption o
+        (AreTried (problem_of search.new board.new tree.now assumed.now budget) board.new.log.entries (2 ^ length tree.now) tried.new.closed.items tried.new.spent)
+        (IsModelOf (problem_of search.new board.new tree.now assumed.now budget) board.new.log.entries search.new.names)) }
 {
-    let mut held = Vec::new(alloc);
-    'positions: for pos in 0..log.len() {
-        hold(alloc, terms, log, pos, &mut held)?;
+    'cubes: for cube in 0..tree.leaves() {
+        let end = search_cube(alloc, search, board, tree, assumed, cube, budget)?;
+        if let Some(values) = tried.add(end)? {
+            return Ok(Some(values));
+        }
     }
-    Ok(held)
+    Ok(None)
 }
 
-/// Finds an assignment under which each clause of the log and each given literal is true, or clauses that follow one after
-/// the other down to one of opposites of given literals. The one error is want of memory, or of names.
+/// What was found, and the workspace then.
+#[derive(Drop)]
+pub(crate) struct Searched {
+    pub(crate) workspace: Workspace,
+    pub(crate) found: Found,
+}
+
+/// Searches the cubes of a check over the steps at these positions: finds a model, a clause of opposites of assumed literals,
+/// or that the budget was spent. The log gains chains alone. The one error is want of memory, or of names.
 pub(crate) fn solve(
     alloc: Global,
     terms: &Terms,
-    log: &Log,
-    given: &[Lit],
-) -> Result<Outcome, AllocError>
+    workspace: Workspace,
+    positions: &[Pos],
+    tree: &Tree,
+    assumed: &[Lit],
+    budget: u64,
+) -> Result<Searched, AllocError>
     requires listed { IsTermList terms.now.nodes }
-    requires stands { Stands terms.now.nodes log.now }
-    requires given { AreBelow log.now.next given.now }
-    ensures { IfOk result (IsFound log.now given.now) }
+    requires stands { Stands terms.now.nodes workspace.log }
+    requires problem { IsProblem (problem terms.now.nodes workspace.log.entries positions.now tree.now assumed.now budget) workspace.log.entries }
+    ensures stands { IfOk result (λ s. Stands terms.now.nodes s.workspace.log) }
+    ensures grows { IfOk result (λ s. Grows workspace.log.entries s.workspace.log.entries) }
+    ensures found { IfOk result (λ s. IsFound (problem terms.now.nodes workspace.log.entries positions.now tree.now assumed.now budget) s.workspace.log.entries s.workspace.names s.found) }
 {
+    let Workspace { log, names } = workspace;
     let from = log.len();
-    let variables = log.next();
-    if from >= LAST_POSITION || variables > LAST_VARIABLE {
-        return Err(AllocError);
+    let mut board = LogBoard::new(alloc, log, terms);
+    let mut search = Search::new(alloc, &board, names, positions, from)?;
+    let mut tried = Tried::new(alloc);
+    let model = search_cubes(
+        alloc,
+        &mut search,
+        &mut board,
+        tree,
+        assumed,
+        budget,
+        &mut tried,
+    )?;
+    let mut log = board.into_log();
+    let names = search.into_names();
+    if let Some(values) = model {
+        return Ok(Searched {
+            workspace: Workspace { log, names },
+            found: Found::Model(values),
+        });
     }
-    let held = clauses(alloc, terms, log)?;
-    search(alloc, held, given, from, variables)
-}
-
-/// Adds the clauses that a search learnt, with their hints.
-pub(crate) fn push_chains(
-    alloc: Global,
-    terms: &Terms,
-    log: &mut Log,
-    chains: &[Chain],
-) -> Result<(), AllocError>
-    requires stands { Stands terms.now.nodes log.old }
-    requires learnt { AreLearnt log.old chains.now }
-    ensures stands { OnOk result (Stands terms.now.nodes log.new) }
-    ensures entries { OnOk result (log.new.entries ≡ log.old.entries ++ map chain_step chains.now) }
-{
-    for chain in chains {
-        let clause = chain.clause.copy(alloc)?;
-        let hints = Hints::from_vec(Vec::from_slice(alloc, chain.hints.as_slice())?);
-        log.push(alloc, terms, Entry::Chain(clause, hints))?;
-    }
-    Ok(())
+    let found = tried.conclude(alloc, terms, &mut log, tree)?;
+    Ok(Searched {
+        workspace: Workspace { log, names },
+        found,
+    })
 }

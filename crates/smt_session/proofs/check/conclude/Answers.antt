@@ -1,36 +1,41 @@
-use Rattle.std.proofs.Common.{◌-◌, sym, subst, arith}
-use Rattle.std.proofs.lemmas.List.Elements.{All-from_recursion, recursion_from_All}
-use Rattle.plain_search.specs.Searches.{assignment, IsRefuted}
-use Rattle.proof_log.specs.Stored.{Stands}
-use Rattle.smt_session.proofs.Chains.{learnt_of, selectors_below}
-use Rattle.smt_session.proofs.Holding.{found_true}
-use Rattle.smt_session.proofs.Turning.{true_selectors, model_checked, refuted_checked, found_refuted}
+use Rattle.std.proofs.Common.{refl}
+use Rattle.check_cubes.specs.Searches.{limits_of}
+use Rattle.smt_session.proofs.Concluding.{is_problem, refuted_checked, unknown_checked, model_checked, model_satisfies, model_selects, model_assumes}
 use Rattle.smt_session.proofs.check.conclude.Goals as goal
 
-pub solve-requires-clause-given : goal.solve-requires-clause-given
-solve-requires-clause-given c =
-    selectors_below c.args.state.now.terms.nodes c.args.log.now c.args.state.now.scopes.live c.args.given.now c.requires.session.state.terms c.requires.session.stands c.requires.given
+pub solve-requires-clause-problem : goal.solve-requires-clause-problem
+solve-requires-clause-problem c =
+    rw (c.terms.ensures.terms, c.as_slice.ensures.value)
+    (is_problem c.args.state.now c.args.workspace.log c.requires.session c.args.steps.items c.requires.steps c.add_learnt.new.positions.items c.in_ok-add_learnt.ensures.adds c.in_ok-add_learnt.ensures.within
+    c.in_ok-tree.tree c.args.given.now c.args.limits.budget c.in_ok-tree.ensures.rise c.requires.given)
+
+pub returns-in-Refuted : goal.returns-in-Refuted
+returns-in-Refuted c =
+    refuted_checked c.args.state.now c.terms.result.now c.args.workspace.log c.in_ok-workspace.field-0.workspace.log c.as_slice.result.now c.in_ok-tree.tree c.args.given.now c.args.limits.budget c.in_ok-workspace.field-0.workspace.names c.in_ok-workspace.field-0.found
+    c.terms.ensures.terms c.requires.session c.requires.given c.in_ok-workspace.ensures.grows c.in_ok-workspace.ensures.stands c.in_ok-workspace.ensures.found (limits_of c.args.limits) c.in-Refuted.at c.in-Refuted.is
+
+pub model-requires-clause-satisfied : goal.model-requires-clause-satisfied
+model-requires-clause-satisfied c =
+    model_satisfies c.args.state.now c.terms.result.now c.args.workspace.log c.in_ok-workspace.field-0.workspace.log c.as_slice.result.now c.in_ok-tree.tree c.args.given.now c.args.limits.budget c.in_ok-workspace.field-0.workspace.names c.in_ok-workspace.field-0.found
+    c.terms.ensures.terms c.requires.session c.requires.given c.in_ok-workspace.ensures.grows c.in_ok-workspace.ensures.stands c.in_ok-workspace.ensures.found c.in-Model.values c.as_slice-in-Model.result.now c.in-Model.is c.as_slice-in-Model.ensures.value
+    c.args.steps.items c.add_learnt.new.positions.items c.requires.steps c.in_ok-add_learnt.ensures.adds c.as_slice.ensures.value
 
 pub model-requires-clause-selectors : goal.model-requires-clause-selectors
 model-requires-clause-selectors c =
-    let found = found_true _ _ _ c.in-Model.values c.in_ok-chains.ensures (cc) in
-    All-from_recursion _ _
-    (true_selectors c.args.state.now c.args.log.now (assignment c.in-Model.values.items) c.args.state.now.scopes.live c.args.given.now c.requires.session.state.terms c.requires.session.stands c.requires.session.each
-    (recursion_from_All _ _ c.requires.session.state.scopes.known) c.requires.given (recursion_from_All _ _ found.1))
+    model_selects c.args.state.now c.terms.result.now c.args.workspace.log c.in_ok-workspace.field-0.workspace.log c.as_slice.result.now c.in_ok-tree.tree c.args.given.now c.args.limits.budget c.in_ok-workspace.field-0.workspace.names c.in_ok-workspace.field-0.found
+    c.terms.ensures.terms c.requires.session c.requires.given c.in_ok-workspace.ensures.grows c.in_ok-workspace.ensures.stands c.in_ok-workspace.ensures.found c.in-Model.values c.as_slice-in-Model.result.now c.in-Model.is c.as_slice-in-Model.ensures.value
 
-pub push_chains-requires-clause-learnt : goal.push_chains-requires-clause-learnt
-push_chains-requires-clause-learnt c = rw c.as_slice.ensures.value (learnt_of _ _ _ c.in_ok-chains.ensures)
+pub model-requires-clause-assumed : goal.model-requires-clause-assumed
+model-requires-clause-assumed c =
+    model_assumes c.args.state.now c.terms.result.now c.args.workspace.log c.in_ok-workspace.field-0.workspace.log c.as_slice.result.now c.in_ok-tree.tree c.args.given.now c.args.limits.budget c.in_ok-workspace.field-0.workspace.names c.in_ok-workspace.field-0.found
+    c.terms.ensures.terms c.requires.session c.requires.given c.in_ok-workspace.ensures.grows c.in_ok-workspace.ensures.stands c.in_ok-workspace.ensures.found c.in-Model.values c.as_slice-in-Model.result.now c.in-Model.is c.as_slice-in-Model.ensures.value
 
 pub returns-in-Model : goal.returns-in-Model
 returns-in-Model c =
-    model_checked c.args.state.now c.args.log.now c.push_chains.new.log c.as_slice.result.now c.in_ok-values-in-Model.values c.in_ok-push_chains-in-Model.ensures.entries
-    (subst (λ v. Stands v.nodes c.push_chains.new.log) c.terms-in-Model.ensures.terms c.in_ok-push_chains-in-Model.ensures.stands) c.in_ok-values-in-Model.ensures
+    model_checked c.args.state.now c.terms.result.now c.args.workspace.log c.in_ok-workspace.field-0.workspace.log c.as_slice.result.now c.in_ok-tree.tree c.args.given.now c.args.limits.budget c.in_ok-workspace.field-0.workspace.names c.in_ok-workspace.field-0.found
+    c.terms.ensures.terms c.requires.session c.requires.given c.in_ok-workspace.ensures.grows c.in_ok-workspace.ensures.stands c.in_ok-workspace.ensures.found (limits_of c.args.limits) c.in_ok-values-in-Model.values c.in_ok-values-in-Model.ensures
 
 pub returns : goal.returns
 returns c =
-    let refuted : IsRefuted c.args.given.now c.as_slice-in-Refuted.result.now =
-    subst (IsRefuted c.args.given.now) (sym c.as_slice-in-Refuted.ensures.value) (found_refuted c.args.log.now c.args.given.now c.in_ok-chains.field-0 c.in_ok-chains.ensures (cc)) in
-    refuted_checked c.args.state.now c.args.log.now c.push_chains-in-Refuted.new.log c.args.given.now c.as_slice-in-Refuted.result.now (c.len.result - 1)
-    c.requires.session.stands c.in_ok-push_chains-in-Refuted.ensures.entries
-    (subst (λ v. Stands v.nodes c.push_chains-in-Refuted.new.log) c.terms-in-Refuted.ensures.terms c.in_ok-push_chains-in-Refuted.ensures.stands)
-    c.requires.given refuted (omega arith)
+    unknown_checked c.args.state.now c.terms.result.now c.args.workspace.log c.in_ok-workspace.field-0.workspace.log c.as_slice.result.now c.in_ok-tree.tree c.args.given.now c.args.limits.budget c.in_ok-workspace.field-0.workspace.names c.in_ok-workspace.field-0.found
+    c.terms.ensures.terms c.requires.session c.requires.given c.in_ok-workspace.ensures.grows c.in_ok-workspace.ensures.stands c.in_ok-workspace.ensures.found (limits_of c.args.limits) c.in-Spent.diary refl c.in_ok-tree.ensures.variables c.in-Spent.is

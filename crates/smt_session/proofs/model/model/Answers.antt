@@ -1,7 +1,10 @@
-use Rattle.smt_session.proofs.Modeling.{model_written}
+use Rattle.local_names.specs.Names.{global_values}
+use Rattle.cube_search.specs.Ends.{assignment}
+use Rattle.smt_session.proofs.Modeling.{written_model}
 use Rattle.smt_session.proofs.model.model.Goals as goal
 
 pub returns : goal.returns
 returns c =
     rw c.from_vec.ensures
-    (model_written c.args.state.now c.args.log.now c.args.values.items _ c.in_ok-items.items.items c.new-assignment.ensures c.in_ok-items.ensures.state c.in_ok-items.ensures.terms c.requires.stands c.in_ok-items.ensures.values c.requires.clauses c.requires.selectors)
+    (written_model c.args.state.now c.args.log.now (global_values c.args.names.now (assignment c.args.values.now)) c.in_ok-items.items.items c.in_ok-items.ensures.state c.in_ok-items.ensures.terms c.requires.stands c.in_ok-items.ensures.values
+    c.requires.satisfied c.requires.selectors c.requires.assumed)

@@ -1,0 +1,45 @@
+use Rattle.std.proofs.Common.{length, refl, sym, ap, ◌∙◌, subst, arith}
+use Rattle.smt_terms.specs.Terms.{TermsValue}
+use Rattle.proof_log.specs.Boards.{Grows}
+use Rattle.proof_log.specs.Stored.{LogValue}
+use Rattle.proof_log.proofs.Growth.{grows_then}
+use Rattle.proof_log.proofs.Standing.{stands_over}
+use Rattle.smt_session.specs.Searched.{problem}
+use Rattle.smt_session.proofs.Ended.{start_problem, tried_back}
+use Rattle.smt_session.proofs.solve.solve.Goals as goal
+
+pub new-requires-clause-known : goal.new-requires-clause-known
+new-requires-clause-known c = λ p among.
+    let before = c.requires.problem.positions p among in
+    let same = ap (λ (l : LogValue). length l.entries) c.new-board.ensures.log in
+    omega (arith, before, same)
+
+pub new-requires-clause-below : goal.new-requires-clause-below
+new-requires-clause-below c = λ p among. let before = c.requires.problem.positions p among in omega (arith, before, c.len-from.ensures)
+
+pub new-requires-clause-stands : goal.new-requires-clause-stands
+new-requires-clause-stands c =
+    rw (c.new-board.ensures.terms, c.new-board.ensures.log) (stands_over c.args.terms.now.nodes c.args.workspace.log c.requires.stands).steps
+
+pub conclude-requires-clause-tried : goal.conclude-requires-clause-tried
+conclude-requires-clause-tried c =
+    let begun = start_problem c.in_ok-search.search c.new-board.result c.args.terms.now.nodes c.args.workspace.log.entries c.args.positions.now c.args.tree.now c.args.assumed.now c.args.budget (ap (λ (t : TermsValue). t.nodes) c.new-board.ensures.terms) c.in_ok-search.ensures.opening (c.in_ok-search.ensures.from ∙ c.len-from.ensures) in (
+      problem c.args.terms.now.nodes c.args.workspace.log.entries c.args.positions.now c.args.tree.now c.args.assumed.now c.args.budget,
+      refl,
+      refl,
+      tried_back _ (problem c.args.terms.now.nodes c.args.workspace.log.entries c.args.positions.now c.args.tree.now c.args.assumed.now c.args.budget) _ c.into_log-log.result.entries _ _ _ _ _
+          (c.in_ok-model.ensures.same ∙ begun) (ap (λ (l : LogValue). l.entries) c.into_log-log.ensures.log) c.in_default.is c.in_ok-model.ensures.tried,
+    )
+
+pub returns-clause-grows : goal.returns-clause-grows
+returns-clause-grows c =
+    let first : Grows c.args.workspace.log.entries c.into_log-log.result.entries =
+    subst (λ (l : LogValue). Grows l.entries c.into_log-log.result.entries) c.new-board.ensures.log (subst (λ (l : LogValue). Grows c.new-board.result.log.entries l.entries) (sym c.into_log-log.ensures.log) c.in_ok-model.ensures.grows) in
+    grows_then c.args.workspace.log.entries c.into_log-log.result.entries c.conclude.new.log.entries first c.in_ok-found.ensures.grows
+
+pub returns-clause-found : goal.returns-clause-found
+returns-clause-found c =
+    let begun = start_problem c.in_ok-search.search c.new-board.result c.args.terms.now.nodes c.args.workspace.log.entries c.args.positions.now c.args.tree.now c.args.assumed.now c.args.budget (ap (λ (t : TermsValue). t.nodes) c.new-board.ensures.terms) c.in_ok-search.ensures.opening (c.in_ok-search.ensures.from ∙ c.len-from.ensures) in
+    c.in_ok-found.ensures.found (problem c.args.terms.now.nodes c.args.workspace.log.entries c.args.positions.now c.args.tree.now c.args.assumed.now c.args.budget) c.into_names-names.result refl refl
+    (tried_back _ (problem c.args.terms.now.nodes c.args.workspace.log.entries c.args.positions.now c.args.tree.now c.args.assumed.now c.args.budget) _ c.into_log-log.result.entries _ _ _ _ _
+    (c.in_ok-model.ensures.same ∙ begun) (ap (λ (l : LogValue). l.entries) c.into_log-log.ensures.log) c.in_default.is c.in_ok-model.ensures.tried)

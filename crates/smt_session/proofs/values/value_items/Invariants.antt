@@ -1,0 +1,7 @@
+use Rattle.std.proofs.Common.{◌≡◌, map, take}
+use Rattle.accepted_proof.specs.Answers.{asked_text}
+use Rattle.accepted_proof.specs.Models.{interpretation_of}
+use Rattle.smt_session.proofs.values.value_items.Given as goal
+
+abbrev pub invariant-loop-at : goal.invariant-loop-at
+invariant-loop-at l = l.items.items ≡ map (asked_text l.state.terms.nodes (interpretation_of l.values)) (take l.at l.asked)

@@ -1,0 +1,107 @@
+// The values of terms in a model (SMT-LIB 2.6, section 4.2.6).
+
+ghost use Rattle.std.specs.Prelude.{◌≡◌, ◌<◌, ◌++◌, ℕ, All, IfOk, OnOk, codes, false, length, map};
+ghost use Rattle.smt_values.specs.Held.{meaning, set_for};
+ghost use Rattle.smt_eval.specs.Evaluated.{is_table};
+ghost use Rattle.script_state.specs.declared.answer.Asked.{Asked as AskedValue};
+ghost use Rattle.accepted_proof.specs.Answers.{asked_text, meaning_text, values_text};
+ghost use Rattle.accepted_proof.specs.Models.{interpretation_of, value_for};
+
+use crate::lists::list_text;
+use proof_text::record::{Record, push_value};
+use script_state::answer::Asked;
+use script_state::state::State;
+use smt_eval::values_of;
+use smt_terms::node::TermId;
+use smt_terms::sort::DeclId;
+use smt_text::text::Text;
+use smt_values::{Interp, Value};
+use std::alloc::{AllocError, Global};
+
+/// The interpretation that the values of declarations give.
+fn interp_of(alloc: Global, values: &[(DeclId, Value)]) -> Result<Interp, AllocError>
+    ensures { IfOk result (λ m. (d : ℕ) → set_for m d ≡ value_for values.now d) }
+{
+    let mut interp = Interp::new(alloc);
+    for done in 0..values.len() {
+        let place = values.len() - 1 - done;
+        let value = &values[place];
+        interp.set(value.0, value.1.copy()?)?;
+    }
+    Ok(interp)
+}
+
+/// The numbers of terms that are asked for.
+fn terms_of(alloc: Global, asked: &[Asked]) -> Result<Vec<TermId>, AllocError>
+    ensures { IfOk result (λ terms. terms.items ≡ map (λ (a : AskedValue). a.term) asked.now) }
+{
+    let mut terms = Vec::new(alloc);
+    for one in asked {
+        terms.push(one.term)?;
+    }
+    Ok(terms)
+}
+
+/// Appends a truth value or a word. An array has no text.
+fn push_meaning(value: &Value, out: &mut Text) -> Result<(), AllocError>
+    requires { is_table value.now ≡ false }
+    ensures { OnOk result (out.new ≡ out.old ++ meaning_text (meaning value.now)) }
+{
+    match value {
+        Value::Bool(_) => push_value(value, out),
+        Value::Word(_) => push_value(value, out),
+        Value::Array(_) => Ok(()),
+        Value::Fun(_) => unreachable!(),
+    }
+}
+
+/// A term as it was written, and its value.
+fn value_item(alloc: Global, asked: &Asked, value: &Value) -> Result<Text, AllocError>
+    requires { is_table value.now ≡ false }
+    ensures { IfOk result (λ t. t ≡ codes "(" ++ asked.now.text ++ codes " " ++ meaning_text (meaning value.now) ++ codes ")") }
+{
+    let mut out = Text::from_slice(alloc, b"(")?;
+    out.push_slice(asked.text.as_slice())?;
+    out.push_slice(b" ")?;
+    push_meaning(value, &mut out)?;
+    out.push_slice(b")")?;
+    Ok(out)
+}
+
+/// Each term with its value under the values of the declarations. Only what the terms reach is evaluated.
+fn value_items(
+    alloc: Global,
+    state: &State,
+    values: &[(DeclId, Value)],
+    asked: &[Asked],
+) -> Result<Vec<Text>, AllocError>
+    requires { All (λ (a : AskedValue). a.term < length state.now.terms.nodes) asked.now }
+    ensures { IfOk result (λ items. items.items ≡ map (asked_text state.now.terms.nodes (interpretation_of values.now)) asked.now) }
+{
+    let interp = interp_of(alloc, values)?;
+    let terms = terms_of(alloc, asked)?;
+    let found = values_of(alloc, state.terms(), &interp, terms.as_slice())?;
+    let mut items = Vec::new(alloc);
+    for at in 0..asked.len() {
+        let item = value_item(alloc, &asked[at], &found[at])?;
+        items.push(item)?;
+    }
+    Ok(items)
+}
+
+/// The values of terms in the model that a record has, where it has one.
+pub(crate) fn values_text(
+    alloc: Global,
+    state: &State,
+    shown: &Option<Record>,
+    asked: &[Asked],
+) -> Result<Text, AllocError>
+    requires { All (λ (a : AskedValue). a.term < length state.now.terms.nodes) asked.now }
+    ensures { IfOk result (λ t. t ≡ values_text state.now.terms.nodes asked.now shown.now) }
+{
+    if let Some(Record::Sat(values)) = shown {
+        let items = value_items(alloc, state, values.as_slice(), asked)?;
+        return list_text(alloc, items.as_slice());
+    }
+    Ok(Text::new(alloc))
+}
