@@ -1,9 +1,1 @@
-pub mod Parts
-pub mod Written
-pub mod Turning
-pub mod OneTurn
-pub mod Telling
-pub mod Checks
-pub mod Reported
-pub mod Faultless
-pub mod WordsTaken
+pub mod Limits

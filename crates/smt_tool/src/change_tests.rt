@@ -1,5 +1,5 @@
 use crate::check_tests::check;
-use crate::status::Status;
+use smt_check::status::Status;
 use smt_desk::memory::MemSink;
 use std::alloc::{AllocError, AllocGlobal, Global};
 use std::process::Abort;
@@ -7,9 +7,9 @@ use std::test::Fail;
 
 /// A script with its proof.
 #[derive(Clone, Copy)]
-struct Proved {
-    script: &'static [u8],
-    proof: &'static [u8],
+pub(crate) struct Proved {
+    pub(crate) script: &'static [u8],
+    pub(crate) proof: &'static [u8],
 }
 
 /// A false assertion, refuted.
@@ -47,6 +47,13 @@ const TWICE: Proved = Proved {
 const LEVELS: Proved = Proved {
     script: b"(declare-const p Bool) (push 1) (declare-const q Bool) (assert false) (check-sat) (pop 1) (declare-const r Bool) (assert p) (check-sat) (exit) (check-sat)",
     proof: b"smt_proof 1 cubes 0 budget 100000\ne 0\ns 0\nc -2 0 0.0 2.0\nunsat 3\nsat 2\nv 0 true\nv 2 false\n",
+};
+
+/// Two assumptions that cannot hold together, then one of them, and a check without. The term whose value is asked for is
+/// none of the proof's.
+const ASSUMED: Proved = Proved {
+    script: b"(declare-const p Bool) (declare-const q Bool) (assert (or p q)) (check-sat-assuming ((not p) (not q))) (check-sat-assuming ((not p))) (get-value ((and p q))) (check-sat)",
+    proof: b"smt_proof 1 cubes 0 budget 100000\nf 0\nf 1\ne 2\ne 3\ne 4\ns 0\nc -5 2 3 0 6.0 3.2\nunsat 7\nsat 2\nv 0 false\nv 1 true\nsat 2\nv 0 true\nv 1 false\n",
 };
 
 /// The proof with another text in place of a line, which is counted from 1. In the text a bar stands for each line feed.
@@ -110,7 +117,11 @@ fn judge_change(rt: &(impl Abort + AllocGlobal), proved: &Proved, row: &str) -> 
 }
 
 /// Each change of one line is judged as its row says.
-fn judge_each(rt: &(impl Abort + AllocGlobal), proved: &Proved, rows: &str) -> Result<(), Fail> {
+pub(crate) fn judge_each(
+    rt: &(impl Abort + AllocGlobal),
+    proved: &Proved,
+    rows: &str,
+) -> Result<(), Fail> {
     for row in rows.lines() {
         judge_change(rt, proved, row)?;
     }
@@ -310,6 +321,27 @@ fn levels_and_the_end_of_a_run(rt: HostRuntime) -> Result<(), Fail> {
     8 8 sat v 1 false|\n\
     8 9 end v 2 false|unsat 3|\n\
     8 9 end v 2 false|sat 2|",
+    )
+}
+
+#[test]
+fn assumptions_are_of_their_check_alone(rt: HostRuntime) -> Result<(), Fail> {
+    judge_each(
+        &rt,
+        &ASSUMED,
+        "1 0 accepted smt_proof 1 cubes 0 budget 100000|\n\
+    5 5 encode e 0|\n\
+    8 0 accepted c -5 2 3 0 3.2 6.0|\n\
+    8 8 chain c -5 2 0 6.0 3.2|\n\
+    8 9 unsat c -5 -1 2 3 0 6.0 3.2|\n\
+    8 9 unsat c 4 2 3 0 3.2|\n\
+    9 9 unsat unsat 3|\n\
+    10 10 unsat unsat 7|\n\
+    11 12 sat v 0 true|\n\
+    13 13 unsat unsat 7|\n\
+    13 13 encode e 5|\n\
+    13 0 accepted t and 0 1|sat 2|\n\
+    14 15 sat v 0 false|",
     )
 }
 

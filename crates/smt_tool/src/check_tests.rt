@@ -1,6 +1,6 @@
-use crate::running::run;
-use crate::status::Status;
+use smt_check::status::Status;
 use smt_desk::memory::{MemSink, MemSource};
+use smt_run::running::run;
 use std::alloc::Global;
 use std::process::Abort;
 
@@ -135,4 +135,11 @@ fn faults_of_sources_and_sinks(rt: HostRuntime) {
     assert_eq!(rt; failing(rt.alloc(), &[], &[2], &[]), Status::ReadFault);
     assert_eq!(rt; failing(rt.alloc(), &[], &[], &[1]), Status::WriteFault);
     assert_eq!(rt; failing(rt.alloc(), &[], &[], &[]), Status::Done);
+}
+
+#[test]
+fn no_error_of_the_script_is_told(rt: HostRuntime) {
+    let script = b"(nope) (assert false) (assert nope) (check-sat) (pop 1)\n";
+    let wanted = b"unsat\naccepted 1\n";
+    expect_answers(&rt, rt.alloc(), script, PROOF, Status::Done, wanted);
 }

@@ -1,41 +1,48 @@
 //! Answers scripts of SMT-LIB 2.6 over truth values and words, writes the proof of each answer, and checks such proofs.
 //!
-//! `plan` reads the words by `clap`, `run` does what they ask for over any source and any sinks, and `main` hands it the
-//! script's file or standard input, standard output and the proof file. The contract of `run` says that whatever was answered stands beside an
-//! accepted proof and is right: each `sat` has a written model, and where there is an `unsat` there is none. Of a check it
-//! says that what is told was judged of both texts. It says when each status comes, how much of each input is read, and that
-//! a fault is told only where a count rose. The crate stands on `smt_session`, `proof_checker`, `accepted_proof`, `smt_text`
-//! and `smt_desk`.
+//! The program hands `run` of `smt_run`, which does what its words ask for, the script's file or standard input, standard output
+//! and the proof file, and ends with the number of its status. The tests of sessions, of runs and of checks stand here, each a
+//! table of scripts and of what they are answered: so the proofs of `smt_session`, `smt_check` and `smt_run` are checked once,
+//! without them.
 #![tactic(auto)]
 
-mod answering;
 #[cfg(test)]
 mod change_tests;
 #[cfg(test)]
 mod check_tests;
-mod checking;
-mod command_line;
+#[cfg(test)]
+mod command_tests;
+#[cfg(test)]
+mod diary_tests;
 #[cfg(test)]
 mod error_tests;
-mod reading;
-mod running;
+#[cfg(test)]
+mod form_error_tests;
+#[cfg(test)]
+mod limit_tests;
+#[cfg(test)]
+mod mode_error_tests;
+#[cfg(test)]
+mod name_error_tests;
+#[cfg(test)]
+mod named_tests;
 #[cfg(test)]
 mod session_tests;
-mod status;
+#[cfg(test)]
+mod term_error_tests;
 #[cfg(test)]
 mod tests;
 #[cfg(test)]
 mod word_tests;
-mod words;
 
-use command_line::plan;
-use running::run;
+use smt_check::status::Status;
 use smt_desk::files::{FileSink, FileSource, StandardInput, StandardOutput};
 use smt_desk::stream::Source;
-use status::Status;
+use smt_run::command_line::plan;
+use smt_run::running::run;
+use smt_run::words::Unplanned;
 use std::process::ExitCode;
 use std::{env, io};
-use words::Unplanned;
 
 // The number of a status.
 fn exit_code(status: Status) -> ExitCode {
@@ -84,7 +91,9 @@ fn main(rt: HostRuntime) -> io::Result<ExitCode> {
     }
     let status = run_words(&rt, &words);
     if status == Status::Usage {
-        eprintln!(rt; "usage: smt_tool solve|check PROOF [SCRIPT]")?;
+        eprintln!(rt;
+            "usage: smt_tool solve PROOF [SCRIPT] [--cubes 0..10] [--budget 0..1000000000] | check PROOF [SCRIPT]"
+        )?;
     }
     Ok(exit_code(status))
 }

@@ -1,7 +1,7 @@
 //! Levels, options, models, and the end of a run.
 
 use crate::error_tests::{answer, append};
-use crate::status::Status;
+use smt_check::status::Status;
 use std::process::Abort;
 use std::test::Fail;
 

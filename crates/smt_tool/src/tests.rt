@@ -1,7 +1,7 @@
-use crate::running::run;
-use crate::status::Status;
+use smt_check::status::Status;
 use smt_desk::memory::{MemSink, MemSource};
 use smt_desk::stream::{Sink, Source};
+use smt_run::running::run;
 use std::alloc::Global;
 
 const FIRST: &[u8] =
@@ -124,7 +124,8 @@ fn run_bytewise(
     (status, answers.into_bytes(), proof.into_bytes())
 }
 
-fn count(bytes: &[u8], word: &[u8]) -> usize {
+/// How often the word stands in the bytes.
+pub(crate) fn count(bytes: &[u8], word: &[u8]) -> usize {
     let mut found = 0usize;
     for at in 0..bytes.len() {
         if bytes[at..].starts_with(word) {
@@ -142,7 +143,7 @@ fn each_call_of_each_stream_fails_in_turn(rt: HostRuntime) {
     for (stream, calls, stopped) in [
         (0u8, 195u64, Status::ReadFault),
         (1u8, 10u64, Status::WriteFault),
-        (2u8, 5u64, Status::WriteFault),
+        (2u8, 9u64, Status::WriteFault),
     ] {
         for call in 0..=calls {
             let failing = [call];

@@ -1,0 +1,43 @@
+use Rattle.std.proofs.lemmas.Result.{err_from_is_err_and}
+use Rattle.smt_check.proofs.Checks.{read_stopped, read_starved, proof_ends, proof_fed}
+use Rattle.smt_check.proofs.checking.read_proof.Goals as goal
+
+pub returns-in_err-size-clause-ok : goal.returns-in_err-size-clause-ok
+returns-in_err-size-clause-ok g c =
+    let p = err_from_is_err_and c.from_residual.result c.from_residual.ensures.1 in
+    rw p.1 tt
+
+pub returns-in_err-size-clause-err : goal.returns-in_err-size-clause-err
+returns-in_err-size-clause-err g c =
+    let p = err_from_is_err_and c.from_residual.result c.from_residual.ensures.1 in
+    rw (p.1, p.2) (read_stopped _ _ _ _ c.in_err-size.ensures.read)
+
+pub returns-in_err-size-clause-cause : goal.returns-in_err-size-clause-cause
+returns-in_err-size-clause-cause g c =
+    let p = err_from_is_err_and c.from_residual.result c.from_residual.ensures.1 in
+    rw (p.1, p.2) c.in_err-size.ensures.cause
+
+pub returns-then-size-eq0-clause-ok : goal.returns-then-size-eq0-clause-ok
+returns-then-size-eq0-clause-ok g c =
+    let read = c.in_ok-size.ensures.read in
+    proof_ends _ _ _ _ _ _ c.if-size-eq0.true read.1 read.2 c.end_proof.ensures.judged c.end_proof.ensures.ended
+
+pub returns-in_err-feed_proof-clause-ok : goal.returns-in_err-feed_proof-clause-ok
+returns-in_err-feed_proof-clause-ok g c =
+    let p = err_from_is_err_and c.from_residual-in_err-feed_proof.result c.from_residual-in_err-feed_proof.ensures.1 in
+    rw p.1 tt
+
+pub returns-in_err-feed_proof-clause-err : goal.returns-in_err-feed_proof-clause-err
+returns-in_err-feed_proof-clause-err g c =
+    let p = err_from_is_err_and c.from_residual-in_err-feed_proof.result c.from_residual-in_err-feed_proof.ensures.1 in
+    rw p.1 (read_starved _ _ _ _ p.0 p.2 c.in_ok-size.ensures.read.0 c.in_ok-size.ensures.read.1)
+
+pub returns-in_err-feed_proof-clause-cause : goal.returns-in_err-feed_proof-clause-cause
+returns-in_err-feed_proof-clause-cause g c =
+    let p = err_from_is_err_and c.from_residual-in_err-feed_proof.result c.from_residual-in_err-feed_proof.ensures.1 in
+    rw (p.1, p.2) tt
+
+pub returns-clause-ok : goal.returns-clause-ok
+returns-clause-ok g c =
+    let size = c.in_ok-size.ensures in
+    proof_fed _ _ _ _ _ _ _ c.if-size-eq0.false size.within size.read.0 c.requires.unended size.bytes c.in_ok-feed_proof.ensures.judged c.feed_proof.ensures.ended

@@ -1,0 +1,130 @@
+-- What a check of a script and a proof reads, and why it ends.
+use Rattle.std.specs.Prelude.{◌≡◌, ◌⊎◌, ℕ, ◌+◌, ◌<◌, ◌≤◌, Bool, true, false, List, [], ◌++◌, length, Option, Some, None, IfSome, Result, Ok, Err}
+use Rattle.std.specs.Io.KnownBytes.{Consumes, IsAtEnd}
+use Rattle.script_state.specs.declared.answer.Verdict.{Verdict}
+use Rattle.script_state.specs.States.{no_state}
+use Rattle.accepted_proof.specs.declared.refusal.Refusal.{Refusal}
+use Rattle.accepted_proof.specs.Searching.{Limits}
+use Rattle.accepted_proof.specs.Turns.{Turn}
+use Rattle.accepted_proof.specs.Answers.{proof_of}
+use Rattle.accepted_proof.specs.Accepted.{Accepted}
+use Rattle.accepted_proof.specs.Right.{AreRight}
+use Rattle.proof_checker.specs.Checkings.{Judges}
+use Rattle.proof_checker.specs.declared.checking.Checking.{Checking}
+use Rattle.proof_checker.specs.declared.checking.Judgement.{Judgement}
+use Rattle.smt_desk.specs.Faults.{Rose}
+use Rattle.smt_check.specs.declared.status.Status.{Status}
+use Rattle.smt_check.specs.declared.status.Status.TheVariants.{Done, Refused, Usage, ReadFault, WriteFault, NoMemory, TooLong}
+use Rattle.proof_checker.specs.Checked.{IsJudged, verdicts_of}
+use Rattle.proof_checker.specs.Reports.{report_text}
+use Rattle.smt_check.specs.Runs.{ReadsBytes, ReadsWithin, Counts, input_limit}
+
+-- ---- one input
+
+-- at most so many bytes were read
+abbrev pub ReadsUpTo : ℕ → Option (List ℕ) → Option (List ℕ) → Type 0
+ReadsUpTo left old new = (n : ℕ) × (n ≤ left) × ReadsBytes n old new
+
+-- why a check ends while it reads an input of which so many bytes may still be read, and how much of it was read
+abbrev pub StopsReading : ℕ → Option (List ℕ) → Option (List ℕ) → Status → Type 0
+StopsReading left old new Done = ⊥
+StopsReading left old new Refused = ⊥
+StopsReading left old new Usage = ⊥
+StopsReading left old new ReadFault = ReadsUpTo left old new
+StopsReading left old new WriteFault = ⊥
+StopsReading left old new NoMemory = ReadsUpTo left old new
+StopsReading left old new TooLong = ReadsBytes (left + 1) old new
+
+-- one more where an input is not ended
+abbrev pub if_open : Bool → ℕ
+if_open true = 0
+if_open false = 1
+
+-- a piece of the script was fed, or its end; so many bytes might be read before, and may be now
+pub record TakesScript (old new : Checking) (left rest : ℕ) (s s' : Option (List ℕ)) : Type 0 where
+  pub bytes : List ℕ
+  pub consumed : Consumes s s' bytes
+  pub size : length bytes + rest ≡ left
+  pub judged : (script proof : List ℕ) (vs : List Verdict) (o : Option Refusal) → Judges new script proof vs o → Judges old (bytes ++ script) proof vs o
+  pub end : new.inputs.script_ended ≡ true → IsAtEnd s'
+  pub other : new.inputs.proof_ended ≡ old.inputs.proof_ended
+  pub less : rest + if_open new.inputs.script_ended < left + 1
+
+-- the same of the proof
+pub record TakesProof (old new : Checking) (left rest : ℕ) (p p' : Option (List ℕ)) : Type 0 where
+  pub bytes : List ℕ
+  pub consumed : Consumes p p' bytes
+  pub size : length bytes + rest ≡ left
+  pub judged : (script proof : List ℕ) (vs : List Verdict) (o : Option Refusal) → Judges new script proof vs o → Judges old script (bytes ++ proof) vs o
+  pub end : new.inputs.proof_ended ≡ true → IsAtEnd p'
+  pub other : new.inputs.script_ended ≡ old.inputs.script_ended
+  pub less : rest + if_open new.inputs.proof_ended < left + 1
+
+-- ---- both inputs
+
+-- how much of the script and of the proof was read: at most 2^32 bytes, and one more of one of them only where it is too long
+abbrev pub ReadsBoth : Option (List ℕ) → Option (List ℕ) → Option (List ℕ) → Option (List ℕ) → Result Judgement Status → Type 0
+ReadsBoth s s' p p' (Ok j) = ReadsWithin s s' × ReadsWithin p p'
+ReadsBoth s s' p p' (Err Done) = ⊥
+ReadsBoth s s' p p' (Err Refused) = ⊥
+ReadsBoth s s' p p' (Err Usage) = ⊥
+ReadsBoth s s' p p' (Err ReadFault) = ReadsWithin s s' × ReadsWithin p p'
+ReadsBoth s s' p p' (Err WriteFault) = ⊥
+ReadsBoth s s' p p' (Err NoMemory) = ReadsWithin s s' × ReadsWithin p p'
+ReadsBoth s s' p p' (Err TooLong) = (ReadsBytes (input_limit + 1) s s' × ReadsWithin p p') ⊎ (ReadsWithin s s' × ReadsBytes (input_limit + 1) p p')
+
+-- a fault is told only where the count of one of the sources rose
+abbrev pub HasReadCause : ℕ → ℕ → ℕ → ℕ → Status → Type 0
+HasReadCause s s' p p' ReadFault = Rose s s' ⊎ Rose p p'
+HasReadCause s s' p p' _ = Unit {0}
+
+-- ---- what is told
+
+abbrev pub status_of : Option Refusal → Status
+status_of None = Done
+status_of (Some r) = Refused
+
+-- where both inputs and the answers were told before, there are bytes that were added to the answers, such that P
+abbrev pub ToldOf : Option (List ℕ) → Option (List ℕ) → Option (List ℕ) → Option (List ℕ) → (List ℕ → List ℕ → List ℕ → Type 0) → Type 0
+ToldOf script proof answers answers' P =
+    IfSome script (λ text. IfSome proof (λ lines. IfSome answers (λ a.
+    (answered : List ℕ) × (answers' ≡ Some (a ++ answered)) × P text lines answered)))
+
+-- the proof is accepted, or refused, and this is told
+pub record IsEndOfCheck (status : Status) (text lines answered : List ℕ) : Type 0 where
+  pub verdicts : List Verdict
+  pub refusal : Option Refusal
+  pub judged : IsJudged text lines verdicts refusal
+  pub report : answered ≡ report_text verdicts refusal
+  pub status_is : status ≡ status_of refusal
+
+-- There are turns of the script with the verdicts that are told. They make an accepted proof within some limits, and they are
+-- right: each `sat` has a model, and where there is an `unsat` there is none.
+pub record IsRightlyAccepted (text lines answered : List ℕ) : Type 0 where
+  pub limits : Limits
+  pub turns : List Turn
+  pub accepted : Accepted limits text (proof_of limits turns) turns
+  pub right : AreRight no_state turns
+  pub report : answered ≡ report_text (verdicts_of turns) None
+
+-- a front of what is told of the two texts
+pub record IsFrontOfReport (text lines answered : List ℕ) : Type 0 where
+  pub verdicts : List Verdict
+  pub refusal : Option Refusal
+  pub rest : List ℕ
+  pub judged : IsJudged text lines verdicts refusal
+  pub report : report_text verdicts refusal ≡ answered ++ rest
+
+abbrev pub IsFrontOfCheck : List ℕ → List ℕ → List ℕ → Type 0
+IsFrontOfCheck text lines answered = (answered ≡ []) ⊎ IsFrontOfReport text lines answered
+
+-- how much was read of both inputs, by the status
+abbrev pub ReadsForStatus : Option (List ℕ) → Option (List ℕ) → Option (List ℕ) → Option (List ℕ) → Status → Type 0
+ReadsForStatus s s' p p' TooLong = ReadsBoth s s' p p' (Err TooLong)
+ReadsForStatus s s' p p' _ = ReadsWithin s s' × ReadsWithin p p'
+
+-- a fault is told only where the count of a source, or of the answers, rose; the last count is that of the proof
+abbrev pub HasCheckCause : Counts → Counts → Status → Type 0
+HasCheckCause old new ReadFault = Rose old.script new.script ⊎ Rose old.proof new.proof
+HasCheckCause old new WriteFault = Rose old.answers new.answers
+HasCheckCause old new _ = Unit {0}

@@ -1,0 +1,77 @@
+-- Of the end of a run.
+use Rattle.std.proofs.Common.{◌≡◌, ◌≢◌, ℕ, ◌+◌, List, length, Option, Some, None, refl, sym, ap, ◌∙◌, inl, inr, ⊎_elim, arith, length-append}
+use Rattle.std.specs.Prelude.{◌⊎◌}
+use Rattle.script_state.specs.declared.answer.Verdict.{Verdict}
+use Rattle.script_state.specs.States.{no_state}
+use Rattle.accepted_proof.specs.declared.refusal.Refusal.{Refusal}
+use Rattle.accepted_proof.specs.Searching.{Limits}
+use Rattle.accepted_proof.specs.Turns.{Turn}
+use Rattle.accepted_proof.specs.Answers.{proof_of}
+use Rattle.accepted_proof.specs.Accepted.{Accepted}
+use Rattle.accepted_proof.specs.Right.{AreRight}
+use Rattle.proof_checker.specs.Checked.{IsJudged, IsAccepted, verdicts_of}
+use Rattle.proof_checker.specs.Reports.{report_text}
+use Rattle.smt_check.specs.declared.status.Status.{Status}
+use Rattle.smt_check.specs.declared.status.Status.TheVariants.{Done, Refused, Usage, ReadFault, WriteFault, NoMemory, TooLong}
+use Rattle.smt_check.specs.Runs.{ReadsBytes, Counts, HasCause, input_limit}
+use Rattle.smt_check.specs.Checks.{status_of, ToldOf, IsEndOfCheck, IsRightlyAccepted, ReadsForStatus, HasCheckCause}
+use Rattle.smt_run.specs.Beside.{IsShort, IsWithoutFault}
+
+-- what is accepted is right
+abbrev pub AcceptedLaw : Type 0
+AcceptedLaw = (script proof : List ℕ) (vs : List Verdict) → IsAccepted script proof vs → (limits : Limits) × (turns : List Turn) × Accepted limits script (proof_of limits turns) turns × AreRight no_state turns × (vs ≡ verdicts_of turns)
+
+right_end : (text lines answered : List ℕ) (t : Status) → AcceptedLaw → t ≡ Done → IsEndOfCheck t text lines answered → IsRightlyAccepted text lines answered
+right_end text lines answered t law e k = go k.refusal k.judged k.report (sym e ∙ k.status_is)
+  where
+    go : (o : Option Refusal) → IsJudged text lines k.verdicts o → answered ≡ report_text k.verdicts o → Done ≡ status_of o → IsRightlyAccepted text lines answered
+    go None j r d = let l = law text lines k.verdicts j in record { limits = l.0; turns = l.1; accepted = l.2; right = l.3; report = r ∙ ap (λ vs. report_text vs None) l.4 }
+    go (Some x) j r d = let z : ⊥ = cc in absurd z
+
+pub right_told : (s p a a' : Option (List ℕ)) (t : Status) → AcceptedLaw → t ≡ Done → ToldOf s p a a' (IsEndOfCheck t) → ToldOf s p a a' IsRightlyAccepted
+right_told None p a a' t law e h = tt
+right_told (Some x) None a a' t law e h = tt
+right_told (Some x) (Some y) None a' t law e h = tt
+right_told (Some x) (Some y) (Some z) a' t law e h = (h.0, h.1, right_end x y h.0 t law e h.2)
+
+-- ---- the status of an end
+
+-- a short text is not too long
+not_too_long : (s s' : Option (List ℕ)) → IsShort s → ReadsBytes (input_limit + 1) s s' → ⊥
+not_too_long None s' x h = let e = x.told in let z : ⊥ = cc in z
+not_too_long (Some t) None x h = h.1
+not_too_long (Some t) (Some u) x h =
+    let e : t ≡ x.text = cc (x.told) in
+    let n : length t ≡ length h.0 + length u = ap length h.1 ∙ length-append h.0 u in
+    let m : length t ≡ length x.text = ap length e in
+    omega (arith, n, m, h.2, x.short)
+
+pub judged_unless : (s s' p p' : Option (List ℕ)) (a b : Counts) (t : Status) → t ≢ Usage → ReadsForStatus s s' p p' t → HasCheckCause a b t → IsShort s → IsShort p → IsWithoutFault a b → (t ≡ Done) ⊎ ((t ≡ Refused) ⊎ (t ≡ NoMemory))
+judged_unless s s' p p' a b Done u r h x y z = inl refl
+judged_unless s s' p p' a b Refused u r h x y z = inr (inl refl)
+judged_unless s s' p p' a b Usage u r h x y z = absurd (u refl)
+judged_unless s s' p p' a b ReadFault u r h x y z = absurd (⊎_elim (λ q. z.script q) (λ q. z.proof q) h)
+judged_unless s s' p p' a b WriteFault u r h x y z = absurd (z.answers h)
+judged_unless s s' p p' a b NoMemory u r h x y z = inr (inr refl)
+judged_unless s s' p p' a b TooLong u r h x y z = absurd (⊎_elim (λ q. not_too_long s s' x q.0) (λ q. not_too_long p p' y q.1) r)
+
+pub memory_usage : NoMemory ≢ Usage
+memory_usage = λ e. let z : ⊥ = cc in z
+
+pub memory_long : NoMemory ≢ TooLong
+memory_long = λ e. let z : ⊥ = cc in z
+
+pub memory_end : (P : Type 0) → (NoMemory ≡ Done) ⊎ (NoMemory ≡ Refused) → P
+memory_end P k = absurd (⊎_elim (λ e. let z : ⊥ = cc in z) (λ e. let z : ⊥ = cc in z) k)
+
+pub memory_done : (P : Type 0) → NoMemory ≡ Done → P
+memory_done P e = let z : ⊥ = cc in absurd z
+
+pub answered_unless : (s s' : Option (List ℕ)) (a b : Counts) (t : Status) → t ≢ Usage → (t ≡ TooLong → ReadsBytes (input_limit + 1) s s') → HasCause a b t → IsShort s → IsWithoutFault a b → (t ≡ Done) ⊎ ((t ≡ Refused) ⊎ (t ≡ NoMemory))
+answered_unless s s' a b Done u r h x z = inl refl
+answered_unless s s' a b Refused u r h x z = inr (inl refl)
+answered_unless s s' a b Usage u r h x z = absurd (u refl)
+answered_unless s s' a b ReadFault u r h x z = absurd (z.script h)
+answered_unless s s' a b WriteFault u r h x z = absurd (⊎_elim (λ q. z.answers q) (λ q. z.proof q) h)
+answered_unless s s' a b NoMemory u r h x z = inr (inr refl)
+answered_unless s s' a b TooLong u r h x z = absurd (not_too_long s s' x (r refl))

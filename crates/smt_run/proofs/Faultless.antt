@@ -1,0 +1,156 @@
+-- Words without a fault ask for a command with its files, and the limits that they give are numbers in range.
+use Rattle.std.proofs.Common.{◌≡◌, Bool, true, false, List, [], ◌∷◌, Option, Some, None, refl, sym, ap, ◌∙◌, subst, inl, inr, ⊎_elim}
+use Rattle.std.specs.Prelude.{codes, ◌⊎◌, ◌||◌, is_some, not, if◌then◌else◌, option_map}
+use Rattle.std.specs.Option.{option_map_or}
+use Rattle.clap.specs.Kinds.{check_kinds}
+use Rattle.clap.specs.Walk.{Text, Rule, Row}
+use Rattle.clap.specs.Walk.{first_of, answers_to, walk, finished, nothing_held, rows_after, stop_after}
+use Rattle.clap.specs.Simple.{Shape, rows_at, built, built_leaf, inherited, filled, with_index, entered, names_of, label_of, subcommand_of}
+use Rattle.clap.specs.Takes.{is_given}
+use Rattle.clap.specs.Faults.{fault_of, level_fault, check_fault, entered_fault}
+use Rattle.clap.proofs.OnLiterals.{clap_on_literals}
+use Rattle.smt_run.specs.declared.words.Command.TheVariants.{Solve, Check}
+use Rattle.accepted_proof.specs.Searching.{Limits}
+use Rattle.smt_run.proofs.OneValue.{ArePlain, AreFine, only_one, level_end, fine_after, value_given, number_of_option, no_option}
+use Rattle.smt_run.specs.Words.{proof_argument, script_argument, number_option, app_named, solve_app, program, limits_in, AreUpTo, AsksFor}
+
+-- ---- the command line as it is built
+
+abbrev first_file : Rule
+first_file = with_index 1 (filled proof_argument)
+
+abbrev second_file : Rule
+second_file = with_index 2 (filled script_argument)
+
+abbrev cubes_option : Rule
+cubes_option = filled (number_option (codes "cubes") 10)
+
+abbrev budget_option : Rule
+budget_option = filled (number_option (codes "budget") 1000000000)
+
+abbrev files : List Rule
+files = first_file ∷ second_file ∷ []
+
+abbrev with_limits : List Rule
+with_limits = first_file ∷ second_file ∷ cubes_option ∷ budget_option ∷ []
+
+abbrev above : Shape
+above = (built program).top
+
+abbrev solve_leaf : Shape
+solve_leaf = built_leaf (inherited above solve_app.top)
+
+abbrev check_leaf : Shape
+check_leaf = built_leaf (inherited above (app_named (codes "check")).top)
+
+subs_are : (built program).subs ≡ solve_leaf ∷ check_leaf ∷ []
+unfolding clap_on_literals
+subs_are = refl
+
+solve_rules : solve_leaf.rules ≡ with_limits
+unfolding clap_on_literals
+solve_rules = refl
+
+check_rules : check_leaf.rules ≡ files
+unfolding clap_on_literals
+check_rules = refl
+
+files_plain : ArePlain files
+unfolding clap_on_literals
+files_plain = record {
+  each = (record { known = refl; action = refl; takes = refl; one = only_one; defaults = refl }, (record { known = refl; action = refl; takes = refl; one = only_one; defaults = refl }, tt));
+  no_short = λ x. refl;
+}
+
+limits_plain : ArePlain with_limits
+unfolding clap_on_literals
+limits_plain = record {
+  each = (record { known = refl; action = refl; takes = refl; one = only_one; defaults = refl }, (record { known = refl; action = refl; takes = refl; one = only_one; defaults = refl }, (record { known = refl; action = refl; takes = refl; one = only_one; defaults = refl }, (record { known = refl; action = refl; takes = refl; one = only_one; defaults = refl }, tt))));
+  no_short = λ x. refl;
+}
+
+numbers_of_solve : (rows : List Row) → AreFine with_limits rows → AreUpTo rows
+unfolding clap_on_literals
+numbers_of_solve rows h = record {
+  cubes = number_of_option with_limits (codes "cubes") 10 refl rows h;
+  budget = number_of_option with_limits (codes "budget") 1000000000 refl rows h;
+}
+
+numbers_of_check : (rows : List Row) → AreFine files rows → AreUpTo rows
+unfolding clap_on_literals
+numbers_of_check rows h = record { cubes = no_option files (codes "cubes") 10 refl rows h; budget = no_option files (codes "budget") 1000000000 refl rows h }
+
+-- ---- the program
+
+pub record IsFound (found : Option (Text × List Row)) (name : Text) : Type 0 where
+  pub rows : List Row
+  pub command : found ≡ Some (name, rows)
+  pub proof : Text
+  pub proof_is : first_of (codes "PROOF") rows ≡ Some proof
+  pub numbers : AreUpTo rows
+
+abbrev pub Found : Option (Text × List Row) → Type 0
+Found found = IsFound found (codes "solve") ⊎ IsFound found (codes "check")
+
+given_of : (b : Bool) → check_kinds false false (not b || false) ≡ [] → b ≡ true
+given_of true e = refl
+given_of false e = let q : ⊥ = cc in absurd q
+
+solve_found : (words : List Text) → level_fault solve_leaf [] nothing_held words false [] ≡ [] → IsFound (Some (rows_at solve_leaf words)) (codes "solve")
+solve_found words e =
+    let ends = level_end solve_leaf [] words false [] e in
+    let rows = rows_after with_limits [] words in
+    let fine : AreFine with_limits rows = fine_after solve_leaf refl limits_plain words ends in
+    let v = value_given with_limits (codes "PROOF") rows fine (given_of (is_given (codes "PROOF") rows) ends.check) in
+    record { rows = rows; command = refl; proof = v.0; proof_is = v.1; numbers = numbers_of_solve rows fine }
+
+check_found : (words : List Text) → level_fault check_leaf [] nothing_held words false [] ≡ [] → IsFound (Some (rows_at check_leaf words)) (codes "check")
+check_found words e =
+    let ends = level_end check_leaf [] words false [] e in
+    let rows = rows_after files [] words in
+    let fine : AreFine files rows = fine_after check_leaf refl files_plain words ends in
+    let v = value_given files (codes "PROOF") rows fine (given_of (is_given (codes "PROOF") rows) ends.check) in
+    record { rows = rows; command = refl; proof = v.0; proof_is = v.1; numbers = numbers_of_check rows fine }
+
+abbrev either : Bool → Bool → Option Shape
+either b c = if b then Some solve_leaf else (if c then Some check_leaf else None)
+
+one_found : (b c : Bool) (words : List Text) → is_some (option_map (λ s. rows_at s words) (either b c)) ≡ true → option_map_or (λ s. level_fault s [] nothing_held words false []) (either b c) [] ≡ [] → Found (option_map (λ s. rows_at s words) (either b c))
+one_found true c words h e = inl (solve_found words e)
+one_found false true words h e = inr (check_found words e)
+one_found false false words h e = let q : ⊥ = cc in absurd q
+
+stop_found : (o : Option (Text × List Text)) → is_some (entered (built program) o) ≡ true → entered_fault (built program) o ≡ [] → Found (entered (built program) o)
+stop_found None h e = let q : ⊥ = cc in absurd q
+stop_found (Some p) h e = one_found (answers_to p.0 (label_of solve_leaf)) (answers_to p.0 (label_of check_leaf)) p.1 h e
+
+wanted : (b : Bool) (rows : List Row) → check_fault above rows b ≡ [] → b ≡ true
+wanted true rows e = refl
+wanted false rows e = let q : ⊥ = cc in absurd q
+
+pub faultless_found : (words : List Text) → fault_of program words ≡ [] → Found (subcommand_of program words)
+faultless_found words e =
+    let stop = stop_after above.rules (names_of (built program)) words in
+    let ends = level_end above (names_of (built program)) words (is_some (entered (built program) stop)) (entered_fault (built program) stop) e in
+    stop_found stop (wanted (is_some (entered (built program) stop)) (finished above.rules (walk above.rules (names_of (built program)) nothing_held words).held) ends.check) ends.inner
+
+abbrev rows_in : Option (Text × List Row) → List Row
+rows_in None = []
+rows_in (Some p) = p.1
+
+-- the words of a command that is found give numbers in range
+pub numbers_found : (words : List Text) (name : Text) (rows : List Row) → fault_of program words ≡ [] → subcommand_of program words ≡ Some (name, rows) → AreUpTo rows
+numbers_found words name rows e found = ⊎_elim (λ f. from _ f) (λ f. from _ f) (faultless_found words e)
+  where
+    from : (n : Text) → IsFound (subcommand_of program words) n → AreUpTo rows
+    from n f =
+        let same : f.rows ≡ rows = ap rows_in (sym f.command ∙ found) in
+        subst AreUpTo same f.numbers
+
+-- words without a fault ask for one of both
+pub faultless_asks : (words : List Text) → fault_of program words ≡ [] → ((l : Limits) × AsksFor Solve l words) ⊎ ((l : Limits) × AsksFor Check l words)
+faultless_asks words e =
+    ⊎_elim
+    (λ f. inl (limits_in f.rows, (f.proof, first_of (codes "SCRIPT") f.rows, record { taken = e; names = record { rows = f.rows; command = f.command; proof_is = f.proof_is; script_is = refl; limits_are = refl } })))
+    (λ f. inr (limits_in f.rows, (f.proof, first_of (codes "SCRIPT") f.rows, record { taken = e; names = record { rows = f.rows; command = f.command; proof_is = f.proof_is; script_is = refl; limits_are = refl } })))
+    (faultless_found words e)

@@ -1,0 +1,80 @@
+-- One command and its answer.
+use Rattle.std.proofs.Common.{◌≡◌, ℕ, ◌<◌, List, [], ◌∷◌, length, take, drop, Option, refl, sym, ap, ◌∙◌, subst, append-nil, inl, inr, take-append-drop, arith, length-drop}
+use Rattle.std.specs.Prelude.{◌||◌}
+use Rattle.std.specs.List.{flat_map, AllByRecursion}
+use Rattle.std.specs.Io.KnownBytes.{Appends}
+use Rattle.std.proofs.KnownBytes.{Appends-nil}
+use Rattle.smt_text.specs.declared.chunk.Chunk.{Chunk}
+use Rattle.proof_text.specs.Lines.{line_text, IsLine}
+use Rattle.script_state.specs.Steps.{ends}
+use Rattle.accepted_proof.specs.Answers.{turn_text, turn_lines, is_refused}
+use Rattle.smt_session.specs.declared.response.Response.{Response}
+use Rattle.smt_session.specs.Sessions.{SessionValue, IsAnswered}
+use Rattle.smt_run.specs.declared.answering.Answered.{Answered}
+use Rattle.smt_run.specs.Adding.{Moment, moment_of, answers_at, Follow, streams, lines_of, Advances, BreaksAt}
+use Rattle.smt_run.proofs.Turning.{Follow-none, or_false}
+
+module _ (chunk : Chunk) (old new : SessionValue) (r : Response) (p p' : Option (List ℕ)) (w : IsAnswered chunk old new r p p') where
+  turn_follows : Follow (moment_of old) (chunk ∷ []) (w.turn ∷ [])
+  turn_follows = record { read = (w.line, w.reads, tt); last = (λ e. refl, tt); run = (w.stands, tt) }
+
+  one_text : answers_at (moment_of old) (w.turn ∷ []) ≡ r.text
+  one_text = append-nil (turn_text old.state old.log.entries old.shown w.turn) ∙ sym w.text
+
+  one_proof : lines_of (w.turn ∷ []) ≡ flat_map line_text (turn_lines w.turn)
+  one_proof = ap (flat_map line_text) (append-nil (turn_lines w.turn))
+
+  pub turn_advances : (so_far answered : Answered) (a a' : Option (List ℕ)) → so_far.session ≡ old → answered.session ≡ new → answered.refused ≡ (so_far.refused || r.error) → answered.ended ≡ r.ends → Appends a a' r.text
+      → Advances (moment_of so_far.session) so_far.refused answered (streams a p) (streams a' p') (chunk ∷ [])
+  turn_advances so_far answered a a' e f b g t =
+      rw (e, f) (record {
+        turns = w.turn ∷ [];
+        adds = record {
+          follow = turn_follows;
+          answers = subst (Appends a a') (sym (append-nil (answers_at (moment_of old) (w.turn ∷ [])) ∙ one_text)) t;
+          proof = subst (Appends p p') (sym (append-nil (lines_of (w.turn ∷ [])) ∙ one_proof)) w.lines;
+          readable = subst (AllByRecursion IsLine) (sym (append-nil (turn_lines w.turn))) w.readable;
+        };
+        after_is = (λ i. record { state = w.state i; log = w.log i; shown = w.shown i; limits = w.limits i });
+        refused_is = b ∙ ap (λ x. so_far.refused || x) (w.error ∙ or_false (is_refused w.turn));
+        ended_is = g ∙ w.ends ∙ or_false (ends w.turn.says);
+      })
+
+  pub turn_breaks : (so_far : Answered) (n : ℕ) (a a' : Option (List ℕ)) → so_far.session ≡ old → n < length r.text → Appends a a' (take n r.text)
+      → BreaksAt (moment_of so_far.session) (streams a p) (streams a' p') (chunk ∷ [])
+  turn_breaks so_far n a a' e h t =
+      rw e (record {
+        next = chunk ∷ [];
+        next_is = inr refl;
+        breaks = record {
+          turns = [];
+          begun = take n r.text;
+          more = flat_map line_text (turn_lines w.turn);
+          adds = record { follow = Follow-none (moment_of old); answers = t; proof = w.lines; readable = tt };
+          going = refl;
+          coming = w.turn ∷ [];
+          rest = drop n r.text;
+          follow = turn_follows;
+          front = one_text ∙ sym (take-append-drop n r.text);
+          unfinished = inr (w.turn, refl, omega (arith, h, length-drop n r.text));
+        };
+      })
+
+-- a command that was not answered
+pub command_breaks : (m : Moment) (chunks : List Chunk) (a p p' : Option (List ℕ)) (lines : List ℕ) → Appends p p' lines → BreaksAt m (streams a p) (streams a p') chunks
+command_breaks m chunks a p p' lines h = record {
+  next = [];
+  next_is = inl refl;
+  breaks = record {
+    turns = [];
+    begun = [];
+    more = lines;
+    adds = record { follow = Follow-none m; answers = Appends-nil a; proof = h; readable = tt };
+    going = refl;
+    coming = [];
+    rest = [];
+    follow = Follow-none m;
+    front = refl;
+    unfinished = inl refl;
+  };
+}

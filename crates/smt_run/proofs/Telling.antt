@@ -1,0 +1,283 @@
+-- What was added, where bytes are told.
+use Rattle.std.proofs.Common.{◌≡◌, ℕ, ◌<◌, Bool, true, false, List, [], ◌∷◌, ◌++◌, length, Option, Some, None, refl, sym, ap, ◌∙◌, subst, append_assoc, append-nil, inl, inr, ⊎_elim}
+use Rattle.std.specs.List.{flat_map, AllByRecursion}
+use Rattle.std.specs.Prelude.{◌⊎◌, ◌||◌, Result, Ok, Err, IfOk, IfErr, MatchResult, IfSome, if◌then◌else◌, option_to_list}
+use Rattle.std.specs.Io.KnownBytes.{Appends, Consumes, IsAtEnd}
+use Rattle.std.proofs.lemmas.List.Folds.{list_any-append}
+use Rattle.smt_text.specs.declared.chunk.Chunk.{Chunk}
+use Rattle.smt_text.specs.Framing.{Held, first_chunk, last_chunk}
+use Rattle.smt_text.specs.Script.{Begins, AreChunks}
+use Rattle.smt_text.proofs.Cuts.{Begins-append}
+use Rattle.script_state.specs.States.{no_state}
+use Rattle.accepted_proof.specs.Searching.{Limits, AreLimits}
+use Rattle.accepted_proof.specs.Turns.{Turn, AreTurns}
+use Rattle.accepted_proof.specs.Right.{AreRight, ArePrinted}
+use Rattle.proof_text.specs.Lines.{IsLine}
+use Rattle.accepted_proof.specs.Answers.{answers_of, turn_lines, is_refused, header_text, proof_of}
+use Rattle.accepted_proof.specs.Accepted.{AreRead, AreAll, Accepted, IsFront, IsBegun, has_error}
+use Rattle.proof_checker.specs.Checked.{IsAccepted, verdicts_of}
+use Rattle.smt_check.specs.declared.status.Status.{Status}
+use Rattle.smt_check.specs.declared.status.Status.TheVariants.{Done, Refused}
+use Rattle.smt_run.specs.declared.answering.Answered.{Answered}
+use Rattle.smt_run.specs.Adding.{moment_of, opening, Follow, Streams, streams, lines_of, Advances, IsBegunOf, Breaks, BreaksAt, BreaksWithin, AddsLast, AnswersAll, AnswersFront}
+use Rattle.smt_run.specs.Beside.{Told, IsBesideProof, IsBeside, IsAllAnswered, IsPrefix, IsReadOut}
+use Rattle.smt_run.proofs.Turning.{Follow-append, answers-append, Adds-trans, Advances-breaks}
+
+-- what answers to turns that follow one another are
+abbrev pub RightLaw : Limits → Type 0
+RightLaw limits = (turns : List Turn) → AreTurns limits no_state [] turns → AreRight no_state turns × ArePrinted no_state [] None turns
+
+-- which proofs a check accepts
+abbrev pub PassLaw : Limits → Type 0
+PassLaw limits = (script proof : List ℕ) (turns : List Turn) → Accepted limits script proof turns → AllByRecursion IsLine (flat_map turn_lines turns) → IsAccepted script proof (verdicts_of turns)
+
+-- ---- texts
+
+-- the text that stood before what is left
+front_more : (text more : List ℕ) (chunks : List Chunk) (rest : Held) → Begins (record { line = 1; bytes = text }) chunks rest → IsFront (text ++ more) chunks
+front_more text more chunks rest b = inl (record { line = rest.line; bytes = rest.bytes ++ more }, Begins-append (record { line = 1; bytes = text }) chunks rest more b)
+
+-- at the end of the script its text is what was read
+whole_text : (x text y : List ℕ) → x ≡ text ++ y → y ≡ [] → x ≡ text
+whole_text x text y e f = e ∙ ap (λ l. text ++ l) f ∙ append-nil text
+
+-- the chunks of a script that ends where no whole chunk is held
+cut_whole : (text : List ℕ) (chunks : List Chunk) (rest : Held) → Begins (record { line = 1; bytes = text }) chunks rest → first_chunk rest ≡ None → AreChunks text (chunks ++ option_to_list (last_chunk rest))
+cut_whole text chunks rest b e = record { whole = chunks; rest = rest; begins = b; ends = e; all = refl }
+
+pub told_map : (s a a' p p' : Option (List ℕ)) (P Q : List ℕ → List ℕ → List ℕ → Type 0) → ((x y z : List ℕ) → P x y z → Q x y z) → Told s a a' p p' P → Told s a a' p p' Q
+told_map None a a' p p' P Q h t = tt
+told_map (Some x) None a' p p' P Q h t = tt
+told_map (Some x) (Some y) a' None p' P Q h t = tt
+told_map (Some x) (Some y) a' (Some z) p' P Q h t = (t.0, t.1, t.2, t.3, h x t.0 t.1 t.4)
+
+-- nothing is answered
+pub told_silent : (s a p p' : Option (List ℕ)) (bytes : List ℕ) (P : List ℕ → List ℕ → List ℕ → Type 0) → Appends p p' bytes → ((text : List ℕ) → P text [] bytes) → Told s a a p p' P
+told_silent None a p p' bytes P e h = tt
+told_silent (Some x) None p p' bytes P e h = tt
+told_silent (Some x) (Some y) None p' bytes P e h = tt
+told_silent (Some x) (Some y) (Some z) None bytes P e h = absurd e
+told_silent (Some x) (Some y) (Some z) (Some w) bytes P e h = ([], bytes, ap Some (sym (append-nil y)), ap Some e, h x)
+
+front_of_all : (text : List ℕ) (chunks : List Chunk) (turns : List Turn) → AreAll text chunks turns → IsFront text chunks
+front_of_all text chunks turns k = ⊎_elim inr (λ h. h.1) k
+
+module _ (limits : Limits) where
+  -- ---- from pieces of a script to what it tells
+
+  pub front_told : (s s' : Option (List ℕ)) (text : List ℕ) (a b : Streams) → Consumes s s' text → BreaksWithin (record { line = 1; bytes = text }) (opening limits) a b → IfSome s (λ t. AnswersFront limits t a b)
+  front_told None s' text a b c w = tt
+  front_told (Some x) None text a b c w = absurd c
+  front_told (Some x) (Some y) text a b c w = record {
+    chunks = w.chunks;
+    next = w.next;
+    front = rw c (front_more text y w.chunks w.front.0 w.front.1);
+    all = rw c (front_more text y (w.chunks ++ w.next) w.all.0 w.all.1);
+    breaks = w.breaks;
+  }
+
+  pub all_told : (s s' : Option (List ℕ)) (text : List ℕ) (cur : Answered) (now : Bool) (a b c : Streams) (chunks : List Chunk) (rest : Held) → cur.ended ≡ false → Consumes s s' text → IsAtEnd s' → Begins (record { line = 1; bytes = text }) chunks rest → first_chunk rest ≡ None → Advances (opening limits) false cur a b chunks → AddsLast (moment_of cur.session) cur.refused b c (option_to_list (last_chunk rest)) now → IfSome s (λ t. AnswersAll limits t a c now)
+  all_told None s' text cur now a b c chunks rest g k z f e p q = tt
+  all_told (Some x) None text cur now a b c chunks rest g k z f e p q = absurd k
+  all_told (Some x) (Some y) text cur now a b c chunks rest g k z f e p q = record {
+    chunks = chunks ++ option_to_list (last_chunk rest);
+    turns = p.turns ++ q.turns;
+    cut = inl (rw (whole_text x text y k z) (cut_whole text chunks rest f e));
+    adds = Adds-trans (opening limits) a b c chunks (option_to_list (last_chunk rest)) p.turns q.turns [] [] (sym p.ended_is ∙ g) p.adds (rw p.after_is at q.adds);
+    refused_is = q.refused_is ∙ ap (λ r. r || has_error q.turns) p.refused_is ∙ sym (list_any-append is_refused p.turns q.turns);
+  }
+
+  -- a stop at the last chunk
+  pub last_told : (s s' : Option (List ℕ)) (text : List ℕ) (cur : Answered) (a b c : Streams) (chunks : List Chunk) (rest : Held) → cur.ended ≡ false → Consumes s s' text → IsAtEnd s' → Begins (record { line = 1; bytes = text }) chunks rest → first_chunk rest ≡ None → Advances (opening limits) false cur a b chunks → BreaksAt (moment_of cur.session) b c (option_to_list (last_chunk rest)) → IfSome s (λ t. AnswersFront limits t a c)
+  last_told None s' text cur a b c chunks rest g k z f e p q = tt
+  last_told (Some x) None text cur a b c chunks rest g k z f e p q = absurd k
+  last_told (Some x) (Some y) text cur a b c chunks rest g k z f e p q =
+      let same = whole_text x text y k z in
+      record {
+        chunks = chunks;
+        next = q.next;
+        front = rw same (inl (rest, f));
+        all = rw same (⊎_elim (λ n. rw n (inl (rest, rw append-nil f))) (λ n. rw n (inr (cut_whole text chunks rest f e))) q.next_is);
+        breaks = subst (λ l. Breaks (opening limits) a c l q.next) (append-nil chunks) (Advances-breaks (opening limits) false cur a b c chunks [] q.next g p q.breaks);
+      }
+
+  -- the end of the script
+  pub rest_told : (s s' : Option (List ℕ)) (text : List ℕ) (cur : Answered) (a b c : Streams) (chunks : List Chunk) (rest : Held) (r : Result Bool Status) → cur.ended ≡ false → Consumes s s' text → IsAtEnd s' → Begins (record { line = 1; bytes = text }) chunks rest → first_chunk rest ≡ None → Advances (opening limits) false cur a b chunks
+      → IfOk r (λ now. AddsLast (moment_of cur.session) cur.refused b c (option_to_list (last_chunk rest)) now) → IfErr r (λ _. BreaksAt (moment_of cur.session) b c (option_to_list (last_chunk rest)))
+      → IfSome s (λ t. MatchResult r (λ now. AnswersAll limits t a c now) (λ _. AnswersFront limits t a c))
+  rest_told s s' text cur a b c chunks rest (Ok now) g k z f e p q w = all_told s s' text cur now a b c chunks rest g k z f e p q
+  rest_told s s' text cur a b c chunks rest (Err t) g k z f e p q w = last_told s s' text cur a b c chunks rest g k z f e p w
+
+  -- a command ends the run
+  pub ended_told : (s s' : Option (List ℕ)) (text : List ℕ) (cur : Answered) (a c : Streams) (chunks : List Chunk) (rest : Held) → cur.ended ≡ true → Consumes s s' text → Begins (record { line = 1; bytes = text }) chunks rest → Advances (opening limits) false cur a c chunks → IfSome s (λ t. AnswersAll limits t a c cur.refused)
+  ended_told None s' text cur a c chunks rest g k f p = tt
+  ended_told (Some x) None text cur a c chunks rest g k f p = absurd k
+  ended_told (Some x) (Some y) text cur a c chunks rest g k f p = record {
+    chunks = chunks;
+    turns = p.turns;
+    cut = inr (sym p.ended_is ∙ g, rw k (front_more text y chunks rest f));
+    adds = p.adds;
+    refused_is = p.refused_is;
+  }
+
+  pub ended_read : (s s' : Option (List ℕ)) (text : List ℕ) (cur : Answered) (a c : Streams) (chunks : List Chunk) (rest : Held) → cur.ended ≡ true → Consumes s s' text → Begins (record { line = 1; bytes = text }) chunks rest → Advances (opening limits) false cur a c chunks → IsReadOut s s'
+  ended_read None s' text cur a c chunks rest g k f p = inr tt
+  ended_read (Some x) None text cur a c chunks rest g k f p = absurd k
+  ended_read (Some x) (Some y) text cur a c chunks rest g k f p = inr (record {
+    chunks = chunks;
+    turns = p.turns;
+    front = rw k (front_more text y chunks rest f);
+    read = p.adds.follow.read;
+    last = p.adds.follow.last;
+    ended = sym p.ended_is ∙ g;
+  })
+
+  -- what is begun of the answer to what comes next
+  begun_of : (text : List ℕ) (chunks next : List Chunk) (turns coming : List Turn) (begun rest : List ℕ) → IsFront text (chunks ++ next) → Follow (opening limits) (chunks ++ next) (turns ++ coming) → AreRead next coming
+      → answers_of (turns ++ coming) ≡ answers_of turns ++ begun ++ rest → IsBegunOf coming begun rest → (begun ≡ []) ⊎ IsBegun limits text chunks turns begun
+  begun_of text chunks next turns coming begun rest f h read e u = ⊎_elim inl (λ k. inr (one next coming f h read e k.1 k.2)) u
+    where
+      one : {t : Turn} (next : List Chunk) (coming : List Turn) → IsFront text (chunks ++ next) → Follow (opening limits) (chunks ++ next) (turns ++ coming) → AreRead next coming
+          → answers_of (turns ++ coming) ≡ answers_of turns ++ begun ++ rest → coming ≡ t ∷ [] → 0 < length rest → IsBegun limits text chunks turns begun
+      one next [] f h read e is lt = let q : ⊥ = cc in absurd q
+      one [] (t ∷ coming) f h read e is lt = absurd read
+      one (c ∷ d ∷ next) (t ∷ []) f h read e is lt = absurd read.2
+      one next (t ∷ u ∷ coming) f h read e is lt = let q : ⊥ = cc in absurd q
+      one (c ∷ []) (t ∷ []) f h read e is lt = record { next = c; turn = t; rest = rest; front = f; read = h.read; last = h.last; run = h.run; texts = e; unfinished = lt }
+
+  -- ---- what is told
+
+  pub unbegun_beside : (bytes rest : List ℕ) → header_text limits ≡ bytes ++ rest → (text : List ℕ) → IsBeside limits text [] bytes
+  unbegun_beside bytes rest e text = inl (record { answers = refl; rest = rest; header = e })
+
+  pub unbegun_prefix : (text proved : List ℕ) → IsPrefix limits text []
+  unbegun_prefix text proved = record { chunks = []; turns = []; rest = []; front = inl (record { line = 1; bytes = text }, refl); read = tt; last = tt; run = tt; answers = refl }
+
+  -- what was added behind the header
+  added_proof : (z m w lines : List ℕ) → m ≡ z ++ header_text limits → w ≡ m ++ lines → w ≡ z ++ (header_text limits ++ lines)
+  added_proof z m w lines h e = e ∙ ap (λ l. l ++ lines) h ∙ append_assoc z (header_text limits) lines
+
+  abbrev pub IsFrontTold : List ℕ → List ℕ → List ℕ → Type 0
+  IsFrontTold text answered proved = IsBesideProof limits text answered proved × IsPrefix limits text answered
+
+  pub told_front : (s a a' p m p' : Option (List ℕ)) → AreLimits limits → RightLaw limits → Appends p m (header_text limits) → IfSome s (λ t. AnswersFront limits t (streams a m) (streams a' p')) → Told s a a' p p' IsFrontTold
+  told_front None a a' p m p' allowed law h w = tt
+  told_front (Some x) None a' p m p' allowed law h w = tt
+  told_front (Some x) (Some y) a' None m p' allowed law h w = tt
+  told_front (Some x) (Some y) a' (Some z) None p' allowed law h w = absurd h
+  told_front (Some x) (Some y) None (Some z) (Some m) p' allowed law h w = absurd w.breaks.adds.answers
+  told_front (Some x) (Some y) (Some y') (Some z) (Some m) None allowed law h w = absurd w.breaks.adds.proof
+  told_front (Some x) (Some y) (Some y') (Some z) (Some m) (Some z') allowed law h w =
+      let b = w.breaks in
+      let all = Follow-append (opening limits) w.chunks w.next b.turns b.coming b.going b.adds.follow b.follow in
+      let texts = answers-append (opening limits) b.turns b.coming ∙ ap (λ l. answers_of b.turns ++ l) b.front ∙ sym (append_assoc (answers_of b.turns) b.begun b.rest) in (
+        answers_of b.turns ++ b.begun,
+        header_text limits ++ (lines_of b.turns ++ b.more),
+        ap Some b.adds.answers,
+        ap Some (added_proof z m z' _ h b.adds.proof),
+        (
+          record {
+            beside = record {
+              allowed = allowed;
+              chunks = w.chunks;
+              turns = b.turns;
+              more = b.more;
+              begun = b.begun;
+              front = w.front;
+              read = b.adds.follow.read;
+              last = b.adds.follow.last;
+              run = b.adds.follow.run;
+              lines = sym (append_assoc (header_text limits) (lines_of b.turns) b.more);
+              texts = refl;
+              unfinished = begun_of x w.chunks w.next b.turns b.coming b.begun b.rest w.all all b.follow.read texts b.unfinished;
+            };
+            right = (law b.turns b.adds.follow.run).0;
+            printed = (law b.turns b.adds.follow.run).1;
+          },
+          record {
+            chunks = w.chunks ++ w.next;
+            turns = b.turns ++ b.coming;
+            rest = b.rest;
+            front = w.all;
+            read = all.read;
+            last = all.last;
+            run = all.run;
+            answers = texts;
+          },
+        ),
+      )
+
+  pub told_all : (s a a' p m p' : Option (List ℕ)) (refused : Bool) (status : Status) → AreLimits limits → RightLaw limits → PassLaw limits → status ≡ (if refused then Refused else Done) → Appends p m (header_text limits) → IfSome s (λ t. AnswersAll limits t (streams a m) (streams a' p') refused) → Told s a a' p p' (IsAllAnswered limits status)
+  told_all None a a' p m p' refused status allowed law pass e h w = tt
+  told_all (Some x) None a' p m p' refused status allowed law pass e h w = tt
+  told_all (Some x) (Some y) a' None m p' refused status allowed law pass e h w = tt
+  told_all (Some x) (Some y) a' (Some z) None p' refused status allowed law pass e h w = absurd h
+  told_all (Some x) (Some y) None (Some z) (Some m) p' refused status allowed law pass e h w = absurd w.adds.answers
+  told_all (Some x) (Some y) (Some y') (Some z) (Some m) None refused status allowed law pass e h w = absurd w.adds.proof
+  told_all (Some x) (Some y) (Some y') (Some z) (Some m) (Some z') refused status allowed law pass e h w =
+      let accepted : Accepted limits x (header_text limits ++ lines_of w.turns) w.turns = record { allowed = allowed; chunks = w.chunks; cut = w.cut; read = w.adds.follow.read; last = w.adds.follow.last; run = w.adds.follow.run; lines = refl } in (
+        answers_of w.turns,
+        header_text limits ++ lines_of w.turns,
+        ap Some (rw append-nil at w.adds.answers),
+        ap Some (added_proof z m z' _ h (rw append-nil at w.adds.proof)),
+        record {
+          turns = w.turns;
+          whole = record { accepted = accepted; texts = refl };
+          checked = pass x (header_text limits ++ lines_of w.turns) w.turns accepted w.adds.readable;
+          right = (law w.turns w.adds.follow.run).0;
+          printed = (law w.turns w.adds.follow.run).1;
+          status_is = e ∙ ap (λ r. if r then Refused else Done) w.refused_is;
+        },
+      )
+
+  -- where all is answered, what was answered stands beside the proof
+  pub all_beside : (status : Status) (text answered proved : List ℕ) → IsAllAnswered limits status text answered proved → IsBeside limits text answered proved
+  all_beside status text answered proved k = inr (record {
+    beside = record {
+      allowed = k.whole.accepted.allowed;
+      chunks = k.whole.accepted.chunks;
+      turns = k.turns;
+      more = [];
+      begun = [];
+      front = front_of_all text k.whole.accepted.chunks k.turns k.whole.accepted.cut;
+      read = k.whole.accepted.read;
+      last = k.whole.accepted.last;
+      run = k.whole.accepted.run;
+      lines = k.whole.accepted.lines ∙ sym (append-nil (proof_of limits k.turns));
+      texts = k.whole.texts ∙ sym (append-nil (answers_of k.turns));
+      unfinished = inl refl;
+    };
+    right = k.right;
+    printed = k.printed;
+  })
+
+  pub all_prefix : (status : Status) (text answered proved : List ℕ) → IsAllAnswered limits status text answered proved → IsPrefix limits text answered
+  all_prefix status text answered proved k = record {
+    chunks = k.whole.accepted.chunks;
+    turns = k.turns;
+    rest = [];
+    front = front_of_all text k.whole.accepted.chunks k.turns k.whole.accepted.cut;
+    read = k.whole.accepted.read;
+    last = k.whole.accepted.last;
+    run = k.whole.accepted.run;
+    answers = sym k.whole.texts ∙ sym (append-nil answered);
+  }
+
+  -- ---- both ends of a run
+
+  module _ (s a a' p m p' : Option (List ℕ)) (allowed : AreLimits limits) (law : RightLaw limits) (h : Appends p m (header_text limits)) where
+    pub front_beside : IfSome s (λ t. AnswersFront limits t (streams a m) (streams a' p')) → Told s a a' p p' (IsBeside limits)
+    front_beside w = told_map s a a' p p' IsFrontTold (IsBeside limits) (λ x y z k. inr k.0) (told_front s a a' p m p' allowed law h w)
+
+    pub front_prefix : IfSome s (λ t. AnswersFront limits t (streams a m) (streams a' p')) → Told s a a' p p' (λ text answered proved. IsPrefix limits text answered)
+    front_prefix w = told_map s a a' p p' IsFrontTold (λ text answered proved. IsPrefix limits text answered) (λ x y z k. k.1) (told_front s a a' p m p' allowed law h w)
+
+    module _ (pass : PassLaw limits) (refused : Bool) (status : Status) (e : status ≡ (if refused then Refused else Done)) (w : IfSome s (λ t. AnswersAll limits t (streams a m) (streams a' p') refused)) where
+      pub whole_all : Told s a a' p p' (IsAllAnswered limits status)
+      whole_all = told_all s a a' p m p' refused status allowed law pass e h w
+
+      pub whole_beside : Told s a a' p p' (IsBeside limits)
+      whole_beside = told_map s a a' p p' (IsAllAnswered limits status) (IsBeside limits) (all_beside status) whole_all
+
+      pub whole_prefix : Told s a a' p p' (λ text answered proved. IsPrefix limits text answered)
+      whole_prefix = told_map s a a' p p' (IsAllAnswered limits status) (λ text answered proved. IsPrefix limits text answered) (all_prefix status) whole_all

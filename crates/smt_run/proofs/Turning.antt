@@ -1,0 +1,223 @@
+-- Turns after turns.
+use Rattle.std.proofs.Common.{◌≡◌, ℕ, Bool, true, false, List, [], ◌∷◌, ◌++◌, Option, Some, None, refl, sym, ap, ◌∙◌, subst, append_assoc, append-nil, inl, ⊎_elim}
+use Rattle.std.specs.Prelude.{not, ◌||◌, Result, Ok, Err, IfOk, IfErr, option_to_list}
+use Rattle.std.specs.List.{flat_map, AllByRecursion}
+use Rattle.std.proofs.lemmas.Grind.{flat_map-append}
+use Rattle.std.proofs.lemmas.List.Folds.{list_any-append}
+use Rattle.std.specs.Io.KnownBytes.{Appends}
+use Rattle.std.proofs.KnownBytes.{Appends-nil, Appends-trans}
+use Rattle.smt_text.specs.declared.chunk.Chunk.{Chunk}
+use Rattle.smt_text.specs.Framing.{Held, first_chunk}
+use Rattle.smt_text.specs.Script.{Begins}
+use Rattle.smt_text.proofs.Cuts.{Begins-push, Begins-append}
+use Rattle.proof_log.proofs.Growing.{each_append}
+use Rattle.proof_text.specs.Lines.{line_text, IsLine}
+use Rattle.script_state.specs.Steps.{ends}
+use Rattle.accepted_proof.specs.Turns.{Turn, AreTurns}
+use Rattle.accepted_proof.specs.Answers.{turn_text, turn_lines, is_refused}
+use Rattle.accepted_proof.specs.Accepted.{AreRead, EndLast, has_ended, has_error}
+use Rattle.smt_check.specs.declared.status.Status.{Status}
+use Rattle.smt_run.specs.declared.answering.Answered.{Answered}
+use Rattle.smt_run.specs.Adding.{Moment, moment_of, behind, after, answers_at, Follow, Streams, lines_of, Adds, Advances, Breaks, BreaksAt, AdvancesWithin, BreaksWithin, AddsLast, with_piece}
+
+pub after-append : (m : Moment) (ts us : List Turn) → after m (ts ++ us) ≡ after (after m ts) us
+after-append m [] us = refl
+after-append m (t ∷ ts) us = after-append (behind m t) ts us
+
+read-append : (cs ds : List Chunk) (ts us : List Turn) → AreRead cs ts → AreRead ds us → AreRead (cs ++ ds) (ts ++ us)
+read-append [] ds [] us p q = q
+read-append [] ds (t ∷ ts) us p q = absurd p
+read-append (c ∷ cs) ds [] us p q = absurd p
+read-append (c ∷ cs) ds (t ∷ ts) us p q = (p.0, p.1, read-append cs ds ts us p.2 q)
+
+run-append : (m : Moment) (ts us : List Turn) → AreTurns m.limits m.state m.log ts → AreTurns (after m ts).limits (after m ts).state (after m ts).log us → AreTurns m.limits m.state m.log (ts ++ us)
+run-append m [] us p q = q
+run-append m (t ∷ ts) us p q = (p.0, run-append (behind m t) ts us p.1 q)
+
+or_parts : (a b : Bool) → (a || b) ≡ false → (a ≡ false) × (b ≡ false)
+or_parts true b e = let q : ⊥ = cc in absurd q
+or_parts false b e = (refl, e)
+
+last-append : (ts us : List Turn) → has_ended ts ≡ false → EndLast ts → EndLast us → EndLast (ts ++ us)
+last-append [] us g p q = q
+last-append (t ∷ ts) us g p q =
+    let parts = or_parts (ends t.says) (has_ended ts) g in
+    (λ e. let f : ⊥ = cc (e, parts.0) in absurd f, last-append ts us parts.1 p.1 q)
+
+-- what ends none of the first turns ends none of all, if it ends none of the others
+pub ended-append : (ts us : List Turn) → has_ended ts ≡ false → has_ended us ≡ has_ended (ts ++ us)
+ended-append ts us g = sym (list_any-append (λ (t : Turn). ends t.says) ts us ∙ ap (λ b. b || has_ended us) g)
+
+pub Follow-none : (m : Moment) → Follow m [] []
+Follow-none m = record { read = tt; last = tt; run = tt }
+
+pub Follow-append : (m : Moment) (cs ds : List Chunk) (ts us : List Turn) → has_ended ts ≡ false → Follow m cs ts → Follow (after m ts) ds us → Follow m (cs ++ ds) (ts ++ us)
+Follow-append m cs ds ts us g p q = record {
+  read = read-append cs ds ts us p.read q.read;
+  last = last-append ts us g p.last q.last;
+  run = run-append m ts us p.run q.run;
+}
+
+pub answers-append : (m : Moment) (ts us : List Turn) → answers_at m (ts ++ us) ≡ answers_at m ts ++ answers_at (after m ts) us
+answers-append m [] us = refl
+answers-append m (t ∷ ts) us =
+    ap (λ l. turn_text m.state m.log m.shown t ++ l) (answers-append (behind m t) ts us)
+    ∙ sym (append_assoc (turn_text m.state m.log m.shown t) (answers_at (behind m t) ts) (answers_at (after (behind m t) ts) us))
+
+lines-append : (ts us : List Turn) → lines_of (ts ++ us) ≡ lines_of ts ++ lines_of us
+lines-append ts us = ap (flat_map line_text) (flat_map-append turn_lines ts us) ∙ flat_map-append line_text (flat_map turn_lines ts) (flat_map turn_lines us)
+
+pub goes_on : (ended : Bool) → not ended ≡ true → ended ≡ false
+goes_on true e = let q : ⊥ = cc in absurd q
+goes_on false e = refl
+
+pub is_over : (ended : Bool) → not ended ≡ false → ended ≡ true
+is_over true e = refl
+is_over false e = let q : ⊥ = cc in absurd q
+
+-- ---- what is added
+
+pub Adds-none : (m : Moment) (s : Streams) → Adds m s s [] [] [] []
+Adds-none m s = record { follow = Follow-none m; answers = Appends-nil s.answers; proof = Appends-nil s.proof; readable = tt }
+
+-- what stands behind a whole text
+joined : (xs ys zs begun : List ℕ) → zs ≡ xs ++ ys → (xs ++ []) ++ (ys ++ begun) ≡ zs ++ begun
+joined xs ys zs begun e = rw (append-nil xs, e) (sym (append_assoc xs ys begun))
+
+pub Adds-trans : (m : Moment) (a b c : Streams) (cs ds : List Chunk) (ts us : List Turn) (begun more : List ℕ) → has_ended ts ≡ false → Adds m a b cs ts [] [] → Adds (after m ts) b c ds us begun more → Adds m a c (cs ++ ds) (ts ++ us) begun more
+Adds-trans m a b c cs ds ts us begun more g p q = record {
+  follow = Follow-append m cs ds ts us g p.follow q.follow;
+  answers =
+      subst (Appends a.answers c.answers) (joined (answers_at m ts) (answers_at (after m ts) us) (answers_at m (ts ++ us)) begun (answers-append m ts us))
+      (Appends-trans a.answers b.answers c.answers _ _ p.answers q.answers);
+  proof =
+      subst (Appends a.proof c.proof) (joined (lines_of ts) (lines_of us) (lines_of (ts ++ us)) more (lines-append ts us))
+      (Appends-trans a.proof b.proof c.proof _ _ p.proof q.proof);
+  readable = subst (AllByRecursion IsLine) (sym (flat_map-append turn_lines ts us)) (each_append IsLine (flat_map turn_lines ts) (flat_map turn_lines us) p.readable q.readable);
+}
+
+-- ---- advances
+
+pub or_false : (b : Bool) → b ≡ (b || false)
+or_false true = refl
+or_false false = refl
+
+pub Advances-none : (m : Moment) (r : Bool) (new : Answered) (s : Streams) → moment_of new.session ≡ m → new.refused ≡ r → new.ended ≡ false → Advances m r new s s []
+Advances-none m r new s e f g = record { turns = []; adds = Adds-none m s; after_is = e; refused_is = f ∙ or_false r; ended_is = g }
+
+or_assoc : (a b c : Bool) → ((a || b) || c) ≡ (a || (b || c))
+or_assoc true b c = refl
+or_assoc false b c = refl
+
+pub Advances-trans : (m : Moment) (r : Bool) (mid new : Answered) (a b c : Streams) (cs ds : List Chunk) → mid.ended ≡ false → Advances m r mid a b cs → Advances (moment_of mid.session) mid.refused new b c ds → Advances m r new a c (cs ++ ds)
+Advances-trans m r mid new a b c cs ds g p q = record {
+  turns = p.turns ++ q.turns;
+  adds = Adds-trans m a b c cs ds p.turns q.turns [] [] (sym p.ended_is ∙ g) p.adds (rw p.after_is at q.adds);
+  after_is = q.after_is ∙ ap (λ x. after x q.turns) p.after_is ∙ sym (after-append m p.turns q.turns);
+  refused_is =
+      q.refused_is
+      ∙ ap (λ x. x || has_error q.turns) p.refused_is
+      ∙ or_assoc r (has_error p.turns) (has_error q.turns)
+      ∙ ap (λ x. r || x) (sym (list_any-append is_refused p.turns q.turns));
+  ended_is = q.ended_is ∙ ended-append p.turns q.turns (sym p.ended_is ∙ g);
+}
+
+-- ---- breaks
+
+-- a stop at once
+pub Breaks-none : (m : Moment) (s : Streams) → Breaks m s s [] []
+Breaks-none m s = record {
+  turns = [];
+  begun = [];
+  more = [];
+  adds = Adds-none m s;
+  going = refl;
+  coming = [];
+  rest = [];
+  follow = Follow-none m;
+  front = refl;
+  unfinished = inl refl;
+}
+
+-- a stop behind an advance
+pub Advances-breaks : (m : Moment) (r : Bool) (mid : Answered) (a b c : Streams) (cs ds next : List Chunk) → mid.ended ≡ false → Advances m r mid a b cs → Breaks (moment_of mid.session) b c ds next → Breaks m a c (cs ++ ds) next
+Advances-breaks m r mid a b c cs ds next g p q =
+    let k : Breaks (after m p.turns) b c ds next = rw p.after_is at q in
+    record {
+      turns = p.turns ++ k.turns;
+      begun = k.begun;
+      more = k.more;
+      adds = Adds-trans m a b c cs ds p.turns k.turns k.begun k.more (sym p.ended_is ∙ g) p.adds k.adds;
+      going = sym (ended-append p.turns k.turns (sym p.ended_is ∙ g)) ∙ k.going;
+      coming = k.coming;
+      rest = k.rest;
+      follow = rw (after-append m p.turns k.turns) k.follow;
+      front = rw (after-append m p.turns k.turns) k.front;
+      unfinished = k.unfinished;
+    }
+
+-- ---- within what a framer holds
+
+pub Begins-trans : (h mid rest : Held) (cs ds : List Chunk) → Begins h cs mid → Begins mid ds rest → Begins h (cs ++ ds) rest
+Begins-trans h mid rest [] ds p q = rw (← p) q
+Begins-trans h mid rest (c ∷ cs) ds p q = (p.0, p.1, Begins-trans p.0 mid rest cs ds p.2 q)
+
+pub held_none : (h : Held) (m : Moment) (s : Streams) → BreaksWithin h m s s
+held_none h m s = record { chunks = []; next = []; front = (h, refl); all = (h, refl); breaks = Breaks-none m s }
+
+-- a stop before the next chunk
+pub held_stop : (h mid : Held) (m : Moment) (r : Bool) (cur : Answered) (a b : Streams) (cs : List Chunk) → cur.ended ≡ false → Begins h cs mid → Advances m r cur a b cs → BreaksWithin h m a b
+held_stop h mid m r cur a b cs g f p = record {
+  chunks = cs;
+  next = [];
+  front = (mid, f);
+  all = (mid, rw append-nil f);
+  breaks = subst (λ x. Breaks m a b x []) (append-nil cs) (Advances-breaks m r cur a b b cs [] [] g p (Breaks-none (moment_of cur.session) b));
+}
+
+-- a stop at the next chunk
+pub held_at : (h mid rest : Held) (m : Moment) (r : Bool) (cur : Answered) (a b c : Streams) (cs : List Chunk) (d : Chunk) → cur.ended ≡ false → Begins h cs mid → Advances m r cur a b cs → first_chunk mid ≡ Some (d, rest) → BreaksAt (moment_of cur.session) b c (d ∷ []) → BreaksWithin h m a c
+held_at h mid rest m r cur a b c cs d g f p e q = record {
+  chunks = cs;
+  next = q.next;
+  front = (mid, f);
+  all = ⊎_elim (λ k. rw k (mid, rw append-nil f)) (λ k. rw k (rest, Begins-push h cs mid d rest f e)) q.next_is;
+  breaks = subst (λ x. Breaks m a c x q.next) (append-nil cs) (Advances-breaks m r cur a b c cs [] q.next g p q.breaks);
+}
+
+-- more bytes are held
+pub held_more : (h : Held) (more : List ℕ) (m : Moment) (a b : Streams) → BreaksWithin h m a b → BreaksWithin (with_piece h more) m a b
+held_more h more m a b w = record {
+  chunks = w.chunks;
+  next = w.next;
+  front = (with_piece w.front.0 more, Begins-append h w.chunks w.front.0 more w.front.1);
+  all = (with_piece w.all.0 more, Begins-append h (w.chunks ++ w.next) w.all.0 more w.all.1);
+  breaks = w.breaks;
+}
+
+-- a stop within what is held behind an advance
+pub held_behind : (h mid : Held) (m : Moment) (r : Bool) (cur : Answered) (a b c : Streams) (cs : List Chunk) → cur.ended ≡ false → Begins h cs mid → Advances m r cur a b cs → BreaksWithin mid (moment_of cur.session) b c → BreaksWithin h m a c
+held_behind h mid m r cur a b c cs g f p w = record {
+  chunks = cs ++ w.chunks;
+  next = w.next;
+  front = (w.front.0, Begins-trans h mid w.front.0 cs w.chunks f w.front.1);
+  all = (w.all.0, rw (append_assoc cs w.chunks w.next) (Begins-trans h mid w.all.0 cs (w.chunks ++ w.next) f w.all.1));
+  breaks = Advances-breaks m r cur a b c cs w.chunks w.next g p w.breaks;
+}
+
+-- ---- what is held after a piece is what was held before, and the piece
+
+same_held : (f h : Held) (piece : List ℕ) → f.line ≡ h.line → f.bytes ≡ h.bytes ++ piece → f ≡ with_piece h piece
+same_held f h piece l b = (λ i. record { line = l i; bytes = b i })
+
+pub fed_advances : (f h rest : Held) (piece : List ℕ) (m : Moment) (b : Bool) (s t : Streams) (r : Result Answered Status) → f.line ≡ h.line → f.bytes ≡ h.bytes ++ piece → IfOk r (λ x. AdvancesWithin f rest m b x s t) → IfOk r (λ x. AdvancesWithin (with_piece h piece) rest m b x s t)
+fed_advances f h rest piece m b s t (Ok x) k l p = subst (λ (y : Held). AdvancesWithin y rest m b x s t) (same_held f h piece k l) p
+fed_advances f h rest piece m b s t (Err e) k l p = tt
+
+pub fed_breaks : (f h : Held) (piece : List ℕ) (m : Moment) (s t : Streams) (r : Result Answered Status) → f.line ≡ h.line → f.bytes ≡ h.bytes ++ piece → IfErr r (λ _. BreaksWithin f m s t) → IfErr r (λ _. BreaksWithin (with_piece h piece) m s t)
+fed_breaks f h piece m s t (Ok x) k l p = tt
+fed_breaks f h piece m s t (Err e) k l p = subst (λ (y : Held). BreaksWithin y m s t) (same_held f h piece k l) p
+
+-- the end of the script closes nothing
+pub last_none : (m : Moment) (b : Bool) (s : Streams) (o : Option Chunk) → o ≡ None → AddsLast m b s s (option_to_list o) b
+last_none m b s o e = rw e (record { turns = []; adds = Adds-none m s; refused_is = or_false b })

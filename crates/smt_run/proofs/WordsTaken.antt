@@ -1,0 +1,141 @@
+-- What a parse found of a command, and that the words ask for it.
+use Rattle.std.proofs.Common.{◌≡◌, ◌≤◌, ℕ, List, [], get_or, Option, Some, None, refl, sym, ap, ap₂, ◌∙◌, subst, ⊎_elim, arith}
+use Rattle.std.specs.Prelude.{option_map, unwrap_or, codes, true, Result, Ok, Err}
+use Rattle.std.specs.Str.Parse.{ParsesUnsigned, digits_value, without_leading_plus}
+use Rattle.std.specs.Borrow.{Bor}
+use Rattle.clap.specs.Walk.{Text, Row, first_of, rows_of}
+use Rattle.clap.specs.Faults.{fault_of, is_simple_and_free}
+use Rattle.clap.specs.Matches.{found_of, first_value, subcommand_name_of, ReadsOne}
+use Rattle.clap.specs.Simple.{App, HasMatchesOf, is_simple, subcommand_of, subcommand_rows_of}
+use Rattle.clap.proofs.OnLiterals.{clap_on_literals}
+use Rattle.clap.proofs.WalkLemmas.{first_value-rows}
+use Rattle.clap.specs.declared.parser.matches.ArgMatches.{ArgMatches}
+use Rattle.clap.specs.declared.parser.matches.ArgMatches.TheViews.{out-ArgMatches}
+use Rattle.smt_run.specs.declared.words.Command.{Command}
+use Rattle.smt_run.specs.declared.words.Command.TheVariants.{Solve, Check}
+use Rattle.smt_run.proofs.Faultless.{faultless_asks, numbers_found}
+use Rattle.accepted_proof.specs.Searching.{Limits, AreLimits}
+use Rattle.smt_run.specs.Words.{program, Names, name_of, Asks, IsToSolve, IsToSolveWithin, IsToCheck, AreTaken, limits_in, number_or, IsUpTo, AreUpTo}
+
+-- a name and rows
+abbrev Entry : Type 0
+Entry = Text × List Row
+
+abbrev entry : {X : Type 0} → (X → Text) → (X → List Row) → X → Entry
+entry f g x = (f x, g x)
+
+-- what is found is one entry
+abbrev found : Text → List Row → Option Entry
+found t rows = Some (t, rows)
+
+both : {X : Type 0} (f : X → Text) (g : X → List Row) (o : Option X) (name : Text) (rows : List Row) → Some name ≡ option_map f o → Some rows ≡ option_map (λ (p : Entry). p.1) (option_map (entry f g) o) → option_map (entry f g) o ≡ Some (name, rows)
+both f g None name rows e h = let q : ⊥ = cc in absurd q
+both f g (Some x) name rows e h =
+    let p : name ≡ f x = cc in
+    let q : rows ≡ g x = cc in
+    ap₂ found (sym p) (sym q)
+
+abbrev rows_of_entry : Option Entry → List Row
+rows_of_entry None = []
+rows_of_entry (Some p) = p.1
+
+rows_same : (o : Option Entry) (name t : Text) (rows others : List Row) → o ≡ Some (name, rows) → o ≡ Some (t, others) → rows ≡ others
+rows_same o name t rows others e h = sym (ap rows_of_entry e) ∙ ap rows_of_entry h
+
+pub found_rows : (m files : ArgMatches) (name : Text) → Some name ≡ subcommand_name_of m → Some (rows_of (found_of files)) ≡ option_map (λ (p : Text × List Row). p.1) (subcommand_rows_of m) → subcommand_rows_of m ≡ Some (name, rows_of (found_of files))
+found_rows m files name e h = both _ _ (out-ArgMatches m).subcommand name (rows_of (found_of files)) e h
+
+pub names_in : (m files : ArgMatches) (name proof : Text) (command : Command) (s : Option (Bor Text)) (limits : Limits) → subcommand_rows_of m ≡ Some (name, rows_of (found_of files)) → name ≡ name_of command → Some proof ≡ first_value (found_of files) (codes "PROOF") → option_map (λ x. x.now) s ≡ first_value (found_of files) (codes "SCRIPT") → limits ≡ limits_in (rows_of (found_of files))
+    → Names (subcommand_rows_of m) (name_of command) proof (option_map (λ x. x.now) s) limits
+names_in m files name proof command s limits e n p q l = record {
+  rows = rows_of (found_of files);
+  command = e ∙ ap (λ t. Some (t, rows_of (found_of files))) n;
+  proof_is = sym (first_value-rows (found_of files) (codes "PROOF")) ∙ sym p;
+  script_is = sym (first_value-rows (found_of files) (codes "SCRIPT")) ∙ sym q;
+  limits_are = sym l;
+}
+
+-- where there is no proof file
+pub no_names : (m files : ArgMatches) (name t proof : Text) (script : Option Text) (limits : Limits) → subcommand_rows_of m ≡ Some (name, rows_of (found_of files)) → None ≡ first_value (found_of files) (codes "PROOF") → Names (subcommand_rows_of m) t proof script limits → ⊥
+no_names m files name t proof script limits e p k =
+    let same : rows_of (found_of files) ≡ k.rows = rows_same (subcommand_rows_of m) name t (rows_of (found_of files)) k.rows e k.command in
+    let q : None ≡ Some proof = p ∙ first_value-rows (found_of files) (codes "PROOF") ∙ ap (first_of (codes "PROOF")) same ∙ k.proof_is in
+    let z : ⊥ = cc in z
+
+-- a number in range is read as it is
+pub number_read : {E : Type 0} (G : List ℕ → Result ℕ E → Type 0) (usual : ℕ) (t : Option Text) (o : Option ℕ) → (t ≡ None → o ≡ None) → ((x : Text) → t ≡ Some x → ReadsOne G x o) → ((x : Text) (r : Result ℕ E) → G x r → ParsesUnsigned 32 10 x r) → IsUpTo 4294967295 t → unwrap_or o usual ≡ number_or usual t
+number_read G usual None o none read only h = ap (λ (x : Option ℕ). unwrap_or x usual) (none refl)
+number_read {E} G usual (Some t) o none read only h = go o (read t refl)
+  where
+    go : (x : Option ℕ) → ReadsOne G t x → unwrap_or x usual ≡ digits_value 10 (without_leading_plus t)
+    go (Some n) r = (only t (Ok n) r).1
+    go None r = absurd (only t (Err r.0) r.1 (h.0, omega (arith, h.3)))
+
+-- a number up to a greatest one is one up to a greater one
+pub up_to : (n m : ℕ) (o : Option Text) → n ≤ m → IsUpTo n o → IsUpTo m o
+up_to n m None lt h = tt
+up_to n m (Some t) lt h = (h.0, h.1, h.2, omega (arith, lt, h.3))
+
+simple : is_simple program ≡ true
+unfolding clap_on_literals
+simple = refl
+
+-- what was found of words that are taken
+found_same : (app : App) (m : ArgMatches) (words : List Text) → app ≡ program → HasMatchesOf app words m → subcommand_rows_of m ≡ subcommand_of program words
+found_same app m words e h = (h (ap is_simple e ∙ simple)).1 ∙ ap (λ a. subcommand_of a words) e
+
+-- a parse of the program's command line finds what is asked for by words that are taken
+pub nothing_asked : (app : App) (m : ArgMatches) (words : List Text) → app ≡ program → HasMatchesOf app words m → ((command : Command) (proof : Text) (script : Option Text) (limits : Limits) → Names (subcommand_rows_of m) (name_of command) proof script limits → ⊥) → AreTaken words → ⊥
+nothing_asked app m words e h none k =
+    let found : subcommand_rows_of m ≡ subcommand_of program words = found_same app m words e h in
+    ⊎_elim
+    (λ s. none Solve s.1.0 s.1.1 s.0 (subst (λ o. Names o (name_of Solve) s.1.0 s.1.1 s.0) (sym found) s.1.2.names))
+    (λ s. none Check s.1.0 s.1.1 s.0 (subst (λ o. Names o (name_of Check) s.1.0 s.1.1 s.0) (sym found) s.1.2.names))
+    (faultless_asks words k)
+
+free : is_simple_and_free program ≡ true
+unfolding clap_on_literals
+free = refl
+
+-- and its numbers are in range
+pub numbers_asked : (app : App) (m : ArgMatches) (words : List Text) → app ≡ program → HasMatchesOf app words m → (is_simple_and_free app ≡ true → fault_of app words ≡ []) → (name : Text) (rows : List Row) → subcommand_rows_of m ≡ Some (name, rows) → AreUpTo rows
+numbers_asked app m words e h k name rows found =
+    numbers_found words name rows (subst (λ a. fault_of a words ≡ []) e (k (ap is_simple_and_free e ∙ free))) (sym (found_same app m words e h) ∙ found)
+
+-- numbers in range are limits
+pub limits_in_range : (rows : List Row) → AreUpTo rows → AreLimits (limits_in rows)
+limits_in_range rows h = record { cubes = upto 10 0 (omega arith) _ h.cubes; budget = upto 1000000000 100000 (omega arith) _ h.budget }
+  where
+    upto : (most usual : ℕ) → usual ≤ most → (o : Option Text) → IsUpTo most o → number_or usual o ≤ most
+    upto most usual lt None h = lt
+    upto most usual lt (Some t) h = h.3
+
+pub names_limits : (found : Option (Text × List Row)) (name proof : Text) (script : Option Text) (limits : Limits) → Names found name proof script limits → ((n : Text) (rows : List Row) → found ≡ Some (n, rows) → AreUpTo rows) → AreLimits limits
+names_limits found name proof script limits k h = subst AreLimits k.limits_are (limits_in_range k.rows (h name k.rows k.command))
+
+-- ---- one command
+
+abbrev name_in : Option Entry → Text
+name_in None = []
+name_in (Some p) = p.0
+
+-- the words ask for one of both
+pub one_command : (words : List Text) → IsToSolve words → IsToCheck words → ⊥
+one_command words s k =
+    let e : codes "solve" ≡ codes "check" = sym (ap name_in s.1.2.names.command) ∙ ap name_in k.1.2.names.command in
+    let f : 115 ≡ 99 = ap (λ (t : Text). get_or t 0 0) e in
+    omega (arith, f)
+
+pub asks_solve : (k : Command) (words : List Text) (proof : Text) (script : Option Text) (l : Limits) → k ≡ Solve → Asks k words proof script l → IsToSolve words
+asks_solve Solve words proof script l e h = (l, (proof, script, h))
+asks_solve Check words proof script l e h = let z : ⊥ = cc in absurd z
+
+-- the words give one pair of limits
+pub same_limits : (k : Command) (words : List Text) (proof : Text) (script : Option Text) (l m : Limits) → k ≡ Solve → Asks k words proof script l → IsToSolveWithin m words → l ≡ m
+same_limits k words proof script l m e h w =
+    let same : h.names.rows ≡ w.2.names.rows = ap rows_of_entry (sym h.names.command ∙ w.2.names.command) in
+    sym h.names.limits_are ∙ ap limits_in same ∙ w.2.names.limits_are
+
+pub asks_check : (k : Command) (words : List Text) (proof : Text) (script : Option Text) (l : Limits) → k ≡ Check → Asks k words proof script l → IsToCheck words
+asks_check Solve words proof script l e h = let z : ⊥ = cc in absurd z
+asks_check Check words proof script l e h = (l, (proof, script, h))

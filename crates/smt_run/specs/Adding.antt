@@ -1,0 +1,150 @@
+-- What a run adds to the answers and to the proof, one turn after another.
+use Rattle.std.specs.Prelude.{◌≡◌, ◌⊎◌, ℕ, ◌<◌, Bool, false, ◌||◌, List, [], ◌∷◌, ◌++◌, length, Option, None}
+use Rattle.std.specs.List.{flat_map, AllByRecursion}
+use Rattle.std.specs.Io.KnownBytes.{Appends}
+use Rattle.smt_text.specs.declared.chunk.Chunk.{Chunk}
+use Rattle.smt_text.specs.Framing.{Held, first_chunk}
+use Rattle.smt_text.specs.Script.{Begins}
+use Rattle.script_state.specs.States.{StateValue, no_state}
+use Rattle.proof_log.specs.declared.entry.Entry.{Entry}
+use Rattle.proof_text.specs.declared.record.Record.{Record}
+use Rattle.proof_text.specs.Lines.{line_text, IsLine}
+use Rattle.accepted_proof.specs.Searching.{Limits}
+use Rattle.accepted_proof.specs.Turns.{Turn, AreTurns, state_after}
+use Rattle.accepted_proof.specs.Answers.{answers_from, last_shown, turn_lines}
+use Rattle.accepted_proof.specs.Accepted.{AreRead, AreAll, EndLast, IsFront, has_ended, has_error}
+use Rattle.smt_session.specs.Sessions.{SessionValue}
+use Rattle.smt_run.specs.declared.answering.Answered.{Answered}
+
+-- ---- turns
+
+-- the state, the log, and the record of the last check at one moment of a session, and the limits of its checks
+pub record Moment : Type 0 where
+  pub state : StateValue
+  pub log : List Entry
+  pub shown : Option Record
+  pub limits : Limits
+
+abbrev pub moment_of : SessionValue → Moment
+moment_of s = record { state = s.state; log = s.log.entries; shown = s.shown; limits = s.limits }
+
+-- before the first command
+abbrev pub opening : Limits → Moment
+opening limits = record { state = no_state; log = []; shown = None; limits = limits }
+
+-- after a turn
+abbrev pub behind : Moment → Turn → Moment
+behind m t = record { state = state_after m.state t; log = m.log ++ t.steps; shown = last_shown m.shown t.shown; limits = m.limits }
+
+-- after the turns
+abbrev pub after : Moment → List Turn → Moment
+after m [] = m
+after m (t ∷ ts) = after (behind m t) ts
+
+-- the texts of the turns that follow
+abbrev pub answers_at : Moment → List Turn → List ℕ
+answers_at m turns = answers_from m.state m.log m.shown turns
+
+-- the chunks are the commands of these turns, which may follow one after the other, and only the last ends the run
+pub record Follow (m : Moment) (chunks : List Chunk) (turns : List Turn) : Type 0 where
+  pub read : AreRead chunks turns
+  pub last : EndLast turns
+  pub run : AreTurns m.limits m.state m.log turns
+
+-- ---- what is added
+
+-- the told bytes of the answers and of the proof at one moment
+pub record Streams : Type 0 where
+  pub answers : Option (List ℕ)
+  pub proof : Option (List ℕ)
+
+abbrev pub streams : Option (List ℕ) → Option (List ℕ) → Streams
+streams a p = record { answers = a; proof = p }
+
+-- the lines of the turns
+abbrev pub lines_of : List Turn → List ℕ
+lines_of turns = flat_map line_text (flat_map turn_lines turns)
+
+-- the answers and the lines of the turns are added, and behind them begun and more; each line can be read
+pub record Adds (m : Moment) (from to : Streams) (chunks : List Chunk) (turns : List Turn) (begun more : List ℕ) : Type 0 where
+  pub follow : Follow m chunks turns
+  pub answers : Appends from.answers to.answers (answers_at m turns ++ begun)
+  pub proof : Appends from.proof to.proof (lines_of turns ++ more)
+  pub readable : AllByRecursion IsLine (flat_map turn_lines turns)
+
+-- the chunks are answered whole
+pub record Advances (m : Moment) (refused : Bool) (new : Answered) (from to : Streams) (chunks : List Chunk) : Type 0 where
+  pub turns : List Turn
+  pub adds : Adds m from to chunks turns [] []
+  pub after_is : moment_of new.session ≡ after m turns
+  pub refused_is : new.refused ≡ (refused || has_error turns)
+  pub ended_is : new.ended ≡ has_ended turns
+
+-- nothing of what comes is answered, or a front of one answer which is not the whole
+abbrev pub IsBegunOf : List Turn → List ℕ → List ℕ → Type 0
+IsBegunOf coming begun rest = (begun ≡ []) ⊎ ((t : Turn) × (coming ≡ t ∷ []) × (0 < length rest))
+
+-- The chunks are answered whole and do not end the run, and behind them stands a front of the answer to what comes next.
+pub record Breaks (m : Moment) (from to : Streams) (chunks next : List Chunk) : Type 0 where
+  pub turns : List Turn
+  pub begun : List ℕ
+  pub more : List ℕ
+  pub adds : Adds m from to chunks turns begun more
+  pub going : has_ended turns ≡ false
+  pub coming : List Turn
+  pub rest : List ℕ
+  pub follow : Follow (after m turns) next coming
+  pub front : answers_at (after m turns) coming ≡ begun ++ rest
+  pub unfinished : IsBegunOf coming begun rest
+
+-- a stop at these chunks, of which none is answered whole
+pub record BreaksAt (m : Moment) (from to : Streams) (chunks : List Chunk) : Type 0 where
+  pub next : List Chunk
+  pub next_is : (next ≡ []) ⊎ (next ≡ chunks)
+  pub breaks : Breaks m from to [] next
+
+-- ---- within what a framer holds
+
+abbrev pub with_piece : Held → List ℕ → Held
+with_piece h piece = record { line = h.line; bytes = h.bytes ++ piece }
+
+-- the whole chunks that are held are answered, all of them or those up to the one that ends the run
+pub record AdvancesWithin (held rest : Held) (m : Moment) (refused : Bool) (new : Answered) (from to : Streams) : Type 0 where
+  pub chunks : List Chunk
+  pub begins : Begins held chunks rest
+  pub ends : new.ended ≡ false → first_chunk rest ≡ None
+  pub advances : Advances m refused new from to chunks
+
+abbrev pub IsFrontOf : Held → List Chunk → Type 0
+IsFrontOf held chunks = (rest : Held) × Begins held chunks rest
+
+pub record BreaksWithin (held : Held) (m : Moment) (from to : Streams) : Type 0 where
+  pub chunks : List Chunk
+  pub next : List Chunk
+  pub front : IsFrontOf held chunks
+  pub all : IsFrontOf held (chunks ++ next)
+  pub breaks : Breaks m from to chunks next
+
+-- the chunks that the end of the script closes are answered
+pub record AddsLast (m : Moment) (refused : Bool) (from to : Streams) (chunks : List Chunk) (now : Bool) : Type 0 where
+  pub turns : List Turn
+  pub adds : Adds m from to chunks turns [] []
+  pub refused_is : now ≡ (refused || has_error turns)
+
+-- ---- within a script
+
+-- the whole script is answered, or what stands up to the command that ends the run
+pub record AnswersAll (limits : Limits) (text : List ℕ) (from to : Streams) (refused : Bool) : Type 0 where
+  pub chunks : List Chunk
+  pub turns : List Turn
+  pub cut : AreAll text chunks turns
+  pub adds : Adds (opening limits) from to chunks turns [] []
+  pub refused_is : refused ≡ has_error turns
+
+-- a front of the script is answered
+pub record AnswersFront (limits : Limits) (text : List ℕ) (from to : Streams) : Type 0 where
+  pub chunks : List Chunk
+  pub next : List Chunk
+  pub front : IsFront text chunks
+  pub all : IsFront text (chunks ++ next)
+  pub breaks : Breaks (opening limits) from to chunks next

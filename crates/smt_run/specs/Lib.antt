@@ -1,0 +1,4 @@
+pub mod Words
+pub mod Solving
+pub mod Adding
+pub mod Beside

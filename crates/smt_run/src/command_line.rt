@@ -1,0 +1,149 @@
+// The words that the program takes.
+
+ghost use Rattle.std.specs.Prelude.{◌≡◌, ◌↔◌, ℕ, List, Option, Some, None, false, IfOk, IfSome, MatchResult, map, option_map};
+ghost use Rattle.clap.specs.Walk.{Text, Row, one_of, rule_of, rows_of};
+ghost use Rattle.clap.specs.Matches.{found_of};
+ghost use Rattle.clap.specs.Values.{kind_of};
+ghost use Rattle.clap.specs.Simple.{app_of, subcommand_rows_of};
+ghost use Rattle.clap.specs.declared.builder.command.Command.TheViews.{out-Command as fields_of};
+ghost use Rattle.accepted_proof.specs.Searching.{Limits, AreLimits};
+ghost use Rattle.smt_session.specs.Sessions.{limits_of};
+ghost use Rattle.smt_run.specs.declared.words.Command.{Command as Kind};
+ghost use Rattle.smt_run.specs.Words.{app_named, solve_app, bare_program, program, number_option, number_or, limits_in, IsUpTo, AreUpTo, Names, name_of, Asks, AreTaken};
+
+use crate::words::{Command, Plan, Unplanned};
+use clap::builder::ValueParser;
+use clap::error::ErrorKind;
+use clap::{Arg, ArgMatches, Command as CommandLine, Error};
+use smt_session::settings::Settings;
+use std::alloc::{AllocError, Global};
+
+/// The most variables that may split a check.
+const MOST_CUBES: u64 = 10;
+
+/// The greatest budget of a search.
+const MOST_BUDGET: u64 = 1_000_000_000;
+
+/// A command with the name of a proof file, and perhaps that of a script.
+fn command_of<'a>(alloc: Global, name: &'a str) -> Result<CommandLine<'a>, AllocError>
+    ensures app { IfOk result (λ c. app_of c ≡ app_named name.entry.now) }
+    ensures local { IfOk result (λ c. (fields_of c).has_globals ≡ false) }
+{
+    let proof = Arg::new(alloc, "PROOF").required(true);
+    let script = Arg::new(alloc, "SCRIPT");
+    CommandLine::new(alloc, name).arg(proof)?.arg(script)
+}
+
+/// An option `--NAME N` with a whole number, which is at most `most`.
+fn number_option<'a>(alloc: Global, name: &'a str, most: u64) -> Arg<'a>
+    ensures rule { rule_of result ≡ number_option name.entry.now most }
+    ensures local { result.global ≡ false }
+{
+    Arg::new(alloc, name)
+        .long(name)
+        .value_parser(ValueParser::unsigned(0, most))
+}
+
+/// The command that answers a script, with the limits of its search.
+fn solve_command<'a>(alloc: Global) -> Result<CommandLine<'a>, AllocError>
+    ensures app { IfOk result (λ c. app_of c ≡ solve_app) }
+    ensures local { IfOk result (λ c. (fields_of c).has_globals ≡ false) }
+{
+    let cubes = number_option(alloc, "cubes", MOST_CUBES);
+    let budget = number_option(alloc, "budget", MOST_BUDGET);
+    command_of(alloc, "solve")?.arg(cubes)?.arg(budget)
+}
+
+/// The program without its commands.
+fn bare<'a>(alloc: Global) -> CommandLine<'a>
+    ensures { app_of result ≡ bare_program }
+{
+    CommandLine::new(alloc, "smt_tool")
+        .no_binary_name(true)
+        .disable_help_flag(true)
+        .disable_help_subcommand(true)
+        .disable_version_flag(true)
+        .subcommand_required(true)
+}
+
+/// The program's command line.
+fn command_line<'a>(alloc: Global) -> Result<CommandLine<'a>, AllocError>
+    ensures { IfOk result (λ c. app_of c ≡ program) }
+{
+    let solve = solve_command(alloc)?;
+    let check = command_of(alloc, "check")?;
+    bare(alloc).subcommand(solve)?.subcommand(check)
+}
+
+/// The command of this name.
+fn command_named(name: &str) -> Option<Command>
+    ensures { (command : Kind) → (result ≡ Some command) ↔ (name.now ≡ name_of command) }
+{
+    match name {
+        "solve" => Some(Command::Solve),
+        "check" => Some(Command::Check),
+        _ => None,
+    }
+}
+
+/// The number that was given to an option, or the usual one.
+fn number_or<'a>(found: &ArgMatches<'a>, option: &str, usual: u32) -> u32
+    requires { IsUpTo 4294967295 (one_of option.now (rows_of (found_of found.now))) }
+    ensures { result ≡ number_or usual (one_of option.now (rows_of (found_of found.now))) }
+{
+    found.get_one(option).unwrap_or(usual)
+}
+
+/// The limits of a search that were given, or the usual ones.
+fn settings_of<'a>(found: &ArgMatches<'a>) -> Settings
+    requires { AreUpTo (rows_of (found_of found.now)) }
+    ensures { limits_of result ≡ limits_in (rows_of (found_of found.now)) }
+{
+    Settings {
+        workers: Settings::DEFAULT.workers,
+        cubes: number_or(found, "cubes", Settings::DEFAULT.cubes),
+        budget: number_or(found, "budget", Settings::DEFAULT.budget),
+    }
+}
+
+/// The command that was found, with its files and limits.
+fn plan_of<'a>(found: &ArgMatches<'a>) -> Option<Plan<'a>>
+    requires { (name : Text) (rows : List Row) → subcommand_rows_of found.now ≡ Some (name, rows) → AreUpTo rows }
+    ensures some { IfSome result (λ plan. Names (subcommand_rows_of found.now) (name_of plan.command) plan.proof.now (option_map (λ s. s.now) plan.script) (limits_of plan.settings)) }
+    ensures none { result ≡ None → (command : Kind) (proof : List ℕ) (script : Option (List ℕ)) (limits : Limits) → ¬ (Names (subcommand_rows_of found.now) (name_of command) proof script limits) }
+{
+    let (name, inner) = found.subcommand()?;
+    Some(Plan {
+        command: command_named(name)?,
+        proof: inner.get_str("PROOF")?,
+        script: inner.get_str("SCRIPT"),
+        settings: settings_of(inner),
+    })
+}
+
+/// Why a command line is refused.
+fn refusal(error: &Error) -> Unplanned
+    ensures { (result ≡ Unplanned.NoMemory) ↔ (kind_of error.now ≡ ErrorKind.OutOfMemory) }
+{
+    match error.kind() {
+        ErrorKind::OutOfMemory => Unplanned::NoMemory,
+        _ => Unplanned::Usage,
+    }
+}
+
+/// The plan of the words after the program's name: `solve` with the name of a proof file, perhaps that of a script, and
+/// perhaps limits of its search; or `check` with both files. `clap` reads them.
+pub fn plan<'a>(alloc: Global, words: &'a [&'a str]) -> Result<Plan<'a>, Unplanned>
+    ensures asked { MatchResult result
+        (λ plan. Asks plan.command (map (λ w. w.now) words.now) plan.proof.now (option_map (λ s. s.now) plan.script) (limits_of plan.settings))
+        (λ e. e ≡ Unplanned.Usage → ¬ (AreTaken (map (λ w. w.now) words.now))) }
+    ensures limits { IfOk result (λ plan. AreLimits (limits_of plan.settings)) }
+{
+    match command_line(alloc)?.try_get_matches_from(words) {
+        Ok(found) => match plan_of(&found) {
+            Some(plan) => Ok(plan),
+            None => Err(Unplanned::Usage),
+        },
+        Err(error) => Err(refusal(&error)),
+    }
+}
