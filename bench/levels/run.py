@@ -29,7 +29,8 @@ def deep(k):
     return "(push 1)\n(assert (bvult x #x00000400))\n(push 1)\n(assert (= (bvand x y) (_ bv%d 32)))\n(check-sat)\n(pop 2)\n" % (k % 1024)
 
 
-KINDS = {"again": (again, [1250, 2500, 5000]), "apart": (apart, [150, 300, 600]), "deep": (deep, [75, 150, 300])}
+SIZES = [1250, 2500, 5000]
+KINDS = {"again": again, "apart": apart, "deep": deep}
 
 
 def measured(program, text):
@@ -46,8 +47,7 @@ def measured(program, text):
 
 
 def one(program, kind, size):
-    make, _ = KINDS[kind]
-    text = HEAD + "".join(make(k) for k in range(size))
+    text = HEAD + "".join(KINDS[kind](k) for k in range(size))
     seconds, megabytes, proof, verdicts = measured(program, text)
     if verdicts != size:
         raise SystemExit("%d verdicts" % verdicts)
@@ -60,8 +60,8 @@ def main():
         return one(words[3], words[1], int(words[2]))
     program = words[0] if words else str(PROGRAM)
     print("| rounds | number | seconds | milliseconds a round | MB | MB of proof |\n|---|---|---|---|---|---|", flush=True)
-    for kind, (_, sizes) in KINDS.items():
-        for size in sizes:
+    for kind in KINDS:
+        for size in SIZES:
             ran = subprocess.run([sys.executable, __file__, "--one", kind, str(size), program])
             if ran.returncode != 0:
                 return ran.returncode

@@ -4,9 +4,13 @@
 usage: words.py [PROGRAM] [COUNT] [SEED]    (default: the program that `rt run` leaves in crates/smt_tool/out, 500, 1)
 
 Each script declares two words of one width from 1 to 6 and a Bool, and asserts one to three random terms over all
-operators of Core, of FixedSizeBitVectors and of QF_BV (SMT-LIB 2.6). The meanings below are written from the standard
-and share nothing with the solver. Where the answer is `sat` the model in the proof file must make the assertions true,
-and the replayer of tests/rows must accept each proof file.
+operators of Core, of FixedSizeBitVectors and of QF_BV (SMT-LIB 2.6), some of them under names. Then it checks them, and
+checks them again with assumptions. Two of three are solved within other limits than the usual ones, so that some answers
+are `unknown`. The meanings below are written from the standard and share nothing with the solver.
+Where an answer is `sat` the model in the proof file must make the assertions and the assumptions true, and values that are
+asked for must be those of the terms in it; where it is `unsat` the core, or the assumptions that are told, must have no
+model, by trying every value; where it is `unknown` neither may be told. The replayer of tests/rows must accept each proof
+file.
 """
 import pathlib
 import random
@@ -199,43 +203,112 @@ class Maker:
         return "((_ %s %d) %s)" % (op, i, a), lambda v: (f(v) << k | f(v) >> (n - k)) % (1 << n)
 
 
-def model_of(proof):
-    """The values of x, y and p in the first record of a proof file."""
-    held = {}
+def models_of(proof):
+    """The values of x, y and p in each record of a proof file, None for one without a model."""
+    found = []
     for line in proof.read_text().split("\n"):
         words = line.split(" ")
+        if words[0] in ("sat", "unsat", "unknown"):
+            found.append({} if words[0] == "sat" else None)
         if words[0] == "v":
-            held["xyp"[int(words[1])]] = words[2] == "true" if words[2] in ("true", "false") else int(words[2][2:], 2)
-    return held
+            found[-1]["xyp"[int(words[1])]] = words[2] == "true" if words[2] in ("true", "false") else int(words[2][2:], 2)
+    return found
 
 
-def accepted(script, proof, verdict):
-    """Whether the replayer accepts the proof file, with this verdict alone; it says why where it does not."""
+def accepted(script, proof, verdicts):
+    """Whether the replayer accepts the proof file, with these verdicts; it says why where it does not."""
     try:
-        return reference.check(script, proof.read_text()) == [verdict]
+        return reference.check(script, proof.read_text()) == verdicts
     except reference.Refused as why:
         print(why)
         return False
 
 
+class Case:
+    """A random script: its assertions, with their names if they have some, the assumptions, and terms whose values are asked."""
+
+    def __init__(self, source):
+        self.width = source.randint(1, 6)
+        maker = Maker(source, self.width)
+        self.asserted = [maker.truth(source.randint(1, 3)) for _ in range(source.randint(1, 3))]
+        self.names = ["a%d" % k if source.random() < 0.7 else None for k in range(len(self.asserted))]
+        self.assumed = [maker.truth(source.randint(0, 2)) for _ in range(source.randint(1, 4))]
+        self.asked = [(None, maker.truth(2))] + [(n, maker.word(2, n)) for n in [self.width, source.randint(1, 6)]]
+        budget, cubes = ["--budget", str(source.randint(0, 4))], ["--cubes", str(source.randint(1, 4))]
+        self.limits = source.choice([[], budget, budget + cubes])
+
+    def models(self):
+        size = 1 << self.width
+        return ({"x": x, "y": y, "p": p} for x in range(size) for y in range(size) for p in (False, True))
+
+    def has_model(self, terms):
+        return any(all(f(v) for _, f in terms) for v in self.models())
+
+    def lines(self):
+        sort = "(_ BitVec %d)" % self.width
+        yield "(declare-const x %s)(declare-const y %s)(declare-const p Bool)" % (sort, sort)
+        for name, (t, _) in zip(self.names, self.asserted):
+            yield "(assert (! %s :named %s))" % (t, name) if name else "(assert %s)" % t
+        values = "(get-value (%s))" % " ".join(t for _, (t, _) in self.asked)
+        yield "(check-sat)"
+        yield values if self.has_model(self.asserted) else "(get-unsat-core)"
+        yield "(check-sat-assuming (%s))" % " ".join(t for t, _ in self.assumed)
+        yield values if self.has_model(self.asserted + self.assumed) else "(get-unsat-assumptions)"
+
+    def values_in(self, model):
+        """The answer that tells the values of the terms in the model."""
+        told = []
+        for n, (t, f) in self.asked:
+            told.append("(%s %s)" % (t, "#b" + format(f(model), "0%db" % n) if n else str(bool(f(model))).lower()))
+        return "(%s)" % " ".join(told)
+
+    def wrong_core(self, line):
+        names = line[1:-1].split()
+        if names != [n for n in self.names if n in names]:
+            return "a core of other names: %s" % line
+        return self.has_model([t for n, t in zip(self.names, self.asserted) if n is None or n in names]) and "a core with a model: %s" % line
+
+    def wrong_assumptions(self, line):
+        """The answer has to be some of the assumptions, in order, and these have no model with the assertions."""
+        texts, blamed = line[1:-1], []
+        for t, f in self.assumed:
+            if texts == t or texts.startswith(t + " "):
+                texts = texts[len(t) + 1:]
+                blamed.append((t, f))
+        if texts:
+            return "other assumptions: %s" % line
+        return self.has_model(self.asserted + blamed) and "assumptions with a model: %s" % line
+
+    def wrong_answer(self, verdict, line, terms, model, refuted):
+        if verdict == "unknown" and self.limits:
+            return not line.endswith(': no %s stands")' % ("model" if self.has_model(terms) else "refutation")) and "told: %s" % line
+        if verdict != ("sat" if self.has_model(terms) else "unsat"):
+            return "answered %s" % verdict
+        if verdict == "unsat":
+            return refuted(line)
+        if not all(f(model) for _, f in terms):
+            return "the model is none"
+        return line != self.values_in(model) and "other values: %s" % line
+
+    def fault(self, answers, models):
+        """What is wrong with the answers, beside which the proof has these models."""
+        if len(answers) != 4 or len(models) != 2:
+            return "answered %r" % answers
+        return (self.wrong_answer(answers[0], answers[1], self.asserted, models[0], self.wrong_core)
+                or self.wrong_answer(answers[2], answers[3], self.asserted + self.assumed, models[1], self.wrong_assumptions))
+
+
 def wrong(program, source, folder):
-    width = source.randint(1, 6)
-    maker = Maker(source, width)
-    terms = [maker.truth(source.randint(1, 3)) for _ in range(source.randint(1, 3))]
-    sort = "(_ BitVec %d)" % width
-    script = "(declare-const x %s)(declare-const y %s)(declare-const p Bool)\n" % (sort, sort)
-    script += "".join("(assert %s)\n" % t for t, _ in terms) + "(check-sat)\n"
+    case = Case(source)
+    script = "\n".join(case.lines()) + "\n"
     proof = folder / "proof"
-    ran = subprocess.run([program, "solve", str(proof)], input=script, capture_output=True, text=True, timeout=300)
-    models = ({"x": x, "y": y, "p": p} for x in range(1 << width) for y in range(1 << width) for p in (False, True))
-    wanted = "sat\n" if any(all(f(v) for _, f in terms) for v in models) else "unsat\n"
-    if ran.stdout != wanted:
-        return "answered %r for %r\n%s" % (ran.stdout, wanted, script)
-    if wanted == "sat\n" and not all(f(model_of(proof)) for _, f in terms):
-        return "the model is none\n%s" % script
-    if not accepted(script, proof, wanted.strip()):
-        return "the proof is refused\n%s" % script
-    return None
+    words = [program, "solve", str(proof), *case.limits]
+    ran = subprocess.run(words, input=script, capture_output=True, text=True, timeout=300)
+    answers = ran.stdout.split("\n")[:-1]
+    found = case.fault(answers, models_of(proof))
+    if not found and not accepted(script, proof, answers[::2]):
+        found = "the proof is refused"
+    return found and "%s\n%s\n%s" % (found, " ".join(case.limits), script)
 
 
 def main():

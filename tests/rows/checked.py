@@ -3,7 +3,7 @@
 
 usage: checked.py [PROGRAM]    (default: the program that `rt run` leaves in crates/smt_tool/out)
 
-`check` has to accept what `solve` wrote, with the verdicts that it answered.
+`check` has to accept what `solve` wrote, with the verdicts that it answered. A row is solved within the limits of its words.
 """
 import pathlib
 import subprocess
@@ -15,15 +15,17 @@ import run
 
 def scripts():
     for path in sorted((run.HERE.parents[1] / "examples").glob("*.smt2")):
-        yield path.stem, path.read_bytes()
+        yield path.stem, path.read_bytes(), []
     for path in sorted(run.HERE.glob("*.row")):
         row = run.sections(path)
-        if row["words"].split()[:1] == ["solve"]:
-            yield path.stem, row.get("script", "").encode("latin-1")
+        command, *words = row["words"].split()
+        if command == "solve":
+            limits = [w for w in words if w not in ("PROOF", "SCRIPT")] if int(row["status"]) in (0, 1) else []
+            yield path.stem, row.get("script", "").encode("latin-1"), limits
 
 
-def fault(program, script, proof):
-    solved = subprocess.run([program, "solve", proof], input=script, capture_output=True, timeout=120)
+def fault(program, script, proof, limits):
+    solved = subprocess.run([program, "solve", proof, *limits], input=script, capture_output=True, timeout=120)
     if solved.returncode not in (0, 1):
         return "solve: status %d" % solved.returncode
     verdicts = [line for line in solved.stdout.split(b"\n") if line in (b"sat", b"unsat", b"unknown")]
@@ -37,9 +39,9 @@ def fault(program, script, proof):
 def main():
     program = sys.argv[1] if len(sys.argv) > 1 else run.PROGRAM
     count, failed = 0, 0
-    for name, script in scripts():
+    for name, script, limits in scripts():
         with tempfile.TemporaryDirectory() as folder:
-            found = fault(program, script, pathlib.Path(folder) / "proof")
+            found = fault(program, script, pathlib.Path(folder) / "proof", limits)
         if found:
             print("%s: %s" % (name, found))
         count, failed = count + 1, failed + bool(found)

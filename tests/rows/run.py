@@ -4,7 +4,7 @@
 usage: run.py [PROGRAM]    (default: the program that `rt run` leaves in crates/smt_tool/out)
 
 A row is a file NAME.row with the sections `== words`, `== script`, `== answers`, `== status` and, where the proof file
-is fixed to the byte, `== proof`. The word PROOF stands for a new file, which has the text of `== given` where the row has
+is fixed to the byte, `== proof`, or `== puts`, how many lines of it put a clause in a diary. The word PROOF stands for a new file, which has the text of `== given` where the row has
 that section, and the word SCRIPT for a file that has the script, which standard input has not then. A section's text ends
 before the next line that begins with `==`; a last line `\\` takes away the line feed before it. Whatever a `solve` wrote
 is replayed by reference.py too, unless the row says `== no replay`.
@@ -43,6 +43,8 @@ def faults(program, row, folder):
     written = proof.read_bytes().decode("latin-1") if proof.exists() else None
     if "proof" in row and written != row["proof"]:
         yield "proof: %r" % written
+    if "puts" in row and (written or "").count("\n+ ") != int(row["puts"]):
+        yield "proof: %r" % written
     if words[:1] == ["solve"] and int(row["status"]) in (0, 1) and "no replay" not in row:
         yield from replayed(script, proof, row, folder)
 
@@ -51,7 +53,7 @@ def replayed(script, proof, row, folder):
     text = folder / "script"
     text.write_bytes(script)
     ran = subprocess.run([sys.executable, HERE / "reference.py", text, proof], capture_output=True, text=True)
-    verdicts = [a for a in row.get("answers", "").split("\n") if a in ("sat", "unsat")]
+    verdicts = [a for a in row.get("answers", "").split("\n") if a in ("sat", "unsat", "unknown")]
     wanted = "".join(v + "\n" for v in verdicts) + "accepted %d\n" % len(verdicts)
     if ran.stdout != wanted:
         yield "replay: %s%s" % (ran.stdout, ran.stderr)

@@ -1,7 +1,8 @@
 """Scripts as the replayer reads them: tokens, commands, the term list and the values of terms.
 
-Read are `declare-const` of Bools and words, `assert` and `check-sat`, with all operators of Core and of words. Any
-other chunk, and any with a fault, leaves everything as it was.
+Read are `declare-const` of Bools and words, `assert`, levels, `check-sat` and `check-sat-assuming`, with all operators of
+Core and of words, `let`, and the names that `:named` gives. Any other chunk, and any with a fault, leaves everything as it
+was.
 """
 import functools
 import itertools
@@ -229,6 +230,15 @@ def width_of(text):
     return n
 
 
+def is_keyword(piece):
+    return isinstance(piece, str) and piece.startswith(":")
+
+
+def need_symbol(name):
+    need(isinstance(name, str) and (SYMBOL.fullmatch(name) or QUOTED.fullmatch(name)), "no symbol")
+    need(name.strip("|") not in TAKEN, "reserved")
+
+
 def levels_meant(count):
     need(len(count) < 2, "no number of levels")
     return number(count[0]) if count else 1
@@ -241,18 +251,23 @@ class Script:
         self.text = text
         self.terms, self.names, self.sorts, self.asserted = Terms(), {}, [], []
         self.live, self.levels = [], []
+        # the terms of names that `:named` gave, whether such may be given now, and the variables of `let`
+        self.defined, self.may_name, self.bound = {}, False, {}
+        # the terms that the check assumes
+        self.assumed = []
 
     def checks(self):
         """Runs the commands up to the one that ends the run, and yields at each check."""
         for pieces in chunks(self.text):
-            held = len(self.terms.nodes)
+            held, defined = len(self.terms.nodes), dict(self.defined)
+            self.may_name, self.bound = False, {}
             try:
                 match expression(pieces):
                     case ["declare-const", name, sort]:
                         self.declare(name, sort)
                     case ["assert", e]:
-                        t = self.term(e)
-                        need(self.terms.sorts[t] == BOOL, "assert of a word")
+                        self.may_name = True
+                        t = self.truth(e)
                         self.live.append(len(self.asserted))
                         self.asserted.append(t)
                     case ["push", *count]:
@@ -260,30 +275,34 @@ class Script:
                     case ["pop", *count]:
                         self.pop(count)
                     case ["reset"] | ["reset-assertions"]:
-                        self.names, self.live, self.levels = {}, [], []
+                        self.names, self.defined, self.live, self.levels = {}, {}, [], []
                     case ["check-sat"]:
+                        self.assumed = []
+                        yield
+                    case ["check-sat-assuming", [*es]]:
+                        self.assumed = [self.truth(e) for e in es]
                         yield
                     case ["exit"]:
                         return
             except Refused:
                 self.terms.cut(held)
+                self.defined = defined
 
     def push(self, count):
         n = levels_meant(count)
         need(len(self.levels) + n <= 1000000, "level out of range")
-        self.levels += [(dict(self.names), len(self.live))] * n
+        self.levels += [(dict(self.names), dict(self.defined), len(self.live))] * n
 
     def pop(self, count):
         n = levels_meant(count)
         need(n <= len(self.levels), "level out of range")
         if n:
-            names, live = self.levels[-n]
-            self.names, self.live = dict(names), self.live[:live]
+            names, defined, live = self.levels[-n]
+            self.names, self.defined, self.live = dict(names), dict(defined), self.live[:live]
             del self.levels[-n:]
 
     def declare(self, name, sort):
-        need(isinstance(name, str) and (SYMBOL.fullmatch(name) or QUOTED.fullmatch(name)), "no symbol")
-        need(name.strip("|") not in TAKEN and name not in self.names, "reserved, or declared before")
+        self.need_new(name)
         match sort:
             case "Bool":
                 declared = BOOL
@@ -294,10 +313,23 @@ class Script:
         self.names[name] = len(self.sorts)
         self.sorts.append(declared)
 
+    def need_new(self, name):
+        need_symbol(name)
+        need(name not in self.names and name not in self.defined, "declared before")
+
+    def truth(self, e):
+        t = self.term(e)
+        need(self.terms.sorts[t] == BOOL, "no truth value")
+        return t
+
     def term(self, e):
         match e:
             case str():
                 return self.symbol(e)
+            case ["let", [_, *_] as bindings, body]:
+                return self.under(bindings, body)
+            case ["!", inner, _, *_]:
+                return self.annotated(self.term(inner), list(e[2:]))
             case ["_", str(name), width] if name.startswith("bv"):
                 return self.word(width_of(width), number(name[2:]))
             case [["_", str(name), *numbers], _, *_]:
@@ -313,9 +345,36 @@ class Script:
             return self.word(n, int(e[2:], 16 if e[1] == "x" else 2))
         if e in ("true", "false"):
             return self.terms.apply(e, (), ())
+        if e in self.bound or e in self.defined:
+            return self.bound[e] if e in self.bound else self.defined[e]
         need(e in self.names, "unknown symbol " + e)
         d = self.names[e]
         return self.terms.leaf("const", (d, self.sorts[d]), self.sorts[d])
+
+    def under(self, bindings, body):
+        outer, new = self.bound, {}
+        for binding in bindings:
+            need(isinstance(binding, list) and len(binding) == 2, "no binding")
+            need_symbol(binding[0])
+            need(binding[0] not in new, "bound twice")
+            new[binding[0]] = self.term(binding[1])
+        self.bound = outer | new
+        t = self.term(body)
+        self.bound = outer
+        return t
+
+    def annotated(self, t, attributes):
+        while attributes:
+            keyword = attributes.pop(0)
+            need(is_keyword(keyword), "no keyword")
+            if keyword == ":named":
+                need(self.may_name and attributes, "no name, or none may be given")
+                name = attributes.pop(0)
+                self.need_new(name)
+                self.defined[name] = t
+            elif attributes and not is_keyword(attributes[0]):
+                attributes.pop(0)
+        return t
 
     def word(self, n, x):
         need(x < 1 << n, "literal too wide")

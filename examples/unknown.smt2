@@ -1,0 +1,9 @@
+; Four clauses that cannot all hold: `unsat`, and with `--budget 0` `unknown`.
+; The lines of that answer's proof are explained in docs/PROOFS.md.
+(declare-const p Bool)
+(declare-const q Bool)
+(assert (or p q))
+(assert (or p (not q)))
+(assert (or (not p) q))
+(assert (or (not p) (not q)))
+(check-sat)

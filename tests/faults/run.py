@@ -1,0 +1,128 @@
+"""Takes memory away from the built program, and breaks what it reads and writes, and looks at what it says.
+
+    python3 tests/faults/run.py PROGRAM [--allocations N ..]
+
+For each script of `examples/` and of the rows it first runs `solve` undisturbed. Then it runs it again under less and less memory
+(a limit on the address space), with a proof or answers that cannot be written (`/dev/full`), and with a script that cannot be read (a
+folder). Each time:
+
+- the status is the one of the undisturbed run, or 5 under a limit of memory, 4 where nothing can be written, 3 where nothing
+  can be read;
+- what was answered is a front of the undisturbed answers;
+- `check`, which has all the memory it wants, accepts a record for each verdict that was answered whole.
+
+With --allocations it also has the toolchain run the program with allocation N failing, for each N (`rt try --fail-alloc N`, which
+builds the program each time: more than a minute for each N), in the folder `crates/smt_tool`.
+
+It is no part of the gate.
+"""
+
+import pathlib
+import re
+import resource
+import subprocess
+import sys
+import tempfile
+
+ROOT = pathlib.Path(__file__).resolve().parents[2]
+VERDICTS = (b"sat", b"unsat", b"unknown")
+MEGABYTE = 1 << 20
+
+
+def scripts():
+    """The scripts of the examples, and of the rows that solve."""
+    found = [path.read_bytes() for path in sorted((ROOT / "examples").glob("*.smt2"))]
+    for path in sorted((ROOT / "tests" / "rows").glob("*.row")):
+        parts = re.split(rb"^== (.*)\n", path.read_bytes(), flags=re.M)
+        held = dict(zip(parts[1::2], parts[2::2]))
+        if held[b"words"].startswith(b"solve PROOF"):
+            found.append(held.get(b"script", b""))
+    return found
+
+
+def run(program, words, script, limit=None, out=subprocess.PIPE):
+    """The status and the answers of a run, under a limit of memory in bytes."""
+
+    def limited():
+        if limit is not None:
+            resource.setrlimit(resource.RLIMIT_AS, (limit, limit))
+
+    done = subprocess.run([program, *words], input=script, stdout=out, stderr=subprocess.DEVNULL, preexec_fn=limited)
+    return done.returncode, done.stdout or b""
+
+
+def verdicts(text):
+    """The verdicts among whole lines."""
+    return [line for line in text.split(b"\n")[:-1] if line in VERDICTS]
+
+
+def fault(program, proof, script, whole, allowed, got):
+    """What is wrong with a disturbed run, or None."""
+    status, answers = got
+    if status not in allowed:
+        return f"status {status}, not one of {sorted(allowed)}"
+    if not whole.startswith(answers):
+        return f"answers are no front of the undisturbed ones: {answers[-60:]!r}"
+    accepted = verdicts(run(program, ["check", proof], script)[1])
+    said = verdicts(answers)
+    if accepted[: len(said)] != said:
+        return f"answered {said}, and the proof has {accepted}"
+    return None
+
+
+def least_that_starts(program):
+    """The least limit, in megabytes, under which the program starts at all."""
+    for size in range(1, 256):
+        try:
+            status = run(program, [], b"", size * MEGABYTE)[0]
+        except (OSError, subprocess.SubprocessError):
+            continue
+        if status == 2:
+            return size
+    sys.exit("the program does not start under 256 MB")
+
+
+def disturbed(program, script, folder, least):
+    """The faults of all disturbed runs of a script, and their number, and how many of them wanted memory."""
+    proof = str(folder / "proof")
+    full = run(program, ["solve", proof], script)
+    faults, runs, wanted = [], 0, 0
+    for extra in (0, 64, 128, 256, 512, 1024, 2048, 4096):
+        got = run(program, ["solve", proof], script, least * MEGABYTE + extra * 1024)
+        faults.append(fault(program, proof, script, full[1], {full[0], 5}, got))
+        runs, wanted = runs + 1, wanted + (got[0] == 5)
+    with open("/dev/full", "wb") as nowhere:
+        status = run(program, ["solve", proof], script, out=nowhere)[0]
+        faults.append(None if status == (4 if full[1] else full[0]) else f"status {status} where no answer can be written")
+    status, answers = run(program, ["solve", "/dev/full"], script)
+    faults.append(None if (status, answers) == (4, b"") else f"status {status} where no proof can be written")
+    status, answers = run(program, ["solve", proof, str(folder)], b"")
+    faults.append(None if (status, answers) == (3, b"") else f"status {status} where the script cannot be read")
+    return [f for f in faults if f], runs + 3, wanted
+
+
+def failing_allocation(number):
+    """What the toolchain says of a run in which one allocation fails."""
+    words = ["rt", "try", "--fail-alloc", str(number), "--data", f"first.smt2={ROOT}/examples/first.smt2", "--", "solve", "proof", "first.smt2"]
+    done = subprocess.run(words, cwd=ROOT / "crates" / "smt_tool", stdout=subprocess.PIPE, stderr=subprocess.STDOUT)
+    return done.stdout.decode().strip().split("\n")[-1]
+
+
+def main(words):
+    program = str(pathlib.Path(words[0]).resolve())
+    least = least_that_starts(program)
+    all_faults, runs, wanted = 0, 0, 0
+    with tempfile.TemporaryDirectory() as name:
+        for number, script in enumerate(scripts()):
+            faults, count, short = disturbed(program, script, pathlib.Path(name), least)
+            all_faults, runs, wanted = all_faults + len(faults), runs + count, wanted + short
+            for text in faults:
+                print(f"script {number}: {text}")
+    print(f"{runs} runs, {wanted} of them without enough memory, {all_faults} faults (the program starts with {least} MB)")
+    for number in words[2:] if words[1:2] == ["--allocations"] else []:
+        print(f"allocation {number}: {failing_allocation(number)}")
+    return 1 if all_faults else 0
+
+
+if __name__ == "__main__":
+    sys.exit(main(sys.argv[1:]))
