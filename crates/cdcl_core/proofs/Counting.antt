@@ -1,23 +1,17 @@
 -- Counts, signs and writes.
-use Rattle.std.proofs.Common.{ℕ, ◌≡◌, ◌≢◌, ◌+◌, ◌-◌, ◌/◌, ◌%◌, ◌<◌, ◌≤◌, ◌⊎◌, ◌++◌, zero, suc, List, [], ◌∷◌, length, take, cond, Bool, eqb, true, false, refl, subst, inl, inr, arith}
+use Rattle.std.proofs.Common.{ℕ, ◌≡◌, ◌≢◌, ◌+◌, ◌-◌, ◌/◌, ◌%◌, ◌<◌, ◌≤◌, ◌⊎◌, ◌++◌, zero, suc, List, [], ◌∷◌, length, take, cond, Bool, eqb, refl, subst, inl, inr, arith}
 use Rattle.std.proofs.Math.ListN.{get_or, set}
 use Rattle.std.proofs.lemmas.List.{get_or-set_other, get_or-set_same, take_more, get_or_past}
-use Rattle.std.proofs.lemmas.Bool.{cases_lt}
+use Rattle.std.proofs.lemmas.Bool.{cases_lt, cond-true, cond-false}
 use Rattle.std.proofs.lemmas.Bool.Decides.{eqb_tells}
 use Rattle.cdcl_core.specs.Chains.{times, first_of, rest_of}
 use Rattle.cdcl_core.specs.Stamps.{neg, IsFalseBut}
-
-pub cond_true : (b : Bool) (m n : ℕ) → b ≡ true → cond b m n ≡ m
-cond_true b m n e = rw e refl
-
-pub cond_false : (b : Bool) (m n : ℕ) → b ≡ false → cond b m n ≡ n
-cond_false b m n e = rw e refl
 
 abbrev pub bit : Bool → ℕ
 bit b = cond b 1 0
 
 pub same_or_not : (a b : ℕ) → ((a ≡ b) × (bit (eqb a b) ≡ 1)) ⊎ ((a ≢ b) × (bit (eqb a b) ≡ 0))
-same_or_not a b = elim (eqb_tells a b) [ inl p ↦ inl (p.1, cond_true (eqb a b) 1 0 p.0) | inr p ↦ inr (p.1, cond_false (eqb a b) 1 0 p.0) ]
+same_or_not a b = elim (eqb_tells a b) [ inl p ↦ inl (p.1, cond-true (eqb a b) 1 0 p.0) | inr p ↦ inr (p.1, cond-false (eqb a b) 1 0 p.0) ]
 
 pub times_cons : (q k : ℕ) (xs : List ℕ) → times q (k ∷ xs) ≡ cond (eqb k q) 1 0 + times q xs
 unfolding times
@@ -49,7 +43,7 @@ taken_apart (x ∷ xs) q h = times_cons q x xs
 
 pub neg_cases : (l : ℕ) → ((l % 2 ≡ 0) × (neg l ≡ l + 1)) ⊎ ((l % 2 ≡ 1) × (neg l ≡ l - 1))
 unfolding neg
-neg_cases l = elim (eqb_tells (l % 2) 0) [ inl p ↦ inl (p.1, cond_true (eqb (l % 2) 0) (l + 1) (l - 1) p.0) | inr p ↦ inr (omega (arith, p.1), cond_false (eqb (l % 2) 0) (l + 1) (l - 1) p.0) ]
+neg_cases l = elim (eqb_tells (l % 2) 0) [ inl p ↦ inl (p.1, cond-true (eqb (l % 2) 0) (l + 1) (l - 1) p.0) | inr p ↦ inr (omega (arith, p.1), cond-false (eqb (l % 2) 0) (l + 1) (l - 1) p.0) ]
 
 pub neg_neg : (l : ℕ) → neg (neg l) ≡ l
 neg_neg l = elim (neg_cases l) [

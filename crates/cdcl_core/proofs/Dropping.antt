@@ -5,7 +5,7 @@ use Rattle.std.specs.List.{sum_by}
 use Rattle.std.specs.BTreeMap.{get, is_at, UpdatesBy}
 use Rattle.std.proofs.Math.ListN.{get_or, set, length-set}
 use Rattle.std.proofs.lemmas.List.{get_or-set_other, get_or-set_same, map-set}
-use Rattle.std.proofs.lemmas.Bool.{cases_lt}
+use Rattle.std.proofs.lemmas.Bool.{cases_lt, cases_Bool}
 use Rattle.std.proofs.lemmas.Bool.Decides.{eqb_tells}
 use Rattle.cnf_base.specs.Literals.{Literal}
 use Rattle.cnf_base.specs.declared.clause.ClauseId.{ClauseId}
@@ -25,7 +25,8 @@ use Rattle.cdcl_core.proofs.Bridge.{row_is}
 use Rattle.cdcl_core.proofs.Slots.{slot_changed, reasoned_changed, fixed_changed, sum_zero}
 use Rattle.cdcl_core.proofs.Hanging.{freed_change, two_places}
 use Rattle.cdcl_core.proofs.Freeing.{with_first, first_counts}
-use Rattle.cdcl_core.proofs.Naming.{same_id, true_or_false, other_slot, read_other}
+use Rattle.cdcl_core.proofs.Naming.{same_id, other_slot, read_other}
+use Rattle.std.proofs.lemmas.Option.{same_Some}
 
 -- a place of a watched slot stands in the list of its literal alone
 pub watched_place : (w : Watches) (t : Trail) (k i : ℕ) → IsPlaced w t → i ≢ get_or w.lists.literals k 0 + 1 → times k (get_or w.lists.lists i []) ≡ 0
@@ -102,16 +103,13 @@ unused_apart w w2 w3 t s id g i h pos e =
     g.unused i row.0 row.1 (row_is t i g.settled.trail g.settled.shown h ∙ ap (λ x. Some (row.0, row.1, x)) name)
 
 gone_cases : (w w2 w3 : Watches) (t : Trail) (s : ℕ) (id q : ClauseId) → IsGoing w w2 w3 t s id → ((id ≡ q) × (get id_cmp w3.slots q ≡ None)) ⊎ ((is_at (id_cmp id) q ≡ false) × (get id_cmp w3.slots q ≡ get id_cmp w.slots q))
-gone_cases w w2 w3 t s id q g = elim (true_or_false (is_at (id_cmp id) q)) [
+gone_cases w w2 w3 t s id q g = elim (cases_Bool (is_at (id_cmp id) q)) [
   | inl e ↦ inl (same_id id q e, g.updates.0 q ∙ rw e refl)
   | inr e ↦ inr (e, g.updates.2 q e)
 ]
 
 none_is_not : {A : Type 0} (q : ℕ) → None ≡ Some q → A
 none_is_not q e = absurd cc
-
-some_inj : (a b : ℕ) → Some a ≡ Some b → a ≡ b
-some_inj a b e = cc
 
 -- another name stands for another slot
 other_name : (w w2 w3 : Watches) (t : Trail) (s : ℕ) (id q : ClauseId) (r : ℕ) → IsGoing w w2 w3 t s id → get id_cmp w3.slots q ≡ Some r → (get id_cmp w.slots q ≡ Some r) × (r ≢ s)
@@ -166,7 +164,7 @@ gone_settled w w2 w3 t s id g =
             let ne : r ≢ s = λ e. live (rw e free) in
             let old : get id_cmp w.slots (get_or w.ids.items r no_id) ≡ Some r = st.named.held r a (rw length-set at b) (λ e. live (kind r ne ∙ e)) in
             elim (gone_cases w w2 w3 t s id (get_or w.ids.items r no_id) g) [
-              | inl x ↦ absurd (ne (some_inj r s (sym old ∙ (ap (get id_cmp w.slots) (sym x.0) ∙ g.found))))
+              | inl x ↦ absurd (ne (same_Some r s (sym old ∙ (ap (get id_cmp w.slots) (sym x.0) ∙ g.found))))
               | inr x ↦ x.1 ∙ old
             ];
         rows = rw length-set st.named.rows;

@@ -3,7 +3,7 @@ use Rattle.std.proofs.Common.{ℕ, ◌≡◌, ◌+◌, ◌<◌, ◌≤◌, List,
 use Rattle.std.specs.Prelude.{slice_get, Contains}
 use Rattle.std.proofs.Math.ListN.{get_or}
 use Rattle.std.proofs.lemmas.List.{get_or-take, get_or_default, length-take-le}
-use Rattle.std.proofs.lemmas.Option.{slice_get-get_or, get_or_from_slice_get, slice_get_within}
+use Rattle.std.proofs.lemmas.Option.{slice_get-get_or, get_or_from_slice_get, slice_get_within, same_Some}
 use Rattle.std.proofs.lemmas.Bool.{cases_lt}
 use Rattle.cnf_base.specs.Literals.{Literal, code_of, literal_of, negated}
 use Rattle.cnf_base.proofs.Codes.{literal_of-code_of, code_of-literal_of, code_of-injective}
@@ -39,9 +39,6 @@ front_false t i m tr sh h on =
     slice_get-get_or (take i (literals_of t)) k no_row there ∙ ap Some (get_or-take i (literals_of t) k no_row before ∙ get_or-take t.len t.rows.items k no_row within) in
     (k, (row.1, (row.2, (is ∙ ap (λ x. Some (x, row.1, row.2)) lit, omega (arith, lev, top)))))
 
-inside : {X : Type 0} (x y : X) → Some x ≡ Some y → x ≡ y
-inside x y e = ap (λ o. elim o [ None ↦ x | Some z ↦ z ]) e
-
 nothing : {X A : Type 0} (x : X) → Some x ≡ None → A
 nothing x e = absurd cc
 
@@ -53,7 +50,7 @@ settled_forced w t st i l level id e =
     let row : get_or t.rows.items i no_row ≡ (l, level, Some id) = sym (get_or-take t.len t.rows.items i no_row within) ∙ get_or_from_slice_get (literals_of t) i (l, level, Some id) no_row e in
     let third : (get_or t.rows.items i no_row).2 ≡ Some id = ap (λ (r : Row). r.2) row in
     let low : 1 ≤ s = elim (cases_lt 0 s) [ inl h ↦ h | inr h ↦ nothing id (sym third ∙ st.reasoned.decided i within (omega (arith, h))) ] in
-    let name : id ≡ get_or w.ids.items s no_id = inside id (get_or w.ids.items s no_id) (sym third ∙ st.reasoned.name i within low) in
+    let name : id ≡ get_or w.ids.items s no_id = same_Some id (get_or w.ids.items s no_id) (sym third ∙ st.reasoned.name i within low) in
     let high : s < length w.kinds.items = st.reasoned.forced i within low in
     let c : List Literal = get_or w.clauses.items s [] in
     let room : s < length w.clauses.items = omega (arith, high, st.watched.clauses, codes_length w.clauses.items) in

@@ -1,12 +1,13 @@
 -- What a move and an exchange leave of the linked lists.
-use Rattle.std.proofs.Common.{ℕ, ◌≡◌, ◌≢◌, ◌+◌, ◌-◌, ◌<◌, ◌≤◌, ◌++◌, zero, suc, List, [], ◌∷◌, length, replicate, cond, Bool, eqb, true, false, refl, sym, ◌∙◌, ap, subst, inl, inr, arith}
+use Rattle.std.proofs.Common.{ℕ, ◌≡◌, ◌≢◌, ◌+◌, ◌-◌, ◌<◌, ◌≤◌, ◌++◌, zero, suc, List, [], ◌∷◌, length, replicate, cond, eqb, refl, sym, ◌∙◌, ap, subst, inl, inr, arith}
 use Rattle.std.proofs.Math.ListN.{get_or, set, length-set}
 use Rattle.std.specs.List.{sum_by}
 use Rattle.std.proofs.lemmas.List.{get_or-set_other, get_or-set_same, get_or-map, length-map, ext_get_or, get_or_default, length-append, length-replicate, get_or_append_left, get_or-append_right, get_or-replicate, get_or_past}
 use Rattle.std.proofs.lemmas.List.Sums.{sum_by-set, get_or-le-sum_by, sum_by-append}
-use Rattle.std.proofs.lemmas.Bool.{eq-eqb, cases_lt}
+use Rattle.std.proofs.lemmas.Bool.{eq-eqb, cases_lt, cond-true, cond-false}
 use Rattle.std.proofs.lemmas.Bool.Decides.{eqb_tells}
 use Rattle.cdcl_core.specs.Chains.{follow, IsChain, lists_of, times, IsLinked, first_of, rest_of}
+use Rattle.cdcl_core.proofs.Counting.{times_nil, times_cons}
 
 zero_test : (h : ℕ) (xs ys : List ℕ) → h ≡ 0 → cond (eqb h 0) xs ys ≡ xs
 zero_test h xs ys e = rw (eq-eqb h 0 e) refl
@@ -30,19 +31,13 @@ unfolding IsChain
 first_of_chain ns h [] c = sym c
 first_of_chain ns h (x ∷ xs) c = sym c.0
 
-cond_true : (b : Bool) (m n : ℕ) → b ≡ true → cond b m n ≡ m
-cond_true b m n e = rw e refl
-
-cond_false : (b : Bool) (m n : ℕ) → b ≡ false → cond b m n ≡ n
-cond_false b m n e = rw e refl
-
 times_other : (k x : ℕ) (xs : List ℕ) → times k (x ∷ xs) ≡ 0 → (x ≢ k) × (times k xs ≡ 0)
 unfolding times
-times_other k x xs e = elim (eqb_tells x k) [ inl p ↦ absurd (omega (arith, cond_true (eqb x k) 1 0 p.0)) | inr p ↦ (p.1, omega (arith, cond_false (eqb x k) 1 0 p.0)) ]
+times_other k x xs e = elim (eqb_tells x k) [ inl p ↦ absurd (omega (arith, cond-true {A = ℕ} (eqb x k) 1 0 p.0)) | inr p ↦ (p.1, omega (arith, cond-false {A = ℕ} (eqb x k) 1 0 p.0)) ]
 
 times_first : (k : ℕ) (xs : List ℕ) → times k (k ∷ xs) ≡ 1 + times k xs
 unfolding times
-times_first k xs = omega (arith, cond_true (eqb k k) 1 0 (eq-eqb k k refl))
+times_first k xs = omega (arith, cond-true {A = ℕ} (eqb k k) 1 0 (eq-eqb k k refl))
 
 times_more : (k x : ℕ) (xs : List ℕ) → times k xs ≤ times k (x ∷ xs)
 unfolding times
@@ -83,7 +78,7 @@ counted_past zero x xs h = refl
 counted_past (suc n) x xs h =
     elim (eqb_tells x n) [
       | inl p ↦ absurd (omega (arith, p.1, h))
-      | inr p ↦ omega (arith, cond_false (eqb x n) 1 0 p.0, counted_past n x xs (omega arith))
+      | inr p ↦ omega (arith, cond-false {A = ℕ} (eqb x n) 1 0 p.0, counted_past n x xs (omega arith))
     ]
 
 counted_below : (n x : ℕ) (xs : List ℕ) → x < n → counted n (x ∷ xs) ≡ counted n xs + 1
@@ -91,8 +86,8 @@ unfolding counted times
 counted_below zero x xs h = absurd (omega arith)
 counted_below (suc n) x xs h =
     elim (eqb_tells x n) [
-      | inl p ↦ omega (arith, cond_true (eqb x n) 1 0 p.0, counted_past n x xs (omega (arith, p.1)))
-      | inr p ↦ omega (arith, cond_false (eqb x n) 1 0 p.0, counted_below n x xs (omega (arith, p.1, h)))
+      | inl p ↦ omega (arith, cond-true {A = ℕ} (eqb x n) 1 0 p.0, counted_past n x xs (omega (arith, p.1)))
+      | inr p ↦ omega (arith, cond-false {A = ℕ} (eqb x n) 1 0 p.0, counted_below n x xs (omega (arith, p.1, h)))
     ]
 
 counted_once : (n : ℕ) (xs : List ℕ) → ((k : ℕ) → times k xs ≤ 1) → counted n xs ≤ n
@@ -171,10 +166,6 @@ pub record Moving (ns : List ℕ) (L : List (List ℕ)) (i k : ℕ) : Type 0 whe
 pub chain_at : (ns rs : List ℕ) (i : ℕ) → IsLinked ns rs → i < length rs → IsChain ns (get_or rs i 0) (get_or (lists_of ns rs) i [])
 chain_at ns rs i l h = rw (list_at ns rs i h) (l.ends i h)
 
-pub times_nil : (k : ℕ) → times k [] ≡ 0
-unfolding times
-times_nil k = refl
-
 pub moving : (ns rs : List ℕ) (i : ℕ) → IsLinked ns rs → i < length rs → 0 < first_of (get_or (lists_of ns rs) i []) → Moving ns (lists_of ns rs) i (get_or rs i 0)
 moving ns rs i l hi pos =
     let L : List (List ℕ) = lists_of ns rs in
@@ -215,10 +206,6 @@ chains_moved ns rs L i j k m cj each len hi hj ne q hq =
                 (chain_frame ns (get_or rs q 0) (get_or L q []) k (get_or rs j 0) (each q hq) (m.others q (rw len hq) w.1))
           ])
     ]
-
-pub times_cons : (q k : ℕ) (xs : List ℕ) → times q (k ∷ xs) ≡ cond (eqb k q) 1 0 + times q xs
-unfolding times
-times_cons q k xs = refl
 
 -- a move of the first place of list i to the front of list j
 pub moved : (ns rs : List ℕ) (i j : ℕ) → IsLinked ns rs → i < length rs → j < length rs → i ≢ j → 0 < first_of (get_or (lists_of ns rs) i []) →
@@ -373,8 +360,8 @@ pushed ns rs j k l hj pos hk none =
     ])
     (λ q. let a : sum_by (times q) (set L j (k ∷ get_or L j [])) + times q (get_or L j []) ≡ sum_by (times q) L + times q (k ∷ get_or L j []) = sum_by-set (times q) L j (k ∷ get_or L j []) [] hlj in
     elim (eqb_tells k q) [
-      | inl p ↦ let none2 : sum_by (times q) L ≡ 0 = rw p.1 at none in omega (arith, a, times_cons q k (get_or L j []), cond_true (eqb k q) 1 0 p.0, none2)
-      | inr p ↦ omega (arith, a, times_cons q k (get_or L j []), cond_false (eqb k q) 1 0 p.0, l.once q)
+      | inl p ↦ let none2 : sum_by (times q) L ≡ 0 = rw p.1 at none in omega (arith, a, times_cons q k (get_or L j []), cond-true {A = ℕ} (eqb k q) 1 0 p.0, none2)
+      | inr p ↦ omega (arith, a, times_cons q k (get_or L j []), cond-false {A = ℕ} (eqb k q) 1 0 p.0, l.once q)
     ])
 
 get_or-replicate_any : {X : Type 0} (n i : ℕ) (d : X) → get_or (replicate n d) i d ≡ d

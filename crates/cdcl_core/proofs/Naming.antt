@@ -1,5 +1,5 @@
 -- The names of the held clauses, as slots are taken and given up.
-use Rattle.std.proofs.Common.{ℕ, zero, suc, ◌≡◌, ◌≢◌, ◌<◌, ◌≤◌, ◌⊎◌, Bool, true, false, List, [], ◌∷◌, Option, Some, None, length, refl, sym, ap, ◌∙◌, inl, inr, arith}
+use Rattle.std.proofs.Common.{ℕ, zero, suc, ◌≡◌, ◌≢◌, ◌<◌, ◌≤◌, ◌⊎◌, true, false, List, [], ◌∷◌, Option, Some, None, length, refl, sym, ap, ◌∙◌, inl, inr, arith}
 use Rattle.std.specs.Prelude.{slice_get, option_and_then}
 use Rattle.std.specs.Ordering.{nat_cmp, ordering_then, is_eq, MatchOrdering}
 use Rattle.std.specs.declared.cmp.Ordering.{Ordering}
@@ -21,6 +21,7 @@ use Rattle.cdcl_core.specs.Watched.{kind_at}
 use Rattle.cdcl_core.specs.State.{no_id, all_codes, IsNamed, IsSettled, IsPlaced, IsWaiting, HoldsSome}
 use Rattle.cdcl_core.proofs.Clauses.{codes_length}
 use Rattle.cdcl_core.proofs.Slots.{free_apart}
+use Rattle.std.proofs.lemmas.Bool.{cases_Bool}
 
 both_equal : (o p : Ordering) → is_eq (ordering_then o p) ≡ true → (o ≡ Equal) × (p ≡ Equal)
 both_equal Less p e = absurd cc
@@ -40,10 +41,6 @@ same_id a b e =
   where
     same : {x y u v : ℕ} → x ≡ y → u ≡ v → (let r : ClauseId = record { pos = x; part = u } in r) ≡ (let r : ClauseId = record { pos = y; part = v } in r)
     same e f = cc
-
-pub true_or_false : (b : Bool) → (b ≡ true) ⊎ (b ≡ false)
-true_or_false true = inl refl
-true_or_false false = inr refl
 
 -- a name that no clause has is not in the map
 pub not_named : (w : Watches) (t : Trail) (id : ClauseId) → IsSettled w t → clause_of w id ≡ None → get id_cmp w.slots id ≡ None
@@ -93,7 +90,7 @@ pub record IsTaken (w w2 : Watches) (s : ℕ) (id : ClauseId) (k : Kind) : Type 
 
 -- what the map gives for a name, before and after
 found_cases : (w w2 : Watches) (s : ℕ) (id : ClauseId) (k : Kind) (q : ClauseId) → IsTaken w w2 s id k → ((id ≡ q) × (get id_cmp w2.slots q ≡ Some s)) ⊎ ((is_at (id_cmp id) q ≡ false) × (get id_cmp w2.slots q ≡ get id_cmp w.slots q))
-found_cases w w2 s id k q u = elim (true_or_false (is_at (id_cmp id) q)) [
+found_cases w w2 s id k q u = elim (cases_Bool (is_at (id_cmp id) q)) [
   | inl e ↦ inl (same_id id q e, u.updates.0 q ∙ rw e refl)
   | inr e ↦ inr (e, u.updates.2 q e)
 ]

@@ -1,6 +1,6 @@
 -- What the public calls promise, from the invariant.
 use Rattle.std.proofs.Common.{ℕ, ◌≡◌, ◌≢◌, ◌+◌, ◌-◌, ◌*◌, ◌<◌, ◌≤◌, ◌⊎◌, ◌++◌, zero, suc, true, false, List, [], ◌∷◌, Option, Some, None, length, take, drop, filter, refl, sym, ap, ◌∙◌, inl, inr, arith}
-use Rattle.std.specs.Prelude.{slice_get, nat_le, IsSome}
+use Rattle.std.specs.Prelude.{slice_get, nat_le}
 use Rattle.std.specs.BTreeMap.{BTreeMap, get}
 use Rattle.std.specs.Option.{option_and_then}
 use Rattle.std.proofs.Math.ListN.{get_or}
@@ -22,6 +22,7 @@ use Rattle.cdcl_core.specs.State.{no_id, no_row, all_codes, IsShown, IsFixed, Is
 use Rattle.cdcl_core.proofs.Steps.{rests}
 use Rattle.cdcl_core.proofs.Clauses.{clause_codes, codes_length}
 use Rattle.cdcl_core.proofs.Bridge.{rests_rows, refuted_rows, rows_len, literals_length, front_kept}
+use Rattle.cnf_base.proofs.Options.{IsSome-from}
 
 taken : {A B : Type 0} (f : A → Option B) (o : Option A) (b : B) → option_and_then f o ≡ Some b → (a : A) × ((o ≡ Some a) × (f a ≡ Some b))
 taken f None b e = absurd cc
@@ -60,12 +61,12 @@ held_at w t s st lo hi live =
     let within : s < length w.clauses.items = omega (arith, hi, st.watched.clauses, codes_length w.clauses.items) in
     ap (option_and_then (λ s. slice_get w.clauses.items s)) (st.named.held s lo hi live) ∙ slice_get-get_or w.clauses.items s [] within
 
-kinds : (k : Kind) → (k ≡ Free) ⊎ ((k ≡ Fixed) ⊎ (k ≡ Watched))
+pub kinds : (k : Kind) → (k ≡ Free) ⊎ ((k ≡ Fixed) ⊎ (k ≡ Watched))
 kinds Free = inl refl
 kinds Fixed = inr (inl refl)
 kinds Watched = inr (inr refl)
 
-false_is_not : {A : Type 0} → false ≡ true → A
+pub false_is_not : {A : Type 0} → false ≡ true → A
 false_is_not e = absurd cc
 
 pub settled_rest : (w : Watches) (t : Trail) → IsSettled w t → IsPropagated w t → IsAtRest w t
@@ -93,9 +94,6 @@ conflict_at w t s id st pos hi live f e =
     let lo : 1 ≤ s = omega (arith, pos) in
     (c, (rw e (held_at w t s st lo hi live), refuted_rows t c st.trail st.shown (rw read f)))
 
-is_some_other : {X : Type 0} (o : Option X) (x : X) → o ≡ Some x → IsSome o
-is_some_other o x e = rw e refl
-
 -- what came to the trail was forced at the same level
 pub extended : (w : Watches) (t t2 : Trail) → IsShown t.rows.items t.stamps.items t.codes.items t.len → IsTrail t.stamps.items t.codes.items t.len t.head t.level → IsSettled w t2 → IsGrown t t2 → IsExtended (literals_of t) (level_of t) (literals_of t2)
 extended w t t2 sh tr st g =
@@ -111,7 +109,7 @@ extended w t t2 sh tr st g =
             let hi : i < t2.len = omega (arith, len3, h) in
             let row : get_or (drop t.len (literals_of t2)) k d ≡ get_or t2.rows.items i no_row = get_or-drop t.len (literals_of t2) k d ∙ (get_or-take t2.len t2.rows.items i d hi ∙ get_or_default t2.rows.items i d no_row (omega (arith, hi, wide))) in
             let forced : 0 < get_or t2.reasons.items i 0 = g.forced i (omega arith) hi in
-            rw row (g.level i (omega arith) hi, is_some_other (get_or t2.rows.items i no_row).2 (get_or w.ids.items (get_or t2.reasons.items i 0) no_id) (st.reasoned.name i hi forced)),
+            rw row (g.level i (omega arith) hi, IsSome-from (get_or t2.rows.items i no_row).2 (get_or w.ids.items (get_or t2.reasons.items i 0) no_id) (st.reasoned.name i hi forced)),
       ),
     )
 

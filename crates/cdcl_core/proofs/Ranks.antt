@@ -5,15 +5,16 @@ use Rattle.std.proofs.lemmas.List.{take_all}
 use Rattle.std.proofs.lemmas.Bool.Decides.{eqb_tells}
 use Rattle.cdcl_core.specs.Chains.{times}
 use Rattle.cdcl_core.specs.Stamps.{neg, Has, rank}
-use Rattle.cdcl_core.proofs.Counting.{cond_true, cond_false, times_nil, each_more}
+use Rattle.cdcl_core.proofs.Counting.{times_nil, each_more}
+use Rattle.std.proofs.lemmas.Bool.{cond-true, cond-false}
 
 pub rank_open : (ss : List ℕ) (l : ℕ) → get_or ss (neg l) 0 ≡ 0 → rank ss l ≡ 2 ^ 64 - 1
 unfolding rank
-rank_open ss l e = elim (eqb_tells (get_or ss (neg l) 0) 0) [ inl p ↦ cond_true (eqb (get_or ss (neg l) 0) 0) (2 ^ 64 - 1) (get_or ss (neg l) 0) p.0 | inr p ↦ absurd (p.1 e) ]
+rank_open ss l e = elim (eqb_tells (get_or ss (neg l) 0) 0) [ inl p ↦ cond-true (eqb (get_or ss (neg l) 0) 0) (2 ^ 64 - 1) (get_or ss (neg l) 0) p.0 | inr p ↦ absurd (p.1 e) ]
 
 pub rank_set : (ss : List ℕ) (l : ℕ) → get_or ss (neg l) 0 ≢ 0 → rank ss l ≡ get_or ss (neg l) 0
 unfolding rank
-rank_set ss l n = elim (eqb_tells (get_or ss (neg l) 0) 0) [ inl p ↦ absurd (n p.1) | inr p ↦ cond_false (eqb (get_or ss (neg l) 0) 0) (2 ^ 64 - 1) (get_or ss (neg l) 0) p.0 ]
+rank_set ss l n = elim (eqb_tells (get_or ss (neg l) 0) 0) [ inl p ↦ absurd (n p.1) | inr p ↦ cond-false (eqb (get_or ss (neg l) 0) 0) (2 ^ 64 - 1) (get_or ss (neg l) 0) p.0 ]
 
 pub rank_above : (ss : List ℕ) (l : ℕ) → 0 < rank ss l
 rank_above ss l = elim (eqb_tells (get_or ss (neg l) 0) 0) [

@@ -482,7 +482,7 @@ next_trail ss es len head level t h = record {
 }
 
 -- at rest no clause is false or unit with its last literal open, now or at the end of any lower level
-true_or_not : (ss : List ℕ) (j l : ℕ) → (IsTrueAt ss j l) ⊎ (IsTrueAt ss j l → ⊥)
+pub true_or_not : (ss : List ℕ) (j l : ℕ) → (IsTrueAt ss j l) ⊎ (IsTrueAt ss j l → ⊥)
 true_or_not ss j l = elim (cases_lt 0 (get_or ss l 0)) [
   | inl a ↦ elim (cases_lt (j + 1) (get_or ss l 0)) [ inl b ↦ inr (λ h. omega (arith, h.1)) | inr b ↦ inl (a, b) ]
   | inr a ↦ inr (λ h. omega (arith, h.0))

@@ -5,14 +5,15 @@ use Rattle.std.proofs.lemmas.Bool.{cases_lt}
 use Rattle.std.proofs.lemmas.List.{get_or-take, get_or_append_left, get_or_push, length-take-le, length_push}
 use Rattle.cnf_base.specs.Literals.{Literal, negated}
 use Rattle.cnf_base.specs.declared.clause.ClauseId.{ClauseId}
-use Rattle.cnf_base.proofs.Codes.{negated-negated}
+use Rattle.cnf_base.proofs.Codes.{negated-negated, same_literal_or_not}
 use Rattle.hint_chain.specs.Chains.{Lookup, IsChain}
 use Rattle.cdcl_core.specs.Levels.{Row}
 use Rattle.cdcl_core.specs.State.{no_row}
 use Rattle.cdcl_learn.specs.Rows.{row_at, literal_at, reason_at, IsFalseBefore, IsHistory, IsRefutedIn}
 use Rattle.cdcl_learn.specs.Puts.{DecidesOnly, IsAgainst}
-use Rattle.cdcl_learn.proofs.Lists.{no_member, member_first, member_later, member_cases, same_literal}
+use Rattle.cdcl_learn.proofs.Lists.{member_cases}
 use Rattle.cdcl_learn.proofs.Derivations.{nothing}
+use Rattle.cnf_base.proofs.Lists.{Contains-nil, Contains-first, Contains-later}
 
 module _ (look : Lookup) (rows cut : List Row) (place level : ℕ) (l : Literal) (history : IsHistory look rows) (within : place < length rows) (opposite : literal_at rows place ≡ negated l) (is : cut ≡ take place rows ++ (l, level, None) ∷ []) where
   front : length (take place rows) ≡ place
@@ -104,7 +105,7 @@ module _ (look : Lookup) (rows cut : List Row) (place level : ℕ) (l : Literal)
         f.0,
         (
           f.1.0,
-          λ m mem. elim (same_literal m (literal_at rows place)) [
+          λ m mem. elim (same_literal_or_not m (literal_at rows place)) [
             | inl y ↦ (place, (omega (arith, size), literal_end ∙ (sym (negated-negated l) ∙ ap negated (sym opposite ∙ sym y))))
             | inr y ↦
                 let k : IsFalseBefore rows place m = f.1.1.1 m mem y in
@@ -121,13 +122,13 @@ module _ (look : Lookup) (rows cut : List Row) (place level : ℕ) (l : Literal)
 
 -- a literal and its opposite
 pub pair_chain : (look : Lookup) (l : Literal) → IsChain look (l ∷ negated l ∷ []) []
-pair_chain look l = inl ((l, member_first l (negated l ∷ []), member_later l (negated l) (negated l ∷ []) (member_first (negated l) [])), refl)
+pair_chain look l = inl ((l, Contains-first l (negated l ∷ []), Contains-later l (negated l) (negated l ∷ []) (Contains-first (negated l) [])), refl)
 
 pub pair_against : (given : List Literal) (l : Literal) → Contains given l → Contains given (negated l) → IsAgainst given (l ∷ negated l ∷ [])
 pair_against given l own other x m = elim (member_cases l x (negated l ∷ []) m) [
   | inl e ↦ rw (← e) other
   | inr a ↦ elim (member_cases (negated l) x [] a) [
     | inl e ↦ let back : negated x ≡ l = ap negated (sym e) ∙ negated-negated l in rw back own
-    | inr b ↦ absurd (no_member x b)
+    | inr b ↦ absurd (Contains-nil x b)
   ]
 ]

@@ -7,20 +7,23 @@ use Rattle.std.proofs.lemmas.Bool.Decides.{eqb_tells}
 use Rattle.std.proofs.lemmas.List.Elements.{All-contains, All-map, Contains-get_or, Contains-push, Contains-push_cases, Contains-append_left}
 use Rattle.cnf_base.specs.Literals.{Literal, negated}
 use Rattle.cnf_base.specs.declared.clause.ClauseId.{ClauseId}
-use Rattle.cnf_base.proofs.Codes.{negated-negated}
+use Rattle.cnf_base.proofs.Codes.{negated-negated, same_literal_or_not}
 use Rattle.hint_chain.specs.Chains.{Lookup, IsUnit, HasPair, ChainFrom, IsChain}
 use Rattle.cdcl_core.specs.Levels.{Row}
 use Rattle.cdcl_learn.specs.Rows.{literal_at, reason_at, IsFalseBefore, IsHistory}
 use Rattle.cdcl_learn.specs.Puts.{StandsIn, UsesEach}
 use Rattle.cdcl_learn.specs.Walks.{IsSet, IsMarked, IsDerived, IsResolved}
-use Rattle.cdcl_learn.proofs.Lists.{no_member, Contains-map, member_first, member_later, member_cases, same_literal, some_is, put_cases, unset, set_inside}
+use Rattle.cdcl_learn.proofs.Lists.{member_cases, put_cases, unset, set_inside}
+use Rattle.cnf_base.proofs.Lists.{Contains-nil, Contains-map, Contains-first, Contains-later}
+use Rattle.cnf_base.proofs.Options.{IsSome-from}
+use Rattle.std.proofs.lemmas.Option.{same_Some}
 
 uses_more : (look : Lookup) (a : List Literal) (id : ClauseId) (hints : List ClauseId) (c : List Literal) (l : Literal) → look id ≡ Some c → IsUnit a c l → StandsIn look hints (negated l) → UsesEach look (a ++ l ∷ []) hints → UsesEach look a (id ∷ hints)
 uses_more look a id [] c l at unit stands rest = absurd rest
 uses_more look a id (j ∷ is) c l at unit stands rest = (c, (l, (at, (unit, (stands, rest)))))
 
 stands_later : (look : Lookup) (id : ClauseId) (hints : List ClauseId) (l : Literal) → StandsIn look hints l → StandsIn look (id ∷ hints) l
-stands_later look id hints l s = (s.0, (s.1.0, (member_later id s.0 hints s.1.1.0, (s.1.1.1.0, s.1.1.1.1))))
+stands_later look id hints l s = (s.0, (s.1.0, (Contains-later id s.0 hints s.1.1.0, (s.1.1.1.0, s.1.1.1.1))))
 
 -- the conflict alone derives itself
 pub derived_start : (look : Lookup) (rows : List Row) (old new : List Bool) (id : ClauseId) (c : List Literal) → look id ≡ Some c → ((m : Literal) → Contains c m → IsFalseBefore rows (length rows) m) → ((p : ℕ) → IsSet old p → ⊥) → IsMarked rows c old new → IsDerived look rows new (id ∷ [])
@@ -41,7 +44,7 @@ derived_start look rows old new id c at f clear k = record {
   );
   stands = λ p h s. elim (k.from p s) [
     | inl o ↦ absurd (clear p o)
-    | inr o ↦ (id, (c, (member_first id [], (at, o))))
+    | inr o ↦ (id, (c, (Contains-first id [], (at, o))))
   ];
 }
 
@@ -77,7 +80,7 @@ module _ (look : Lookup) (rows : List Row) (old cut new : List Bool) (hints : Li
           others = λ j dd h.
               let m : Literal = get_or c j dd in
               let mem : Contains c m = Contains-get_or c j dd h in
-              elim (same_literal m (literal_at rows i)) [
+              elim (same_literal_or_not m (literal_at rows i)) [
                 | inl y ↦ inl y
                 | inr y ↦
                     let f : IsFalseBefore rows i m = others m mem y in
@@ -96,16 +99,16 @@ module _ (look : Lookup) (rows : List Row) (old cut new : List Bool) (hints : Li
         ]));
     stands = λ p h s. elim (k.from p s) [
       | inl o ↦ stands_later look id hints (negated (literal_at rows p)) (d.stands p h (less p o))
-      | inr o ↦ (id, (c, (member_first id hints, (at, o))))
+      | inr o ↦ (id, (c, (Contains-first id hints, (at, o))))
     ];
   }
 
 -- each hint is held
 pub uses_held : (look : Lookup) (a : List Literal) (hints : List ClauseId) (id : ClauseId) → UsesEach look a hints → Contains hints id → IsSome (look id)
 uses_held look a [] id u h = absurd u
-uses_held look a (i ∷ []) id u h = elim (member_cases i id [] h) [ inl e ↦ rw (← e) (some_is (look i) u.0 u.1.0) | inr m ↦ absurd (no_member id m) ]
+uses_held look a (i ∷ []) id u h = elim (member_cases i id [] h) [ inl e ↦ rw (← e) (IsSome-from (look i) u.0 u.1.0) | inr m ↦ absurd (Contains-nil id m) ]
 uses_held look a (i ∷ j ∷ is) id u h = elim (member_cases i id (j ∷ is) h) [
-  | inl e ↦ rw (← e) (some_is (look i) u.0 u.1.1.0)
+  | inl e ↦ rw (← e) (IsSome-from (look i) u.0 u.1.1.0)
   | inr m ↦ uses_held look (a ++ u.1.0 ∷ []) (j ∷ is) id u.1.1.1.1.1 m
 ]
 
@@ -144,9 +147,6 @@ cut_cases ms i p h s = elim (put_cases ms i false p h) [ inl q ↦ unset (get_or
 cut_kept : (ms : List Bool) (i p : ℕ) → i < length ms → p ≢ i → IsSet ms p → IsSet (set ms i false) p
 cut_kept ms i p h ne s = elim (put_cases ms i false p h) [ inl q ↦ absurd (ne q.0) | inr q ↦ q.1 ∙ s ]
 
-pub inside : {X : Type 0} (x y : X) → Some x ≡ Some y → x ≡ y
-inside x y e = ap (λ o. elim o [ None ↦ x | Some z ↦ z ]) e
-
 pub nothing : {X A : Type 0} (x : X) → None ≡ Some x → A
 nothing x e = absurd cc
 
@@ -159,7 +159,7 @@ pub resolution : (look : Lookup) (rows : List Row) (i : ℕ) (id : ClauseId) (c 
     IsMarked rows c (set old i false) new → IsDerived look rows old (reverse hints) → more ≡ hints ++ id ∷ [] → IsResolution look rows i old new (reverse more)
 resolution look rows i id c old new hints more history within wide marked reason at k d is =
     let f = history.forced i id within reason in
-    let e : f.0 ≡ c = inside f.0 c (sym f.1.0 ∙ at) in
+    let e : f.0 ≡ c = same_Some f.0 c (sym f.1.0 ∙ at) in
     let room : i < length old = omega (arith, wide, within) in
     let has : Contains c (literal_at rows i) = (let a : Contains f.0 (literal_at rows i) = f.1.1.0 in rw e at a) in
     let others : (m : Literal) → Contains c m → m ≢ literal_at rows i → IsFalseBefore rows i m = λ m mem ne. f.1.1.1 m (rw e mem) ne in

@@ -1,17 +1,16 @@
 -- What is true of the trail of a search.
-use Rattle.std.proofs.Common.{ℕ, ◌≡◌, ◌≢◌, ◌+◌, ◌-◌, ◌*◌, ◌/◌, ◌<◌, ◌≤◌, ◌⊎◌, Bool, true, false, List, [], Some, length, take, cond, refl, sym, ap, ◌∙◌, inl, inr, arith}
+use Rattle.std.proofs.Common.{ℕ, ◌≡◌, ◌≢◌, ◌+◌, ◌-◌, ◌*◌, ◌/◌, ◌<◌, ◌≤◌, Bool, true, false, List, [], Some, length, take, cond, sym, ap, ◌∙◌, inl, inr, arith}
 use Rattle.std.specs.Prelude.{slice_get, Contains}
 use Rattle.std.proofs.Math.ListN.{get_or}
 use Rattle.std.proofs.lemmas.List.{get_or-take, length-take-le}
 use Rattle.std.proofs.lemmas.Option.{slice_get-get_or, get_or_from_slice_get, slice_get_within}
-use Rattle.std.proofs.lemmas.Bool.{cases_lt}
 use Rattle.cnf_base.specs.Literals.{Literal, code_of, negated}
 use Rattle.cnf_base.specs.declared.clause.ClauseId.{ClauseId}
 use Rattle.cnf_base.proofs.Codes.{code_of-literal_of, negated-negated}
 use Rattle.cdcl_core.specs.declared.trail.Trail.{Trail}
 use Rattle.cdcl_core.specs.declared.watches.Watches.{Watches}
 use Rattle.cdcl_core.specs.declared.watches.Kind.{Kind}
-use Rattle.cdcl_core.specs.declared.watches.Kind.TheVariants.{Free, Fixed, Watched}
+use Rattle.cdcl_core.specs.declared.watches.Kind.TheVariants.{Watched}
 use Rattle.cdcl_core.specs.Chains.{times}
 use Rattle.cdcl_core.specs.Levels.{Row, IsTrueBy, IsFalseBy, RestsBy}
 use Rattle.cdcl_core.specs.Search.{literals_of, level_of, clause_of, IsConflict}
@@ -19,9 +18,9 @@ use Rattle.cdcl_core.specs.Stamps.{neg, is_set, Has, IsTrueAt, RestsAt, IsTrail}
 use Rattle.cdcl_core.specs.Watched.{kind_at, IsWatched, IsWatching, Kept}
 use Rattle.cdcl_core.specs.State.{no_row, all_codes, IsSettled}
 use Rattle.cdcl_core.proofs.Counting.{neg_neg}
-use Rattle.cdcl_core.proofs.Steps.{entry_true, trail_len, rises, places_of, watching_mate}
+use Rattle.cdcl_core.proofs.Steps.{entry_true, trail_len, rises, places_of, watching_mate, true_or_not}
 use Rattle.cdcl_core.proofs.Bridge.{literals_length, code_of-negated, rests_rows}
-use Rattle.cdcl_core.proofs.Public.{slot_of, IsSlot}
+use Rattle.cdcl_core.proofs.Public.{slot_of, IsSlot, kinds, false_is_not}
 use Rattle.cdcl_core.proofs.Forced.{settled_forced}
 use Rattle.cdcl_learn.specs.Rows.{row_at, literal_at, level_at, reason_at, IsFalseBefore, IsHistory, IsRefutedIn, AreRising}
 use Rattle.cdcl_learn.specs.Walks.{IsSet}
@@ -124,12 +123,6 @@ module _ (w : Watches) (t : Trail) (st : IsSettled w t) where
   )
 
 -- a watched clause rests at the end of each lower level
-true_or_not : (ss : List ℕ) (j l : ℕ) → (IsTrueAt ss j l) ⊎ (IsTrueAt ss j l → ⊥)
-true_or_not ss j l = elim (cases_lt 0 (get_or ss l 0)) [
-  | inl a ↦ elim (cases_lt (j + 1) (get_or ss l 0)) [ inl b ↦ inr (λ h. omega (arith, b, h.1)) | inr b ↦ inl (a, b) ]
-  | inr a ↦ inr (λ h. omega (arith, a, h.0))
-]
-
 rests_below : (L : List (List ℕ)) (ws : List ℕ) (ks : List Kind) (cs : List (List ℕ)) (ss es : List ℕ) (len head level : ℕ) → IsTrail ss es len head level → IsWatched L ws ks cs ss es head (length ss) 0 → (s j : ℕ) → j < level → 1 ≤ s → s < length ks → kind_at ks s ≡ Watched → RestsAt ss j (get_or cs s [])
 rests_below L ws ks cs ss es len head level t w s j under lo hi kind =
     let k : ℕ = 2 * s in
@@ -151,14 +144,6 @@ rests_below L ws ks cs ss es len head level t w s j under lo hi kind =
         | inr z ↦ inr (a, (b, (has_a, (has_b, (w.differ k on, (x, z))))))
       ]
     ]
-
-kinds : (k : Kind) → (k ≡ Free) ⊎ ((k ≡ Fixed) ⊎ (k ≡ Watched))
-kinds Free = inl refl
-kinds Fixed = inr (inl refl)
-kinds Watched = inr (inr refl)
-
-false_is_not : {A : Type 0} → false ≡ true → A
-false_is_not e = absurd cc
 
 -- at the end of a lower level every held clause rests
 pub lower_rest : (w : Watches) (t : Trail) → IsSettled w t → (id : ClauseId) (c : List Literal) (j : ℕ) → clause_of w id ≡ Some c → j < level_of t → RestsBy (literals_of t) j c

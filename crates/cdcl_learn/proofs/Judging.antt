@@ -5,7 +5,7 @@ use Rattle.std.proofs.lemmas.Bool.{cases_lt}
 use Rattle.std.proofs.lemmas.Bool.Decides.{eqb_tells}
 use Rattle.cnf_base.specs.Literals.{Literal, negated}
 use Rattle.cnf_base.specs.declared.clause.ClauseId.{ClauseId}
-use Rattle.cnf_base.proofs.Codes.{negated-negated}
+use Rattle.cnf_base.proofs.Codes.{negated-negated, same_literal_or_not}
 use Rattle.hint_chain.specs.Chains.{IsChain}
 use Rattle.cdcl_core.specs.declared.trail.Trail.{Trail}
 use Rattle.cdcl_core.specs.declared.watches.Watches.{Watches}
@@ -15,7 +15,6 @@ use Rattle.cdcl_core.specs.State.{IsSettled}
 use Rattle.cdcl_learn.specs.Rows.{literal_at, level_at, AreRising, IsHistory}
 use Rattle.cdcl_learn.specs.Puts.{IsGoodPut, IsUnitAfter}
 use Rattle.cdcl_learn.specs.Walks.{IsSet, IsDerived, IsExplained, IsTop, IsUnique}
-use Rattle.cdcl_learn.proofs.Lists.{same_literal}
 use Rattle.cdcl_learn.proofs.Facts.{place_of_true, true_at_place, history_of, rising_of, lower_rest}
 use Rattle.cdcl_learn.proofs.Derivations.{IsClauseOf, uses_held, clause_uses, clause_chain, no_pair}
 
@@ -131,9 +130,9 @@ module _ (w : Watches) (t : Trail) (marks : List Bool) (place rest b : ℕ) (c :
     | inr a ↦
         let l : Literal = a.0 in
         let m : Literal = a.1.0 in
-        elim (same_literal l (negated (literal_at (literals_of t) place))) [
+        elim (same_literal_or_not l (negated (literal_at (literals_of t) place))) [
           | inr y ↦ a.1.1.1.1.1.0 (other_false l (within l a.1.1.0) y)
-          | inl y ↦ elim (same_literal m (negated (literal_at (literals_of t) place))) [
+          | inl y ↦ elim (same_literal_or_not m (negated (literal_at (literals_of t) place))) [
             | inr z ↦ a.1.1.1.1.1.1 (other_false m (within m a.1.1.1.0) z)
             | inl z ↦ a.1.1.1.1.0 (y ∙ sym z)
           ]

@@ -1,44 +1,25 @@
 -- Members of lists, literals and marks.
-use Rattle.std.proofs.Common.{ℕ, ◌≡◌, ◌≢◌, ◌+◌, ◌<◌, ◌≤◌, ◌⊎◌, zero, suc, Bool, true, false, List, [], ◌∷◌, Option, Some, length, take, map, replicate, refl, sym, ap, ◌∙◌, inl, inr, arith}
-use Rattle.std.specs.Prelude.{Contains, IsSome}
-use Rattle.std.proofs.Math.ListN.{get_or, set, get_or-map}
-use Rattle.std.proofs.lemmas.Bool.{cases_lt}
+use Rattle.std.proofs.Common.{ℕ, ◌≡◌, ◌≢◌, ◌+◌, ◌<◌, ◌≤◌, ◌⊎◌, zero, suc, Bool, true, false, List, [], ◌∷◌, length, take, replicate, refl, ap, inl, inr, arith}
+use Rattle.std.specs.Prelude.{Contains}
+use Rattle.std.proofs.Math.ListN.{get_or, set}
+use Rattle.std.proofs.lemmas.Bool.{cases_lt, both_ways}
 use Rattle.std.proofs.lemmas.Bool.Decides.{eqb_tells}
-use Rattle.std.proofs.lemmas.List.{length-map, length-replicate, get_or-replicate, get_or-set_other, get_or-set_same, get_or_past, take_more}
-use Rattle.std.proofs.lemmas.List.Elements.{Contains-push, Contains-push_cases, Contains-append_left, Contains-append_right, Contains-append_cases}
-use Rattle.cnf_base.specs.Literals.{Literal, code_of}
-use Rattle.cnf_base.proofs.Codes.{code_of-injective}
+use Rattle.std.proofs.lemmas.List.{length-replicate, get_or-replicate, get_or-set_other, get_or-set_same, get_or_past, take_more}
+use Rattle.std.proofs.lemmas.List.Elements.{Contains-push_cases, Contains-append_cases}
 use Rattle.cdcl_core.specs.Chains.{times}
 use Rattle.cdcl_core.proofs.Counting.{same_or_not, times_cons, item_in}
 use Rattle.cdcl_learn.specs.Walks.{IsSet}
-
-pub no_member : {X : Type 0} (x : X) → Contains [] x → ⊥
-no_member x h = omega (arith, h.1)
-
-pub member_first : {X : Type 0} (x : X) (xs : List X) → Contains (x ∷ xs) x
-member_first x xs = Contains-append_left (x ∷ []) xs x (Contains-push [] x)
-
-pub member_later : {X : Type 0} (x y : X) (xs : List X) → Contains xs y → Contains (x ∷ xs) y
-member_later x y xs h = Contains-append_right (x ∷ []) xs y h
+use Rattle.cnf_base.proofs.Lists.{Contains-nil}
 
 pub member_cases : {X : Type 0} (x y : X) (xs : List X) → Contains (x ∷ xs) y → (x ≡ y) ⊎ Contains xs y
 member_cases x y xs h = elim (Contains-append_cases (x ∷ []) xs y h) [
-  | inl a ↦ elim (Contains-push_cases [] x y a) [ inl b ↦ absurd (no_member y b) | inr e ↦ inl e ]
+  | inl a ↦ elim (Contains-push_cases [] x y a) [ inl b ↦ absurd (Contains-nil y b) | inr e ↦ inl e ]
   | inr a ↦ inr a
 ]
 
 -- a member of a longer front
 pub front_cases : {X : Type 0} (xs : List X) (i : ℕ) (d y : X) → i < length xs → Contains (take (i + 1) xs) y → (Contains (take i xs) y) ⊎ (get_or xs i d ≡ y)
 front_cases xs i d y h m = Contains-push_cases (take i xs) (get_or xs i d) y (rw (take_more xs i d h) at m)
-
-pub same_literal : (a b : Literal) → (a ≡ b) ⊎ (a ≢ b)
-same_literal a b = elim (eqb_tells (code_of a) (code_of b)) [
-  | inl e ↦ inl (code_of-injective a b e.1)
-  | inr e ↦ inr (λ q. e.1 (ap code_of q))
-]
-
-pub some_is : {X : Type 0} (o : Option X) (x : X) → o ≡ Some x → IsSome o
-some_is o x e = rw e refl
 
 -- a read of marks after a write
 pub put_cases : (xs : List Bool) (i : ℕ) (v : Bool) (j : ℕ) → i < length xs → ((j ≡ i) × (get_or (set xs i v) j false ≡ v)) ⊎ ((j ≢ i) × (get_or (set xs i v) j false ≡ get_or xs j false))
@@ -48,10 +29,7 @@ put_cases xs i v j h = elim (eqb_tells j i) [
 ]
 
 pub unset : {A : Type 0} (b : Bool) → b ≡ false → b ≡ true → A
-unset b e f = absurd (not_both (sym e ∙ f))
-  where
-    not_both : false ≡ true → ⊥
-    not_both q = cc
+unset b e f = absurd (both_ways b e f)
 
 -- a mark is within the table
 pub set_inside : (marks : List Bool) (p : ℕ) → IsSet marks p → p < length marks
@@ -69,9 +47,6 @@ one_place q (x ∷ xs) zero zero t hi hk ei ek = refl
 one_place q (x ∷ xs) zero (suc k) t hi hk ei ek = absurd (twice q x xs k t ei (omega arith) ek)
 one_place q (x ∷ xs) (suc i) zero t hi hk ei ek = absurd (twice q x xs i t ek (omega arith) ei)
 one_place q (x ∷ xs) (suc i) (suc k) t hi hk ei ek = ap suc (one_place q xs i k (omega (arith, t, times_cons q x xs)) (omega arith) (omega arith) ei ek)
-
-pub Contains-map : {A B : Type 0} (f : A → B) (xs : List A) (x : A) → Contains xs x → Contains (map f xs) (f x)
-Contains-map f xs x c = (c.0, rw length-map c.1, get_or-map f xs c.0 x ∙ ap f c.2)
 
 pub unset_all : {A : Type 0} (n p : ℕ) → IsSet (replicate n false) p → A
 unset_all n p s = elim (cases_lt p n) [

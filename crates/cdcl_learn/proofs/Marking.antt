@@ -12,7 +12,8 @@ use Rattle.cdcl_core.specs.Levels.{Row}
 use Rattle.cdcl_core.proofs.Counting.{set_cases}
 use Rattle.cdcl_learn.specs.Rows.{literal_at}
 use Rattle.cdcl_learn.specs.Walks.{IsSet, HasPlaces, IsMarked, IsResolved, IsExplained}
-use Rattle.cdcl_learn.proofs.Lists.{no_member, front_cases, put_cases}
+use Rattle.cdcl_learn.proofs.Lists.{front_cases, put_cases}
+use Rattle.cnf_base.proofs.Lists.{Contains-nil}
 
 pub no_places : (rows : List Row) → HasPlaces [] rows 0
 no_places rows = record { each = λ i h. absurd (omega arith); only = λ x h. absurd (omega arith) }
@@ -38,7 +39,7 @@ more_places old new rows i code h same room is apart = record {
 }
 
 pub none_marked : (rows : List Row) (c : List Literal) (ms : List Bool) → IsMarked rows (take 0 c) ms ms
-none_marked rows c ms = record { size = refl; kept = λ p h. h; joined = λ p h m. absurd (no_member (negated (literal_at rows p)) m); from = λ p h. inl h }
+none_marked rows c ms = record { size = refl; kept = λ p h. h; joined = λ p h m. absurd (Contains-nil (negated (literal_at rows p)) m); from = λ p h. inl h }
 
 -- a literal that is not false has no place
 pub skip_marked : (rows : List Row) (places : List ℕ) (c : List Literal) (old ms : List Bool) (i : ℕ) (l : Literal) → HasPlaces places rows (length rows) → i < length c → l ≡ get_or c i l → get_or places (code_of (negated l)) 0 ≡ 0 → IsMarked rows (take i c) old ms → IsMarked rows (take (i + 1) c) old ms
@@ -100,7 +101,7 @@ pub record IsCollected (rows : List Row) (marks : List Bool) (c : List Literal) 
   pub only : (l : Literal) → Contains c l → (p : ℕ) × ((p < n) × (IsSet marks p × (l ≡ negated (literal_at rows p))))
 
 pub none_collected : (rows : List Row) (marks : List Bool) → IsCollected rows marks [] 0
-none_collected rows marks = record { each = λ p h s. absurd (omega arith); only = λ l m. absurd (no_member l m) }
+none_collected rows marks = record { each = λ p h s. absurd (omega arith); only = λ l m. absurd (Contains-nil l m) }
 
 pub skip_collected : (rows : List Row) (marks : List Bool) (c : List Literal) (n : ℕ) → (IsSet marks n → ⊥) → IsCollected rows marks c n → IsCollected rows marks c (n + 1)
 skip_collected rows marks c n off k = record {

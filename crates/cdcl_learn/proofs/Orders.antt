@@ -9,7 +9,7 @@ use Rattle.cdcl_core.specs.Levels.{Row, IsTrueBy, RestsBy, IsExtended, IsAdded}
 use Rattle.cdcl_core.specs.State.{no_row}
 use Rattle.cdcl_learn.specs.Rows.{row_at, level_at, reason_at, AreDecidedFirst}
 use Rattle.cdcl_learn.proofs.Lists.{unset}
-use Rattle.cdcl_learn.proofs.Derivations.{inside}
+use Rattle.std.proofs.lemmas.Option.{same_Some}
 
 pub first_none : (rows : List Row) → rows ≡ [] → AreDecidedFirst rows
 first_none rows e i k h l n = absurd (omega (arith, h, ap length e))
@@ -121,7 +121,7 @@ keeps_cons p x xs ys f zero r e on = (0, e)
 keeps_cons p x xs ys f (suc k) r e on = let q = f k r e on in (suc q.0, q.1)
 
 keeps_past : (p : Row → Bool) (x : Row) (xs ys : List Row) → p x ≡ false → KeepsEach p xs ys → KeepsEach p (x ∷ xs) ys
-keeps_past p x xs ys off f zero r e on = let same : x ≡ r = inside x r e in unset (p r) (rw same at off) on
+keeps_past p x xs ys off f zero r e on = let same : x ≡ r = same_Some x r e in unset (p r) (rw same at off) on
 keeps_past p x xs ys off f (suc k) r e on = f k r e on
 
 keeps_more : (p : Row → Bool) (x : Row) (xs : List Row) → KeepsEach p xs (filter p xs) → (b : Bool) → p x ≡ b → KeepsEach p (x ∷ xs) (filter p (x ∷ xs))

@@ -1,5 +1,5 @@
 -- The inputs of each gate stand before it, and the bits of a result are of variables that were made or handed in.
-use Rattle.std.proofs.Common.{◌≡◌, ℕ, zero, suc, ◌+◌, ◌<◌, ◌≤◌, List, [], ◌∷◌, ◌++◌, length, length-append, take, drop, sym, subst, arith}
+use Rattle.std.proofs.Common.{◌≡◌, ℕ, suc, ◌+◌, ◌<◌, ◌≤◌, List, [], ◌∷◌, ◌++◌, length, length-append, take, drop, sym, subst, arith}
 use Rattle.std.specs.Prelude.{map, replicate}
 use Rattle.cnf_base.specs.Literals.{Literal, positive_of, negated, true_literal, false_literal}
 use Rattle.cnf_base.specs.declared.gate.GateKind.TheVariants.{And, Xor}
@@ -7,7 +7,7 @@ use Rattle.cnf_base.specs.Gates.{AreOrdered}
 use Rattle.cnf_base.specs.Assignments.{AreBelow, fresh_bits}
 use Rattle.cnf_base.specs.Adders.{add_gates, add_bits}
 use Rattle.cnf_base.specs.Choices.{mux_gates, equal_gates, equal_bit}
-use Rattle.cnf_base.proofs.Agreeing.{AreBelow-more, AreBelow-append, AreBelow-negated, AreBelow-fresh_bits}
+use Rattle.cnf_base.proofs.Agreeing.{AreBelow-more, AreBelow-append, AreBelow-negated, AreBelow-fresh_bits, AreBelow-replicate, AreBelow-take, AreBelow-drop}
 use Rattle.cnf_base.proofs.Extending.{AreOrdered-append}
 use Rattle.cnf_base.proofs.Adding.{add_gates-ordered, add_bits-below, add_carry-below}
 use Rattle.cnf_base.proofs.Choosing.{mux_gates-ordered}
@@ -23,21 +23,6 @@ use Rattle.circ_muldiv.proofs.Dividing.{length-divided_rest}
 use Rattle.circ_muldiv.proofs.Counting.{length-difference_gates, length-place_gates, length-signed_gates, length-magnitudes_quotient, length-sdiv_gates, length-magnitudes}
 
 -- ---- rows
-
-AreBelow-replicate : (n g : ℕ) (l : Literal) → l.variable < g → AreBelow g (replicate n l)
-AreBelow-replicate zero g l h = tt
-AreBelow-replicate (suc n) g l h = (h, AreBelow-replicate n g l h)
-
-AreBelow-take : (n g : ℕ) (a : List Literal) → AreBelow g a → AreBelow g (take n a)
-AreBelow-take zero g [] h = tt
-AreBelow-take zero g (l ∷ a) h = tt
-AreBelow-take (suc n) g [] h = tt
-AreBelow-take (suc n) g (l ∷ a) h = (h.0, AreBelow-take n g a h.1)
-
-AreBelow-drop : (n g : ℕ) (a : List Literal) → AreBelow g a → AreBelow g (drop n a)
-AreBelow-drop zero g a h = h
-AreBelow-drop (suc n) g [] h = tt
-AreBelow-drop (suc n) g (l ∷ a) h = AreBelow-drop n g a h.1
 
 later : (g n : ℕ) (a : List Literal) → AreBelow g a → AreBelow (g + n) a
 later g n a h = AreBelow-more g (g + n) (omega arith) a h

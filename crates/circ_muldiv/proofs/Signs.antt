@@ -23,6 +23,7 @@ use Rattle.circ_plain.proofs.Bits.{meaning_front, meaning_back, false_is_false, 
 use Rattle.circ_plain.proofs.Negating.{sign_is, neg_number, length-neg_bits, abs_number, length-abs_bits}
 use Rattle.circ_muldiv.proofs.Multiplying.{sum_number}
 use Rattle.circ_muldiv.proofs.Dividing.{length-quotient, length-remainder, divide_correct}
+use Rattle.std.proofs.Math.Bool.{and-true, and-false}
 
 -- ---- a negation where a literal is true
 
@@ -99,20 +100,12 @@ srem_correct v g a b one pos e meaning =
     signed_correct v h (sign_of a) r one (meaning_back v g m.gates (signed_gates h (sign_of a) r) meaning)
     ∙ rw (all.rest_places, sign_is v a pos, all.remainder) refl
 
-and_false : (b : Bool) → (b && false) ≡ false
-and_false true = refl
-and_false false = refl
-
-and_true : (b : Bool) → (b && true) ≡ b
-and_true true = refl
-and_true false = refl
-
 -- u is the remainder of the absolute values, w the same with the dividend's sign, y whether the divisor comes to it
 smod_cases : (n u w t r : ℕ) (p q z y : Bool) → u < 2 ^ n → w ≡ (if p then neg_of n u else u) → z ≡ (u == 0) → y ≡ ((if p then not q else q) && not z) → r ≡ (w + t * bit y) % 2 ^ n → r ≡ (if u == 0 then u else if p then (if q then neg_of n u else add_of n (neg_of n u) t) else (if q then add_of n u t else u))
 smod_cases n zero w t r p q z y lt ew ez ey er = er ∙ ap (λ k. k % 2 ^ n) (nothing p ew) ∙ zero-mod (2 ^ n)
   where
     none : y ≡ false
-    none = ey ∙ ap (λ b. (if p then not q else q) && not b) ez ∙ and_false (if p then not q else q)
+    none = ey ∙ ap (λ b. (if p then not q else q) && not b) ez ∙ and-false (if p then not q else q)
 
     nothing : (p : Bool) → w ≡ (if p then neg_of n 0 else 0) → w + t * bit y ≡ 0
     nothing true e = let f : 2 ^ n - 0 ≡ 2 ^ n = omega arith in rw none (omega (arith, e, ap (λ k. k % 2 ^ n) f ∙ mod_self (2 ^ n)))
@@ -123,7 +116,7 @@ smod_cases n (suc u) w t r p q z y lt ew ez ey er = rw other (cases p q ew ey')
     other = ne_eqb (suc u) 0 (let e : suc u ≡ 0 → ⊥ = omega arith in e)
 
     ey' : y ≡ (if p then not q else q)
-    ey' = ey ∙ ap (λ b. (if p then not q else q) && not b) (ez ∙ other) ∙ and_true (if p then not q else q)
+    ey' = ey ∙ ap (λ b. (if p then not q else q) && not b) (ez ∙ other) ∙ and-true (if p then not q else q)
 
     here : (k : ℕ) (b : Bool) → w ≡ k → y ≡ b → r ≡ (k + t * bit b) % 2 ^ n
     here k b e f = er ∙ rw (e, f) refl

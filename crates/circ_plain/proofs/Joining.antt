@@ -1,7 +1,7 @@
 -- The parts of a shift one after another are the whole shift.
 use Rattle.std.proofs.Common.{◌≡◌, ℕ, ◌-◌, List, length, take, drop, min, ap, subst, ◌∙◌}
 use Rattle.std.specs.Prelude.{replicate}
-use Rattle.std.proofs.lemmas.List.{take_rest}
+use Rattle.std.proofs.lemmas.List.{take_rest, take_min, drop_min}
 use Rattle.cnf_base.specs.Literals.{Literal, negated, false_literal}
 use Rattle.cnf_base.specs.Assignments.{fresh_bits}
 use Rattle.cnf_base.specs.Choices.{mux_gates}
@@ -12,14 +12,13 @@ use Rattle.circ_plain.specs.declared.moves.Direction.TheVariants.{Down}
 use Rattle.circ_plain.specs.Signs.{sign_of}
 use Rattle.circ_plain.specs.Shifts.{stages, stage_gates, any_gates, mask_gates, move_gates, move_bits, over_bit, logical_gates, logical_bits, ashr_gates}
 use Rattle.circ_plain.proofs.Shifting.{length-stage_bits}
-use Rattle.circ_plain.proofs.Stages.{take_there, drop_there}
 
 -- the two parts of an amount, cut where it is there
 pub near_is : (n m k : ℕ) (t : List Literal) → m ≡ stages n → k ≡ min m (length t) → take k t ≡ take (stages n) t
-near_is n m k t em ek = ap (λ j. take j t) ek ∙ take_there m t ∙ ap (λ j. take j t) em
+near_is n m k t em ek = ap (λ j. take j t) ek ∙ take_min m t ∙ ap (λ j. take j t) em
 
 pub far_is : (n m k : ℕ) (t : List Literal) → m ≡ stages n → k ≡ min m (length t) → take (length t - k) (drop k t) ≡ drop (stages n) t
-far_is n m k t em ek = take_rest t k ∙ ap (λ j. drop j t) ek ∙ drop_there m t ∙ ap (λ j. drop j t) em
+far_is n m k t em ek = take_rest t k ∙ ap (λ j. drop j t) ek ∙ drop_min m t ∙ ap (λ j. drop j t) em
 
 pub moves_joined : (s p q : CircuitValue) (way : Direction) (fill : Literal) (a t near far : List Literal) → near ≡ take (stages (length a)) t → far ≡ drop (stages (length a)) t → Gains s p (stage_gates way fill s.next 0 a near) → Gains p q (any_gates p.next false_literal far) → Gains s q (move_gates way fill s.next a t)
 moves_joined s p q way fill a t near far en ef first second =

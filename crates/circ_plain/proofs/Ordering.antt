@@ -1,11 +1,11 @@
 -- The inputs of each gate stand before it, and the bits of a result are of variables that were made.
-use Rattle.std.proofs.Common.{◌≡◌, ℕ, zero, suc, ◌+◌, ◌-◌, ◌<◌, ◌≤◌, List, [], ◌∷◌, ◌++◌, length, length-append, take, drop, sym, ◌∙◌, subst, arith}
+use Rattle.std.proofs.Common.{◌≡◌, ℕ, suc, ◌+◌, ◌-◌, ◌<◌, ◌≤◌, List, [], ◌∷◌, ◌++◌, length, length-append, take, drop, sym, ◌∙◌, subst, arith}
 use Rattle.std.specs.Prelude.{map, replicate, ◌^◌}
 use Rattle.cnf_base.specs.Literals.{Literal, positive_of, negative_of, negated, true_literal, false_literal}
 use Rattle.cnf_base.specs.Gates.{AreOrdered}
 use Rattle.cnf_base.specs.Assignments.{AreBelow, fresh_bits}
 use Rattle.cnf_base.specs.Choices.{mux_gates}
-use Rattle.cnf_base.proofs.Agreeing.{AreBelow-more, AreBelow-append, AreBelow-negated, AreBelow-fresh_bits}
+use Rattle.cnf_base.proofs.Agreeing.{AreBelow-more, AreBelow-append, AreBelow-negated, AreBelow-fresh_bits, AreBelow-replicate, AreBelow-take, AreBelow-drop}
 use Rattle.cnf_base.proofs.Rows.{length-fresh_bits}
 use Rattle.cnf_base.proofs.Extending.{AreOrdered-append}
 use Rattle.cnf_base.proofs.Adding.{add_gates-ordered, add_bits-below}
@@ -19,21 +19,6 @@ use Rattle.circ_plain.proofs.Negating.{length-neg_gates, length-abs_gates}
 use Rattle.circ_plain.proofs.Shifting.{length-moved, AreNear-next, near_stages, length-logical_gates, length-move_gates, length-ashr_gates}
 
 -- ---- rows
-
-AreBelow-replicate : (n g : ℕ) (l : Literal) → l.variable < g → AreBelow g (replicate n l)
-AreBelow-replicate zero g l h = tt
-AreBelow-replicate (suc n) g l h = (h, AreBelow-replicate n g l h)
-
-AreBelow-take : (n g : ℕ) (a : List Literal) → AreBelow g a → AreBelow g (take n a)
-AreBelow-take zero g [] h = tt
-AreBelow-take zero g (l ∷ a) h = tt
-AreBelow-take (suc n) g [] h = tt
-AreBelow-take (suc n) g (l ∷ a) h = (h.0, AreBelow-take n g a h.1)
-
-AreBelow-drop : (n g : ℕ) (a : List Literal) → AreBelow g a → AreBelow g (drop n a)
-AreBelow-drop zero g a h = h
-AreBelow-drop (suc n) g [] h = tt
-AreBelow-drop (suc n) g (l ∷ a) h = AreBelow-drop n g a h.1
 
 pub sign_of-below : (g : ℕ) (a : List Literal) → 1 < g → AreBelow g a → (sign_of a).variable < g
 sign_of-below g [] one h = one

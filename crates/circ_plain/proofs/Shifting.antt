@@ -1,5 +1,5 @@
 -- The shifters' bits are those of the shifted numbers.
-use Rattle.std.proofs.Common.{◌≡◌, ℕ, zero, suc, ◌+◌, ◌-◌, ◌*◌, ◌/◌, ◌%◌, ◌^◌, ◌<◌, ◌≤◌, Bool, true, false, not, ◌&&◌, List, [], ◌∷◌, ◌++◌, length, length-append, length-take, length-drop, min, take, drop, inl, inr, refl, sym, ap, ◌∙◌, subst, arith}
+use Rattle.std.proofs.Common.{◌≡◌, ℕ, suc, ◌+◌, ◌-◌, ◌*◌, ◌/◌, ◌%◌, ◌^◌, ◌<◌, ◌≤◌, Bool, true, false, not, ◌&&◌, List, [], ◌∷◌, ◌++◌, length, length-append, length-take, length-drop, min, take, drop, inl, inr, refl, sym, ap, ◌∙◌, subst, arith}
 use Rattle.std.specs.Prelude.{◌⊎◌, if◌then◌else◌, nat_lt, replicate}
 use Rattle.std.proofs.lemmas.Bool.{lt-ltb, le-ltb, cases_lt}
 use Rattle.std.proofs.lemmas.Bool.Decides.{nat_tests}
@@ -16,7 +16,7 @@ use Rattle.cnf_base.proofs.Truth.{lit_true-negated}
 use Rattle.smt_words.specs.Words.{not_of, shl_of, lshr_of, ashr_of}
 use Rattle.smt_words.proofs.Numbers.{shl_past, shr_past}
 use Rattle.std.proofs.lemmas.List.{length-replicate}
-use Rattle.cnf_base.proofs.Numbers.{number_lt, number-append, number-take}
+use Rattle.cnf_base.proofs.Numbers.{number_lt, number-append, number-take, number-drop}
 use Rattle.cnf_base.proofs.Rows.{length-fresh_bits}
 use Rattle.cnf_base.proofs.Choosing.{length-mux_gates}
 use Rattle.circ_plain.specs.declared.moves.Direction.{Direction}
@@ -26,6 +26,7 @@ use Rattle.circ_plain.specs.Shifts.{stages, AreNear, moved, stage_gates, stage_b
 use Rattle.circ_plain.proofs.Negating.{sign_is}
 use Rattle.circ_plain.proofs.Powers.{stages_reach, stages_least, moved_up, moved_down}
 use Rattle.circ_plain.proofs.Bits.{meaning_front, meaning_back, false_is_false, number-replicate_false, number-replicate_true, choice_number}
+use Rattle.std.proofs.Math.Bool.{and-true, and-false}
 
 -- ---- one move
 
@@ -36,21 +37,6 @@ length-moved Up fill d r h =
 length-moved Down fill d r h =
     length-append (drop d r) (replicate d fill)
     ∙ omega (arith, length-replicate d fill, length-drop d r)
-
-pub number-drop : (v : ℕ → Bool) (d : ℕ) (r : List Literal) → number v (drop d r) ≡ number v r / 2 ^ d
-number-drop v zero r = sym (div-one (number v r))
-number-drop v (suc d) [] = sym (div-eq_of_lt (pow_pos (suc d)))
-number-drop v (suc d) (l ∷ r) =
-    let half : (bit (lit_true v l) + 2 * number v r) / 2 ^ 1 ≡ number v r = half_of (lit_true v l) (number v r) in
-    let e : 1 + d ≡ suc d = omega arith in
-    number-drop v d r
-    ∙ ap (λ k. k / 2 ^ d) (sym half)
-    ∙ shr-shr (bit (lit_true v l) + 2 * number v r) 1 d
-    ∙ ap (λ k. (bit (lit_true v l) + 2 * number v r) / 2 ^ k) e
-  where
-    half_of : (p : Bool) (n : ℕ) → (bit p + 2 * n) / 2 ≡ n
-    half_of true n = omega arith
-    half_of false n = omega arith
 
 number-moved_up : (v : ℕ → Bool) (fill : Literal) (d : ℕ) (r : List Literal) → lit_true v fill ≡ false → d ≤ length r → number v (moved Up fill d r) ≡ number v r * 2 ^ d % 2 ^ length r
 number-moved_up v fill d r e h =
@@ -156,22 +142,14 @@ any_is v g o (t ∷ ts) h =
 pub mask_number : (v : ℕ → Bool) (g : ℕ) (keep : Literal) (r : List Literal) → HaveMeaning v g (mask_gates keep r) → number v (fresh_bits g (length r)) ≡ (if lit_true v keep then number v r else 0)
 mask_number v g keep r h = go (lit_true v keep) refl g r h
   where
-    and_true : (b : Bool) → (b && true) ≡ b
-    and_true true = refl
-    and_true false = refl
-
-    and_false : (b : Bool) → (b && false) ≡ false
-    and_false true = refl
-    and_false false = refl
-
     go : (k : Bool) → lit_true v keep ≡ k → (g : ℕ) (r : List Literal) → HaveMeaning v g (mask_gates keep r) → number v (fresh_bits g (length r)) ≡ (if k then number v r else 0)
     go true e g [] h = refl
     go false e g [] h = refl
     go true e g (l ∷ r) h =
-        let one : v g ≡ lit_true v l = h.0 ∙ ap (λ b. lit_true v l && b) e ∙ and_true (lit_true v l) in
+        let one : v g ≡ lit_true v l = h.0 ∙ ap (λ b. lit_true v l && b) e ∙ and-true (lit_true v l) in
         rw (one, go true e (suc g) r h.1) refl
     go false e g (l ∷ r) h =
-        let one : v g ≡ false = h.0 ∙ ap (λ b. lit_true v l && b) e ∙ and_false (lit_true v l) in
+        let one : v g ≡ false = h.0 ∙ ap (λ b. lit_true v l && b) e ∙ and-false (lit_true v l) in
         rw (one, go false e (suc g) r h.1) refl
 
 -- ---- lengths

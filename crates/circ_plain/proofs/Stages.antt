@@ -1,7 +1,6 @@
 -- The shifters' gates one place or one part after another, for the code that makes them.
-use Rattle.std.proofs.Common.{◌≡◌, ℕ, suc, ◌+◌, ◌*◌, ◌%◌, ◌^◌, ◌<◌, ◌≤◌, List, [], ◌∷◌, ◌++◌, length, take, drop, min, inl, inr, refl, sym, ap, ◌∙◌, arith}
+use Rattle.std.proofs.Common.{◌≡◌, ℕ, suc, ◌+◌, ◌*◌, ◌%◌, ◌^◌, ◌<◌, ◌≤◌, List, [], ◌∷◌, ◌++◌, length, drop, inl, inr, refl, sym, ap, ◌∙◌, arith}
 use Rattle.std.proofs.lemmas.Bool.{cases_lt}
-use Rattle.std.proofs.lemmas.List.{drop_all, take_all}
 use Rattle.std.proofs.Math.Nat.{mul-le-mul_left, mod-eq_of_lt}
 use Rattle.std.proofs.Math.Pow.{pow-lt}
 use Rattle.cnf_base.specs.Literals.{Literal, negative_of, negated}
@@ -49,19 +48,6 @@ one_row_more n k m h = omega (arith, mul-le-mul_left {m = suc k} {n = m} n h)
 
 pub a_row : (n m : ℕ) → 0 < m → n ≤ n * m
 a_row n m h = omega (arith, one_row_more n 0 m h)
-
--- the places that are there of so many
-pub take_there : (m : ℕ) (t : List Literal) → take (min m (length t)) t ≡ take m t
-take_there m t = elim (cases_lt m (length t)) [
-  | inl lt ↦ let e : min m (length t) ≡ m = omega arith in ap (λ k. take k t) e
-  | inr ge ↦ let e : min m (length t) ≡ length t = omega arith in ap (λ k. take k t) e ∙ take_all (length t) t (omega arith) ∙ sym (take_all m t ge)
-]
-
-pub drop_there : (m : ℕ) (t : List Literal) → drop (min m (length t)) t ≡ drop m t
-drop_there m t = elim (cases_lt m (length t)) [
-  | inl lt ↦ let e : min m (length t) ≡ m = omega arith in ap (λ k. drop k t) e
-  | inr ge ↦ let e : min m (length t) ≡ length t = omega arith in ap (λ k. drop k t) e ∙ drop_all (length t) t (omega arith) ∙ sym (drop_all m t ge)
-]
 
 -- the opposite of a gate's literal
 pub negative_from : (l gate after : Literal) → after ≡ negated gate → gate ≡ l → after ≡ negated l

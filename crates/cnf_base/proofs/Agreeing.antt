@@ -1,6 +1,6 @@
 -- Assignments that agree below a variable agree on what is of variables below it.
-use Rattle.std.proofs.Common.{◌≡◌, ℕ, zero, suc, ◌+◌, ◌<◌, ◌≤◌, Bool, not, List, [], ◌∷◌, ◌++◌, refl, ap, ◌∙◌, sym, subst, arith}
-use Rattle.std.specs.Prelude.{if◌then◌else◌, map}
+use Rattle.std.proofs.Common.{◌≡◌, ℕ, zero, suc, ◌+◌, ◌<◌, ◌≤◌, Bool, not, List, [], ◌∷◌, ◌++◌, refl, ap, ◌∙◌, sym, subst, arith, take, drop}
+use Rattle.std.specs.Prelude.{if◌then◌else◌, map, replicate}
 use Rattle.cnf_base.specs.Literals.{Literal, negated}
 use Rattle.cnf_base.specs.Clauses.{lit_true, clause_true, all_true, number}
 use Rattle.cnf_base.specs.declared.gate.GateKind.{GateKind}
@@ -57,6 +57,20 @@ AreBelow-append n (l ∷ a) b h i = (h.0, AreBelow-append n a b h.1 i)
 pub ClausesBelow-append : (n : ℕ) (cs ds : List (List Literal)) → ClausesBelow n cs → ClausesBelow n ds → ClausesBelow n (cs ++ ds)
 ClausesBelow-append n [] ds h i = i
 ClausesBelow-append n (c ∷ cs) ds h i = (h.0, ClausesBelow-append n cs ds h.1 i)
+
+pub AreBelow-take : (k n : ℕ) (a : List Literal) → AreBelow n a → AreBelow n (take k a)
+AreBelow-take zero n a h = tt
+AreBelow-take (suc k) n [] h = tt
+AreBelow-take (suc k) n (l ∷ a) h = (h.0, AreBelow-take k n a h.1)
+
+pub AreBelow-drop : (k n : ℕ) (a : List Literal) → AreBelow n a → AreBelow n (drop k a)
+AreBelow-drop zero n a h = h
+AreBelow-drop (suc k) n [] h = tt
+AreBelow-drop (suc k) n (l ∷ a) h = AreBelow-drop k n a h.1
+
+pub AreBelow-replicate : (k n : ℕ) (l : Literal) → l.variable < n → AreBelow n (replicate k l)
+AreBelow-replicate zero n l h = tt
+AreBelow-replicate (suc k) n l h = (h, AreBelow-replicate k n l h)
 
 pub AreBelow-negated : (n : ℕ) (a : List Literal) → AreBelow n a → AreBelow n (map negated a)
 AreBelow-negated n [] h = tt

@@ -1,6 +1,7 @@
 -- Literals and their codes.
-use Rattle.std.proofs.Common.{◌≡◌, ℕ, ◌+◌, ◌*◌, ◌/◌, ◌%◌, ◌<◌, ◌≤◌, Bool, true, false, not, ◌==◌, if◌then◌else◌, refl, ap, ◌∙◌, sym, arith}
-use Rattle.std.proofs.Common.{List}
+use Rattle.std.proofs.Common.{◌≡◌, ℕ, ◌+◌, ◌*◌, ◌/◌, ◌%◌, ◌<◌, ◌≤◌, Bool, true, false, ◌==◌, if◌then◌else◌, ◌≢◌, ◌⊎◌, List, refl, ap, ◌∙◌, sym, inl, inr, ⊎_elim, arith}
+use Rattle.std.proofs.Math.Bool.{not-not}
+use Rattle.std.proofs.lemmas.Bool.{cases_eq}
 use Rattle.std.specs.Bool.{Decides}
 use Rattle.std.specs.Ordering.{on}
 use Rattle.std.specs.Cmp.{unsigned_Decides}
@@ -8,13 +9,12 @@ use Rattle.std.specs.Cmp.Lexicographic.{pointwise}
 use Rattle.std.proofs.lemmas.Slice.Eq.{slice_eq-Decides}
 use Rattle.cnf_base.specs.Literals.{Literal, code_of, literal_of, negated}
 
+pub literal_from_parts : (k l : Literal) → k.variable ≡ l.variable → k.positive ≡ l.positive → k ≡ l
+literal_from_parts k l p q = λ i. record { variable = p i; positive = q i }
+
 -- the opposite of the opposite
 pub negated-negated : (l : Literal) → negated (negated l) ≡ l
-negated-negated l = ap (λ b. let r : Literal = record { variable = l.variable; positive = b } in r) (not_twice l.positive)
-  where
-    not_twice : (b : Bool) → not (not b) ≡ b
-    not_twice true = refl
-    not_twice false = refl
+negated-negated l = literal_from_parts (negated (negated l)) l refl (not-not l.positive)
 
 sign_bound : (x : ℕ) (p : Bool) → (2 * x ≤ 2 * x + (if p then 0 else 1)) × (2 * x + (if p then 0 else 1) ≤ 2 * x + 1)
 sign_bound x true = (omega arith, omega arith)
@@ -33,14 +33,15 @@ sign x true = grind arith
 sign x false = grind arith
 
 pub literal_of-code_of : (l : Literal) → literal_of (code_of l) ≡ l
-literal_of-code_of l = both (half l.variable l.positive) (sign l.variable l.positive)
-  where
-    both : {x y : ℕ} {p q : Bool} → x ≡ y → p ≡ q → (let r : Literal = record { variable = x; positive = p } in r) ≡ (let r : Literal = record { variable = y; positive = q } in r)
-    both e f = cc
+literal_of-code_of l = literal_from_parts (literal_of (code_of l)) l (half l.variable l.positive) (sign l.variable l.positive)
 
 -- different literals have different codes
 pub code_of-injective : (l m : Literal) → code_of l ≡ code_of m → l ≡ m
 code_of-injective l m e = sym (literal_of-code_of l) ∙ ap literal_of e ∙ literal_of-code_of m
+
+pub same_literal_or_not : (k l : Literal) → (k ≡ l) ⊎ (k ≢ l)
+same_literal_or_not k l =
+    ⊎_elim (λ e. inl (code_of-injective k l e)) (λ ne. inr (λ e. ne (ap code_of e))) (cases_eq (code_of k) (code_of l))
 
 pub code_of-literal_of : (code : ℕ) → code_of (literal_of code) ≡ code
 code_of-literal_of code = grind arith

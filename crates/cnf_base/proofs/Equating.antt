@@ -1,6 +1,7 @@
 -- What the equality of two rows means.
 use Rattle.std.proofs.Common.{◌≡◌, ℕ, suc, ◌+◌, ◌*◌, Bool, true, false, not, ◌&&◌, List, [], ◌∷◌, ◌++◌, length, refl, sym, ap, ◌∙◌, arith}
 use Rattle.std.specs.Prelude.{if◌then◌else◌, ◌==◌}
+use Rattle.std.proofs.Math.Bool.{and-true, and_assoc}
 use Rattle.std.proofs.lemmas.Bool.Decides.{nat_tests}
 use Rattle.std.proofs.Common.{◌<◌, ◌≤◌}
 use Rattle.cnf_base.specs.Assignments.{AreBelow}
@@ -10,7 +11,6 @@ use Rattle.cnf_base.specs.Literals.{Literal, positive_of}
 use Rattle.cnf_base.specs.Clauses.{lit_true, number, bit}
 use Rattle.cnf_base.specs.Gates.{HaveMeaning}
 use Rattle.cnf_base.specs.Choices.{equal_gates, equal_bit}
-use Rattle.cnf_base.proofs.Truth.{and_assoc}
 
 pub length-equal_gates : (g : ℕ) (e : Literal) (a b : List Literal) → length a ≡ length b → length (equal_gates g e a b) ≡ 2 * length a
 length-equal_gates g e [] b same = refl
@@ -35,11 +35,7 @@ same_place false true x y = grind (arith, nat_tests)
 same_place false false x y = grind (arith, nat_tests)
 
 pub equal_number : (v : ℕ → Bool) (g : ℕ) (e : Literal) (a b : List Literal) → length a ≡ length b → HaveMeaning v g (equal_gates g e a b) → lit_true v (equal_bit g e a b) ≡ (lit_true v e && (number v a == number v b))
-equal_number v g e [] [] same h = and_true (lit_true v e)
-  where
-    and_true : (b : Bool) → b ≡ (b && true)
-    and_true true = refl
-    and_true false = refl
+equal_number v g e [] [] same h = sym (and-true (lit_true v e))
 equal_number v g e [] (y ∷ b) same h = absurd (omega arith)
 equal_number v g e (x ∷ a) [] same h = absurd (omega arith)
 equal_number v g e (x ∷ a) (y ∷ b) same h =
@@ -48,7 +44,7 @@ equal_number v g e (x ∷ a) (y ∷ b) same h =
     let q = lit_true v y in
     ih
     ∙ ap (λ t. t && (number v a == number v b)) (h.1.0 ∙ ap (λ t. lit_true v e && not t) h.0)
-    ∙ sym (and_assoc (lit_true v e) (not (if p then not q else q)) (number v a == number v b))
+    ∙ and_assoc (lit_true v e) (not (if p then not q else q)) (number v a == number v b)
     ∙ ap (λ t. lit_true v e && t) (sym (same_place p q (number v a) (number v b)))
 
 -- ---- what stands below which variable

@@ -1,3 +1,5 @@
+pub mod Lists
+pub mod Options
 pub mod Codes
 pub mod Truth
 pub mod Rows

@@ -1,8 +1,8 @@
 -- Rows of literals as numbers, the lowest bit first.
-use Rattle.std.proofs.Common.{◌≡◌, ℕ, zero, suc, ◌+◌, ◌*◌, ◌/◌, ◌%◌, ◌^◌, ◌<◌, Bool, true, false, not, List, [], ◌∷◌, ◌++◌, length, take, refl, sym, ap, ◌∙◌, arith}
+use Rattle.std.proofs.Common.{◌≡◌, ℕ, zero, suc, ◌+◌, ◌*◌, ◌/◌, ◌%◌, ◌^◌, ◌<◌, Bool, true, false, not, List, [], ◌∷◌, ◌++◌, length, take, refl, sym, ap, ◌∙◌, arith, drop}
 use Rattle.std.specs.Prelude.{map, ◌==◌}
 use Rattle.std.proofs.lemmas.Nat.{pow_pos}
-use Rattle.std.proofs.Math.Nat.{pow-suc, mod-eq_of_lt, add-mul-mod_self_left, mod-lt, mod-add-div}
+use Rattle.std.proofs.Math.Nat.{pow-suc, mod-eq_of_lt, add-mul-mod_self_left, mod-lt, mod-add-div, div-div-eq-div-mul, zero-div}
 use Rattle.cnf_base.specs.Literals.{Literal, negated}
 use Rattle.cnf_base.specs.Clauses.{lit_true, bit, number}
 use Rattle.cnf_base.proofs.Truth.{lit_true-negated}
@@ -10,6 +10,10 @@ use Rattle.cnf_base.proofs.Truth.{lit_true-negated}
 pub bit_lt : (b : Bool) → bit b < 2
 bit_lt true = omega arith
 bit_lt false = omega arith
+
+pub half_of : (b : Bool) (n : ℕ) → (bit b + 2 * n) / 2 ≡ n
+half_of true n = omega arith
+half_of false n = omega arith
 
 pub bit-not : (b : Bool) → bit (not b) + bit b ≡ 1
 bit-not true = refl
@@ -61,3 +65,13 @@ number-take v (suc n) (l ∷ a) =
     ap (λ k. bit (lit_true v l) + 2 * k) (number-take v n a)
     ∙ sym (low_mod (bit (lit_true v l)) (number v a) (2 ^ n) (bit_lt (lit_true v l)) (pow_pos n))
     ∙ ap (λ k. (bit (lit_true v l) + 2 * number v a) % k) (let e : 2 * 2 ^ n ≡ 2 ^ suc n = omega (arith, pow-suc 2 n) in e)
+
+pub number-drop : (v : ℕ → Bool) (n : ℕ) (a : List Literal) → number v (drop n a) ≡ number v a / 2 ^ n
+number-drop v zero a = omega arith
+number-drop v (suc n) [] = sym (zero-div (2 ^ suc n))
+number-drop v (suc n) (l ∷ a) =
+    let twice : 2 * 2 ^ n ≡ 2 ^ suc n = omega (arith, pow-suc 2 n) in
+    number-drop v n a
+    ∙ ap (λ m. m / 2 ^ n) (sym (half_of (lit_true v l) (number v a)))
+    ∙ div-div-eq-div-mul (bit (lit_true v l) + 2 * number v a) 2 (2 ^ n)
+    ∙ ap (λ m. (bit (lit_true v l) + 2 * number v a) / m) twice

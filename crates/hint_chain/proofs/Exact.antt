@@ -7,12 +7,10 @@ use Rattle.cnf_base.specs.declared.clause.ClauseId.{ClauseId}
 use Rattle.hint_chain.specs.declared.fault.ChainFault.{ChainFault}
 use Rattle.hint_chain.specs.Chains.{IsFalse, IsFalseClause, IsUnit, IsWide, Lookup, ChainFrom, IsChain}
 use Rattle.hint_chain.specs.Faults.{FaultFrom, FirstFault}
+use Rattle.cnf_base.proofs.Options.{same_found}
 
 none_some : {A : Type 0} (o : Option A) (x : A) → o ≡ None → o ≡ Some x → ⊥
 none_some o x e f = cc
-
-same_found : {A : Type 0} (o : Option A) (x y : A) → o ≡ Some x → o ≡ Some y → x ≡ y
-same_found o x y e f = cc
 
 -- ---- the three shapes of a clause exclude one another, and the open literal is one
 
@@ -22,7 +20,7 @@ false_unit ts h l f u = u.open_yet (All-contains (IsFalse ts) h l f u.among)
 false_wide : (ts h : List Literal) → IsFalseClause ts h → IsWide ts h → ⊥
 false_wide ts h f w = w.first_open (All-contains (IsFalse ts) h w.first f w.has_first)
 
-only_open : (ts h : List Literal) (l m : Literal) → IsUnit ts h l → Contains h m → ¬ (IsFalse ts m) → m ≡ l
+pub only_open : (ts h : List Literal) (l m : Literal) → IsUnit ts h l → Contains h m → ¬ (IsFalse ts m) → m ≡ l
 only_open ts h l m u among open_yet =
     ⊎_elim (λ e. e) (λ f. absurd (open_yet f)) (All-contains (λ k. (k ≡ l) ⊎ IsFalse ts k) h m u.others among)
 

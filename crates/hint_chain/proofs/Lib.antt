@@ -1,5 +1,5 @@
 mod Shapes
-mod Marking
+pub mod Marking
 mod Hints
 pub mod Sound
 pub mod Exact

@@ -1,7 +1,7 @@
 -- Marks that agree with a row of true literals, after one more.
-use Rattle.std.proofs.Common.{◌≡◌, ℕ, zero, suc, ◌+◌, ◌/◌, ◌<◌, ◌≤◌, Bool, true, false, not, List, [], ◌∷◌, ◌++◌, length, take, drop, get_or, Some, refl, sym, ap, ◌∙◌, subst, inl, inr, ⊎_elim, arith}
-use Rattle.std.specs.Prelude.{◌⊎◌, All, Contains, map, slice_get, slice_set}
-use Rattle.std.proofs.lemmas.Bool.{cases_lt}
+use Rattle.std.proofs.Common.{◌≡◌, ℕ, zero, suc, ◌+◌, ◌/◌, ◌<◌, ◌≤◌, List, [], ◌∷◌, ◌++◌, length, take, drop, get_or, refl, sym, ap, ◌∙◌, subst, ⊎_elim, arith}
+use Rattle.std.specs.Prelude.{All, Contains, map, slice_get, slice_set}
+use Rattle.std.proofs.lemmas.Bool.{cases_eq}
 use Rattle.std.proofs.lemmas.Option.{slice_get_within, get_or_from_slice_get}
 use Rattle.std.proofs.lemmas.List.{map-append, length-map, take-append-drop}
 use Rattle.std.proofs.lemmas.List.Elements.{Contains-append_left, Contains-push, Contains-push_cases, Contains-get_or}
@@ -14,21 +14,8 @@ use Rattle.hint_chain.specs.declared.shape.Shape.TheVariants.{AllFalse, OneOpen,
 use Rattle.hint_chain.specs.Chains.{HasPair}
 use Rattle.hint_chain.specs.Faults.{Joins}
 use Rattle.hint_chain.specs.Marks.{Stamps, IsMarked, Agrees, HasPlace, HasRoom}
-
-set_get_same : {A : Type 0} (xs : List A) (i : ℕ) (x : A) → i < length xs → slice_get (slice_set xs i x) i ≡ Some x
-set_get_same [] i x h = absurd (omega arith)
-set_get_same (y ∷ xs) zero x h = refl
-set_get_same (y ∷ xs) (suc i) x h = set_get_same xs i x (omega arith)
-
-set_get_other : {A : Type 0} (xs : List A) (i j : ℕ) (x : A) → (j ≡ i → ⊥) → slice_get (slice_set xs i x) j ≡ slice_get xs j
-set_get_other [] i j x ne = refl
-set_get_other (y ∷ xs) zero zero x ne = absurd (ne refl)
-set_get_other (y ∷ xs) zero (suc j) x ne = refl
-set_get_other (y ∷ xs) (suc i) zero x ne = refl
-set_get_other (y ∷ xs) (suc i) (suc j) x ne = set_get_other xs i j x (λ e. ne (ap suc e))
-
-eq_or_not : (a b : ℕ) → (a ≡ b) ⊎ (a ≡ b → ⊥)
-eq_or_not a b = ⊎_elim (λ lt. inr (λ e. let f : ⊥ = omega arith in f)) (λ le. ⊎_elim (λ lt. inr (λ e. let f : ⊥ = omega arith in f)) (λ le'. inl (omega arith)) (cases_lt b a)) (cases_lt a b)
+use Rattle.cnf_base.proofs.Lists.{slice_get-set_same, slice_get-set_other}
+use Rattle.cnf_base.proofs.Truth.{not_its_opposite}
 
 -- ---- one mark more
 
@@ -42,14 +29,14 @@ agrees_mark m ts l h place k = (to, from)
     within = omega (arith, place, (code_of-bounds l).1)
 
     here : code_of k ≡ code_of l → IsMarked (with_mark m l) k
-    here same = ap (slice_get (slice_set m.stamps (code_of l) m.round)) same ∙ set_get_same m.stamps (code_of l) m.round within
+    here same = ap (slice_get (slice_set m.stamps (code_of l) m.round)) same ∙ slice_get-set_same m.stamps (code_of l) m.round within
 
     to : IsMarked (with_mark m l) k → Contains (ts ++ l ∷ []) k
     to e =
         ⊎_elim
         (λ same. subst (Contains (ts ++ l ∷ [])) (sym (code_of-injective k l same)) (Contains-push ts l))
-        (λ ne. Contains-append_left ts (l ∷ []) k ((h k).0 (sym (set_get_other m.stamps (code_of l) (code_of k) m.round ne) ∙ e)))
-        (eq_or_not (code_of k) (code_of l))
+        (λ ne. Contains-append_left ts (l ∷ []) k ((h k).0 (sym (slice_get-set_other m.stamps (code_of l) (code_of k) m.round ne) ∙ e)))
+        (cases_eq (code_of k) (code_of l))
 
     from : Contains (ts ++ l ∷ []) k → IsMarked (with_mark m l) k
     from c =
@@ -57,8 +44,8 @@ agrees_mark m ts l h place k = (to, from)
         (λ old.
         ⊎_elim
         here
-        (λ ne. set_get_other m.stamps (code_of l) (code_of k) m.round ne ∙ (h k).1 old)
-        (eq_or_not (code_of k) (code_of l)))
+        (λ ne. slice_get-set_other m.stamps (code_of l) (code_of k) m.round ne ∙ (h k).1 old)
+        (cases_eq (code_of k) (code_of l)))
         (λ e. here (ap code_of (sym e)))
         (Contains-push_cases ts l k c)
 
@@ -124,16 +111,12 @@ in_opposite xs y c = (c.0, subst (λ n. c.0 < n) (sym (length-map xs negated)) c
 take_in : (xs : List Literal) (i : ℕ) (y : Literal) → Contains (take i xs) y → Contains xs y
 take_in xs i y c = subst (λ zs. Contains zs y) (take-append-drop i xs) (Contains-append_left (take i xs) (drop i xs) y c)
 
-not_its_opposite : (b : Bool) → b ≡ not b → ⊥
-not_its_opposite true e = cc
-not_its_opposite false e = cc
-
 -- a literal that is marked as an opposite stands beside its own
 pub pair_found : (m : Stamps) (xs : List Literal) (i : ℕ) (x : Literal) → i < length xs → x ≡ get_or xs i x → Agrees m (map negated (take i xs)) → IsMarked m x → HasPair xs
 pair_found m xs i x lt e h marked =
     (x, subst (Contains xs) (sym e) (Contains-get_or xs i x lt), take_in xs i (negated x) (opposite_in (take i xs) x ((h x).0 marked)))
 
-pair_more : (xs : List Literal) (x : Literal) → ¬ (HasPair xs) → ¬ (Contains xs (negated x)) → ¬ (HasPair (xs ++ x ∷ []))
+pub pair_more : (xs : List Literal) (x : Literal) → ¬ (HasPair xs) → ¬ (Contains xs (negated x)) → ¬ (HasPair (xs ++ x ∷ []))
 pair_more xs x alone without p =
     let l = p.0 in
     ⊎_elim

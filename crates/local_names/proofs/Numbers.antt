@@ -7,6 +7,8 @@ use Rattle.cnf_base.specs.Literals.{Literal}
 use Rattle.cnf_base.specs.Clauses.{lit_true, clause_true}
 use Rattle.cnf_base.specs.Assignments.{AreBelow}
 use Rattle.local_names.specs.Names.{IsOnce, AreNames, IsTable, Keeps, variable_of, global, global_clause, number_of, local, local_clause, global_values}
+use Rattle.cnf_base.proofs.Codes.{literal_from_parts}
+use Rattle.cnf_base.proofs.Lists.{slice_get-set_same}
 
 pub once_tail : (y : ℕ) (ys : List ℕ) → IsOnce (y ∷ ys) → IsOnce ys
 once_tail y ys once j k x p q = let e : suc j ≡ suc k = once (suc j) (suc k) x p q in omega arith
@@ -50,11 +52,8 @@ pub local_global_clause : (names : List ℕ) (c : List Literal) → IsOnce names
 local_global_clause names [] once below = refl
 local_global_clause names (l ∷ ls) once below = λ i. local_global names l once below.0 i ∷ local_global_clause names ls once below.1 i
 
-literal_parts : (a b : Literal) → a.variable ≡ b.variable → a.positive ≡ b.positive → a ≡ b
-literal_parts a b p q = λ i. record { variable = p i; positive = q i }
-
 pub local_injective : (names : List ℕ) (a b : Literal) → local names a ≡ local names b → a ≡ b
-local_injective names a b e = literal_parts a b (number_injective names a.variable b.variable (ap (λ (l : Literal). l.variable) e)) (ap (λ (l : Literal). l.positive) e)
+local_injective names a b e = literal_from_parts a b (number_injective names a.variable b.variable (ap (λ (l : Literal). l.variable) e)) (ap (λ (l : Literal). l.positive) e)
 
 -- ---- values
 
@@ -137,11 +136,6 @@ push_cases [] y (suc k) x e = let q : ⊥ = cc in absurd q
 push_cases (z ∷ zs) y zero x e = inl e
 push_cases (z ∷ zs) y (suc k) x e = ⊎_elim (λ p. inl p) (λ p. inr (ap suc p.0, p.1)) (push_cases zs y k x e)
 
-set_same : (xs : List ℕ) (i v : ℕ) → i < length xs → slice_get (slice_set xs i v) i ≡ Some v
-set_same [] i v lt = absurd (omega arith)
-set_same (x ∷ xs) zero v lt = refl
-set_same (x ∷ xs) (suc i) v lt = set_same xs i v (omega arith)
-
 set_other : (xs : List ℕ) (i k v : ℕ) → (i ≡ k → ⊥) → slice_get (slice_set xs i v) k ≡ slice_get xs k
 set_other [] i k v ne = refl
 set_other (x ∷ xs) zero zero v ne = absurd (ne refl)
@@ -179,7 +173,7 @@ table_push places names y t lt bound new = record {
   each = λ k x e.
       ⊎_elim
       (λ p. set_other places y x (length names) (λ q. not_among names k y (table_once places names t) new (subst (λ z. slice_get names k ≡ Some z) (sym q) p)) ∙ t.each k x p)
-      (λ p. subst (λ z. slice_get (slice_set places y (length names)) z ≡ Some k) (sym p.1) (set_same places y (length names) lt ∙ ap Some (sym p.0)))
+      (λ p. subst (λ z. slice_get (slice_set places y (length names)) z ≡ Some k) (sym p.1) (slice_get-set_same places y (length names) lt ∙ ap Some (sym p.0)))
       (push_cases names y k x e);
   below = λ k x e. ⊎_elim (λ p. t.below k x p) (λ p. subst (λ z. z < 2 ^ 63) (sym p.1) bound) (push_cases names y k x e);
 }

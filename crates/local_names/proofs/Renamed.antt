@@ -7,38 +7,24 @@ use Rattle.cnf_base.specs.declared.clause.ClauseId.{ClauseId}
 use Rattle.hint_chain.specs.Chains.{IsFalse, IsFalseClause, IsUnit, HasPair, Lookup, ChainFrom, IsChain}
 use Rattle.local_names.specs.Names.{IsOnce, global_clause, local, local_clause, local_found, local_look}
 use Rattle.local_names.proofs.Numbers.{local_injective, local_global_clause}
+use Rattle.std.proofs.lemmas.List.{get_or-map, length-map, map_push}
+use Rattle.cnf_base.proofs.Lists.{Contains-map}
 
 -- ---- elements of a list under a function
-
-pub at_map : {A B : Type 0} (f : A → B) (xs : List A) (k : ℕ) (d : A) (e : B) → k < length xs → get_or (map f xs) k e ≡ f (get_or xs k d)
-at_map f [] k d e lt = absurd (omega arith)
-at_map f (x ∷ xs) zero d e lt = refl
-at_map f (x ∷ xs) (suc k) d e lt = at_map f xs k d e (omega arith)
-
-pub length_map : {A B : Type 0} (f : A → B) (xs : List A) → length (map f xs) ≡ length xs
-length_map f [] = refl
-length_map f (x ∷ xs) = ap suc (length_map f xs)
 
 first_of : {A : Type 0} (xs : List A) (k : ℕ) → k < length xs → (x : A) × (get_or xs k x ≡ x)
 first_of [] k lt = absurd (omega arith)
 first_of (x ∷ xs) zero lt = (x, refl)
 first_of (x ∷ xs) (suc k) lt = first_of xs k (omega arith)
 
-pub contains_map : {A B : Type 0} (f : A → B) (xs : List A) (x : A) → Contains xs x → Contains (map f xs) (f x)
-contains_map f xs x h = (h.0, subst (λ n. h.0 < n) (sym (length_map f xs)) h.1, at_map f xs h.0 x (f x) h.1 ∙ ap f h.2)
-
 pub contains_of_map : {A B : Type 0} (f : A → B) (xs : List A) (y : B) → Contains (map f xs) y → (x : A) × Contains xs x × (f x ≡ y)
 contains_of_map f xs y h =
-    let lt : h.0 < length xs = subst (λ n. h.0 < n) (length_map f xs) h.1 in
+    let lt : h.0 < length xs = subst (λ n. h.0 < n) (length-map xs f) h.1 in
     let x = first_of xs h.0 lt in
-    (x.0, (h.0, lt, x.1), sym (at_map f xs h.0 x.0 y lt ∙ ap f x.1) ∙ h.2)
+    (x.0, (h.0, lt, x.1), sym (get_or-map f xs h.0 x.0 y lt ∙ ap f x.1) ∙ h.2)
 
 pub all_of_map : {A B : Type 0} (f : A → B) (P : B → Type 0) (xs : List A) → All P (map f xs) → All (λ x. P (f x)) xs
-all_of_map f P xs h k d lt = subst P (at_map f xs k d (f d) lt) (h k (f d) (subst (λ n. k < n) (sym (length_map f xs)) lt))
-
-pub map_push : {A B : Type 0} (f : A → B) (xs : List A) (x : A) → map f (xs ++ x ∷ []) ≡ map f xs ++ f x ∷ []
-map_push f [] x = refl
-map_push f (y ∷ xs) x = ap (λ r. f y ∷ r) (map_push f xs x)
+all_of_map f P xs h k d lt = subst P (get_or-map f xs k d (f d) lt) (h k (f d) (subst (λ n. k < n) (sym (length-map xs f)) lt))
 
 module _ (names : List ℕ) where
   f : Literal → Literal
@@ -62,7 +48,7 @@ module _ (names : List ℕ) where
   false_back ts l h = contains_back ts (negated l) h
 
   false_on : (ts : List Literal) (l : Literal) → IsFalse ts l → IsFalse (local_clause names ts) (local names l)
-  false_on ts l h = contains_map (local names) ts (negated l) h
+  false_on ts l h = Contains-map (local names) ts (negated l) h
 
   false_clause : (ts c : List Literal) → IsFalseClause (local_clause names ts) (local_clause names c) → IsFalseClause ts c
   false_clause ts c h k d lt = false_back ts _ (all_of_map (local names) (IsFalse (local_clause names ts)) c h k d lt)
@@ -96,7 +82,7 @@ module _ (names : List ℕ) where
       (l.0, l.1, contains_back c (negated l.0) (subst (λ m. Contains (local_clause names c) (negated m)) (sym l.2) h.2))
 
   pub pair_on : (c : List Literal) → HasPair c → HasPair (local_clause names c)
-  pair_on c h = (local names h.0, contains_map (local names) c h.0 h.1, contains_map (local names) c (negated h.0) h.2)
+  pair_on c h = (local names h.0, Contains-map (local names) c h.0 h.1, Contains-map (local names) c (negated h.0) h.2)
 
   pub negated_map : (c : List Literal) → map negated (local_clause names c) ≡ local_clause names (map negated c)
   negated_map [] = refl

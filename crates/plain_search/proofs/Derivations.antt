@@ -13,7 +13,7 @@ use Rattle.hint_chain.specs.Chains.{IsFalse, IsFalseClause, IsUnit, HasPair, Loo
 use Rattle.plain_search.specs.Trails.{literals_of, IsConsistent, Forces}
 use Rattle.plain_search.specs.Searches.{Knows}
 use Rattle.plain_search.specs.Marks.{IsMarked, AddsMarks}
-use Rattle.plain_search.proofs.Lists.{Contains-map}
+use Rattle.cnf_base.proofs.Lists.{Contains-map}
 
 -- from every part of the true literals under which R is false, the hints are a chain
 abbrev pub Derives : List Held → List Literal → (Literal → Type 0) → List ClauseId → Type 0

@@ -1,9 +1,7 @@
 -- Lists each of whose elements stands rightly after those before it, and members of mapped lists.
-use Rattle.std.proofs.Common.{◌≡◌, ℕ, zero, suc, ◌<◌, List, [], ◌∷◌, ◌++◌, length, get_or, take, Some, refl, ap, ◌∙◌, ⊎_elim, arith}
-use Rattle.std.specs.Prelude.{Contains, map, slice_get, slice_set}
+use Rattle.std.proofs.Common.{◌≡◌, ℕ, ◌<◌, List, [], ◌∷◌, ◌++◌, length, get_or, take, refl, ⊎_elim, arith}
 use Rattle.std.proofs.lemmas.Bool.{cases_lt}
-use Rattle.std.proofs.lemmas.List.{take_at, take-append-le, take-take, get_or_append_left, get_or_push, get_or-take, length_push, length-take, length-map}
-use Rattle.std.proofs.Math.ListN.{get_or-map}
+use Rattle.std.proofs.lemmas.List.{take_at, take-append-le, take-take, get_or_append_left, get_or_push, get_or-take, length_push, length-take}
 use Rattle.plain_search.specs.Trails.{EachAfter}
 
 pub each_after-nil : {A : Type 0} (P : List A → A → Type 0) → EachAfter P []
@@ -34,18 +32,3 @@ each_after-take P n xs each k d h =
 
 pub each_after-weaker : {A : Type 0} (P Q : List A → A → Type 0) (xs : List A) → ((before : List A) (x : A) → P before x → Q before x) → EachAfter P xs → EachAfter Q xs
 each_after-weaker P Q xs f each k d h = f (take k xs) (get_or xs k d) (each k d h)
-
-pub Contains-map : {A B : Type 0} (f : A → B) (xs : List A) (x : A) → Contains xs x → Contains (map f xs) (f x)
-Contains-map f xs x c = (c.0, rw length-map c.1, get_or-map f xs c.0 x ∙ ap f c.2)
-
-pub slice_get-set_same : {A : Type 0} (xs : List A) (i : ℕ) (x : A) → i < length xs → slice_get (slice_set xs i x) i ≡ Some x
-slice_get-set_same [] i x h = absurd (omega arith)
-slice_get-set_same (y ∷ xs) zero x h = refl
-slice_get-set_same (y ∷ xs) (suc i) x h = slice_get-set_same xs i x (omega arith)
-
-pub slice_get-set_other : {A : Type 0} (xs : List A) (i j : ℕ) (x : A) → (j ≡ i → ⊥) → slice_get (slice_set xs i x) j ≡ slice_get xs j
-slice_get-set_other [] i j x ne = refl
-slice_get-set_other (y ∷ xs) zero zero x ne = absurd (ne refl)
-slice_get-set_other (y ∷ xs) zero (suc j) x ne = refl
-slice_get-set_other (y ∷ xs) (suc i) zero x ne = refl
-slice_get-set_other (y ∷ xs) (suc i) (suc j) x ne = slice_get-set_other xs i j x (λ e. ne (ap suc e))

@@ -5,8 +5,8 @@ use Rattle.std.proofs.lemmas.List.{take_all, length-set}
 use Rattle.std.proofs.lemmas.List.Elements.{All-nil, All-more, All-weaker}
 use Rattle.cnf_base.specs.Literals.{Literal}
 use Rattle.plain_search.specs.Marks.{IsMarked, AddsMarks}
-use Rattle.plain_search.proofs.Lists.{slice_get-set_same, slice_get-set_other}
-use Rattle.plain_search.proofs.Values.{eq_or_not}
+use Rattle.cnf_base.proofs.Lists.{slice_get-set_same, slice_get-set_other}
+use Rattle.std.proofs.lemmas.Bool.{cases_eq}
 
 pub marks-none : (marks : List Bool) → AddsMarks [] marks marks
 marks-none marks = record { size = refl; kept = λ l m. m; joined = All-nil (IsMarked marks) }
@@ -15,7 +15,7 @@ marked-set : (marks : List Bool) (x : ℕ) (l : Literal) → x < length marks �
 marked-set marks x l within m = ⊎_elim
     (λ same. ap (slice_get (slice_set marks x true)) same ∙ slice_get-set_same marks x true within)
     (λ ne. slice_get-set_other marks x l.variable true ne ∙ m)
-    (eq_or_not l.variable x)
+    (cases_eq l.variable x)
 
 pub marks-more : (clause : List Literal) (i : ℕ) (l : Literal) (old marks : List Bool) → i < length clause → l ≡ get_or clause i l → l.variable < length marks → AddsMarks (take i clause) old marks → AddsMarks (take (i + 1) clause) old (slice_set marks l.variable true)
 marks-more clause i l old marks within read below a = record {

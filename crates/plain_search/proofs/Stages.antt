@@ -1,5 +1,5 @@
 -- A search, from one round to the next.
-use Rattle.std.proofs.Common.{◌≡◌, ℕ, suc, zero, ◌+◌, ◌<◌, Bool, true, false, ◌||◌, List, [], ◌∷◌, ◌++◌, length, get_or, take, Some, refl, sym, ap, ◌∙◌, subst, inl, ⊎_elim, arith}
+use Rattle.std.proofs.Common.{◌≡◌, ℕ, suc, zero, ◌+◌, ◌<◌, Bool, true, ◌||◌, List, [], ◌∷◌, ◌++◌, length, get_or, take, Some, refl, sym, ap, ◌∙◌, subst, inl, ⊎_elim, arith}
 use Rattle.std.specs.Prelude.{All, Contains, slice_get}
 use Rattle.std.proofs.lemmas.Option.{slice_get-get_or, slice_get_within, get_or_from_slice_get}
 use Rattle.std.proofs.lemmas.List.{append-nil, append_assoc, take_at, get_or_append_left, length-append}
@@ -19,9 +19,11 @@ use Rattle.cnf_base.specs.Assignments.{AreBelow}
 use Rattle.plain_search.specs.Trails.{decided_entry, literals_of, IsForcedBy, AreReasoned, AllAssumed, OnlyGiven, AreHeldBelow, AllDecided, IsBackTo}
 use Rattle.plain_search.specs.Passes.{IsResting, IsGrown}
 use Rattle.plain_search.specs.Searches.{Knows, learnt_row, named, IsLearnt, AreChains, AreChainsBelow, assignment, IsModel, IsAgainst, IsVerdict, IsOutcome, IsAssumed, IsClash}
-use Rattle.plain_search.proofs.Lists.{each_after-nil, each_after-push, each_after-take, each_after-weaker, Contains-map}
+use Rattle.plain_search.proofs.Lists.{each_after-nil, each_after-push, each_after-take, each_after-weaker}
 use Rattle.plain_search.proofs.Assuming.{assumed-reasoned}
 use Rattle.plain_search.proofs.Walks.{opposites-below}
+use Rattle.std.proofs.lemmas.Bool.{or_right}
+use Rattle.cnf_base.proofs.Lists.{Contains-map}
 
 -- what holds before each round
 pub record IsStage (held : List Held) (given : List Literal) (from variables : ℕ) (rows : List Held) (chains : List Chain) (entries : List Entry) : Type 0 where
@@ -122,10 +124,6 @@ stage-back held given from variables rows chains entries new level s b = record 
   where
     kept : (e : Entry) → Contains entries e → e.level ≡ 0 → Contains new e
     kept e on low = ⊎_elim (λ c. c) (λ c. absurd (omega (arith, low, All-contains (λ x. level < x.level) b.taken e b.above c))) (Contains-append_cases new b.taken e (rw b.split at on))
-
-or_right : (a b : Bool) → b ≡ true → (a || b) ≡ true
-or_right true b h = refl
-or_right false b h = h
 
 true-at : (v : ℕ → Bool) (clause : List Literal) (l : Literal) (k : ℕ) → k < length clause → get_or clause k l ≡ l → lit_true v l ≡ true → clause_true v clause ≡ true
 true-at v [] l k within is on = absurd (omega arith)

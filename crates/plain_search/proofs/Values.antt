@@ -1,7 +1,7 @@
 -- The table of values beside the entries of a trail.
 use Rattle.std.proofs.Common.{◌≡◌, ℕ, zero, suc, ◌+◌, ◌<◌, ◌-◌, Bool, true, false, not, List, [], ◌∷◌, ◌++◌, length, get_or, take, drop, if◌then◌else◌, Option, Some, None, refl, sym, ap, ◌∙◌, subst, inl, inr, ⊎_elim, one-add, arith}
 use Rattle.std.specs.Prelude.{◌⊎◌, All, Contains, map, slice_get, slice_set, unwrap_or, is_some}
-use Rattle.std.proofs.lemmas.Bool.{cases_lt}
+use Rattle.std.proofs.lemmas.Bool.{cases_eq}
 use Rattle.std.proofs.lemmas.Option.{slice_get-get_or, slice_get_within, get_or_from_slice_get}
 use Rattle.std.proofs.Math.ListN.{get_or-map}
 use Rattle.std.specs.Option.{option_map_or}
@@ -15,11 +15,10 @@ use Rattle.hint_chain.specs.Chains.{IsFalse}
 use Rattle.cnf_base.specs.Assignments.{AreBelow}
 use Rattle.plain_search.specs.Trails.{literals_of, IsOpen, HasValue, IsConsistent, level_of, IsBackTo, AllDecided, EachAfter, IsSet, IsNext, IsTrail}
 use Rattle.plain_search.specs.Searches.{assignment}
-use Rattle.plain_search.proofs.Lists.{Contains-map, each_after-nil, each_after-push, each_after-take, slice_get-set_same, slice_get-set_other}
-
-not_both : (b : Bool) → b ≡ not b → ⊥
-not_both true e = cc
-not_both false e = cc
+use Rattle.plain_search.proofs.Lists.{each_after-nil, each_after-push, each_after-take}
+use Rattle.cnf_base.proofs.Lists.{Contains-map, slice_get-set_same, slice_get-set_other}
+use Rattle.cnf_base.proofs.Truth.{not_its_opposite}
+use Rattle.cnf_base.proofs.Codes.{literal_from_parts}
 
 -- one variable has two literals
 two_signs : (p q : Bool) → (p ≡ q) ⊎ (p ≡ not q)
@@ -28,21 +27,15 @@ two_signs true false = inr refl
 two_signs false true = inr refl
 two_signs false false = inl refl
 
-pub same_literal : (k l : Literal) → k.variable ≡ l.variable → k.positive ≡ l.positive → k ≡ l
-same_literal k l p q = λ i. record { variable = p i; positive = q i }
-
-pub eq_or_not : (a b : ℕ) → (a ≡ b) ⊎ (a ≡ b → ⊥)
-eq_or_not a b = ⊎_elim (λ lt. inr (λ e. let f : ⊥ = omega arith in f)) (λ le. ⊎_elim (λ lt. inr (λ e. let f : ⊥ = omega arith in f)) (λ le'. inl (omega arith)) (cases_lt b a)) (cases_lt a b)
-
 -- the literals of the same variable
 pub literal_cases : (k l : Literal) → k.variable ≡ l.variable → (k ≡ l) ⊎ (k ≡ negated l)
-literal_cases k l e = ⊎_elim (λ p. inl (same_literal k l e p)) (λ p. inr (same_literal k (negated l) e p)) (two_signs k.positive l.positive)
+literal_cases k l e = ⊎_elim (λ p. inl (literal_from_parts k l e p)) (λ p. inr (literal_from_parts k (negated l) e p)) (two_signs k.positive l.positive)
 
 pub trail-consistent : (values : List (Option Bool)) (entries : List Entry) → IsTrail values entries → IsConsistent (literals_of entries)
 trail-consistent values entries t l on off =
     let one = (t.agrees l).1 on in
     let two = (t.agrees (negated l)).1 off in
-    not_both l.positive (cc (one, two))
+    not_its_opposite l.positive (cc (one, two))
 
 pub trail-new : (values : List (Option Bool)) → ((k : ℕ) → k < length values → slice_get values k ≡ Some None) → IsTrail values []
 trail-new values none = record {
@@ -71,9 +64,9 @@ trail-push values entries e t lt next = record {
         (λ same.
         let f : slice_get (slice_set values e.literal.variable (Some e.literal.positive)) k.variable ≡ Some (Some e.literal.positive) = ap (slice_get (slice_set values e.literal.variable (Some e.literal.positive))) same ∙ slice_get-set_same values e.literal.variable (Some e.literal.positive) lt in
         let g : k.positive ≡ e.literal.positive = cc (s, f) in
-        subst (Contains (literals_of entries ++ e.literal ∷ [])) (sym (same_literal k e.literal same g)) (Contains-push (literals_of entries) e.literal))
+        subst (Contains (literals_of entries ++ e.literal ∷ [])) (sym (literal_from_parts k e.literal same g)) (Contains-push (literals_of entries) e.literal))
         (λ ne. Contains-append_left (literals_of entries) (e.literal ∷ []) k ((t.agrees k).0 (sym (slice_get-set_other values e.literal.variable k.variable (Some e.literal.positive) ne) ∙ s)))
-        (eq_or_not k.variable e.literal.variable))
+        (cases_eq k.variable e.literal.variable))
 
     from : (k : Literal) → Contains (literals_of (entries ++ e ∷ [])) k → IsSet (slice_set values e.literal.variable (Some e.literal.positive)) k
     from k c =
@@ -86,7 +79,7 @@ trail-push values entries e t lt next = record {
         (λ eq. absurd (next.unset.1 (subst (Contains (literals_of entries)) eq old)))
         (literal_cases k e.literal same))
         (λ ne. slice_get-set_other values e.literal.variable k.variable (Some e.literal.positive) ne ∙ (t.agrees k).1 old)
-        (eq_or_not k.variable e.literal.variable))
+        (cases_eq k.variable e.literal.variable))
         (λ eq. subst (IsSet (slice_set values e.literal.variable (Some e.literal.positive))) eq (slice_get-set_same values e.literal.variable (Some e.literal.positive) lt))
         (Contains-push_cases (literals_of entries) e.literal k (rw joined at c))
 
@@ -121,7 +114,7 @@ trail-pop values entries e t = record {
         (λ ne.
         let old = (t.agrees k).0 (sym (slice_get-set_other values e.literal.variable k.variable None ne) ∙ s) in
         ⊎_elim (λ c. c) (λ eq. absurd (ne (ap (λ x. x.variable) (sym eq)))) (Contains-push_cases (literals_of entries) e.literal k (rw joined at old)))
-        (eq_or_not k.variable e.literal.variable)
+        (cases_eq k.variable e.literal.variable)
 
     from : (k : Literal) → Contains (literals_of entries) k → IsSet (slice_set values e.literal.variable None) k
     from k c =
@@ -132,7 +125,7 @@ trail-pop values entries e t = record {
         (λ eq. absurd (last.unset.1 (subst (Contains (literals_of entries)) eq c)))
         (literal_cases k e.literal same))
         (λ ne. slice_get-set_other values e.literal.variable k.variable None ne ∙ (t.agrees k).1 (rw joined (Contains-append_left (literals_of entries) (e.literal ∷ []) k c)))
-        (eq_or_not k.variable e.literal.variable)
+        (cases_eq k.variable e.literal.variable)
 
 -- what `==` says of two signs
 sign_cases : (b p : Bool) (P : Bool → Type 0) → (b ≡ p → P true) → (b ≡ not p → P false) → P (beq b p)
@@ -206,10 +199,6 @@ back_to-more level start old new b above e = at (slice_get old (length old - 1))
           split = b.split ∙ ap (λ ys. ys ++ b.taken) split ∙ append_assoc new (x ∷ []) b.taken;
           above = All-cons (λ y. level < y.level) x b.taken (omega (arith, high)) b.above;
         }
-
-pub is_none : (o : Option Bool) → is_some o ≡ false → o ≡ None
-is_none None e = refl
-is_none (Some b) e = cc
 
 pub is_not_none : (o : Option Bool) → is_some o ≡ true → o ≡ None → ⊥
 is_not_none None e n = cc

@@ -16,8 +16,8 @@ use Rattle.cnf_base.specs.Assignments.{AreBelow}
 use Rattle.plain_search.specs.Trails.{literals_of, IsConsistent, Forces, IsForcedBy, AreReasoned, OnlyGiven}
 use Rattle.plain_search.specs.Searches.{Knows, IsAgainst}
 use Rattle.plain_search.specs.Marks.{IsMarked, AddsMarks}
-use Rattle.plain_search.proofs.Lists.{Contains-map}
 use Rattle.plain_search.proofs.Derivations.{Derives, Rests, derives-start, derives-weaker, derives-more, rests-unmarked, rests-kept, rests-resolved, derives-chain, kept-false}
+use Rattle.cnf_base.proofs.Lists.{Contains-map}
 
 -- what holds where the entries from number i on were visited
 pub record IsWalk (rows : List Held) (entries : List Entry) (variables i : ℕ) (marks : List Bool) (literals : List Literal) (hints : List ClauseId) (levels : List ℕ) : Type 0 where

@@ -3,8 +3,9 @@ use Rattle.std.proofs.Common.{ℕ, ◌+◌, ◌-◌, ◌*◌, ◌/◌, ◌%◌, 
 use Rattle.std.specs.Prelude.{◌==◌, if◌then◌else◌}
 use Rattle.std.proofs.lemmas.Nat.{pow_pos, and_le_l, or_lt, xor_lt, mod_below}
 use Rattle.std.proofs.Math.Nat.{mod-le, div-le_self}
-use Rattle.smt_words.specs.Words.{is_negative, not_of, and_of, or_of, xor_of, nand_of, nor_of, xnor_of, neg_of, add_of, sub_of, mul_of, udiv_of, urem_of, abs_of, sdiv_of, srem_of, smod_of, shl_of, lshr_of, ashr_of, comp_of, concat_of, extract_of, sign_extend_of, rotate_left_of, rotate_right_of, repeat_of}
-use Rattle.smt_words.proofs.Numbers.{cat_lt, pow_le, repeat_fits, spin_fits}
+use Rattle.smt_words.specs.Words.{is_negative, not_of, and_of, or_of, xor_of, nand_of, nor_of, xnor_of, neg_of, add_of, sub_of, mul_of, udiv_of, urem_of, abs_of, sdiv_of, srem_of, smod_of, shl_of, lshr_of, ashr_of, comp_of, concat_of, extract_of, sign_extend_of, rotate_left_of, rotate_right_of}
+use Rattle.smt_words.proofs.Numbers.{cat_lt, pow_le, spin_fits}
+pub use Rattle.smt_words.proofs.Numbers.{repeat_fits}
 
 -- one of two numbers that fit
 either_fits : (b : Bool) (x y m : ℕ) → x < m → y < m → (if b then x else y) < m
@@ -123,6 +124,3 @@ rotate_left_fits n i x p h = spin_fits n (n - i % n) (i % n) x (omega (arith, mo
 
 pub rotate_right_fits : (n i x : ℕ) → 0 < n → x < 2 ^ n → rotate_right_of n i x < 2 ^ n
 rotate_right_fits n i x p h = spin_fits n (i % n) (n - i % n) x (omega (arith, mod_below i n p)) h
-
-pub repeat_of_fits : (n k x : ℕ) → x < 2 ^ n → repeat_of n k x < 2 ^ (n * k)
-repeat_of_fits n k x h = repeat_fits n k x h

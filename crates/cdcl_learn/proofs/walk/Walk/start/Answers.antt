@@ -6,14 +6,15 @@ use Rattle.cdcl_core.specs.Search.{clause_of}
 use Rattle.cdcl_learn.specs.Rows.{IsFalseBefore}
 use Rattle.cdcl_learn.specs.Walks.{IsSet, IsMarked}
 use Rattle.cdcl_learn.proofs.Lists.{unset_all}
-use Rattle.cdcl_learn.proofs.Derivations.{derived_start, inside}
+use Rattle.cdcl_learn.proofs.Derivations.{derived_start}
 use Rattle.cdcl_learn.proofs.walk.Walk.start.Goals as goal
+use Rattle.std.proofs.lemmas.Option.{same_Some}
 
 pub returns-clause-walk : goal.returns-clause-walk
 returns-clause-walk c =
     let f = c.requires.conflict in
     let d : List Literal = c.in-Some.clause.now in
-    let e : f.0 ≡ d = inside f.0 d (sym f.1.0 ∙ sym c.in-Some.ensures) in
+    let e : f.0 ≡ d = same_Some f.0 d (sym f.1.0 ∙ sym c.in-Some.ensures) in
     let refuted : (m : Literal) → Contains d m → IsFalseBefore c.args.rows.now (length c.args.rows.now) m = λ m h. f.1.1 m (rw e h) in
     let k : IsMarked c.args.rows.now d c.in_ok-marks.marks.items c.mark.new.marks.items = rw c.literals.ensures at c.mark.ensures in
     let clear : (p : ℕ) → IsSet c.in_ok-marks.marks.items p → ⊥ = λ p s. unset_all (length c.args.rows.now) p (rw (c.in_ok-marks.ensures.items_if_clones_equal (λ y h. h)) at s) in

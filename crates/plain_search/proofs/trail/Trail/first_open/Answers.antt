@@ -4,15 +4,16 @@ use Rattle.std.proofs.lemmas.Bool.{cases_lt}
 use Rattle.std.proofs.lemmas.Option.{slice_get_read}
 use Rattle.cnf_base.specs.Literals.{negative_of}
 use Rattle.plain_search.specs.Trails.{TrailView, literals_of, IsOpen, AllDecided}
-use Rattle.plain_search.proofs.Values.{unset-is_open, none-unset-decides, is_none, is_not_none}
+use Rattle.plain_search.proofs.Values.{unset-is_open, none-unset-decides, is_not_none}
 use Rattle.plain_search.proofs.trail.Trail.first_open.Goals as goal
+use Rattle.cnf_base.proofs.Options.{none_from}
 
 pub returns-then-is_none : goal.returns-then-is_none
 returns-then-is_none c =
     let values = c.self.inside.values.items in
     let x = c.loop-variable.variable in
     let within : x < length values = search rules in
-    let unset : c.index.result.now ≡ None = is_none c.index.result.now (search rules) in
+    let unset : c.index.result.now ≡ None = none_from c.index.result.now (search rules) in
     let read : slice_get values x ≡ Some c.index.result.now = slice_get_read values (length values) x c.index.result.now refl within c.index.ensures in
     let P : TrailView → Type 0 = λ v. (0 < x) × (x < v.variables) × IsOpen (literals_of v.entries) (negative_of x) in
     subst P c.self.view_is (omega arith, within, unset-is_open values c.self.inside.entries.items c.self.invariant (negative_of x) (read ∙ ap Some unset))
