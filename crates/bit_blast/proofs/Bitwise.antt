@@ -1,5 +1,5 @@
 -- Rows of gates mean their operators, bit by bit.
-use Rattle.std.proofs.Common.{◌≡◌, ℕ, suc, ◌+◌, ◌-◌, ◌*◌, ◌/◌, ◌%◌, ◌^◌, min, max, Bool, true, false, not, ◌&&◌, List, [], ◌∷◌, length, refl, sym, ap, ◌∙◌, arith}
+use Rattle.std.proofs.Common.{◌≡◌, ℕ, suc, ◌+◌, ◌-◌, ◌*◌, ◌%◌, ◌^◌, min, max, Bool, true, false, not, ◌&&◌, List, [], ◌∷◌, length, refl, sym, ap, ◌∙◌, arith}
 use Rattle.std.specs.Prelude.{if◌then◌else◌, bit_and, bit_or, bit_xor, map}
 use Rattle.std.specs.Int.Bits.{and_step, or_step, xor_step, differ}
 use Rattle.cnf_base.specs.Literals.{Literal, negated}
@@ -7,7 +7,7 @@ use Rattle.cnf_base.specs.Clauses.{lit_true, number, bit}
 use Rattle.cnf_base.specs.Gates.{gate_value, HaveMeaning}
 use Rattle.cnf_base.specs.Assignments.{fresh_bits}
 use Rattle.cnf_base.proofs.Truth.{lit_true-negated}
-use Rattle.cnf_base.proofs.Numbers.{number-negated}
+use Rattle.cnf_base.proofs.Numbers.{number-negated, half_of}
 use Rattle.smt_words.specs.Words.{not_of}
 use Rattle.bit_blast.specs.declared.rows.Connective.{Connective}
 use Rattle.bit_blast.specs.declared.rows.Connective.TheVariants.{Both, Neither, ButNot, Differ}
@@ -51,10 +51,6 @@ row_number k false f w v g (x ∷ a) (y ∷ b) e h =
     rw (ih, here) (sym (w.place (lit_true v x) (lit_true v y) (number v a) (number v b)))
 
 -- ---- the three that work so
-
-half_of : (p : Bool) (n : ℕ) → (bit p + 2 * n) / 2 ≡ n
-half_of true n = omega arith
-half_of false n = omega arith
 
 low_of : (p : Bool) (n : ℕ) → (bit p + 2 * n) % 2 ≡ bit p
 low_of true n = omega arith

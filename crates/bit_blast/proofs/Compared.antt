@@ -22,7 +22,8 @@ use Rattle.bit_blast.specs.Blocks.{Block, Makes, Takes, Lacks, built, two, wires
 use Rattle.bit_blast.specs.Meanings.{AreBitsOf, EachIsBits}
 use Rattle.bit_blast.proofs.Correct.{ok_is, as_word, as_truth}
 use Rattle.bit_blast.proofs.Wired.{concat_means}
-use Rattle.bit_blast.proofs.Shapes.{some_is, each_two, each_three, equality_rank_is, choice_rank_is, concatenation_rank_is}
+use Rattle.bit_blast.proofs.Shapes.{each_two, each_three, equality_rank_is, choice_rank_is, concatenation_rank_is}
+use Rattle.std.proofs.lemmas.Option.{same_Some}
 
 -- ---- orders
 
@@ -106,7 +107,7 @@ same_rows v (sort.Array n m) a c x y p q = absurd p
 
 -- the block of two rows of one length
 alike_is : (f : List Literal → List Literal → ℕ → Block) (g : ℕ) (a c : List Literal) (b : Block) → length a ≡ length c → built (two f) g (a ∷ c ∷ []) ≡ Some b → f a c g ≡ b
-alike_is f g a c b same e = some_is (subst (λ t. built (if t then Makes (f a c) else Lacks) g [] ≡ Some b) (eq-eqb (length a) (length c) same) e)
+alike_is f g a c b same e = same_Some _ _ (subst (λ t. built (if t then Makes (f a c) else Lacks) g [] ≡ Some b) (eq-eqb (length a) (length c) same) e)
 
 pub equality_correct : (v : ℕ → Bool) (g : ℕ) → v 1 ≡ true → (ss : List Sort) (rows : List (List Literal)) (xs : List Value) (s : Sort) (b : Block)
     → ranked equality_rank 0 (map Some ss) ≡ Ok s → EachIsBits v ss rows xs → built (two equality) g rows ≡ Some b → HaveMeaning v g b.gates
@@ -128,7 +129,7 @@ pub concatenation_correct : (v : ℕ → Bool) (g : ℕ) (ss : List Sort) (rows 
 concatenation_correct v g ss rows xs s b rank each is =
     let r = concatenation_rank_is ss s rank in
     let k = each_two v (sort.Word r.0) (sort.Word r.1) rows xs (subst (λ l. EachIsBits v l rows xs) r.2 each) in
-    let blk = some_is (subst (λ l. built (Takes λ a. Takes λ c. Makes (wires (c ++ a))) g l ≡ Some b) k.4 is) in
+    let blk = same_Some _ _ (subst (λ l. built (Takes λ a. Takes λ c. Makes (wires (c ++ a))) g l ≡ Some b) k.4 is) in
     let widths = k.6.0 in
     let widths' = k.7.0 in
     let means = concat_means v k.0 k.1 s (rw (widths, widths') r.3) in (
@@ -167,7 +168,7 @@ choice_is : (g : ℕ) (c : Literal) (a d : List Literal) (b : Block) → built (
 choice_is g c a d b e = go (length a == length d) e
   where
     go : (t : Bool) → built (if t then Makes (λ g. record { gates = mux_gates c a d; bits = fresh_bits g (length a) }) else Lacks) g [] ≡ Some b → ◌≡◌ {A = Block} (record { gates = mux_gates c a d; bits = fresh_bits g (length a) }) b
-    go true e = some_is e
+    go true e = same_Some _ _ e
     go false e = let q : ⊥ = cc in absurd q
 
 pub choice_correct : (v : ℕ → Bool) (g : ℕ) (ss : List Sort) (rows : List (List Literal)) (xs : List Value) (s : Sort) (b : Block)

@@ -18,6 +18,7 @@ use Rattle.bit_blast.specs.Blocks.{Block, built, circuit_of, all_bits, block_ove
 use Rattle.bit_blast.specs.Meanings.{AreBitsOf, EachIsBits, ClausesFixValues, BlocksExtendAssignments, Fix}
 use Rattle.bit_blast.proofs.Table.{op_correct}
 use Rattle.bit_blast.proofs.Ordered.{op_ordered}
+use Rattle.cnf_base.proofs.Options.{same_found}
 
 pub clauses_fix : ClausesFixValues
 clauses_fix M v g op ss rows xs s b one rank each is satisfied =
@@ -25,7 +26,7 @@ clauses_fix M v g op ss rows xs s b one rank each is satisfied =
 
 -- ---- assignments that agree below a variable
 
-same_bits : (g : ℕ) (f v : ℕ → Bool) → AgreeBelow g f v → (s : Sort) (b : List Literal) (x : Value) → AreBelow g b → AreBitsOf f s b x → AreBitsOf v s b x
+pub same_bits : (g : ℕ) (f v : ℕ → Bool) → AgreeBelow g f v → (s : Sort) (b : List Literal) (x : Value) → AreBelow g b → AreBitsOf f s b x → AreBitsOf v s b x
 same_bits g f v agree sort.Bool b x below bits =
     let l = bits.0 in
     let here : AreBelow g (l ∷ []) = subst (AreBelow g) bits.1 below in
@@ -52,14 +53,11 @@ blocks_extend M f g op ss rows xs s b one up all rank each is =
 
 -- ---- what a call appends
 
-same_rows : (a b : List (List Literal)) (o : Option (List (List Literal))) → o ≡ Some a → o ≡ Some b → a ≡ b
-same_rows a b o p q = cc
-
 block_fixes : (old new : CircuitValue) (bits : ℕ → Option (List Literal)) (n : Node) (row : List Literal) (held : List (List Literal)) (k : Option Block)
     → all_bits bits n.args ≡ Some held → built (circuit_of n.op) old.next held ≡ k → IsBuilt k row old new → Fix new.clauses bits n row
 block_fixes old new bits n row held None args is h = absurd h
 block_fixes old new bits n row held (Some b) args is h = λ M v ss rows xs s one satisfied rank here each.
-    let same : rows ≡ held = same_rows rows held (all_bits bits n.args) here args in
+    let same : rows ≡ held = same_found (all_bits bits n.args) rows held here args in
     subst (λ (r : List Literal). AreBitsOf v s r (op_value M n.op xs)) (sym h.0)
     (op_correct M v old.next n.op ss held xs s b one rank (subst (λ (r : List (List Literal)). EachIsBits v ss r xs) same each) is (Gains-all v old new b.gates h.1 satisfied))
 

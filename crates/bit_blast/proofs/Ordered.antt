@@ -7,7 +7,7 @@ use Rattle.cnf_base.specs.Literals.{Literal, negated, true_literal, false_litera
 use Rattle.cnf_base.specs.Gates.{AreOrdered}
 use Rattle.cnf_base.specs.Assignments.{AreBelow, fresh_bits}
 use Rattle.cnf_base.specs.Choices.{mux_gates}
-use Rattle.cnf_base.proofs.Agreeing.{AreBelow-more, AreBelow-append, AreBelow-negated, AreBelow-fresh_bits}
+use Rattle.cnf_base.proofs.Agreeing.{AreBelow-more, AreBelow-append, AreBelow-negated, AreBelow-fresh_bits, AreBelow-take, AreBelow-drop, AreBelow-replicate}
 use Rattle.cnf_base.proofs.Adding.{add_gates-ordered, add_bits-below}
 use Rattle.cnf_base.proofs.Choosing.{mux_gates-ordered, length-mux_gates}
 use Rattle.cnf_base.proofs.Equating.{equal_gates-ordered, equal_bit-below}
@@ -21,7 +21,8 @@ use Rattle.bit_blast.specs.declared.rows.Connective.{Connective}
 use Rattle.bit_blast.specs.declared.rows.Connective.TheVariants.{Both, Neither, ButNot, Differ}
 use Rattle.bit_blast.specs.Blocks.{Block, Makes, Takes, Lacks, built, one, two, two_some, wires, signed, each_gate, by_gate, sum, difference, equality, choice, negation, below, not_above, signed_below, signed_not_above, shift_up, shift_down, signed_shift_down, product, quotient, remainder, signed_quotient, signed_remainder, signed_modulus, literal_bits, rotated, extracted, repeated, operator_circuit}
 use Rattle.bit_blast.specs.Meanings.{BlocksAreOrdered}
-use Rattle.bit_blast.proofs.Shapes.{some_is, some_rows}
+use Rattle.bit_blast.proofs.Shapes.{some_rows}
+use Rattle.std.proofs.lemmas.Option.{same_Some}
 
 -- what is to be shown of a block
 abbrev pub Stands : ℕ → Block → Type 0
@@ -35,22 +36,8 @@ wired g bits h = (tt, AreBelow-more g (g + 0) (omega arith) bits h)
 
 -- ---- rows of wires
 
-below-take : (g n : ℕ) (a : List Literal) → AreBelow g a → AreBelow g (take n a)
-below-take g zero a h = tt
-below-take g (suc n) [] h = tt
-below-take g (suc n) (l ∷ a) h = (h.0, below-take g n a h.1)
-
-below-drop : (g n : ℕ) (a : List Literal) → AreBelow g a → AreBelow g (drop n a)
-below-drop g zero a h = h
-below-drop g (suc n) [] h = tt
-below-drop g (suc n) (l ∷ a) h = below-drop g n a h.1
-
-below-replicate : (g n : ℕ) (l : Literal) → l.variable < g → AreBelow g (replicate n l)
-below-replicate g zero l h = tt
-below-replicate g (suc n) l h = (h, below-replicate g n l h)
-
 below-rotated : (g n : ℕ) (a : List Literal) → AreBelow g a → AreBelow g (rotated n a)
-below-rotated g n a h = AreBelow-append g (drop (length a - n) a) (take (length a - n) a) (below-drop g (length a - n) a h) (below-take g (length a - n) a h)
+below-rotated g n a h = AreBelow-append g (drop (length a - n) a) (take (length a - n) a) (AreBelow-drop (length a - n) g a h) (AreBelow-take (length a - n) g a h)
 
 below-repeated : (g n : ℕ) (a : List Literal) → AreBelow g a → AreBelow g (repeated n a)
 below-repeated g zero a h = tt
@@ -90,12 +77,12 @@ gates_stand k positive g a c e h i =
 -- ---- shapes
 
 made_leaf : (g : ℕ) (bits : List Literal) → AreBelow g bits → (rows : List (List Literal)) (b : Block) → Rows g rows → built (Makes (wires bits)) g rows ≡ Some b → Stands g b
-made_leaf g bits h [] b all is = subst (Stands g) (some_is is) (wired g bits h)
+made_leaf g bits h [] b all is = subst (Stands g) (same_Some _ _ is) (wired g bits h)
 made_leaf g bits h (a ∷ rows) b all is = let q : ⊥ = cc in absurd q
 
 made_one : (g : ℕ) (f : List Literal → ℕ → Block) → ((a : List Literal) → AreBelow g a → Stands g (f a g)) → (rows : List (List Literal)) (b : Block) → Rows g rows → built (one f) g rows ≡ Some b → Stands g b
 made_one g f h [] b all is = let q : ⊥ = cc in absurd q
-made_one g f h (a ∷ []) b all is = subst (Stands g) (some_is is) (h a all.0)
+made_one g f h (a ∷ []) b all is = subst (Stands g) (same_Some _ _ is) (h a all.0)
 made_one g f h (a ∷ c ∷ rows) b all is = let q : ⊥ = cc in absurd q
 
 made_two : (g : ℕ) (f : List Literal → List Literal → ℕ → Block) → ((a c : List Literal) → length a ≡ length c → AreBelow g a → AreBelow g c → Stands g (f a c g)) → (rows : List (List Literal)) (b : Block) → Rows g rows → built (two f) g rows ≡ Some b → Stands g b
@@ -104,7 +91,7 @@ made_two g f h (a ∷ []) b all is = let q : ⊥ = cc in absurd q
 made_two g f h (a ∷ c ∷ rows) b all is = go (length a == length c) refl rows is
   where
     go : (t : Bool) → (length a == length c) ≡ t → (rest : List (List Literal)) → built (if t then Makes (f a c) else Lacks) g rest ≡ Some b → Stands g b
-    go true e [] k = subst (Stands g) (some_is k) (h a c (eqb-true (length a) (length c) e) all.0 all.1.0)
+    go true e [] k = subst (Stands g) (same_Some _ _ k) (h a c (eqb-true (length a) (length c) e) all.0 all.1.0)
     go true e (d ∷ rest) k = let q : ⊥ = cc in absurd q
     go false e rest k = let q : ⊥ = cc in absurd q
 
@@ -114,7 +101,7 @@ made_some g f h rows b all is = made_two g f h rows b all (some_rows f g rows b 
 made_joined : (g : ℕ) (rows : List (List Literal)) (b : Block) → Rows g rows → built (Takes λ a. Takes λ c. Makes (wires (c ++ a))) g rows ≡ Some b → Stands g b
 made_joined g [] b all is = let q : ⊥ = cc in absurd q
 made_joined g (a ∷ []) b all is = let q : ⊥ = cc in absurd q
-made_joined g (a ∷ c ∷ []) b all is = subst (Stands g) (some_is is) (wired g (c ++ a) (AreBelow-append g c a all.1.0 all.0))
+made_joined g (a ∷ c ∷ []) b all is = subst (Stands g) (same_Some _ _ is) (wired g (c ++ a) (AreBelow-append g c a all.1.0 all.0))
 made_joined g (a ∷ c ∷ d ∷ rows) b all is = let q : ⊥ = cc in absurd q
 
 made_choice : (g : ℕ) → 1 < g → (rows : List (List Literal)) (b : Block) → Rows g rows → built choice g rows ≡ Some b → Stands g b
@@ -127,7 +114,7 @@ made_choice g up ((c ∷ []) ∷ a ∷ d ∷ rows) b all is = go (length a == le
   where
     go : (t : Bool) → (length a == length d) ≡ t → (rest : List (List Literal)) → built (if t then Makes (λ g. record { gates = mux_gates c a d; bits = fresh_bits g (length a) }) else Lacks) g rest ≡ Some b → Stands g b
     go true e [] k =
-        subst (Stands g) (some_is k) (mux_gates-ordered a d g c all.1.0 all.1.1.0 all.0.0, subst (λ n. AreBelow (g + n) (fresh_bits g (length a))) (sym (length-mux_gates c a d (eqb-true (length a) (length d) e))) (AreBelow-fresh_bits (length a) g))
+        subst (Stands g) (same_Some _ _ k) (mux_gates-ordered a d g c all.1.0 all.1.1.0 all.0.0, subst (λ n. AreBelow (g + n) (fresh_bits g (length a))) (sym (length-mux_gates c a d (eqb-true (length a) (length d) e))) (AreBelow-fresh_bits (length a) g))
     go true e (r ∷ rest) k = let q : ⊥ = cc in absurd q
     go false e rest k = let q : ⊥ = cc in absurd q
 
@@ -179,9 +166,9 @@ operator_ordered plain.Witness g rows b up all is = let q : ⊥ = cc in absurd q
 pub op_ordered : BlocksAreOrdered
 op_ordered g (Plain o) rows b up all is = operator_ordered o g rows b up all is
 op_ordered g (Word n x) rows b up all is = made_leaf g (literal_bits n x) (below-literal g n x up) rows b all is
-op_ordered g (Extract i j) rows b up all is = made_one g (λ a. wires (extracted i j a)) (λ a h. wired g (extracted i j a) (below-take g (i + 1 - j) (drop j a) (below-drop g j a h))) rows b all is
-op_ordered g (ZeroExtend i) rows b up all is = made_one g (λ a. wires (a ++ replicate i false_literal)) (λ a h. wired g (a ++ replicate i false_literal) (AreBelow-append g a (replicate i false_literal) h (below-replicate g i false_literal up))) rows b all is
-op_ordered g (SignExtend i) rows b up all is = made_one g (λ a. wires (a ++ replicate i (sign_of a))) (λ a h. wired g (a ++ replicate i (sign_of a)) (AreBelow-append g a (replicate i (sign_of a)) h (below-replicate g i (sign_of a) (sign_of-below g a up h)))) rows b all is
+op_ordered g (Extract i j) rows b up all is = made_one g (λ a. wires (extracted i j a)) (λ a h. wired g (extracted i j a) (AreBelow-take (i + 1 - j) g (drop j a) (AreBelow-drop j g a h))) rows b all is
+op_ordered g (ZeroExtend i) rows b up all is = made_one g (λ a. wires (a ++ replicate i false_literal)) (λ a h. wired g (a ++ replicate i false_literal) (AreBelow-append g a (replicate i false_literal) h (AreBelow-replicate i g false_literal up))) rows b all is
+op_ordered g (SignExtend i) rows b up all is = made_one g (λ a. wires (a ++ replicate i (sign_of a))) (λ a h. wired g (a ++ replicate i (sign_of a)) (AreBelow-append g a (replicate i (sign_of a)) h (AreBelow-replicate i g (sign_of a) (sign_of-below g a up h)))) rows b all is
 op_ordered g (RotateLeft i) rows b up all is = made_one g (λ a. wires (rotated (i % length a) a)) (λ a h. wired g (rotated (i % length a) a) (below-rotated g (i % length a) a h)) rows b all is
 op_ordered g (RotateRight i) rows b up all is = made_one g (λ a. wires (rotated (length a - i % length a) a)) (λ a h. wired g (rotated (length a - i % length a) a) (below-rotated g (length a - i % length a) a h)) rows b all is
 op_ordered g (Repeat i) rows b up all is = made_one g (λ a. wires (repeated i a)) (λ a h. wired g (repeated i a) (below-repeated g i a h)) rows b all is

@@ -1,7 +1,7 @@
 -- Operators by their shapes: what the rank, the rows and the values of the arguments of each are.
 use Rattle.std.proofs.Common.{◌≡◌, ℕ, ◌+◌, ◌<◌, Bool, true, false, List, [], ◌∷◌, length, Some, refl, sym, ap, ◌∙◌, subst, arith}
 use Rattle.std.specs.Prelude.{if◌then◌else◌, ◌==◌, map, Result, Ok, Err}
-use Rattle.std.proofs.lemmas.Bool.{eqb-true, and_parts}
+use Rattle.std.proofs.lemmas.Bool.{eqb-true}
 use Rattle.std.proofs.lemmas.Bool.Decides.{nat_tests}
 use Rattle.cnf_base.specs.Literals.{Literal}
 use Rattle.cnf_base.specs.Clauses.{lit_true, number}
@@ -10,20 +10,18 @@ use Rattle.smt_terms.specs.declared.sort.Sort.{Sort}
 use Rattle.smt_terms.specs.declared.sort.Sort.TheVariants as sort
 use Rattle.smt_terms.specs.declared.fault.MakeFault.{MakeFault}
 use Rattle.smt_terms.specs.declared.fault.MakeFault.TheVariants.{WrongSort}
-use Rattle.smt_terms.specs.Same.{same_sort}
+use Rattle.smt_terms.specs.Same.{same_sort, sort_same}
 use Rattle.smt_terms.specs.Ranks.{ranked, one_word, two_words, one_truth, two_truths, concatenation, equality as equality_rank, choice as choice_rank, word_sort}
 use Rattle.smt_terms.specs.Values.{Value, VBool, applied, word_of, words_of, truth_of, truths_of}
 use Rattle.bit_blast.specs.Blocks.{Block, Makes, Lacks, built, one, two, two_some}
 use Rattle.bit_blast.specs.Meanings.{AreBitsOf, EachIsBits}
+use Rattle.std.proofs.lemmas.Option.{same_Some}
 
 -- the width of a word that is of the sort of another
 pub same_word : (n : ℕ) (s : Sort) → same_sort (sort.Word n) s ≡ true → s ≡ sort.Word n
 same_word n sort.Bool e = let f : ⊥ = cc in absurd f
 same_word n (sort.Word m) e = ap sort.Word (sym (eqb-true n m e))
 same_word n (sort.Array k m) e = let f : ⊥ = cc in absurd f
-
-pub some_is : {A : Type 0} {x y : A} → Some x ≡ Some y → x ≡ y
-some_is e = cc
 
 -- ---- one word
 
@@ -41,7 +39,7 @@ one_correct v g h f r means (sort.Word n ∷ []) (a ∷ rows) [] s b rank each i
 one_correct v g h f r means (sort.Word n ∷ []) (a ∷ c ∷ rows) (x ∷ xs) s b rank each is have = let q : ⊥ = cc in absurd q
 one_correct v g h f r means (sort.Word n ∷ []) (a ∷ []) (x ∷ y ∷ xs) s b rank each is have = absurd each.1
 one_correct v g h f r means (sort.Word n ∷ []) (a ∷ []) (x ∷ []) s b rank each is have =
-    let e : f a g ≡ b = some_is is in
+    let e : f a g ≡ b = same_Some _ _ is in
     let width = each.0.0 in
     let done = means a s (ap h width ∙ rank) (subst (λ c. HaveMeaning v g c.gates) (sym e) have) in
     rw each.0.1 (subst (λ n. AreBitsOf v s b.bits (r n (number v a))) width (subst (λ c. AreBitsOf v s c.bits (r (length a) (number v a))) e done))
@@ -83,7 +81,7 @@ two_of P v g h f r means (sort.Word n ∷ sort.Word m ∷ []) (a ∷ c ∷ []) (
     go false k q e is = let f : ⊥ = cc in absurd f
     go true k false e is = let f : ⊥ = cc in absurd f
     go true k true e is =
-        let same : f a c g ≡ b = some_is is in
+        let same : f a c g ≡ b = same_Some _ _ is in
         let width = each.0.0 in
         let done = means a c s first (ap (λ n. h (sort.Word n)) width ∙ k) (eqb-true (length a) (length c) e) (subst (λ z. HaveMeaning v g z.gates) (sym same) have) in
         rw (each.0.1, each.1.0.1) (subst (λ n. AreBitsOf v s b.bits (r n (number v a) (number v c))) width (subst (λ z. AreBitsOf v s z.bits (r (length a) (number v a) (number v c))) same done))
@@ -135,7 +133,7 @@ truth_correct v g f r means (sort.Bool ∷ []) (a ∷ c ∷ rows) (x ∷ xs) s b
 truth_correct v g f r means (sort.Bool ∷ []) (a ∷ []) (x ∷ y ∷ xs) s b rank each is have = absurd each.1
 truth_correct v g f r means (sort.Bool ∷ []) (a ∷ []) (x ∷ []) s b rank each is have =
     let l = each.0.0 in
-    let e : f (l ∷ []) g ≡ b = ap (λ a. f a g) (sym each.0.1) ∙ some_is is in
+    let e : f (l ∷ []) g ≡ b = ap (λ a. f a g) (sym each.0.1) ∙ same_Some _ _ is in
     let sorts : sort.Bool ≡ s = cc in
     let done = means l (subst (λ c. HaveMeaning v g c.gates) (sym e) have) in
     rw each.0.2 (subst (λ t. AreBitsOf v t b.bits (VBool (r (lit_true v l)))) sorts (subst (λ c. AreBitsOf v sort.Bool c.bits (VBool (r (lit_true v l)))) e done))
@@ -162,7 +160,7 @@ truths_correct v g f r means (sort.Bool ∷ sort.Bool ∷ []) (a ∷ c ∷ []) (
     let l = each.0.0 in
     let m = each.1.0.0 in
     let rows : built (two f) g ((l ∷ []) ∷ (m ∷ []) ∷ []) ≡ Some b = (rw (each.0.1, each.1.0.1) at is) in
-    let e : f (l ∷ []) (m ∷ []) g ≡ b = some_is rows in
+    let e : f (l ∷ []) (m ∷ []) g ≡ b = same_Some _ _ rows in
     let sorts : sort.Bool ≡ s = cc in
     let done = means l m (subst (λ c. HaveMeaning v g c.gates) (sym e) have) in
     rw (each.0.2, each.1.0.2) (subst (λ t. AreBitsOf v t b.bits (VBool (r (lit_true v l) (lit_true v m)))) sorts (subst (λ c. AreBitsOf v sort.Bool c.bits (VBool (r (lit_true v l) (lit_true v m)))) e done))
@@ -187,21 +185,6 @@ each_three v s t u (a ∷ rows) (x ∷ xs) e =
     let k = each_two v t u rows xs e.1 in
     (a, k.0, k.1, x, k.2, k.3, ap (λ r. a ∷ r) k.4, ap (λ r. x ∷ r) k.5, e.0, k.6, k.7)
 
-pub same_sort_is : (s t : Sort) → same_sort s t ≡ true → s ≡ t
-same_sort_is sort.Bool sort.Bool e = refl
-same_sort_is sort.Bool (sort.Word m) e = let f : ⊥ = cc in absurd f
-same_sort_is sort.Bool (sort.Array k m) e = let f : ⊥ = cc in absurd f
-same_sort_is (sort.Word n) sort.Bool e = let f : ⊥ = cc in absurd f
-same_sort_is (sort.Word n) (sort.Word m) e = ap sort.Word (eqb-true n m e)
-same_sort_is (sort.Word n) (sort.Array k m) e = let f : ⊥ = cc in absurd f
-same_sort_is (sort.Array n l) sort.Bool e = let f : ⊥ = cc in absurd f
-same_sort_is (sort.Array n l) (sort.Word m) e = let f : ⊥ = cc in absurd f
-same_sort_is (sort.Array n l) (sort.Array k m) e =
-    let p = and_parts (n == k) (l == m) e in
-    let en = eqb-true n k p.0 in
-    let em = eqb-true l m p.1 in
-    rw (en, em) refl
-
 -- two arguments of one sort
 pub equality_rank_is : (ss : List Sort) (s : Sort) → ranked equality_rank 0 (map Some ss) ≡ Ok s → (t : Sort) × (ss ≡ t ∷ t ∷ []) × (s ≡ sort.Bool)
 equality_rank_is [] s e = let q : ⊥ = cc in absurd q
@@ -214,7 +197,7 @@ equality_rank_is (t ∷ u ∷ w ∷ ss) s e = absurd (more (same_sort t u) e)
 equality_rank_is (t ∷ u ∷ []) s e = go (same_sort t u) refl e
   where
     go : (c : Bool) → same_sort t u ≡ c → ◌≡◌ {A = Result Sort MakeFault} (if c then Ok sort.Bool else Err (WrongSort 1)) (Ok s) → (w : Sort) × (t ∷ u ∷ [] ≡ w ∷ w ∷ []) × (s ≡ sort.Bool)
-    go true k e = let q : s ≡ sort.Bool = cc in (t, ap (λ w. t ∷ w ∷ []) (sym (same_sort_is t u k)), q)
+    go true k e = let q : s ≡ sort.Bool = cc in (t, ap (λ w. t ∷ w ∷ []) (sym (sort_same t u k)), q)
     go false k e = let q : ⊥ = cc in absurd q
 
 -- a condition and two arguments of one sort
@@ -232,7 +215,7 @@ choice_rank_is (sort.Bool ∷ t ∷ u ∷ w ∷ ss) s e = absurd (more (same_sor
 choice_rank_is (sort.Bool ∷ t ∷ u ∷ []) s e = go (same_sort t u) refl e
   where
     go : (c : Bool) → same_sort t u ≡ c → ◌≡◌ {A = Result Sort MakeFault} (if c then Ok t else Err (WrongSort 2)) (Ok s) → sort.Bool ∷ t ∷ u ∷ [] ≡ sort.Bool ∷ s ∷ s ∷ []
-    go true k e = let q : t ≡ s = cc in ap (λ w. sort.Bool ∷ t ∷ w ∷ []) (sym (same_sort_is t u k)) ∙ ap (λ w. sort.Bool ∷ w ∷ w ∷ []) q
+    go true k e = let q : t ≡ s = cc in ap (λ w. sort.Bool ∷ t ∷ w ∷ []) (sym (sort_same t u k)) ∙ ap (λ w. sort.Bool ∷ w ∷ w ∷ []) q
     go false k e = let q : ⊥ = cc in absurd q
 
 -- two words

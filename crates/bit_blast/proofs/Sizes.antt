@@ -30,7 +30,8 @@ use Rattle.bit_blast.specs.Blocks.{Block, Makes, Takes, Lacks, built, one, two, 
 use Rattle.bit_blast.specs.Meanings.{BlocksAreSmall}
 use Rattle.bit_blast.proofs.Counting.{short_of}
 use Rattle.bit_blast.proofs.Ordered.{length-each_gate}
-use Rattle.bit_blast.proofs.Shapes.{some_is, some_rows}
+use Rattle.bit_blast.proofs.Shapes.{some_rows}
+use Rattle.std.proofs.lemmas.Option.{same_Some}
 
 -- what is to be shown of a block
 abbrev pub Few : Block → Type 0
@@ -45,12 +46,12 @@ few_wires bits g = omega arith
 -- ---- shapes
 
 few_leaf : (g : ℕ) (bits : List Literal) (rows : List (List Literal)) (b : Block) → built (Makes (wires bits)) g rows ≡ Some b → Few b
-few_leaf g bits [] b is = subst Few (some_is is) (few_wires bits g)
+few_leaf g bits [] b is = subst Few (same_Some _ _ is) (few_wires bits g)
 few_leaf g bits (a ∷ rows) b is = let q : ⊥ = cc in absurd q
 
 few_one : (g : ℕ) (f : List Literal → ℕ → Block) → ((a : List Literal) → length a ≤ 128 → Few (f a g)) → (rows : List (List Literal)) (b : Block) → Short rows → built (one f) g rows ≡ Some b → Few b
 few_one g f h [] b all is = let q : ⊥ = cc in absurd q
-few_one g f h (a ∷ []) b all is = subst Few (some_is is) (h a all.0)
+few_one g f h (a ∷ []) b all is = subst Few (same_Some _ _ is) (h a all.0)
 few_one g f h (a ∷ c ∷ rows) b all is = let q : ⊥ = cc in absurd q
 
 few_two : (g : ℕ) (f : List Literal → List Literal → ℕ → Block) → ((a c : List Literal) → length a ≡ length c → length a ≤ 128 → Few (f a c g)) → (rows : List (List Literal)) (b : Block) → Short rows → built (two f) g rows ≡ Some b → Few b
@@ -59,7 +60,7 @@ few_two g f h (a ∷ []) b all is = let q : ⊥ = cc in absurd q
 few_two g f h (a ∷ c ∷ rows) b all is = go (length a == length c) refl rows is
   where
     go : (t : Bool) → (length a == length c) ≡ t → (rest : List (List Literal)) → built (if t then Makes (f a c) else Lacks) g rest ≡ Some b → Few b
-    go true e [] k = subst Few (some_is k) (h a c (eqb-true (length a) (length c) e) all.0)
+    go true e [] k = subst Few (same_Some _ _ k) (h a c (eqb-true (length a) (length c) e) all.0)
     go true e (d ∷ rest) k = let q : ⊥ = cc in absurd q
     go false e rest k = let q : ⊥ = cc in absurd q
 
@@ -69,7 +70,7 @@ few_some g f h rows b all is = few_two g f h rows b all (some_rows f g rows b is
 few_joined : (g : ℕ) (rows : List (List Literal)) (b : Block) → built (Takes λ a. Takes λ c. Makes (wires (c ++ a))) g rows ≡ Some b → Few b
 few_joined g [] b is = let q : ⊥ = cc in absurd q
 few_joined g (a ∷ []) b is = let q : ⊥ = cc in absurd q
-few_joined g (a ∷ c ∷ []) b is = subst Few (some_is is) (few_wires (c ++ a) g)
+few_joined g (a ∷ c ∷ []) b is = subst Few (same_Some _ _ is) (few_wires (c ++ a) g)
 few_joined g (a ∷ c ∷ d ∷ rows) b is = let q : ⊥ = cc in absurd q
 
 few_choice : (g : ℕ) (rows : List (List Literal)) (b : Block) → Short rows → built choice g rows ≡ Some b → Few b
@@ -83,7 +84,7 @@ few_choice g ((c ∷ []) ∷ a ∷ d ∷ rows) b all is = go (length a == length
     go : (t : Bool) → (length a == length d) ≡ t → (rest : List (List Literal)) → built (if t then Makes (λ g. record { gates = mux_gates c a d; bits = fresh_bits g (length a) }) else Lacks) g rest ≡ Some b → Few b
     go true e [] k =
         let gates = length-mux_gates c a d (eqb-true (length a) (length d) e) in
-        subst Few (some_is k) (omega (arith, gates, all.1.0))
+        subst Few (same_Some _ _ k) (omega (arith, gates, all.1.0))
     go true e (r ∷ rest) k = let q : ⊥ = cc in absurd q
     go false e rest k = let q : ⊥ = cc in absurd q
 

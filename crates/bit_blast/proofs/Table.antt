@@ -20,11 +20,12 @@ use Rattle.bit_blast.specs.declared.rows.Connective.TheVariants.{Both, Neither, 
 use Rattle.bit_blast.specs.Blocks.{Block, Makes, built, wires, by_gate, sum, difference, equality, negation, below, not_above, signed_below, signed_not_above, shift_up, shift_down, signed_shift_down, product, quotient, remainder, signed_quotient, signed_remainder, signed_modulus, literal_bits, extracted, turned_left, turned_right, repeated, operator_circuit}
 use Rattle.bit_blast.specs.Meanings.{AreBitsOf, EachIsBits, BlocksAreCorrect}
 use Rattle.bit_blast.proofs.Bitwise.{said, agreed, and_works, or_works, xor_works}
-use Rattle.bit_blast.proofs.Shapes.{some_is, one_correct, two_correct, some_correct, truth_correct, truths_correct}
+use Rattle.bit_blast.proofs.Shapes.{one_correct, two_correct, some_correct, truth_correct, truths_correct}
 use Rattle.bit_blast.proofs.Correct.{ok_is, as_truth, direct_means, nand_means, nor_means, pair_means, sum_means, difference_means}
 use Rattle.bit_blast.proofs.Wired.{literal_means, not_means, neg_means, extract_means, zero_extend_means, sign_extend_means, rotate_left_means, rotate_right_means, repeat_means}
 use Rattle.bit_blast.proofs.Arithmetic.{product_means, quotient_means, remainder_means, signed_quotient_means, signed_remainder_means, signed_modulus_means}
 use Rattle.bit_blast.proofs.Compared.{below_means, above_means, not_above_means, not_below_means, signed_below_means, signed_above_means, signed_not_above_means, signed_not_below_means, shift_up_means, shift_down_means, signed_shift_down_means, comparison_means, equality_correct, concatenation_correct, choice_correct}
+use Rattle.std.proofs.lemmas.Option.{same_Some}
 
 -- an operator without arguments
 leaf_correct : (v : ℕ → Bool) (g : ℕ) (r : Result Sort MakeFault) (bits : List Literal) (x : Value) → ((s : Sort) → r ≡ Ok s → AreBitsOf v s bits x)
@@ -34,7 +35,7 @@ leaf_correct : (v : ℕ → Bool) (g : ℕ) (r : Result Sort MakeFault) (bits : 
 leaf_correct v g r bits x means (t ∷ ss) rows xs s b rank each is = let q : ⊥ = cc in absurd q
 leaf_correct v g r bits x means [] (a ∷ rows) xs s b rank each is = absurd each
 leaf_correct v g r bits x means [] [] (y ∷ xs) s b rank each is = absurd each
-leaf_correct v g r bits x means [] [] [] s b rank each is = subst (λ (c : Block). AreBitsOf v s c.bits x) (some_is is) (means s rank)
+leaf_correct v g r bits x means [] [] [] s b rank each is = subst (λ (c : Block). AreBitsOf v s c.bits x) (same_Some _ _ is) (means s rank)
 
 and_table : (p q : Bool) → agreed true (said Both p q) ≡ (p && q)
 and_table p q = refl

@@ -1,12 +1,12 @@
 -- The numbers of rows of wires.
-use Rattle.std.proofs.Common.{◌≡◌, ℕ, zero, suc, ◌+◌, ◌-◌, ◌*◌, ◌/◌, ◌%◌, ◌^◌, ◌<◌, ◌≤◌, Bool, true, false, not, List, [], ◌∷◌, ◌++◌, length, take, drop, refl, sym, ap, ◌∙◌, arith}
+use Rattle.std.proofs.Common.{◌≡◌, ℕ, zero, suc, ◌+◌, ◌-◌, ◌*◌, ◌/◌, ◌%◌, ◌^◌, ◌<◌, ◌≤◌, Bool, true, false, not, List, ◌++◌, length, take, drop, refl, ap, ◌∙◌, arith}
 use Rattle.std.specs.Prelude.{if◌then◌else◌, ◌==◌, replicate}
 use Rattle.std.proofs.lemmas.List.{length-append, length-drop, length-take-le, length-replicate}
-use Rattle.std.proofs.Math.Nat.{pow-suc, div-div-eq-div-mul, zero-div, mod-lt}
+use Rattle.std.proofs.Math.Nat.{pow-suc, mod-lt}
 use Rattle.std.proofs.lemmas.Nat.{pow-add, pow_pos}
 use Rattle.cnf_base.specs.Literals.{Literal, true_literal, false_literal}
 use Rattle.cnf_base.specs.Clauses.{lit_true, number, bit}
-use Rattle.cnf_base.proofs.Numbers.{bit-parity, number-append, number-take}
+use Rattle.cnf_base.proofs.Numbers.{bit-parity, number-append, number-take, number-drop}
 use Rattle.smt_words.specs.Words.{extract_of, sign_extend_of, rotate_left_of, rotate_right_of, repeat_of}
 use Rattle.circ_plain.specs.Signs.{sign_of}
 use Rattle.circ_plain.proofs.Bits.{false_is_false, number-replicate_false, number-replicate_true}
@@ -31,22 +31,6 @@ literal_number v (suc n) x one lt =
     omega (arith, literal_number v n (x / 2) one half, low)
 
 -- ---- a row cut at a place
-
-half_of : (p : Bool) (n : ℕ) → (bit p + 2 * n) / 2 ≡ n
-half_of true n = omega arith
-half_of false n = omega arith
-
-twice : (n : ℕ) → 2 * 2 ^ n ≡ 2 ^ suc n
-twice n = omega (arith, pow-suc 2 n)
-
-pub number-drop : (v : ℕ → Bool) (n : ℕ) (a : List Literal) → number v (drop n a) ≡ number v a / 2 ^ n
-number-drop v zero a = omega arith
-number-drop v (suc n) [] = sym (zero-div (2 ^ suc n))
-number-drop v (suc n) (l ∷ a) =
-    number-drop v n a
-    ∙ ap (λ m. m / 2 ^ n) (sym (half_of (lit_true v l) (number v a)))
-    ∙ div-div-eq-div-mul (bit (lit_true v l) + 2 * number v a) 2 (2 ^ n)
-    ∙ ap (λ m. (bit (lit_true v l) + 2 * number v a) / m) (twice n)
 
 pub extract_number : (v : ℕ → Bool) (i j : ℕ) (a : List Literal) → j ≤ i → number v (extracted i j a) ≡ extract_of i j (number v a)
 extract_number v i j a le =

@@ -22,11 +22,7 @@ use Rattle.smt_terms.specs.declared.operator.Operator.TheVariants as plain
 use Rattle.smt_terms.specs.declared.node.Op.{Op}
 use Rattle.smt_terms.specs.declared.node.Op.TheVariants.{Plain, Word, Extract, ZeroExtend, SignExtend, RotateLeft, RotateRight, Repeat, Constant, Apply, Param}
 use Rattle.smt_terms.specs.declared.node.Node.{Node}
-
--- the gates of a term's circuit, and the bits of the term
-pub record Block : Type 0 where
-  pub gates : List GateKind
-  pub bits : List Literal
+pub use Rattle.circ_muldiv.specs.Signed.{Block}
 
 -- What an operator makes, from the next variable on, of the bits of its arguments, which it takes one after the other.
 -- It lacks a circuit where its term is a leaf, or where the arguments are no bits that it takes.

@@ -29,11 +29,6 @@ use Rattle.smt_eval.specs.Evaluated.{held_value, is_table, holds_array, kind_of,
 
 -- ---- lists
 
-pub all_at : {X : Type 0} (P : X → Type 0) (xs : List X) → AllByRecursion P xs → (k : ℕ) (d : X) → k < length xs → P (get_or xs k d)
-all_at P [] h k d lt = absurd (omega arith)
-all_at P (x ∷ xs) h zero d lt = h.0
-all_at P (x ∷ xs) h (suc k) d lt = all_at P xs h.1 k d (omega arith)
-
 pub all_map_at : {X Y : Type 0} (P : Y → Type 0) (f : X → Y) (xs : List X) → AllByRecursion P (map f xs) → (k : ℕ) (d : X) → k < length xs → P (f (get_or xs k d))
 all_map_at P f [] h k d lt = absurd (omega arith)
 all_map_at P f (x ∷ xs) h zero d lt = h.0

@@ -2,7 +2,7 @@
 use Rattle.std.proofs.Common.{◌≡◌, ◌==◌, ℕ, zero, suc, ◌+◌, ◌-◌, ◌<◌, ◌≤◌, Bool, true, false, List, [], ◌∷◌, ◌++◌, length, map, get_or, take, Option, Some, None, refl, sym, ap, ◌∙◌, subst, inl, inr, ⊎_elim, arith, length-append}
 use Rattle.std.specs.Prelude.{◌⊎◌, cond, All, AllPairs, Contains, IsSome, is_some, is_ok}
 use Rattle.std.specs.List.{AllByRecursion}
-use Rattle.std.proofs.lemmas.List.{get_or_append_left, map-append, take_more}
+use Rattle.std.proofs.lemmas.List.{get_or_append_left, map-append, take_more, get_or_default}
 use Rattle.std.proofs.Math.Seq.{get_or-append_seam}
 use Rattle.std.proofs.lemmas.Bool.{cases_lt, eqb-true, eq-eqb}
 use Rattle.smt_terms.specs.declared.node.Node.{Node}
@@ -31,11 +31,6 @@ few reached n falling held (suc k) lt = omega (arith, few reached n falling held
 pub fits : (reached : List ℕ) (n done : ℕ) → AllPairs (λ t u. u < t) reached → All (λ t. t < n) reached → done < length reached → done < n
 fits reached n done falling held lt = omega (arith, few reached n falling held done lt)
 
-same_at : (xs : List ℕ) (k c d : ℕ) → k < length xs → get_or xs k c ≡ get_or xs k d
-same_at [] k c d lt = absurd (omega (arith, lt))
-same_at (x ∷ xs) zero c d lt = refl
-same_at (x ∷ xs) (suc k) c d lt = same_at xs k c d (omega (arith, lt))
-
 -- what stands no later is no lower
 not_below : (xs : List ℕ) (j k d t : ℕ) → AllPairs (λ t u. u < t) xs → j ≤ k → k < length xs → t ≡ get_or xs k d → t ≤ get_or xs j d
 not_below xs j k d t falling le lt at =
@@ -56,7 +51,7 @@ arguments_found M nodes asked reached values places done t args r h lt at are ea
     ⊎_elim
     (λ (later : length reached - 1 - done < c.0). subst (λ x. IsSome (places x)) c.2 (h.found c.0 a c.1 (omega (arith, later, lt))))
     (λ (no : c.0 ≤ length reached - 1 - done).
-    (let own : t ≤ get_or reached c.0 a = not_below reached c.0 (length reached - 1 - done) a t r.falling no (omega (arith, lt)) (at ∙ same_at reached (length reached - 1 - done) t a (omega (arith, lt))) in
+    (let own : t ≤ get_or reached c.0 a = not_below reached c.0 (length reached - 1 - done) a t r.falling no (omega (arith, lt)) (at ∙ get_or_default reached (length reached - 1 - done) t a (omega (arith, lt))) in
     absurd (omega (arith, own, c.2, before))))
     (cases_lt (length reached - 1 - done) c.0)
 
@@ -167,7 +162,7 @@ computing_more M nodes reached values more places new done t v h lt at plain mea
     found_by k d within le false other (inr ge) = ap is_some (sets (get_or reached k d) ∙ ap (λ b. cond b (Some done) (places (get_or reached k d))) other) ∙ h.found k d within ge
     found_by k d within le false other (inl less) =
         let place : k ≡ length reached - 1 - done = omega (arith, within, le, less) in
-        let own : t ≡ get_or reached k d = at ∙ same_at reached (length reached - 1 - done) t d (omega (arith, lt)) ∙ ap (λ i. get_or reached i d) (sym place) in
+        let own : t ≡ get_or reached k d = at ∙ get_or_default reached (length reached - 1 - done) t d (omega (arith, lt)) ∙ ap (λ i. get_or reached i d) (sym place) in
         let q : (t == get_or reached k d) ≡ true = eq-eqb t (get_or reached k d) own in
         let f : ⊥ = cc in absurd f
 
@@ -224,4 +219,4 @@ asked_more M nodes asked kept values more places k p v terms within h are lt at 
 -- ---- what the code reads
 
 pub index_is : (xs : List ℕ) (n done t d : ℕ) → n ≡ length xs → done < length xs → t ≡ get_or xs (n - 1 - done) d → t ≡ get_or xs (length xs - 1 - done) t
-index_is xs n done t d e lt at = at ∙ ap (λ k. get_or xs (k - 1 - done) d) e ∙ same_at xs (length xs - 1 - done) d t (omega (arith, lt))
+index_is xs n done t d e lt at = at ∙ ap (λ k. get_or xs (k - 1 - done) d) e ∙ get_or_default xs (length xs - 1 - done) d t (omega (arith, lt))

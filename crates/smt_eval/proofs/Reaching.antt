@@ -2,7 +2,7 @@
 use Rattle.std.proofs.Common.{◌≡◌, ◌==◌, ℕ, zero, suc, ◌<◌, ◌≤◌, Bool, true, false, List, [], ◌∷◌, ◌++◌, length, get_or, refl, sym, ap, ◌∙◌, subst, inl, inr, ⊎_elim, arith}
 use Rattle.std.specs.Prelude.{◌⊎◌, ◌||◌, cond, All, Contains}
 use Rattle.std.specs.List.{list_any}
-use Rattle.std.proofs.lemmas.Bool.{eqb-true, eq-eqb}
+use Rattle.std.proofs.lemmas.Bool.{eqb-true, eq-eqb, or_cases, or_left, or_right}
 use Rattle.std.proofs.lemmas.List.Elements.{All-push, All-weaker, Contains-append_left, Contains-push}
 use Rattle.std.proofs.lemmas.List.Quantifiers.{all_pairs_push}
 use Rattle.std.specs.BTreeSet.{BTreeSet, contains, Updates, IsUpperBound}
@@ -19,23 +19,11 @@ use Rattle.smt_eval.specs.Asked.{IsReached, IsFound, IsReaching}
 abbrev Adds : (ℕ → Bool) → (ℕ → Bool) → List ℕ → Type 0
 Adds old new terms = (t : ℕ) → new t ≡ (old t || list_any (λ a. a == t) terms)
 
-either : (a b : Bool) → (a || b) ≡ true → (a ≡ true) ⊎ (b ≡ true)
-either true b h = inl refl
-either false b h = inr h
-
-left : (a b : Bool) → a ≡ true → (a || b) ≡ true
-left true b h = refl
-left false b h = let q : ⊥ = cc in absurd q
-
-right : (a b : Bool) → b ≡ true → (a || b) ≡ true
-right true b h = refl
-right false b h = h
-
 -- one of the terms
 any_at : (terms : List ℕ) (k d : ℕ) → k < length terms → list_any (λ a. a == get_or terms k d) terms ≡ true
 any_at [] k d lt = absurd (omega arith)
-any_at (x ∷ terms) zero d lt = left (x == x) (list_any (λ a. a == x) terms) (eq-eqb x x refl)
-any_at (x ∷ terms) (suc k) d lt = right (x == get_or terms k d) _ (any_at terms k d (omega (arith, lt)))
+any_at (x ∷ terms) zero d lt = or_left (x == x) (list_any (λ a. a == x) terms) (eq-eqb x x refl)
+any_at (x ∷ terms) (suc k) d lt = or_right (x == get_or terms k d) _ (any_at terms k d (omega (arith, lt)))
 
 any_of : (terms : List ℕ) (t n : ℕ) → All (λ a. a < n) terms → list_any (λ a. a == t) terms ≡ true → t < n
 any_of [] t n all h = let q : ⊥ = cc in absurd q
@@ -43,7 +31,7 @@ any_of (x ∷ terms) t n all h =
     ⊎_elim
     (λ (e : (x == t) ≡ true). subst (λ y. y < n) (eqb-true x t e) (all 0 0 (omega arith)))
     (λ (e : list_any (λ a. a == t) terms ≡ true). any_of terms t n (λ k d lt. all (suc k) d (omega (arith, lt))) e)
-    (either (x == t) (list_any (λ a. a == t) terms) h)
+    (or_cases (x == t) (list_any (λ a. a == t) terms) h)
 
 -- nothing is reached yet, and the terms that are asked for wait
 pub none_reached : (nodes : List Node) (asked reached : List ℕ) (old new : ℕ → Bool) (bound : ℕ) → reached ≡ [] → ((t : ℕ) → old t ≡ false) → bound ≡ length nodes → All (λ t. t < length nodes) asked → Adds old new asked → IsReaching nodes asked reached new bound
@@ -54,8 +42,8 @@ none_reached nodes asked reached old new bound none empty all held adds =
       falling = λ i j d lt within. absurd (omega (arith, within));
       from = λ k d lt. absurd (omega (arith, lt));
       held = λ k d lt. absurd (omega (arith, lt));
-      below = λ t w. subst (λ n. t < n) (sym all) (any_of asked t (length nodes) held (⊎_elim (λ (e : old t ≡ true). let n = empty t in let q : ⊥ = cc in absurd q) (λ e. e) (either (old t) (list_any (λ a. a == t) asked) (sym (adds t) ∙ w))));
-      all = λ k d lt. inr (adds (get_or asked k d) ∙ right (old (get_or asked k d)) _ (any_at asked k d lt));
+      below = λ t w. subst (λ n. t < n) (sym all) (any_of asked t (length nodes) held (⊎_elim (λ (e : old t ≡ true). let n = empty t in let q : ⊥ = cc in absurd q) (λ e. e) (or_cases (old t) (list_any (λ a. a == t) asked) (sym (adds t) ∙ w))));
+      all = λ k d lt. inr (adds (get_or asked k d) ∙ or_right (old (get_or asked k d)) _ (any_at asked k d lt));
       closed = λ k d lt. absurd (omega (arith, lt));
     })
 
@@ -69,7 +57,7 @@ one_reached nodes asked reached more args old mid new bound t h waits split rest
     (λ (c : Contains reached u). inl (Contains-append_left reached (t ∷ []) u c))
     (λ (w : old u ≡ true). ⊎_elim
     (λ (s : u ≡ t). inl (subst (Contains (reached ++ t ∷ [])) (sym s) (Contains-push reached t)))
-    (λ (m : mid u ≡ true). inr (adds u ∙ left (mid u) _ m))
+    (λ (m : mid u ≡ true). inr (adds u ∙ or_left (mid u) _ m))
     (split u w)) in
     subst (λ r. IsReaching nodes asked r new t) (sym e)
     (record {
@@ -77,12 +65,12 @@ one_reached nodes asked reached more args old mid new bound t h waits split rest
       falling = all_pairs_push (λ a b. b < a) reached t h.falling (All-weaker (λ u. bound ≤ u) (λ u. t < u) (λ u le. omega (arith, lt, le)) reached h.from);
       from = All-push (λ u. t ≤ u) reached t (All-weaker (λ u. bound ≤ u) (λ u. t ≤ u) (λ u le. omega (arith, lt, le)) reached h.from) (omega arith);
       held = All-push (λ u. u < length nodes) reached t h.held (omega (arith, lt, h.within));
-      below = λ u w. ⊎_elim (λ (m : mid u ≡ true). (rest u m).0) (λ a. any_of args u t earlier a) (either (mid u) (list_any (λ a. a == u) args) (sym (adds u) ∙ w));
+      below = λ u w. ⊎_elim (λ (m : mid u ≡ true). (rest u m).0) (λ a. any_of args u t earlier a) (or_cases (mid u) (list_any (λ a. a == u) args) (sym (adds u) ∙ w));
       all = All-weaker (IsFound reached old) (IsFound (reached ++ t ∷ []) new) keeps asked h.all;
       closed =
           All-push (λ u. All (IsFound (reached ++ t ∷ []) new) (node_at nodes u).args) reached t
           (All-weaker (λ u. All (IsFound reached old) (node_at nodes u).args) (λ u. All (IsFound (reached ++ t ∷ []) new) (node_at nodes u).args) (λ u. All-weaker (IsFound reached old) (IsFound (reached ++ t ∷ []) new) keeps (node_at nodes u).args) reached h.closed)
-          (subst (All (IsFound (reached ++ t ∷ []) new)) are (λ k d within. inr (adds (get_or args k d) ∙ right (mid (get_or args k d)) _ (any_at args k d within))));
+          (subst (All (IsFound (reached ++ t ∷ []) new)) are (λ k d within. inr (adds (get_or args k d) ∙ or_right (mid (get_or args k d)) _ (any_at args k d within))));
     })
 
 -- nothing waits any more

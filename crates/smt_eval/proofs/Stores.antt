@@ -3,7 +3,7 @@ use Rattle.std.proofs.Common.{◌≡◌, ℕ, zero, suc, ◌<◌, ◌^◌, Bool,
 use Rattle.std.specs.Prelude.{◌==◌, if◌then◌else◌}
 use Rattle.std.specs.List.{AllByRecursion, list_any}
 use Rattle.std.proofs.lemmas.Bool.{cond-true, cond-false}
-use Rattle.std.proofs.lemmas.List.{length-map}
+use Rattle.std.proofs.lemmas.List.{length-map, get_or_default}
 use Rattle.smt_words.specs.Words.{WordValue, word}
 use Rattle.smt_terms.specs.declared.operator.Operator.{Operator}
 use Rattle.smt_terms.specs.declared.node.Op.TheVariants.{Plain}
@@ -44,14 +44,9 @@ none_is_zero a b e =
 
 -- ---- arguments
 
-same_default : (xs : List Value) (i : ℕ) (d e : Value) → i < length xs → get_or xs i d ≡ get_or xs i e
-same_default [] i d e lt = absurd (omega arith)
-same_default (x ∷ xs) zero d e lt = refl
-same_default (x ∷ xs) (suc i) d e lt = same_default xs i d e (omega arith)
-
 -- what is read at a number is the value that is held for it
 pub read_is : (values : List Value) (a : ℕ) (u : Value) → a < length values → u ≡ get_or values a u → u ≡ held_value values a
-read_is values a u lt e = e ∙ same_default values a u (held.Bool false) lt
+read_is values a u lt e = e ∙ get_or_default values a u (held.Bool false) lt
 
 pub two_given : (values : List Value) (args : List ℕ) → length args ≡ 2 → AllByRecursion (λ a. a < length values) args → (u v : Value) → u ≡ get_or values (get_or args 0 0) u → v ≡ get_or values (get_or args 1 0) v → u ∷ v ∷ [] ≡ given values args
 two_given values [] n h u v p q = absurd (omega arith)

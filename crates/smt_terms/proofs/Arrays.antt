@@ -1,8 +1,9 @@
 -- Arrays that differ differ at their witness, and what a store leaves.
 use Rattle.std.proofs.Common.{◌≡◌, ℕ, zero, suc, ◌<◌, Bool, true, false, not, ◌&&◌, refl, sym, ap, ◌∙◌, subst, ⊎_elim, arith}
 use Rattle.std.specs.Prelude.{◌==◌, if◌then◌else◌}
-use Rattle.std.proofs.lemmas.Bool.{and_parts, cases_lt, eq-eqb, ne_eqb, not-false, not-true, eqb-true}
+use Rattle.std.proofs.lemmas.Bool.{and_parts, cases_lt, eq-eqb, ne_eqb, not-false, not-true, eqb-true, and_from}
 use Rattle.smt_terms.specs.Values.{all_below, first_below, changed}
+use Rattle.std.proofs.Math.Bool.{not-not}
 
 pub all_below_each : (p : ℕ → Bool) (n : ℕ) → all_below p n ≡ true → (i : ℕ) → i < n → p i ≡ true
 unfolding all_below
@@ -14,13 +15,10 @@ all_below_each p (suc n) h i lt =
     (λ le. let e : n ≡ i = omega arith in subst (λ k. p k ≡ true) e q.1)
     (cases_lt i n)
 
-both : (a b : Bool) → a ≡ true → b ≡ true → (a && b) ≡ true
-both a b p q = ap (λ x. x && b) p ∙ q
-
 pub each_all_below : (p : ℕ → Bool) (n : ℕ) → ((i : ℕ) → i < n → p i ≡ true) → all_below p n ≡ true
 unfolding all_below
 each_all_below p zero h = refl
-each_all_below p (suc n) h = both (all_below p n) (p n) (each_all_below p n (λ i lt. h i (omega arith))) (h n (omega arith))
+each_all_below p (suc n) h = and_from (all_below p n) (p n) (each_all_below p n (λ i lt. h i (omega arith))) (h n (omega arith))
 
 below_case : (p : ℕ → Bool) (n : ℕ) (b : Bool) → all_below (λ i. not (p i)) n ≡ b → (b && not (p n)) ≡ false → (b ≡ false → (first_below p n < n) × (p (first_below p n) ≡ true)) → (first_below p (suc n) < suc n) × (p (first_below p (suc n)) ≡ true)
 unfolding all_below first_below
@@ -62,10 +60,6 @@ unfolding all_below
 all_below_same p q zero h = refl
 all_below_same p q (suc n) h = rw (all_below_same p q n h, h n) refl
 
-not_not : (b : Bool) → not (not b) ≡ b
-not_not true = refl
-not_not false = refl
-
 pub changed_same : (f : ℕ → ℕ) (i x j : ℕ) → j ≡ i → changed f i x j ≡ x
 changed_same f i x j e = ap (λ b. if b then x else f j) (eq-eqb j i e)
 
@@ -76,7 +70,7 @@ changed_other f i x j ne = ap (λ b. if b then x else f j) (ne_eqb j i ne)
 pub first_differs : (n : ℕ) (f g : ℕ → ℕ) → all_below (λ i. f i == g i) n ≡ false → (let w = first_below (λ i. not (f i == g i)) n in (w < n) × (f w ≡ g w → ⊥))
 first_differs n f g h =
     let differ : ℕ → Bool = λ i. not (f i == g i) in
-    let all = all_below_same (λ i. not (differ i)) (λ i. f i == g i) n (λ i. not_not (f i == g i)) in
+    let all = all_below_same (λ i. not (differ i)) (λ i. f i == g i) n (λ i. not-not (f i == g i)) in
     let w = first_below_is differ n (all ∙ h) in
     let k = first_below differ n in
     let e = not-true (f k == g k) w.1 in

@@ -1,5 +1,5 @@
 -- What making a node brings.
-use Rattle.std.proofs.Common.{◌≡◌, ℕ, zero, suc, ◌<◌, Bool, true, false, List, [], ◌∷◌, ◌++◌, length, get_or, refl, sym, ap, ◌∙◌, subst, arith, inl, inr, ⊎_elim, length-append, Option, Some, None, Result, Ok, Err, slice_get, position}
+use Rattle.std.proofs.Common.{◌≡◌, ℕ, zero, suc, ◌<◌, Bool, true, false, List, [], ◌∷◌, length, get_or, refl, sym, ap, ◌∙◌, subst, arith, inl, inr, ⊎_elim, length-append, Option, Some, None, Result, Ok, Err, slice_get, position}
 use Rattle.std.specs.Prelude.{nat_lt, if◌then◌else◌, ◌⊎◌, ◌↔◌, find}
 use Rattle.std.specs.List.{position_or_len}
 use Rattle.std.proofs.lemmas.Bool.{ltb-true, lt-ltb, cases_lt}
@@ -13,11 +13,8 @@ use Rattle.smt_terms.specs.declared.fault.MakeFault.TheVariants.{TermLimit}
 use Rattle.smt_terms.specs.Same.{same_node, node_same, node_itself}
 use Rattle.smt_terms.specs.Nodes.{no_node, node_at}
 use Rattle.smt_terms.specs.Ranks.{and_then}
-use Rattle.smt_terms.specs.Terms.{node_sort, TermsValue, AreTerms, Agrees, numbered, make}
+use Rattle.smt_terms.specs.Terms.{node_sort, TermsValue, AreTerms, Agrees, numbered, make, with_node}
 use Rattle.smt_terms.proofs.Growing.{node_longer, node_last, list_push, different_push, signature_push}
-
-abbrev pub with_node : TermsValue → Node → TermsValue
-with_node v n = record { nodes = v.nodes ++ n ∷ []; limit = v.limit }
 
 -- the node is new, there is room for it, and it came last
 pub record IsNew (v w : TermsValue) (n : Node) (t : ℕ) : Type 0 where

@@ -1,8 +1,8 @@
 -- A node's number, over the terms that are stored.
-use Rattle.std.proofs.Common.{◌≡◌, ◌||◌, ℕ, zero, suc, ◌+◌, ◌<◌, ◌≤◌, Bool, true, false, List, [], ◌∷◌, ◌++◌, map, length, get_or, refl, ap, sym, ◌∙◌, subst, arith, rules, tests, ⊎_elim, Some, None, Result, Ok, Err, slice_get, position, length-append}
+use Rattle.std.proofs.Common.{◌≡◌, ℕ, zero, suc, ◌+◌, ◌<◌, ◌≤◌, Bool, true, false, List, [], ◌∷◌, ◌++◌, map, length, get_or, refl, ap, sym, ◌∙◌, subst, arith, rules, tests, ⊎_elim, Some, None, Result, Ok, Err, slice_get, position, length-append}
 use Rattle.std.specs.Prelude.{nat_lt, take, drop, if◌then◌else◌}
 use Rattle.std.specs.List.{list_any}
-use Rattle.std.proofs.lemmas.Bool.{cases_lt}
+use Rattle.std.proofs.lemmas.Bool.{cases_lt, or_parts, lt-ltb, le-ltb}
 use Rattle.std.proofs.lemmas.List.{length-take-le, take-append-drop}
 use Rattle.std.proofs.lemmas.Option.{slice_get_past, slice_get-get_or}
 use Rattle.smt_terms.specs.declared.sort.Sort.{Sort}
@@ -15,6 +15,7 @@ use Rattle.smt_terms.specs.Ranks.{ranked, rank_of}
 use Rattle.smt_terms.specs.Places.{sorts_at}
 use Rattle.smt_terms.specs.Terms.{sort_of, held_sort, node_sort, AreTerms, IsTermList, AreDifferent, HaveOneSignature, HaveSorts, Agrees, TermsValue, make}
 use Rattle.smt_terms.proofs.Growing.{held_is, sort_longer, sort_last, list_push, different_push, signature_push, list_shorter, different_shorter, signature_shorter}
+use Rattle.cnf_base.proofs.Lists.{slice_get-append_left, slice_get-push}
 
 abbrev pub value_of : List Node → ℕ → TermsValue
 value_of nodes limit = record { nodes = nodes; limit = limit }
@@ -61,23 +62,10 @@ module _ (v : TermsValue) (n : Node) where
 
 -- ---- at the fields of a list of terms
 
-none_or : (b c : Bool) → b || c ≡ false → (b ≡ false) × (c ≡ false)
-none_or true c e = let f : ⊥ = cc in absurd f
-none_or false c e = (refl, e)
-
 any_none : {A : Type 0} (p : A → Bool) (xs : List A) (d : A) → list_any p xs ≡ false → (k : ℕ) → k < length xs → p (get_or xs k d) ≡ false
 any_none p [] d e k lt = absurd (omega arith)
-any_none p (x ∷ xs) d e zero lt = (none_or (p x) (list_any p xs) e).0
-any_none p (x ∷ xs) d e (suc k) lt = any_none p xs d (none_or (p x) (list_any p xs) e).1 k (omega arith)
-
-slice_get_left : {A : Type 0} (xs ys : List A) (i : ℕ) → i < length xs → slice_get (xs ++ ys) i ≡ slice_get xs i
-slice_get_left [] ys i lt = absurd (omega arith)
-slice_get_left (x ∷ xs) ys zero lt = refl
-slice_get_left (x ∷ xs) ys (suc i) lt = slice_get_left xs ys i (omega arith)
-
-slice_get_last : {A : Type 0} (xs : List A) (x : A) → slice_get (xs ++ x ∷ []) (length xs) ≡ Some x
-slice_get_last [] x = refl
-slice_get_last (y ∷ xs) x = slice_get_last xs x
+any_none p (x ∷ xs) d e zero lt = (or_parts (p x) (list_any p xs) e).0
+any_none p (x ∷ xs) d e (suc k) lt = any_none p xs d (or_parts (p x) (list_any p xs) e).1 k (omega arith)
 
 slice_get_take : {A : Type 0} (n : ℕ) (xs : List A) (i : ℕ) → i < n → slice_get (take n xs) i ≡ slice_get xs i
 slice_get_take zero xs i lt = absurd (omega arith)
@@ -91,12 +79,6 @@ is_new keys n e t lt q =
     let b : same_node n (node_at keys t) ≡ true = subst (λ m. same_node n m ≡ true) (sym q) (node_itself n) in
     let f : ⊥ = cc in f
 
-is_below : (n m : ℕ) → n < m → nat_lt n m ≡ true
-is_below n m h = search (rules, tests)
-
-is_full : (n m : ℕ) → m ≤ n → nat_lt n m ≡ false
-is_full n m h = search (rules, tests)
-
 module _ (keys : List Node) (sorts : List Sort) (limit : ℕ) (now : TermsValue) (n : Node) (v : value_of keys limit ≡ now) (h : AreTerms (value_of keys limit) × HaveSorts keys sorts) where
   at_rank : {r : Result Sort MakeFault} → r ≡ ranked (rank_of n.op) 0 (sorts_at sorts n.args) → node_sort keys n ≡ r
   at_rank e = sym (e ∙ same_rank keys sorts n h.1)
@@ -108,12 +90,12 @@ module _ (keys : List Node) (sorts : List Sort) (limit : ℕ) (now : TermsValue)
   gives_held s t e p = subst (λ w. make w n ≡ Ok (t, w)) v (make_found (value_of keys limit) n s t (at_rank e) (sym p))
 
   pub gives_full : (s : Sort) → Ok s ≡ ranked (rank_of n.op) 0 (sorts_at sorts n.args) → None ≡ position (same_node n) keys → limit ≤ length sorts → make now n ≡ Err TermLimit
-  gives_full s e p l = subst (λ w. make w n ≡ Err TermLimit) v (make_full (value_of keys limit) n s (at_rank e) (sym p) (is_full (length keys) limit (rw (← h.1.count) l)))
+  gives_full s e p l = subst (λ w. make w n ≡ Err TermLimit) v (make_full (value_of keys limit) n s (at_rank e) (sym p) (le-ltb (length keys) limit (rw (← h.1.count) l)))
 
   pub gives_next : (s : Sort) (t : ℕ) (new : List Node) → t ≡ length sorts → Ok s ≡ ranked (rank_of n.op) 0 (sorts_at sorts n.args) → None ≡ position (same_node n) keys → length sorts < limit → new ≡ keys ++ n ∷ [] → make now n ≡ Ok (t, value_of new limit)
   gives_next s t new i e p l k =
       subst (λ w. make w n ≡ Ok (t, value_of new limit)) v
-      (make_new (value_of keys limit) n s (at_rank e) (sym p) (is_below (length keys) limit (rw (← h.1.count) l)) ∙ rw (i ∙ h.1.count, k) refl)
+      (make_new (value_of keys limit) n s (at_rank e) (sym p) (lt-ltb (length keys) limit (rw (← h.1.count) l)) ∙ rw (i ∙ h.1.count, k) refl)
 
   pub kept_next : (s : Sort) (new : List Node) (more : List Sort) → Ok s ≡ ranked (rank_of n.op) 0 (sorts_at sorts n.args) → list_any (λ k. same_node n k) keys ≡ false → Agrees now.nodes n.op → length sorts < limit → new ≡ keys ++ n ∷ [] → more ≡ sorts ++ s ∷ [] → AreTerms (value_of new limit) × HaveSorts new more
   kept_next s new more e p agrees l k m = rw (k, m) (terms, have) where
@@ -133,11 +115,11 @@ module _ (keys : List Node) (sorts : List Sort) (limit : ℕ) (now : TermsValue)
     have = record {
       count = length-append sorts (s ∷ []) ∙ ap (λ k. k + 1) h.1.count ∙ sym (length-append keys (n ∷ []));
       each = λ t lt. ⊎_elim
-          (λ less. slice_get_left sorts (s ∷ []) t (rw h.1.count less) ∙ h.1.each t less ∙ ap Some (sym (sort_longer keys (n ∷ []) t less)))
+          (λ less. slice_get-append_left sorts (s ∷ []) t (rw h.1.count less) ∙ h.1.each t less ∙ ap Some (sym (sort_longer keys (n ∷ []) t less)))
           (λ le.
           let q : t ≡ length keys = omega (arith, length-append keys (n ∷ [])) in
           let r : length sorts ≡ t = h.1.count ∙ sym q in
-          ap (slice_get (sorts ++ s ∷ [])) (sym r) ∙ slice_get_last sorts s ∙ ap Some (sym (ap (sort_of (keys ++ n ∷ [])) q ∙ sort_last keys n s ok)))
+          ap (slice_get (sorts ++ s ∷ [])) (sym r) ∙ slice_get-push sorts s ∙ ap Some (sym (ap (sort_of (keys ++ n ∷ [])) q ∙ sort_last keys n s ok)))
           (cases_lt t (length keys));
     }
 

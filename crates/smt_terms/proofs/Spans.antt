@@ -4,7 +4,7 @@ use Rattle.std.specs.Prelude.{◌==◌, if◌then◌else◌, take, drop, find, o
 use Rattle.std.specs.Option.{option_and_then}
 use Rattle.std.proofs.lemmas.Bool.{eq-eqb, eqb-true, eqb-false}
 use Rattle.std.proofs.lemmas.List.{take-append-le, drop-append-le, map-append, length-drop, take_all, get_or-set_same, get_or-set_other}
-use Rattle.std.proofs.lemmas.Option.{slice_get-get_or}
+use Rattle.std.proofs.lemmas.Option.{slice_get-get_or, same_Some}
 use Rattle.std.proofs.Math.Seq.{drop-append_seam}
 use Rattle.cnf_base.specs.Literals.{Literal}
 use Rattle.smt_terms.specs.declared.bits.Span.{Span}
@@ -27,14 +27,11 @@ image_found ls (s ∷ spans) t = go (s.term == t) (image_found ls spans t) where
   go true ih = refl
   go false ih = ih
 
-some_same : {A : Type 0} (a b : A) → Some a ≡ Some b → a ≡ b
-some_same a b e = cc
-
 pub found_within : (ls : List Literal) (spans : List Span) (t : ℕ) (s : Span) → AreWithin ls spans → find (is_of t) spans ≡ Some s → s.start + s.len ≤ length ls
 found_within ls [] t s h e = let f : ⊥ = cc in absurd f
 found_within ls (r ∷ spans) t s h e = go (r.term == t) (λ q. found_within ls spans t s h.1 q) e where
   go : (b : Bool) → (find (is_of t) spans ≡ Some s → s.start + s.len ≤ length ls) → (if b then Some r else find (is_of t) spans) ≡ Some s → s.start + s.len ≤ length ls
-  go true ih q = subst (λ k. k.start + k.len ≤ length ls) (some_same r s q) h.0
+  go true ih q = subst (λ k. k.start + k.len ≤ length ls) (same_Some r s q) h.0
   go false ih q = ih q
 
 -- a span is where the table says
@@ -42,7 +39,7 @@ pub found_from : (k : ℕ) (spans : List Span) (t i : ℕ) (d : Span) → place_
 found_from k [] t i d e = let f : ⊥ = cc in absurd f
 found_from k (s ∷ spans) t i d e = go (s.term == t) (λ q. found_from (suc k) spans t i d q) e where
   go : (b : Bool) → (place_from (suc k) spans t ≡ Some i → (suc k ≤ i) × (i < suc k + length spans) × (find (is_of t) spans ≡ Some (get_or spans (i - suc k) d))) → (if b then Some k else place_from (suc k) spans t) ≡ Some i → (k ≤ i) × (i < k + length (s ∷ spans)) × ((if b then Some s else find (is_of t) spans) ≡ Some (get_or (s ∷ spans) (i - k) d))
-  go true ih q = let h : k ≡ i = some_same k i q in let z : i - k ≡ 0 = omega arith in (omega arith, omega arith, rw z refl)
+  go true ih q = let h : k ≡ i = same_Some k i q in let z : i - k ≡ 0 = omega arith in (omega arith, omega arith, rw z refl)
   go false ih q = let h = ih q in let le = h.0 in let lt = h.1 in let z : i - k ≡ suc (i - suc k) = omega arith in (omega arith, omega arith, rw z h.2)
 
 pub none_from : (k : ℕ) (spans : List Span) (t : ℕ) → place_from k spans t ≡ None → find (is_of t) spans ≡ None

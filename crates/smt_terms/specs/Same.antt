@@ -1,6 +1,6 @@
 -- Nodes are the same exactly where they are equal.
 use Rattle.std.proofs.Common.{◌≡◌, ℕ, Bool, true, false, ◌&&◌, List, [], ◌∷◌, refl, ap, eq-eqb}
-use Rattle.std.proofs.lemmas.Bool.{eqb-true}
+use Rattle.std.proofs.lemmas.Bool.{eqb-true, and_parts}
 use Rattle.std.specs.Prelude.{◌==◌, ◌++◌, IsTrue, nat_eq}
 use Rattle.std.specs.Cmp.{IsEquivalence}
 use Rattle.std.specs.Cmp.Lexicographic.{pointwise}
@@ -12,7 +12,7 @@ use Rattle.smt_terms.specs.declared.node.Op.{Op}
 use Rattle.smt_terms.specs.declared.node.Op.TheVariants.{Plain, Word, Extract, ZeroExtend, SignExtend, RotateLeft, RotateRight, Repeat, Constant, Apply, Param}
 use Rattle.smt_terms.specs.declared.node.Node.{Node}
 use Rattle.smt_terms.specs.Equivalences.{equivalence_by}
-use Rattle.smt_terms.specs.Operators.{same_operator, operator_same, operator_itself, operator_input}
+use Rattle.smt_terms.specs.Operators.{same_operator, operator_same, operator_itself, code_of}
 
 abbrev pub same_sort : Sort → Sort → Bool
 same_sort sort.Bool sort.Bool = true
@@ -60,13 +60,9 @@ same_node a b = same_op a.op b.op && same_numbers a.args b.args
 
 -- ---- what is the same is equal
 
-both : (a b : Bool) → a && b ≡ true → (a ≡ true) × (b ≡ true)
-both true b e = (refl, e)
-both false b e = cc
-
 two_numbers : {A : Type 0} (f : ℕ → ℕ → A) (a b c d : ℕ) → (a == b) && (c == d) ≡ true → f a c ≡ f b d
 two_numbers f a b c d e =
-    let h = both (a == b) (c == d) e in
+    let h = and_parts (a == b) (c == d) e in
     let p : a ≡ b = eqb-true a b h.0 in
     let q : c ≡ d = eqb-true c d h.1 in cc
 
@@ -86,7 +82,7 @@ numbers_same [] [] e = refl
 numbers_same [] (y ∷ ys) e = cc
 numbers_same (x ∷ xs) [] e = cc
 numbers_same (x ∷ xs) (y ∷ ys) e =
-    let b = both (x == y) (same_numbers xs ys) e in
+    let b = and_parts (x == y) (same_numbers xs ys) e in
     let p : x ≡ y = eqb-true x y b.0 in
     let q : xs ≡ ys = numbers_same xs ys b.1 in cc
 
@@ -95,20 +91,20 @@ sorts_same [] [] e = refl
 sorts_same [] (y ∷ ys) e = cc
 sorts_same (x ∷ xs) [] e = cc
 sorts_same (x ∷ xs) (y ∷ ys) e =
-    let b = both (same_sort x y) (same_sorts xs ys) e in
+    let b = and_parts (same_sort x y) (same_sorts xs ys) e in
     let p : x ≡ y = sort_same x y b.0 in
     let q : xs ≡ ys = sorts_same xs ys b.1 in cc
 
 pub signature_same : (a b : Signature) → same_signature a b ≡ true → a ≡ b
 signature_same a b e =
-    let c = both (same_sorts a.args b.args) (same_sort a.value b.value) e in
+    let c = and_parts (same_sorts a.args b.args) (same_sort a.value b.value) e in
     let p : a.args ≡ b.args = sorts_same a.args b.args c.0 in
     let q : a.value ≡ b.value = sort_same a.value b.value c.1 in
     (λ i. record { args = p i; value = q i })
 
 with_sort : (f : ℕ → Sort → Op) (c d : ℕ) (s t : Sort) → (c == d) && same_sort s t ≡ true → f c s ≡ f d t
 with_sort f c d s t e =
-    let b = both (c == d) (same_sort s t) e in
+    let b = and_parts (c == d) (same_sort s t) e in
     let p : c ≡ d = eqb-true c d b.0 in
     let q : s ≡ t = sort_same s t b.1 in cc
 
@@ -132,7 +128,7 @@ op_same (Repeat i) _ e = cc
 op_same (Constant c s) (Constant d t) e = with_sort Constant c d s t e
 op_same (Constant c s) _ e = cc
 op_same (Apply c s) (Apply d t) e =
-    let b = both (c == d) (same_signature s t) e in
+    let b = and_parts (c == d) (same_signature s t) e in
     let p : c ≡ d = eqb-true c d b.0 in
     let q : s ≡ t = signature_same s t b.1 in cc
 op_same (Apply c s) _ e = cc
@@ -141,7 +137,7 @@ op_same (Param c s) _ e = cc
 
 pub node_same : (a b : Node) → same_node a b ≡ true → a ≡ b
 node_same a b e =
-    let c = both (same_op a.op b.op) (same_numbers a.args b.args) e in
+    let c = and_parts (same_op a.op b.op) (same_numbers a.args b.args) e in
     let p : a.op ≡ b.op = op_same a.op b.op c.0 in
     let q : a.args ≡ b.args = numbers_same a.args b.args c.1 in
     (λ i. record { op = p i; args = q i })
@@ -205,18 +201,36 @@ node_equivalence = equivalence_by same_node node_same node_itself
 abbrev pub numbers_input : List ℕ → List (List ℕ)
 numbers_input = fed.slice fed.u32
 
+-- the number that tells the kind of operator: that of an operator without an index is its own, which is below 64
+abbrev pub tag_of : Op → ℕ
+tag_of (Plain a) = code_of a
+tag_of (Word n x) = 64
+tag_of (Extract i j) = 65
+tag_of (ZeroExtend i) = 66
+tag_of (SignExtend i) = 67
+tag_of (RotateLeft i) = 68
+tag_of (RotateRight i) = 69
+tag_of (Repeat i) = 70
+tag_of (Constant d s) = 71
+tag_of (Apply d s) = 72
+tag_of (Param k s) = 73
+
+-- what its indexes add, and the declaration or place that it names
+abbrev pub indexes_input : Op → List (List ℕ)
+indexes_input (Plain a) = []
+indexes_input (Word n x) = fed.u64 n ++ fed.u128 x
+indexes_input (Extract i j) = fed.u64 i ++ fed.u64 j
+indexes_input (ZeroExtend i) = fed.u64 i
+indexes_input (SignExtend i) = fed.u64 i
+indexes_input (RotateLeft i) = fed.u64 i
+indexes_input (RotateRight i) = fed.u64 i
+indexes_input (Repeat i) = fed.u64 i
+indexes_input (Constant d s) = fed.u32 d
+indexes_input (Apply d s) = fed.u32 d
+indexes_input (Param k s) = fed.u32 k
+
 abbrev pub op_input : Op → List (List ℕ)
-op_input (Plain a) = operator_input a
-op_input (Word n x) = fed.u8 64 ++ fed.u64 n ++ fed.u128 x
-op_input (Extract i j) = fed.u8 65 ++ fed.u64 i ++ fed.u64 j
-op_input (ZeroExtend i) = fed.u8 66 ++ fed.u64 i
-op_input (SignExtend i) = fed.u8 67 ++ fed.u64 i
-op_input (RotateLeft i) = fed.u8 68 ++ fed.u64 i
-op_input (RotateRight i) = fed.u8 69 ++ fed.u64 i
-op_input (Repeat i) = fed.u8 70 ++ fed.u64 i
-op_input (Constant d s) = fed.u8 71 ++ fed.u32 d
-op_input (Apply d s) = fed.u8 72 ++ fed.u32 d
-op_input (Param k s) = fed.u8 73 ++ fed.u32 k
+op_input op = fed.u8 (tag_of op) ++ indexes_input op
 
 abbrev pub node_input : Node → List (List ℕ)
 node_input n = op_input n.op ++ numbers_input n.args

@@ -125,10 +125,14 @@ no_terms limit = record { nodes = []; limit = limit }
 abbrev pub cut_at : TermsValue → ℕ → TermsValue
 cut_at v len = record { nodes = take len v.nodes; limit = v.limit }
 
+-- the terms, and one more
+abbrev pub with_node : TermsValue → Node → TermsValue
+with_node v n = record { nodes = v.nodes ++ n ∷ []; limit = v.limit }
+
 -- an equal node keeps its number, a new one gets the next
 abbrev pub numbered : TermsValue → Node → Option ℕ → Result (ℕ × TermsValue) MakeFault
 numbered v n (Some t) = Ok (t, v)
-numbered v n None = if nat_lt (length v.nodes) v.limit then Ok (length v.nodes, record { nodes = v.nodes ++ n ∷ []; limit = v.limit }) else Err TermLimit
+numbered v n None = if nat_lt (length v.nodes) v.limit then Ok (length v.nodes, with_node v n) else Err TermLimit
 
 -- a node's number, and the terms with it, or the node's first fault
 unfoldable pub make : TermsValue → Node → Result (ℕ × TermsValue) MakeFault

@@ -2,6 +2,7 @@
 
 ghost use Rattle.std.specs.Prelude.{◌≡◌, IfOk};
 ghost use Rattle.smt_terms.specs.Nodes.{leaf};
+ghost use Rattle.smt_terms.specs.Same.{tag_of};
 
 use crate::list::Arguments;
 use crate::operator::Operator;
@@ -61,6 +62,27 @@ pub struct Node {
     pub args: Arguments,
 }
 
+impl Op {
+    // A number of its own for each kind of operator. That of an operator without an index is below 64.
+    fn tag(&self) -> u8
+        ensures { result ≡ tag_of self.now }
+    {
+        match self {
+            Op::Plain(operator) => operator.code(),
+            Op::Word { .. } => 64,
+            Op::Extract { .. } => 65,
+            Op::ZeroExtend(_) => 66,
+            Op::SignExtend(_) => 67,
+            Op::RotateLeft(_) => 68,
+            Op::RotateRight(_) => 69,
+            Op::Repeat(_) => 70,
+            Op::Constant { .. } => 71,
+            Op::Apply { .. } => 72,
+            Op::Param { .. } => 73,
+        }
+    }
+}
+
 impl PartialEq for Op {
     ghost use Rattle.smt_terms.specs.Same.{same_op, op_equivalence};
     ghost use Rattle.std.specs.Cmp.{partial_equiv_from_equiv};
@@ -112,56 +134,26 @@ impl Hash for Op {
     ghost respects_eq = { op_respects };
 
     fn hash<H: Hasher>(&self, state: &mut H) {
+        state.write_u8(self.tag());
         match self {
-            Op::Plain(operator) => operator.hash(state),
+            Op::Plain(_) => {}
             Op::Word { width, value } => {
-                state.write_u8(64);
                 width.hash(state);
                 value.hash(state);
             }
             Op::Extract { high, low } => {
-                state.write_u8(65);
                 high.hash(state);
                 low.hash(state);
             }
-            Op::ZeroExtend(by) => {
-                state.write_u8(66);
-                by.hash(state);
+            Op::ZeroExtend(index)
+            | Op::SignExtend(index)
+            | Op::RotateLeft(index)
+            | Op::RotateRight(index)
+            | Op::Repeat(index) => index.hash(state),
+            Op::Constant { declaration, .. } | Op::Apply { declaration, .. } => {
+                declaration.hash(state)
             }
-            Op::SignExtend(by) => {
-                state.write_u8(67);
-                by.hash(state);
-            }
-            Op::RotateLeft(by) => {
-                state.write_u8(68);
-                by.hash(state);
-            }
-            Op::RotateRight(by) => {
-                state.write_u8(69);
-                by.hash(state);
-            }
-            Op::Repeat(copies) => {
-                state.write_u8(70);
-                copies.hash(state);
-            }
-            Op::Constant {
-                declaration,
-                sort: _,
-            } => {
-                state.write_u8(71);
-                declaration.hash(state);
-            }
-            Op::Apply {
-                declaration,
-                signature: _,
-            } => {
-                state.write_u8(72);
-                declaration.hash(state);
-            }
-            Op::Param { place, sort: _ } => {
-                state.write_u8(73);
-                place.hash(state);
-            }
+            Op::Param { place, .. } => place.hash(state),
         }
     }
 }

@@ -2,7 +2,7 @@
 use Rattle.std.proofs.Common.{◌≡◌, ℕ, zero, suc, ◌<◌, ◌^◌, Bool, true, false, not, ◌||◌, List, [], ◌∷◌, get_or, refl, ap, sym, ◌∙◌, subst, arith, ⊎_elim, Option, Some, None}
 use Rattle.std.specs.Prelude.{◌==◌, nat_le, if◌then◌else◌, slice_get, is_some}
 use Rattle.std.specs.List.{AllByRecursion}
-use Rattle.std.proofs.lemmas.Bool.{eq-eqb, ne_eqb, cond-true, cond-false, cases_eq, cases_Bool, or_cases, or_parts, leb-true, leb-false, false_from_ne_true}
+use Rattle.std.proofs.lemmas.Bool.{eq-eqb, ne_eqb, cond-true, cond-false, cases_eq, cases_Bool, or_cases, or_parts, leb-true, leb-false, false_from_ne_true, not_from_true, not_from_false}
 use Rattle.smt_words.specs.Words.{WordValue, word}
 use Rattle.smt_terms.specs.Values.{all_below, first_below}
 use Rattle.smt_terms.proofs.Arrays.{each_all_below, all_below_each, differ_not_all}
@@ -12,25 +12,17 @@ use Rattle.smt_values.proofs.Entries.{above, absent, passed, met, at_own}
 
 -- ---- the least number that passes a test
 
-not-refl : (b : Bool) → b ≡ false → not b ≡ true
-not-refl true e = let q : ⊥ = cc in absurd q
-not-refl false e = refl
-
-not-refl' : (b : Bool) → b ≡ true → not b ≡ false
-not-refl' true e = refl
-not-refl' false e = let q : ⊥ = cc in absurd q
-
 least_go : (p : ℕ → Bool) (n k : ℕ) → p k ≡ true → ((i : ℕ) → i < k → p i ≡ false) → k < suc n → (k < n → first_below p n ≡ k) → first_below p (suc n) ≡ k
 unfolding first_below
 least_go p n k here low lt ih = ⊎_elim
     (λ last.
-    let all : all_below (λ i. not (p i)) n ≡ true = each_all_below (λ i. not (p i)) n (λ i less. not-refl (p i) (low i (omega arith))) in
+    let all : all_below (λ i. not (p i)) n ≡ true = each_all_below (λ i. not (p i)) n (λ i less. not_from_false (p i) (low i (omega arith))) in
     cond-true (all_below (λ i. not (p i)) n) (if p n then n else 0) (first_below p n) all
     ∙ cond-true (p n) n 0 (subst (λ x. p x ≡ true) last here)
     ∙ sym last)
     (λ ne.
     let less : k < n = omega arith in
-    let some : all_below (λ i. not (p i)) n ≡ false = false_from_ne_true (all_below (λ i. not (p i)) n) (λ all. let h = all_below_each (λ i. not (p i)) n all k less in let z = not-refl' (p k) here in let q : ⊥ = cc in q) in
+    let some : all_below (λ i. not (p i)) n ≡ false = false_from_ne_true (all_below (λ i. not (p i)) n) (λ all. let h = all_below_each (λ i. not (p i)) n all k less in let z = not_from_true (p k) here in let q : ⊥ = cc in q) in
     cond-false (all_below (λ i. not (p i)) n) (if p n then n else 0) (first_below p n) some ∙ ih less)
     (cases_eq k n)
 
@@ -45,7 +37,7 @@ first_among_all a b None h =
     sym (cond-true (agree a b) None (Some (word a.index (first_below (λ i. not (element_at a i == element_at b i)) (2 ^ a.index)))) all)
 first_among_all a b (Some w) h =
     let some : agree a b ≡ false = differ_not_all (2 ^ a.index) (element_at a) (element_at b) w.value h.1 h.2 in
-    let least : first_below (λ i. not (element_at a i == element_at b i)) (2 ^ a.index) ≡ w.value = first_below_least (λ i. not (element_at a i == element_at b i)) (2 ^ a.index) w.value h.1 (not-refl (element_at a w.value == element_at b w.value) (ne_eqb (element_at a w.value) (element_at b w.value) h.2)) (λ i lt. not-refl' (element_at a i == element_at b i) (eq-eqb (element_at a i) (element_at b i) (h.3 i lt refl))) in
+    let least : first_below (λ i. not (element_at a i == element_at b i)) (2 ^ a.index) ≡ w.value = first_below_least (λ i. not (element_at a i == element_at b i)) (2 ^ a.index) w.value h.1 (not_from_false (element_at a w.value == element_at b w.value) (ne_eqb (element_at a w.value) (element_at b w.value) h.2)) (λ i lt. not_from_true (element_at a i == element_at b i) (eq-eqb (element_at a i) (element_at b i) (h.3 i lt refl))) in
     let same : w ≡ word a.index (first_below (λ i. not (element_at a i == element_at b i)) (2 ^ a.index)) = (λ j. record { width = h.0 j; value = sym least j }) in
     ap Some same ∙ sym (cond-false (agree a b) None (Some (word a.index (first_below (λ i. not (element_at a i == element_at b i)) (2 ^ a.index)))) some)
 
@@ -118,7 +110,7 @@ same_defaults a b r e h = go r h where
 pub other_defaults : (a b : ArrayFields) (x y : Option WordValue) → (a.default.value ≡ b.default.value → ⊥) → IsFirstAmong (either_holds a b) a b x → IsGap a b y → IsFirstAmong (λ i. true) a b (lesser x y)
 other_defaults a b x y ne h k = all (lesser x y) (joined (either_holds a b) (λ i. not (either_holds a b i)) a b x y h (gap y k)) where
   both : (i : ℕ) → either_holds a b i ≡ true → not (either_holds a b i) ≡ true → element_at a i ≡ element_at b i
-  both i p t = let z = not-refl' (either_holds a b i) p in let q : ⊥ = cc in absurd q
+  both i p t = let z = not_from_true (either_holds a b i) p in let q : ⊥ = cc in absurd q
 
   gap : (o : Option WordValue) → IsGap a b o → IsFirstAmong (λ i. not (either_holds a b i)) a b o
   gap None g = λ i lt t. both i (g i lt) t

@@ -6,22 +6,13 @@ use Rattle.std.specs.List.Sorted.{IsNonDecreasingBy, IsPartitionPoint}
 use Rattle.std.proofs.lemmas.Bool.{eq-eqb, ne_eqb, ltb-true, ltb-false, lt-ltb, le-ltb, cases_lt, cond-true, cond-false, cases_eq}
 use Rattle.smt_terms.specs.Values.{changed}
 use Rattle.smt_values.specs.Arrays.{Entry, entry_at, element_of, AreRising, entered, matching, Splits}
+use Rattle.cnf_base.proofs.Lists.{each_get_or, each_slice_get}
 
 -- ---- each entry
-
-pub all_at : (P : Entry → Type 0) (es : List Entry) → AllByRecursion P es → (k : ℕ) (d : Entry) → k < length es → P (get_or es k d)
-all_at P [] h k d lt = absurd (omega arith)
-all_at P (e ∷ es) h zero d lt = h.0
-all_at P (e ∷ es) h (suc k) d lt = all_at P es h.1 k d (omega arith)
 
 pub all_from : (P : Entry → Type 0) (es : List Entry) → ((k : ℕ) (d : Entry) → k < length es → P (get_or es k d)) → AllByRecursion P es
 all_from P [] h = tt
 all_from P (e ∷ es) h = (h zero e (omega arith), all_from P es (λ k d lt. h (suc k) d (omega arith)))
-
-pub all_get : (P : Entry → Type 0) (es : List Entry) → AllByRecursion P es → (k : ℕ) (f : Entry) → slice_get es k ≡ Some f → P f
-all_get P [] h k f g = let q : ⊥ = cc in absurd q
-all_get P (e ∷ es) h zero f g = let q : e ≡ f = cc in subst P q h.0
-all_get P (e ∷ es) h (suc k) f g = all_get P es h.1 k f g
 
 -- ---- where an index stands
 
@@ -29,7 +20,7 @@ nondecreasing : (es : List Entry) → AreRising es → (i j : ℕ) (d : Entry) �
 nondecreasing [] r i j d le lt = absurd (omega arith)
 nondecreasing (e ∷ es) r zero zero d le lt = omega arith
 nondecreasing (e ∷ es) r zero (suc j) d le lt =
-    let h : e.0.value < (get_or es j d).0.value = all_at (λ f. e.0.value < f.0.value) es r.0 j d (omega arith) in omega arith
+    let h : e.0.value < (get_or es j d).0.value = each_get_or (λ f. e.0.value < f.0.value) es r.0 j d (omega arith) in omega arith
 nondecreasing (e ∷ es) r (suc i) zero d le lt = absurd (omega arith)
 nondecreasing (e ∷ es) r (suc i) (suc j) d le lt = nondecreasing es r.1 i j d (omega arith) (omega arith)
 
@@ -71,7 +62,7 @@ pub at_own : (es : List Entry) (k : ℕ) (f : Entry) → AreRising es → slice_
 at_own [] k f r g = let q : ⊥ = cc in absurd q
 at_own (e ∷ es) zero f r g = let q : e ≡ f = cc in met e es f.0.value (ap (λ x. x.0.value) q) ∙ g
 at_own (e ∷ es) (suc k) f r g =
-    let less : e.0.value < f.0.value = all_get (λ x. e.0.value < x.0.value) es r.0 k f g in
+    let less : e.0.value < f.0.value = each_slice_get (λ x. e.0.value < x.0.value) es k f r.0 g in
     let ne : e.0.value ≡ f.0.value → ⊥ = omega arith in
     passed e es f.0.value ne ∙ at_own es k f r.1 g
 

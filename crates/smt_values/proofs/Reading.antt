@@ -1,8 +1,7 @@
 -- Values read at sorts.
-use Rattle.std.proofs.Common.{◌≡◌, ℕ, ◌<◌, ◌%◌, ◌^◌, ◌+◌, ◌*◌, List, refl, ap, sym, ◌∙◌, subst, arith, Option, Some, None, Result, Ok, Err}
+use Rattle.std.proofs.Common.{◌≡◌, ℕ, ◌<◌, ◌%◌, ◌^◌, List, refl, ap, sym, subst, Option, Some, None, Result, Ok, Err}
 use Rattle.std.specs.Prelude.{OnOk, OnErr}
 use Rattle.std.specs.List.{AllByRecursion}
-use Rattle.std.proofs.lemmas.Nat.{mod-mul-add}
 use Rattle.smt_words.specs.Words.{WordValue, word}
 use Rattle.smt_terms.specs.declared.sort.Sort.{Sort}
 use Rattle.smt_terms.specs.declared.sort.Sort.TheVariants as sort
@@ -12,6 +11,7 @@ use Rattle.smt_values.specs.declared.value.Value.TheVariants as held
 use Rattle.smt_values.specs.Held.{meaning, Suits}
 use Rattle.smt_values.specs.Arrays.{Entry, ArrayFields, entry_at, element_of, element_at, array_value, IsArray, IsEntry, IsOfWidth, entered}
 use Rattle.smt_values.proofs.Entries.{entry_holds, entered_all, entered_rising}
+use Rattle.std.proofs.Math.Nat.{mod-eq_of_lt}
 
 -- the element of the entry of an index
 pub element_is : (a : ArrayFields) → IsArray a → (i : ℕ) (e : Entry) → Some e ≡ entry_at a.entries i → e.1 ≡ word a.default.width (element_at a i)
@@ -37,9 +37,6 @@ kept_array n d es i x new (Err e) h at with ok err = subst (λ l. IsArray (recor
 
 -- ---- reading
 
-mod_small : (x w : ℕ) → x < w → x % w ≡ x
-mod_small x w lt = let e : x ≡ 0 * w + x = omega arith in ap (λ z. z % w) e ∙ mod-mul-add 0 w x lt
-
 funext : (f g : ℕ → ℕ) → ((i : ℕ) → f i ≡ g i) → f ≡ g
 funext f g h = λ j i. h i j
 
@@ -52,7 +49,7 @@ element_below n d lt k es h i = go (entry_at es i) refl where
 -- an array of a sort is read as itself
 pub array_read : (n m : ℕ) (a : ArrayFields) → IsArray a → a.index ≡ n → a.default.width ≡ m → array_value a ≡ read_at (sort.Array n m) (array_value a)
 array_read n m a h p q =
-    let same : (i : ℕ) → element_at a i ≡ element_at a i % 2 ^ m = λ i. sym (mod_small (element_at a i) (2 ^ m) (subst (λ k. element_at a i < 2 ^ k) q (element_below a.default.width a.default.value h.default.fits a.index a.entries h.entries i))) in
+    let same : (i : ℕ) → element_at a i ≡ element_at a i % 2 ^ m = λ i. sym (mod-eq_of_lt (subst (λ k. element_at a i < 2 ^ k) q (element_below a.default.width a.default.value h.default.fits a.index a.entries h.entries i))) in
     let functions = funext (element_at a) (λ i. element_at a i % 2 ^ m) same in
     (λ j. VArray (p j) (q j) (functions j))
 

@@ -15,6 +15,7 @@ use Rattle.smt_terms.specs.Scalars.{scalar_value}
 use Rattle.smt_terms.specs.Values.{same_value}
 use Rattle.smt_values.specs.declared.table.Row.{Row}
 use Rattle.smt_values.specs.Tables.{same_values, value_for, rank, number, scalar_cmp, args_cmp, AreRowsRising, row_at, value_in, row_matching, entered_row, RowsSplit}
+use Rattle.cnf_base.proofs.Lists.{each_get_or}
 
 -- ---- the order
 
@@ -41,11 +42,6 @@ turned s t e = order.antisymm t s ∙ ap ordering_reverse e
 
 -- ---- each row
 
-pub row_all_at : (P : Row → Type 0) (rs : List Row) → AllByRecursion P rs → (k : ℕ) (d : Row) → k < length rs → P (get_or rs k d)
-row_all_at P [] h k d lt = absurd (omega arith)
-row_all_at P (r ∷ rs) h zero d lt = h.0
-row_all_at P (r ∷ rs) h (suc k) d lt = row_all_at P rs h.1 k d (omega arith)
-
 row_all_from : (P : Row → Type 0) (rs : List Row) → ((k : ℕ) (d : Row) → k < length rs → P (get_or rs k d)) → AllByRecursion P rs
 row_all_from P [] h = tt
 row_all_from P (r ∷ rs) h = (h zero r (omega arith), row_all_from P rs (λ k d lt. h (suc k) d (omega arith)))
@@ -61,7 +57,7 @@ rows_parted t [] h i j d le lt e = absurd (omega arith)
 rows_parted t (r ∷ rs) h zero zero d le lt e = e
 rows_parted t (r ∷ rs) h zero (suc j) d le lt e =
     let q = get_or rs j d in
-    let first : args_cmp r.args q.args ≡ Less = row_all_at (λ x. args_cmp r.args x.args ≡ Less) rs h.0 j d (omega arith) in
+    let first : args_cmp r.args q.args ≡ Less = each_get_or (λ x. args_cmp r.args x.args ≡ Less) rs h.0 j d (omega arith) in
     ap is_lt (order.trans r.args q.args t first (less_is (args_cmp q.args t) e))
 rows_parted t (r ∷ rs) h (suc i) zero d le lt e = absurd (omega arith)
 rows_parted t (r ∷ rs) h (suc i) (suc j) d le lt e = rows_parted t rs h.1 i j d (omega arith) (omega arith) e

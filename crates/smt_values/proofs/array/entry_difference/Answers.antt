@@ -3,9 +3,10 @@ use Rattle.std.specs.Prelude.{slice_get}
 use Rattle.std.specs.List.{AllByRecursion}
 use Rattle.std.proofs.lemmas.Option.{slice_get_read}
 use Rattle.smt_values.specs.Arrays.{Entry, IsArray, IsEntry, element_at}
-use Rattle.smt_values.proofs.Entries.{all_get, all_from}
+use Rattle.smt_values.proofs.Entries.{all_from}
 use Rattle.smt_values.proofs.Differing.{none_among, some_among}
 use Rattle.smt_values.proofs.array.entry_difference.Goals as goal
+use Rattle.cnf_base.proofs.Lists.{each_slice_get}
 
 pub returns-then-value : goal.returns-then-value
 returns-then-value c =
@@ -17,7 +18,7 @@ returns-then-value c =
     let lt : k < length c.as_slice-entry-items.result.now = omega arith in
     let here : slice_get c.as_slice-entry-items.result.now k ≡ Some c.entry-item.result = slice_get_read _ _ _ _ refl lt c.entry-item.is in
     let got : slice_get a.entries k ≡ Some c.entry-item.result = subst (λ l. slice_get l k ≡ Some c.entry-item.result) items here in
-    let own = all_get (IsEntry a.index a.default.width) a.entries array.entries k c.entry-item.result got in
+    let own = each_slice_get (IsEntry a.index a.default.width) a.entries k c.entry-item.result array.entries got in
     let before = subst (λ l. (j : ℕ) (d : Entry) → j < k → element_at b (get_or l j d).0.value ≡ (get_or l j d).1.value) items c.loop-entry.invariant in
     some_among a b k c.entry-item.result array.rising got own.0.width own.0.fits before (λ e. c.if-value.true (c.value.ensures ∙ ap (λ w. w.value) c.at.ensures ∙ e ∙ sym c.value-in-loop-entry.ensures))
 
