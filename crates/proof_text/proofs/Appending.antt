@@ -1,10 +1,9 @@
 -- What several appends make of a text.
-use Rattle.std.proofs.Common.{◌≡◌, ℕ, zero, suc, ◌+◌, ◌-◌, ◌/◌, ◌%◌, ◌^◌, ◌<◌, ◌≤◌, List, [], ◌∷◌, ◌++◌, length, take, map, refl, sym, ◌∙◌, arith, append_assoc, eqb, Option, Some, None, IfSome, IsSome, Result, Ok, Err, OnErr, length-append, ◌≢◌, codes}
+use Rattle.std.proofs.Common.{◌≡◌, ℕ, zero, suc, ◌-◌, ◌/◌, ◌%◌, ◌^◌, ◌<◌, ◌≤◌, List, [], ◌∷◌, ◌++◌, length, take, map, refl, sym, ◌∙◌, arith, append_assoc, eqb, Option, Some, None, IfSome, IsSome, Result, Ok, Err, OnErr, length-append, ◌≢◌, codes}
 use Rattle.std.proofs.lemmas.Bool.Decides.{nat_tests}
 use Rattle.std.proofs.Math.Seq.{take-append_seam}
 use Rattle.std.proofs.lemmas.List.{append-nil, take-take}
 use Rattle.std.proofs.lemmas.List.Concat.{flat_map-append}
-use Rattle.std.proofs.lemmas.Fmt.{decimal_digit, decimal_step_wide}
 use Rattle.std.specs.Option.{option_map}
 use Rattle.std.specs.Fmt.{decimal}
 use Rattle.proof_text.specs.Lines.{spaced, joined, with_number, head_words, line_text, digit_of}
@@ -12,16 +11,6 @@ use Rattle.proof_text.specs.Records.{binary}
 use Rattle.proof_text.specs.declared.line.Head.{Head}
 use Rattle.proof_text.specs.declared.line.Head.TheVariants.{Plain, Word, Extract, ZeroExtend, SignExtend, RotateLeft, RotateRight, Repeat, Apply}
 use Rattle.proof_text.specs.declared.line.Line.TheVariants.{Term, Header}
-
--- a last digit
-pub last_digit : (out mid new : List ℕ) (n : ℕ) → 10 ≤ n → n < 10 ^ 64 → mid ≡ out ++ decimal (n / 10) → new ≡ mid ++ (48 + n % 10) ∷ [] → new ≡ out ++ decimal n
-last_digit out mid new n low high e f = f ∙ rw (e, decimal_step_wide n low high) (append_assoc out (decimal (n / 10)) ((48 + n % 10) ∷ []))
-
--- the only digit
-pub one_digit : (out new : List ℕ) (n : ℕ) → n < 10 → new ≡ out ++ (48 + n % 10) ∷ [] → new ≡ out ++ decimal n
-one_digit out new n small f =
-    let same : n % 10 ≡ n = omega arith in
-    f ∙ rw (same, decimal_digit n small) refl
 
 -- the highest digit of so many
 pub binary_step : (width x : ℕ) → 0 < width → binary width x ≡ eqb ((x / 2 ^ (width - 1)) % 2) 1 ∷ binary (width - 1) x

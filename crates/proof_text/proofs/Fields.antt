@@ -1,10 +1,11 @@
 -- Words that are joined by marks, and split at them.
-use Rattle.std.proofs.Common.{◌≡◌, ℕ, ◌<◌, Bool, true, false, not, ◌&&◌, cond, List, [], ◌∷◌, ◌++◌, length, refl, ◌∙◌, arith, append-nil, eqb}
-use Rattle.std.proofs.lemmas.Bool.{eqb-true, eq-eqb}
+use Rattle.std.proofs.Common.{◌≡◌, ℕ, ◌<◌, Bool, true, false, not, cond, List, [], ◌∷◌, ◌++◌, length, refl, ◌∙◌, arith, append-nil, eqb}
+use Rattle.std.proofs.lemmas.Bool.{and_parts, eqb-true, eq-eqb, ne_eqb, not-true}
 use Rattle.std.specs.List.{flat_map, list_all, AllByRecursion}
-use Rattle.proof_text.specs.Reading.{fields, longer, is_digit}
-use Rattle.proof_text.proofs.Splitting.{in_front, some_word}
-use Rattle.proof_text.proofs.Numerals.{not_eqb, digit_range}
+use Rattle.smt_text.specs.Lexicon.{is_digit}
+use Rattle.proof_text.specs.Reading.{fields, longer}
+use Rattle.proof_text.proofs.Splitting.{in_front, nothing_in_front, some_word}
+use Rattle.proof_text.proofs.Numerals.{digit_range}
 
 -- the mark does not stand in the word
 abbrev pub is_free : ℕ → List ℕ → Bool
@@ -17,28 +18,16 @@ abbrev pub joined_by : ℕ → List (List ℕ) → List ℕ
 joined_by mark [] = []
 joined_by mark (w ∷ ws) = w ++ marked mark ws
 
-pub both : (a b : Bool) → a && b ≡ true → (a ≡ true) × (b ≡ true)
-both true b e = (refl, e)
-both false b e = absurd (let k : ⊥ = cc in k)
-
-pub not_true : (a : Bool) → not a ≡ true → a ≡ false
-not_true true e = absurd (let k : ⊥ = cc in k)
-not_true false e = refl
-
 in_front-one : (b : ℕ) (w : List ℕ) (ws : List (List ℕ)) → longer b (in_front w ws) ≡ in_front (b ∷ w) ws
 in_front-one b w [] = refl
 in_front-one b w (v ∷ vs) = refl
 
-nothing : (ws : List (List ℕ)) → 0 < length ws → ws ≡ in_front [] ws
-nothing [] h = absurd (omega arith)
-nothing (w ∷ ws) h = refl
-
 fields_word : (mark : ℕ) (w rest : List ℕ) → is_free mark w ≡ true → fields mark (w ++ rest) ≡ in_front w (fields mark rest)
 unfolding fields
-fields_word mark [] rest free = nothing (fields mark rest) (some_word mark rest)
+fields_word mark [] rest free = nothing_in_front (fields mark rest) (some_word mark rest)
 fields_word mark (b ∷ w) rest free =
-    let p = both (not (eqb b mark)) (is_free mark w) free in
-    let other : eqb b mark ≡ false = not_true (eqb b mark) p.0 in
+    let p = and_parts (not (eqb b mark)) (is_free mark w) free in
+    let other : eqb b mark ≡ false = not-true (eqb b mark) p.0 in
     rw (other, fields_word mark w rest p.1) (in_front-one b w (fields mark rest))
 
 -- what is joined splits into its words
@@ -73,7 +62,7 @@ joined_fields mark (b ∷ bs) = joined_chosen (eqb b mark) mark b bs refl (joine
 pub digits_free : (mark : ℕ) (w : List ℕ) → mark < 48 → list_all is_digit w ≡ true → is_free mark w ≡ true
 digits_free mark [] low h = refl
 digits_free mark (b ∷ w) low h =
-    let p = both (is_digit b) (list_all is_digit w) h in
+    let p = and_parts (is_digit b) (list_all is_digit w) h in
     let r = digit_range b p.0 in
-    let other : eqb b mark ≡ false = not_eqb b mark (λ e. absurd (omega arith)) in
+    let other : eqb b mark ≡ false = ne_eqb b mark (λ e. absurd (omega arith)) in
     rw (other, digits_free mark w low p.1) refl

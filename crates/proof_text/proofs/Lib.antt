@@ -2,6 +2,10 @@ pub mod Appending
 pub mod Splitting
 pub mod Numerals
 pub mod Fields
+pub mod Literals
+pub mod Heads
+pub mod LineWords
+pub mod Clear
 pub mod Exact
 pub mod Giving
 pub mod Running

@@ -1,20 +1,18 @@
 -- A numeral is read exactly: as the number that is printed so, if there is one below the limit.
 use Rattle.std.proofs.Common.{◌≡◌, ◌≢◌, ℕ, zero, suc, ◌+◌, ◌-◌, ◌*◌, ◌/◌, ◌%◌, ◌^◌, ◌<◌, ◌≤◌, Bool, true, false, cond, List, [], ◌∷◌, ◌++◌, refl, sym, ap, subst, ◌∙◌, arith, append_assoc, append-nil, eqb, lt-ltb, Option, Some, None}
-use Rattle.std.proofs.lemmas.Bool.{eqb-true, eqb-false}
+use Rattle.std.proofs.lemmas.Bool.{eqb-true, eqb-false, ne_eqb}
 use Rattle.std.proofs.lemmas.Bool.Decides.{nat_tests}
 use Rattle.std.proofs.lemmas.Fmt.{decimal_digit, decimal_step_wide, decimal_by_steps_wide}
 use Rattle.std.proofs.lemmas.List.Folds.{list_all-append}
 use Rattle.std.specs.Fmt.{decimal}
 use Rattle.std.specs.List.{list_all}
 use Rattle.std.specs.Prelude.{nat_lt}
-use Rattle.proof_text.specs.Reading.{is_digit, is_end, more_digits, number_of}
+use Rattle.smt_text.specs.Lexicon.{is_digit}
+use Rattle.proof_text.specs.Reading.{is_end, more_digits, number_of}
 
 pub taken : {A : Type 0} (p : Bool) (x : Option A) (y : A) → cond p x None ≡ Some y → (p ≡ true) × (x ≡ Some y)
 taken true x y e = (refl, e)
 taken false x y e = absurd (let k : ⊥ = cc in k)
-
-pub not_eqb : (a b : ℕ) → a ≢ b → eqb a b ≡ false
-not_eqb a b h = grind (arith, nat_tests)
 
 pub digit_ok : (d : ℕ) → d < 10 → is_digit (48 + d) ≡ true
 digit_ok d h = grind (arith, nat_tests)
@@ -59,7 +57,7 @@ one_digit : (limit n : ℕ) → n < 10 → number_of limit ((48 + n) ∷ []) ≡
 unfolding number_of more_digits
 one_digit limit zero h = refl
 one_digit limit (suc k) h =
-    let other : eqb (48 + suc k) 48 ≡ false = not_eqb (48 + suc k) 48 (λ e. let z : ⊥ = absurd (omega arith) in z) in
+    let other : eqb (48 + suc k) 48 ≡ false = ne_eqb (48 + suc k) 48 (λ e. let z : ⊥ = absurd (omega arith) in z) in
     let back : 48 + suc k - 48 ≡ suc k = omega arith in
     rw (digit_ok (suc k) h, other, back) refl
 

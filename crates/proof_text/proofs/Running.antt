@@ -1,14 +1,15 @@
 -- The lines of a whole file, read one by one.
 use Rattle.std.proofs.Common.{◌≡◌, ◌≢◌, ℕ, ◌+◌, ◌≤◌, Bool, true, false, not, ◌&&◌, List, [], ◌∷◌, ◌++◌, length, take, drop, refl, sym, ap, subst, ◌∙◌, arith, append_assoc, append-nil, length-append, eqb}
-use Rattle.std.proofs.lemmas.Bool.{eq-eqb}
+use Rattle.std.proofs.lemmas.Bool.{and_parts, eq-eqb}
 use Rattle.std.proofs.lemmas.List.{append_cancel_left, take-append-drop, take_all}
 use Rattle.std.proofs.lemmas.List.Concat.{flat_map-append}
 use Rattle.std.specs.List.{flat_map, AllByRecursion}
 use Rattle.proof_text.specs.Lines.{joined, words_of, line_text, IsLine}
-use Rattle.proof_text.specs.Held.{Held, without_feed, IsNext, IsFirstFault}
+use Rattle.smt_text.specs.Framing.{Held}
+use Rattle.proof_text.specs.Held.{without_feed, IsNext, IsFirstFault}
 use Rattle.proof_text.specs.declared.line.Line.{Line}
-use Rattle.proof_text.proofs.Fields.{both}
-use Rattle.proof_text.proofs.Exact.{line_free, line_once, all_append}
+use Rattle.proof_text.proofs.Clear.{all_append}
+use Rattle.proof_text.proofs.Exact.{line_free, line_once}
 
 -- these lines were given of the text, and the rest of it is held
 pub record Read (text : List ℕ) (h : Held) (out : List Line) : Type 0 where
@@ -43,19 +44,19 @@ read_whole text h out r e = (r.each, r.printed ∙ rw (e, append-nil (flat_map l
 first_feed : (a b x y : List ℕ) → without_feed a ≡ true → without_feed b ≡ true → a ++ 10 ∷ x ≡ b ++ 10 ∷ y → a ≡ b
 first_feed [] [] x y f g e = refl
 first_feed [] (c ∷ b) x y f g e =
-    let p = both (not (eqb c 10)) (without_feed b) g in
+    let p = and_parts (not (eqb c 10)) (without_feed b) g in
     let same : c ≡ 10 = cc in
     let feed : eqb c 10 ≡ true = eq-eqb c 10 same in
     let z : ⊥ = cc in absurd z
 first_feed (d ∷ a) [] x y f g e =
-    let p = both (not (eqb d 10)) (without_feed a) f in
+    let p = and_parts (not (eqb d 10)) (without_feed a) f in
     let same : d ≡ 10 = cc in
     let feed : eqb d 10 ≡ true = eq-eqb d 10 same in
     let z : ⊥ = cc in absurd z
 first_feed (d ∷ a) (c ∷ b) x y f g e =
     let head : d ≡ c = cc in
     let rest : a ++ 10 ∷ x ≡ b ++ 10 ∷ y = cc in
-    let same : a ≡ b = first_feed a b x y (both (not (eqb d 10)) (without_feed a) f).1 (both (not (eqb c 10)) (without_feed b) g).1 rest in
+    let same : a ≡ b = first_feed a b x y (and_parts (not (eqb d 10)) (without_feed a) f).1 (and_parts (not (eqb c 10)) (without_feed b) g).1 rest in
     ap (λ v. v ∷ a) head ∙ ap (λ v. c ∷ v) same
 
 after_line : (l : Line) (more : List ℕ) → line_text l ++ more ≡ joined (words_of l) ++ 10 ∷ more
@@ -66,7 +67,7 @@ no_line_there t rest more free none e l behind h k =
     let same : t ≡ joined (words_of l) = first_feed t (joined (words_of l)) more behind free (line_free l h) (sym e ∙ k ∙ after_line l behind) in
     none l h (ap (λ x. x ++ 10 ∷ []) same)
 
-some_bytes : (t more : List ℕ) → t ++ 10 ∷ more ≡ [] → ⊥
+pub some_bytes : (t more : List ℕ) → t ++ 10 ∷ more ≡ [] → ⊥
 some_bytes [] more e = let z : ⊥ = cc in z
 some_bytes (b ∷ t) more e = let z : ⊥ = cc in z
 

@@ -1,9 +1,9 @@
 -- Words of a line, and what was read so far before what is left.
 use Rattle.std.proofs.Common.{◌≡◌, ◌≢◌, ℕ, suc, ◌+◌, ◌-◌, ◌*◌, ◌<◌, ◌≤◌, Bool, true, false, cond, List, [], ◌∷◌, ◌++◌, length, take, drop, get_or, refl, sym, ap, ◌∙◌, arith, append_assoc, append-nil, eqb, le-ltb, lt-ltb, drop-cons, add-one, Option, Some, None}
-use Rattle.std.proofs.lemmas.Bool.{eq-eqb}
-use Rattle.std.proofs.lemmas.Bool.Decides.{nat_tests}
+use Rattle.std.proofs.lemmas.Bool.{eq-eqb, ne_eqb}
 use Rattle.std.proofs.lemmas.List.{take_more, drop_all}
-use Rattle.proof_text.specs.Reading.{fields, behind, longer, ◌>>=◌, each_of, literals_at, literal_of, is_digit, more_digits, look_up, indexed_names, indexed_at, indexed_head_at, head_at}
+use Rattle.smt_text.specs.Lexicon.{is_digit}
+use Rattle.proof_text.specs.Reading.{fields, behind, longer, ◌>>=◌, each_of, literals_at, literal_of, more_digits, look_up, indexed_names, indexed_at, indexed_head_at, head_at}
 use Rattle.proof_text.specs.Operators.{operator_names}
 use Rattle.proof_text.specs.declared.keyword.Indexed.{Indexed}
 use Rattle.std.specs.Prelude.{nat_lt}
@@ -26,9 +26,6 @@ in_front-longer : (front : List ℕ) (b : ℕ) (ws : List (List ℕ)) → in_fro
 in_front-longer front b [] = refl
 in_front-longer front b (w ∷ ws) = ap (λ x. x ∷ ws) (sym (append_assoc front (b ∷ []) w))
 
-not_eqb : (a b : ℕ) → a ≢ b → eqb a b ≡ false
-not_eqb a b h = grind (arith, nat_tests)
-
 -- there is always a word
 pub some_word : (mark : ℕ) (bytes : List ℕ) → 0 < length (fields mark bytes)
 unfolding fields
@@ -43,7 +40,8 @@ some_word mark (b ∷ bs) = chosen (eqb b mark) (fields mark bs)
     chosen true ws = omega arith
     chosen false ws = longer_some b ws
 
-nothing_in_front : (ws : List (List ℕ)) → 0 < length ws → ws ≡ in_front [] ws
+-- nothing in front of the first word
+pub nothing_in_front : (ws : List (List ℕ)) → 0 < length ws → ws ≡ in_front [] ws
 nothing_in_front [] h = absurd (omega arith)
 nothing_in_front (w ∷ ws) h = refl
 
@@ -54,7 +52,7 @@ pub word_goes_on : (mark : ℕ) (bytes : List ℕ) (n : ℕ) → n < length byte
 unfolding fields
 word_goes_on mark bytes n h k e =
     let b = get_or bytes n 0 in
-    let other : eqb b mark ≡ false = not_eqb b mark k in
+    let other : eqb b mark ≡ false = ne_eqb b mark k in
     let step : fields mark (drop n bytes) ≡ longer b (fields mark (drop (suc n) bytes)) = rw (drop-cons bytes n 0 h, other) refl in
     e ∙ rw (step, take_more bytes n 0 h, add-one) (in_front-longer (take n bytes) b (fields mark (drop (suc n) bytes)))
 
@@ -159,9 +157,6 @@ digits_end limit n digits i all h e = rw (drop_all i digits h) at e
 
 pub next_byte : (bytes : List ℕ) (i : ℕ) → i < length bytes → drop i bytes ≡ get_or bytes i 0 ∷ drop (i + 1) bytes
 next_byte bytes i h = rw add-one (drop-cons bytes i 0 h)
-
-pub no_byte : (bytes : List ℕ) (i : ℕ) → length bytes ≤ i → drop i bytes ≡ []
-no_byte bytes i h = drop_all i bytes h
 
 -- ---- heads
 

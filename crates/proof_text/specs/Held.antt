@@ -1,14 +1,10 @@
--- What a reader of a proof holds: bytes that were fed and not yet given as lines.
+-- What a reader of a proof gives of the bytes that it holds: its lines, or its first fault.
 use Rattle.std.specs.Prelude.{◌≡◌, ◌≢◌, ℕ, length, ◌+◌, ◌==◌, Bool, true, not, List, [], ◌∷◌, ◌++◌, Result, Ok, Err}
 use Rattle.std.specs.List.{list_all, flat_map, AllByRecursion}
+use Rattle.smt_text.specs.Framing.{Held}
 use Rattle.proof_text.specs.Lines.{line_text, IsLine}
 use Rattle.proof_text.specs.declared.line.Line.{Line}
 use Rattle.proof_text.specs.declared.reader.LineFault.{LineFault}
-
--- the bytes, and the number of their first line
-pub record Held : Type 0 where
-  pub line : ℕ
-  pub bytes : List ℕ
 
 -- no line feed stands there
 abbrev pub without_feed : List ℕ → Bool

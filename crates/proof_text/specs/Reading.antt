@@ -1,6 +1,7 @@
 -- How a line is read: its words between spaces, and what each of them says. None where no line prints so.
-use Rattle.std.specs.Prelude.{ℕ, ◌+◌, ◌-◌, ◌*◌, ◌^◌, Bool, true, false, ◌&&◌, ◌==◌, nat_lt, nat_le, if◌then◌else◌, List, [], ◌∷◌, codes, Option, Some, None}
+use Rattle.std.specs.Prelude.{ℕ, ◌+◌, ◌-◌, ◌*◌, ◌^◌, Bool, true, false, ◌&&◌, ◌==◌, nat_lt, if◌then◌else◌, List, [], ◌∷◌, codes, Option, Some, None}
 use Rattle.std.specs.Str.{bytes_eq}
+use Rattle.smt_text.specs.Lexicon.{is_digit}
 use Rattle.smt_terms.specs.declared.operator.Operator.{Operator}
 use Rattle.proof_text.specs.Operators.{operator_names}
 use Rattle.proof_text.specs.declared.list.WrittenLiteral.{WrittenLiteral}
@@ -49,9 +50,6 @@ look_up [] word = None
 look_up (entry ∷ entries) word = if bytes_eq word entry.0 then Some entry.1 else look_up entries word
 
 -- ---- numbers
-
-abbrev pub is_digit : ℕ → Bool
-is_digit b = nat_le 48 b && nat_le b 57
 
 -- the digits go on from a number
 unfoldable pub more_digits : ℕ → ℕ → List ℕ → Option ℕ

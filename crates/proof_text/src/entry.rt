@@ -5,12 +5,13 @@ ghost use Rattle.std.specs.Fmt.{decimal};
 ghost use Rattle.proof_text.specs.Lines.{spaced, head_words, joined, literal_text, hint_text, line_text};
 ghost use Rattle.proof_text.specs.Entries.{head_of, written_literal, written_hint, entry_line};
 
-use crate::number::push_number;
 use crate::operator::operator_name;
-use crate::write::{push_line, push_spaced, push_spaced_wide, push_with_number, whole_or_none};
+use crate::write::{push_line, push_spaced, push_spaced_wide, push_with_number};
 use cnf_base::{Clause, ClauseId, Lit};
 use proof_log::entry::{Entry, Hints};
 use smt_terms::node::{Node, Op, TermId};
+use smt_text::number::push_number;
+use smt_text::print::whole_or_none;
 use smt_text::text::Text;
 use std::alloc::AllocError;
 

@@ -4,7 +4,8 @@ ghost use Rattle.std.specs.Prelude.{◌≡◌, ◌++◌, length, take, OnOk, OnE
 ghost use Rattle.proof_text.specs.Lines.{line_text};
 ghost use Rattle.proof_text.specs.declared.line.Line.TheVariants.{Header};
 
-use crate::write::{push_with_number, whole_or_none};
+use crate::write::push_with_number;
+use smt_text::print::whole_or_none;
 use smt_text::text::Text;
 use std::alloc::AllocError;
 

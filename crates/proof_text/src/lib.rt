@@ -14,7 +14,6 @@ mod keyword;
 pub mod laws;
 pub mod line;
 pub mod list;
-pub mod number;
 pub mod operator;
 pub mod reader;
 mod reading;

@@ -5,11 +5,9 @@ ghost use Rattle.proof_text.specs.Held.{without_feed, Answers};
 
 use crate::line::Line;
 use crate::reading::line;
+use smt_text::held::HeldBytes;
 use std::alloc::{AllocError, Global};
 use std::marker::Model;
-
-/// Lines are counted below this number.
-const LINES: u64 = 1 << 63;
 
 /// A line that is no line of a proof file, or has no line feed: its number, counted from 1.
 #[derive(Clone, Copy, Debug, PartialEq, Eq)]
@@ -21,34 +19,22 @@ pub struct LineFault {
 #[derive(Drop)]
 pub struct ProofReader {
     alloc: Global,
-    /// The number of the next line.
-    line: u64,
-    buffer: Vec<u8>,
-    /// How many bytes at the front of the buffer were given.
-    given: usize,
-    /// How many bytes behind those have no line feed.
+    /// The bytes, with the number of the next line.
+    held: HeldBytes,
+    /// How many of the bytes have no line feed.
     searched: usize,
 }
 
 impl Model for ProofReader {
-    ghost use Rattle.std.specs.Prelude.{◌≡◌, ◌<◌, ◌≤◌, ◌+◌, ◌^◌, true, length, take, drop};
-    ghost use Rattle.proof_text.specs.Held.{Held, without_feed};
+    ghost use Rattle.std.specs.Prelude.{◌≡◌, ◌≤◌, true, length, take};
+    ghost use Rattle.smt_text.specs.Framing.{Held};
+    ghost use Rattle.proof_text.specs.Held.{without_feed};
 
     ghost Value = { Held };
 
-    ghost view = { λ r. record { line = r.line; bytes = drop r.given r.buffer.items } };
+    ghost view = { λ r. r.held };
 
-    ghost invariant = { λ r. (r.given + r.searched ≤ length r.buffer.items) × (r.line + length (drop r.given r.buffer.items) < 2 ^ 63) × (without_feed (take r.searched (drop r.given r.buffer.items)) ≡ true) };
-}
-
-/// Drops bytes from the front.
-fn drop_front(buffer: &mut Vec<u8>, size: usize)
-    requires { size ≤ length buffer.old.items }
-    ensures { buffer.new.items ≡ drop size buffer.old.items }
-{
-    let rest = buffer.len() - size;
-    buffer.copy_within(size.., 0);
-    buffer.truncate(rest);
+    ghost invariant = { λ r. (r.searched ≤ length r.held.bytes) × (without_feed (take r.searched r.held.bytes) ≡ true) };
 }
 
 /// How many bytes stand before the first line feed, of which the first `searched` are known to be none.
@@ -87,9 +73,7 @@ impl ProofReader {
     {
         ProofReader {
             alloc,
-            line: 1,
-            buffer: Vec::new(alloc),
-            given: 0,
+            held: HeldBytes::new(alloc),
             searched: 0,
         }
     }
@@ -100,22 +84,7 @@ impl ProofReader {
         ensures ok { OnOk result (self.new.bytes ≡ self.old.bytes ++ piece.now) }
         ensures err { OnErr result (self.new ≡ self.old) }
     {
-        let held = (self.buffer.len() - self.given) as u64;
-        if piece.len() as u64 >= LINES - (self.line + held) {
-            return Err(AllocError);
-        }
-        self.forget_given();
-        self.buffer.extend_from_slice(piece)
-    }
-
-    /// Takes what was given out of the buffer once it is half of it, so that each byte is moved at most once on average.
-    fn forget_given(&mut self)
-        ensures { self.new ≡ self.old }
-    {
-        if self.given >= self.buffer.len() - self.given {
-            drop_front(&mut self.buffer, self.given);
-            self.given = 0;
-        }
+        self.held.feed(piece)
     }
 
     /// The next line, or its fault; `None` exactly where no whole line is held.
@@ -125,14 +94,14 @@ impl ProofReader {
             (λ answer. (text : List ℕ) × IsNext self.old text self.new × Answers answer self.old.line text)) }
         ensures err { OnErr result (self.new ≡ self.old) }
     {
-        let rest = &self.buffer[self.given..];
+        let rest = self.held.bytes();
         let Some(size) = find_feed(rest, self.searched) else {
             self.searched = rest.len();
             return Ok(None);
         };
-        let answer = answer(self.alloc, self.line, &rest[..size])?;
-        self.line += 1;
-        self.given += size + 1;
+        let line = self.held.line();
+        let answer = answer(self.alloc, line, &rest[..size])?;
+        self.held.give(size + 1, line + 1);
         self.searched = 0;
         Ok(Some(answer))
     }
@@ -141,9 +110,11 @@ impl ProofReader {
     pub fn finish(&self) -> Option<LineFault>
         ensures { MatchOption result (self.now.bytes ≡ []) (λ f. (f.line ≡ self.now.line) × (self.now.bytes ≢ [])) }
     {
-        if self.given == self.buffer.len() {
+        if self.held.bytes().is_empty() {
             return None;
         }
-        Some(LineFault { line: self.line })
+        Some(LineFault {
+            line: self.held.line(),
+        })
     }
 }

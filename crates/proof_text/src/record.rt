@@ -6,10 +6,11 @@ ghost use Rattle.proof_text.specs.Lines.{digit_of, value_text, line_text};
 ghost use Rattle.proof_text.specs.declared.line.Line.TheVariants.{Unknown};
 ghost use Rattle.proof_text.specs.Records.{binary, written_value, value_lines, diary_line, AreWritten, record_lines};
 
-use crate::write::{push_line, push_spaced, push_with_number, whole_or_none};
+use crate::write::{push_line, push_spaced, push_with_number};
 use cnf_base::Pos;
 use proof_log::diary::{Diary, DiaryLine};
 use smt_terms::sort::DeclId;
+use smt_text::print::whole_or_none;
 use smt_text::text::Text;
 use smt_values::Value;
 use smt_words::Word;

@@ -2,7 +2,9 @@
 
 ghost use Rattle.std.specs.Prelude.{◌≡◌, ◌≤◌, ◌<◌, ◌^◌, ◌∷◌, [], length, IfSome, MatchOption};
 ghost use Rattle.std.specs.Option.{option_map};
-ghost use Rattle.proof_text.specs.Reading.{fields, behind, is_digit, more_digits, number_of, number_in, number_at, wide_at, only_number, exactly};
+ghost use Rattle.proof_text.specs.Reading.{fields, behind, more_digits, number_of, number_in, number_at, wide_at, only_number, exactly};
+
+use smt_text::lexicon::is_digit;
 
 /// The bytes before the first mark, and the rest from that mark on.
 pub fn split_word(mark: u8, bytes: &[u8]) -> (&[u8], &[u8])
@@ -25,12 +27,6 @@ pub fn next_word(mark: u8, rest: &[u8]) -> Option<(&[u8], &[u8])>
         [] => None,
         [_, bytes @ ..] => Some(split_word(mark, bytes)),
     }
-}
-
-fn is_digit(byte: u8) -> bool
-    ensures { result ≡ is_digit byte }
-{
-    byte >= b'0' && byte <= b'9'
 }
 
 fn more_digits(mut n: u64, digits: &[u8]) -> Option<u64>

@@ -4,25 +4,9 @@ ghost use Rattle.std.specs.Prelude.{◌≡◌, ◌++◌, ◌∷◌, [], length, 
 ghost use Rattle.std.specs.Fmt.{decimal};
 ghost use Rattle.proof_text.specs.Lines.{joined, with_number};
 
-use crate::number::{push_number, push_wide};
+use smt_text::number::{push_number, push_wide};
 use smt_text::text::Text;
 use std::alloc::AllocError;
-
-/// Gives what was written of it back where the rest of it failed.
-pub fn whole_or_none(
-    out: &mut Text,
-    before: usize,
-    written: Result<(), AllocError>,
-) -> Result<(), AllocError>
-    ensures value { result ≡ written }
-    ensures ok { OnOk result (out.new ≡ out.old) }
-    ensures err { OnErr result (out.new ≡ take before out.old) }
-{
-    if written.is_err() {
-        out.truncate(before);
-    }
-    written
-}
 
 /// Appends a space and a number.
 pub fn push_spaced(out: &mut Text, n: u64) -> Result<(), AllocError>

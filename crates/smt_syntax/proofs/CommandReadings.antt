@@ -47,7 +47,8 @@ word_kind kind.Open k x y e = cc
 word_kind kind.Close k x y e = cc
 word_kind j k x y e = cc
 
-some_signs : (e : Sexp) → 1 ≤ length (spelling e)
+-- a spelling is not empty
+pub some_signs : (e : Sexp) → 1 ≤ length (spelling e)
 some_signs (atom k x) = omega arith
 some_signs (group es) = omega arith
 
@@ -162,11 +163,12 @@ inside tokens k x es s =
     let size : length tokens - 1 - 2 ≡ length (spellings es) = omega (arith, long) in
     (record { ordered = omega (arith, long); ends = omega (arith, long) }, rw (size, s) (take-append_seam (spellings es) (close_paren ∷ [])))
 
+-- the signs of tokens are those of their lexemes
 pub signs_same : (ts : List Token) → signs_of (lexemes_of ts) ≡ signs_in ts
 signs_same [] = refl
 signs_same (t ∷ ts) = ap (λ (ls : List Sign). sign_in t ∷ ls) (signs_same ts)
 
-length-signs : (ts : List Token) → length (signs_in ts) ≡ length ts
+pub length-signs : (ts : List Token) → length (signs_in ts) ≡ length ts
 length-signs [] = refl
 length-signs (t ∷ ts) = ap suc (length-signs ts)
 

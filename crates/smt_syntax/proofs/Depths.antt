@@ -47,7 +47,7 @@ counted_sign most depth open_paren ls h = omega (arith, at_least (depth + 1) ls)
 counted_sign most depth close_paren ls h = omega arith
 counted_sign most depth (word k x) ls h = omega arith
 
-open_small : (depth i : ℕ) (l : Sign) → depth ≤ i → open_after depth l ≤ i + 1
+pub open_small : (depth i : ℕ) (l : Sign) → depth ≤ i → open_after depth l ≤ i + 1
 open_small depth i open_paren h = omega arith
 open_small depth i close_paren h = omega arith
 open_small depth i (word k x) h = omega arith

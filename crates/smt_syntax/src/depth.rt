@@ -10,7 +10,7 @@ use smt_text::token::{Token, TokenKind};
 const MOST_DEPTH: usize = 1_000_000;
 
 /// How many parentheses are open behind a token.
-fn open_after(depth: usize, kind: TokenKind) -> usize
+pub fn open_after(depth: usize, kind: TokenKind) -> usize
     requires { depth + 1 < 2 ^ 64 }
     ensures { (text : List ℕ) → result ≡ open_after depth (sign_by kind text) }
 {

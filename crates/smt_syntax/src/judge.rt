@@ -6,7 +6,8 @@ ghost use Rattle.smt_syntax.specs.Walk.{context_in, run};
 ghost use Rattle.smt_syntax.specs.ShapeReader.{shape_reader};
 ghost use Rattle.smt_syntax.specs.Judging.{handed, handed_by, opened_by, step_of, stack_of, Steps};
 
-use crate::shape::{Frame, Part, Want, closed, context, opened, taken, word_part};
+use crate::shape::{Frame, Part, Want, closed, context, opened, taken};
+use crate::words::word_part;
 use smt_text::token::{Token, TokenKind};
 use std::alloc::{AllocError, Global};
 

@@ -16,3 +16,4 @@ pub mod shape;
 pub mod span;
 #[cfg(test)]
 mod tests;
+pub mod words;

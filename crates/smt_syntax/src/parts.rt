@@ -1,8 +1,8 @@
 // The parts of a list.
 
-ghost use Rattle.std.specs.Prelude.{◌≡◌, ◌+◌, ◌<◌, ◌≤◌, ◌^◌, ◌++◌, ℕ, List, length, Some, option_to_list, IfOk, OnOk};
+ghost use Rattle.std.specs.Prelude.{◌≡◌, ◌+◌, ◌<◌, ◌≤◌, ◌^◌, ◌++◌, ℕ, List, length, Some, None, option_to_list, IfOk, OnOk};
 ghost use Rattle.smt_syntax.specs.Sexps.{signs_in, sign_by, Sexps, spellings};
-ghost use Rattle.smt_syntax.specs.Spans.{cut, cut_step, spans_from, tokens_at, IsWithin, AllStand};
+ghost use Rattle.smt_syntax.specs.Spans.{span, cut, cut_step, spans_from, tokens_at, IsWithin, AllStand};
 
 use crate::span::Span;
 use smt_text::token::{Token, TokenKind};
@@ -33,10 +33,26 @@ pub struct CutStep {
     depth: usize,
 }
 
-fn span(start: usize, end: usize) -> Option<Span>
-    ensures { result ≡ Some (record { start = start; end = end }) }
+/// No part ends; so many parentheses are open then.
+fn goes_on(begun: usize, depth: usize) -> CutStep
+    ensures { result ≡ record { found = None; begun = begun; depth = depth } }
 {
-    Some(Span { start, end })
+    CutStep {
+        found: None,
+        begun,
+        depth,
+    }
+}
+
+/// This part ends, and no parenthesis is open.
+fn ends(start: usize, end: usize, begun: usize) -> CutStep
+    ensures { result ≡ record { found = Some (span start end); begun = begun; depth = 0 } }
+{
+    CutStep {
+        found: Some(Span { start, end }),
+        begun,
+        depth: 0,
+    }
 }
 
 fn cut_step(place: usize, begun: usize, depth: usize, kind: TokenKind) -> CutStep
@@ -47,47 +63,23 @@ fn cut_step(place: usize, begun: usize, depth: usize, kind: TokenKind) -> CutSte
     match kind {
         TokenKind::Open => {
             if depth == 0 {
-                CutStep {
-                    found: None,
-                    begun: place,
-                    depth: 1,
-                }
+                goes_on(place, 1)
             } else {
-                CutStep {
-                    found: None,
-                    begun,
-                    depth: depth + 1,
-                }
+                goes_on(begun, depth + 1)
             }
         }
         TokenKind::Close => {
             if depth == 1 {
-                CutStep {
-                    found: span(begun, place + 1),
-                    begun,
-                    depth: 0,
-                }
+                ends(begun, place + 1, begun)
             } else {
-                CutStep {
-                    found: None,
-                    begun,
-                    depth: depth.saturating_sub(1),
-                }
+                goes_on(begun, depth.saturating_sub(1))
             }
         }
         _ => {
             if depth == 0 {
-                CutStep {
-                    found: span(place, place + 1),
-                    begun,
-                    depth: 0,
-                }
+                ends(place, place + 1, begun)
             } else {
-                CutStep {
-                    found: None,
-                    begun,
-                    depth,
-                }
+                goes_on(begun, depth)
             }
         }
     }

@@ -4,7 +4,7 @@ use Rattle.std.specs.Option.{option_map, option_and_then}
 use Rattle.std.proofs.lemmas.List.{length-drop, take-append-le, drop-append-le, length-take-le}
 use Rattle.std.proofs.lemmas.List.Sums.{count_by-le-length}
 use Rattle.smt_text.specs.Chunks.{begins, comment_after, beginning, closes, inside_after, ends_stray, first_cut, whole_chunk}
-use Rattle.smt_text.specs.Framing.{Held, cut_off, first_chunk, lines_in}
+use Rattle.smt_text.specs.Framing.{Held, and_more, cut_off, first_chunk, lines_in}
 use Rattle.smt_text.specs.Script.{Begins, AreChunks}
 use Rattle.smt_text.specs.declared.place.Place.TheVariants.{Plain}
 use Rattle.smt_text.specs.declared.chunk.ChunkKind.TheVariants.{Stray}
@@ -75,10 +75,6 @@ first_cut_lies bs cut e =
     let l = whole_lies b.0 (drop b.0 bs) cut b.2 in
     (l.some, let w : cut.size ≤ length bs - b.0 = rw length-drop at l.within in omega (arith, l.before_is))
 
--- more bytes behind what is held
-abbrev pub and_more : Held → List ℕ → Held
-and_more h more = record { line = h.line; bytes = h.bytes ++ more }
-
 mapped : {A B : Type 0} (f : A → B) (o : Option A) (y : B) → option_map f o ≡ Some y → (x : A) × (o ≡ Some x) × (f x ≡ y)
 mapped f None y e = absurd (let c : ⊥ = cc in c)
 mapped f (Some x) y e = (x, refl, let k : f x ≡ y = cc in k)
@@ -106,7 +102,7 @@ Begins-push h [] mid c rest b e = (rest, rw b at e, refl)
 Begins-push h (d ∷ cs) mid c rest b e = (b.0, b.1, Begins-push b.0 cs mid c rest b.2 e)
 
 -- a text is cut in one way
-one_cut : (h : Held) (a b : List Chunk) (x y : Held) → Begins h a x → first_chunk x ≡ None → Begins h b y → first_chunk y ≡ None → (a ≡ b) × (x ≡ y)
+pub one_cut : (h : Held) (a b : List Chunk) (x y : Held) → Begins h a x → first_chunk x ≡ None → Begins h b y → first_chunk y ≡ None → (a ≡ b) × (x ≡ y)
 one_cut h [] [] x y p e q f = (refl, p ∙ sym q)
 one_cut h [] (c ∷ b) x y p e q f = absurd (let k : None ≡ Some (c, q.0) = sym (rw p at e) ∙ q.1 in let z : ⊥ = cc in z)
 one_cut h (c ∷ a) [] x y p e q f = absurd (let k : None ≡ Some (c, p.0) = sym (rw q at f) ∙ p.1 in let z : ⊥ = cc in z)

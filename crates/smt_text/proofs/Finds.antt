@@ -1,15 +1,16 @@
 -- The search for the first chunk goes on where it was left.
-use Rattle.std.proofs.Common.{◌≡◌, ◌≢◌, ℕ, ◌+◌, ◌-◌, ◌<◌, ◌≤◌, Bool, false, List, [], ◌∷◌, length, get_or, take, drop, refl, ap, ◌∙◌, arith, rules, tests, eqb, Some, None}
+use Rattle.std.proofs.Common.{◌≡◌, ◌≢◌, ℕ, ◌+◌, ◌-◌, ◌<◌, ◌≤◌, Bool, false, List, [], ◌∷◌, length, get_or, take, drop, refl, ap, ◌∙◌, arith, Some, None}
 use Rattle.std.specs.Option.{option_map}
+use Rattle.std.proofs.lemmas.Bool.{ne_eqb}
 use Rattle.std.proofs.lemmas.List.{drop_more, drop-drop, length-drop, take_all}
-use Rattle.smt_text.specs.Search.{stop_at, state_after, Passes}
+use Rattle.smt_text.specs.Search.{state_after, Passes}
 use Rattle.smt_text.specs.Chunks.{begins, comment_after, beginning, closes, inside_after, closing, ends_stray, stray_end, Inside, first_cut, whole_chunk}
 use Rattle.smt_text.specs.Framing.{Searched}
 use Rattle.smt_text.specs.declared.place.Place.{Place}
 use Rattle.smt_text.specs.declared.place.Place.TheVariants.{Plain}
 use Rattle.smt_text.specs.declared.chunk.ChunkKind.TheVariants.{Balanced, Stray}
 use Rattle.smt_text.specs.declared.find.Progress.TheVariants as progress
-use Rattle.smt_text.proofs.Searches.{stops_further, passes_further, stop_at-within}
+use Rattle.smt_text.proofs.Searches.{nothing_passed, stops_further, passes_further, stop_at-within}
 
 first_cut-at : (bytes : List ℕ) (start : ℕ) → beginning false bytes ≡ Some start → first_cut bytes ≡ whole_chunk start (get_or bytes start 0 ∷ drop (start + 1) bytes)
 unfolding first_cut
@@ -35,19 +36,8 @@ unfolding state_after
 stays [] = refl
 stays (b ∷ bs) = stays bs
 
-nothing_passed : Passes closes inside_after (Plain, 0) [] (Plain, 0)
-unfolding stop_at state_after
-nothing_passed = record { stop = refl; state = refl }
-
-stray_nothing : Passes ends_stray (λ s _. s) false [] false
-unfolding stop_at state_after
-stray_nothing = record { stop = refl; state = refl }
-
 nothing_yet : (start : ℕ) (bytes : List ℕ) → take (start + 1 - (start + 1)) (drop (start + 1) bytes) ≡ []
 nothing_yet start bytes = ap (λ k. take k (drop (start + 1) bytes)) (let z : start + 1 - (start + 1) ≡ 0 = omega arith in z)
-
-other_byte : (b k : ℕ) → b ≢ k → eqb b k ≡ false
-other_byte b k h = search (rules, tests)
 
 pub command_found : (bytes : List ℕ) (start searched n : ℕ) (place : Place) (depth : ℕ) → searched ≤ length bytes → Searched bytes searched (progress.Command start place depth) → closing (place, depth) (drop searched bytes) ≡ Some n → first_cut bytes ≡ Some (record { kind = Balanced; before = start; size = searched + n + 1 - start })
 command_found bytes start searched n place depth h s e =
@@ -67,7 +57,7 @@ command_passed bytes start searched place depth t h s p k =
     )
 
 stray_chunk : (start b : ℕ) (bs : List ℕ) → b ≢ 40 → b ≢ 41 → whole_chunk start (b ∷ bs) ≡ option_map (λ n. record { kind = Stray; before = start; size = n + 1 }) (stray_end bs)
-stray_chunk start b bs e f = rw (other_byte b 40 e, other_byte b 41 f) refl
+stray_chunk start b bs e f = rw (ne_eqb b 40 e, ne_eqb b 41 f) refl
 
 pub stray_found : (bytes : List ℕ) (start searched n : ℕ) → searched ≤ length bytes → Searched bytes searched (progress.Text start) → stray_end (drop searched bytes) ≡ Some n → first_cut bytes ≡ Some (record { kind = Stray; before = start; size = searched + n - start })
 stray_found bytes start searched n h s e =
@@ -90,10 +80,10 @@ pub close_chunk : (bytes : List ℕ) (start : ℕ) → beginning false bytes ≡
 close_chunk bytes start e b = first_cut-at bytes start e ∙ rw b refl
 
 pub command_begins : (bytes : List ℕ) (start : ℕ) → beginning false bytes ≡ Some start → get_or bytes start 0 ≡ 40 → Searched bytes (start + 1) (progress.Command start Plain 0)
-command_begins bytes start e b = (omega arith, omega arith, e, b, rw (nothing_yet start bytes) nothing_passed)
+command_begins bytes start e b = (omega arith, omega arith, e, b, rw (nothing_yet start bytes) (nothing_passed closes inside_after (Plain, 0)))
 
 pub stray_begins : (bytes : List ℕ) (start : ℕ) → beginning false bytes ≡ Some start → get_or bytes start 0 ≢ 40 → get_or bytes start 0 ≢ 41 → Searched bytes (start + 1) (progress.Text start)
-stray_begins bytes start e b d = (omega arith, e, b, d, rw (nothing_yet start bytes) stray_nothing)
+stray_begins bytes start e b d = (omega arith, e, b, d, rw (nothing_yet start bytes) (nothing_passed ends_stray (λ s _. s) false))
 
 pub blank_found : (bytes : List ℕ) (searched n : ℕ) (comment : Bool) → searched ≤ length bytes → Passes begins comment_after false (take searched bytes) comment → beginning comment (drop searched bytes) ≡ Some n → beginning false bytes ≡ Some (searched + n)
 blank_found bytes searched n comment h p e = stops_further begins comment_after false bytes searched n comment h p e
@@ -102,7 +92,3 @@ pub blank_passed : (bytes : List ℕ) (searched : ℕ) (comment t : Bool) → Pa
 blank_passed bytes searched comment t p q =
     let passed = passes_further begins comment_after false bytes searched comment t p q in
     (first_cut-none bytes passed.stop, rw (take_all (length bytes) bytes (omega arith)) passed)
-
--- what `&bytes[n..]` has
-pub rest_window : (n : ℕ) (bytes : List ℕ) → take (length bytes - n) (drop n bytes) ≡ drop n bytes
-rest_window n bytes = take_all (length bytes - n) (drop n bytes) (rw length-drop (omega arith))

@@ -6,4 +6,5 @@ pub mod Driver
 pub mod Rows
 pub mod Strings
 pub mod Spelled
+pub mod Decimals
 mod Readings

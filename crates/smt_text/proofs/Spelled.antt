@@ -1,10 +1,9 @@
 -- The loop over the tokens of a text.
 use Rattle.std.proofs.Common.{◌≡◌, ℕ, ◌+◌, ◌-◌, ◌≤◌, List, [], ◌∷◌, ◌++◌, length, take, drop, refl, ap, sym, ◌∙◌, subst, arith, Some, None, Ok, Err}
-use Rattle.std.proofs.lemmas.List.{drop-drop, map-append, length-drop}
+use Rattle.std.proofs.lemmas.List.{drop-drop, map-append, length-drop, take_rest}
 use Rattle.smt_text.specs.Lexicon.{Lexeme, First, first_token, lexeme_of, lexemes_of}
 use Rattle.smt_text.specs.Tokens.{Spells, AreTokens, IsBadAt}
 use Rattle.smt_text.specs.declared.token.Token.{Token}
-use Rattle.smt_text.proofs.Finds.{rest_window}
 
 Spells-push : (at : ℕ) (text : List ℕ) (ts : List Lexeme) (place : ℕ) (rest : List ℕ) (t : Lexeme) (n : ℕ) → Spells at text ts place rest → first_token rest ≡ Ok (Some (t, n)) → Spells at text (ts ++ t ∷ []) (place + n) (drop n rest)
 Spells-push at text [] place rest t n s e = (n, rw s.1 at e, (rw s.0 refl, rw s.1 refl))
@@ -20,17 +19,17 @@ spelled_none text ts e = record { within = omega arith; spells = rw e (refl, ref
 
 pub spelled_push : (text : List ℕ) (ts more : List Token) (at : ℕ) (t : Token) (n : ℕ) → Spelled text ts at → first_token (take (length text - at) (drop at text)) ≡ Ok (Some (lexeme_of t, n)) → n ≤ length (take (length text - at) (drop at text)) → more ≡ ts ++ t ∷ [] → Spelled text more (at + n)
 spelled_push text ts more at t n s e l m =
-    let k = rw (rest_window at text, length-drop) at l in
+    let k = rw (take_rest text at, length-drop) at l in
     record {
       within = omega (arith, k, s.within);
-      spells = rw (m, map-append lexeme_of ts (t ∷ [])) (subst (λ (rest : List ℕ). Spells 0 text (lexemes_of ts ++ lexeme_of t ∷ []) (at + n) rest) (drop-drop n at text) (Spells-push 0 text (lexemes_of ts) at (drop at text) (lexeme_of t) n s.spells (rw rest_window at e)));
+      spells = rw (m, map-append lexeme_of ts (t ∷ [])) (subst (λ (rest : List ℕ). Spells 0 text (lexemes_of ts ++ lexeme_of t ∷ []) (at + n) rest) (drop-drop n at text) (Spells-push 0 text (lexemes_of ts) at (drop at text) (lexeme_of t) n s.spells (rw take_rest at e)));
     }
 
 pub spelled_all : (text : List ℕ) (ts : List Token) (at : ℕ) → Spelled text ts at → first_token (take (length text - at) (drop at text)) ≡ Ok None → AreTokens text (lexemes_of ts)
-spelled_all text ts at s e = record { place = at; rest = drop at text; spells = s.spells; ends = rw rest_window at e }
+spelled_all text ts at s e = record { place = at; rest = drop at text; spells = s.spells; ends = rw take_rest at e }
 
 pub spelled_bad : (text : List ℕ) (ts : List Token) (at n : ℕ) → Spelled text ts at → first_token (take (length text - at) (drop at text)) ≡ Err n → IsBadAt text (at + n)
-spelled_bad text ts at n s e = record { ts = lexemes_of ts; place = at; rest = drop at text; spells = s.spells; within = n; faulty = rw rest_window at e; bad_is = refl }
+spelled_bad text ts at n s e = record { ts = lexemes_of ts; place = at; rest = drop at text; spells = s.spells; within = n; faulty = rw take_rest at e; bad_is = refl }
 
 -- no whole token is at the front
 abbrev Stops : List ℕ → Type 0

@@ -1,5 +1,5 @@
 -- What a framer holds: bytes that were fed and not yet given as chunks.
-use Rattle.std.specs.Prelude.{◌≡◌, ◌≢◌, ℕ, ◌+◌, ◌-◌, ◌<◌, ◌≤◌, false, List, take, drop, count_by, slice_index, Option, Some, if◌then◌else◌, ◌==◌}
+use Rattle.std.specs.Prelude.{◌≡◌, ◌≢◌, ℕ, ◌+◌, ◌-◌, ◌<◌, ◌≤◌, false, List, ◌++◌, take, drop, count_by, slice_index, Option, Some, if◌then◌else◌, ◌==◌}
 use Rattle.std.specs.Option.{option_map}
 use Rattle.smt_text.specs.Search.{Passes}
 use Rattle.smt_text.specs.Chunks.{begins, comment_after, beginning, closes, inside_after, ends_stray, first_cut}
@@ -14,6 +14,10 @@ use Rattle.smt_text.specs.declared.find.Progress.TheVariants as progress
 pub record Held : Type 0 where
   pub line : ℕ
   pub bytes : List ℕ
+
+-- more bytes behind what is held
+abbrev pub and_more : Held → List ℕ → Held
+and_more h more = record { line = h.line; bytes = h.bytes ++ more }
 
 abbrev pub lines_in : List ℕ → ℕ
 lines_in bytes = count_by (λ b. b == 10) bytes

@@ -7,47 +7,31 @@ ghost use Rattle.smt_text.specs.Script.{AreChunks};
 
 use crate::chunk::Chunk;
 use crate::find::{Progress, cut_off, find, last};
+use crate::held::HeldBytes;
 use crate::scan::lines_in;
 use crate::text::Text;
 use std::alloc::{AllocError, Global};
 use std::marker::Model;
 
-/// Lines are counted below this number.
-const LINES: u64 = 1 << 63;
-
 /// Cuts a script into chunks, in whatever pieces it is fed.
 #[derive(Drop)]
 pub struct Framer {
     alloc: Global,
-    /// The line of the first byte that was not given.
-    line: u64,
-    buffer: Vec<u8>,
-    /// How many bytes at the front of the buffer were given.
-    given: usize,
-    /// How many bytes behind those were searched, and what they end in.
+    held: HeldBytes,
+    /// How many of the bytes were searched, and what they end in.
     searched: usize,
     progress: Progress,
 }
 
 impl Model for Framer {
-    ghost use Rattle.std.specs.Prelude.{◌<◌, ◌≤◌, ◌+◌, ◌-◌, ◌^◌, length, drop};
+    ghost use Rattle.std.specs.Prelude.{◌≤◌, length};
     ghost use Rattle.smt_text.specs.Framing.{Held, Searched};
 
     ghost Value = { Held };
 
-    ghost view = { λ f. record { line = f.line; bytes = drop f.given f.buffer.items } };
+    ghost view = { λ f. f.held };
 
-    ghost invariant = { λ f. (f.given + f.searched ≤ length f.buffer.items) × (f.line + length (drop f.given f.buffer.items) < 2 ^ 63) × Searched (drop f.given f.buffer.items) f.searched f.progress };
-}
-
-/// Drops bytes from the front.
-fn drop_front(buffer: &mut Vec<u8>, size: usize)
-    requires { size ≤ length buffer.old.items }
-    ensures { buffer.new.items ≡ drop size buffer.old.items }
-{
-    let rest = buffer.len() - size;
-    buffer.copy_within(size.., 0);
-    buffer.truncate(rest);
+    ghost invariant = { λ f. (f.searched ≤ length f.held.bytes) × Searched f.held.bytes f.searched f.progress };
 }
 
 impl Framer {
@@ -59,9 +43,7 @@ impl Framer {
     {
         Framer {
             alloc,
-            line: 1,
-            buffer: Vec::new(alloc),
-            given: 0,
+            held: HeldBytes::new(alloc),
             searched: 0,
             progress: Progress::Blank(false),
         }
@@ -73,22 +55,7 @@ impl Framer {
         ensures ok { OnOk result (self.new.bytes ≡ self.old.bytes ++ piece.now) }
         ensures err { OnErr result (self.new ≡ self.old) }
     {
-        let held = (self.buffer.len() - self.given) as u64;
-        if piece.len() as u64 >= LINES - (self.line + held) {
-            return Err(AllocError);
-        }
-        self.forget_given();
-        self.buffer.extend_from_slice(piece)
-    }
-
-    /// Takes what was given out of the buffer once it is half of it, so that each byte is moved at most once on average.
-    fn forget_given(&mut self)
-        ensures { self.new ≡ self.old }
-    {
-        if self.given >= self.buffer.len() - self.given {
-            drop_front(&mut self.buffer, self.given);
-            self.given = 0;
-        }
+        self.held.feed(piece)
     }
 
     /// The next whole chunk; `None` exactly where none is held.
@@ -98,7 +65,7 @@ impl Framer {
             (λ chunk. first_chunk self.old ≡ Some (chunk, self.new))) }
         ensures err { OnErr result (self.new ≡ self.old) }
     {
-        let rest = &self.buffer[self.given..];
+        let rest = self.held.bytes();
         match find(rest, self.searched, self.progress) {
             Err(progress) => {
                 self.searched = rest.len();
@@ -106,9 +73,8 @@ impl Framer {
                 Ok(None)
             }
             Ok(cut) => {
-                let (chunk, line) = cut_off(self.alloc, self.line, rest, cut)?;
-                self.line = line;
-                self.given += cut.before + cut.size;
+                let (chunk, line) = cut_off(self.alloc, self.held.line(), rest, cut)?;
+                self.held.give(cut.before + cut.size, line);
                 self.searched = 0;
                 self.progress = Progress::Blank(false);
                 Ok(Some(chunk))
@@ -122,10 +88,11 @@ impl Framer {
         ensures after { OnOk result (self.new ≡ record { line = self.old.line + lines_in self.old.bytes; bytes = [] }) }
         ensures err { OnErr result (self.new ≡ self.old) }
     {
-        let rest = &self.buffer[self.given..];
-        let chunk = last(self.alloc, self.line, rest)?;
-        self.line += lines_in(rest);
-        self.given = self.buffer.len();
+        let rest = self.held.bytes();
+        let line = self.held.line();
+        let chunk = last(self.alloc, line, rest)?;
+        let (size, end) = (rest.len(), line + lines_in(rest));
+        self.held.give(size, end);
         self.searched = 0;
         self.progress = Progress::Blank(false);
         Ok(chunk)

@@ -6,7 +6,8 @@ ghost use Rattle.smt_text.specs.Lexicon.{is_digit, is_letter, is_symbol_mark, is
 
 use crate::token::{RESERVED_WORDS, TokenKind};
 
-fn is_digit(byte: u8) -> bool
+/// Whether a byte is a decimal digit.
+pub fn is_digit(byte: u8) -> bool
     ensures { result ≡ is_digit byte }
 {
     byte >= b'0' && byte <= b'9'
@@ -60,6 +61,7 @@ fn is_hexadecimal_digit(byte: u8) -> bool
     is_digit(byte) || (byte >= b'a' && byte <= b'f') || (byte >= b'A' && byte <= b'F')
 }
 
+/// Whether a byte can stand in a word: it is neither white space nor begins another token.
 pub fn is_word_byte(byte: u8) -> bool
     ensures { result ≡ is_word_byte byte }
 {
@@ -102,7 +104,8 @@ fn are_digits(word: &[u8]) -> bool
     }
 }
 
-fn is_numeral(word: &[u8]) -> bool
+/// Whether a word is 0, or digits that do not begin with 0.
+pub fn is_numeral(word: &[u8]) -> bool
     ensures { result ≡ is_numeral word.now }
 {
     match word {

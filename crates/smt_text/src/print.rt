@@ -18,7 +18,7 @@ fn is_simple(name: &[u8]) -> bool
 }
 
 /// Gives what was written of it back where the rest of it failed.
-fn whole_or_none(
+pub fn whole_or_none(
     out: &mut Text,
     before: usize,
     written: Result<(), AllocError>,

@@ -3,12 +3,12 @@
 ghost use Rattle.std.specs.Prelude.{◌≡◌, ◌++◌, length, take, OnOk, OnErr};
 ghost use Rattle.std.specs.Fmt.{decimal};
 
-use smt_text::text::Text;
+use crate::text::Text;
 use std::alloc::AllocError;
 
 /// Appends a number in decimal, without a needless zero. What of it is written where memory runs out stands behind
 /// what was there.
-pub(crate) fn push_number(out: &mut Text, n: u64) -> Result<(), AllocError>
+pub fn push_number(out: &mut Text, n: u64) -> Result<(), AllocError>
     ensures ok { OnOk result (out.new ≡ out.old ++ decimal n) }
     ensures err { OnErr result (take (length out.old) out.new ≡ out.old) }
 {
@@ -19,7 +19,7 @@ pub(crate) fn push_number(out: &mut Text, n: u64) -> Result<(), AllocError>
 }
 
 /// The same of a number that may need more than 64 bits.
-pub(crate) fn push_wide(out: &mut Text, n: u128) -> Result<(), AllocError>
+pub fn push_wide(out: &mut Text, n: u128) -> Result<(), AllocError>
     ensures ok { OnOk result (out.new ≡ out.old ++ decimal n) }
     ensures err { OnErr result (take (length out.old) out.new ≡ out.old) }
 {

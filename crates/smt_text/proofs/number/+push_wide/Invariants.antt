@@ -1,4 +1,4 @@
-use Rattle.proof_text.proofs.number.+push_wide.Given as goal
+use Rattle.smt_text.proofs.number.+push_wide.Given as goal
 
 abbrev pub decreases-push_wide : goal.decreases-push_wide
 decreases-push_wide l = l.n

@@ -1,8 +1,8 @@
 use Rattle.std.proofs.Common.{arith}
 use Rattle.std.proofs.lemmas.Result.{on_ok_weaker}
-use Rattle.proof_text.proofs.Appending.{last_digit, one_digit}
-use Rattle.proof_text.proofs.number.+push_number.Goals as goal
-use Rattle.proof_text.proofs.number.+push_number.Goals.{then-n-ge10+in_ok-push_number, else-n-ge10}
+use Rattle.smt_text.proofs.Decimals.{last_digit, one_digit}
+use Rattle.smt_text.proofs.number.+push_number.Goals as goal
+use Rattle.smt_text.proofs.number.+push_number.Goals.{then-n-ge10+in_ok-push_number, else-n-ge10}
 
 pub returns-clause-ok : goal.returns-clause-ok
 returns-clause-ok t c =

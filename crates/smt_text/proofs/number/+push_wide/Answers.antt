@@ -1,7 +1,7 @@
 use Rattle.std.proofs.Common.{arith}
 use Rattle.std.proofs.lemmas.Result.{on_ok_weaker}
-use Rattle.proof_text.proofs.Appending.{last_digit}
-use Rattle.proof_text.proofs.number.+push_wide.Goals as goal
+use Rattle.smt_text.proofs.Decimals.{last_digit}
+use Rattle.smt_text.proofs.number.+push_wide.Goals as goal
 
 pub returns-clause-ok : goal.returns-clause-ok
 returns-clause-ok t c =

@@ -1,0 +1,151 @@
+-- The words of a line are read exactly.
+use Rattle.std.proofs.Common.{◌≡◌, ℕ, Bool, true, false, cond, List, [], ◌∷◌, ◌++◌, map, refl, sym, ap, subst, ◌∙◌, codes, Some, None}
+use Rattle.std.specs.Fmt.{decimal}
+use Rattle.std.specs.Str.{bytes_eq}
+use Rattle.proof_text.specs.declared.keyword.Keyword.{Keyword}
+use Rattle.proof_text.specs.declared.keyword.Keyword.TheVariants as key
+use Rattle.proof_text.specs.declared.line.WrittenValue.{WrittenValue}
+use Rattle.proof_text.specs.declared.line.Line.{Line}
+use Rattle.proof_text.specs.declared.line.Line.TheVariants as line
+use Rattle.proof_text.specs.Lines.{with_number, head_words, literal_text, hint_text, value_text, words_of, IsNumber, IsHint, IsValue, IsLine}
+use Rattle.proof_text.specs.Reading.{◌>>=◌, look_up, number_in, number_at, ended, only_number, numbers_of, literals_at, hint_of, hints_of, chain_of, head_at, term_of, value_of, value_at, declared_of, exactly, header_of, unknown_of, keywords, one_number, line_by, line_of}
+use Rattle.proof_text.proofs.Literals.{bind_some, each_reads, each_says, ended_says, hint_reads, hint_says, literals_read, literals_say, number_at_says, number_in_reads, number_in_says, only_number_says, same_text}
+use Rattle.proof_text.proofs.Heads.{head_reads, head_says, keyword_name, keyword_says, value_reads, value_says}
+
+-- ---- lines
+
+pub record IsReadLine (ws : List (List ℕ)) (l : Line) : Type 0 where
+  pub words : ws ≡ words_of l
+  pub fits : IsLine l
+
+pub words_read : (l : Line) → IsLine l → line_of (words_of l) ≡ Some l
+words_read (line.Header c b) h = rw (number_in_reads c h.0, number_in_reads b h.1) refl
+words_read (line.Term head args) h = rw (head_reads head (map decimal args) h.0, each_reads number_in decimal IsNumber number_in_reads args h.1) refl
+words_read (line.Leaf t) h = rw (number_in_reads t h) refl
+words_read (line.Encode t) h = rw (number_in_reads t h) refl
+words_read (line.Selector a) h = rw (number_in_reads a h) refl
+words_read (line.Chain clause hints) h = rw (literals_read clause (map hint_text hints) h.0, each_reads hint_of hint_text IsHint hint_reads hints h.1) refl
+words_read (line.Sat n) h = rw (number_in_reads n h) refl
+words_read (line.Value d v) h = rw (number_in_reads d h.0, value_reads v h.1) refl
+words_read (line.Unsat p) h = rw (number_in_reads p h) refl
+words_read (line.Unknown n g c) h = rw (number_in_reads n h.0, number_in_reads g h.1, number_in_reads c h.2) refl
+words_read (line.Take p) h = rw (number_in_reads p h) refl
+words_read (line.Put p) h = rw (number_in_reads p h) refl
+words_read (line.Drop p) h = rw (number_in_reads p h) refl
+
+exactly_says : (word : List ℕ) (ws rest : List (List ℕ)) → exactly word ws ≡ Some rest → ws ≡ word ∷ rest
+exactly_says word [] rest e = absurd (let z : ⊥ = cc in z)
+exactly_says word (w ∷ ws) rest e = exactly_by (bytes_eq w word) word w ws rest refl e
+  where
+    exactly_by : (q : Bool) (word w : List ℕ) (ws rest : List (List ℕ)) → bytes_eq w word ≡ q → cond q (Some ws) None ≡ Some rest → w ∷ ws ≡ word ∷ rest
+    exactly_by true word w ws rest k e =
+        let same : ws ≡ rest = cc in
+        ap (λ v. v ∷ ws) (same_text w word k) ∙ ap (λ vs. word ∷ vs) same
+    exactly_by false word w ws rest k e = absurd (let z : ⊥ = cc in z)
+
+one_number_says : (make : ℕ → Line) (name : List ℕ) → ((n : ℕ) → words_of (make n) ≡ with_number name n) → ((n : ℕ) → IsNumber n → IsLine (make n))
+    → (ws : List (List ℕ)) (l : Line) → one_number make ws ≡ Some l → IsReadLine (name ∷ ws) l
+one_number_says make name words fits ws l e =
+    let b = bind_some (only_number ws) (λ n. Some (make n)) l e in
+    let same : make b.0 ≡ l = let q = b.2 in cc in
+    let s = only_number_says ws b.0 b.1 in
+    subst (IsReadLine (name ∷ ws)) same (record { words = ap (λ vs. name ∷ vs) s.words ∙ sym (words b.0); fits = fits b.0 s.bound })
+
+header_says : (ws : List (List ℕ)) (l : Line) → header_of ws ≡ Some l → IsReadLine (codes "smt_proof" ∷ ws) l
+header_says ws l e =
+    let a = bind_some (exactly (codes "1") ws) _ l e in
+    let b = bind_some (exactly (codes "cubes") a.0) _ l a.2 in
+    let c = bind_some (number_at b.0) _ l b.2 in
+    let d = bind_some (exactly (codes "budget") c.0.1) _ l c.2 in
+    let n = bind_some (only_number d.0) (λ n. Some (line.Header c.0.0 n)) l d.2 in
+    let same : line.Header c.0.0 n.0 ≡ l = let q = n.2 in cc in
+    let s = number_at_says b.0 c.0 c.1 in
+    let t = only_number_says d.0 n.0 n.1 in
+    let one = exactly_says (codes "1") ws a.0 a.1 in
+    let two = exactly_says (codes "cubes") a.0 b.0 b.1 in
+    let three = exactly_says (codes "budget") c.0.1 d.0 d.1 in
+    subst (IsReadLine (codes "smt_proof" ∷ ws)) same
+    (record {
+      words = ap (λ vs. codes "smt_proof" ∷ vs) one
+          ∙ ap (λ vs. codes "smt_proof" ∷ codes "1" ∷ vs) two
+          ∙ ap (λ vs. codes "smt_proof" ∷ codes "1" ∷ codes "cubes" ∷ vs) s.words
+          ∙ ap (λ vs. codes "smt_proof" ∷ codes "1" ∷ codes "cubes" ∷ decimal c.0.0 ∷ vs) three
+          ∙ ap (λ vs. codes "smt_proof" ∷ codes "1" ∷ codes "cubes" ∷ decimal c.0.0 ∷ codes "budget" ∷ vs) t.words;
+      fits = (s.bound, t.bound);
+    })
+
+term_says : (ws : List (List ℕ)) (l : Line) → term_of ws ≡ Some l → IsReadLine (codes "t" ∷ ws) l
+term_says ws l e =
+    let b = bind_some (head_at ws) (λ r. numbers_of r.1 >>= λ args. Some (line.Term r.0 args)) l e in
+    let d = bind_some (numbers_of b.0.1) (λ args. Some (line.Term b.0.0 args)) l b.2 in
+    let same : line.Term b.0.0 d.0 ≡ l = let q = d.2 in cc in
+    let s = head_says ws b.0 b.1 in
+    let t = each_says number_in decimal IsNumber number_in_says b.0.1 d.0 d.1 in
+    subst (IsReadLine (codes "t" ∷ ws)) same
+    (record { words = ap (λ vs. codes "t" ∷ vs) (s.words ∙ ap (λ vs. head_words b.0.0 ++ vs) t.0); fits = (s.fits, t.1) })
+
+chain_says : (ws : List (List ℕ)) (l : Line) → chain_of ws ≡ Some l → IsReadLine (codes "c" ∷ ws) l
+chain_says ws l e =
+    let b = bind_some (literals_at ws) (λ r. hints_of r.1 >>= λ hs. Some (line.Chain r.0 hs)) l e in
+    let d = bind_some (hints_of b.0.1) (λ hs. Some (line.Chain b.0.0 hs)) l b.2 in
+    let same : line.Chain b.0.0 d.0 ≡ l = let q = d.2 in cc in
+    let s = literals_say ws b.0 b.1 in
+    let t = each_says hint_of hint_text IsHint hint_says b.0.1 d.0 d.1 in
+    subst (IsReadLine (codes "c" ∷ ws)) same
+    (record { words = ap (λ vs. codes "c" ∷ vs) (s.words ∙ ap (λ vs. map literal_text b.0.0 ++ (48 ∷ []) ∷ vs) t.0); fits = (s.each, t.1) })
+
+record StartsWithValue (ws : List (List ℕ)) (v : WrittenValue) (rest : List (List ℕ)) : Type 0 where
+  words : ws ≡ value_text v ∷ rest
+  fits : IsValue v
+
+value_at_says : (ws : List (List ℕ)) (r : WrittenValue × List (List ℕ)) → value_at ws ≡ Some r → StartsWithValue ws r.0 r.1
+value_at_says [] r e = absurd (let z : ⊥ = cc in z)
+value_at_says (w ∷ ws) r e =
+    let b = bind_some (value_of w) (λ v. Some (v, ws)) r e in
+    let same : ◌≡◌ {A = WrittenValue × List (List ℕ)} (b.0, ws) r = let q = b.2 in cc in
+    let s = value_says w b.0 b.1 in
+    subst (λ (x : WrittenValue × List (List ℕ)). StartsWithValue (w ∷ ws) x.0 x.1) same (record { words = ap (λ v. v ∷ ws) s.text; fits = s.fits })
+
+declared_says : (ws : List (List ℕ)) (l : Line) → declared_of ws ≡ Some l → IsReadLine (codes "v" ∷ ws) l
+declared_says ws l e =
+    let b = bind_some (number_at ws) (λ r. value_at r.1 >>= λ s. ended (line.Value r.0 s.0) s.1) l e in
+    let d = bind_some (value_at b.0.1) (λ s. ended (line.Value b.0.0 s.0) s.1) l b.2 in
+    let q = ended_says (line.Value b.0.0 d.0.0) l d.0.1 d.2 in
+    let s = number_at_says ws b.0 b.1 in
+    let t = value_at_says b.0.1 d.0 d.1 in
+    subst (IsReadLine (codes "v" ∷ ws)) q.0
+    (record { words = ap (λ vs. codes "v" ∷ vs) (s.words ∙ ap (λ vs. decimal b.0.0 ∷ vs) (t.words ∙ ap (λ vs. value_text d.0.0 ∷ vs) q.1)); fits = (s.bound, t.fits) })
+
+unknown_says : (ws : List (List ℕ)) (l : Line) → unknown_of ws ≡ Some l → IsReadLine (codes "unknown" ∷ ws) l
+unknown_says ws l e =
+    let a = bind_some (number_at ws) (λ a. number_at a.1 >>= λ b. only_number b.1 >>= λ n. Some (line.Unknown a.0 b.0 n)) l e in
+    let b = bind_some (number_at a.0.1) (λ b. only_number b.1 >>= λ n. Some (line.Unknown a.0.0 b.0 n)) l a.2 in
+    let n = bind_some (only_number b.0.1) (λ n. Some (line.Unknown a.0.0 b.0.0 n)) l b.2 in
+    let same : line.Unknown a.0.0 b.0.0 n.0 ≡ l = let q = n.2 in cc in
+    let s = number_at_says ws a.0 a.1 in
+    let t = number_at_says a.0.1 b.0 b.1 in
+    let u = only_number_says b.0.1 n.0 n.1 in
+    subst (IsReadLine (codes "unknown" ∷ ws)) same
+    (record { words = ap (λ vs. codes "unknown" ∷ vs) (s.words ∙ ap (λ vs. decimal a.0.0 ∷ vs) (t.words ∙ ap (λ vs. decimal b.0.0 ∷ vs) u.words)); fits = (s.bound, t.bound, u.bound) })
+
+keyword_read : (k : Keyword) (ws : List (List ℕ)) (l : Line) → line_by k ws ≡ Some l → IsReadLine (keyword_name k ∷ ws) l
+unfolding keyword_name
+keyword_read key.Header ws l e = header_says ws l e
+keyword_read key.Term ws l e = term_says ws l e
+keyword_read key.Leaf ws l e = one_number_says line.Leaf (codes "f") (λ n. refl) (λ n k. k) ws l e
+keyword_read key.Encode ws l e = one_number_says line.Encode (codes "e") (λ n. refl) (λ n k. k) ws l e
+keyword_read key.Selector ws l e = one_number_says line.Selector (codes "s") (λ n. refl) (λ n k. k) ws l e
+keyword_read key.Chain ws l e = chain_says ws l e
+keyword_read key.Sat ws l e = one_number_says line.Sat (codes "sat") (λ n. refl) (λ n k. k) ws l e
+keyword_read key.Value ws l e = declared_says ws l e
+keyword_read key.Unsat ws l e = one_number_says line.Unsat (codes "unsat") (λ n. refl) (λ n k. k) ws l e
+keyword_read key.Unknown ws l e = unknown_says ws l e
+keyword_read key.Take ws l e = one_number_says line.Take (codes "=") (λ n. refl) (λ n k. k) ws l e
+keyword_read key.Put ws l e = one_number_says line.Put (codes "+") (λ n. refl) (λ n k. k) ws l e
+keyword_read key.Drop ws l e = one_number_says line.Drop (codes "-") (λ n. refl) (λ n k. k) ws l e
+
+pub words_say : (ws : List (List ℕ)) (l : Line) → line_of ws ≡ Some l → IsReadLine ws l
+words_say [] l e = absurd (let z : ⊥ = cc in z)
+words_say (w ∷ ws) l e =
+    let b = bind_some (look_up keywords w) (λ k. line_by k ws) l e in
+    subst (λ (v : List ℕ). IsReadLine (v ∷ ws) l) (sym (keyword_says w b.0 b.1)) (keyword_read b.0 ws l b.2)
