@@ -16,6 +16,7 @@ use Rattle.smt_terms.specs.declared.sort.Sort.TheVariants as sort
 use Rattle.smt_terms.specs.declared.sort.Signature.{Signature}
 use Rattle.smt_terms.specs.declared.node.Node.{Node}
 use Rattle.smt_terms.specs.Terms.{IsSort, constant_signature}
+use Rattle.cnf_base.proofs.Lists.{slice_get-longer}
 use Rattle.smt_build.specs.declared.fault.BuildFault.{BuildFault}
 use Rattle.smt_build.specs.declared.fault.BuildFault.TheVariants.{Declared, Reserved, NotSupported}
 use Rattle.smt_build.specs.declared.symbols.LiveName.{LiveName}
@@ -131,11 +132,6 @@ more_declared v _ es h = tt
 
 -- ---- what stays
 
-pub get_longer : {X : Type 0} (xs ys : List X) (i : ℕ) (x : X) → slice_get xs i ≡ Some x → slice_get (xs ++ ys) i ≡ Some x
-get_longer [] ys i x e = absurd (let z : ⊥ = cc in z)
-get_longer (y ∷ xs) ys zero x e = e
-get_longer (y ∷ xs) ys (suc i) x e = get_longer xs ys i x e
-
 module _ (v : SymbolsValue) (x : List ℕ) (s : Signature) (are : AreLive v) where
   abbrev last : LiveName
   last = record { name = x; declaration = length v.signatures }
@@ -165,13 +161,13 @@ kept_more : (v : SymbolsValue) (x : List ℕ) (s : Sort) (nodes : List Node) →
 kept_more v x s nodes plain = record {
   live = live_more v x (constant_signature s);
   constants = λ are. All-push IsPlainConstant v.signatures (constant_signature s) are (record { constant = refl; sort = plain.0; widths = plain.1 });
-  declared = λ are. record { each = λ t k named. get_longer v.signatures (constant_signature s ∷ []) k _ (are.each t k named) };
+  declared = λ are. record { each = λ t k named. slice_get-longer v.signatures (constant_signature s ∷ []) k _ (are.each t k named) };
   last = record { name = x; declaration = length v.signatures };
   names = refl;
   definitions = refl;
   sorts = refl;
   levels = refl;
-  longer = λ d r e. get_longer v.signatures (constant_signature s ∷ []) d r e;
+  longer = λ d r e. slice_get-longer v.signatures (constant_signature s ∷ []) d r e;
 }
 
 pub declared_kept : (v w : SymbolsValue) (n : CommandName) (es : Sexps) (d : ℕ) (nodes : List Node) → ArePlainNames v.sorts → declare v n es ≡ Ok (d, w) → AreKept v w nodes

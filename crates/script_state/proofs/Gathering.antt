@@ -1,8 +1,8 @@
 -- Terms that a command asks for, as they are read one after the other.
-use Rattle.std.proofs.Common.{◌≡◌, ℕ, ◌+◌, ◌-◌, ◌<◌, ◌≤◌, get_or, List, [], ◌∷◌, ◌++◌, length, take, drop, refl, sym, ap, subst, ◌∙◌, inl, inr, arith, Bool, Option, Result, Ok, Err}
+use Rattle.std.proofs.Common.{◌≡◌, ℕ, ◌+◌, ◌-◌, ◌<◌, ◌≤◌, get_or, List, [], ◌∷◌, ◌++◌, length, take, drop, refl, sym, ap, subst, ◌∙◌, arith, Bool, Option, Result, Ok, Err}
+use Rattle.std.proofs.lemmas.List.{drop_min}
 use Rattle.std.specs.Prelude.{min}
 use Rattle.std.proofs.lemmas.List.{length-take, length-drop, take_min, take-map, drop-map, drop_all, drop_more}
-use Rattle.std.proofs.lemmas.Bool.{cases_lt}
 use Rattle.smt_text.specs.Lexicon.{Lexeme, lexeme_of, lexemes_of}
 use Rattle.smt_text.specs.declared.token.Token.{Token}
 use Rattle.smt_syntax.specs.declared.span.Span.{Span}
@@ -25,13 +25,6 @@ use Rattle.script_state.specs.Plain.{HavePlain}
 use Rattle.script_state.specs.Written.{token_count, tokens_text, written, behind}
 use Rattle.script_state.specs.Steps.{Asking, asking_built, asking}
 use Rattle.script_state.specs.Asking.{object_to, AsksOne, Asks}
-
-pub drop_min : {X : Type 0} (n : ℕ) (xs : List X) → drop (min n (length xs)) xs ≡ drop n xs
-drop_min n xs =
-    elim (cases_lt n (length xs)) [
-      | inl lt ↦ let e : min n (length xs) ≡ n = grind (arith, lt) in rw e refl
-      | inr le ↦ let e : min n (length xs) ≡ length xs = grind (arith, le) in rw (e, drop_all (length xs) xs (omega arith), drop_all n xs le) refl
-    ]
 
 module _ (signs : List Sign) (s : Span) where
   -- a term is written in as many tokens as its span has

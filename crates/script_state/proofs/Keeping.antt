@@ -21,7 +21,8 @@ use Rattle.script_state.specs.declared.answer.Verdict.TheVariants.{Sat}
 use Rattle.script_state.specs.Readings.{Reading}
 use Rattle.script_state.specs.States.{StateValue, RestValue, with_terms, IsState, Fit}
 use Rattle.script_state.specs.Steps.{Step, declaring, naming_sort, defining, objection, asserting_unless, asking, assuming_by, value_objection, valuing_by, pushing_by, popping_by, step}
-use Rattle.script_state.proofs.Declared.{declared_kept, get_longer}
+use Rattle.script_state.proofs.Declared.{declared_kept}
+use Rattle.cnf_base.proofs.Lists.{slice_get-longer}
 use Rattle.script_state.proofs.Defined.{sort_defined}
 use Rattle.script_state.proofs.Marking.{plain_grows}
 use Rattle.script_state.proofs.Leveling.{pushed_is, popped_is, popped_signatures, begun_state, ended_state, emptied_state}
@@ -86,7 +87,7 @@ module _ (s : StateValue) (is : IsState s) where
       subst (λ (u : SymbolsValue). Goes (asserting_unless None s name t u w)) (sym one.symbols)
       (record {
         state = asserted_state (record { symbols = s.symbols; terms = w; scopes = s.scopes; options = s.options; standing = s.standing; assumed = s.assumed }) one.more t name (asserted s.scopes t name) grown one.bodies one.over one.held one.here plain refl;
-        keeps = record { behind = one.on.grows.behind; nodes = one.on.grows.nodes; signatures = λ d r e. e; assertions = λ a u e. get_longer s.scopes.terms (t ∷ []) a u e };
+        keeps = record { behind = one.on.grows.behind; nodes = one.on.grows.nodes; signatures = λ d r e. e; assertions = λ a u e. slice_get-longer s.scopes.terms (t ∷ []) a u e };
       })
 
   -- more terms, that are asked for

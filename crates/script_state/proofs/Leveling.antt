@@ -1,5 +1,6 @@
 -- A state stays one as levels begin and end, and as all of them end.
 use Rattle.std.proofs.Common.{◌≡◌, ℕ, zero, suc, ◌+◌, ◌-◌, ◌<◌, ◌≤◌, Bool, true, false, List, [], ◌∷◌, length, refl, sym, ap, ◌∙◌, arith, leb-true, Option, Some, None, Result, Ok, Err}
+use Rattle.std.proofs.lemmas.Option.{slice_get_within}
 use Rattle.std.specs.Prelude.{OnOk, IfErr, nat_le, slice_get, take, if◌then◌else◌}
 use Rattle.std.specs.List.{AllByRecursion}
 use Rattle.std.proofs.lemmas.Bool.{le-leb}
@@ -23,7 +24,7 @@ use Rattle.script_state.specs.Plain.{is_plain}
 use Rattle.script_state.specs.States.{StateValue, AreLive, IsPlainConstant, IsPlainName, IsState, no_state}
 use Rattle.script_state.proofs.Asserting.{none_assumed, opted_state}
 use Rattle.script_state.proofs.Closing.{closed_none}
-use Rattle.script_state.proofs.Standing.{get_within, within_all, begun, ended, levels_begun, levels_ended}
+use Rattle.script_state.proofs.Standing.{within_all, begun, ended, levels_begun, levels_ended}
 
 -- ---- the levels of assertions
 
@@ -185,7 +186,7 @@ emptied_state v o is = record {
   truths = All-nil (λ (a : Live). sort_of v.terms.nodes a.term ≡ sort.Bool);
   plain = All-nil (λ (a : Live). is_plain v.terms.nodes a.term ≡ true);
   closed = closed_none v.terms.nodes;
-  levels = record { count = refl; rising = λ i j d lt within. absurd (omega (arith, within)); each = λ k l e. absurd (omega (arith, get_within [] k l e)) };
+  levels = record { count = refl; rising = λ i j d lt within. absurd (omega (arith, within)); each = λ k l e. absurd (omega (arith, slice_get_within [] k l e)) };
   assumed = none_assumed v.terms.nodes [];
 }
 
@@ -212,7 +213,7 @@ first_state = record {
   truths = All-nil (λ (a : Live). sort_of [] a.term ≡ sort.Bool);
   plain = All-nil (λ (a : Live). is_plain [] a.term ≡ true);
   closed = closed_none [];
-  levels = record { count = refl; rising = λ i j d lt within. absurd (omega (arith, within)); each = λ k l e. absurd (omega (arith, get_within [] k l e)) };
+  levels = record { count = refl; rising = λ i j d lt within. absurd (omega (arith, within)); each = λ k l e. absurd (omega (arith, slice_get_within [] k l e)) };
   assumed = none_assumed [] [];
 } where
   none_declared : (t d : ℕ) → declaration_of (node_at [] t).op ≡ Some d → ⊥

@@ -1,5 +1,6 @@
 -- What stands in a list that is a command's argument.
 use Rattle.std.proofs.Common.{◌≡◌, ℕ, ◌+◌, ◌-◌, suc, false, Option, Some, None, List, [], ◌∷◌, ◌++◌, length, take, drop, sym, ap, subst, ◌∙◌, arith, length-append}
+use Rattle.std.proofs.lemmas.List.{drop_min}
 use Rattle.std.specs.Prelude.{min, is_some}
 use Rattle.std.proofs.lemmas.List.{length-take, length-drop, take-take, drop-drop, drop-map}
 use Rattle.std.proofs.Math.Seq.{take-append_seam}
@@ -9,9 +10,8 @@ use Rattle.smt_syntax.specs.declared.span.Span.{Span}
 use Rattle.smt_syntax.specs.Sexps.{Sign, open_paren, close_paren, Sexp, Sexps, atom, group, spellings, signs_in, signs_of}
 use Rattle.smt_syntax.specs.Spans.{IsWithin, tokens_at, Stands, AllStand}
 use Rattle.smt_build.specs.Naming.{IsWordOf}
-use Rattle.smt_build.proofs.Spellings.{signs_same}
+use Rattle.smt_syntax.proofs.CommandReadings.{signs_same}
 use Rattle.script_state.specs.Written.{listed}
-use Rattle.script_state.proofs.Gathering.{drop_min}
 
 between_is : (ds xs : List Sign) (n : ℕ) → n ≡ suc (suc (length xs)) → ◌≡◌ {A = List Sign} (take n ds) (open_paren ∷ (xs ++ close_paren ∷ [])) → take (length xs) (drop 1 ds) ≡ xs
 between_is ds xs n e h = go ds (subst (λ m. ◌≡◌ {A = List Sign} (take m ds) (open_paren ∷ (xs ++ close_paren ∷ []))) e h) where

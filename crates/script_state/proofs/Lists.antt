@@ -7,6 +7,7 @@ use Rattle.std.proofs.lemmas.List.{drop_more, drop_all}
 use Rattle.smt_text.specs.declared.token.Token.{Token}
 use Rattle.smt_syntax.specs.Sexps.{Sign, open_paren, close_paren, word, Sexp, Sexps, atom, group, none, more, spelling, spellings, signs_in, sign_by}
 use Rattle.smt_syntax.specs.Depth.{open_after}
+use Rattle.smt_syntax.proofs.Depths.{open_small}
 use Rattle.script_state.specs.Readings.{closes, is_list, SpellNoList}
 
 -- each of the open lists ends
@@ -68,11 +69,6 @@ closes_step zero l ls h = absurd (omega (arith, h))
 closes_step (suc n) open_paren ls h = rw add-one refl
 closes_step (suc n) close_paren ls h = let e : suc n - 1 ≡ n = omega arith in rw e refl
 closes_step (suc n) (word k x) ls h = refl
-
-open_small : (depth i : ℕ) (l : Sign) → depth ≤ i → open_after depth l ≤ i + 1
-open_small depth i open_paren h = omega arith
-open_small depth i close_paren h = omega arith
-open_small depth i (word k x) h = omega arith
 
 -- what the loop over the tokens has seen
 pub record Seen (tokens : List Token) (i depth : ℕ) : Type 0 where

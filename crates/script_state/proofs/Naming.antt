@@ -1,5 +1,6 @@
 -- An assertion makes more terms and more definitions, over the live declarations.
 use Rattle.std.proofs.Common.{◌≡◌, ℕ, ◌<◌, true, List, [], ◌++◌, length, refl, ap, subst, ◌∙◌, Option, Some, Ok, Err}
+use Rattle.std.proofs.Math.Seq.{take-append_seam}
 use Rattle.smt_syntax.specs.Sexps.{Sexp}
 use Rattle.smt_terms.specs.Terms.{TermsValue, IsTermList}
 use Rattle.smt_build.specs.declared.definition.Definition.{Definition}
@@ -10,7 +11,6 @@ use Rattle.smt_build.specs.Scoped.{is_over, AreOver}
 use Rattle.smt_build.specs.Terms.{term_in}
 use Rattle.smt_build.proofs.Assertions.{KeepsAll, assertion_keeps}
 use Rattle.smt_build.proofs.GivenNames.{Adds, adds_names}
-use Rattle.smt_build.proofs.Growth.{take_front}
 use Rattle.smt_build.proofs.KeptTerms.{GoOn}
 use Rattle.smt_build.proofs.ScopedCommands.{assertion_is_over}
 use Rattle.script_state.specs.declared.answer.Answer.TheVariants.{Refused}
@@ -59,7 +59,7 @@ module _ (v w : SymbolsValue) (terms new : TermsValue) (e : Sexp) (t : ℕ) wher
   pub names_back : (back : SymbolsValue) (count : ℕ) → assertion v terms e ≡ Ok (t, w, new) → count ≡ length v.definitions → back ≡ with_definitions w count → back ≡ v
   names_back back count is c f =
       let adds = adds_assertion is in
-      f ∙ rw (c, adds.same) (λ i. record { live = v.live; signatures = v.signatures; definitions = take_front v.definitions adds.more i; sorts = v.sorts; levels = v.levels })
+      f ∙ rw (c, adds.same) (λ i. record { live = v.live; signatures = v.signatures; definitions = take-append_seam v.definitions adds.more i; sorts = v.sorts; levels = v.levels })
 
 -- an assertion that something stands against is refused, and leaves the state
 pub asserting_refused : (s new : StateValue) (name : Option (List ℕ)) (e : Sexp) (t : ℕ) (v : SymbolsValue) (w : TermsValue) (x : ErrorText) → assertion s.symbols s.terms e ≡ Ok (t, v, w) → objection w.nodes t ≡ Some x → new ≡ s → ◌≡◌ {A = Step} (asserting s name (assertion s.symbols s.terms e)) (Refused x, new)

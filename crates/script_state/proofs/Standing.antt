@@ -1,5 +1,6 @@
 -- Levels stand as what is live grows, as more levels begin, and as levels end.
 use Rattle.std.proofs.Common.{◌≡◌, ℕ, zero, suc, ◌+◌, ◌-◌, ◌<◌, ◌≤◌, Bool, true, false, List, [], ◌∷◌, ◌++◌, length, get_or, refl, sym, ap, subst, ◌∙◌, ◌⊎◌, inl, inr, arith, append-nil, length-append, leb-true, Option, Some, None}
+use Rattle.std.proofs.lemmas.Option.{slice_get_within, get_or_from_slice_get}
 use Rattle.std.specs.Prelude.{nat_le, replicate, slice_get, take, All, AllPairs}
 use Rattle.std.proofs.lemmas.Bool.{cases_lt, le-leb, lt-leb, leb-false}
 use Rattle.std.proofs.lemmas.List.{take_all, take-take, take-append-le, length-take-le, length-replicate, get_or-replicate, get_or_append_left, get_or-append_right, get_or-take}
@@ -19,16 +20,6 @@ use Rattle.script_state.specs.States.{StateValue, IsState, IsLevel, IsBehind, Ar
 use Rattle.script_state.proofs.Closing.{closed_longer}
 
 -- ---- lists
-
-pub get_within : {X : Type 0} (xs : List X) (i : ℕ) (x : X) → slice_get xs i ≡ Some x → i < length xs
-get_within [] i x e = absurd (let z : ⊥ = cc in z)
-get_within (y ∷ xs) zero x e = omega arith
-get_within (y ∷ xs) (suc i) x e = omega (arith, get_within xs i x e)
-
-pub get_is : {X : Type 0} (xs : List X) (i : ℕ) (x d : X) → slice_get xs i ≡ Some x → get_or xs i d ≡ x
-get_is [] i x d e = absurd (let z : ⊥ = cc in z)
-get_is (y ∷ xs) zero x d e = cc
-get_is (y ∷ xs) (suc i) x d e = get_is xs i x d e
 
 get_at : {X : Type 0} (xs : List X) (i : ℕ) (x d : X) → i < length xs → get_or xs i d ≡ x → slice_get xs i ≡ Some x
 get_at [] i x d lt e = absurd (omega (arith, lt))
@@ -108,7 +99,7 @@ module _ (v w : StateValue) (more : Extends v w) (is : IsState v) where
     rising = rw more.levels is.levels.rising;
     each = λ k l e.
         let old : slice_get v.symbols.levels k ≡ Some l = rw more.levels at e in
-        level_extends k l (omega (arith, get_within v.symbols.levels k l old, is.levels.count)) (is.levels.each k l old);
+        level_extends k l (omega (arith, slice_get_within v.symbols.levels k l old, is.levels.count)) (is.levels.each k l old);
   }
 
 -- ---- more levels
@@ -187,7 +178,7 @@ module _ (v : StateValue) (k : ℕ) (l : Level) (is : IsState v) (here : slice_g
 
   level_earlier : (j : ℕ) (m : Level) → j < k → slice_get v.symbols.levels j ≡ Some m → IsLevel (ended v k l o s) j m
   level_earlier j m lt e =
-      let behind : IsBehind m l = subst (λ (a : Level). IsBehind a l) (get_is v.symbols.levels j m m e) (subst (λ (b : Level). IsBehind (get_or v.symbols.levels j m) b) (get_is v.symbols.levels k l m here) (is.levels.rising j k m lt (get_within v.symbols.levels k l here))) in
+      let behind : IsBehind m l = subst (λ (a : Level). IsBehind a l) (get_or_from_slice_get v.symbols.levels j m m e) (subst (λ (b : Level). IsBehind (get_or v.symbols.levels j m) b) (get_or_from_slice_get v.symbols.levels k l m here) (is.levels.rising j k m lt (slice_get_within v.symbols.levels k l here))) in
       let old = is.levels.each j m e in
       record {
         names = omega (arith, length-take-le l.names v.symbols.live level.names, behind.names);
@@ -200,12 +191,12 @@ module _ (v : StateValue) (k : ℕ) (l : Level) (is : IsState v) (here : slice_g
 
   pub levels_ended : AreLevels (ended v k l o s)
   levels_ended = record {
-    count = length-take-le k v.symbols.levels (omega (arith, get_within v.symbols.levels k l here));
+    count = length-take-le k v.symbols.levels (omega (arith, slice_get_within v.symbols.levels k l here));
     rising = rising;
     each = λ j m e. let old = get_taken v.symbols.levels k j m e in level_earlier j m old.0 old.1;
   } where
     rising : AllPairs IsBehind (take k v.symbols.levels)
     rising i j d lt within =
-        let counted = length-take-le k v.symbols.levels (omega (arith, get_within v.symbols.levels k l here)) in
+        let counted = length-take-le k v.symbols.levels (omega (arith, slice_get_within v.symbols.levels k l here)) in
         rw (get_or-take k v.symbols.levels i d (omega (arith, lt, within, counted)), get_or-take k v.symbols.levels j d (omega (arith, within, counted)))
-        (is.levels.rising i j d lt (omega (arith, within, counted, get_within v.symbols.levels k l here)))
+        (is.levels.rising i j d lt (omega (arith, within, counted, slice_get_within v.symbols.levels k l here)))

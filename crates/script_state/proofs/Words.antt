@@ -7,7 +7,7 @@ use Rattle.smt_text.specs.declared.token.TokenKind.TheVariants as kind
 use Rattle.smt_syntax.specs.declared.span.Span.{Span}
 use Rattle.smt_syntax.specs.Sexps.{Sign, open_paren, close_paren, word, Sexp, atom, group, spellings, sign_by, sign_in, signs_in, signs_of}
 use Rattle.smt_syntax.specs.Spans.{Stands}
-use Rattle.smt_build.proofs.Spellings.{signs_same}
+use Rattle.smt_syntax.proofs.CommandReadings.{signs_same}
 use Rattle.script_state.specs.Steps.{is_logic, names_logic}
 
 front : (ts : List Token) (n i : ℕ) (s : Sign) (rest : List Sign) (d : Token) → ◌≡◌ {A = List Sign} (take n (drop i (signs_in ts))) (s ∷ rest) → (i < length ts) × (sign_in (get_or ts i d) ≡ s)

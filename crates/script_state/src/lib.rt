@@ -35,4 +35,6 @@ pub mod state;
 mod tests;
 mod whole;
 mod word;
+#[cfg(test)]
+mod worked;
 mod written;

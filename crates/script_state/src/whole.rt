@@ -1,23 +1,11 @@
 //! Whether tokens are one list in parentheses.
 
-ghost use Rattle.std.specs.Prelude.{◌≡◌, ◌+◌, ◌<◌, ◌^◌, ℕ, List};
-ghost use Rattle.smt_syntax.specs.Sexps.{sign_by, signs_in, signs_of};
-ghost use Rattle.smt_syntax.specs.Depth.{open_after};
+ghost use Rattle.std.specs.Prelude.{◌≡◌};
+ghost use Rattle.smt_syntax.specs.Sexps.{signs_in, signs_of};
 ghost use Rattle.script_state.specs.Readings.{closes, is_list};
 
+use smt_syntax::depth::open_after;
 use smt_text::token::{Token, TokenKind, Tokens};
-
-/// How many parentheses are open behind a token.
-fn open_after(depth: usize, kind: TokenKind) -> usize
-    requires { depth + 1 < 2 ^ 64 }
-    ensures { (text : List ℕ) → result ≡ open_after depth (sign_by kind text) }
-{
-    match kind {
-        TokenKind::Open => depth + 1,
-        TokenKind::Close => depth.saturating_sub(1),
-        _ => depth,
-    }
-}
 
 /// Whether the one open parenthesis closes with the last token.
 fn closes(tokens: &[Token<'_>]) -> bool

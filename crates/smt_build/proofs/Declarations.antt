@@ -10,6 +10,7 @@ use Rattle.smt_syntax.specs.declared.command.Command.TheVariants as command
 use Rattle.smt_syntax.specs.Sexps.{Sign, close_paren, Sexp, Sexps, atom, group, none, more, spelling, spellings, signs_in}
 use Rattle.smt_syntax.specs.Spans.{AllStand, Stands}
 use Rattle.smt_syntax.specs.Commands.{name_of, spans_of}
+use Rattle.smt_syntax.proofs.CommandReadings.{length-signs, some_signs}
 use Rattle.smt_terms.specs.declared.sort.Sort.{Sort}
 use Rattle.smt_build.specs.declared.fault.BuildFault.{BuildFault}
 use Rattle.smt_build.specs.declared.fault.BuildFault.TheVariants.{Declared, Reserved, NotSupported}
@@ -72,27 +73,18 @@ not_defined v x e = go (is_some (declaration_of v.live x)) (meaning_in v.definit
 
 -- ---- functions
 
-signs_length : (ts : List Token) → length (signs_in ts) ≡ length ts
-signs_length [] = refl
-signs_length (t ∷ ts) = ap suc (signs_length ts)
-
--- a spelling is not empty
-spelled_some : (e : Sexp) → 1 ≤ length (spelling e)
-spelled_some (atom k x) = omega arith
-spelled_some (group es) = omega arith
-
 -- two tokens are an empty list, and no other number is
 pub no_arguments : (v : SymbolsValue) (ts : List Token) (a s : Sexp) → length ts ≡ 2 → signs_in ts ≡ spelling a → value_sort v a s ≡ sort_in v.sorts s
-no_arguments v ts (atom k x) s l e = absurd (let p : 2 ≡ 1 = sym l ∙ sym (signs_length ts) ∙ ap length e in let z : ⊥ = omega arith in z)
+no_arguments v ts (atom k x) s l e = absurd (let p : 2 ≡ 1 = sym l ∙ sym (length-signs ts) ∙ ap length e in let z : ⊥ = omega arith in z)
 no_arguments v ts (group none) s l e = refl
 no_arguments v ts (group (more x es)) s l e = absurd (
-    let p : 2 ≡ suc (length ((spelling x ++ spellings es) ++ close_paren ∷ [])) = sym l ∙ sym (signs_length ts) ∙ ap length e in
-    let q : 1 ≤ length (spelling x) = spelled_some x in
+    let p : 2 ≡ suc (length ((spelling x ++ spellings es) ++ close_paren ∷ [])) = sym l ∙ sym (length-signs ts) ∙ ap length e in
+    let q : 1 ≤ length (spelling x) = some_signs x in
     let z : ⊥ = omega (arith, length-append (spelling x ++ spellings es) (close_paren ∷ []), length-append (spelling x) (spellings es)) in z)
 
 pub some_arguments : (v : SymbolsValue) (ts : List Token) (a s : Sexp) → (length ts ≡ 2 → ⊥) → signs_in ts ≡ spelling a → value_sort v a s ≡ Err NotSupported
 some_arguments v ts (atom k x) s l e = refl
-some_arguments v ts (group none) s l e = absurd (l (sym (signs_length ts) ∙ ap length e))
+some_arguments v ts (group none) s l e = absurd (l (sym (length-signs ts) ∙ ap length e))
 some_arguments v ts (group (more x es)) s l e = refl
 
 -- ---- commands

@@ -1,5 +1,5 @@
 -- The definition that tokens ask for.
-use Rattle.std.proofs.Common.{◌≡◌, ℕ, ◌≤◌, ◌<◌, true, false, List, [], ◌∷◌, length, get_or, refl, ap, sym, ◌∙◌, subst, Option, Some, None, Result, Ok, Err}
+use Rattle.std.proofs.Common.{◌≡◌, ℕ, ◌≤◌, ◌<◌, true, false, List, [], ◌∷◌, length, get_or, refl, ap, sym, ◌∙◌, subst, Result, Ok, Err}
 use Rattle.std.specs.Prelude.{is_some}
 use Rattle.smt_text.specs.declared.token.Token.{Token}
 use Rattle.smt_text.specs.declared.token.CommandName.{CommandName}
@@ -54,10 +54,6 @@ module _ (v : SymbolsValue) (ts : List Token) (d : Token) (a : 1 ≤ length ts) 
 
   pub new_sort : is_sort_reserved sort_text ≡ false → is_some (meaning_in v.sorts sort_text) ≡ false → (r : Sort) → s ≡ Ok r → name_sort v n s ≡ next_sort v sort_text r
   new_sort f g r h = as_sort ∙ rw (f, g, h) refl
-
-pub none_there : {A : Type 0} (m : Option A) → is_some m ≡ false → m ≡ None
-none_there None e = refl
-none_there (Some a) e = absurd (let z : ⊥ = cc in z)
 
 pub defines_sort : (tokens : List Sign) (a b c : Span) (es : Sexps) → AllStand tokens (a ∷ b ∷ c ∷ []) es → (r : Result (Unit {0}) BuildError) (old new : SymbolsValue) (value : Result Sort BuildFault)
     → ((n : Sexp) → Stands tokens a n → DefinesSort (name_sort old n value) r old new) → ((p s : Sexp) → Stands tokens b p → Stands tokens c s → value ≡ value_sort old p s) → DefinesSort (define_sort old name.DefineSort es) r old new

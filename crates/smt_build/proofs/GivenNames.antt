@@ -1,5 +1,6 @@
 -- Names that become definitions.
 use Rattle.std.proofs.Common.{◌≡◌, ℕ, ◌+◌, ◌<◌, Bool, true, false, List, [], ◌∷◌, ◌++◌, length, map, take, get_or, refl, ap, sym, ◌∙◌, append_assoc, append-nil, subst, Ok, Err}
+use Rattle.std.proofs.Math.Seq.{take-append_seam}
 use Rattle.std.specs.Prelude.{is_some, if◌then◌else◌}
 use Rattle.std.proofs.lemmas.List.{take_more, map-append}
 use Rattle.smt_syntax.specs.Sexps.{Sexp}
@@ -15,7 +16,6 @@ use Rattle.smt_build.specs.Binding.{Progress, Read}
 use Rattle.smt_build.specs.Terms.{term_in}
 use Rattle.smt_build.specs.Views.{ReadsTerm}
 use Rattle.smt_build.specs.Asserting.{with_name, with_names, as_assertion, assertion, Asserts}
-use Rattle.smt_build.proofs.Growth.{take_front}
 
 names_push : (v : SymbolsValue) (bs : Bound) (b : List ℕ × ℕ) → with_names v (bs ++ b ∷ []) ≡ with_name (with_names v bs) b
 names_push v [] b = refl
@@ -50,7 +50,7 @@ adds_names v [] = adds_none v
 adds_names v (b ∷ bs) = adds_both v (with_name v b) (with_names (with_name v b) bs) (adds_name v b) (adds_names (with_name v b) bs)
 
 pub given_cut : (v now new : SymbolsValue) (bs : Bound) (count : ℕ) → count ≡ length v.definitions → now ≡ with_names v bs → new ≡ with_definitions now count → new ≡ v
-given_cut v now new bs count c e f = f ∙ rw (c, e ∙ (adds_names v bs).same) (λ i. record { live = v.live; signatures = v.signatures; definitions = take_front v.definitions (adds_names v bs).more i; sorts = v.sorts; levels = v.levels })
+given_cut v now new bs count c e f = f ∙ rw (c, e ∙ (adds_names v bs).same) (λ i. record { live = v.live; signatures = v.signatures; definitions = take-append_seam v.definitions (adds_names v bs).more i; sorts = v.sorts; levels = v.levels })
 
 pub given_signatures : (v new : SymbolsValue) (bs : Bound) → new ≡ with_names v bs → new.signatures ≡ v.signatures
 given_signatures v new bs e = ap (λ s. s.signatures) (e ∙ (adds_names v bs).same)

@@ -1,5 +1,6 @@
 -- Making terms only appends, and names only declarations that were made.
 use Rattle.std.proofs.Common.{◌≡◌, ℕ, ◌≤◌, Bool, true, false, List, [], ◌∷◌, ◌++◌, length, refl, ap, sym, ◌∙◌, subst, arith, ⊎_elim, append_assoc, append-nil, length-append, Option, Some, None, Result, Ok, Err}
+use Rattle.std.proofs.Math.Seq.{take-append_seam}
 use Rattle.std.specs.Prelude.{nat_lt, take, position, slice_get, if◌then◌else◌}
 use Rattle.smt_terms.specs.declared.sort.Sort.{Sort}
 use Rattle.smt_terms.specs.declared.sort.Signature.{Signature}
@@ -107,13 +108,9 @@ made_grows signatures old n k t new e = remade_grows signatures old n (λ h. k) 
 
 -- ---- cutting
 
-pub take_front : {A : Type 0} (xs ys : List A) → take (length xs) (xs ++ ys) ≡ xs
-take_front [] ys = refl
-take_front (x ∷ xs) ys = ap (λ l. x ∷ l) (take_front xs ys)
-
 pub longer : (signatures : List Signature) (old new : TermsValue) → Grows signatures old new → length old.nodes ≤ length new.nodes
 longer signatures old new g = rw g.nodes (omega (arith, length-append old.nodes g.behind))
 
 -- what was appended is forgotten
 pub cut_back : (signatures : List Signature) (old mid new : TermsValue) (len : ℕ) → Grows signatures old mid → len ≡ length old.nodes → new ≡ cut_at mid len → new ≡ old
-cut_back signatures old mid new len g l e = e ∙ rw l (λ i. record { nodes = (ap (take (length old.nodes)) g.nodes ∙ take_front old.nodes g.behind) i; limit = g.limit i })
+cut_back signatures old mid new len g l e = e ∙ rw l (λ i. record { nodes = (ap (take (length old.nodes)) g.nodes ∙ take-append_seam old.nodes g.behind) i; limit = g.limit i })

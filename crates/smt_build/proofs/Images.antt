@@ -1,8 +1,8 @@
 -- What stands for the terms of a body, from the first that it reaches.
 use Rattle.std.proofs.Common.{◌≡◌, ℕ, zero, suc, ◌+◌, ◌-◌, ◌<◌, ◌≤◌, Bool, true, false, List, [], ◌∷◌, ◌++◌, length, map, get_or, take, refl, ap, sym, ◌∙◌, subst, arith, ⊎_elim, append_assoc, append-nil, length-append, Some, None, Result, Ok, Err}
-use Rattle.std.specs.Prelude.{◌&&◌, ◌||◌, ◌==◌, nat_lt}
+use Rattle.std.specs.Prelude.{◌&&◌, ◌||◌, ◌==◌}
 use Rattle.std.specs.List.{list_any}
-use Rattle.std.proofs.lemmas.Bool.{cases_lt, ltb-true}
+use Rattle.std.proofs.lemmas.Bool.{cases_lt, le-ltb}
 use Rattle.std.proofs.lemmas.List.{get_or_append_left, get_or-append_right, take_more, map-append}
 use Rattle.std.proofs.Math.Seq.{get_or-append_seam}
 use Rattle.smt_terms.specs.declared.sort.Signature.{Signature}
@@ -66,12 +66,6 @@ again_made args found old new t (Err NoMemory) e b = tt
 
 -- ---- all terms
 
-not_less : (a b : ℕ) → b ≤ a → nat_lt a b ≡ false
-not_less a b le = go (nat_lt a b) refl where
-  go : (t : Bool) → nat_lt a b ≡ t → t ≡ false
-  go true e = absurd (let lt : a < b = ltb-true a b e in omega (arith, lt, le))
-  go false e = refl
-
 module _ (terms : TermsValue) (body : ℕ) (args : List ℕ) where
   abbrev all : ℕ → Listed
   all u = images terms.nodes body args terms u
@@ -108,7 +102,7 @@ module _ (terms : TermsValue) (body : ℕ) (args : List ℕ) where
   unfolding instance
   instance_past le = rw (images_before body (λ u lt. none u), none body) refl where
     none : (u : ℕ) → reaches terms.nodes body u ≡ false
-    none u = ap (λ b. b && at_term false (λ v op found. (v == u) || list_any (λ b. b) found) terms.nodes body) (not_less body (length terms.nodes) le)
+    none u = ap (λ b. b && at_term false (λ v op found. (v == u) || list_any (λ b. b) found) terms.nodes body) (le-ltb body (length terms.nodes) le)
 
 -- ---- the walk over the terms of a body
 

@@ -1,5 +1,6 @@
 -- What words and applications mean has a property that the bodies of definitions and the arguments have.
 use Rattle.std.proofs.Common.{◌≡◌, ℕ, ◌*◌, ◌^◌, Bool, true, false, List, [], ◌∷◌, length, refl, eq-eqb, Option, Some, None, Ok, Err}
+use Rattle.std.proofs.lemmas.Bool.{or_right}
 use Rattle.std.specs.Prelude.{◌==◌, nat_le, nat_lt, slice_get, if◌then◌else◌}
 use Rattle.std.specs.Str.{bytes_eq}
 use Rattle.smt_text.specs.declared.token.TokenKind.{TokenKind}
@@ -28,7 +29,6 @@ use Rattle.smt_build.specs.Applying.{symbol_by, symbol_term, word_term, applicat
 use Rattle.smt_build.specs.Indices.{Indices, one, two, many, Head, plain, indexed, is_word_name, word_by, word_in, word_of, known, with_indices, first_width, indexed_by, indexed_application}
 use Rattle.smt_build.specs.Binding.{misused}
 use Rattle.smt_build.proofs.Growth.{constant_declared}
-use Rattle.smt_build.proofs.Reaching.{or_behind}
 use Rattle.smt_build.proofs.KeptTerms as kept_terms
 use Rattle.smt_build.proofs.KeptTerms.{IsKept, MayStand, none_stands}
 use Rattle.smt_build.proofs.KeptGroups as kept_groups
@@ -40,7 +40,7 @@ live_found [] x = refl
 live_found (l ∷ ls) x = go (bytes_eq x l.name) (declaration_of ls x) (live_found ls x) where
   behind : (d : Option ℕ) → names_live ls d ≡ true → names_live (l ∷ ls) d ≡ true
   behind None h = refl
-  behind (Some d) h = or_behind (l.declaration == d) (is_live ls d) h
+  behind (Some d) h = or_right (l.declaration == d) (is_live ls d) h
 
   go : (here : Bool) (d : Option ℕ) → names_live ls d ≡ true → names_live (l ∷ ls) (if here then Some l.declaration else d) ≡ true
   go true d h = rw (eq-eqb l.declaration l.declaration refl) refl

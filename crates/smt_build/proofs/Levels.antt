@@ -1,5 +1,6 @@
 -- Levels that begin, and levels that end.
 use Rattle.std.proofs.Common.{◌≡◌, ℕ, ◌+◌, ◌-◌, List, [], ◌∷◌, ◌++◌, length, take, refl, ap, sym, ◌∙◌, append_assoc, map, Some, None, Vec, Global}
+use Rattle.std.proofs.Math.Seq.{take-append_seam}
 use Rattle.std.specs.Prelude.{replicate, slice_get}
 use Rattle.std.proofs.lemmas.List.{take-map, replicate-append-replicate}
 use Rattle.smt_terms.specs.declared.sort.Sort.{Sort}
@@ -7,7 +8,6 @@ use Rattle.smt_build.specs.declared.definition.Definition.{Definition}
 use Rattle.smt_build.specs.declared.symbols.LiveName.{LiveName}
 use Rattle.smt_build.specs.declared.symbols.Level.{Level}
 use Rattle.smt_build.specs.Names.{SymbolsValue, Meanings, AreNumbers, entry_of, named_number, popped, with_definition, with_definitions, with_sort}
-use Rattle.smt_build.proofs.Growth.{take_front}
 
 -- so many copies were put at the end
 pub record HasCopied (old now : List Level) (x : Level) (n : ℕ) : Type 0 where
@@ -17,7 +17,7 @@ pub copied_more : (old now new : List Level) (x : Level) (n : ℕ) → HasCopied
 copied_more old now new x n h e = record { same = e ∙ ap (λ l. l ++ x ∷ []) h.same ∙ append_assoc old (replicate n x) (x ∷ []) ∙ ap (λ l. old ++ l) (replicate-append-replicate n 1 x) }
 
 pub copied_cut : (old now new : List Level) (x : Level) (n len : ℕ) → HasCopied old now x n → len ≡ length old → new ≡ take len now → new ≡ old
-copied_cut old now new x n len h l e = e ∙ rw (l, h.same) (take_front old (replicate n x))
+copied_cut old now new x n len h l e = e ∙ rw (l, h.same) (take-append_seam old (replicate n x))
 
 -- the names before a place, with their numbers
 pub numbers_cut : (live more : List LiveName) (es new : List (Vec ℕ Global × ℕ)) (k : ℕ) → AreNumbers live es → more ≡ take k live → new ≡ take k es → AreNumbers more new

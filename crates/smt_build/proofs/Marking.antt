@@ -2,8 +2,8 @@
 use Rattle.std.proofs.Common.{◌≡◌, ℕ, zero, suc, ◌+◌, ◌-◌, ◌<◌, ◌≤◌, Bool, true, false, List, [], ◌∷◌, ◌++◌, length, map, get_or, set, take, replicate, refl, ap, sym, ◌∙◌, subst, arith, inl, inr, ⊎_elim, length-append, append-nil}
 use Rattle.std.specs.Prelude.{◌⊎◌, ◌≢◌, ◌==◌, ◌&&◌, ◌||◌, All}
 use Rattle.std.specs.List.{list_any}
-use Rattle.std.proofs.lemmas.Bool.{eqb-true, eq-eqb, lt-ltb, cases_lt}
-use Rattle.std.proofs.lemmas.List.{get_or-set_same, get_or-set_other, length-set, length-replicate}
+use Rattle.std.proofs.lemmas.Bool.{eqb-true, eq-eqb, lt-ltb, cases_lt, cases_eq, or_left, or_right, or_cases}
+use Rattle.std.proofs.lemmas.List.{get_or_default, take_all, get_or-set_same, get_or-set_other, length-set, length-replicate}
 use Rattle.std.proofs.lemmas.List.Elements.{All-from_recursion, All-weaker, All-more}
 use Rattle.smt_terms.specs.declared.node.Node.{Node}
 use Rattle.smt_terms.specs.Nodes.{node_at, below, at_term}
@@ -13,18 +13,6 @@ use Rattle.smt_build.specs.Definitions.{reaches}
 use Rattle.smt_build.specs.Reached.{mark_of, IsMarked, AreMarks, Marks, AreClosed, Closes, AreReached}
 
 -- ---- what is reached
-
-or_left : (a b : Bool) → a ≡ true → (a || b) ≡ true
-or_left true b e = refl
-or_left false b e = cc
-
-or_right : (a b : Bool) → b ≡ true → (a || b) ≡ true
-or_right true b e = refl
-or_right false b e = e
-
-or_either : (a b : Bool) → (a || b) ≡ true → (a ≡ true) ⊎ (b ≡ true)
-or_either true b e = inl refl
-or_either false b e = inr e
 
 any_member : (f : ℕ → Bool) (xs : List ℕ) (k d : ℕ) → k < length xs → f (get_or xs k d) ≡ true → list_any (λ b. b) (map f xs) ≡ true
 any_member f [] k d lt e = absurd (omega arith)
@@ -37,7 +25,7 @@ any_found f (x ∷ xs) e =
     ⊎_elim
     (λ (p : f x ≡ true). let none : 0 < length (x ∷ xs) = omega arith in (0, none, p))
     (λ (p : list_any (λ b. b) (map f xs) ≡ true). let r = any_found f xs p in let more : suc r.0 < length (x ∷ xs) = omega (arith, r.1) in (suc r.0, more, r.2))
-    (or_either (f x) (list_any (λ b. b) (map f xs)) e)
+    (or_cases (f x) (list_any (λ b. b) (map f xs)) e)
 
 module _ (nodes : List Node) where
   abbrev from : ℕ → ℕ → Bool
@@ -71,7 +59,7 @@ module _ (nodes : List Node) where
     through t u k d lt less e = here t u lt ∙ or_right (t == u) _ (any_member (λ a. from a u) (args t) k d less e)
 
     apart : (t u : ℕ) → t < length nodes → from t u ≡ true → (t ≡ u) ⊎ ((k : ℕ) × (k < length (args t)) × (from (get_or (args t) k 0) u ≡ true))
-    apart t u lt e = ⊎_elim (λ (p : (t == u) ≡ true). inl (eqb-true t u p)) (λ p. inr (any_found (λ a. from a u) (args t) p)) (or_either (t == u) _ (sym (here t u lt) ∙ e))
+    apart t u lt e = ⊎_elim (λ (p : (t == u) ≡ true). inl (eqb-true t u p)) (λ p. inr (any_found (λ a. from a u) (args t) p)) (or_cases (t == u) _ (sym (here t u lt) ∙ e))
 
     further : (n t v k d : ℕ) → t < n → t < length nodes → k < length (args v) → from t v ≡ true → from t (get_or (args v) k d) ≡ true
     further zero t v k d below lt less e = absurd (omega arith)
@@ -111,12 +99,6 @@ past_marks [] i le = refl
 past_marks (m ∷ marks) zero le = absurd (omega arith)
 past_marks (m ∷ marks) (suc i) le = past_marks marks i (omega (arith, le))
 
--- what stands past the end does not count before it
-pub any_default : (marks : List Bool) (i : ℕ) (d e : Bool) → i < length marks → get_or marks i d ≡ get_or marks i e
-any_default [] i d e lt = absurd (omega arith)
-any_default (m ∷ marks) zero d e lt = refl
-any_default (m ∷ marks) (suc i) d e lt = any_default marks i d e (omega (arith, lt))
-
 -- a term with a mark has a place
 pub marked_within : (body : ℕ) (marks : List Bool) (t : ℕ) → IsMarked body marks t → body - t < length marks
 marked_within body marks t m = ⊎_elim (λ lt. lt) (λ le. absurd (let z : ◌≡◌ {A = Bool} false true = sym (past_marks marks (body - t) le) ∙ m.1 in let f : ⊥ = cc in f)) (cases_lt (body - t) (length marks))
@@ -131,24 +113,11 @@ padded [] k i = unmarked k i
 padded (m ∷ marks) k zero = refl
 padded (m ∷ marks) k (suc i) = padded marks k i
 
-take_longer : (xs : List Bool) (n : ℕ) → length xs ≤ n → take n xs ≡ xs
-take_longer [] zero le = refl
-take_longer [] (suc n) le = refl
-take_longer (x ∷ xs) zero le = absurd (omega arith)
-take_longer (x ∷ xs) (suc n) le = ap (λ l. x ∷ l) (take_longer xs n (omega (arith, le)))
-
 pub extended : (old new : List Bool) (n k : ℕ) → length old < n → k ≡ length old → new ≡ take n old ++ replicate (n - k) false → new ≡ old ++ replicate (n - length old) false
-extended old new n k lt s e = e ∙ rw (s, take_longer old n (omega (arith, lt))) refl
+extended old new n k lt s e = e ∙ rw (s, take_all n old (omega (arith, lt))) refl
 
 pub long_enough : (old : List Bool) (n : ℕ) → n ≤ length old → old ≡ old ++ replicate (n - length old) false
 long_enough old n le = let none : n - length old ≡ 0 = omega (arith, le) in rw none (sym (append-nil old))
-
-same_or_other : (a b : ℕ) → (a ≡ b) ⊎ (a ≢ b)
-same_or_other a b = go (a == b) refl
-  where
-    go : (t : Bool) → (a == b) ≡ t → (a ≡ b) ⊎ (a ≢ b)
-    go true e = inl (eqb-true a b e)
-    go false e = inr (λ s. let q : (a == b) ≡ true = eq-eqb a b s in let f : ⊥ = cc in f)
 
 module _ (nodes : List Node) (body : ℕ) where
   pub marks_begin : (marks : List Bool) → marks ≡ [] → AreMarks nodes body marks
@@ -175,10 +144,10 @@ module _ (nodes : List Node) (body : ℕ) where
     set_marks = record {
       marks = record {
         within = omega (arith, are.within, mid_length, new_length, le);
-        reached = λ u m. ⊎_elim (λ (e : u ≡ t). subst (λ x. reaches nodes body x ≡ true) (sym e) reached) (λ (ne : u ≢ t). are.reached u (m.0, sym (at_other u m.0 ne) ∙ m.1)) (same_or_other u t);
+        reached = λ u m. ⊎_elim (λ (e : u ≡ t). subst (λ x. reaches nodes body x ≡ true) (sym e) reached) (λ (ne : u ≢ t). are.reached u (m.0, sym (at_other u m.0 ne) ∙ m.1)) (cases_eq u t);
       };
       longer = omega (arith, mid_length, new_length);
-      kept = λ u m. ⊎_elim (λ (e : u ≡ t). subst (λ x. IsMarked body new x) (sym e) (le, at_here)) (λ (ne : u ≢ t). (m.0, at_other u m.0 ne ∙ m.1)) (same_or_other u t);
+      kept = λ u m. ⊎_elim (λ (e : u ≡ t). subst (λ x. IsMarked body new x) (sym e) (le, at_here)) (λ (ne : u ≢ t). (m.0, at_other u m.0 ne ∙ m.1)) (cases_eq u t);
       same = λ u ge m. (let ne : u ≢ t = λ e. omega (arith, e, ge, lt) in (m.0, sym (at_other u m.0 ne) ∙ m.1));
       given = All-from_recursion (IsMarked body new) (t ∷ []) ((le, at_here), tt);
     }
@@ -223,12 +192,12 @@ module _ (nodes : List Node) (body : ℕ) where
     pub closes_past : (marks : List Bool) (d : Bool) → depth < length marks → AreMarks nodes body marks → get_or marks depth d ≡ false → Closes nodes body depth marks marks
     closes_past marks d lt are e =
         let place : body - (body - depth) ≡ depth = omega (arith, le) in
-        record { marks = are; longer = omega arith; kept = λ t m. m; closed = λ h. closed_past marks h (ap (λ i. get_or marks i false) place ∙ any_default marks depth false d lt ∙ e) }
+        record { marks = are; longer = omega arith; kept = λ t m. m; closed = λ h. closed_past marks h (ap (λ i. get_or marks i false) place ∙ get_or_default marks depth false d lt ∙ e) }
 
     pub here_marked : (marks : List Bool) (d : Bool) → depth < length marks → get_or marks depth d ≡ true → IsMarked body marks (body - depth)
     here_marked marks d lt e =
         let place : body - (body - depth) ≡ depth = omega (arith, le) in
-        (omega arith, ap (λ i. get_or marks i false) place ∙ any_default marks depth false d lt ∙ e)
+        (omega arith, ap (λ i. get_or marks i false) place ∙ get_or_default marks depth false d lt ∙ e)
 
   pub all_reached : (marks : List Bool) (depth : ℕ) → IsTermList nodes → body < length nodes → AreMarks nodes body marks → IsMarked body marks body → AreClosed nodes body marks depth → length marks ≤ depth → AreReached nodes body marks
   all_reached marks depth list lt are begun closed past = record { some = omega (arith, marked_within body marks body begun); within = are.within; each = each } where

@@ -8,7 +8,7 @@ use Rattle.std.specs.Str.{bytes_eq}
 use Rattle.std.proofs.lemmas.Cmp.{nat_list_eq_equiv}
 use Rattle.std.proofs.Math.Dec.{leb-zero, leb-suc-zero, leb-suc-suc}
 use Rattle.std.proofs.lemmas.Slice.Eq.{bytes_eq-Decides}
-use Rattle.std.proofs.lemmas.List.{drop-map, map-append}
+use Rattle.std.proofs.lemmas.List.{drop-map, map-append, take_all, take-take}
 use Rattle.smt_build.specs.declared.scope.Variable.{Variable}
 use Rattle.smt_build.specs.Pairs.{Bound, innermost, bound_at, pair_of, place_of, AreHidden, ArePlaces}
 
@@ -151,21 +151,9 @@ module _ (list : List Variable) (es : Places) (now : Bound) (name : Bor (List �
 pub from_place : (ys zs : List Variable) (n : ℕ) (other : Bound) → map pair_of ys ≡ other → zs ≡ drop n ys → map pair_of zs ≡ drop n other
 from_place ys zs n other e f = ap (map pair_of) f ∙ sym (drop-map pair_of n ys) ∙ ap (drop n) e
 
-take_less : {A : Type 0} (n m : ℕ) (xs : List A) → n ≤ m → take n (take m xs) ≡ take n xs
-take_less zero m xs h = refl
-take_less (suc n) zero xs h = absurd (omega (arith, h))
-take_less (suc n) (suc m) [] h = refl
-take_less (suc n) (suc m) (x ∷ xs) h = ap (λ l. x ∷ l) (take_less n m xs (omega (arith, h)))
-
-take_whole : {A : Type 0} (n : ℕ) (xs : List A) → length xs ≤ n → take n xs ≡ xs
-take_whole zero [] h = refl
-take_whole zero (x ∷ xs) h = absurd (omega (arith, h))
-take_whole (suc n) [] h = refl
-take_whole (suc n) (x ∷ xs) h = ap (λ l. x ∷ l) (take_whole n xs (omega (arith, h)))
-
 -- a name is forgotten behind the front
 pub cut_more : (len : ℕ) (old now new : Bound) → take len now ≡ take len old → new ≡ take (length now - 1) now → len < length now → take len new ≡ take len old
-cut_more len old now new h e k = ap (take len) e ∙ take_less len (length now - 1) now (omega (arith, k)) ∙ h
+cut_more len old now new h e k = ap (take len) e ∙ take-take len (length now - 1) now (omega (arith, k)) ∙ h
 
 pub cut_end : (len : ℕ) (old now : Bound) → take len now ≡ take len old → length now ≤ len → now ≡ take len old
-cut_end len old now h k = sym (take_whole len now k) ∙ h
+cut_end len old now h k = sym (take_all len now k) ∙ h

@@ -1,28 +1,14 @@
 -- What the terms of a list reach: themselves, and what their arguments reach.
 use Rattle.std.proofs.Common.{◌≡◌, ℕ, zero, suc, ◌<◌, Bool, true, false, List, [], ◌∷◌, length, map, refl, sym, ap, ◌∙◌, subst, arith, ⊎_elim, eq-eqb}
-use Rattle.std.specs.Prelude.{◌==◌, ◌&&◌, ◌||◌, nat_lt}
+use Rattle.std.specs.Prelude.{◌==◌, ◌||◌, nat_lt}
 use Rattle.std.specs.List.{list_any, AllByRecursion}
-use Rattle.std.proofs.lemmas.Bool.{eqb-true, cases_lt}
+use Rattle.std.proofs.lemmas.Bool.{eqb-true, cases_lt, or_left, or_right, and_parts, and_from}
 use Rattle.smt_terms.specs.declared.node.Node.{Node}
 use Rattle.smt_terms.specs.Nodes.{node_at, at_term}
 use Rattle.smt_terms.specs.Terms.{IsTermList}
 use Rattle.smt_terms.proofs.Recursion.{at_term_is}
 use Rattle.smt_terms.proofs.Growing.{node_past}
 use Rattle.smt_build.specs.Definitions.{reaches}
-
-pub or_here : (a b : Bool) → a ≡ true → (a || b) ≡ true
-or_here a b h = rw h refl
-
-pub or_behind : (a b : Bool) → b ≡ true → (a || b) ≡ true
-or_behind true b h = refl
-or_behind false b h = h
-
-pub and_parts : (a b : Bool) → (a && b) ≡ true → (a ≡ true) × (b ≡ true)
-and_parts true b h = (refl, h)
-and_parts false b h = absurd (let z : ⊥ = cc in z)
-
-pub both_parts : (a b : Bool) → a ≡ true → b ≡ true → (a && b) ≡ true
-both_parts a b h k = rw (h, k) refl
 
 any_map : (f : ℕ → Bool) (ts : List ℕ) → list_any (λ b. b) (map f ts) ≡ list_any f ts
 any_map f [] = refl
@@ -42,21 +28,21 @@ all_among P (t ∷ ts) w h k = go (t == w) refl k (all_among P ts w h.1) where
 
 pub all_from : (P : ℕ → Type 0) (ts : List ℕ) → ((a : ℕ) → IsAmong ts a → P a) → AllByRecursion P ts
 all_from P [] f = tt
-all_from P (t ∷ ts) f = (f t (or_here (t == t) _ (eq-eqb t t refl)), all_from P ts (λ a k. f a (or_behind (t == a) _ k)))
+all_from P (t ∷ ts) f = (f t (or_left (t == t) _ (eq-eqb t t refl)), all_from P ts (λ a k. f a (or_right (t == a) _ k)))
 
 any_among : (p : ℕ → Bool) (ts : List ℕ) (w : ℕ) → IsAmong ts w → p w ≡ true → list_any p ts ≡ true
 any_among p [] w k h = absurd (let z : ⊥ = cc in z)
 any_among p (t ∷ ts) w k h = go (t == w) refl k (λ q. any_among p ts w q h) where
   go : (b : Bool) → (t == w) ≡ b → (b || list_any (λ a. a == w) ts) ≡ true → (IsAmong ts w → list_any p ts ≡ true) → (p t || list_any p ts) ≡ true
-  go true e q rest = or_here (p t) _ (ap p (eqb-true t w e) ∙ h)
-  go false e q rest = or_behind (p t) _ (rest q)
+  go true e q rest = or_left (p t) _ (ap p (eqb-true t w e) ∙ h)
+  go false e q rest = or_right (p t) _ (rest q)
 
 some_among : (p : ℕ → Bool) (ts : List ℕ) → list_any p ts ≡ true → (w : ℕ) × IsAmong ts w × (p w ≡ true)
 some_among p [] h = absurd (let z : ⊥ = cc in z)
 some_among p (t ∷ ts) h = go (p t) refl h (some_among p ts) where
   go : (b : Bool) → p t ≡ b → (b || list_any p ts) ≡ true → (list_any p ts ≡ true → (w : ℕ) × IsAmong ts w × (p w ≡ true)) → (w : ℕ) × IsAmong (t ∷ ts) w × (p w ≡ true)
-  go true e q rest = (t, or_here (t == t) _ (eq-eqb t t refl), e)
-  go false e q rest = let r = rest q in (r.0, or_behind (t == r.0) _ r.1, r.2)
+  go true e q rest = (t, or_left (t == t) _ (eq-eqb t t refl), e)
+  go false e q rest = let r = rest q in (r.0, or_right (t == r.0) _ r.1, r.2)
 
 -- ---- what a term reaches
 
@@ -80,10 +66,10 @@ module _ (nodes : List Node) (list : IsTermList nodes) where
       ∙ ap (λ b. (t == u) || b) (any_map (λ w. reach nodes w u) (args_of t))
 
   reach_self : (t : ℕ) → reach nodes t t ≡ true
-  reach_self t = reach_is t t ∙ or_here (t == t) _ (eq-eqb t t refl)
+  reach_self t = reach_is t t ∙ or_left (t == t) _ (eq-eqb t t refl)
 
   reach_by : (t w u : ℕ) → IsAmong (args_of t) w → reach nodes w u ≡ true → reach nodes t u ≡ true
-  reach_by t w u k h = reach_is t u ∙ or_behind (t == u) _ (any_among (λ w. reach nodes w u) (args_of t) w k h)
+  reach_by t w u k h = reach_is t u ∙ or_right (t == u) _ (any_among (λ w. reach nodes w u) (args_of t) w k h)
 
   -- what holds of a term, and of each term with an argument of which it holds, holds of all that reach the term
   module _ (u : ℕ) (Q : ℕ → Type 0) (here : Q u) (up : (t w : ℕ) → IsAmong (args_of t) w → Q w → Q t) where
@@ -98,7 +84,7 @@ module _ (nodes : List Node) (list : IsTermList nodes) where
   pub reaches_args : (t u a : ℕ) → reaches nodes t u ≡ true → IsAmong (args_of u) a → reaches nodes t a ≡ true
   reaches_args t u a h k =
       let p = and_parts (nat_lt t (length nodes)) (reach nodes t u) h in
-      both_parts (nat_lt t (length nodes)) (reach nodes t a) p.0 (upwards u (λ t. reach nodes t a ≡ true) (reach_by u a a k (reach_self a)) (λ t w m q. reach_by t w a m q) (suc t) t (omega arith) p.1)
+      and_from (nat_lt t (length nodes)) (reach nodes t a) p.0 (upwards u (λ t. reach nodes t a ≡ true) (reach_by u a a k (reach_self a)) (λ t w m q. reach_by t w a m q) (suc t) t (omega arith) p.1)
 
   -- what the arguments of each term take from it, all that it reaches takes from it
   pub reached_has : (Has : ℕ → Type 0) → ((t : ℕ) → Has t → AllByRecursion Has (args_of t)) → (t u : ℕ) → reaches nodes t u ≡ true → Has t → Has u

@@ -1,6 +1,7 @@
 -- A term over the live declarations stays one as more is made and declared, and a term that is read is one, where the bodies
 -- of definitions are.
 use Rattle.std.proofs.Common.{◌≡◌, ℕ, zero, suc, ◌<◌, Bool, true, false, List, [], ◌∷◌, ◌++◌, length, map, refl, sym, ap, ◌∙◌, subst, arith, Option, Some, None, Ok}
+use Rattle.std.proofs.lemmas.Bool.{or_left, and_parts, and_from}
 use Rattle.std.specs.Prelude.{◌==◌, ◌&&◌, if◌then◌else◌}
 use Rattle.std.specs.List.{list_all, AllByRecursion}
 use Rattle.std.proofs.lemmas.List.Folds.{list_all-map, list_any-append}
@@ -21,7 +22,6 @@ use Rattle.smt_build.specs.Building.{Built, Grows}
 use Rattle.smt_build.specs.Terms.{term_over, term_of}
 use Rattle.smt_build.proofs.Growth.{longer}
 use Rattle.smt_build.proofs.KeptTerms.{GoOn, IsKept, BodiesHave, Keeps, go_made, list_before}
-use Rattle.smt_build.proofs.Reaching.{or_here, and_parts, both_parts}
 use Rattle.smt_build.proofs.KeptReadings as kept_readings
 
 -- a term is over the live declarations where its node names one or none, and each argument is
@@ -48,7 +48,7 @@ bodies_over_grows signatures live old new ds grows held over = rw grows.nodes (b
 -- ---- more live declarations
 
 pub live_more : (live more : List LiveName) (d : ℕ) → is_live live d ≡ true → is_live (live ++ more) d ≡ true
-live_more live more d h = list_any-append (λ (l : LiveName). l.declaration == d) live more ∙ or_here (is_live live d) (is_live more d) h
+live_more live more d h = list_any-append (λ (l : LiveName). l.declaration == d) live more ∙ or_left (is_live live d) (is_live more d) h
 
 names_more : (live more : List LiveName) (d : Option ℕ) → names_live live d ≡ true → names_live (live ++ more) d ≡ true
 names_more live more None h = refl
@@ -56,7 +56,7 @@ names_more live more (Some d) h = live_more live more d h
 
 all_more : (f g : ℕ → Bool) → ((a : ℕ) → f a ≡ true → g a ≡ true) → (args : List ℕ) → list_all (λ b. b) (map f args) ≡ true → list_all (λ b. b) (map g args) ≡ true
 all_more f g more [] h = refl
-all_more f g more (a ∷ args) h = let p = and_parts (f a) (list_all (λ b. b) (map f args)) h in both_parts (g a) (list_all (λ b. b) (map g args)) (more a p.0) (all_more f g more args p.1)
+all_more f g more (a ∷ args) h = let p = and_parts (f a) (list_all (λ b. b) (map f args)) h in and_from (g a) (list_all (λ b. b) (map g args)) (more a p.0) (all_more f g more args p.1)
 
 abbrev over_below : List LiveName → List Node → ℕ → ℕ → Bool
 over_below live nodes n t = below false (λ u op args. names_live live (declaration_of op) && list_all (λ b. b) args) nodes n t
@@ -71,7 +71,7 @@ below_more live more nodes (suc n) t h = go (t == n) (λ u. below_more live more
   go : (b : Bool) → ((u : ℕ) → over_below live nodes n u ≡ true → over_below (live ++ more) nodes n u ≡ true) → (if b then over_here live nodes n else over_below live nodes n t) ≡ true → (if b then over_here (live ++ more) nodes n else over_below (live ++ more) nodes n t) ≡ true
   go true ih k =
       let p = and_parts (names_live live (declaration_of (node_at nodes n).op)) (list_all (λ b. b) (map (over_below live nodes n) (node_at nodes n).args)) k in
-      both_parts _ _ (names_more live more (declaration_of (node_at nodes n).op) p.0) (all_more (over_below live nodes n) (over_below (live ++ more) nodes n) ih (node_at nodes n).args p.1)
+      and_from _ _ (names_more live more (declaration_of (node_at nodes n).op) p.0) (all_more (over_below live nodes n) (over_below (live ++ more) nodes n) ih (node_at nodes n).args p.1)
   go false ih k = ih t k
 
 pub over_more : (live more : List LiveName) (nodes : List Node) (t : ℕ) → is_over live nodes t ≡ true → is_over (live ++ more) nodes t ≡ true
@@ -96,7 +96,7 @@ over_on signatures live old new t p h = (
 -- of a list all terms are
 all_over : (live : List LiveName) (v : TermsValue) (args : List ℕ) → IsTermList v.nodes → AllByRecursion (IsOver live v) args → list_all (is_over live v.nodes) args ≡ true
 all_over live v [] list h = refl
-all_over live v (a ∷ args) list h = both_parts (is_over live v.nodes a) (list_all (is_over live v.nodes) args) (h.0.1 list) (all_over live v args list h.1)
+all_over live v (a ∷ args) list h = and_from (is_over live v.nodes a) (list_all (is_over live v.nodes) args) (h.0.1 list) (all_over live v args list h.1)
 
 all_over_on : (signatures : List Signature) (live : List LiveName) (old new : TermsValue) (args : List ℕ) → GoOn signatures old new → AllByRecursion (IsOver live old) args → AllByRecursion (IsOver live new) args
 all_over_on signatures live old new [] p h = tt
@@ -120,7 +120,7 @@ over_made signatures live old new n t p names h e =
       λ list.
           over_is live new.nodes t (list t m.within)
           ∙ ap (λ (x : Node). names_live live (declaration_of x.op) && list_all (is_over live new.nodes) x.args) m.node
-          ∙ both_parts _ _ (names list) (all_over live new n.args list (all_over_on signatures live old new n.args p h)),
+          ∙ and_from _ _ (names list) (all_over live new n.args list (all_over_on signatures live old new n.args p h)),
     )
 
 pub over_kept : (symbols : SymbolsValue) → IsKept symbols (IsOver symbols.live)

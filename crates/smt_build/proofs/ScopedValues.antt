@@ -1,5 +1,6 @@
 -- The value of a term over the live declarations depends on these alone.
 use Rattle.std.proofs.Common.{◌≡◌, ℕ, zero, suc, ◌<◌, true, false, List, [], ◌∷◌, map, refl, sym, ap, ◌∙◌, arith}
+use Rattle.std.proofs.lemmas.Bool.{and_parts}
 use Rattle.std.specs.Prelude.{◌&&◌}
 use Rattle.std.specs.List.{list_all, AllByRecursion}
 use Rattle.std.proofs.lemmas.List.Folds.{list_all-map}
@@ -13,7 +14,7 @@ use Rattle.smt_terms.specs.Values.{Value, Interpretation, no_value, read_at, app
 use Rattle.smt_terms.proofs.Recursion.{same_map, at_term_is}
 use Rattle.smt_build.specs.declared.symbols.LiveName.{LiveName}
 use Rattle.smt_build.specs.Scoped.{is_live, names_live, is_over}
-use Rattle.smt_build.proofs.Reaching.{and_parts, earlier}
+use Rattle.smt_build.proofs.Reaching.{earlier}
 
 -- two interpretations agree on the live declarations
 pub record AgreeOn (live : List LiveName) (M N : Interpretation) : Type 0 where

@@ -9,16 +9,12 @@ use Rattle.smt_text.specs.declared.token.TokenKind.TheVariants as kind
 use Rattle.smt_syntax.specs.Sexps.{Sign, open_paren, close_paren, word, Sexp, atom, group, none, more, spelling, spellings, sign_by, sign_in, signs_in, signs_of}
 use Rattle.smt_syntax.specs.declared.span.Span.{Span}
 use Rattle.smt_syntax.specs.Spans.{IsWithin, tokens_at, Stands}
+use Rattle.smt_syntax.proofs.CommandReadings.{signs_same}
 use Rattle.smt_terms.specs.declared.sort.Sort.{Sort}
 use Rattle.smt_build.specs.declared.fault.BuildFault.{BuildFault}
 use Rattle.smt_build.specs.declared.fault.BuildFault.TheVariants.{NotSupported}
 use Rattle.smt_build.specs.Names.{Meanings}
 use Rattle.smt_build.specs.Sorts.{sort_named, width_sort, named_sort, indexed_sort, sort_in}
-
--- the signs of tokens are those of their lexemes
-pub signs_same : (ts : List Token) → signs_of (lexemes_of ts) ≡ signs_in ts
-signs_same [] = refl
-signs_same (t ∷ ts) = ap (λ l. sign_in t ∷ l) (signs_same ts)
 
 -- behind anything stands something more
 pub not_end : {A : Type 0} (xs : List A) (x y z : A) (ys : List A) → ◌≡◌ {A = List A} (x ∷ (xs ++ y ∷ ys)) (z ∷ []) → ⊥

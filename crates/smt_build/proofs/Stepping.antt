@@ -51,10 +51,6 @@ module _ {C F V S E : Type 0} (reader : Reader C F V S E) where
 pub stack-push : (lists : List OpenList) (f : OpenList) → stack_of (lists ++ f ∷ []) ≡ open_of f ∷ stack_of lists
 stack-push lists f = rw (map-append open_of lists (f ∷ []), reverse-append (map open_of lists) (open_of f ∷ [])) refl
 
-pub nothing_left : {X : Type 0} (xs : List X) → length xs ≡ 0 → xs ≡ []
-nothing_left [] e = refl
-nothing_left (x ∷ xs) e = cc
-
 -- a part that is handed to no list
 pub hand_none : (old : List OpenList) (p : ReadPart) (s : State) (symbols : SymbolsValue) (may_name : Bool) → old ≡ [] → handed (term_reader symbols may_name) (stack_of old) (part_of p, s) ≡ Ok (ends (part_of p, s))
 hand_none old p s symbols may_name e = rw e refl

@@ -1,5 +1,6 @@
 -- The walk of the reader of terms gives the term that is meant.
-use Rattle.std.proofs.Common.{◌≡◌, ℕ, Bool, true, false, List, [], ◌∷◌, ◌++◌, length, take, drop, refl, ap, sym, subst, ◌∙◌, append_assoc, append-nil, Result, Ok, Err}
+use Rattle.std.proofs.Common.{◌≡◌, ℕ, Bool, true, false, List, [], ◌∷◌, ◌++◌, length, take, refl, ap, sym, subst, ◌∙◌, append_assoc, append-nil, Result, Ok, Err}
+use Rattle.std.proofs.Math.Seq.{take-append_seam, drop-append_seam}
 use Rattle.std.specs.Prelude.{if◌then◌else◌}
 use Rattle.smt_text.specs.declared.token.TokenKind.TheVariants as kind
 use Rattle.smt_syntax.specs.Sexps.{Sexp, Sexps, atom, group, none, more}
@@ -12,14 +13,6 @@ use Rattle.smt_build.specs.Binding.{Bound, new_variable, Progress, Read, applica
 use Rattle.smt_build.specs.Terms.{attributes_of, name_of, term_in, args_of, let_of, bindings_of, binding_of, body_of, annotated_of}
 use Rattle.smt_build.specs.Indices.{Indices, one, with_index, Head, plain, indices_behind, indexed_in, head_in}
 use Rattle.smt_build.specs.TermReader.{Part, term, head, name, label, passed, binding, Role, a_term, a_head, Open, started, marked, with_indices, application, let_started, let_bound, in_bindings, binding_started, binding_named, bang_started, annotated, labelled, unread, State, progress, state, after, as_part, at_word, opens, context, takes, closes, term_reader}
-
-take_front : {A : Type 0} (xs ys : List A) → take (length xs) (xs ++ ys) ≡ xs
-take_front [] ys = refl
-take_front (x ∷ xs) ys = ap (λ l. x ∷ l) (take_front xs ys)
-
-drop_front : {A : Type 0} (xs ys : List A) → drop (length xs) (xs ++ ys) ≡ ys
-drop_front [] ys = refl
-drop_front (x ∷ xs) ys = drop_front xs ys
 
 module _ (symbols : SymbolsValue) (may_name : Bool) where
   abbrev closed : Result (Open × State) BuildFault → Result (Part × State) BuildFault
@@ -184,7 +177,7 @@ module _ (symbols : SymbolsValue) (may_name : Bool) where
       → ((q : Bound × Progress) → closed (walks (term_reader symbols may_name) (let_bound (length bound)) (state q.1 (bound ++ q.0) coming) es) ≡ shown_term (take (length bound) (bound ++ q.0)) coming (body_of symbols may_name (bound ++ q.0) q.1 es))
       → closed (closed (shown_list bound coming r) >>= λ v. takes let_started v.0 v.1 >>= λ q. walks (term_reader symbols may_name) q.0 q.1 es) ≡ shown_term bound coming (r >>= λ q. body_of symbols may_name (bound ++ q.0) q.1 es)
   unfolding takes closes
-  let_with bound coming p es (Ok q) h = rw (drop_front coming q.0, take_front coming q.0) (h q ∙ rw (take_front bound q.0) refl)
+  let_with bound coming p es (Ok q) h = rw (drop-append_seam coming q.0, take-append_seam coming q.0) (h q ∙ rw (take-append_seam bound q.0) refl)
   let_with bound coming p es (Err f) h = refl
 
   annotated_with : (bound coming : Bound) (p : Progress) (es : Sexps) (r : Read) → closed (shown_term bound coming r >>= λ v. takes bang_started v.0 v.1 >>= λ q. walks (term_reader symbols may_name) q.0 q.1 es) ≡ shown_term bound coming (r >>= λ q. attributes_of symbols may_name q.0 q.1 es >>= λ u. Ok (q.0, u))
@@ -233,7 +226,7 @@ module _ (symbols : SymbolsValue) (may_name : Bool) where
     walk-binding bound coming p found (group none) = refl
     walk-binding bound coming p found (group (more (group xs) es)) = refl
     walk-binding bound coming p found (group (more (atom k x) es)) =
-        rw (drop_front coming found) (variable_with bound (coming ++ found) (length coming) p es (new_variable found x) (λ y. walk-binding-body bound (coming ++ found) y p es))
+        rw (drop-append_seam coming found) (variable_with bound (coming ++ found) (length coming) p es (new_variable found x) (λ y. walk-binding-body bound (coming ++ found) y p es))
 
     walk-let-body : (bound coming : Bound) (n : ℕ) (p : Progress) (es : Sexps) → closed (walks (term_reader symbols may_name) (let_bound n) (state p bound coming) es) ≡ shown_term (take n bound) coming (body_of symbols may_name bound p es)
     walk-let-body bound coming n p none = refl

@@ -6,7 +6,7 @@ ghost use Rattle.smt_build.specs.Names.{AreDeclared};
 use crate::fault::{BuildError, BuildFault};
 use crate::symbols::Symbols;
 use crate::tests::{P, X, declared, no_terms};
-use smt_syntax::command::{Command, read_command};
+use smt_syntax::command::{Command, SyntaxError, read_command};
 use smt_terms::terms::Terms;
 use smt_text::chunk::{Chunk, ChunkKind};
 use smt_text::text::Text;
@@ -22,21 +22,21 @@ fn obey(
     symbols: &mut Symbols,
     terms: &mut Terms,
     tokens: &Tokens<'_>,
-    command: &Command,
-) -> Result<u32, BuildError>
+) -> Result<Result<u32, BuildError>, SyntaxError>
     requires { AreDeclared symbols.old.signatures terms.old.nodes }
     ensures { AreDeclared symbols.new.signatures terms.new.nodes }
 {
-    match command {
-        Command::Assert { term } => symbols.assert_term(alloc, terms, tokens, *term),
-        _ => match symbols.define(alloc, terms, tokens, command) {
-            Ok(()) => Ok(terms.len()),
-            Err(error) => Err(error),
-        },
+    let command = read_command(alloc, tokens)?;
+    if let Command::Assert { term } = &command {
+        return Ok(symbols.assert_term(alloc, terms, tokens, *term));
     }
+    Ok(match symbols.define(alloc, terms, tokens, &command) {
+        Ok(()) => Ok(terms.len()),
+        Err(error) => Err(error),
+    })
 }
 
-/// What a command gives.
+/// What a command's text gives.
 fn done(
     rt: &(impl Abort + AllocGlobal),
     symbols: &mut Symbols,
@@ -47,35 +47,66 @@ fn done(
     ensures { AreDeclared symbols.new.signatures terms.new.nodes }
 {
     let alloc = rt.alloc();
+    let text = Text::from_slice(alloc, text)?;
     let chunk = Chunk {
         line: 1,
         kind: ChunkKind::Balanced,
-        text: Text::from_slice(alloc, text)?,
+        text,
     };
     let Ok(all) = tokens(alloc, &chunk) else {
         panic!(rt; "all are tokens")
     };
-    let command = read_command(alloc, &all)?;
-    Ok(obey(alloc, symbols, terms, &all, &command))
+    Ok(obey(alloc, symbols, terms, &all)?)
 }
 
-/// What a command gives behind a definition, where x is a word of width 8 and p a truth value, and how many terms are held
-/// then.
-fn given(
+/// What a command gives behind a definition.
+fn given_behind(
     rt: &(impl Abort + AllocGlobal),
+    symbols: &mut Symbols,
+    terms: &mut Terms,
+    definition: &[u8],
+    text: &[u8],
+) -> Result<Result<u32, BuildError>, Fail>
+    requires { AreDeclared symbols.old.signatures terms.old.nodes }
+{
+    let _defined = done(rt, symbols, terms, definition)?;
+    done(rt, symbols, terms, text)
+}
+
+/// The same where x is declared as a word of width 8 and p as a truth value, and how many terms are held then.
+fn given_declared(
+    rt: &(impl Abort + AllocGlobal),
+    symbols: &mut Symbols,
     limit: u32,
     definition: &[u8],
     text: &[u8],
 ) -> Result<(Result<u32, BuildError>, u32), Fail>
     requires { limit ≤ 2 ^ 24 }
 {
+    let _x = declared(rt, symbols, X)?;
+    let _p = declared(rt, symbols, P)?;
+    let mut terms = no_terms(rt.alloc(), symbols, limit);
+    let number = given_behind(rt, symbols, &mut terms, definition, text);
+    let len = terms.len();
+    drop(terms);
+    Ok((number?, len))
+}
+
+/// Behind a definition, where x is a word of width 8 and p a truth value, a command gives this, and so many terms are held then.
+fn give(
+    rt: &(impl Abort + AllocGlobal),
+    limit: u32,
+    definition: &[u8],
+    text: &[u8],
+    wanted: (Result<u32, BuildError>, u32),
+) -> Result<(), Fail>
+    requires { limit ≤ 2 ^ 24 }
+{
     let mut symbols = Symbols::new(rt.alloc());
-    let _x = declared(rt, &mut symbols, X)?;
-    let _p = declared(rt, &mut symbols, P)?;
-    let mut terms = no_terms(rt.alloc(), &symbols, limit);
-    let _defined = done(rt, &mut symbols, &mut terms, definition)?;
-    let number = done(rt, &mut symbols, &mut terms, text)?;
-    Ok((number, terms.len()))
+    let given = given_declared(rt, &mut symbols, limit, definition, text);
+    drop(symbols);
+    assert!(rt; given? == wanted);
+    Ok(())
 }
 
 const INC: &[u8] = b"(define-fun inc ((v (_ BitVec 8))) (_ BitVec 8) (bvadd v #x01))";
@@ -180,35 +211,39 @@ const REFUSED: [(&[u8], BuildFault); 20] = [
     (b"(assert (= ((_ inc 1) x) x))", BuildFault::WrongSort),
 ];
 
+/// Definitions, each with how many terms are held then behind the first of the definitions above.
+const DEFINED: [(&[u8], u32); 3] = [
+    (b"(define-fun k ((v Bool) (w Bool)) Bool w)", 4),
+    (b"(define-fun k ((w (_ BitVec 8))) (_ BitVec 8) w)", 3),
+    (b"(define-fun k ((v Bool)) Bool true)", 4),
+];
+
 #[test]
 fn a_use_makes_the_body_anew(rt: HostRuntime) -> Result<(), Fail> {
     for (definition, text, number, count) in &USED {
-        assert!(rt; given(&rt, 100, definition, text)? == (Ok(*number), *count));
+        give(&rt, 100, definition, text, (Ok(*number), *count))?;
     }
     Ok(())
 }
 
 #[test]
 fn parameters_are_made_where_they_are_used(rt: HostRuntime) -> Result<(), Fail> {
-    assert!(rt; given(&rt, 100, INC, b"(define-fun k ((v Bool) (w Bool)) Bool w)")? == (Ok(4), 4));
-    assert!(rt;
-        given(
-            &rt,
-            100,
-            INC,
-            b"(define-fun k ((w (_ BitVec 8))) (_ BitVec 8) w)"
-        )? == (Ok(3), 3)
-    );
-    assert!(rt; given(&rt, 100, INC, b"(define-fun k ((v Bool)) Bool true)")? == (Ok(4), 4));
+    for (definition, count) in &DEFINED {
+        give(&rt, 100, INC, definition, (Ok(*count), *count))?;
+    }
     Ok(())
 }
 
 #[test]
 fn a_refused_definition_or_use_tells_its_first_fault(rt: HostRuntime) -> Result<(), Fail> {
     for (text, fault) in &REFUSED {
-        assert!(rt; given(&rt, 100, INC, text)? == (Err(BuildError::Fault(*fault)), 3));
+        give(&rt, 100, INC, text, (Err(BuildError::Fault(*fault)), 3))?;
     }
-    let full = given(&rt, 4, INC, b"(assert (= (inc #x04) #x05))")?;
-    assert!(rt; full == (Err(BuildError::Fault(BuildFault::TermLimit)), 3));
     Ok(())
+}
+
+#[test]
+fn terms_of_a_use_are_limited(rt: HostRuntime) -> Result<(), Fail> {
+    let limited = Err(BuildError::Fault(BuildFault::TermLimit));
+    give(&rt, 4, INC, b"(assert (= (inc #x04) #x05))", (limited, 3))
 }

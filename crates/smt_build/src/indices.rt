@@ -1,8 +1,6 @@
 // Names with indices.
 
 ghost use Rattle.std.specs.Prelude.{◌≡◌, ◌^◌, ◌≤◌, List, nat_lt, max};
-ghost use Rattle.std.specs.List.{list_all};
-ghost use Rattle.smt_text.specs.Lexicon.{is_digit, is_numeral};
 ghost use Rattle.smt_terms.specs.declared.sort.Signature.{Signature as SignatureValue};
 ghost use Rattle.smt_build.specs.Building.{Means, Builds, Grows};
 ghost use Rattle.smt_build.specs.Operators.{operator_named};
@@ -18,6 +16,7 @@ use crate::symbols::Symbols;
 use smt_terms::list::Arguments;
 use smt_terms::node::{Node, Op, TermId};
 use smt_terms::terms::Terms;
+use smt_text::lexicon::is_numeral;
 use std::alloc::Global;
 
 /// The numerals behind a name; no name takes more than two.
@@ -42,28 +41,6 @@ pub fn with_index<'a>(indices: Indices<'a>, index: &'a [u8]) -> Indices<'a>
     match indices {
         Indices::One(first) => Indices::Two(first, index),
         _ => Indices::Many,
-    }
-}
-
-fn is_digit(byte: u8) -> bool
-    ensures { result ≡ is_digit byte }
-{
-    byte >= b'0' && byte <= b'9'
-}
-
-fn all_digits(word: &[u8]) -> bool
-    ensures { result ≡ list_all is_digit word.now }
-{
-    word.iter().all(|b| is_digit(*b))
-}
-
-fn is_numeral(word: &[u8]) -> bool
-    ensures { result ≡ is_numeral word.now }
-{
-    match word {
-        [] => false,
-        [_] => all_digits(word),
-        [first, ..] => *first != b'0' && all_digits(word),
     }
 }
 

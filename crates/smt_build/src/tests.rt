@@ -5,12 +5,13 @@ ghost use Rattle.smt_build.specs.Names.{AreDeclared};
 
 use crate::fault::{BuildError, BuildFault};
 use crate::symbols::Symbols;
-use smt_syntax::command::{Command, read_command};
+use smt_syntax::command::{Command, SyntaxError, read_command};
 use smt_terms::terms::Terms;
 use smt_text::chunk::{Chunk, ChunkKind};
 use smt_text::text::Text;
+use smt_text::token::Tokens;
 use smt_text::tokens::tokens;
-use std::alloc::Global;
+use std::alloc::{AllocError, Global};
 use std::process::Abort;
 use std::test::Fail;
 
@@ -22,6 +23,8 @@ pub(crate) const P: &[u8] = b"(declare-const p Bool)";
 
 const Q: &[u8] = b"(declare-const q Bool)";
 
+const DECLARED: [&[u8]; 4] = [X, Y, P, Q];
+
 /// No terms yet.
 pub(crate) fn no_terms(alloc: Global, symbols: &Symbols, limit: u32) -> Terms
     requires { limit ≤ 2 ^ 24 }
@@ -31,7 +34,23 @@ pub(crate) fn no_terms(alloc: Global, symbols: &Symbols, limit: u32) -> Terms
     Terms::with_limit(alloc, limit)
 }
 
-/// The number of the declaration or of the asserted term that a command gives.
+/// The number of the asserted term or of the declaration that a command gives.
+fn obey(
+    alloc: Global,
+    symbols: &mut Symbols,
+    terms: &mut Terms,
+    tokens: &Tokens<'_>,
+) -> Result<Result<u32, BuildError>, SyntaxError>
+    requires { AreDeclared symbols.old.signatures terms.old.nodes }
+{
+    let command = read_command(alloc, tokens)?;
+    Ok(match &command {
+        Command::Assert { term } => symbols.assert_term(alloc, terms, tokens, *term),
+        _ => symbols.declare(alloc, tokens, &command),
+    })
+}
+
+/// The same of a command's text.
 fn done(
     rt: &(impl Abort + AllocGlobal),
     symbols: &mut Symbols,
@@ -41,18 +60,16 @@ fn done(
     requires { AreDeclared symbols.old.signatures terms.old.nodes }
 {
     let alloc = rt.alloc();
+    let text = Text::from_slice(alloc, text)?;
     let chunk = Chunk {
         line: 1,
         kind: ChunkKind::Balanced,
-        text: Text::from_slice(alloc, text)?,
+        text,
     };
     let Ok(all) = tokens(alloc, &chunk) else {
         panic!(rt; "all are tokens")
     };
-    Ok(match read_command(alloc, &all)? {
-        Command::Assert { term } => symbols.assert_term(alloc, terms, &all, term),
-        command => symbols.declare(alloc, &all, &command),
-    })
+    Ok(obey(alloc, symbols, terms, &all)?)
 }
 
 /// What a declaration gives.
@@ -62,25 +79,44 @@ pub(crate) fn declared(
     text: &[u8],
 ) -> Result<Result<u32, BuildError>, Fail> {
     let mut terms = no_terms(rt.alloc(), symbols, 0);
-    done(rt, symbols, &mut terms, text)
+    let number = done(rt, symbols, &mut terms, text);
+    drop(terms);
+    number
 }
 
-/// What a command gives where x and y are words of width 8 and p and q are truth values, and how many terms are held then.
-fn given(
+/// What a command gives behind these declarations, and how many terms are held then.
+fn given_behind(
     rt: &(impl Abort + AllocGlobal),
+    symbols: &mut Symbols,
     limit: u32,
     text: &[u8],
 ) -> Result<(Result<u32, BuildError>, u32), Fail>
     requires { limit ≤ 2 ^ 24 }
 {
+    for declaration in &DECLARED {
+        let _number = declared(rt, symbols, declaration)?;
+    }
+    let mut terms = no_terms(rt.alloc(), symbols, limit);
+    let number = done(rt, symbols, &mut terms, text);
+    let len = terms.len();
+    drop(terms);
+    Ok((number?, len))
+}
+
+/// Where x and y are words of width 8 and p and q are truth values, a command gives this, and so many terms are held then.
+fn give(
+    rt: &(impl Abort + AllocGlobal),
+    limit: u32,
+    text: &[u8],
+    wanted: (Result<u32, BuildError>, u32),
+) -> Result<(), Fail>
+    requires { limit ≤ 2 ^ 24 }
+{
     let mut symbols = Symbols::new(rt.alloc());
-    let _x = declared(rt, &mut symbols, X)?;
-    let _y = declared(rt, &mut symbols, Y)?;
-    let _p = declared(rt, &mut symbols, P)?;
-    let _q = declared(rt, &mut symbols, Q)?;
-    let mut terms = no_terms(rt.alloc(), &symbols, limit);
-    let number = done(rt, &mut symbols, &mut terms, text)?;
-    Ok((number, terms.len()))
+    let given = given_behind(rt, &mut symbols, limit, text);
+    drop(symbols);
+    assert!(rt; given? == wanted);
+    Ok(())
 }
 
 /// Terms, each with its number and with how many terms are then held.
@@ -275,25 +311,37 @@ const FULL: [(&[u8], BuildFault); 3] = [
 #[test]
 fn terms_are_made_in_their_order(rt: HostRuntime) -> Result<(), Fail> {
     for (text, number, count) in &MADE {
-        assert!(rt; given(&rt, 100, text)? == (Ok(*number), *count));
+        give(&rt, 100, text, (Ok(*number), *count))?;
     }
     Ok(())
 }
 
 #[test]
-fn names_of_terms_last_with_their_level(rt: HostRuntime) -> Result<(), Fail> {
-    let mut symbols = Symbols::new(rt.alloc());
-    let _p = declared(&rt, &mut symbols, P)?;
-    symbols.push(1)?;
-    let mut terms = no_terms(rt.alloc(), &symbols, 100);
-    assert!(rt;
-        done(
-            &rt,
-            &mut symbols,
-            &mut terms,
-            b"(assert (! (not p) :named a))"
-        )? == Ok(1)
-    );
+fn a_refused_command_tells_its_first_fault(rt: HostRuntime) -> Result<(), Fail> {
+    for (text, fault) in &REFUSED {
+        give(&rt, 100, text, (Err(BuildError::Fault(*fault)), 0))?;
+    }
+    Ok(())
+}
+
+#[test]
+fn terms_are_limited(rt: HostRuntime) -> Result<(), Fail> {
+    for (text, fault) in &FULL {
+        give(&rt, 3, text, (Err(BuildError::Fault(*fault)), 0))?;
+    }
+    Ok(())
+}
+
+/// A name of a term lasts until its level is popped.
+fn name_and_pop(
+    rt: &(impl Abort + AllocGlobal),
+    symbols: &mut Symbols,
+    terms: &mut Terms,
+) -> Result<(), Fail>
+    requires { AreDeclared symbols.old.signatures terms.old.nodes }
+{
+    let number = done(rt, symbols, terms, b"(assert (! (not p) :named a))")?;
+    assert!(rt; number == Ok(1));
     assert!(rt; symbols.is_taken(b"a"));
     assert!(rt; symbols.levels() == 1);
     symbols.pop(1);
@@ -301,60 +349,82 @@ fn names_of_terms_last_with_their_level(rt: HostRuntime) -> Result<(), Fail> {
     Ok(())
 }
 
-#[test]
-fn a_refused_command_tells_its_first_fault(rt: HostRuntime) -> Result<(), Fail> {
-    for (text, fault) in &REFUSED {
-        assert!(rt; given(&rt, 100, text)? == (Err(BuildError::Fault(*fault)), 0));
-    }
-    for (text, fault) in &FULL {
-        assert!(rt; given(&rt, 3, text)? == (Err(BuildError::Fault(*fault)), 0));
-    }
-    Ok(())
+/// A name of a term that is given in a level ends with it.
+fn name_in_level(rt: &(impl Abort + AllocGlobal), symbols: &mut Symbols) -> Result<(), Fail> {
+    let _p = declared(rt, symbols, P)?;
+    symbols.push(1)?;
+    let mut terms = no_terms(rt.alloc(), symbols, 100);
+    let ended = name_and_pop(rt, symbols, &mut terms);
+    drop(terms);
+    ended
 }
 
 #[test]
-fn names_end_with_their_level_and_numbers_go_on(rt: HostRuntime) -> Result<(), Fail> {
+fn names_of_terms_last_with_their_level(rt: HostRuntime) -> Result<(), Fail> {
     let mut symbols = Symbols::new(rt.alloc());
-    assert!(rt; declared(&rt, &mut symbols, X)? == Ok(0));
+    let ended = name_in_level(&rt, &mut symbols);
+    drop(symbols);
+    ended
+}
+
+/// A declaration gives this.
+fn declare(
+    rt: &(impl Abort + AllocGlobal),
+    symbols: &mut Symbols,
+    text: &[u8],
+    wanted: Result<u32, BuildError>,
+) -> Result<(), Fail> {
+    let number = declared(rt, symbols, text)?;
+    assert!(rt; number == wanted);
+    Ok(())
+}
+
+/// Declarations in two levels, one of which is popped, and again from the start.
+fn declare_in_levels(rt: &(impl Abort + AllocGlobal), symbols: &mut Symbols) -> Result<(), Fail> {
+    declare(rt, symbols, X, Ok(0))?;
     symbols.push(2)?;
-    assert!(rt; declared(&rt, &mut symbols, Y)? == Ok(1));
+    declare(rt, symbols, Y, Ok(1))?;
     assert!(rt; symbols.levels() == 2);
     symbols.pop(1);
-    assert!(rt; declared(&rt, &mut symbols, Y)? == Ok(2));
-    assert!(rt; declared(&rt, &mut symbols, X)? == Err(BuildError::Fault(BuildFault::Declared)));
+    declare(rt, symbols, Y, Ok(2))?;
+    declare(rt, symbols, X, Err(BuildError::Fault(BuildFault::Declared)))?;
     symbols.reset();
-    assert!(rt; declared(&rt, &mut symbols, X)? == Ok(3));
+    declare(rt, symbols, X, Ok(3))?;
     assert!(rt; symbols.signature(1).is_some());
     assert!(rt; symbols.live().len() == 1);
     Ok(())
 }
 
 #[test]
-fn deep_and_wide_lets_are_read(rt: HostRuntime) -> Result<(), Fail> {
-    let mut text: Vec<u8> = Vec::new(rt.alloc());
+fn names_end_with_their_level_and_numbers_go_on(rt: HostRuntime) -> Result<(), Fail> {
+    let mut symbols = Symbols::new(rt.alloc());
+    let ended = declare_in_levels(&rt, &mut symbols);
+    drop(symbols);
+    ended
+}
+
+/// The assertion of a core behind many copies of a front, each with its closing bracket.
+fn nested(alloc: Global, front: &[u8], core: u8) -> Result<Vec<u8>, AllocError> {
+    let mut text: Vec<u8> = Vec::new(alloc);
     text.extend_from_slice(b"(assert ")?;
     for _ in 0..20_000 {
-        text.extend_from_slice(b"(let ((a p) (b q)) ")?;
+        text.extend_from_slice(front)?;
     }
-    text.push(b'b')?;
+    text.push(core)?;
     for _ in 0..20_001 {
         text.push(b')')?;
     }
-    assert!(rt; given(&rt, 100, text.as_slice())? == (Ok(1), 2));
-    Ok(())
+    Ok(text)
+}
+
+#[test]
+fn deep_and_wide_lets_are_read(rt: HostRuntime) -> Result<(), Fail> {
+    let text = nested(rt.alloc(), b"(let ((a p) (b q)) ", b'b')?;
+    give(&rt, 100, text.as_slice(), (Ok(1), 2))
 }
 
 #[test]
 fn deep_terms_are_read(rt: HostRuntime) -> Result<(), Fail> {
-    let mut text: Vec<u8> = Vec::new(rt.alloc());
-    text.extend_from_slice(b"(assert ")?;
-    for _ in 0..20_000 {
-        text.extend_from_slice(b"(bvnot ")?;
-    }
-    text.push(b'x')?;
-    for _ in 0..20_001 {
-        text.push(b')')?;
-    }
-    assert!(rt; given(&rt, 30_000, text.as_slice())? == (Ok(20_000), 20_001));
-    Ok(())
+    let text = nested(rt.alloc(), b"(bvnot ", b'x')?;
+    give(&rt, 30_000, text.as_slice(), (Ok(20_000), 20_001))
 }

@@ -1,7 +1,7 @@
 use Rattle.std.proofs.Common.{subst, sym, ap, ◌∙◌}
 use Rattle.smt_syntax.specs.Sexps.{signs_of}
 use Rattle.smt_syntax.specs.Spans.{Stands}
-use Rattle.smt_build.proofs.Spellings.{signs_same}
+use Rattle.smt_syntax.proofs.CommandReadings.{signs_same}
 use Rattle.script_state.proofs.word.word_at.Goals as goal
 
 pub returns : goal.returns

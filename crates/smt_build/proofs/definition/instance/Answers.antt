@@ -1,8 +1,8 @@
 use Rattle.std.proofs.Common.{◌≡◌, ◌-◌, ◌<◌, ◌≤◌, [], length, ◌∙◌, ap, false, arith, rules}
+use Rattle.std.proofs.lemmas.List.{get_or_default}
 use Rattle.std.specs.Prelude.{vec_len}
 use Rattle.std.proofs.lemmas.Result.{err_from_is_err_and}
 use Rattle.smt_build.proofs.Growth.{longer, grows_none, all_grow}
-use Rattle.smt_build.proofs.Marking.{any_default}
 use Rattle.smt_build.proofs.Images.{instance_past, walk_begins, walk_fails, walk_more, walk_ends}
 use Rattle.smt_build.proofs.definition.instance.Goals as goal
 
@@ -40,7 +40,7 @@ returns-in_err-image-clause-means c =
     let here : c.args.body - c.terms.term < length c.in_ok-marks.marks.items = omega (arith, i.from, c.terms-test.true, c.len-2.ensures, size, are.some, are.within) in
     let held : c.terms.term < length c.args.terms.now.nodes = omega (arith, c.len.ensures.length) in
     rw (p.1, p.2) (walk_fails c.args.terms.now c.args.body c.args.args.now c.in_ok-marks.marks.items are c.terms.term (c.args.body - (c.len-2.result - 1)) c.terms.images.items c.as_slice.result.now c.terms.terms held i.grows c.as_slice.ensures.value i.done
-    c.index-is_reached.result.now _ c.again.new.terms c.terms-test.true (c.index-is_reached.ensures ∙ any_default c.in_ok-marks.marks.items (c.args.body - c.terms.term) c.index-is_reached.result.now false here) c.in_err-image.ensures.means)
+    c.index-is_reached.result.now _ c.again.new.terms c.terms-test.true (c.index-is_reached.ensures ∙ get_or_default c.in_ok-marks.marks.items (c.args.body - c.terms.term) c.index-is_reached.result.now false here) c.in_err-image.ensures.means)
 
 pub returns-in_err-image-clause-grows : goal.returns-in_err-image-clause-grows
 returns-in_err-image-clause-grows c = all_grow c.args.terms.now c.terms.terms c.again.new.terms c.terms.invariant.grows c.again.ensures.grows
@@ -61,7 +61,7 @@ terms-preserved c =
       grows = all_grow c.args.terms.now c.terms.terms c.again.new.terms i.grows c.again.ensures.grows;
       done =
           walk_more c.args.terms.now c.args.body c.args.args.now c.in_ok-marks.marks.items are c.terms.term (c.args.body - (c.len-2.result - 1)) c.terms.images.items c.as_slice.result.now c.terms.terms held i.grows c.as_slice.ensures.value i.done
-          c.index-is_reached.result.now c.in_ok-image.image c.again.new.terms c.push.new.self.items c.terms-test.true (c.index-is_reached.ensures ∙ any_default c.in_ok-marks.marks.items (c.args.body - c.terms.term) c.index-is_reached.result.now false here) c.in_ok-push.ensures.items c.in_ok-image.ensures.means;
+          c.index-is_reached.result.now c.in_ok-image.image c.again.new.terms c.push.new.self.items c.terms-test.true (c.index-is_reached.ensures ∙ get_or_default c.in_ok-marks.marks.items (c.args.body - c.terms.term) c.index-is_reached.result.now false here) c.in_ok-push.ensures.items c.in_ok-image.ensures.means;
     }
 
 pub again-requires-2 : goal.again-requires-2
