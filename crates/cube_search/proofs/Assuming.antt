@@ -17,13 +17,14 @@ use Rattle.local_names.proofs.Numbers.{literal_value, clause_value}
 use Rattle.local_names.proofs.Renamed.{contains_of_map}
 use Rattle.cube_search.specs.Holding.{IsHolding}
 use Rattle.cube_search.specs.Numbers.{global_look, AreNumbers, AreNumbered}
-use Rattle.cube_search.proofs.Naming.{below_member, numbers_below, found_global}
+use Rattle.cube_search.proofs.Naming.{numbers_below, found_global}
 use Rattle.cube_search.specs.Courses.{IsCourse, AreValued}
 use Rattle.cube_search.specs.Running.{IsTrailOf, IsAssumed}
 use Rattle.cube_search.specs.Ends.{IsModel}
 use Rattle.cube_search.proofs.Courses.{true_more, true_later, true_extended, course_given, course_free, course_grew, decides_given}
 use Rattle.cube_search.proofs.Trails.{trail_same, trail_decided, trail_extended, levels_below}
 use Rattle.cube_search.proofs.Values.{clause_holds}
+use Rattle.proof_log.proofs.Growing.{below_member}
 
 abbrev Decided : Trail → Trail → Literal → Type 0
 Decided t u l = literals_of u ≡ literals_of t ++ (l, level_of t + 1, None) ∷ []

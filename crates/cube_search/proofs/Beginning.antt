@@ -1,10 +1,11 @@
 -- The lines that a run begins with.
 use Rattle.std.proofs.Common.{◌≡◌, ℕ, ◌+◌, ◌<◌, ◌≤◌, Bool, true, false, not, List, [], ◌∷◌, ◌++◌, length, Some, None, refl, sym, ap, ◌∙◌, subst, inl, inr, ⊎_elim, arith, take, get_or}
 use Rattle.std.specs.Prelude.{◌&&◌, ◌⊎◌, Contains, ltb}
-use Rattle.std.proofs.lemmas.Bool.{lt-ltb, ltb-true, and_parts}
+use Rattle.std.proofs.lemmas.Bool.{lt-ltb, ltb-true, and_parts, cases_Bool, both_ways}
 use Rattle.std.proofs.lemmas.List.Elements.{Contains-push_cases, Contains-get_or}
 use Rattle.cnf_base.specs.Literals.{Literal}
 use Rattle.cnf_base.specs.declared.clause.ClauseId.{ClauseId}
+use Rattle.cnf_base.proofs.Lists.{Contains-nil}
 use Rattle.hint_chain.specs.Chains.{Lookup}
 use Rattle.smt_terms.specs.declared.node.Node.{Node}
 use Rattle.proof_log.specs.declared.entry.Entry.{Entry}
@@ -14,7 +15,7 @@ use Rattle.proof_log.specs.Logs.{entry_at, state_of}
 use Rattle.proof_log.specs.Diaries.{Subject, look_of, is_chain, DiaryState, blank, line_after, AreLines, lines_after}
 use Rattle.proof_log.proofs.Growth.{chain_part}
 use Rattle.proof_log.proofs.Lines.{are_lines_snoc, lines_after_snoc, held_cases}
-use Rattle.cdcl_learn.proofs.Lists.{no_member, front_cases}
+use Rattle.cdcl_learn.proofs.Lists.{front_cases}
 use Rattle.cube_search.specs.Holding.{IsForeign, AreSeparate, IsHolding, ArePlaced}
 use Rattle.cube_search.specs.Keeping.{IsKept, IsTaken, IsNoting, IsNotedAll, state_in}
 use Rattle.cube_search.specs.declared.keeper.Keeper.{Keeper}
@@ -32,7 +33,7 @@ noting_start g look k e puts chains left =
       left = left;
       grown = λ p h. ap (λ (r : DiaryState). r.held p) s ∙ h;
       only = λ p h. inl (sym (ap (λ (r : DiaryState). r.held p) s) ∙ h);
-      takes = λ p c. no_member (Put p) (subst (λ (ls : List DiaryLine). Contains ls (Put p)) e c);
+      takes = λ p c. Contains-nil (Put p) (subst (λ (ls : List DiaryLine). Contains ls (Put p)) e c);
     }
 
 module _ (g : Subject) (look : Lookup) (k l : Keeper) (at : ℕ) (h : IsNoting g look k) (e : l.lines.items ≡ k.lines.items ++ Take at ∷ []) where
@@ -70,21 +71,13 @@ held_whole g look at d sound chain held id c p e =
     let equal : Some d ≡ Some c = sym there ∙ ap (look_of g) (sym same) ∙ e in
     ap look same ∙ held ∙ equal
 
-not_both : {A : Type 0} (b : Bool) → b ≡ true → b ≡ false → A
-not_both true e f = let z : ⊥ = cc in absurd z
-not_both false e f = let z : ⊥ = cc in absurd z
-
-bool_cases : (b : Bool) → (b ≡ true) ⊎ (b ≡ false)
-bool_cases true = inl refl
-bool_cases false = inr refl
-
 pub begun : (g : Subject) (look : Lookup) (variables opening taken : List ℕ) (k : Keeper) (seen : ℕ) → IsHolding look (state_of g.nodes g.log).clauses variables opening taken → ArePlaced g.log opening taken g.from seen → IsNoting g look k → k.start ≡ seen → ((p : ℕ) → Contains opening p → is_chain (entry_at g.log p) ≡ true → (state_in g k).held p ≡ true) → ((id : ClauseId) (c : List Literal) → Contains taken id.pos → look id ≡ Some c → (state_in g k).held id.pos ≡ true) → AreSeparate (state_of g.nodes g.log).clauses g.log opening g.from → IsKept g look variables k seen
 begun g look variables opening taken k seen holding placed h start open_held taken_held separate = record {
   stand = h.stand;
   puts = h.no_puts ∙ sym h.puts;
   chains = omega (arith, h.chains);
   drops = omega (arith, h.left);
-  held = λ id c e. ⊎_elim (λ x. opened id x (bool_cases (is_chain (entry_at g.log id.pos)))) (λ x. taken_held id c x e) (holding.covered id c e);
+  held = λ id c e. ⊎_elim (λ x. opened id x (cases_Bool (is_chain (entry_at g.log id.pos)))) (λ x. taken_held id c x e) (holding.covered id c e);
   complete = λ id c x e. ⊎_elim (λ b. before id c b e) (λ all. inl (all id c refl e)) (h.only id.pos x);
   lined = λ p le lt c. absurd (omega (arith, le, lt, start));
   start = omega (arith, start, placed.from_seen);
@@ -136,7 +129,7 @@ module _ (nodes : List Node) (log : List Entry) (given : List Literal) (from : �
 
     pub opening_held : ((p : ℕ) → Contains (take i opening) p → is_chain (entry_at log p) ≡ true → (state_in (record { nodes = nodes; log = log; given = given; from = from }) k).held p ≡ true) → (p : ℕ) → Contains (take (i + 1) opening) p → is_chain (entry_at log p) ≡ true → (state_in (record { nodes = nodes; log = log; given = given; from = from }) l).held p ≡ true
     opening_held f p c chain = ⊎_elim
-        (λ x. subst (λ (q : Keeper). (state_in g q).held p ≡ true) (sym x.1) (⊎_elim (λ old. f p old chain) (λ e. not_both (is_chain (entry_at log at)) (ap (λ n. is_chain (entry_at log n)) (is ∙ e) ∙ chain) x.0) (front_cases opening i at p lt c)))
+        (λ x. subst (λ (q : Keeper). (state_in g q).held p ≡ true) (sym x.1) (⊎_elim (λ old. f p old chain) (λ e. absurd (both_ways (is_chain (entry_at log at)) x.0 (ap (λ n. is_chain (entry_at log n)) (is ∙ e) ∙ chain))) (front_cases opening i at p lt c)))
         (λ x. ⊎_elim
         (λ old. noted_still g look k l at h.noting x.1.lines p (f p old chain))
         (λ e. subst (λ n. (state_in g l).held n ≡ true) (is ∙ e) (noted_here g look k l at h.noting x.1.lines))

@@ -5,7 +5,7 @@ use Rattle.std.proofs.lemmas.Bool.{cases_lt, le-leb}
 use Rattle.std.proofs.lemmas.List.{get_or_append_left, get_or-append_right, length-append}
 use Rattle.cnf_base.specs.Literals.{Literal}
 use Rattle.cnf_base.specs.declared.clause.ClauseId.{ClauseId}
-use Rattle.proof_log.proofs.Growing.{get_more}
+use Rattle.cnf_base.proofs.Lists.{slice_get-longer}
 use Rattle.cdcl_core.specs.Levels.{Row, IsTrueBy, IsExtended, IsAdded}
 use Rattle.cdcl_core.specs.State.{no_row}
 use Rattle.cdcl_learn.specs.Rows.{row_at, level_at}
@@ -52,7 +52,7 @@ each_added P rows new level id c f x h = elim x [
 -- ---- truth
 
 pub true_more : (rows more : List Row) (j : ℕ) (l : Literal) → IsTrueBy rows j l → IsTrueBy (rows ++ more) j l
-true_more rows more j l t = (t.0, (t.1.0, (t.1.1.0, (get_more rows more t.0 (l, t.1.0, t.1.1.0) t.1.1.1.0, t.1.1.1.1))))
+true_more rows more j l t = (t.0, (t.1.0, (t.1.1.0, (slice_get-longer rows more t.0 (l, t.1.0, t.1.1.0) t.1.1.1.0, t.1.1.1.1))))
 
 pub true_later : (rows : List Row) (j k : ℕ) (l : Literal) → j ≤ k → IsTrueBy rows j l → IsTrueBy rows k l
 true_later rows j k l le t = (t.0, (t.1.0, (t.1.1.0, (t.1.1.1.0, omega (arith, le, t.1.1.1.1)))))

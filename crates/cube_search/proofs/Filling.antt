@@ -6,13 +6,13 @@ use Rattle.std.proofs.lemmas.List.Elements.{Contains-append_left, Contains-push,
 use Rattle.std.proofs.lemmas.Option.{slice_get_within}
 use Rattle.cnf_base.specs.Literals.{Literal}
 use Rattle.cnf_base.specs.declared.clause.ClauseId.{ClauseId}
+use Rattle.cnf_base.proofs.Lists.{Contains-nil}
 use Rattle.hint_chain.specs.Chains.{Lookup}
 use Rattle.proof_log.specs.Logs.{clause_in, clause_at}
 use Rattle.proof_log.proofs.Growing.{clause_row}
 use Rattle.local_names.specs.Names.{IsOnce, AreNames, IsNamed, global_clause}
 use Rattle.cdcl_core.specs.declared.watches.Watches.{Watches}
 use Rattle.cdcl_core.specs.Search.{clause_of}
-use Rattle.cdcl_learn.proofs.Lists.{no_member}
 use Rattle.proof_log.specs.declared.entry.Entry.{Entry}
 use Rattle.cube_search.specs.Numbers.{global_found, global_look, AreNumbers, HoldsNumbers, AreNumbered}
 use Rattle.cube_search.proofs.Naming.{numbers_more, global_look_more, numbers_among, variables_all, named_kept, named_only}
@@ -32,15 +32,15 @@ nothing_held look rows none = record {
   sound = λ id c e. let q = none id in let f : ⊥ = cc in absurd f;
   among = λ id c e. let q = none id in let f : ⊥ = cc in absurd f;
   covered = λ id c e. let q = none id in let f : ⊥ = cc in absurd f;
-  complete = λ id c k e. absurd (no_member id.pos k);
-  occurs = λ x k. absurd (no_member x k);
+  complete = λ id c k e. absurd (Contains-nil id.pos k);
+  occurs = λ x k. absurd (Contains-nil x k);
 }
 
 pub filling_start : (look : Lookup) (rows : List (List (List Literal))) (variables opening : List ℕ) (pos : ℕ) → IsHolding look rows variables opening [] → IsFilling look rows variables opening pos 0
 filling_start look rows variables opening pos h = record {
   sound = h.sound;
   among = h.among;
-  covered = λ id c e. ⊎_elim (λ k. inl k) (λ k. absurd (no_member id.pos k)) (h.covered id c e);
+  covered = λ id c e. ⊎_elim (λ k. inl k) (λ k. absurd (Contains-nil id.pos k)) (h.covered id c e);
   complete = h.complete;
   filled = λ id c p lt e. absurd (omega (arith, lt));
   occurs = λ x k. inl (h.occurs x k);
@@ -188,7 +188,7 @@ filling_all look rows variables opening pos part none h = record {
 pub placed_start : (log : List Entry) (opening taken positions : List ℕ) (from : ℕ) → taken ≡ [] → opening ≡ positions → ((p : ℕ) → Contains positions p → p < from) → from ≤ suc (length log) → ArePlaced log opening taken from from
 placed_start log opening taken positions from e f below within = record {
   before = λ p k. below p (subst (λ (xs : List ℕ). Contains xs p) f k);
-  chains = λ p k. absurd (no_member p (subst (λ (xs : List ℕ). Contains xs p) e k));
+  chains = λ p k. absurd (Contains-nil p (subst (λ (xs : List ℕ). Contains xs p) e k));
   from_seen = omega arith;
   within = within;
 }

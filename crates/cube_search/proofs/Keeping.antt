@@ -1,10 +1,11 @@
 -- A diary that is kept line by line.
-use Rattle.std.proofs.Common.{◌≡◌, ℕ, suc, ◌+◌, ◌-◌, ◌/◌, ◌%◌, ◌<◌, ◌≤◌, Bool, true, false, not, List, [], ◌∷◌, ◌++◌, length, Option, Some, None, refl, sym, ap, ◌∙◌, subst, inl, inr, ⊎_elim, arith}
-use Rattle.std.specs.Prelude.{◌==◌, ◌≢◌, ◌⊎◌, Contains, IsSome, ltb, if◌then◌else◌}
+use Rattle.std.proofs.Common.{◌≡◌, ℕ, suc, ◌+◌, ◌-◌, ◌/◌, ◌%◌, ◌<◌, ◌≤◌, Bool, true, false, not, List, [], ◌∷◌, ◌++◌, length, Some, None, refl, sym, ap, ◌∙◌, subst, inl, inr, ⊎_elim, arith}
+use Rattle.std.specs.Prelude.{◌==◌, ◌≢◌, ◌⊎◌, Contains, ltb, if◌then◌else◌}
 use Rattle.std.proofs.lemmas.Bool.{eq-eqb, ne_eqb, ltb-true, and_parts}
 use Rattle.std.proofs.lemmas.List.Elements.{Contains-append_left, Contains-push_cases}
 use Rattle.cnf_base.specs.Literals.{Literal}
 use Rattle.cnf_base.specs.declared.clause.ClauseId.{ClauseId}
+use Rattle.cnf_base.proofs.Lists.{Contains-first, Contains-later}
 use Rattle.hint_chain.specs.Chains.{Lookup}
 use Rattle.proof_log.specs.declared.entry.Entry.TheVariants as step
 use Rattle.proof_log.specs.declared.diary.DiaryLine.{DiaryLine}
@@ -14,7 +15,6 @@ use Rattle.proof_log.specs.Diaries.{Subject, look_of, is_chain, DiaryState, blan
 use Rattle.proof_log.proofs.Growth.{chain_part}
 use Rattle.proof_log.proofs.Lines.{are_lines_snoc, lines_after_snoc, held_cases}
 use Rattle.cdcl_learn.specs.Puts as learnt
-use Rattle.cdcl_learn.proofs.Lists.{member_first, member_later}
 use Rattle.cube_search.specs.Holding.{IsForeign}
 use Rattle.cube_search.specs.Keeping.{HasLine, IsKept, state_in}
 use Rattle.cube_search.specs.declared.keeper.Keeper.{Keeper}
@@ -155,10 +155,6 @@ module _ (g : Subject) (look new : Lookup) (variables : List ℕ) (k l : Keeper)
 
 -- ---- hints that are used
 
-pub some_of : (o : Option (List Literal)) → IsSome o → (c : List Literal) × (o ≡ Some c)
-some_of None s = absurd cc
-some_of (Some c) s = (c, refl)
-
 pub each_used : (look more : Lookup) → ((id : ClauseId) (c : List Literal) → look id ≡ Some c → more id ≡ Some c) → (trues : List Literal) (hints : List ClauseId) → learnt.UsesEach look trues hints → EachIsUsed more trues hints
 each_used look more f trues [] u = tt
 each_used look more f trues (i ∷ []) u = tt
@@ -168,20 +164,17 @@ each_used look more f trues (i ∷ j ∷ is) u =
 
 -- ---- what is held has a line, or was held without one
 
-has_first : (l : DiaryLine) (ls : List DiaryLine) → Contains (l ∷ ls) l
-has_first l ls = member_first l ls
-
 line_later : (l : DiaryLine) (ls : List DiaryLine) (p : ℕ) → HasLine ls p → HasLine (l ∷ ls) p
-line_later l ls p h = ⊎_elim (λ k. inl (member_later l (Take p) ls k)) (λ k. inr (member_later l (Put p) ls k)) h
+line_later l ls p h = ⊎_elim (λ k. inl (Contains-later l (Take p) ls k)) (λ k. inr (Contains-later l (Put p) ls k)) h
 
 pub lined_held : (g : Subject) (s : DiaryState) (ls : List DiaryLine) (p : ℕ) → (lines_after g s ls).held p ≡ true → (s.held p ≡ true) ⊎ HasLine ls p
 lined_held g s [] p h = inl h
 lined_held g s (Take q ∷ ls) p h = ⊎_elim
-    (λ k. ⊎_elim (λ e. inr (inl (subst (λ x. Contains (Take q ∷ ls) (Take x)) (sym e) (has_first (Take q) ls)))) (λ old. inl old) (held_cases s.held q true p k))
+    (λ k. ⊎_elim (λ e. inr (inl (subst (λ x. Contains (Take q ∷ ls) (Take x)) (sym e) (Contains-first (Take q) ls)))) (λ old. inl old) (held_cases s.held q true p k))
     (λ k. inr (line_later (Take q) ls p k))
     (lined_held g (line_after g s (Take q)) ls p h)
 lined_held g s (Put q ∷ ls) p h = ⊎_elim
-    (λ k. ⊎_elim (λ e. inr (inr (subst (λ x. Contains (Put q ∷ ls) (Put x)) (sym e) (has_first (Put q) ls)))) (λ old. inl old) (held_cases s.held q true p k))
+    (λ k. ⊎_elim (λ e. inr (inr (subst (λ x. Contains (Put q ∷ ls) (Put x)) (sym e) (Contains-first (Put q) ls)))) (λ old. inl old) (held_cases s.held q true p k))
     (λ k. inr (line_later (Put q) ls p k))
     (lined_held g (line_after g s (Put q)) ls p h)
 lined_held g s (Drop q ∷ ls) p h = ⊎_elim

@@ -5,6 +5,7 @@ use Rattle.cnf_base.specs.Literals.{Literal}
 use Rattle.cnf_base.specs.Assignments.{AreBelow}
 use Rattle.cnf_base.specs.declared.clause.ClauseId.{ClauseId}
 use Rattle.cnf_base.proofs.Agreeing.{AreBelow-more}
+use Rattle.cnf_base.proofs.Lists.{Contains-map}
 use Rattle.hint_chain.specs.Chains.{Lookup, IsChain}
 use Rattle.hint_chain.proofs.Growing.{IsChain-grows}
 use Rattle.smt_terms.specs.declared.node.Node.{Node}
@@ -15,13 +16,14 @@ use Rattle.proof_log.specs.Boards.{Grows, IsLater, IsPutAt}
 use Rattle.proof_log.specs.Diaries.{Subject, look_of, is_chain, blank}
 use Rattle.proof_log.proofs.Growth.{grown_holds, grown_length, clause_stays, clause_place, entry_stays, entry_within, clauses_exist, put_is_new}
 use Rattle.proof_log.proofs.Lines.{IsProlonged, blank_within, lines_within, diary_longer}
+use Rattle.proof_log.proofs.Growing.{below_member}
 use Rattle.local_names.specs.Names.{global, global_clause, local_look}
-use Rattle.local_names.proofs.Renamed.{contains_map, contains_of_map, chain_of_local, found_local}
+use Rattle.local_names.proofs.Renamed.{contains_of_map, chain_of_local, found_local}
 use Rattle.cdcl_core.specs.declared.watches.Watches.{Watches}
 use Rattle.cdcl_core.specs.Search.{clause_of}
 use Rattle.cdcl_learn.specs.Puts.{StandsIn, IsAgainst}
 use Rattle.cube_search.specs.Numbers.{global_found, global_look, AreNumbers, AreNumbered}
-use Rattle.cube_search.proofs.Naming.{below_member, below_each, numbers_below, against_global, against_below}
+use Rattle.cube_search.proofs.Naming.{below_each, numbers_below, against_global, against_below}
 use Rattle.cube_search.specs.Keeping.{IsKept}
 use Rattle.cube_search.specs.declared.keeper.Keeper.{Keeper}
 use Rattle.cube_search.specs.Running.{IsSearchOf}
@@ -148,7 +150,7 @@ module _ (names : List ℕ) (bound : ℕ) (w : Watches) (variables opening taken
           let s = stands near_l.0 near_l.1 in
           below_member (state_of nodes log).next (global_clause names s.1.0) l
           (clauses_exist nodes log h.listed h.stands s.0 (global_clause names s.1.0) (held_stands s.0 s.1.0 s.1.1.1.0))
-          (subst (Contains (global_clause names s.1.0)) near_l.2 (contains_map (global names) s.1.0 near_l.0 s.1.1.1.1))
+          (subst (Contains (global_clause names s.1.0)) near_l.2 (Contains-map (global names) s.1.0 near_l.0 s.1.1.1.1))
 
   -- the position of a put is that of no held clause
   pub put_is_fresh : (new : List Entry) (e : Entry) (at : ℕ) → IsPutAt log e at new → clause_of w (record { pos = at; part = 0 }) ≡ None

@@ -1,4 +1,3 @@
-pub mod Sets
 pub mod Courses
 pub mod Trails
 pub mod Values

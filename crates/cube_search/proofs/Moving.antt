@@ -5,6 +5,7 @@ use Rattle.std.proofs.lemmas.List.{take_more}
 use Rattle.std.proofs.lemmas.List.Elements.{Contains-append_left, Contains-push, Contains-push_cases}
 use Rattle.cnf_base.specs.Literals.{Literal}
 use Rattle.cnf_base.specs.declared.clause.ClauseId.{ClauseId}
+use Rattle.cnf_base.proofs.Lists.{Contains-nil}
 use Rattle.hint_chain.specs.Chains.{Lookup}
 use Rattle.smt_terms.specs.declared.node.Node.{Node}
 use Rattle.proof_log.specs.declared.entry.Entry.{Entry}
@@ -14,7 +15,7 @@ use Rattle.proof_log.proofs.Growth.{chain_part}
 use Rattle.local_names.specs.Names.{IsNamed, global_clause}
 use Rattle.cdcl_core.specs.declared.watches.Watches.{Watches}
 use Rattle.cdcl_core.specs.Search.{clause_of}
-use Rattle.cdcl_learn.proofs.Lists.{no_member, front_cases}
+use Rattle.cdcl_learn.proofs.Lists.{front_cases}
 use Rattle.cube_search.specs.Numbers.{global_found, global_look, variables_of, AreNumbered}
 use Rattle.cube_search.proofs.Naming.{found_global, global_look_more, variables_more}
 use Rattle.cube_search.specs.Holding.{AreAmong, ArePlaced, AreLeft}
@@ -166,7 +167,7 @@ search_named names new bound w given clause opening taken from seen nodes log nu
 -- ---- the positions that are left of those that were taken
 
 pub left_none : (look : Lookup) → AreLeft look [] []
-left_none look = record { among = λ p k. k; all = λ p c k e. absurd (no_member p k) }
+left_none look = record { among = λ p k. k; all = λ p c k e. absurd (Contains-nil p k) }
 
 module _ (look : Lookup) (positions left : List ℕ) (i at : ℕ) (lt : i < length positions) (is : at ≡ get_or positions i at) (h : AreLeft look (take i positions) left) where
   front : (p : ℕ) → Contains (take i positions) p → Contains (take (i + 1) positions) p

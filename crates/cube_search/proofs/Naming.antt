@@ -1,37 +1,34 @@
 -- Clauses under the numbers of their variables, and what they stand for.
 use Rattle.std.proofs.Common.{◌≡◌, ℕ, zero, suc, ◌+◌, ◌<◌, ◌≤◌, List, [], ◌∷◌, ◌++◌, length, take, drop, get_or, Option, Some, None, refl, sym, ap, ◌∙◌, subst, inl, inr, ⊎_elim, arith}
 use Rattle.std.specs.Prelude.{◌⊎◌, Contains, slice_get}
-use Rattle.std.proofs.lemmas.List.{take_more, length-append}
+use Rattle.std.proofs.lemmas.List.{take_more, length-append, take_all, take-append-le, map_push}
 use Rattle.std.proofs.lemmas.List.Elements.{Contains-push_cases, Contains-get_or}
-use Rattle.std.proofs.lemmas.Option.{slice_get-get_or, slice_get_within, slice_get_read, get_or_from_slice_get}
+use Rattle.std.proofs.lemmas.Option.{slice_get-get_or, slice_get_within, slice_get_read}
 use Rattle.cnf_base.specs.Literals.{Literal, negated}
 use Rattle.cnf_base.specs.Assignments.{AreBelow}
 use Rattle.cnf_base.specs.declared.clause.ClauseId.{ClauseId}
+use Rattle.cnf_base.proofs.Lists.{Contains-nil, Contains-first, Contains-later, Contains-slice_get, Contains-map}
 use Rattle.hint_chain.specs.Chains.{Lookup}
 use Rattle.local_names.specs.Names.{IsOnce, AreFromOne, AreNames, IsNamed, variable_of, global, global_clause, number_of}
 use Rattle.local_names.proofs.Numbers.{number_at, keeps_more}
 use Rattle.local_names.proofs.Clauses.{global_clause_more}
-use Rattle.local_names.proofs.Renamed.{contains_map, contains_of_map, map_push}
+use Rattle.local_names.proofs.Renamed.{contains_of_map}
 use Rattle.cdcl_core.specs.declared.watches.Watches.{Watches}
 use Rattle.cdcl_core.specs.Search.{clause_of}
 use Rattle.cdcl_learn.specs.Puts.{IsAgainst}
-use Rattle.cdcl_learn.proofs.Lists.{no_member, member_first, member_later, member_cases}
+use Rattle.cdcl_learn.proofs.Lists.{member_cases}
 use Rattle.cube_search.specs.Holding.{AreAmong, IsForeign}
 use Rattle.cube_search.specs.Numbers.{global_found, global_look, variables_of, AreNumbers, HoldsNumbers, IsNumbered, AreNumbered}
-use Rattle.cube_search.proofs.Sets.{take_all}
+use Rattle.proof_log.proofs.Growing.{below_member}
 
 -- ---- literals below a number, one after the other and each for itself
 
-pub below_member : (n : ℕ) (c : List Literal) (l : Literal) → AreBelow n c → Contains c l → l.variable < n
-below_member n [] l h k = absurd (no_member l k)
-below_member n (m ∷ c) l h k = ⊎_elim (λ e. subst (λ (x : Literal). x.variable < n) e h.0) (λ r. below_member n c l h.1 r) (member_cases m l c k)
-
 pub below_each : (n : ℕ) (c : List Literal) → ((l : Literal) → Contains c l → l.variable < n) → AreBelow n c
 below_each n [] f = tt
-below_each n (l ∷ c) f = (f l (member_first l c), below_each n c (λ m k. f m (member_later l m c k)))
+below_each n (l ∷ c) f = (f l (Contains-first l c), below_each n c (λ m k. f m (Contains-later l m c k)))
 
 pub numbers_of : (n : ℕ) (c : List Literal) → AreBelow n c → AreFromOne c → AreNumbers n c
-numbers_of n [] below one l k = absurd (no_member l k)
+numbers_of n [] below one l k = absurd (Contains-nil l k)
 numbers_of n (m ∷ c) below one l k =
     ⊎_elim (λ e. subst (λ (x : Literal). (0 < x.variable) × (x.variable < n)) e (one.0, below.0)) (λ r. numbers_of n c below.1 one.1 l r) (member_cases m l c k)
 
@@ -60,16 +57,13 @@ global_look_more names new added bound w more le h id = ap (λ n. global_look n 
 
 -- ---- the variables that have numbers
 
-found_in : (xs : List ℕ) (k x : ℕ) → slice_get xs k ≡ Some x → Contains xs x
-found_in xs k x e = (k, slice_get_within xs k x e, get_or_from_slice_get xs k x x e)
-
 in_rest : (xs : List ℕ) (k x : ℕ) → 0 < k → slice_get xs k ≡ Some x → Contains (drop 1 xs) x
 in_rest [] k x one e = let q : ⊥ = cc in absurd q
 in_rest (y ∷ ys) zero x one e = absurd (omega (arith, one))
-in_rest (y ∷ ys) (suc k) x one e = found_in ys k x e
+in_rest (y ∷ ys) (suc k) x one e = Contains-slice_get ys k x e
 
 place_in_rest : (xs : List ℕ) (x : ℕ) → Contains (drop 1 xs) x → (k : ℕ) × (0 < k) × (slice_get xs k ≡ Some x)
-place_in_rest [] x h = absurd (no_member x h)
+place_in_rest [] x h = absurd (Contains-nil x h)
 place_in_rest (y ∷ ys) x h = (suc h.0, omega arith, slice_get_read ys (length ys) h.0 x refl h.1 (sym h.2))
 
 taken_place : (n : ℕ) (xs : List ℕ) (k x : ℕ) → k < n → slice_get xs k ≡ Some x → slice_get (take n xs) k ≡ Some x
@@ -92,7 +86,7 @@ number_in names bound x h =
     (p.0, p.1, q.0, q.1)
 
 pub variables_all : (names : List ℕ) (bound : ℕ) → bound ≡ length names → variables_of names bound ≡ drop 1 names
-variables_all names bound e = ap (drop 1) (take_all names bound (omega (arith, e)))
+variables_all names bound e = ap (drop 1) (take_all bound names (omega (arith, e)))
 
 -- a clause under numbers has variables that have them
 pub numbers_among : (names : List ℕ) (bound : ℕ) (c : List Literal) → bound ≤ length names → AreNumbers bound c → AreAmong (variables_of names bound) (global_clause names c)
@@ -129,7 +123,7 @@ foreign_above names bound c l once k le = (
 -- ---- a clause that is found literal after literal
 
 pub numbered_none : (names : List ℕ) (bound : ℕ) → IsNumbered names bound [] []
-numbered_none names bound = record { numbers = λ l k. absurd (no_member l k); stands_for = refl }
+numbered_none names bound = record { numbers = λ l k. absurd (Contains-nil l k); stands_for = refl }
 
 pub numbered_next : (names : List ℕ) (bound : ℕ) (whole c : List Literal) (i : ℕ) (l m : Literal) → i < length whole → l ≡ get_or whole i l → 0 < m.variable → m.variable < bound → global names m ≡ l → IsNumbered names bound (take i whole) c → IsNumbered names bound (take (i + 1) whole) (c ++ m ∷ [])
 numbered_next names bound whole c i l m lt own one low is h = record {
@@ -155,29 +149,22 @@ module _ (names new : List ℕ) (clause : List Literal) (h : IsNamed names new c
       let same : old.0 ≡ p.0 = once old.0 p.0 x (still_at old.0 x at) p.2 in
       inl (in_rest names p.0 x p.1 (subst (λ n. slice_get names n ≡ Some x) same at)))
       (λ came. inr (contains_of_map (λ (l : Literal). l.variable) clause x came))
-      (h.only x (found_in new p.0 x p.2))
+      (h.only x (Contains-slice_get new p.0 x p.2))
 
 -- ---- opposites of given literals
 
 pub against_global : (names : List ℕ) (given c : List Literal) → IsAgainst given c → IsAgainst (global_clause names given) (global_clause names c)
 against_global names given c h l k =
     let m = contains_of_map (global names) c l k in
-    subst (λ (x : Literal). Contains (global_clause names given) (negated x)) m.2 (contains_map (global names) given (negated m.0) (h m.0 m.1))
+    subst (λ (x : Literal). Contains (global_clause names given) (negated x)) m.2 (Contains-map (global names) given (negated m.0) (h m.0 m.1))
 
 pub against_below : (n : ℕ) (given clause : List Literal) → AreBelow n given → IsAgainst given clause → AreBelow n clause
 against_below n given clause h against = below_each n clause (λ l k. below_member n given (negated l) h (against l k))
 
 -- ---- more numbers, and another list of given literals
 
-taken_front : (xs ys : List ℕ) (n : ℕ) → n ≤ length xs → take n (xs ++ ys) ≡ take n xs
-taken_front [] [] zero le = refl
-taken_front [] (y ∷ ys) zero le = refl
-taken_front [] ys (suc n) le = absurd (omega (arith, le))
-taken_front (x ∷ xs) ys zero le = refl
-taken_front (x ∷ xs) ys (suc n) le = ap (λ zs. x ∷ zs) (taken_front xs ys n (omega (arith, le)))
-
 pub variables_more : (names new added : List ℕ) (bound : ℕ) → new ≡ names ++ added → bound ≤ length names → variables_of new bound ≡ variables_of names bound
-variables_more names new added bound more le = ap (λ n. variables_of n bound) more ∙ ap (drop 1) (taken_front names added bound le)
+variables_more names new added bound more le = ap (λ n. variables_of n bound) more ∙ ap (drop 1) (take-append-le bound names added le)
 
 pub named_longer : (names new : List ℕ) (clause : List Literal) → IsNamed names new clause → length names ≤ length new
 named_longer names new clause h = let n : length new ≡ length (names ++ h.added) = ap length h.more in let m = length-append names h.added in omega (arith, n, m)

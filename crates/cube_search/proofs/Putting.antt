@@ -1,14 +1,18 @@
 -- A good put under numbers is a good put under the variables.
 use Rattle.std.proofs.Common.{◌≡◌, ℕ, List, [], ◌∷◌, ◌++◌, length, map, Some, sym, ap, ◌∙◌, subst, ⊎_elim}
 use Rattle.std.specs.Prelude.{Contains}
+use Rattle.std.proofs.lemmas.List.{map_push}
 use Rattle.cnf_base.specs.Literals.{Literal, negated}
 use Rattle.cnf_base.specs.declared.clause.ClauseId.{ClauseId}
+use Rattle.cnf_base.proofs.Options.{some_value}
+use Rattle.cnf_base.proofs.Lists.{Contains-map}
 use Rattle.hint_chain.specs.Chains.{Lookup, IsUnit, HasPair}
 use Rattle.proof_log.specs.Diaries.{Subject, look_of, StandsIn, EachIsUsed}
 use Rattle.proof_log.specs.Diaries as diary
+use Rattle.proof_log.proofs.Growing.{below_member}
 use Rattle.local_names.specs.Names.{global, global_clause, local, local_clause, local_look}
 use Rattle.local_names.proofs.Numbers.{local_global, local_global_clause}
-use Rattle.local_names.proofs.Renamed.{contains_map, contains_of_map, map_push, found, contains_back, unit, pair_on, negated_map, found_local}
+use Rattle.local_names.proofs.Renamed.{contains_of_map, found, contains_back, unit, pair_on, negated_map, found_local}
 use Rattle.cdcl_core.specs.declared.watches.Watches.{Watches}
 use Rattle.cdcl_core.specs.Levels.{Row, IsTrueBy}
 use Rattle.cdcl_core.specs.Search.{clause_of}
@@ -16,8 +20,8 @@ use Rattle.cdcl_learn.specs.Puts as learnt
 use Rattle.cube_search.specs.Numbers.{global_found, global_look, variables_of, AreNumbers, AreNumbered}
 use Rattle.cube_search.specs.Keeping.{IsKept, state_in}
 use Rattle.cube_search.specs.declared.keeper.Keeper.{Keeper}
-use Rattle.cube_search.proofs.Naming.{numbers_below, numbers_among, below_member, found_global}
-use Rattle.cube_search.proofs.Keeping.{some_of, each_used}
+use Rattle.cube_search.proofs.Naming.{numbers_below, numbers_among, found_global}
+use Rattle.cube_search.proofs.Keeping.{each_used}
 
 -- ---- hints under numbers
 
@@ -60,17 +64,17 @@ module _ (g : Subject) (names : List ℕ) (bound : ℕ) (w : Watches) (near : Li
 
   -- a literal of the clause has its number in the clause under numbers
   near_member : (l : Literal) → Contains (global_clause names clause) l → Contains clause (local names l)
-  near_member l c = subst (λ (x : List Literal). Contains x (local names l)) back (contains_map (local names) (global_clause names clause) l c)
+  near_member l c = subst (λ (x : List Literal). Contains x (local names l)) back (Contains-map (local names) (global_clause names clause) l c)
 
   near_given : (l : Literal) → Contains g.given l → Contains near (local names l)
   near_given l c =
       subst (λ (x : List Literal). Contains x (local names l)) (local_global_clause names near numbered.numbers.once numbered.literals)
-      (contains_map (local names) (global_clause names near) l (subst (λ (x : List Literal). Contains x l) same c))
+      (Contains-map (local names) (global_clause names near) l (subst (λ (x : List Literal). Contains x l) same c))
 
   pub good_put : diary.IsGoodPut g (state_in g k).held (global_clause names clause) hints
   good_put = record {
     no_pair = λ p. good.no_pair (subst HasPair back (pair_on names (global_clause names clause) p));
-    from_held = λ id c. let s = some_of (clause_of w id) (good.held id c) in h.held id (global_clause names s.0) (ap (global_found names) s.1);
+    from_held = λ id c. let s = some_value (clause_of w id) (good.held id c) in h.held id (global_clause names s.0) (ap (global_found names) s.1);
     from_hints = λ l c.
         let s = good.stands (local names l) (near_member l c) in
         stands_back names (look_of g) hints l (s.0, s.1.0, s.1.1.0, held_near s.0 s.1.0 s.1.1.1.0, s.1.1.1.1);
@@ -81,7 +85,7 @@ module _ (g : Subject) (names : List ℕ) (bound : ℕ) (w : Watches) (near : Li
         (λ x.
         let d = found_global names (clause_of w) id c x in
         good.is_new id d.0 d.1 (λ m q.
-        let far : Contains (global_clause names clause) (global names m) = less (global names m) (subst (λ (y : List Literal). Contains y (global names m)) d.2 (contains_map (global names) d.0 m q)) in
+        let far : Contains (global_clause names clause) (global names m) = less (global names m) (subst (λ (y : List Literal). Contains y (global names m)) d.2 (Contains-map (global names) d.0 m q)) in
         let low = below_member (length names) d.0 m (numbers_below bound (length names) d.0 numbered.within (numbered.clauses id d.0 d.1)) q in
         subst (Contains clause) (local_global names m numbered.numbers.once low) (near_member (global names m) far)))
         (λ x. x.2 (numbers_among names bound clause numbered.within numbers x.0 (less x.0 x.1)))

@@ -389,9 +389,6 @@ module _ (s t u v : Search) (nodes nodes' : List Node) (log log' : List Entry) (
   pub conflict_same : IsSameRun s v
   conflict_same = run_then s u v (learnt_same s t u e same) (restarted_same u v f)
 
-pub some_of_match : (A : Type 0) {B : Type 0} (C : B → Type 0) (o : Option B) (x : B) → o ≡ Some x → MatchOption o A C → C x
-some_of_match A C o x e m = subst (λ q. MatchOption q A C) e m
-
 pub end_from : (s a new : Search) (e : a ≡ record s { watches = a.watches; trail = a.trail; choices = a.choices; base = a.base }) (nodes nodes' : List Node) (log log' : List Entry) (known known' : ℕ → Type 0) (found : Bool) (cube budget : ℕ) (r : Result (Option End) AllocError) → (IsUpToDate s nodes log known → IsUpToDate a nodes log known) → IfOk r (λ o. MatchOption o (IsUpToDate a nodes log known → IsUpToDate new nodes' log' known') (IsEnd (IsUpToDate a nodes log known) (subject_of a nodes' log') known' found a.opening.items a.names cube budget)) → IfOk r (λ o. MatchOption o (IsUpToDate s nodes log known → IsUpToDate new nodes' log' known') (IsEnd (IsUpToDate s nodes log known) (subject_of s nodes' log') known' found s.opening.items s.names cube budget))
 end_from s a new e nodes nodes' log log' known known' found cube budget (Err x) w h = tt
 end_from s a new e nodes nodes' log log' known known' found cube budget (Ok None) w h = λ u. h (w u)

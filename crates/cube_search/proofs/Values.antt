@@ -5,6 +5,7 @@ use Rattle.std.proofs.lemmas.Bool.{cases_lt, cases_eq}
 use Rattle.std.proofs.lemmas.List.{get_or-set_same, get_or-set_other, get_or_default}
 use Rattle.cnf_base.specs.Literals.{Literal, negated, positive_of}
 use Rattle.cnf_base.specs.Clauses.{lit_true, clause_true}
+use Rattle.cnf_base.proofs.Lists.{Contains-nil}
 use Rattle.cdcl_core.specs.declared.trail.Trail.{Trail}
 use Rattle.cdcl_core.specs.declared.watches.Watches.{Watches}
 use Rattle.cdcl_core.specs.Levels.{Row, IsTrueBy}
@@ -13,7 +14,7 @@ use Rattle.cdcl_core.specs.State.{IsSettled}
 use Rattle.cdcl_learn.specs.Rows.{literal_at, level_at}
 use Rattle.cdcl_core.specs.State.{no_row}
 use Rattle.cdcl_learn.proofs.Facts.{place_of_true, history_of}
-use Rattle.cdcl_learn.proofs.Lists.{no_member, member_cases}
+use Rattle.cdcl_learn.proofs.Lists.{member_cases}
 use Rattle.cube_search.specs.Ends.{assignment, IsMadeTrue}
 
 pub made_none : (old new : List Bool) (l : Literal) → l.positive ≡ false → new ≡ old → IsMadeTrue (assignment old) (assignment new) l
@@ -90,7 +91,7 @@ only_more rows items i r old new same inside found h m x on =
 
 -- a clause of which a literal is true
 pub clause_holds : (v : ℕ → Bool) (c : List Literal) (l : Literal) → Contains c l → lit_true v l ≡ true → clause_true v c ≡ true
-clause_holds v [] l k e = absurd (no_member l k)
+clause_holds v [] l k e = absurd (Contains-nil l k)
 clause_holds v (m ∷ c) l k e = elim (member_cases m l c k) [
   | inl a ↦ ap (λ b. b || clause_true v c) (ap (lit_true v) a ∙ e)
   | inr a ↦ later (lit_true v m) (clause_holds v c l a e)

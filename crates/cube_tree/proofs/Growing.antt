@@ -5,6 +5,7 @@ use Rattle.std.proofs.lemmas.List.Elements.{All-contains, recursion_from_All, Al
 use Rattle.cnf_base.specs.Literals.{Literal}
 use Rattle.cnf_base.specs.Assignments.{AreBelow}
 use Rattle.cnf_base.specs.declared.clause.ClauseId.{ClauseId}
+use Rattle.cnf_base.proofs.Lists.{slice_get-at}
 use Rattle.smt_terms.specs.declared.node.Node.{Node}
 use Rattle.smt_terms.specs.Terms.{TermsValue, IsTermList}
 use Rattle.hint_chain.specs.Chains.{IsChain, FindsMore}
@@ -14,7 +15,7 @@ use Rattle.proof_log.specs.Logs.{clause_at, entry_at, state_of}
 use Rattle.proof_log.specs.Boards.{Grows}
 use Rattle.proof_log.specs.Faults.{IsValid}
 use Rattle.proof_log.specs.Stored.{LogValue, Stands, IsPushed}
-use Rattle.proof_log.proofs.Growth.{grows_one, grown_holds, get_end, chain_clause}
+use Rattle.proof_log.proofs.Growth.{grows_one, grown_holds, chain_clause}
 use Rattle.proof_log.proofs.Standing.{stands_over, clauses_below}
 use Rattle.cube_tree.specs.Closing.{first_of}
 use Rattle.cube_tree.specs.Resolvents.{IsResolvent, AreHintsOf}
@@ -35,7 +36,7 @@ finds_more nodes old new h k g id c e =
 pub put_found : (nodes : List Node) (old new : LogValue) (c : List Literal) (hints : List ClauseId) (p : ℕ) → IsPushed nodes old new (step.Chain c hints) p → clause_at new.clauses (first_of p) ≡ Some c
 put_found nodes old new c hints p k =
     let b = stands_over nodes new k.stands in
-    let there : entry_at new.entries p ≡ Some (step.Chain c hints) = ap (entry_at new.entries) k.position ∙ ap (λ l. entry_at l (suc (length old.entries))) k.entries ∙ get_end old.entries (step.Chain c hints) [] in
+    let there : entry_at new.entries p ≡ Some (step.Chain c hints) = ap (entry_at new.entries) k.position ∙ ap (λ l. entry_at l (suc (length old.entries))) k.entries ∙ slice_get-at old.entries (step.Chain c hints) [] in
     ap (λ rows. clause_at rows (first_of p)) b.clauses ∙ chain_clause nodes new.entries p c hints there
 
 -- a resolvent of two clauses of the log is a valid chain

@@ -1,6 +1,6 @@
 mod Splits
 mod Pairs
 mod Merges
-mod Resolving
+pub mod Resolving
 mod Levels
 mod Growing

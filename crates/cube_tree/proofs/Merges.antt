@@ -6,6 +6,7 @@ use Rattle.std.proofs.lemmas.Bool.{cases_lt}
 use Rattle.std.proofs.lemmas.List.{get_or_default}
 use Rattle.std.proofs.lemmas.List.Elements.{All-weaker}
 use Rattle.cnf_base.specs.Literals.{Literal, negated}
+use Rattle.cnf_base.proofs.Lists.{Contains-nil}
 use Rattle.cube_tree.specs.Resolvents.{IsResolvent}
 
 pub within_more : (from : List Literal) (i : ℕ) (skip k e : Literal) (old new : List Literal) → i < length from → k ≡ get_or from i e → ((m : Literal) → Contains old m → Contains new m) → ((k ≡ skip) ⊎ Contains new k)
@@ -24,9 +25,6 @@ pub only_more : (from : List Literal) (skip k : Literal) (start old new : List L
 only_more from skip k start old new inside step before m h =
     ⊎_elim (λ p. before m p) (λ p. inr (subst (Contains from) (sym p.0) inside, λ e. p.1 (sym p.0 ∙ e))) (step m h)
 
-nothing : (k : Literal) → Contains [] k → ⊥
-nothing k r = omega (arith, r.1)
-
 -- the literals of the first clause but l, and then those of the second but its opposite
 pub merged : (first second : List Literal) (l m : Literal) (none one two : List Literal) → none ≡ [] → m ≡ negated l
     → All (λ k. (k ≡ l) ⊎ Contains one k) first → ((k : Literal) → Contains one k → Contains none k ⊎ (Contains first k × (k ≢ l)))
@@ -37,7 +35,7 @@ merged first second l m none one two e is has0 only0 kept has1 only1 = record {
   of_second = All-weaker _ (λ k. (k ≡ negated l) ⊎ Contains two k) (λ k p. ⊎_elim (λ s. inl (s ∙ is)) (λ q. inr q) p) second has1;
   only = λ k h.
       ⊎_elim
-      (λ p. ⊎_elim (λ q. absurd (nothing k (subst (λ xs. Contains xs k) e q))) (λ q. inl q) (only0 k p))
+      (λ p. ⊎_elim (λ q. absurd (Contains-nil k (subst (λ xs. Contains xs k) e q))) (λ q. inl q) (only0 k p))
       (λ p. inr (p.0, λ same. p.1 (same ∙ sym is)))
       (only1 k h);
 }

@@ -1,17 +1,19 @@
 -- The chain of a resolvent, and what it closes.
-use Rattle.std.proofs.Common.{◌≡◌, ℕ, zero, suc, ◌<◌, List, [], ◌∷◌, ◌++◌, length, get_or, Some, refl, sym, ap, ◌∙◌, subst, inl, inr, ⊎_elim, arith}
+use Rattle.std.proofs.Common.{◌≡◌, ℕ, zero, suc, ◌<◌, List, [], ◌∷◌, ◌++◌, length, get_or, Some, sym, ap, ◌∙◌, subst, inl, inr, ⊎_elim, arith}
 use Rattle.std.specs.Prelude.{◌≢◌, ◌⊎◌, All, Contains, map}
 use Rattle.std.proofs.lemmas.List.Elements.{All-weaker, All-contains, Contains-append_left, Contains-push, Contains-get_or}
+use Rattle.std.proofs.lemmas.Option.{same_Some}
 use Rattle.cnf_base.specs.Literals.{Literal, negated, positive_of, negative_of}
 use Rattle.cnf_base.specs.declared.clause.ClauseId.{ClauseId}
 use Rattle.cnf_base.proofs.Codes.{negated-negated}
+use Rattle.cnf_base.proofs.Lists.{Contains-first, Contains-later, Contains-map}
 use Rattle.hint_chain.specs.Chains.{IsFalse, Lookup, ChainFrom, IsChain}
 use Rattle.cube_tree.specs.Resolvents.{IsResolvent, AreHintsOf}
 use Rattle.cube_tree.specs.Closing.{IsClosing, first_of, Closes}
 
 -- ---- elements
 
-pub members : (P : Literal → Type 0) (xs : List Literal) → ((x : Literal) → Contains xs x → P x) → All P xs
+pub members : {A : Type 0} (P : A → Type 0) (xs : List A) → ((x : A) → Contains xs x → P x) → All P xs
 members P xs h = λ k d lt. h (get_or xs k d) (Contains-get_or xs k d lt)
 
 cons_cases : (x : Literal) (xs : List Literal) (y : Literal) → Contains (x ∷ xs) y → (y ≡ x) ⊎ Contains xs y
@@ -21,26 +23,12 @@ cons_cases x xs y h = go h.0 h.1 h.2
     go zero lt e = inl (sym e)
     go (suc k) lt e = inr (k, omega (arith, lt), e)
 
-contains_here : (x : Literal) (xs : List Literal) → Contains (x ∷ xs) x
-contains_here x xs = (0, omega arith, refl)
-
-contains_later : (x : Literal) (xs : List Literal) (y : Literal) → Contains xs y → Contains (x ∷ xs) y
-contains_later x xs y h = (suc h.0, omega (arith, h.1), h.2)
-
-contains_map : (xs : List Literal) (x : Literal) → Contains xs x → Contains (map negated xs) (negated x)
-contains_map [] x h = absurd (omega (arith, h.1))
-contains_map (y ∷ xs) x h =
-    ⊎_elim
-    (λ e. subst (λ z. Contains (negated y ∷ map negated xs) (negated z)) (sym e) (contains_here (negated y) (map negated xs)))
-    (λ k. contains_later (negated y) (map negated xs) (negated x) (contains_map xs x k))
-    (cons_cases y xs x h)
-
 map_contains : (xs : List Literal) (x : Literal) → Contains (map negated xs) (negated x) → Contains xs x
 map_contains [] x h = absurd (omega (arith, h.1))
 map_contains (y ∷ xs) x h =
     ⊎_elim
-    (λ e. subst (Contains (y ∷ xs)) (sym (sym (negated-negated x) ∙ ap negated e ∙ negated-negated y)) (contains_here y xs))
-    (λ k. contains_later y xs x (map_contains xs x k))
+    (λ e. subst (Contains (y ∷ xs)) (sym (sym (negated-negated x) ∙ ap negated e ∙ negated-negated y)) (Contains-first y xs))
+    (λ k. Contains-later y x xs (map_contains xs x k))
     (cons_cases (negated y) (map negated xs) (negated x) h)
 
 -- ---- the chain
@@ -54,7 +42,7 @@ module _ (look : Lookup) (first second clause : List Literal) (l : Literal) (a b
     record {
       among = inside;
       open_yet = λ f. absent (map_contains clause l f);
-      others = All-weaker _ (λ k. (k ≡ l) ⊎ IsFalse (map negated clause) k) (λ k p. ⊎_elim (λ e. inl e) (λ q. inr (contains_map clause k q)) p) first h.of_first;
+      others = All-weaker _ (λ k. (k ≡ l) ⊎ IsFalse (map negated clause) k) (λ k p. ⊎_elim (λ e. inl e) (λ q. inr (Contains-map negated clause k q)) p) first h.of_first;
     },
     (
       second,
@@ -63,7 +51,7 @@ module _ (look : Lookup) (first second clause : List Literal) (l : Literal) (a b
           (λ k p.
           ⊎_elim
           (λ e. subst (Contains (map negated clause ++ l ∷ [])) (sym (ap negated e ∙ negated-negated l)) (Contains-push (map negated clause) l))
-          (λ q. Contains-append_left (map negated clause) (l ∷ []) (negated k) (contains_map clause k q))
+          (λ q. Contains-append_left (map negated clause) (l ∷ []) (negated k) (Contains-map negated clause k q))
           p)
           second h.of_second,
     ),
@@ -73,7 +61,7 @@ module _ (look : Lookup) (first second clause : List Literal) (l : Literal) (a b
   one here = (
     first,
     has_first,
-    All-weaker _ (IsFalse (map negated clause)) (λ k p. ⊎_elim (λ e. subst (IsFalse (map negated clause)) (sym e) (contains_map clause l here)) (λ q. contains_map clause k q) p) first h.of_first,
+    All-weaker _ (IsFalse (map negated clause)) (λ k p. ⊎_elim (λ e. subst (IsFalse (map negated clause)) (sym e) (Contains-map negated clause l here)) (λ q. Contains-map negated clause k q) p) first h.of_first,
   )
 
   pub is_chain : (hints : List ClauseId) → AreHintsOf clause l a b hints → IsChain look clause hints
@@ -109,9 +97,6 @@ closes_both assumed p cube first second clause from h0 h1 =
     (All-contains (λ l. Contains (negated p ∷ cube) (negated l) ⊎ Contains assumed (negated l)) second k h1 b.0))
     (from k has))
 
-some_is : {A : Type 0} {x y : A} → Some x ≡ Some y → x ≡ y
-some_is e = cc
-
 none_closing : (assumed cube : List Literal) → IsClosing assumed cube []
 none_closing assumed cube = members (λ l. Contains cube (negated l) ⊎ Contains assumed (negated l)) [] (λ k r. absurd (omega (arith, r.1)))
 
@@ -122,7 +107,7 @@ first_closes look assumed x cube p first e absent h = record {
   clause = h.clause;
   found = h.found;
   closing =
-      let same = some_is (sym e ∙ h.found) in
+      let same = same_Some _ _ (sym e ∙ h.found) in
       closes_both assumed (positive_of x) cube h.clause [] h.clause (λ k inside. inl (inside, λ is. absent (subst (λ c. Contains c (negative_of x)) (sym same) (subst (Contains h.clause) is inside)))) h.closing (none_closing assumed (negative_of x ∷ cube));
 }
 
@@ -132,7 +117,7 @@ second_closes look assumed x cube q second e absent h = record {
   clause = h.clause;
   found = h.found;
   closing =
-      let same = some_is (sym e ∙ h.found) in
+      let same = same_Some _ _ (sym e ∙ h.found) in
       closes_both assumed (positive_of x) cube [] h.clause h.clause (λ k inside. inr (inside, λ is. absent (subst (λ c. Contains c (positive_of x)) (sym same) (subst (Contains h.clause) is inside)))) (none_closing assumed (positive_of x ∷ cube)) h.closing;
 }
 
@@ -142,5 +127,5 @@ pub resolvent_closes : (look more : Lookup) (assumed : List Literal) (x : ℕ) (
 resolvent_closes look more assumed x cube p q r first second clause e0 e1 h found h0 h1 = record {
   clause = clause;
   found = found;
-  closing = closes_both assumed (positive_of x) cube first second clause h.only (subst (IsClosing assumed (positive_of x ∷ cube)) (some_is (sym h0.found ∙ e0)) h0.closing) (subst (IsClosing assumed (negative_of x ∷ cube)) (some_is (sym h1.found ∙ e1)) h1.closing);
+  closing = closes_both assumed (positive_of x) cube first second clause h.only (subst (IsClosing assumed (positive_of x ∷ cube)) (same_Some _ _ (sym h0.found ∙ e0)) h0.closing) (subst (IsClosing assumed (negative_of x ∷ cube)) (same_Some _ _ (sym h1.found ∙ e1)) h1.closing);
 }

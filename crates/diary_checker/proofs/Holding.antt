@@ -1,7 +1,7 @@
 -- What is held after one position more, and what is filed.
-use Rattle.std.proofs.Common.{◌≡◌, ℕ, ◌+◌, Bool, true, false, not, List, Option, Some, refl, sym, ap, ◌∙◌, ⊎_elim, arith}
+use Rattle.std.proofs.Common.{◌≡◌, ℕ, ◌+◌, Bool, true, false, not, List, Option, Some, sym, ap, ◌∙◌, ⊎_elim, arith}
 use Rattle.std.specs.Prelude.{◌&&◌, ltb, if◌then◌else◌, Contains}
-use Rattle.std.proofs.lemmas.Bool.{cases_lt, lt-ltb, le-ltb, eq-eqb, ne_eqb}
+use Rattle.std.proofs.lemmas.Bool.{cases_lt, lt-ltb, le-ltb, eq-eqb, ne_eqb, cases_eq}
 use Rattle.cnf_base.specs.Literals.{Literal}
 use Rattle.cnf_base.specs.declared.clause.ClauseId.{ClauseId}
 use Rattle.hint_chain.specs.Chains.{Lookup}
@@ -9,7 +9,7 @@ use Rattle.proof_log.specs.Diaries.{with_held}
 use Rattle.proof_log.proofs.Lines.{held_cases}
 use Rattle.diary_checker.specs.Tables.{filed_under, first_of, IsFiled}
 use Rattle.diary_checker.specs.Uses.{AreFiled}
-use Rattle.diary_checker.proofs.Sets.{eq_or_not}
+use Rattle.std.proofs.Math.Bool.{and-false}
 
 ltb_same : (p at : ℕ) → (p ≡ at → ⊥) → ltb p at ≡ ltb p (at + 1)
 ltb_same p at ne =
@@ -18,18 +18,14 @@ ltb_same p at ne =
     (λ le. le-ltb p at le ∙ sym (le-ltb p (at + 1) (omega arith)))
     (cases_lt p at)
 
-and_false : (b : Bool) → (b && false) ≡ false
-and_false true = refl
-and_false false = refl
-
 pub chain_more : (chain old : ℕ → Bool) (at : ℕ) → chain at ≡ true → ((p : ℕ) → old p ≡ (ltb p at && not (chain p))) → (p : ℕ) → old p ≡ (ltb p (at + 1) && not (chain p))
 chain_more chain old at is h p =
     ⊎_elim
     (λ e.
     let here : chain p ≡ true = ap chain e ∙ is in
-    h p ∙ (ap (λ b. ltb p at && not b) here ∙ (and_false (ltb p at) ∙ sym (ap (λ b. ltb p (at + 1) && not b) here ∙ and_false (ltb p (at + 1))))))
+    h p ∙ (ap (λ b. ltb p at && not b) here ∙ (and-false (ltb p at) ∙ sym (ap (λ b. ltb p (at + 1) && not b) here ∙ and-false (ltb p (at + 1))))))
     (λ ne. h p ∙ ap (λ b. b && not (chain p)) (ltb_same p at ne))
-    (eq_or_not p at)
+    (cases_eq p at)
 
 pub plain_more : (chain old new : ℕ → Bool) (at : ℕ) → chain at ≡ false → ((p : ℕ) → new p ≡ with_held old at true p) → ((p : ℕ) → old p ≡ (ltb p at && not (chain p))) → (p : ℕ) → new p ≡ (ltb p (at + 1) && not (chain p))
 plain_more chain old new at is w h p =
@@ -40,7 +36,7 @@ plain_more chain old new at is w h p =
     let right : (ltb p (at + 1) && not (chain p)) ≡ true = ap (λ b. ltb p (at + 1) && not b) here ∙ ap (λ b. b && true) (lt-ltb p (at + 1) (omega arith)) in
     left ∙ sym right)
     (λ ne. w p ∙ (ap (λ b. if b then true else old p) (ne_eqb p at ne) ∙ (h p ∙ ap (λ b. b && not (chain p)) (ltb_same p at ne))))
-    (eq_or_not p at)
+    (cases_eq p at)
 
 pub filed_more : (look : Lookup) (old new : ℕ → Bool) (lists lists' : List (List ClauseId)) (at : ℕ) →
     ((p : ℕ) → new p ≡ with_held old at true p) →

@@ -1,14 +1,14 @@
 -- Sets of literals, and what holds of each element of a list, along a loop.
-use Rattle.std.proofs.Common.{◌≡◌, ℕ, ◌+◌, ◌<◌, Bool, true, false, not, List, [], ◌∷◌, ◌++◌, length, take, drop, get_or, sym, ap, ◌∙◌, subst, inl, inr, ⊎_elim, arith}
+use Rattle.std.proofs.Common.{◌≡◌, ℕ, ◌+◌, ◌<◌, List, [], ◌∷◌, ◌++◌, length, take, drop, get_or, sym, ap, ◌∙◌, subst, ⊎_elim, arith}
 use Rattle.std.specs.Prelude.{◌⊎◌, ◌≢◌, Contains, map}
-use Rattle.std.proofs.lemmas.Bool.{cases_lt}
 use Rattle.std.proofs.lemmas.List.{get_or_default, map-append, take-append-drop}
 use Rattle.std.proofs.lemmas.List.Elements.{Contains-append_left, Contains-push, Contains-push_cases, Contains-get_or}
-use Rattle.cnf_base.specs.Literals.{Literal, negated, code_of}
-use Rattle.cnf_base.proofs.Codes.{negated-negated, code_of-injective}
+use Rattle.cnf_base.specs.Literals.{Literal, negated}
+use Rattle.cnf_base.proofs.Codes.{same_literal_or_not}
 use Rattle.cnf_base.proofs.Rows.{take_at}
 use Rattle.hint_chain.specs.Chains.{HasPair}
 use Rattle.diary_checker.specs.Tables.{Stamps, number_of, IsSetOf}
+use Rattle.hint_chain.proofs.Marking.{pair_more}
 
 -- ---- each element so far
 
@@ -33,12 +33,6 @@ module _ {A : Type 0} where
 
 -- ---- sets
 
-pub eq_or_not : (a b : ℕ) → (a ≡ b) ⊎ (a ≡ b → ⊥)
-eq_or_not a b = ⊎_elim (λ lt. inr (λ e. let f : ⊥ = omega arith in f)) (λ le. ⊎_elim (λ lt. inr (λ e. let f : ⊥ = omega arith in f)) (λ le'. inl (omega arith)) (cases_lt b a)) (cases_lt a b)
-
-pub same_or_not : (k l : Literal) → (k ≡ l) ⊎ (k ≢ l)
-same_or_not k l = ⊎_elim (λ e. inl (code_of-injective k l e)) (λ ne. inr (λ e. ne (ap code_of e))) (eq_or_not (code_of k) (code_of l))
-
 pub set_none : (t : Stamps) (xs : List Literal) → ((l : Literal) → number_of t l ≡ 0) → IsSetOf t (take 0 xs)
 set_none t xs h l = ((λ lt. let e = h l in absurd (omega arith)), (λ c. absurd (omega (arith, c.1))))
 
@@ -50,7 +44,7 @@ set_more t t' ls l h here others k = (to, from)
         ⊎_elim
         (λ e. subst (Contains (ls ++ l ∷ [])) (sym e) (Contains-push ls l))
         (λ ne. Contains-append_left ls (l ∷ []) k ((h k).0 (subst (λ n. 0 < n) (others k ne) lt)))
-        (same_or_not k l)
+        (same_literal_or_not k l)
 
     marked : k ≡ l → 0 < number_of t' k
     marked e = subst (λ n. 0 < n) (sym (ap (number_of t') e ∙ here)) (omega arith)
@@ -58,7 +52,7 @@ set_more t t' ls l h here others k = (to, from)
     from : Contains (ls ++ l ∷ []) k → 0 < number_of t' k
     from c =
         ⊎_elim
-        (λ old. ⊎_elim marked (λ ne. subst (λ n. 0 < n) (sym (others k ne)) ((h k).1 old)) (same_or_not k l))
+        (λ old. ⊎_elim marked (λ ne. subst (λ n. 0 < n) (sym (others k ne)) ((h k).1 old)) (same_literal_or_not k l))
         (λ e. marked (sym e))
         (Contains-push_cases ls l k c)
 
@@ -73,28 +67,8 @@ opposite_step t t' xs i x lt e h here others =
 
 -- ---- pairs
 
-not_its_opposite : (b : Bool) → b ≡ not b → ⊥
-not_its_opposite true e = cc
-not_its_opposite false e = cc
-
 pub pair_found : (xs : List Literal) (i : ℕ) (x : Literal) → i < length xs → x ≡ get_or xs i x → Contains (take i xs) (negated x) → HasPair xs
 pair_found xs i x lt e c = (x, here_in xs i x lt e, take_in xs i (negated x) c)
-
-pub pair_more : (xs : List Literal) (x : Literal) → ¬ (HasPair xs) → ¬ (Contains xs (negated x)) → ¬ (HasPair (xs ++ x ∷ []))
-pair_more xs x alone without p =
-    let l = p.0 in
-    ⊎_elim
-    (λ old.
-    ⊎_elim
-    (λ beside. alone (l, old, beside))
-    (λ e. without (subst (Contains xs) (sym (ap negated e ∙ negated-negated l)) old))
-    (Contains-push_cases xs x (negated l) p.2))
-    (λ same.
-    ⊎_elim
-    (λ beside. without (subst (λ y. Contains xs (negated y)) (sym same) beside))
-    (λ e. not_its_opposite l.positive (ap (λ y. y.positive) (sym same ∙ e)))
-    (Contains-push_cases xs x (negated l) p.2))
-    (Contains-push_cases xs x l p.1)
 
 pub pair_none : (xs : List Literal) (i : ℕ) (x : Literal) → i < length xs → x ≡ get_or xs i x → ¬ (Contains (take i xs) (negated x)) → ¬ (HasPair (take i xs)) → ¬ (HasPair (take (i + 1) xs))
 pair_none xs i x lt e without alone = subst (λ ys. ¬ (HasPair ys)) (sym (take_at xs i x lt e)) (pair_more (take i xs) x alone without)

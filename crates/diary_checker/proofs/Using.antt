@@ -3,7 +3,7 @@ use Rattle.std.proofs.Common.{◌≡◌, ℕ, zero, suc, ◌+◌, ◌<◌, ◌�
 use Rattle.std.specs.Prelude.{◌⊎◌, ◌≢◌, ◌↔◌, Contains, Result, Ok, Err, OnOk, MatchOption}
 use Rattle.std.proofs.lemmas.Bool.{cases_lt}
 use Rattle.std.proofs.lemmas.List.{drop_more, drop_all, get_or_default}
-use Rattle.std.proofs.lemmas.List.Elements.{All-contains, Contains-append_left, Contains-push, Contains-get_or}
+use Rattle.std.proofs.lemmas.List.Elements.{Contains-append_left, Contains-push, Contains-get_or}
 use Rattle.cnf_base.specs.Literals.{Literal, negated}
 use Rattle.cnf_base.specs.declared.clause.ClauseId.{ClauseId}
 use Rattle.cnf_base.proofs.Rows.{take_at}
@@ -11,14 +11,14 @@ use Rattle.hint_chain.specs.Chains.{IsFalse, IsUnit, Lookup}
 use Rattle.proof_log.specs.Diaries.{StandsIn, EachIsUsed}
 use Rattle.diary_checker.specs.Tables.{Stamps, number_of, IsSetOf}
 use Rattle.diary_checker.specs.Uses.{AreLasts, HasIn, IsGiven, StandsFrom}
-use Rattle.diary_checker.proofs.Sets.{in_more, same_or_not}
+use Rattle.diary_checker.proofs.Sets.{in_more}
+use Rattle.cnf_base.proofs.Codes.{same_literal_or_not}
+use Rattle.cnf_base.proofs.Options.{same_found}
+use Rattle.hint_chain.proofs.Exact.{only_open}
 
 pub on_ok : {E : Type 0} (r : Result (Unit {0}) E) (P Q : Type 0) → (P → Q) → OnOk r P → OnOk r Q
 on_ok (Ok u) P Q f h = f h
 on_ok (Err e) P Q f h = tt
-
-same_found : {A : Type 0} (o : Option A) (x y : A) → o ≡ Some x → o ≡ Some y → x ≡ y
-same_found o x y e f = cc
 
 -- ---- numbers of a clause's literals
 
@@ -34,7 +34,7 @@ given_step t t1 t2 xs i x n lt e h here others k =
     (λ p. inl (subst (λ zs. Contains zs k) (sym (take_at xs i x lt e)) (Contains-append_left (take i xs) (x ∷ []) k p.0), others k ne ∙ p.1))
     (λ p. inr ((λ c. ⊎_elim p.0 (λ q. ne (sym q)) (in_more xs i x k lt e c)), others k ne ∙ p.1))
     (h k))
-    (same_or_not k x)
+    (same_literal_or_not k x)
 
 pub given_hint : (look : Lookup) (id : ClauseId) (h : List Literal) (n : ℕ) (old new : Stamps) (l : Literal) → look id ≡ Some h → IsGiven (Contains h l) n old new l → IsGiven (HasIn look id l) n old new l
 given_hint look id h n old new l e g =
@@ -110,13 +110,9 @@ none_open t known clause set h l u = u.open_yet ((set (negated l)).0 (h l u.amon
 open_of : (t : Stamps) (known : List Literal) (l : Literal) → IsSetOf t known → number_of t (negated l) ≡ 0 → ¬ (IsFalse known l)
 open_of t known l set e f = let lt = (set (negated l)).1 f in absurd (omega arith)
 
-only_one : (known clause : List Literal) (l m : Literal) → IsUnit known clause l → Contains clause m → ¬ (IsFalse known m) → m ≡ l
-only_one known clause l m u among open_yet =
-    ⊎_elim (λ e. e) (λ f. absurd (open_yet f)) (All-contains (λ k. (k ≡ l) ⊎ IsFalse known k) clause m u.others among)
-
 pub two_open : (t : Stamps) (known clause : List Literal) (k l : Literal) → IsSetOf t known → Contains clause l → number_of t (negated l) ≡ 0 → Contains clause k → k ≢ l → number_of t (negated k) ≡ 0 → (m : Literal) → ¬ (IsUnit known clause m)
 two_open t known clause k l set in_l open_l in_k ne open_k m u =
-    ne (only_one known clause m k u in_k (open_of t known k set open_k) ∙ sym (only_one known clause m l u in_l (open_of t known l set open_l)))
+    ne (only_open known clause m k u in_k (open_of t known k set open_k) ∙ sym (only_open known clause m l u in_l (open_of t known l set open_l)))
 
 pub one_open : (t : Stamps) (known clause : List Literal) (l : Literal) → IsSetOf t known → Contains clause l → number_of t (negated l) ≡ 0 → ((k : Literal) → Contains clause k → (k ≡ l) ⊎ (0 < number_of t (negated k))) → IsUnit known clause l
 one_open t known clause l set among e others = record {
@@ -151,7 +147,7 @@ Adds look ts id l = (h : List Literal) × (look id ≡ Some h) × IsUnit ts h l
 same_unit : (look : Lookup) (ts : List Literal) (id : ClauseId) (l m : Literal) (h : List Literal) → Adds look ts id l → look id ≡ Some h → IsUnit ts h m → m ≡ l
 same_unit look ts id l m h a e u =
     let v = subst (λ hs. IsUnit ts hs m) (same_found (look id) h a.0 e a.1) u in
-    only_one ts a.0 l m a.2 v.among v.open_yet
+    only_open ts a.0 l m a.2 v.among v.open_yet
 
 pub used_unused : (look : Lookup) (ts : List Literal) (hints : List ClauseId) (k : ℕ) (l : Literal) → k + 1 < length hints → Adds look ts (get_or hints k noone) l → ¬ (StandsIn look (drop (k + 1) hints) (negated l)) → ¬ (EachIsUsed look ts (drop k hints))
 used_unused look ts hints k l lt a without u =

@@ -2,7 +2,7 @@
 use Rattle.std.proofs.Common.{◌≡◌, ◌≢◌, ℕ, zero, suc, ◌+◌, ◌<◌, Bool, true, false, not, List, [], ◌∷◌, ◌++◌, length, take, drop, get_or, Option, Some, None, refl, sym, ap, ◌∙◌, subst, inl, inr, ⊎_elim, arith, length-append}
 use Rattle.std.proofs.lemmas.List.{take-append-drop, drop_more}
 use Rattle.std.specs.Prelude.{◌==◌, ◌&&◌, ◌||◌, ◌⊎◌, ltb, slice_get, if◌then◌else◌, MatchOption}
-use Rattle.std.proofs.lemmas.Bool.{eqb-true, eq-eqb, ne_eqb, and_parts}
+use Rattle.std.proofs.lemmas.Bool.{eqb-true, eq-eqb, and_parts}
 use Rattle.cnf_base.specs.Literals.{Literal}
 use Rattle.cnf_base.specs.declared.clause.ClauseId.{ClauseId}
 use Rattle.proof_log.specs.declared.entry.Entry.{Entry}
@@ -17,6 +17,9 @@ use Rattle.hub_core.specs.declared.state.CubeStage.{CubeStage}
 use Rattle.hub_core.specs.Hubs.{HubValue, HubView, opening, has_next, with_open, set_at, claim_after, call_after, run_from, view_of, AreMade, permitted, reply, claim_reply, IsHistory, event}
 use Rattle.hub_core.specs.Standing.{is_open, closed_at, is_spent, or_else, Matches, IsHub}
 use Rattle.hub_core.specs.Stays.{view_snoc, history_snoc}
+use Rattle.std.proofs.Math.Bool.{and-false, and-true, or-false, or-true}
+use Rattle.cnf_base.proofs.Lists.{slice_get-push}
+use Rattle.hub_core.proofs.Accounts.{set_here, set_else}
 
 pub done : (law : HubValue) (s' : HubState) (h : List Event) (n : ℕ) (call : Call) → IsHistory law h → permitted law h n call → Matches s' (call_after law (view_of law h) n call) → IsHub law s' (h ++ event n call ∷ [])
 done law s' h n call made may m = record {
@@ -55,22 +58,6 @@ get_past : {A : Type 0} (xs : List A) → slice_get xs (length xs) ≡ None
 get_past [] = refl
 get_past (y ∷ xs) = get_past xs
 
-get_here : {A : Type 0} (xs : List A) (x : A) → slice_get (xs ++ x ∷ []) (length xs) ≡ Some x
-get_here [] x = refl
-get_here (y ∷ xs) x = get_here xs x
-
-and_false : (b : Bool) → (b && false) ≡ false
-and_false true = refl
-and_false false = refl
-
-and_true : (b : Bool) → (b && true) ≡ b
-and_true true = refl
-and_true false = refl
-
-or_false : (b : Bool) → (b || false) ≡ b
-or_false true = refl
-or_false false = refl
-
 true_or : (b c : Bool) → c ≡ false → (if b then true else c) ≡ b
 true_or true c e = refl
 true_or false c e = e
@@ -97,18 +84,18 @@ claim_next s v n m =
           (λ e.
           let at : c ≡ length xs = e.0 ∙ sym m.claimed in
           let was : v.open_for k c ≡ false = sym (m.open_for k c) ∙ ap (λ d. is_open (slice_get xs d) k) at ∙ ap (λ o. is_open o k) (get_past xs) in
-          ap (λ d. is_open (slice_get (xs ++ new_stage n ∷ []) d) k) at ∙ ap (λ o. is_open o k) (get_here xs (new_stage n))
-          ∙ sym (ap (λ b. if (k == n) && b then true else v.open_for k c) e.1 ∙ ap (λ b. if b then true else v.open_for k c) (and_true (k == n)) ∙ true_or (k == n) (v.open_for k c) was))
+          ap (λ d. is_open (slice_get (xs ++ new_stage n ∷ []) d) k) at ∙ ap (λ o. is_open o k) (slice_get-push xs (new_stage n))
+          ∙ sym (ap (λ b. if (k == n) && b then true else v.open_for k c) e.1 ∙ ap (λ b. if b then true else v.open_for k c) (and-true (k == n)) ∙ true_or (k == n) (v.open_for k c) was))
           (λ e.
           let apart : c ≢ length xs = λ q. e.0 (q ∙ m.claimed) in
           ap (λ o. is_open o k) (get_other xs (new_stage n) c apart) ∙ m.open_for k c
-          ∙ sym (ap (λ b. if (k == n) && b then true else v.open_for k c) e.1 ∙ ap (λ b. if b then true else v.open_for k c) (and_false (k == n))))
+          ∙ sym (ap (λ b. if (k == n) && b then true else v.open_for k c) e.1 ∙ ap (λ b. if b then true else v.open_for k c) (and-false (k == n))))
           (number_cases c v.claimed);
       closed = λ c.
           ⊎_elim
           (λ e.
           let at : c ≡ length xs = e.0 in
-          ap (λ d. closed_at (slice_get (xs ++ new_stage n ∷ []) d)) at ∙ ap closed_at (get_here xs (new_stage n))
+          ap (λ d. closed_at (slice_get (xs ++ new_stage n ∷ []) d)) at ∙ ap closed_at (slice_get-push xs (new_stage n))
           ∙ sym (sym (m.closed c) ∙ ap (λ d. closed_at (slice_get xs d)) at ∙ ap closed_at (get_past xs)))
           (λ e. ap closed_at (get_other xs (new_stage n) c e.0) ∙ m.closed c)
           (number_cases c (length xs));
@@ -116,7 +103,7 @@ claim_next s v n m =
           ⊎_elim
           (λ e.
           let at : c ≡ length xs = e.0 in
-          ap (λ d. is_spent (slice_get (xs ++ new_stage n ∷ []) d)) at ∙ ap is_spent (get_here xs (new_stage n))
+          ap (λ d. is_spent (slice_get (xs ++ new_stage n ∷ []) d)) at ∙ ap is_spent (slice_get-push xs (new_stage n))
           ∙ sym (sym (m.spent c) ∙ ap (λ d. is_spent (slice_get xs d)) at ∙ ap is_spent (get_past xs)))
           (λ e. ap is_spent (get_other xs (new_stage n) c e.0) ∙ m.spent c)
           (number_cases c (length xs));
@@ -160,12 +147,6 @@ stage_open (Some g) n e = let p = and_parts g.active (n == g.holder) e in (g, re
 pub stage_of : (s : HubState) (v : HubView) (n c : ℕ) → Matches s v → v.open_for n c ≡ true → (g : CubeStage) × (slice_get s.stages c ≡ Some g) × (g.active ≡ true) × (n ≡ g.holder)
 stage_of s v n c m e = stage_open (slice_get s.stages c) n (m.open_for n c ∙ e)
 
-set_here : {A : Type 0} (f : ℕ → A) (c : ℕ) (x : A) → set_at f c x c ≡ x
-set_here f c x = ap (λ b. if b then x else f c) (eq-eqb c c refl)
-
-set_else : {A : Type 0} (f : ℕ → A) (c : ℕ) (x : A) (d : ℕ) → d ≢ c → set_at f c x d ≡ f d
-set_else f c x d ne = ap (λ b. if b then x else f d) (ne_eqb d c ne)
-
 false_if : (b : Bool) (x : Bool) → (b ≡ false → x ≡ false) → false ≡ (if b then false else x)
 false_if true x h = refl
 false_if false x h = sym (h refl)
@@ -184,12 +165,12 @@ end_matches s s' v n c at spent found closed' spent' m may d ch ce sh se =
           ⊎_elim
           (λ e.
           let was : (k == n) ≡ false → v.open_for k x ≡ false =
-          λ ne. sym (m.open_for k x) ∙ ap (λ y. is_open (slice_get s.stages y) k) e.0 ∙ ap (λ o. is_open o k) g.1 ∙ (λ i. g.0.active && (k == sym g.3 i)) ∙ ap (λ b. g.0.active && b) ne ∙ and_false g.0.active in
+          λ ne. sym (m.open_for k x) ∙ ap (λ y. is_open (slice_get s.stages y) k) e.0 ∙ ap (λ o. is_open o k) g.1 ∙ (λ i. g.0.active && (k == sym g.3 i)) ∙ ap (λ b. g.0.active && b) ne ∙ and-false g.0.active in
           ap (λ y. is_open (slice_get s'.stages y) k) e.0 ∙ ap (λ o. is_open o k) here ∙ false_if (k == n) (v.open_for k x) was
-          ∙ sym (ap (λ b. if (k == n) && b then false else v.open_for k x) e.1 ∙ ap (λ b. if b then false else v.open_for k x) (and_true (k == n))))
+          ∙ sym (ap (λ b. if (k == n) && b then false else v.open_for k x) e.1 ∙ ap (λ b. if b then false else v.open_for k x) (and-true (k == n))))
           (λ e.
           ap (λ o. is_open o k) (d.others x e.0) ∙ m.open_for k x
-          ∙ sym (ap (λ b. if (k == n) && b then false else v.open_for k x) e.1 ∙ ap (λ b. if b then false else v.open_for k x) (and_false (k == n))))
+          ∙ sym (ap (λ b. if (k == n) && b then false else v.open_for k x) e.1 ∙ ap (λ b. if b then false else v.open_for k x) (and-false (k == n))))
           (number_cases x c);
       closed = λ x.
           ⊎_elim
@@ -203,30 +184,26 @@ end_matches s s' v n c at spent found closed' spent' m may d ch ce sh se =
           (number_cases x c);
     }
 
-or_true : (b : Bool) → (b || true) ≡ true
-or_true true = refl
-or_true false = refl
-
 pub close_matches : (law : HubValue) (s s' : HubState) (h : List Event) (n c p : ℕ) → IsHub law s h → permitted law h n (Close c p) → Ended s s' c (Some p) false false → IsHub law s' (h ++ event n (Close c p) ∷ [])
 close_matches law s s' h n c p hub may d =
     let v = view_of law h in
     done law s' h n (Close c p) hub.made may
-    (subst (λ b. Matches s' (record { log = v.log; claimed = v.claimed; open_for = with_open v.open_for n c false; closed = set_at v.closed c (Some p); spent = v.spent; found = b })) (or_false v.found)
-    (end_matches s s' v n c (Some p) false false (set_at v.closed c (Some p)) v.spent hub.matches may.0 d (set_here v.closed c (Some p)) (set_else v.closed c (Some p)) (sym (or_false (v.spent c))) (λ x ne. refl)))
+    (subst (λ b. Matches s' (record { log = v.log; claimed = v.claimed; open_for = with_open v.open_for n c false; closed = set_at v.closed c (Some p); spent = v.spent; found = b })) (or-false v.found)
+    (end_matches s s' v n c (Some p) false false (set_at v.closed c (Some p)) v.spent hub.matches may.0 d (set_here v.closed c (Some p)) (set_else v.closed c (Some p)) (sym (or-false (v.spent c))) (λ x ne. refl)))
 
 pub spend_matches : (law : HubValue) (s s' : HubState) (h : List Event) (n c : ℕ) → IsHub law s h → permitted law h n (Spend c) → Ended s s' c None true false → IsHub law s' (h ++ event n (Spend c) ∷ [])
 spend_matches law s s' h n c hub may d =
     let v = view_of law h in
     done law s' h n (Spend c) hub.made may
-    (subst (λ b. Matches s' (record { log = v.log; claimed = v.claimed; open_for = with_open v.open_for n c false; closed = v.closed; spent = set_at v.spent c true; found = b })) (or_false v.found)
-    (end_matches s s' v n c None true false v.closed (set_at v.spent c true) hub.matches may d refl (λ x ne. refl) (set_here v.spent c true ∙ sym (or_true (v.spent c))) (set_else v.spent c true)))
+    (subst (λ b. Matches s' (record { log = v.log; claimed = v.claimed; open_for = with_open v.open_for n c false; closed = v.closed; spent = set_at v.spent c true; found = b })) (or-false v.found)
+    (end_matches s s' v n c None true false v.closed (set_at v.spent c true) hub.matches may d refl (λ x ne. refl) (set_here v.spent c true ∙ sym (or-true (v.spent c))) (set_else v.spent c true)))
 
 pub found_matches : (law : HubValue) (s s' : HubState) (h : List Event) (n c : ℕ) → IsHub law s h → permitted law h n (Found c) → Ended s s' c None false true → IsHub law s' (h ++ event n (Found c) ∷ [])
 found_matches law s s' h n c hub may d =
     let v = view_of law h in
     done law s' h n (Found c) hub.made may
-    (subst (λ b. Matches s' (record { log = v.log; claimed = v.claimed; open_for = with_open v.open_for n c false; closed = v.closed; spent = v.spent; found = b })) (or_true v.found)
-    (end_matches s s' v n c None false true v.closed v.spent hub.matches may d refl (λ x ne. refl) (sym (or_false (v.spent c))) (λ x ne. refl)))
+    (subst (λ b. Matches s' (record { log = v.log; claimed = v.claimed; open_for = with_open v.open_for n c false; closed = v.closed; spent = v.spent; found = b })) (or-true v.found)
+    (end_matches s s' v n c None false true v.closed v.spent hub.matches may d refl (λ x ne. refl) (sym (or-false (v.spent c))) (λ x ne. refl)))
 
 pub claim_matches : (law : HubValue) (s s' : HubState) (h : List Event) (n cubes : ℕ) (o : Option ℕ) → cubes ≡ length law.cubes → IsHub law s h
     → MatchOption o

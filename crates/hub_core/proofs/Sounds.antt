@@ -18,6 +18,7 @@ use Rattle.hub_core.specs.declared.events.Event.{Event}
 use Rattle.hub_core.specs.Hubs.{IsDone, IsTold, IsAllTold, IsAccounted, AreClosed, IsSoundHistory, HubValue, HubView, IsOpening, opening, has_next, set_at, claim_after, call_after, run_from, view_of, IsClosedAt, may, AreMade, IsHistory}
 use Rattle.hub_core.specs.Stays.{call_holds, closed_stays}
 use Rattle.hub_core.proofs.Accounts.{history_accounts}
+use Rattle.std.proofs.lemmas.Option.{same_Some}
 
 -- the log is valid and grew from the old one by steps of a search
 pub record GoesOn (nodes : List Node) (old new : List Entry) : Type 0 where
@@ -57,13 +58,10 @@ set_cases f c x d = go (d == c) refl
     go true e = inl (eqb-true d c e, ap (λ q. if q then x else f d) e)
     go false e = inr (ap (λ q. if q then x else f d) e)
 
-some_is : {A : Type 0} {x y : A} → Some x ≡ Some y → x ≡ y
-some_is e = cc
-
 close_closed : (law : HubValue) (v : HubView) (c p : ℕ) → IsClosedAt law v.log c p → AreClosed law v → (d q : ℕ) → set_at v.closed c (Some p) d ≡ Some q → IsClosedAt law v.log d q
 close_closed law v c p h all d q e =
     ⊎_elim
-    (λ k. let same = some_is (sym k.1 ∙ e) in subst (λ (z : ℕ × ℕ). IsClosedAt law v.log z.0 z.1) (λ i. (sym k.0 i, same i)) h)
+    (λ k. let same = same_Some _ _ (sym k.1 ∙ e) in subst (λ (z : ℕ × ℕ). IsClosedAt law v.log z.0 z.1) (λ i. (sym k.0 i, same i)) h)
     (λ k. all d q (sym k ∙ e))
     (set_cases v.closed c (Some p) d)
 

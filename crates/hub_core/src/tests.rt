@@ -112,3 +112,32 @@ fn a_run_leaves_who_has_which_cube(rt: HostRuntime) -> Result<(), Fail> {
     assert_eq!(rt; found[2], None);
     Ok(())
 }
+
+// Which pass has cube 0 after a claim of this pass, told by stepping through it.
+fn replayed(alloc: Global, law: &HubLaw<'_>, pass: u32) -> Result<Option<u32>, AllocError> {
+    match law.replay(alloc, &[claim(pass)]) {
+        Ok(state) => Ok(holder(&state, 0)),
+        Err(_) => Err(AllocError),
+    }
+}
+
+#[test]
+fn a_replay_leaves_who_has_which_cube(rt: HostRuntime) -> Result<(), Fail> {
+    let alloc = rt.alloc();
+    let terms = Terms::new(alloc);
+    assert_eq!(rt; replayed(alloc, &opened(alloc, &terms)?, 5)?, Some(5));
+    Ok(())
+}
+
+#[test]
+fn a_law_tells_what_it_was_made_of(rt: HostRuntime) -> Result<(), Fail> {
+    let alloc = rt.alloc();
+    let terms = Terms::new(alloc);
+    let law = opened(alloc, &terms)?;
+    assert_eq!(rt; law.cubes(), 2);
+    assert!(rt; law.assumed().is_empty());
+    assert_eq!(rt; law.terms().len(), 0);
+    assert_eq!(rt; law.log().len(), 1);
+    assert_eq!(rt; law.into_log().over(), 0);
+    Ok(())
+}

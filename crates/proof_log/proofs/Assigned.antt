@@ -1,13 +1,14 @@
 -- An assignment that makes the clauses of the steps of some terms true gives these terms the bits of their values.
-use Rattle.std.proofs.Common.{◌≡◌, ℕ, zero, suc, ◌+◌, ◌<◌, ◌≤◌, Bool, true, false, not, ◌||◌, List, [], ◌∷◌, ◌++◌, length, map, Option, Some, None, refl, sym, ap, ◌∙◌, subst, ⊎_elim, arith}
+use Rattle.std.proofs.Common.{◌≡◌, ℕ, zero, suc, ◌+◌, ◌<◌, Bool, true, false, not, ◌||◌, List, [], ◌∷◌, ◌++◌, length, map, Option, Some, None, refl, sym, ap, ◌∙◌, subst, ⊎_elim, arith}
 use Rattle.std.specs.Prelude.{◌⊎◌, Contains, slice_get}
 use Rattle.std.specs.List.{AllByRecursion}
-use Rattle.std.proofs.lemmas.Bool.{eq-eqb}
 use Rattle.std.proofs.lemmas.List.Elements.{Contains-append_right}
 use Rattle.cnf_base.specs.Literals.{Literal, positive_of}
 use Rattle.cnf_base.specs.Clauses.{lit_true, clause_true, all_true}
 use Rattle.cnf_base.specs.Gates.{gates_clauses}
 use Rattle.cnf_base.specs.declared.clause.ClauseId.{ClauseId}
+use Rattle.cnf_base.proofs.Lists.{slice_get-push}
+use Rattle.cnf_base.proofs.Options.{same_found}
 use Rattle.smt_terms.specs.declared.sort.Sort.TheVariants as sort
 use Rattle.smt_terms.specs.declared.node.Node.{Node}
 use Rattle.smt_terms.specs.Nodes.{node_at}
@@ -15,28 +16,25 @@ use Rattle.smt_terms.specs.Terms.{IsTermList, sort_of}
 use Rattle.smt_terms.specs.Values.{Interpretation, is_true, value}
 use Rattle.smt_terms.specs.Bits.{bits_in}
 use Rattle.smt_terms.proofs.Typing.{value_is}
-use Rattle.bit_blast.specs.Blocks.{Block, with_first, all_bits, block_over, block_of, built, circuit_of}
+use Rattle.bit_blast.specs.Blocks.{Block, with_first, all_bits, block_of}
 use Rattle.bit_blast.specs.Meanings.{AreBitsOf, EachIsBits}
 use Rattle.bit_blast.proofs.Fixing.{clauses_fix}
 use Rattle.proof_log.specs.declared.entry.Entry.{Entry}
 use Rattle.proof_log.specs.declared.entry.Entry.TheVariants as step
-use Rattle.proof_log.specs.Logs.{Asserted, LogState, start, clause_in, clause_at, entry_at, with_value, constant_width, IsStep, IsLeaf, IsEncoding, IsSelector, leaf_after, block_after, selector_clause, selector_after, after, state_from, state_of, AreSteps, IsLog}
-use Rattle.proof_log.specs.Places.{GivesBits, GivesSelector}
+use Rattle.proof_log.specs.Logs.{Asserted, LogState, start, clause_in, clause_at, entry_at, IsStep, IsLeaf, IsEncoding, IsSelector, block_after, selector_clause, selector_after, after, state_from, state_of, IsLog}
+use Rattle.proof_log.specs.Places.{GivesSelector}
 use Rattle.proof_log.specs.Stored.{LogValue, IsKept, Stands}
-use Rattle.proof_log.specs.Assigned.{IsTrueAt, AreClosed, Satisfies, AreValues}
+use Rattle.proof_log.specs.Assigned.{IsTrueAt, Satisfies, AreValues}
 use Rattle.proof_log.proofs.Ordered.{steps_length}
 use Rattle.proof_log.proofs.Staying.{Holds, state_from-append, steps_parts, steps_hold}
-use Rattle.proof_log.proofs.Standing.{stands_over}
+use Rattle.proof_log.proofs.Standing.{stands_over, value_here}
+use Rattle.proof_log.proofs.Sound.{block_rows}
 
 -- ---- clauses of a position
 
-last_row : {A : Type 0} (rows : List A) (row : A) → slice_get (rows ++ row ∷ []) (length rows) ≡ Some row
-last_row [] row = refl
-last_row (x ∷ rows) row = last_row rows row
-
 -- a clause of the last position, by its name
 last_clause : (rows : List (List (List Literal))) (row : List (List Literal)) (k : ℕ) → clause_at (rows ++ row ∷ []) (record { pos = length rows; part = k }) ≡ slice_get row k
-last_clause rows row k = ap (λ o. clause_in o k) (last_row rows row)
+last_clause rows row k = ap (λ o. clause_in o k) (slice_get-push rows row)
 
 row_true : (v : ℕ → Bool) (row : List (List Literal)) → ((k : ℕ) (c : List Literal) → slice_get row k ≡ Some c → clause_true v c ≡ true) → all_true v row ≡ true
 row_true v [] h = refl
@@ -80,12 +78,6 @@ reached_step nodes log p e is h =
       before = subst (Holds (state_of nodes k.before)) (sym all) (steps_hold nodes (state_of nodes k.before) (e ∷ k.more) split.1);
       behind = subst (Holds (after nodes (state_of nodes k.before) e)) (sym all) (steps_hold nodes (after nodes (state_of nodes k.before) e) k.more split.1.1);
     }
-
-same_value : {A : Type 0} (f : ℕ → Option A) (x : ℕ) (a b : A) → f x ≡ Some a → f x ≡ Some b → a ≡ b
-same_value f x a b e h = let q : Some a ≡ Some b = sym e ∙ h in cc
-
-new_value : {A : Type 0} (f : ℕ → Option A) (x : ℕ) (a : A) → with_value f x a x ≡ Some a
-new_value f x a = rw (eq-eqb x x refl) refl
 
 -- ---- assignments
 
@@ -133,13 +125,6 @@ module _ (M : Interpretation) (nodes : List Node) (all : IsTermList nodes) (reac
           subst (λ w. EachIsBits v (sort_of nodes t ∷ map (sort_of nodes) ts) w (value M nodes t ∷ map (value M nodes) ts)) r
           (each.0 b (found s holds t b p), rest bs refl)
 
-  block_rows : (s : LogState) (n : Node) (b : Block) → block_of s.next s.bits n ≡ Some b → (rows : List (List Literal)) × (all_bits s.bits n.args ≡ Some rows) × (built (circuit_of n.op) s.next rows ≡ Some b)
-  block_rows s n b e = go (all_bits s.bits n.args) refl e
-    where
-      go : (o : Option (List (List Literal))) → all_bits s.bits n.args ≡ o → block_over n.op s.next o ≡ Some b → (rows : List (List Literal)) × (all_bits s.bits n.args ≡ Some rows) × (built (circuit_of n.op) s.next rows ≡ Some b)
-      go None p e = let r : ⊥ = cc in absurd r
-      go (Some rows) p e = (rows, p, e)
-
   -- a term whose bits a circuit gave
   block_valued : (s : LogState) (t p : ℕ) (b : Block) → t < length nodes → block_of s.next s.bits (node_at nodes t) ≡ Some b → Holds s (state_of nodes log.entries) → Holds (block_after s t (Some b)) (state_of nodes log.entries)
       → p ≡ length s.clauses → IsTrueAt log v p → AllByRecursion Valued (node_at nodes t).args → Valued t
@@ -151,8 +136,8 @@ module _ (M : Interpretation) (nodes : List Node) (all : IsTermList nodes) (reac
       let satisfied = row_true v (gates_clauses s.next b.gates) (true_row s (gates_clauses s.next b.gates) p (block_after s t (Some b)) refl behind place is) in
       let fixed = clauses_fix M v s.next node.op (map (sort_of nodes) node.args) k.0 (map (value M nodes) node.args) (sort_of nodes t) b one term.rank args k.2 satisfied in
       let own : AreBitsOf v (sort_of nodes t) b.bits (value M nodes t) = subst (AreBitsOf v (sort_of nodes t) b.bits) (sym (value_is M nodes t term)) fixed in
-      let bits : bits_in log.bits t ≡ Some b.bits = found (block_after s t (Some b)) behind t b.bits (new_value s.bits t b.bits) in
-      subst (λ x. AreBitsOf v (sort_of nodes t) x (value M nodes t)) (same_value (bits_in log.bits) t b.bits c bits q) own
+      let bits : bits_in log.bits t ≡ Some b.bits = found (block_after s t (Some b)) behind t b.bits (value_here s.bits t b.bits) in
+      subst (λ x. AreBitsOf v (sort_of nodes t) x (value M nodes t)) (same_found (bits_in log.bits t) b.bits c bits q) own
 
   encode_valued : (t p : ℕ) → entry_at log.entries p ≡ Some (step.Encode t) → IsTrueAt log v p → AllByRecursion Valued (node_at nodes t).args → Valued t
   encode_valued t p e is each =
@@ -206,7 +191,7 @@ module _ (M : Interpretation) (nodes : List Node) (all : IsTermList nodes) (reac
       → lit_true v r.literal ≡ true → is_true (value M nodes r.term) ≡ true
   selector_valued s a t p bit encoded bool before behind place is r made in_it holds =
       let own : Asserted = record { literal = positive_of s.next; term = t } in
-      let same : own ≡ r = same_value (state_of nodes log.entries).selectors a own r (behind.selectors a own (new_value s.selectors a own)) made in
+      let same : own ≡ r = same_found ((state_of nodes log.entries).selectors a) own r (behind.selectors a own (value_here s.selectors a own)) made in
       let among : reached t = subst (λ (x : Asserted). reached x.term) (sym same) in_it in
       let row : List (List Literal) = selector_clause s.next bit ∷ [] in
       let clause : clause_true v (selector_clause s.next bit) ≡ true = true_row s row p (selector_after s a t (Some (bit ∷ []))) refl behind place is 0 (selector_clause s.next bit) refl in

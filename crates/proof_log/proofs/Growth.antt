@@ -4,6 +4,7 @@ use Rattle.std.specs.Prelude.{◌⊎◌, slice_get, Result, Ok, Err, IfOk, OnErr
 use Rattle.std.specs.declared.alloc.AllocError.{AllocError}
 use Rattle.std.specs.List.{AllByRecursion}
 use Rattle.std.proofs.lemmas.Bool.{cases_lt}
+use Rattle.std.proofs.lemmas.Option.{slice_get_within}
 use Rattle.cnf_base.specs.Gates.{gates_clauses}
 use Rattle.bit_blast.specs.Blocks.{Block, block_of}
 use Rattle.smt_terms.specs.Nodes.{node_at}
@@ -11,6 +12,7 @@ use Rattle.cnf_base.specs.Literals.{Literal}
 use Rattle.cnf_base.specs.Assignments.{AreBelow}
 use Rattle.cnf_base.specs.declared.clause.ClauseId.{ClauseId}
 use Rattle.cnf_base.proofs.Agreeing.{AreBelow-more}
+use Rattle.cnf_base.proofs.Lists.{each_append, slice_get-append_left, slice_get-at}
 use Rattle.hint_chain.proofs.Growing.{IsChain-grows}
 use Rattle.smt_terms.specs.declared.node.Node.{Node}
 use Rattle.smt_terms.specs.Terms.{IsTermList, TermsValue}
@@ -20,7 +22,7 @@ use Rattle.proof_log.specs.Logs.{LogState, start, clause_in, clause_at, entry_at
 use Rattle.proof_log.specs.Stored.{LogValue, Stands, IsPushed}
 use Rattle.proof_log.specs.Faults.{IsValid, MakesNoTerm}
 use Rattle.proof_log.specs.Boards.{IsOfSearch, Grows, IsLater, IsPutAt, KnowsOneMore, IsClauseOf}
-use Rattle.proof_log.proofs.Growing.{each_append, get_within, clause_within}
+use Rattle.proof_log.proofs.Growing.{clause_within}
 use Rattle.proof_log.proofs.Staying.{Holds, state_from-append, steps_parts, steps_hold}
 use Rattle.proof_log.proofs.Standing.{stands_over}
 use Rattle.proof_log.proofs.Ordered.{log_is_ordered, steps_length}
@@ -83,22 +85,13 @@ grown_length log log' g = omega (arith, ap length g.is, length-append log g.more
 pub positions : (nodes : List Node) (log : List Entry) → length (state_of nodes log).clauses ≡ suc (length log)
 positions nodes log = omega (arith, steps_length nodes start log)
 
-pub get_left : {A : Type 0} (xs ys : List A) (i : ℕ) → i < length xs → slice_get (xs ++ ys) i ≡ slice_get xs i
-get_left [] ys i lt = absurd (omega (arith, lt))
-get_left (x ∷ xs) ys zero lt = refl
-get_left (x ∷ xs) ys (suc i) lt = get_left xs ys i (omega (arith, lt))
-
-pub get_end : {A : Type 0} (xs : List A) (x : A) (ys : List A) → slice_get (xs ++ x ∷ ys) (length xs) ≡ Some x
-get_end [] x ys = refl
-get_end (y ∷ xs) x ys = get_end xs x ys
-
 pub entry_within : (log : List Entry) (p : ℕ) (e : Entry) → entry_at log p ≡ Some e → p ≤ length log
 entry_within log zero e h = omega arith
-entry_within log (suc p) e h = let k = get_within log p e h in omega (arith, k)
+entry_within log (suc p) e h = let k = slice_get_within log p e h in omega (arith, k)
 
 pub entry_left : (log more : List Entry) (p : ℕ) → p ≤ length log → entry_at (log ++ more) p ≡ entry_at log p
 entry_left log more zero le = refl
-entry_left log more (suc p) le = get_left log more p (omega (arith, le))
+entry_left log more (suc p) le = slice_get-append_left log more p (omega (arith, le))
 
 pub entry_stays : (log log' : List Entry) (p : ℕ) → Grows log log' → p ≤ length log → entry_at log' p ≡ entry_at log p
 entry_stays log log' p g le = ap (λ l. entry_at l p) g.is ∙ entry_left log g.more p le
@@ -120,7 +113,7 @@ clause_stays nodes log log' id g le =
     let is = ap (λ l. (state_of nodes l).clauses) g.is ∙ ap (λ s. s.clauses) (state_from-append nodes start log g.more) in
     let k = search_rows nodes (state_of nodes log) g.more g.of_search in
     let lt : id.pos < length (state_of nodes log).clauses = omega (arith, le, positions nodes log) in
-    ap (λ o. clause_in o id.part) (ap (λ rs. slice_get rs id.pos) (is ∙ k.1) ∙ get_left (state_of nodes log).clauses k.0 id.pos lt)
+    ap (λ o. clause_in o id.part) (ap (λ rs. slice_get rs id.pos) (is ∙ k.1) ∙ slice_get-append_left (state_of nodes log).clauses k.0 id.pos lt)
 
 pub clause_place : (nodes : List Node) (log : List Entry) (id : ClauseId) (c : List Literal) → clause_at (state_of nodes log).clauses id ≡ Some c → id.pos ≤ length log
 clause_place nodes log id c e = let k = clause_within (state_of nodes log).clauses id c e in omega (arith, k, positions nodes log)
@@ -160,7 +153,7 @@ step_row nodes s (step.Encode t) = block_row s t (block_of s.next s.bits (node_a
 step_row nodes s (step.Selector a t) = selector_row s a t (s.bits t)
 step_row nodes s (step.Chain c hints) = (c ∷ [], refl)
 
-steps_rows : (nodes : List Node) (s : LogState) (log : List Entry) → (rest : List (List (List Literal))) × ((state_from nodes s log).clauses ≡ s.clauses ++ rest)
+pub steps_rows : (nodes : List Node) (s : LogState) (log : List Entry) → (rest : List (List (List Literal))) × ((state_from nodes s log).clauses ≡ s.clauses ++ rest)
 steps_rows nodes s [] = ([], sym (append-nil s.clauses))
 steps_rows nodes s (e ∷ log) =
     let one = step_row nodes s e in
@@ -176,7 +169,7 @@ chain_row_from nodes s (d ∷ log) zero c hints e =
     ap (λ x. slice_get (state_from nodes (after nodes s x) log).clauses (length s.clauses + 0)) q
     ∙ ap (λ i. slice_get (state_from nodes (after nodes s (step.Chain c hints)) log).clauses i) n
     ∙ ap (λ rs. slice_get rs (length s.clauses)) (k.1 ∙ append_assoc s.clauses ((c ∷ []) ∷ []) k.0)
-    ∙ get_end s.clauses (c ∷ []) k.0
+    ∙ slice_get-at s.clauses (c ∷ []) k.0
 chain_row_from nodes s (d ∷ log) (suc p) c hints e =
     let one = step_row nodes s d in
     let n : length s.clauses + suc p ≡ length (after nodes s d).clauses + p = omega (arith, ap length one.1, length-append s.clauses (one.0 ∷ [])) in
@@ -205,7 +198,7 @@ chain_part nodes log id c d hints e h = go id.part refl
 -- ---- what was put
 
 pub put_entry : (old new : List Entry) (e : Entry) (p : ℕ) → IsPutAt old e p new → entry_at new p ≡ Some e
-put_entry old new e p h = ap (λ l. entry_at l p) h.is ∙ ap (entry_at ((old ++ h.between) ++ e ∷ [])) h.place ∙ get_end (old ++ h.between) e []
+put_entry old new e p h = ap (λ l. entry_at l p) h.is ∙ ap (entry_at ((old ++ h.between) ++ e ∷ [])) h.place ∙ slice_get-at (old ++ h.between) e []
 
 pub put_clause : (nodes : List Node) (old new : List Entry) (c : List Literal) (hints : List ClauseId) (p : ℕ) → IsPutAt old (step.Chain c hints) p new → clause_at (state_of nodes new).clauses (record { pos = p; part = 0 }) ≡ Some c
 put_clause nodes old new c hints p h = chain_clause nodes new p c hints (put_entry old new (step.Chain c hints) p h)

@@ -1,6 +1,6 @@
 -- Each term that has bits got them by a step, and each selector was made by one.
 use Rattle.std.proofs.Common.{◌≡◌, ℕ, suc, List, [], ◌∷◌, ◌++◌, length, append_assoc, append-nil, Option, Some, None, refl, sym, ap, ◌∙◌, subst, inl, inr, ⊎_elim}
-use Rattle.std.specs.Prelude.{◌⊎◌, IsSome, slice_get}
+use Rattle.std.specs.Prelude.{◌⊎◌, IsSome}
 use Rattle.std.proofs.lemmas.Option.{slice_get-get_or}
 use Rattle.cnf_base.specs.Literals.{Literal}
 use Rattle.smt_terms.specs.declared.node.Node.{Node}
@@ -9,13 +9,13 @@ use Rattle.smt_terms.specs.Bits.{bits_in}
 use Rattle.bit_blast.specs.Blocks.{Block, block_of}
 use Rattle.proof_log.specs.declared.entry.Entry.{Entry}
 use Rattle.proof_log.specs.declared.entry.Entry.TheVariants as step
-use Rattle.proof_log.specs.Logs.{Asserted, LogState, start, constant_width, leaf_after, block_after, selector_after, after, state_from, state_of}
+use Rattle.proof_log.specs.Logs.{LogState, start, constant_width, leaf_after, block_after, selector_after, after, state_from, state_of}
 use Rattle.proof_log.specs.Places.{GivesBits, GivesSelector, IsPlaceOf}
-use Rattle.proof_log.specs.Stored.{LogValue, Stands, selector_in, literal_of}
+use Rattle.proof_log.specs.Stored.{LogValue, Stands, selector_in}
 use Rattle.proof_log.proofs.Placing.{bits_more, entry_last}
 use Rattle.proof_log.proofs.Selecting.{log_selects}
 use Rattle.proof_log.proofs.Sound.{with_value_cases}
-use Rattle.proof_log.proofs.Standing.{stands_over}
+use Rattle.proof_log.proofs.Standing.{stands_over, some_literal}
 
 -- a step among these gave the term its bits
 abbrev IsGivenIn : List Entry → ℕ → Type 0
@@ -76,14 +76,10 @@ pub bits_placed : (nodes : List Node) (log : LogValue) (t : ℕ) (b : List Liter
 bits_placed nodes log t b o stands e h =
     some_place (GivesBits log.entries t) o h (log_given nodes log.entries t b (sym ((stands_over nodes log stands).bits t) ∙ e))
 
-asserted_of : (o : Option Asserted) (l : Literal) → literal_of o ≡ Some l → (r : Asserted) × (o ≡ Some r)
-asserted_of None l e = let q : ⊥ = cc in absurd q
-asserted_of (Some r) l e = (r, refl)
-
 -- where an assertion has a selector, the position of its step is found
 pub selector_placed : (nodes : List Node) (log : LogValue) (a : ℕ) (l : Literal) (o : Option ℕ) → Stands nodes log → selector_in log.selectors a ≡ Some l → IsPlaceOf (GivesSelector log.entries a) o → IsSome o
 selector_placed nodes log a l o stands e h =
-    let r = asserted_of ((state_of nodes log.entries).selectors a) l (sym ((stands_over nodes log stands).selectors a) ∙ e) in
+    let r = some_literal ((state_of nodes log.entries).selectors a) l (sym ((stands_over nodes log stands).selectors a) ∙ e) in
     let among = (log_selects nodes log.entries a r.0 r.1).1 in
     some_place (GivesSelector log.entries a) o h
     (suc among.0, (r.0.term, slice_get-get_or log.entries among.0 (step.Selector a r.0.term) among.1 ∙ ap Some among.2))

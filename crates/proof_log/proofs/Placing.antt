@@ -1,35 +1,26 @@
 -- The positions of the steps that gave bits and selectors, as steps are added.
-use Rattle.std.proofs.Common.{◌≡◌, ℕ, zero, suc, ◌<◌, ◌==◌, if◌then◌else◌, Bool, true, false, List, [], ◌∷◌, ◌++◌, length, map, Option, Some, None, refl, sym, ap, ◌∙◌, subst, inl, inr, ⊎_elim, arith}
-use Rattle.std.specs.Prelude.{◌⊎◌, slice_get}
+use Rattle.std.proofs.Common.{◌≡◌, ℕ, zero, suc, ◌==◌, if◌then◌else◌, Bool, true, false, List, [], ◌∷◌, ◌++◌, length, map, Option, Some, None, refl, sym, ap, ◌∙◌, subst, inl, inr, ⊎_elim, arith}
+use Rattle.std.specs.Prelude.{◌⊎◌}
 use Rattle.std.proofs.lemmas.Bool.{eqb-true}
+use Rattle.std.proofs.lemmas.List.{map_push}
 use Rattle.proof_log.specs.declared.entry.Entry.{Entry}
 use Rattle.proof_log.specs.declared.entry.Entry.TheVariants as step
 use Rattle.proof_log.specs.Logs.{entry_at, with_value}
 use Rattle.proof_log.specs.Places.{GivesBits, GivesSelector, IsPlaceOf, place_in, ArePlaces, IsForTerm, IsPlain}
-use Rattle.proof_log.proofs.Growing.{get_more}
+use Rattle.cnf_base.proofs.Lists.{slice_get-longer, slice_get-push, slice_get-push_cases}
 
 -- ---- the step at a position, where one step is added
 
-get_push : {A : Type 0} (xs : List A) (x y : A) (k : ℕ) → slice_get (xs ++ x ∷ []) k ≡ Some y → (slice_get xs k ≡ Some y) ⊎ ((k ≡ length xs) × (x ≡ y))
-get_push [] x y zero e = inr (refl, (let q : x ≡ y = cc in q))
-get_push [] x y (suc k) e = let q : ⊥ = cc in absurd q
-get_push (z ∷ zs) x y zero e = inl e
-get_push (z ∷ zs) x y (suc k) e = ⊎_elim (λ p. inl p) (λ p. inr (ap suc p.0, p.1)) (get_push zs x y k e)
-
-get_last : {A : Type 0} (xs : List A) (x : A) → slice_get (xs ++ x ∷ []) (length xs) ≡ Some x
-get_last [] x = refl
-get_last (y ∷ ys) x = get_last ys x
-
 entry_more : (log : List Entry) (e x : Entry) (p : ℕ) → entry_at log p ≡ Some x → entry_at (log ++ e ∷ []) p ≡ Some x
 entry_more log e x zero h = let q : ⊥ = cc in absurd q
-entry_more log e x (suc p) h = get_more log (e ∷ []) p x h
+entry_more log e x (suc p) h = slice_get-longer log (e ∷ []) p x h
 
 entry_push : (log : List Entry) (e x : Entry) (p : ℕ) → entry_at (log ++ e ∷ []) p ≡ Some x → (entry_at log p ≡ Some x) ⊎ (e ≡ x)
 entry_push log e x zero h = let q : ⊥ = cc in absurd q
-entry_push log e x (suc p) h = ⊎_elim (λ q. inl q) (λ q. inr q.1) (get_push log e x p h)
+entry_push log e x (suc p) h = ⊎_elim (λ q. inl q) (λ q. inr q.1) (slice_get-push_cases log e x p h)
 
 pub entry_last : (log : List Entry) (e : Entry) → entry_at (log ++ e ∷ []) (suc (length log)) ≡ Some e
-entry_last log e = get_last log e
+entry_last log e = slice_get-push log e
 
 -- ---- positions
 
@@ -140,10 +131,6 @@ assertion_places log e a t terms assertions mid new is same set h = record {
 }
 
 -- ---- the same of a list of steps, each with its entry
-
-map_push : {A B : Type 0} (f : A → B) (xs : List A) (x : A) → map f (xs ++ x ∷ []) ≡ map f xs ++ f x ∷ []
-map_push f [] x = refl
-map_push f (y ∷ xs) x = ap (λ r. f y ∷ r) (map_push f xs x)
 
 pub plain_kept : {A : Type 0} (f : A → Entry) (items held new : List A) (x : A) (terms assertions : List (Option ℕ)) → held ≡ items → new ≡ held ++ x ∷ [] → IsPlain (f x)
     → ArePlaces (map f items) terms assertions → ArePlaces (map f new) terms assertions

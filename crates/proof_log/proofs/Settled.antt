@@ -1,26 +1,19 @@
 -- What a stored log has that stands over a list of terms.
-use Rattle.std.proofs.Common.{◌≡◌, ℕ, suc, ◌<◌, Bool, List, [], ◌∷◌, ◌++◌, length, Option, Some, None, refl, sym, ap, ◌∙◌, subst}
+use Rattle.std.proofs.Common.{◌<◌, List, sym, ap, ◌∙◌, subst}
 use Rattle.std.proofs.lemmas.List.Elements.{Contains-push}
-use Rattle.cnf_base.specs.Literals.{Literal}
 use Rattle.cnf_base.specs.Clauses.{lit_true}
 use Rattle.cnf_base.specs.Assignments.{AreBelow}
 use Rattle.smt_terms.specs.declared.node.Node.{Node}
-use Rattle.smt_terms.specs.Terms.{IsTermList, TermsValue, sort_of}
-use Rattle.smt_terms.specs.Values.{Interpretation, is_true, value}
+use Rattle.smt_terms.specs.Terms.{IsTermList, TermsValue}
 use Rattle.proof_log.specs.declared.entry.Entry.{Entry}
 use Rattle.proof_log.specs.declared.entry.Entry.TheVariants as step
-use Rattle.proof_log.specs.Logs.{Asserted, LogState, clause_at, IsStep, state_of}
+use Rattle.proof_log.specs.Logs.{LogState, IsStep, state_of}
 use Rattle.proof_log.specs.Meanings.{meaning}
-use Rattle.proof_log.specs.Stored.{LogValue, selector_in, literal_of, IsKept, Stands, IsSettled}
+use Rattle.proof_log.specs.Stored.{LogValue, Stands, IsSettled}
 use Rattle.proof_log.specs.Faults.{IsValid, terms_after}
 use Rattle.proof_log.proofs.Sound.{log_is_sound}
 use Rattle.proof_log.proofs.Ordered.{log_is_ordered}
-use Rattle.proof_log.proofs.Standing.{stands_over, bits_width, next_above, clauses_below, clause_is_sound}
-
--- the state's selector behind a stored one
-stored_selector : (o : Option Asserted) (s : Literal) → literal_of o ≡ Some s → (r : Asserted) × (o ≡ Some r) × (r.literal ≡ s)
-stored_selector None s e = let q : ⊥ = cc in absurd q
-stored_selector (Some r) s e = let q : r.literal ≡ s = cc in (r, refl, q)
+use Rattle.proof_log.proofs.Standing.{stands_over, bits_width, next_above, clauses_below, clause_is_sound, some_literal}
 
 pub stands_settled : (nodes : List Node) (l : LogValue) → IsTermList nodes → Stands nodes l → IsSettled nodes l
 stands_settled nodes l all h =
@@ -36,7 +29,7 @@ stands_settled nodes l all h =
           let o = ordered.bits t b own in
           (o.0, bits_width nodes l.entries t b all k.steps own, subst (λ n. AreBelow n b) (sym k.next) o.1, (λ M. sound.bits M t b own));
       selectors = λ a s e.
-          let r = stored_selector ((state_of nodes l.entries).selectors a) s (sym (k.selectors a) ∙ e) in
+          let r = some_literal ((state_of nodes l.entries).selectors a) s (sym (k.selectors a) ∙ e) in
           let o = ordered.selectors a r.0 r.1 in (
             r.0.term,
             o.2,

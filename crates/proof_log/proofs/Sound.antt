@@ -1,47 +1,38 @@
 -- Each step keeps the meaning of a log: its clauses are true, bits are those of values, selectors mean their terms.
-use Rattle.std.proofs.Common.{◌≡◌, ℕ, zero, suc, ◌+◌, ◌*◌, ◌%◌, ◌^◌, ◌<◌, ◌≤◌, Bool, true, false, not, ◌||◌, ◌&&◌, List, [], ◌∷◌, ◌++◌, length, map, Option, Some, None, Ok, refl, sym, ap, ◌∙◌, subst, inl, inr, ⊎_elim, arith}
-use Rattle.std.specs.Prelude.{◌==◌, ◌⊎◌, slice_get, if◌then◌else◌}
+use Rattle.std.proofs.Common.{◌≡◌, ℕ, suc, ◌+◌, ◌^◌, ◌<◌, ◌≤◌, Bool, true, false, not, ◌||◌, List, [], ◌∷◌, length, map, Option, Some, None, Ok, refl, sym, ap, ◌∙◌, subst, inl, inr, ⊎_elim, arith}
+use Rattle.std.specs.Prelude.{◌==◌, ◌⊎◌, if◌then◌else◌}
 use Rattle.std.specs.List.{AllByRecursion}
 use Rattle.std.proofs.lemmas.Bool.{eqb-true, and_parts}
-use Rattle.cnf_base.specs.Literals.{Literal, positive_of, negative_of}
+use Rattle.cnf_base.specs.Literals.{Literal, positive_of}
 use Rattle.cnf_base.specs.Clauses.{lit_true, clause_true, all_true, bit, number}
-use Rattle.cnf_base.specs.Gates.{gates_clauses, HaveMeaning}
-use Rattle.cnf_base.specs.declared.gate.GateKind.{GateKind}
+use Rattle.cnf_base.specs.Gates.{gates_clauses}
 use Rattle.cnf_base.specs.Assignments.{AgreeBelow, AreBelow, ClausesBelow, fresh_bits, with_variable, with_number, with_gates}
-use Rattle.cnf_base.specs.declared.clause.ClauseId.{ClauseId}
-use Rattle.cnf_base.proofs.Agreeing.{same_lit_true, same_clause_true, same_number, AreBelow-more, AreBelow-fresh_bits}
+use Rattle.cnf_base.proofs.Agreeing.{same_lit_true, same_clause_true, AreBelow-more, AreBelow-fresh_bits}
 use Rattle.cnf_base.proofs.Extending.{with_variable-here, with_variable-agrees, with_number-agrees, number-with_number, with_gates-agrees, with_gates-mean, gates_clauses-below}
 use Rattle.cnf_base.proofs.Meaning.{gates_mean}
 use Rattle.cnf_base.proofs.Rows.{length-fresh_bits}
+use Rattle.cnf_base.proofs.Lists.{each_append}
 use Rattle.smt_terms.specs.declared.sort.Sort.{Sort}
 use Rattle.smt_terms.specs.declared.sort.Sort.TheVariants as sort
 use Rattle.smt_terms.specs.declared.node.Op.{Op}
 use Rattle.smt_terms.specs.declared.node.Op.TheVariants.{Plain, Word, Extract, ZeroExtend, SignExtend, RotateLeft, RotateRight, Repeat, Constant, Apply, Param}
 use Rattle.smt_terms.specs.declared.node.Node.{Node}
 use Rattle.smt_terms.specs.Nodes.{node_at}
-use Rattle.smt_terms.specs.Terms.{IsTerm, IsTermList, op_rank, sort_of}
-use Rattle.smt_terms.specs.Values.{Value, VBool, VWord, VArray, HasSort, Interpretation, is_true, op_value, value}
+use Rattle.smt_terms.specs.Terms.{IsTermList, op_rank, sort_of}
+use Rattle.smt_terms.specs.Values.{Value, VBool, VWord, HasSort, Interpretation, is_true, value}
 use Rattle.smt_terms.proofs.Typing.{value_is, typed}
 use Rattle.bit_blast.specs.Blocks.{Block, with_first, all_bits, block_over, block_of, built, circuit_of}
 use Rattle.bit_blast.specs.Meanings.{AreBitsOf, EachIsBits}
 use Rattle.bit_blast.proofs.Correct.{word_sort_is}
 use Rattle.bit_blast.proofs.Table.{op_correct}
 use Rattle.bit_blast.proofs.Ordered.{op_ordered}
+use Rattle.bit_blast.proofs.Fixing.{same_bits}
 use Rattle.hint_chain.proofs.Sound.{IsChain-follows}
 use Rattle.proof_log.specs.declared.entry.Entry.{Entry}
 use Rattle.proof_log.specs.declared.entry.Entry.TheVariants as step
 use Rattle.proof_log.specs.Logs.{Asserted, LogState, start, clause_at, with_value, with_row, plain_width, constant_width, IsStep, leaf_after, block_after, selector_clause, selector_after, after, state_from, state_of, AreSteps, IsLog}
 use Rattle.proof_log.specs.Meanings.{bits_number, leaf_mean, block_mean, mean_after, mean_from, meaning, LogIsSound}
-use Rattle.proof_log.proofs.Growing.{each_append, each_get, clause_each}
-
--- ---- what agrees below a variable
-
-pub same_bits : (n : ℕ) (f g : ℕ → Bool) → AgreeBelow n f g → (s : Sort) (b : List Literal) (v : Value) → AreBelow n b → AreBitsOf f s b v → AreBitsOf g s b v
-same_bits n f g a sort.Bool b v h i =
-    let held = subst (AreBelow n) i.1 h in
-    (i.0, i.1, i.2 ∙ ap VBool (sym (same_lit_true n f g a i.0 held.0)))
-same_bits n f g a (sort.Word m) b v h i = (i.0, i.1 ∙ ap (VWord m) (sym (same_number n f g a b h)))
-same_bits n f g a (sort.Array m k) b v h i = i
+use Rattle.proof_log.proofs.Growing.{clause_each}
 
 -- a clause that is true, and of variables that there are
 abbrev pub IsTrueBelow : ℕ → (ℕ → Bool) → List Literal → Type 0
@@ -187,6 +178,14 @@ leaf_sort (Repeat i) ss s n e w = let q : ⊥ = cc in absurd q
 leaf_sort (Apply d t) ss s n e w = let q : ⊥ = cc in absurd q
 leaf_sort (Param k t) ss s n e w = let q : ⊥ = cc in absurd q
 
+-- the rows of the arguments of a block
+pub block_rows : (s : LogState) (n : Node) (b : Block) → block_of s.next s.bits n ≡ Some b → (rows : List (List Literal)) × (all_bits s.bits n.args ≡ Some rows) × (built (circuit_of n.op) s.next rows ≡ Some b)
+block_rows s n b e = go (all_bits s.bits n.args) refl e
+  where
+    go : (o : Option (List (List Literal))) → all_bits s.bits n.args ≡ o → block_over n.op s.next o ≡ Some b → (rows : List (List Literal)) × (all_bits s.bits n.args ≡ Some rows) × (built (circuit_of n.op) s.next rows ≡ Some b)
+    go None p e = let r : ⊥ = cc in absurd r
+    go (Some rows) p e = (rows, p, e)
+
 module _ (M : Interpretation) (nodes : List Node) (all : IsTermList nodes) where
   leaf_suits : (s : LogState) (f : ℕ → Bool) (t n : ℕ) → Suits M nodes s f → t < length nodes → plain_width (sort_of nodes t) ≡ Some n → Suits M nodes (leaf_after s t (Some n)) (with_number f s.next n (bits_number (value M nodes t)))
   leaf_suits s f t n h within w =
@@ -229,13 +228,6 @@ module _ (M : Interpretation) (nodes : List Node) (all : IsTermList nodes) where
           subst (λ w. AllByRecursion (AreBelow n) w × EachIsBits f (sort_of nodes t ∷ map (sort_of nodes) ts) w (value M nodes t ∷ map (value M nodes) ts)) r
           ((k.0, ks.0), (k.1, ks.1))
 
-  known_rows : (s : LogState) (n : Node) (b : Block) → block_of s.next s.bits n ≡ Some b → (rows : List (List Literal)) × (all_bits s.bits n.args ≡ Some rows) × (built (circuit_of n.op) s.next rows ≡ Some b)
-  known_rows s n b e = go (all_bits s.bits n.args) refl e
-    where
-      go : (o : Option (List (List Literal))) → all_bits s.bits n.args ≡ o → block_over n.op s.next o ≡ Some b → (rows : List (List Literal)) × (all_bits s.bits n.args ≡ Some rows) × (built (circuit_of n.op) s.next rows ≡ Some b)
-      go None p e = let r : ⊥ = cc in absurd r
-      go (Some rows) p e = (rows, p, e)
-
   block_suits : (s : LogState) (f : ℕ → Bool) (t : ℕ) (b : Block) → Suits M nodes s f → t < length nodes → block_of s.next s.bits (node_at nodes t) ≡ Some b → Suits M nodes (block_after s t (Some b)) (with_gates f s.next b.gates)
   block_suits s f t b h within e =
       let g = with_gates f s.next b.gates in
@@ -243,7 +235,7 @@ module _ (M : Interpretation) (nodes : List Node) (all : IsTermList nodes) where
       let a : AgreeBelow s.next f (with_gates f s.next b.gates) = with_gates-agrees b.gates f s.next in
       let le : s.next ≤ s.next + length b.gates = omega arith in
       let node = node_at nodes t in
-      let k = known_rows s (node_at nodes t) b e in
+      let k = block_rows s (node_at nodes t) b e in
       let known = known_keeps s.next m f g a le s.bits (sort_of nodes) (value M nodes) h.bits in
       let below = (each_bits s.next f s.bits h.bits node.args k.0 k.1).0 in
       let each = (each_bits m g s.bits known node.args k.0 k.1).1 in

@@ -1,14 +1,14 @@
 -- What a stored log stands for, before and after a step.
-use Rattle.std.proofs.Common.{◌≡◌, ℕ, zero, suc, ◌+◌, ◌<◌, ◌≤◌, Bool, true, false, List, [], ◌∷◌, ◌++◌, length, take, drop, Option, Some, None, refl, sym, ap, ◌∙◌, subst, inl, inr, ⊎_elim, arith, length-append}
-use Rattle.std.specs.Prelude.{◌==◌, ◌⊎◌, if◌then◌else◌}
-use Rattle.std.specs.List.{AllByRecursion}
+use Rattle.std.proofs.Common.{◌≡◌, ℕ, suc, ◌+◌, ◌<◌, ◌≤◌, Bool, true, false, List, [], ◌∷◌, ◌++◌, length, take, drop, Option, Some, None, refl, sym, ap, ◌∙◌, subst, arith, length-append}
+use Rattle.std.specs.Prelude.{◌==◌, if◌then◌else◌}
 use Rattle.std.proofs.lemmas.Bool.{eqb-true, eq-eqb, ne_eqb}
-use Rattle.std.proofs.lemmas.List.{take-append-drop}
+use Rattle.std.proofs.lemmas.List.{take-append-drop, take-append-le}
 use Rattle.std.proofs.Math.Seq.{take-length}
 use Rattle.cnf_base.specs.Literals.{Literal, positive_of}
 use Rattle.cnf_base.specs.Assignments.{AreBelow, fresh_bits}
 use Rattle.cnf_base.specs.Gates.{gates_clauses}
 use Rattle.cnf_base.specs.declared.clause.ClauseId.{ClauseId}
+use Rattle.cnf_base.proofs.Lists.{each_append}
 use Rattle.smt_terms.specs.declared.sort.Sort.{Sort}
 use Rattle.smt_terms.specs.declared.sort.Sort.TheVariants as sort
 use Rattle.smt_terms.specs.declared.node.Node.{Node}
@@ -21,13 +21,27 @@ use Rattle.bit_blast.specs.Blocks.{Block, block_of, EachShort}
 use Rattle.bit_blast.specs.Meanings.{AreBitsOf}
 use Rattle.proof_log.specs.declared.entry.Entry.{Entry}
 use Rattle.proof_log.specs.declared.entry.Entry.TheVariants as step
-use Rattle.proof_log.specs.Logs.{Asserted, LogState, start, clause_at, with_value, with_row, selector_clause, plain_width, constant_width, IsStep, leaf_after, block_after, selector_after, after, state_from, state_of, AreSteps, IsLog}
+use Rattle.proof_log.specs.Logs.{Asserted, LogState, start, clause_at, with_value, with_row, selector_clause, plain_width, constant_width, IsStep, leaf_after, block_after, selector_after, after, state_of, IsLog}
 use Rattle.proof_log.specs.Meanings.{meaning, IsSound}
-use Rattle.proof_log.specs.Stored.{LogValue, selector_in, literal_of, IsKept, Stands, clauses_of, with_leaf, with_block, with_plain, IsSelected, IsPushed}
-use Rattle.proof_log.proofs.Growing.{each_append}
+use Rattle.proof_log.specs.Stored.{LogValue, selector_in, literal_of, IsKept, Stands, clauses_of, with_leaf, with_block, with_plain, IsSelected}
 use Rattle.proof_log.proofs.Sound.{log_suits, leaf_sort, log_is_sound}
 use Rattle.proof_log.proofs.Staying.{state_from-append, steps_append, same_state, steps_longer}
 use Rattle.proof_log.proofs.Ordered.{any_interpretation, log_is_ordered}
+
+-- ---- what a table has at a number
+
+pub value_here : {A : Type 0} (f : ℕ → Option A) (x : ℕ) (a : A) → with_value f x a x ≡ Some a
+value_here f x a = ap (λ b. if b then Some a else f x) (eq-eqb x x refl)
+
+-- where no literal is found, nothing is stored
+pub no_literal : (o : Option Asserted) → literal_of o ≡ None → o ≡ None
+no_literal None e = refl
+no_literal (Some r) e = let q : ⊥ = cc in absurd q
+
+-- the assertion whose literal is found
+pub some_literal : (o : Option Asserted) (l : Literal) → literal_of o ≡ Some l → (r : Asserted) × (o ≡ Some r) × (r.literal ≡ l)
+some_literal None l e = let q : ⊥ = cc in absurd q
+some_literal (Some r) l e = let q : r.literal ≡ l = cc in (r, refl, q)
 
 -- ---- more terms
 
@@ -54,15 +68,10 @@ stands_all nodes l e k = record {
   kept = subst (λ ns. IsKept ns l) (sym (ap (λ n. take n nodes) e ∙ take-length nodes)) k;
 }
 
-take_front : (n : ℕ) (nodes more : List Node) → n ≤ length nodes → take n (nodes ++ more) ≡ take n nodes
-take_front zero nodes more le = refl
-take_front (suc n) [] more le = absurd (omega arith)
-take_front (suc n) (x ∷ nodes) more le = ap (λ ns. x ∷ ns) (take_front n nodes more (omega arith))
-
 pub stands_longer : (nodes more : List Node) (l : LogValue) → Stands nodes l → Stands (nodes ++ more) l
 stands_longer nodes more l h = record {
   within = omega (arith, h.within, length-append nodes more);
-  kept = subst (λ ns. IsKept ns l) (sym (take_front l.over nodes more h.within)) h.kept;
+  kept = subst (λ ns. IsKept ns l) (sym (take-append-le l.over nodes more h.within)) h.kept;
 }
 
 -- ---- widths
@@ -150,9 +159,6 @@ new_short : (nodes : List Node) (l : LogValue) (e : Entry) (t : ℕ) (row : List
 new_short nodes l e t row all k i b =
     bits_short nodes (l.entries ++ e ∷ []) t row all (steps_append nodes start l.entries (e ∷ []) k.steps (i, tt))
     (ap (λ s. s.bits t) (goes_on nodes l.entries e) ∙ b)
-
-value_here : {A : Type 0} (f : ℕ → Option A) (x : ℕ) (a : A) → with_value f x a x ≡ Some a
-value_here f x a = ap (λ b. if b then Some a else f x) (eq-eqb x x refl)
 
 pub kept_plain : (nodes : List Node) (l : LogValue) (e : Entry) → IsKept nodes l → IsStep nodes (state_of nodes l.entries) e → after nodes (state_of nodes l.entries) e ≡ with_row (state_of nodes l.entries) (clauses_of e []) → IsKept nodes (with_plain l (length nodes) e)
 kept_plain nodes l e k i a =

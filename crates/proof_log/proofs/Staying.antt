@@ -1,26 +1,22 @@
 -- What a log has stays where more steps and more terms stand.
-use Rattle.std.proofs.Common.{◌≡◌, ℕ, zero, suc, ◌+◌, ◌<◌, ◌≤◌, Bool, true, false, List, [], ◌∷◌, ◌++◌, length, map, take, drop, Option, Some, None, refl, sym, ap, ◌∙◌, subst, inl, inr, ⊎_elim, arith, length-append}
-use Rattle.std.specs.Prelude.{◌==◌, ◌⊎◌, All, Contains, slice_get, if◌then◌else◌}
+use Rattle.std.proofs.Common.{◌≡◌, ℕ, ◌+◌, ◌<◌, ◌≤◌, Bool, true, false, List, [], ◌∷◌, ◌++◌, length, Option, Some, None, refl, sym, ap, ◌∙◌, subst, arith, length-append}
+use Rattle.std.specs.Prelude.{◌==◌, if◌then◌else◌}
 use Rattle.std.proofs.lemmas.Bool.{eqb-true}
-use Rattle.std.proofs.lemmas.List.{get_or_append_left}
 use Rattle.std.proofs.lemmas.List.Elements.{Contains-append_left}
 use Rattle.cnf_base.specs.Literals.{Literal}
 use Rattle.cnf_base.specs.Assignments.{AgreeBelow, with_variable}
-use Rattle.cnf_base.specs.declared.clause.ClauseId.{ClauseId}
 use Rattle.cnf_base.proofs.Agreeing.{AgreeBelow-refl, AgreeBelow-then}
 use Rattle.cnf_base.proofs.Extending.{with_variable-agrees, with_number-agrees, with_gates-agrees}
-use Rattle.smt_terms.specs.declared.sort.Sort.TheVariants as sort
 use Rattle.smt_terms.specs.declared.node.Node.{Node}
-use Rattle.smt_terms.specs.Nodes.{no_node, node_at}
-use Rattle.smt_terms.specs.Terms.{IsTermList, sort_of}
+use Rattle.smt_terms.specs.Nodes.{node_at}
 use Rattle.smt_terms.specs.Values.{Value, Interpretation, is_true, value}
-use Rattle.smt_terms.proofs.Growing.{sort_longer}
+use Rattle.smt_terms.proofs.Growing.{sort_longer, node_longer}
 use Rattle.smt_terms.proofs.Evaluating.{value_longer}
 use Rattle.bit_blast.specs.Blocks.{Block, block_of}
 use Rattle.hint_chain.specs.Chains.{FindsMore}
 use Rattle.proof_log.specs.declared.entry.Entry.{Entry}
 use Rattle.proof_log.specs.declared.entry.Entry.TheVariants as step
-use Rattle.proof_log.specs.Logs.{Asserted, LogState, start, clause_at, with_value, constant_width, IsStep, leaf_after, block_after, selector_after, after, state_from, state_of, AreSteps, IsLog}
+use Rattle.proof_log.specs.Logs.{LogState, start, clause_at, with_value, constant_width, IsStep, leaf_after, block_after, selector_after, after, state_from, state_of, AreSteps, IsLog}
 use Rattle.proof_log.specs.Meanings.{leaf_mean, block_mean, mean_after, mean_from, meaning, GivesMore, StaysLog, IsLogOver}
 use Rattle.proof_log.proofs.Growing.{clause_more}
 
@@ -134,23 +130,20 @@ log_stays nodes log more h =
 -- ---- more terms
 
 module _ (nodes more : List Node) where
-  same_node : (t : ℕ) → t < length nodes → node_at (nodes ++ more) t ≡ node_at nodes t
-  same_node t lt = get_or_append_left nodes more no_node t lt
-
   within : (t : ℕ) → t < length nodes → t < length (nodes ++ more)
   within t lt = omega (arith, length-append nodes more)
 
   same_after : (s : LogState) (e : Entry) → IsStep nodes s e → after (nodes ++ more) s e ≡ after nodes s e
   same_after s (step.Node n) i = refl
-  same_after s (step.Leaf t) i = ap (λ n. leaf_after s t (constant_width n.op)) (same_node t i.term)
-  same_after s (step.Encode t) i = ap (λ n. block_after s t (block_of s.next s.bits n)) (same_node t i.term)
+  same_after s (step.Leaf t) i = ap (λ n. leaf_after s t (constant_width n.op)) (node_longer nodes more t i.term)
+  same_after s (step.Encode t) i = ap (λ n. block_after s t (block_of s.next s.bits n)) (node_longer nodes more t i.term)
   same_after s (step.Selector a t) i = refl
   same_after s (step.Chain c hints) i = refl
 
   pub step_longer : (s : LogState) (e : Entry) → IsStep nodes s e → IsStep (nodes ++ more) s e
   step_longer s (step.Node n) i = Contains-append_left nodes more n i
-  step_longer s (step.Leaf t) i = record { term = within t i.term; new = i.new; width = i.width; constant = ap (λ n. constant_width n.op) (same_node t i.term) ∙ i.constant }
-  step_longer s (step.Encode t) i = record { term = within t i.term; new = i.new; block = i.block; circuit = ap (block_of s.next s.bits) (same_node t i.term) ∙ i.circuit }
+  step_longer s (step.Leaf t) i = record { term = within t i.term; new = i.new; width = i.width; constant = ap (λ n. constant_width n.op) (node_longer nodes more t i.term) ∙ i.constant }
+  step_longer s (step.Encode t) i = record { term = within t i.term; new = i.new; block = i.block; circuit = ap (block_of s.next s.bits) (node_longer nodes more t i.term) ∙ i.circuit }
   step_longer s (step.Selector a t) i = record { term = within t i.term; sort = sort_longer nodes more t i.term ∙ i.sort; new = i.new; bit = i.bit; encoded = i.encoded }
   step_longer s (step.Chain c hints) i = i
 
@@ -166,9 +159,9 @@ module _ (nodes more : List Node) where
   same_mean : (M : Interpretation) (s : LogState) (f : ℕ → Bool) (e : Entry) → IsStep nodes s e → mean_after M (nodes ++ more) s f e ≡ mean_after M nodes s f e
   same_mean M s f (step.Node n) i = refl
   same_mean M s f (step.Leaf t) i =
-      ap (λ n. leaf_mean f s.next (constant_width n.op) (value M (nodes ++ more) t)) (same_node t i.term)
+      ap (λ n. leaf_mean f s.next (constant_width n.op) (value M (nodes ++ more) t)) (node_longer nodes more t i.term)
       ∙ ap (leaf_mean f s.next (constant_width (node_at nodes t).op)) (value_longer M nodes more t i.term)
-  same_mean M s f (step.Encode t) i = ap (λ n. block_mean f s.next (block_of s.next s.bits n)) (same_node t i.term)
+  same_mean M s f (step.Encode t) i = ap (λ n. block_mean f s.next (block_of s.next s.bits n)) (node_longer nodes more t i.term)
   same_mean M s f (step.Selector a t) i = ap (λ v. with_variable f s.next (is_true v)) (value_longer M nodes more t i.term)
   same_mean M s f (step.Chain c hints) i = refl
 

@@ -1,50 +1,44 @@
 -- What trying a step tells.
-use Rattle.std.proofs.Common.{◌≡◌, ℕ, zero, suc, ◌+◌, ◌<◌, ◌≤◌, Bool, true, false, List, [], ◌∷◌, ◌++◌, length, Option, Some, None, Result, Ok, Err, refl, sym, ap, ◌∙◌, subst, inl, inr, ⊎_elim, arith, length-append, position}
+use Rattle.std.proofs.Common.{◌≡◌, ℕ, suc, ◌+◌, ◌<◌, ◌≤◌, Bool, true, false, List, [], ◌∷◌, ◌++◌, length, Option, Some, None, Result, Ok, Err, refl, sym, ap, ◌∙◌, subst, ⊎_elim, arith, position}
 use Rattle.std.specs.Prelude.{◌⊎◌, Contains, MatchOption, is_some}
-use Rattle.std.specs.List.{AllByRecursion}
-use Rattle.std.proofs.lemmas.List.Elements.{Contains-push, All-contains, All-from_recursion}
+use Rattle.std.proofs.lemmas.List.Elements.{Contains-push}
 use Rattle.cnf_base.specs.Literals.{Literal}
 use Rattle.cnf_base.specs.Assignments.{AreBelow}
 use Rattle.cnf_base.specs.declared.clause.ClauseId.{ClauseId}
 use Rattle.cnf_base.proofs.Agreeing.{AreBelow-more}
+use Rattle.cnf_base.proofs.Options.{none_from}
 use Rattle.smt_terms.specs.declared.sort.Sort.TheVariants as sort
 use Rattle.smt_terms.specs.declared.node.Node.{Node}
 use Rattle.smt_terms.specs.declared.fault.MakeFault.{MakeFault}
 use Rattle.smt_terms.specs.Same.{same_node}
 use Rattle.smt_terms.specs.Nodes.{node_at}
-use Rattle.smt_terms.specs.Terms.{IsTermList, TermsValue, AreTerms, make, sort_of}
+use Rattle.smt_terms.specs.Terms.{TermsValue, AreTerms, make, sort_of, with_node}
 use Rattle.smt_terms.specs.Bits.{TermBits, bits_in}
-use Rattle.smt_terms.proofs.Made.{IsNew, IsMade, made, no_place, at_place}
-use Rattle.bit_blast.specs.Blocks.{Block, all_bits, block_of}
-use Rattle.hint_chain.specs.declared.fault.ChainFault.{ChainFault}
+use Rattle.smt_terms.proofs.Made.{made, no_place}
+use Rattle.bit_blast.specs.Blocks.{Block, block_of}
 use Rattle.hint_chain.specs.Chains.{IsChain}
-use Rattle.hint_chain.specs.Faults.{FirstFault}
 use Rattle.hint_chain.proofs.Exact.{IsChain-no_fault}
 use Rattle.proof_log.specs.declared.entry.Entry.{Entry}
 use Rattle.proof_log.specs.declared.entry.Entry.TheVariants as step
-use Rattle.proof_log.specs.declared.fault.StepFault.{StepFault}
 use Rattle.proof_log.specs.declared.fault.StepKind.TheVariants as kind
 use Rattle.proof_log.specs.declared.fault.Kept.{Kept}
 use Rattle.proof_log.specs.declared.fault.Kept.TheVariants as kept
 use Rattle.proof_log.specs.declared.fault.PushError.{PushError}
 use Rattle.proof_log.specs.declared.fault.PushError.TheVariants as push
-use Rattle.proof_log.specs.Logs.{Asserted, LogState, clause_at, constant_width, IsStep, IsLeaf, IsEncoding, IsSelector, after, state_of}
-use Rattle.proof_log.specs.Stored.{LogValue, StepsValue, with_step, selector_in, literal_of, IsKept, Stands, with_leaf, with_block, with_plain, Encodes, IsSelected, IsPushed}
-use Rattle.proof_log.specs.Faults.{IsGiven, with_node, IsNewNode, IsValid, terms_after, MakesNoTerm, kind_of, Shows, ShowsChain, IsFault, NodeIsMade, Tried, Answers}
-use Rattle.proof_log.proofs.Standing.{stands_over, stands_all, kept_longer, kept_plain, kept_leaf, kept_block, kept_selector, leaf_small}
+use Rattle.proof_log.specs.Logs.{clause_at, constant_width, IsStep, IsLeaf, IsEncoding, IsSelector, state_of}
+use Rattle.proof_log.specs.Stored.{LogValue, StepsValue, with_step, selector_in, IsKept, Stands, with_leaf, with_block, with_plain, Encodes, IsSelected, IsPushed}
+use Rattle.proof_log.specs.Faults.{IsGiven, IsValid, terms_after, MakesNoTerm, kind_of, Shows, ShowsChain, IsFault, Tried, Answers}
+use Rattle.proof_log.proofs.Standing.{stands_over, stands_all, kept_longer, kept_plain, kept_leaf, kept_block, kept_selector, no_literal, some_literal}
+use Rattle.proof_log.proofs.Growing.{below_member}
 
 pushed : (nodes : List Node) (old new : LogValue) (e : Entry) → new.entries ≡ old.entries ++ e ∷ [] → new.over ≡ length nodes → IsKept nodes new → IsPushed nodes old new e (suc (length old.entries))
 pushed nodes old new e es o k = record { position = refl; entries = es; over = o; stands = stands_all nodes new o k }
 
 -- ---- leaves
 
-pub not_some : {A : Type 0} (o : Option A) → is_some o ≡ false → o ≡ None
-not_some None e = refl
-not_some (Some x) e = let f : ⊥ = cc in absurd f
-
 pub leaf_done : (v : TermsValue) (old new : LogValue) (t n : ℕ) → AreTerms v → Stands v.nodes old → t < length v.nodes → is_some (bits_in old.bits t) ≡ false → constant_width (node_at v.nodes t).op ≡ Some n → new ≡ with_leaf old (length v.nodes) t n → Tried v (step.Leaf t) old new None
 leaf_done v old new t n all h within test w e =
-    let none = not_some (bits_in old.bits t) test in
+    let none = none_from (bits_in old.bits t) test in
     let k = stands_over v.nodes old h in
     let i : IsLeaf v.nodes (state_of v.nodes old.entries) t = record { term = within; new = sym (k.bits t) ∙ none; width = n; constant = w } in
     (i, subst (λ l. IsPushed v.nodes old l (step.Leaf t) (suc (length old.entries))) (sym e) (pushed v.nodes old (with_leaf old (length v.nodes) t n) (step.Leaf t) refl refl (kept_leaf v.nodes old t n all.list k i w)))
@@ -90,7 +84,7 @@ encodes_false (Some b) over t old new h = let p = h.0 in let q : ⊥ = cc in abs
 
 pub encode_done : (v : TermsValue) (old new : LogValue) (t : ℕ) (d : Bool) → AreTerms v → Stands v.nodes old → t < length v.nodes → is_some (bits_in old.bits t) ≡ false → Encodes (block_of old.next (bits_in old.bits) (node_at v.nodes t)) d (length v.nodes) t old new → d ≡ true → Tried v (step.Encode t) old new None
 encode_done v old new t d all h within test e is =
-    let none = not_some (bits_in old.bits t) test in
+    let none = none_from (bits_in old.bits t) test in
     let k = stands_over v.nodes old h in
     let b = encodes_true (block_of old.next (bits_in old.bits) (node_at v.nodes t)) (length v.nodes) t old new (subst (λ d. Encodes (block_of old.next (bits_in old.bits) (node_at v.nodes t)) d (length v.nodes) t old new) is e) in
     let w = sym (same_block v.nodes old (node_at v.nodes t) k) ∙ b.1 in
@@ -106,25 +100,17 @@ encode_none v old new t d h e is =
 
 -- ---- selectors
 
-none_of : (o : Option Asserted) → literal_of o ≡ None → o ≡ None
-none_of None e = refl
-none_of (Some r) e = let q : ⊥ = cc in absurd q
-
-some_of : (o : Option Asserted) (l : Literal) → literal_of o ≡ Some l → (r : Asserted) × (o ≡ Some r) × (r.literal ≡ l)
-some_of None l e = let q : ⊥ = cc in absurd q
-some_of (Some r) l e = let q : r.literal ≡ l = cc in (r, refl, q)
-
 pub select_done : (v : TermsValue) (old new : LogValue) (a t : ℕ) (bit : Literal) → AreTerms v → Stands v.nodes old → t < length v.nodes → sort_of v.nodes t ≡ sort.Bool → selector_in old.selectors a ≡ None → bits_in old.bits t ≡ Some (bit ∷ []) → IsSelected old new (length v.nodes) a t bit → Tried v (step.Selector a t) old new None
 select_done v old new a t bit all h within bool none e made =
     let k = stands_over v.nodes old h in
     let w = sym (k.bits t) ∙ e in
-    let i : IsSelector v.nodes (state_of v.nodes old.entries) a t = record { term = within; sort = bool; new = none_of _ (sym (k.selectors a) ∙ none); bit = bit; encoded = w } in
+    let i : IsSelector v.nodes (state_of v.nodes old.entries) a t = record { term = within; sort = bool; new = no_literal _ (sym (k.selectors a) ∙ none); bit = bit; encoded = w } in
     (i, pushed v.nodes old new (step.Selector a t) made.entries made.terms (kept_selector v.nodes old new a t bit k i w made))
 
 pub select_held : (v : TermsValue) (old : LogValue) (a t x : ℕ) (l : Literal) → Stands v.nodes old → selector_in old.selectors a ≡ Some l → x ≡ l.variable → Tried v (step.Selector a t) old old (Some (kept.Variable x))
 select_held v old a t x l h e q =
     let k = stands_over v.nodes old h in
-    let r = some_of _ l (sym (k.selectors a) ∙ e) in
+    let r = some_literal _ l (sym (k.selectors a) ∙ e) in
     ((λ i. let n = i.new in let p = r.1 in cc), (r.0, r.1, ap (λ y. y.variable) r.2 ∙ sym q), refl)
 
 pub select_past : (v : TermsValue) (old : LogValue) (a t : ℕ) → length v.nodes ≤ t → Tried v (step.Selector a t) old old (Some (kept.Term t))
@@ -148,9 +134,6 @@ chain_done v old new c hints h below chain e =
     let i = same_step v old c hints k below chain in
     (i, subst (λ l. IsPushed v.nodes old l (step.Chain c hints) (suc (length old.entries))) (sym e) (pushed v.nodes old (with_plain old (length v.nodes) (step.Chain c hints)) (step.Chain c hints) refl refl (kept_plain v.nodes old (step.Chain c hints) k i refl)))
 
-below_at : (n : ℕ) (c : List Literal) (l : Literal) → AreBelow n c → Contains c l → l.variable < n
-below_at n c l h m = All-contains (λ k. k.variable < n) c l (All-from_recursion _ c h) m
-
 same_shown : (v : TermsValue) (old : LogValue) (c : List Literal) (hints : List ClauseId) (k : Kept) → IsKept v.nodes old → ShowsChain old.next old.clauses c hints k → Shows v (state_of v.nodes old.entries) (step.Chain c hints) k
 same_shown v old c hints k h s =
     subst (λ n. ShowsChain n (state_of v.nodes old.entries).clauses c hints k) h.next (subst (λ rows. ShowsChain old.next rows c hints k) h.clauses s)
@@ -160,7 +143,7 @@ no_chain : (next : ℕ) (rows : List (List (List Literal))) (c : List Literal) (
 no_chain next rows c hints kept.Operator s i = s
 no_chain next rows c hints (kept.Make f) s i = s
 no_chain next rows c hints (kept.Term u) s i = s
-no_chain next rows c hints (kept.Variable x) s i = let lt = below_at next c s.0 i.0 s.1 in let e = s.2 in let le = s.3 in omega arith
+no_chain next rows c hints (kept.Variable x) s i = let lt = below_member next c s.0 i.0 s.1 in let e = s.2 in let le = s.3 in omega arith
 no_chain next rows c hints (kept.Chain f) s i = IsChain-no_fault (clause_at rows) c hints f i.1 s.1
 
 pub chain_shown : (v : TermsValue) (old new : LogValue) (c : List Literal) (hints : List ClauseId) (o : Option Kept) (k : Kept) → Stands v.nodes old

@@ -1,5 +1,5 @@
 -- Which steps are valid against a list of terms and a log, and what shows that one is not.
-use Rattle.std.specs.Prelude.{◌≡◌, ℕ, suc, ◌≤◌, List, [], ◌∷◌, ◌++◌, length, position, Option, Some, None, Result, Ok, Err, Contains}
+use Rattle.std.specs.Prelude.{◌≡◌, ℕ, suc, ◌≤◌, List, length, position, Option, Some, None, Result, Ok, Err, Contains}
 use Rattle.cnf_base.specs.Literals.{Literal}
 use Rattle.cnf_base.specs.Assignments.{AreBelow}
 use Rattle.cnf_base.specs.declared.clause.ClauseId.{ClauseId}
@@ -10,7 +10,7 @@ use Rattle.smt_terms.specs.declared.fault.MakeFault.{MakeFault}
 use Rattle.smt_terms.specs.declared.fault.MakeError.{MakeError}
 use Rattle.smt_terms.specs.declared.fault.MakeError.TheVariants.{NoMemory, Fault}
 use Rattle.smt_terms.specs.Same.{same_node}
-use Rattle.smt_terms.specs.Terms.{TermsValue, Agrees, make}
+use Rattle.smt_terms.specs.Terms.{TermsValue, Agrees, make, with_node}
 use Rattle.hint_chain.specs.Faults.{FirstFault}
 use Rattle.proof_log.specs.declared.entry.Entry.{Entry}
 use Rattle.proof_log.specs.declared.entry.Entry.TheVariants as step
@@ -37,10 +37,6 @@ IsGiven (Repeat i) = ⊥
 IsGiven (Constant d s) = Unit {0}
 IsGiven (Apply d s) = ⊥
 IsGiven (Param k s) = Unit {0}
-
--- the terms, and one more
-abbrev pub with_node : TermsValue → Node → TermsValue
-with_node v n = record { nodes = v.nodes ++ n ∷ []; limit = v.limit }
 
 -- a new node, which is well sorted and for which there is room
 pub record IsNewNode (v : TermsValue) (n : Node) : Type 0 where

@@ -3,13 +3,13 @@
 ghost use Rattle.std.specs.Prelude.{◌≡◌, [], suc, List, IfOk, OnOk, OnErr, IfSome, MatchOption, length};
 ghost use Rattle.std.specs.Option.{option_copied};
 ghost use Rattle.smt_terms.specs.declared.node.Node.{Node};
-ghost use Rattle.smt_terms.specs.Terms.{IsTermList, Agrees};
+ghost use Rattle.smt_terms.specs.Terms.{IsTermList, Agrees, with_node};
 ghost use Rattle.proof_log.specs.declared.entry.Entry.TheVariants as step;
 ghost use Rattle.proof_log.specs.Logs.{clause_at, entry_at, state_of};
 ghost use Rattle.proof_log.specs.Meanings.{IsSound};
 ghost use Rattle.proof_log.specs.Places.{GivesBits, GivesSelector, IsPlaceOf};
 ghost use Rattle.proof_log.specs.Stored.{Stands, IsPushed, selector_in};
-ghost use Rattle.proof_log.specs.Faults.{IsValid, MakesNoTerm, IsNewNode, with_node, IsDeclared, Answers};
+ghost use Rattle.proof_log.specs.Faults.{IsValid, MakesNoTerm, IsNewNode, IsDeclared, Answers};
 
 use crate::entry::{AssertId, Entry};
 use crate::fault::{Kept, PushError, StepFault, StepKind};

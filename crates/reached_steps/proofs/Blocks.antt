@@ -15,10 +15,11 @@ use Rattle.smt_terms.specs.declared.node.Op.TheVariants.{Plain, Word, Extract, Z
 use Rattle.bit_blast.specs.declared.rows.Connective.{Connective}
 use Rattle.bit_blast.specs.declared.rows.Connective.TheVariants.{Both, Neither, ButNot, Differ}
 use Rattle.bit_blast.specs.Blocks.{Block, Makes, Takes, Lacks, built, one as one_row, two, two_some, wires, signed, each_gate, by_gate, sum, difference, equality, choice, negation, below, not_above, signed_below, signed_not_above, shift_up, shift_down, signed_shift_down, product, quotient, remainder, signed_quotient, signed_remainder, signed_modulus, literal_bits, rotated, extracted, repeated, operator_circuit, circuit_of}
-use Rattle.bit_blast.proofs.Shapes.{some_is, some_rows}
+use Rattle.bit_blast.proofs.Shapes.{some_rows}
 use Rattle.reached_steps.proofs.Inputs.{AreOf, EachReads, HasFrom, of-append, of-replicate, of-take, of-drop, of-negated, of-fresh_bits, of-sign}
 use Rattle.reached_steps.proofs.Plain.{add_gates-read, add_bits-of, mux_gates-read, equal_gates-read, equal_bit-of, neg_gates-read, neg_bits-of, ult_gates-read, ult_bit-of, slt_gates-read, slt_bit-of, logical_gates-read, logical_bits-of, ashr_gates-read, ashr_bits-of}
 use Rattle.reached_steps.proofs.Numbers.{mul_gates-read, mul_bits-of, division-read, remainder_bits-of, sdiv_read, srem_read, smod_read}
+use Rattle.std.proofs.lemmas.Option.{same_Some}
 
 -- what is to be shown of a block
 abbrev pub IsOf : (ℕ → Type 0) → Block → Type 0
@@ -65,12 +66,12 @@ module _ (S : ℕ → Type 0) (one : S 1) (g : ℕ) (up : HasFrom S g) where
   -- ---- shapes
 
   made_leaf : (bits : List Literal) → AreOf S bits → (rows : List (List Literal)) (b : Block) → Rows rows → built (Makes (wires bits)) g rows ≡ Some b → IsOf S b
-  made_leaf bits h [] b all is = subst (IsOf S) (some_is is) (tt, h)
+  made_leaf bits h [] b all is = subst (IsOf S) (same_Some _ _ is) (tt, h)
   made_leaf bits h (a ∷ rows) b all is = let q : ⊥ = cc in absurd q
 
   made_one : (f : List Literal → ℕ → Block) → ((a : List Literal) → AreOf S a → IsOf S (f a g)) → (rows : List (List Literal)) (b : Block) → Rows rows → built (one_row f) g rows ≡ Some b → IsOf S b
   made_one f h [] b all is = let q : ⊥ = cc in absurd q
-  made_one f h (a ∷ []) b all is = subst (IsOf S) (some_is is) (h a all.0)
+  made_one f h (a ∷ []) b all is = subst (IsOf S) (same_Some _ _ is) (h a all.0)
   made_one f h (a ∷ c ∷ rows) b all is = let q : ⊥ = cc in absurd q
 
   made_two : (f : List Literal → List Literal → ℕ → Block) → ((a c : List Literal) → AreOf S a → AreOf S c → IsOf S (f a c g)) → (rows : List (List Literal)) (b : Block) → Rows rows → built (two f) g rows ≡ Some b → IsOf S b
@@ -79,7 +80,7 @@ module _ (S : ℕ → Type 0) (one : S 1) (g : ℕ) (up : HasFrom S g) where
   made_two f h (a ∷ c ∷ rows) b all is = go (length a == length c) rows is
     where
       go : (t : Bool) (rest : List (List Literal)) → built (if t then Makes (f a c) else Lacks) g rest ≡ Some b → IsOf S b
-      go true [] k = subst (IsOf S) (some_is k) (h a c all.0 all.1.0)
+      go true [] k = subst (IsOf S) (same_Some _ _ k) (h a c all.0 all.1.0)
       go true (d ∷ rest) k = let q : ⊥ = cc in absurd q
       go false rest k = let q : ⊥ = cc in absurd q
 
@@ -89,7 +90,7 @@ module _ (S : ℕ → Type 0) (one : S 1) (g : ℕ) (up : HasFrom S g) where
   made_joined : (rows : List (List Literal)) (b : Block) → Rows rows → built (Takes λ a. Takes λ c. Makes (wires (c ++ a))) g rows ≡ Some b → IsOf S b
   made_joined [] b all is = let q : ⊥ = cc in absurd q
   made_joined (a ∷ []) b all is = let q : ⊥ = cc in absurd q
-  made_joined (a ∷ c ∷ []) b all is = subst (IsOf S) (some_is is) (tt, of-append S c a all.1.0 all.0)
+  made_joined (a ∷ c ∷ []) b all is = subst (IsOf S) (same_Some _ _ is) (tt, of-append S c a all.1.0 all.0)
   made_joined (a ∷ c ∷ d ∷ rows) b all is = let q : ⊥ = cc in absurd q
 
   made_choice : (rows : List (List Literal)) (b : Block) → Rows rows → built choice g rows ≡ Some b → IsOf S b
@@ -101,7 +102,7 @@ module _ (S : ℕ → Type 0) (one : S 1) (g : ℕ) (up : HasFrom S g) where
   made_choice ((c ∷ []) ∷ a ∷ d ∷ rows) b all is = go (length a == length d) rows is
     where
       go : (t : Bool) (rest : List (List Literal)) → built (if t then Makes (λ g. record { gates = mux_gates c a d; bits = fresh_bits g (length a) }) else Lacks) g rest ≡ Some b → IsOf S b
-      go true [] k = subst (IsOf S) (some_is k) (mux_gates-read S one c a d all.0.0 all.1.0 all.1.1.0, of-fresh_bits S (length a) g up)
+      go true [] k = subst (IsOf S) (same_Some _ _ k) (mux_gates-read S one c a d all.0.0 all.1.0 all.1.1.0, of-fresh_bits S (length a) g up)
       go true (r ∷ rest) k = let q : ⊥ = cc in absurd q
       go false rest k = let q : ⊥ = cc in absurd q
 

@@ -2,22 +2,20 @@
 use Rattle.std.proofs.Common.{◌≡◌, ℕ, suc, ◌+◌, ◌<◌, ◌≤◌, List, [], ◌∷◌, length, refl, inl, inr, ⊎_elim, arith}
 use Rattle.std.specs.Prelude.{◌⊎◌, Contains}
 use Rattle.std.specs.List.{AllByRecursion}
-use Rattle.std.proofs.lemmas.List.Elements.{All-from_recursion, recursion_from_All, All-weaker, All-contains, All-contains_itself}
+use Rattle.std.proofs.lemmas.List.Elements.{recursion_from_All, All-weaker, All-contains_itself}
 use Rattle.cnf_base.specs.Literals.{Literal, positive_of, negative_of}
 use Rattle.cnf_base.specs.declared.gate.GateKind.{GateKind}
 use Rattle.cnf_base.specs.declared.gate.GateKind.TheVariants.{And, Xor, Ite}
 use Rattle.cnf_base.specs.Assignments.{AreBelow}
 use Rattle.cnf_base.specs.Gates.{gate_clauses, gates_clauses, InputsBelow, AreOrdered}
+use Rattle.cnf_base.proofs.Lists.{each_append, each_member}
 use Rattle.bit_blast.specs.Blocks.{Block}
 use Rattle.bit_blast.proofs.Ordered.{op_ordered}
 use Rattle.reached_steps.specs.Circuits.{IsInRow, IsOfBlock, BlocksStandOnArguments}
-use Rattle.reached_steps.proofs.Inputs.{AreOf, Reads, EachReads, each_both}
+use Rattle.reached_steps.proofs.Inputs.{AreOf, Reads, EachReads}
 use Rattle.reached_steps.proofs.Blocks.{block_is_of}
 
 -- ---- lists
-
-pub each_in : {A : Type 0} (P : A → Type 0) (xs : List A) (x : A) → AllByRecursion P xs → Contains xs x → P x
-each_in P xs x h k = All-contains P xs x (All-from_recursion P xs h) k
 
 pub each_if : {A : Type 0} (P : A → Type 0) (xs : List A) → ((x : A) → Contains xs x → P x) → AllByRecursion P xs
 each_if P xs f = recursion_from_All P xs (All-weaker (Contains xs) P f xs (All-contains_itself xs))
@@ -52,7 +50,7 @@ gate_clauses-of T g (Ite c a b) own h = ((own, (h.0, (h.1, tt))), ((own, (h.0, (
 gates_clauses-of : (T : ℕ → Type 0) (ks : List GateKind) (g : ℕ) → ((x : ℕ) → g ≤ x → x < g + length ks → T x) → EachReads T ks → AllByRecursion (AreOf T) (gates_clauses g ks)
 gates_clauses-of T [] g own h = tt
 gates_clauses-of T (k ∷ ks) g own h =
-    each_both (AreOf T) (gate_clauses g k) (gates_clauses (suc g) ks) (gate_clauses-of T g k (own g (omega arith) (omega arith)) h.0)
+    each_append (AreOf T) (gate_clauses g k) (gates_clauses (suc g) ks) (gate_clauses-of T g k (own g (omega arith) (omega arith)) h.0)
     (gates_clauses-of T ks (suc g) (λ x le lt. own x (omega arith) (omega arith)) h.1)
 
 -- the clause has a literal of such a variable
@@ -82,7 +80,7 @@ gate_clauses-name g n h (Ite c a b) le lt = (
 gates_clauses-name : (ks : List GateKind) (g n h : ℕ) → n ≤ g → g + length ks ≤ h → AllByRecursion (Names n h) (gates_clauses g ks)
 gates_clauses-name [] g n h le ge = tt
 gates_clauses-name (k ∷ ks) g n h le ge =
-    each_both (Names n h) (gate_clauses g k) (gates_clauses (suc g) ks) (gate_clauses-name g n h k le (omega arith)) (gates_clauses-name ks (suc g) n h (omega arith) (omega arith))
+    each_append (Names n h) (gate_clauses g k) (gates_clauses (suc g) ks) (gate_clauses-name g n h k le (omega arith)) (gates_clauses-name ks (suc g) n h (omega arith) (omega arith))
 
 -- ---- blocks
 
@@ -107,7 +105,7 @@ blocks_stand g op rows b up all is =
     let bits = row_narrowed S T n (read_of g rows b) b.bits of.1 ordered.1 in
     let clauses = gates_clauses-of T b.gates g (λ x le lt. inr (inr (le, lt))) reads in
     record {
-      bits = λ l k. each_in (λ m. T m.variable) b.bits l bits k;
-      clauses = λ c l k m. each_in (λ m. T m.variable) c l (each_in (AreOf T) (gates_clauses g b.gates) c clauses k) m;
-      own = λ c k. each_in (Names g n) (gates_clauses g b.gates) c (gates_clauses-name b.gates g g n (omega arith) (omega arith)) k;
+      bits = λ l k. each_member (λ m. T m.variable) b.bits l bits k;
+      clauses = λ c l k m. each_member (λ m. T m.variable) c l (each_member (AreOf T) (gates_clauses g b.gates) c clauses k) m;
+      own = λ c k. each_member (Names g n) (gates_clauses g b.gates) c (gates_clauses-name b.gates g g n (omega arith) (omega arith)) k;
     }

@@ -6,6 +6,7 @@ use Rattle.cnf_base.specs.Literals.{Literal, negated}
 use Rattle.cnf_base.specs.declared.gate.GateKind.{GateKind}
 use Rattle.cnf_base.specs.declared.gate.GateKind.TheVariants.{And, Xor, Ite}
 use Rattle.cnf_base.specs.Assignments.{fresh_bits}
+use Rattle.cnf_base.proofs.Lists.{each_append}
 use Rattle.circ_plain.specs.Signs.{sign_of}
 
 -- each literal is of such a variable
@@ -26,19 +27,15 @@ EachReads S = AllByRecursion (Reads S)
 abbrev pub HasFrom : (ℕ → Type 0) → ℕ → Type 0
 HasFrom S g = (x : ℕ) → g ≤ x → S x
 
-pub each_both : {A : Type 0} (P : A → Type 0) (xs ys : List A) → AllByRecursion P xs → AllByRecursion P ys → AllByRecursion P (xs ++ ys)
-each_both P [] ys h k = k
-each_both P (x ∷ xs) ys h k = (h.0, each_both P xs ys h.1 k)
-
 module _ (S : ℕ → Type 0) where
   pub later : (g h : ℕ) → g ≤ h → HasFrom S g → HasFrom S h
   later g h le up x k = up x (omega arith)
 
   pub of-append : (a b : List Literal) → AreOf S a → AreOf S b → AreOf S (a ++ b)
-  of-append a b h k = each_both (λ l. S l.variable) a b h k
+  of-append a b h k = each_append (λ l. S l.variable) a b h k
 
   pub reads-append : (ks ls : List GateKind) → EachReads S ks → EachReads S ls → EachReads S (ks ++ ls)
-  reads-append ks ls h k = each_both (Reads S) ks ls h k
+  reads-append ks ls h k = each_append (Reads S) ks ls h k
 
   pub of-replicate : (n : ℕ) (l : Literal) → S l.variable → AreOf S (replicate n l)
   of-replicate zero l h = tt

@@ -7,6 +7,7 @@ use Rattle.std.proofs.lemmas.List.Elements.{All-contains, Contains-append_right,
 use Rattle.cnf_base.specs.Literals.{Literal, negative_of, true_literal}
 use Rattle.cnf_base.specs.Assignments.{fresh_bits}
 use Rattle.cnf_base.specs.Gates.{gates_clauses}
+use Rattle.cnf_base.proofs.Lists.{Contains-nil, each_member, Contains-one, slice_get-there}
 use Rattle.smt_terms.specs.declared.node.Node.{Node}
 use Rattle.smt_terms.specs.Nodes.{node_at}
 use Rattle.smt_terms.specs.Terms.{IsTermList}
@@ -16,23 +17,20 @@ use Rattle.proof_log.specs.Logs.{start, clause_in, entry_at, selector_clause, st
 use Rattle.proof_log.specs.Meanings.{Owns}
 use Rattle.proof_log.specs.Places.{GivesBits}
 use Rattle.proof_log.specs.Diaries.{is_chain}
-use Rattle.proof_log.proofs.Growth.{clause_place}
+use Rattle.proof_log.proofs.Growth.{clause_place, steps_rows}
 use Rattle.proof_log.proofs.Ordered.{log_is_ordered}
 use Rattle.proof_log.proofs.Standing.{stands_over}
 use Rattle.cube_search.specs.Holding.{Occurs, AreSeparate}
 use Rattle.reached_steps.specs.Circuits.{IsOfBlock}
 use Rattle.reached_steps.specs.Reached.{IsOfTerms, AreReachedSteps, ReachedStepsAreSeparate, StoredStepsAreSeparate}
 use Rattle.reached_steps.proofs.Inputs.{AreOf}
-use Rattle.reached_steps.proofs.Clauses.{each_in, each_if, each_weaker}
-use Rattle.reached_steps.proofs.Steps.{row_has, steps_add, before_step, IsEncodeStep, each_row, one_before, leaf_step, encode_step, selector_step, plain_row}
+use Rattle.reached_steps.proofs.Clauses.{each_if, each_weaker}
+use Rattle.reached_steps.proofs.Steps.{row_has, before_step, IsEncodeStep, each_row, one_before, leaf_step, encode_step, selector_step, plain_row}
 
 -- ---- lists
 
-no_element : {A : Type 0} (x : A) → Contains [] x → ⊥
-no_element x h = omega (arith, h.1)
-
 pub is_in : (xs : List ℕ) (x : ℕ) → Contains xs x ⊎ (Contains xs x → ⊥)
-is_in [] x = inr (no_element x)
+is_in [] x = inr (Contains-nil x)
 is_in (y ∷ xs) x = go (y == x) refl (is_in xs x)
   where
     go : (b : Bool) → (y == x) ≡ b → Contains xs x ⊎ (Contains xs x → ⊥) → Contains (y ∷ xs) x ⊎ (Contains (y ∷ xs) x → ⊥)
@@ -40,28 +38,17 @@ is_in (y ∷ xs) x = go (y == x) refl (is_in xs x)
     go false e (inl k) = inl (Contains-append_right (y ∷ []) xs x k)
     go false e (inr k) = inr (λ h.
         ⊎_elim
-        (λ p. ⊎_elim (λ q. no_element x q) (λ q. let r : (y == x) ≡ true = eq-eqb y x q in let f : ⊥ = cc in f) (Contains-push_cases [] y x p))
+        (λ p. ⊎_elim (λ q. Contains-nil x q) (λ q. let r : (y == x) ≡ true = eq-eqb y x q in let f : ⊥ = cc in f) (Contains-push_cases [] y x p))
         k
         (Contains-append_cases (y ∷ []) xs x h))
 
-there : {A : Type 0} (xs : List A) (i : ℕ) → i < length xs → (x : A) × (slice_get xs i ≡ Some x)
-there [] i lt = absurd (omega arith)
-there (y ∷ xs) zero lt = (y, refl)
-there (y ∷ xs) (suc i) lt = there xs i (omega arith)
-
-only_literal : (l m : Literal) → Contains (l ∷ []) m → l ≡ m
-only_literal l m h = ⊎_elim (λ q. absurd (no_element m q)) (λ q. q) (Contains-push_cases [] l m h)
-
-only_clause : (c d : List Literal) → Contains (c ∷ []) d → c ≡ d
-only_clause c d h = ⊎_elim (λ q. absurd (no_element d q)) (λ q. q) (Contains-push_cases [] c d h)
-
 one_of_two : (l m x : Literal) → Contains (l ∷ m ∷ []) x → (l ≡ x) ⊎ (m ≡ x)
-one_of_two l m x h = ⊎_elim (λ p. inl (only_literal l x p)) (λ p. inr (only_literal m x p)) (Contains-append_cases (l ∷ []) (m ∷ []) x h)
+one_of_two l m x h = ⊎_elim (λ p. inl (Contains-one l x p)) (λ p. inr (Contains-one m x p)) (Contains-append_cases (l ∷ []) (m ∷ []) x h)
 
 -- the first position has the clause of variable 1 alone
 first_row : (nodes : List Node) (log : List Entry) (k : ℕ) (c : List Literal) → clause_in (slice_get (state_of nodes log).clauses 0) k ≡ Some c → Contains ((true_literal ∷ []) ∷ []) c
 first_row nodes log k c e =
-    let r = steps_add nodes start log in
+    let r = steps_rows nodes start log in
     row_has (state_of nodes log).clauses 0 k ((true_literal ∷ []) ∷ []) c (ap (λ rows. slice_get rows 0) r.1) e
 
 -- ---- variables
@@ -100,7 +87,7 @@ module _ (nodes : List Node) (log : List Entry) (positions : List ℕ) (all : Is
       let s = before_step nodes log p in
       let known = each_weaker Known (λ u. (b : List Literal) → s.bits u ≡ Some b → AreOf Own b) (node_at nodes t).args (λ u f b e. f b (r.before.bits u b e)) each in
       let rows = each_row (AreOf Own) s.bits (node_at nodes t).args r.rows known r.arguments in
-      subst Own in_row.4 (each_in (λ (l : Literal). Own l.variable) in_row.0 in_row.1 (each_in (AreOf Own) r.rows in_row.0 rows in_row.2) in_row.3)
+      subst Own in_row.4 (each_member (λ (l : Literal). Own l.variable) in_row.0 in_row.1 (each_member (AreOf Own) r.rows in_row.0 rows in_row.2) in_row.3)
   block_own t p x r k each (inr (inr gate)) = owned p x k r.within gate.0 (omega (arith, gate.1, r.next))
 
   encode_known : (t p : ℕ) → Contains positions (suc p) → slice_get log p ≡ Some (step.Encode t) → AllByRecursion Known (node_at nodes t).args → Known t
@@ -148,14 +135,14 @@ module _ (nodes : List Node) (log : List Entry) (positions : List ℕ) (all : Is
 
   leaf_clause : (t q k : ℕ) (c : List Literal) → entry_at log q ≡ Some (step.Leaf t) → clause_in (slice_get (state_of nodes log).clauses q) k ≡ Some c → ⊥
   leaf_clause t zero k c e g = cc
-  leaf_clause t (suc p) k c e g = no_element c (row_has (state_of nodes log).clauses (suc p) k [] c (leaf_step nodes log all is p t e).row g)
+  leaf_clause t (suc p) k c e g = Contains-nil c (row_has (state_of nodes log).clauses (suc p) k [] c (leaf_step nodes log all is p t e).row g)
 
   selector_clause_own : (a t q k : ℕ) (c : List Literal) (l : Literal) → Contains h.reached t → Contains positions q → entry_at log q ≡ Some (step.Selector a t) → clause_in (slice_get (state_of nodes log).clauses q) k ≡ Some c → Contains c l → Own l.variable
   selector_clause_own a t zero k c l in_it held e g m = let f : ⊥ = cc in absurd f
   selector_clause_own a t (suc p) k c l in_it held e g m =
       let r = selector_step nodes log all is p a t e in
       let x = (before_step nodes log p).next in
-      let is_clause = only_clause (selector_clause x r.bit) c (row_has (state_of nodes log).clauses (suc p) k (selector_clause x r.bit ∷ []) c r.row g) in
+      let is_clause = Contains-one (selector_clause x r.bit) c (row_has (state_of nodes log).clauses (suc p) k (selector_clause x r.bit ∷ []) c r.row g) in
       let literal = one_of_two (negative_of x) r.bit l (subst (λ d. Contains d l) (sym is_clause) m) in
       let selects : Own x = owned p x held r.within (omega arith) (omega (arith, r.next)) in
       ⊎_elim
@@ -165,8 +152,8 @@ module _ (nodes : List Node) (log : List Entry) (positions : List ℕ) (all : Is
 
   first_clause : (k : ℕ) (c : List Literal) (l : Literal) → clause_in (slice_get (state_of nodes log).clauses 0) k ≡ Some c → Contains c l → Own l.variable
   first_clause k c l g m =
-      let is_clause = only_clause (true_literal ∷ []) c (first_row nodes log k c g) in
-      let literal = only_literal true_literal l (subst (λ d. Contains d l) (sym is_clause) m) in
+      let is_clause = Contains-one (true_literal ∷ []) c (first_row nodes log k c g) in
+      let literal = Contains-one true_literal l (subst (λ d. Contains d l) (sym is_clause) m) in
       inl (ap (λ (z : Literal). z.variable) (sym literal))
 
   position_own : (q k : ℕ) (c : List Literal) (l : Literal) → Contains positions q → IsOfTerms log h.reached q → clause_in (slice_get (state_of nodes log).clauses q) k ≡ Some c → Contains c l → Own l.variable
@@ -191,7 +178,7 @@ module _ (nodes : List Node) (log : List Entry) (positions : List ℕ) (all : Is
   HasNew c = (l : Literal) × Contains c l × (Occurs (state_of nodes log).clauses positions l.variable → ⊥)
 
   other_clause : (p k : ℕ) (c : List Literal) (e : Entry) → slice_get log p ≡ Some e → is_chain (Some e) ≡ false → (Contains positions (suc p) → ⊥) → clause_in (slice_get (state_of nodes log).clauses (suc p)) k ≡ Some c → HasNew c
-  other_clause p k c (step.Node n) e plain out g = absurd (no_element c (row_has (state_of nodes log).clauses (suc p) k [] c (plain_row nodes log all is p n e) g))
+  other_clause p k c (step.Node n) e plain out g = absurd (Contains-nil c (row_has (state_of nodes log).clauses (suc p) k [] c (plain_row nodes log all is p n e) g))
   other_clause p k c (step.Leaf t) e plain out g = absurd (leaf_clause t (suc p) k c e g)
   other_clause p k c (step.Encode t) e plain out g =
       let r = encode_step nodes log all is p t e in
@@ -201,7 +188,7 @@ module _ (nodes : List Node) (log : List Entry) (positions : List ℕ) (all : Is
   other_clause p k c (step.Selector a t) e plain out g =
       let r = selector_step nodes log all is p a t e in
       let x = (before_step nodes log p).next in
-      let is_clause = only_clause (selector_clause x r.bit) c (row_has (state_of nodes log).clauses (suc p) k (selector_clause x r.bit ∷ []) c r.row g) in
+      let is_clause = Contains-one (selector_clause x r.bit) c (row_has (state_of nodes log).clauses (suc p) k (selector_clause x r.bit ∷ []) c r.row g) in
       let first : Contains c (negative_of x) = subst (λ d. Contains d (negative_of x)) is_clause (0, omega arith, refl) in
       (negative_of x, first, (λ o. fresh p x out r.within (omega arith) (omega (arith, r.next)) (occurs_own x o)))
   other_clause p k c (step.Chain d hints) e plain out g = let f : ⊥ = cc in absurd f
@@ -209,7 +196,7 @@ module _ (nodes : List Node) (log : List Entry) (positions : List ℕ) (all : Is
   separate_at : (q k : ℕ) (c : List Literal) → q ≤ length log → is_chain (entry_at log q) ≡ false → (Contains positions q → ⊥) → clause_in (slice_get (state_of nodes log).clauses q) k ≡ Some c → HasNew c
   separate_at zero k c le plain out g = absurd (out h.first)
   separate_at (suc p) k c le plain out g =
-      let found = there log p (omega arith) in
+      let found = slice_get-there log p (omega arith) in
       other_clause p k c found.0 found.1 (ap is_chain (sym found.1) ∙ plain) out g
 
 pub reached_are_separate : ReachedStepsAreSeparate

@@ -1,39 +1,31 @@
 -- What a step of a log found before it, and what it left: new variables, bits of a term, and the clauses of its position.
-use Rattle.std.proofs.Common.{◌≡◌, ℕ, zero, suc, ◌+◌, ◌<◌, List, [], ◌∷◌, ◌++◌, append_assoc, append-nil, length, length-append, take, Option, Some, None, refl, sym, ap, ◌∙◌, subst, arith}
+use Rattle.std.proofs.Common.{◌≡◌, ℕ, zero, suc, ◌+◌, ◌<◌, List, [], ◌∷◌, ◌++◌, append_assoc, length, length-append, take, Option, Some, None, refl, sym, ap, ◌∙◌, subst, arith}
 use Rattle.std.specs.Prelude.{Contains, slice_get}
 use Rattle.std.specs.List.{AllByRecursion}
-use Rattle.std.proofs.lemmas.Bool.{eq-eqb}
-use Rattle.std.proofs.lemmas.List.Elements.{Contains-append_right}
 use Rattle.cnf_base.specs.Literals.{Literal}
 use Rattle.cnf_base.specs.Assignments.{AreBelow, fresh_bits}
 use Rattle.cnf_base.specs.Gates.{gates_clauses}
+use Rattle.cnf_base.proofs.Lists.{Contains-slice_get, slice_get-at}
 use Rattle.smt_terms.specs.declared.node.Node.{Node}
 use Rattle.smt_terms.specs.Nodes.{node_at}
 use Rattle.smt_terms.specs.Terms.{IsTermList}
-use Rattle.bit_blast.specs.Blocks.{Block, with_first, all_bits, block_over, block_of, built, circuit_of}
+use Rattle.bit_blast.specs.Blocks.{Block, with_first, all_bits, block_of}
 use Rattle.proof_log.specs.declared.entry.Entry.{Entry}
 use Rattle.proof_log.specs.declared.entry.Entry.TheVariants as step
-use Rattle.proof_log.specs.Logs.{LogState, start, clause_in, with_value, constant_width, IsStep, IsLeaf, IsEncoding, IsSelector, leaf_after, block_after, selector_clause, selector_after, after, state_from, state_of, AreSteps, IsLog}
-use Rattle.proof_log.proofs.Growth.{get_end}
+use Rattle.proof_log.specs.Logs.{LogState, start, clause_in, constant_width, IsStep, IsLeaf, IsEncoding, IsSelector, leaf_after, block_after, selector_clause, selector_after, after, state_from, state_of, AreSteps, IsLog}
 use Rattle.proof_log.proofs.Ordered.{any_interpretation, log_is_ordered}
-use Rattle.proof_log.proofs.Sound.{log_suits}
+use Rattle.proof_log.proofs.Sound.{log_suits, block_rows}
 use Rattle.proof_log.proofs.Staying.{Holds, steps_hold}
+use Rattle.proof_log.proofs.Standing.{value_here}
+use Rattle.proof_log.proofs.Growth.{steps_rows}
 use Rattle.reached_steps.specs.Circuits.{StandsOnArguments}
 use Rattle.reached_steps.proofs.Clauses.{blocks_stand}
 
 -- ---- lists
 
-pub got_in : {A : Type 0} (xs : List A) (k : ℕ) (x : A) → slice_get xs k ≡ Some x → Contains xs x
-got_in [] k x e = let q : ⊥ = cc in absurd q
-got_in (y ∷ xs) zero x e = let q : y ≡ x = cc in (0, omega arith, q)
-got_in (y ∷ xs) (suc k) x e = Contains-append_right (y ∷ []) xs x (got_in xs k x e)
-
 -- a clause of a position is one of its row
 pub row_has : (rows : List (List (List Literal))) (q k : ℕ) (row : List (List Literal)) (c : List Literal) → slice_get rows q ≡ Some row → clause_in (slice_get rows q) k ≡ Some c → Contains row c
-row_has rows q k row c e h = got_in row k c (sym (ap (λ o. clause_in o k) e) ∙ h)
-
-new_value : {A : Type 0} (f : ℕ → Option A) (x : ℕ) (a : A) → with_value f x a x ≡ Some a
-new_value f x a = rw (eq-eqb x x refl) refl
+row_has rows q k row c e h = Contains-slice_get row k c (sym (ap (λ o. clause_in o k) e) ∙ h)
 
 -- ---- rows of clauses
 
@@ -74,19 +66,12 @@ step_adds nodes s (step.Encode t) = block_adds s t (block_of s.next s.bits (node
 step_adds nodes s (step.Selector a t) = selector_adds s a t (s.bits t)
 step_adds nodes s (step.Chain c hints) = refl
 
-pub steps_add : (nodes : List Node) (s : LogState) (log : List Entry) → (rest : List (List (List Literal))) × ((state_from nodes s log).clauses ≡ s.clauses ++ rest)
-steps_add nodes s [] = ([], sym (append-nil s.clauses))
-steps_add nodes s (e ∷ log) =
-    let one = step_adds nodes s e in
-    let k = steps_add nodes (after nodes s e) log in
-    (row_of nodes s e ∷ k.0, k.1 ∙ ap (λ l. l ++ k.0) one ∙ append_assoc s.clauses (row_of nodes s e ∷ []) k.0)
-
 -- the row that a step added stays
 row_stays : (nodes : List Node) (s : LogState) (e : Entry) (log : List Entry) → slice_get (state_from nodes s (e ∷ log)).clauses (length s.clauses) ≡ Some (row_of nodes s e)
 row_stays nodes s e log =
-    let k = steps_add nodes (after nodes s e) log in
+    let k = steps_rows nodes (after nodes s e) log in
     ap (λ rs. slice_get rs (length s.clauses)) (k.1 ∙ ap (λ l. l ++ k.0) (step_adds nodes s e) ∙ append_assoc s.clauses (row_of nodes s e ∷ []) k.0)
-    ∙ get_end s.clauses (row_of nodes s e) k.0
+    ∙ slice_get-at s.clauses (row_of nodes s e) k.0
 
 -- ---- a step among others
 
@@ -164,14 +149,6 @@ pub record IsSelectorStep (nodes : List Node) (log : List Entry) (p t : ℕ) : T
   pub row : slice_get (state_of nodes log).clauses (suc p) ≡ Some (selector_clause (before_step nodes log p).next bit ∷ [])
   pub within : p < length log
 
--- the rows of the arguments of a block
-block_rows : (s : LogState) (n : Node) (b : Block) → block_of s.next s.bits n ≡ Some b → (rows : List (List Literal)) × (all_bits s.bits n.args ≡ Some rows) × (built (circuit_of n.op) s.next rows ≡ Some b)
-block_rows s n b e = go (all_bits s.bits n.args) refl e
-  where
-    go : (o : Option (List (List Literal))) → all_bits s.bits n.args ≡ o → block_over n.op s.next o ≡ Some b → (rows : List (List Literal)) × (all_bits s.bits n.args ≡ Some rows) × (built (circuit_of n.op) s.next rows ≡ Some b)
-    go None p e = let r : ⊥ = cc in absurd r
-    go (Some rows) p e = (rows, p, e)
-
 -- each row of bits is such where the bits of each of the terms are
 pub each_row : (P : List Literal → Type 0) (bits : ℕ → Option (List Literal)) (args : List ℕ) (rows : List (List Literal)) → AllByRecursion (λ t. (b : List Literal) → bits t ≡ Some b → P b) args → all_bits bits args ≡ Some rows → AllByRecursion P rows
 each_row P bits [] rows each e = let q : [] ≡ rows = cc in subst (AllByRecursion P) q tt
@@ -195,7 +172,7 @@ module _ (nodes : List Node) (log : List Entry) (all : IsTermList nodes) (is : I
   bits_before p t b e = ((log_is_ordered nodes (take p log) all (first_steps nodes start log p is)).bits t b e).1
 
   leaf_of : (s r : LogState) (t n : ℕ) → r ≡ leaf_after s t (Some n) → Holds r (state_of nodes log) → (r.next ≡ s.next + n) × ((state_of nodes log).bits t ≡ Some (fresh_bits s.next n))
-  leaf_of s r t n e h = (ap (λ x. x.next) e, h.bits t (fresh_bits s.next n) (ap (λ x. x.bits t) e ∙ new_value s.bits t (fresh_bits s.next n)))
+  leaf_of s r t n e h = (ap (λ x. x.next) e, h.bits t (fresh_bits s.next n) (ap (λ x. x.bits t) e ∙ value_here s.bits t (fresh_bits s.next n)))
 
   pub leaf_step : (p t : ℕ) → slice_get log p ≡ Some (step.Leaf t) → IsLeafStep nodes log p t
   leaf_step p t e =
@@ -214,7 +191,7 @@ module _ (nodes : List Node) (log : List Entry) (all : IsTermList nodes) (is : I
       }
 
   block_is : (s r : LogState) (t : ℕ) (b : Block) → r ≡ block_after s t (Some b) → Holds r (state_of nodes log) → (r.next ≡ s.next + length b.gates) × ((state_of nodes log).bits t ≡ Some b.bits)
-  block_is s r t b e h = (ap (λ x. x.next) e, h.bits t b.bits (ap (λ x. x.bits t) e ∙ new_value s.bits t b.bits))
+  block_is s r t b e h = (ap (λ x. x.next) e, h.bits t b.bits (ap (λ x. x.bits t) e ∙ value_here s.bits t b.bits))
 
   pub encode_step : (p t : ℕ) → slice_get log p ≡ Some (step.Encode t) → IsEncodeStep nodes log p t
   encode_step p t e =

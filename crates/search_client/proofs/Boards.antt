@@ -12,9 +12,6 @@ use Rattle.proof_log.specs.Stored.{LogValue, Stands}
 use Rattle.proof_log.specs.Boards.{IsLater}
 use Rattle.proof_log.proofs.Growth.{step_stays}
 use Rattle.proof_log.proofs.Standing.{stands_over}
-use Rattle.cube_search.specs.declared.search.Search.{Search}
-use Rattle.cube_search.specs.Running.{IsSearch}
-use Rattle.cube_search.proofs.Later.{search_later}
 use Rattle.search_client.specs.Putting.{MayBePut}
 
 -- ---- a board has the terms and the log that it was made of
@@ -40,9 +37,6 @@ board_waits terms own log own_log chain e e_log h =
     (subst (λ (v : LogValue). IfSome chain (MayBePut terms.nodes v.entries)) (sym e_log) h)
 
 -- ---- after a call
-
-pub searches_later : (s : Search) (nodes nodes' : List Node) (log log' : List Entry) (known known' : ℕ → Type 0) → IsLater nodes nodes' log log' known known' → IsSearch s nodes log → IsSearch s nodes' log'
-searches_later s nodes nodes' log log' known known' l h = (h.0, search_later _ _ _ _ _ _ nodes nodes' log log' known known' l h.1, h.2)
 
 pub waits_later : (chain : Option Entry) (nodes nodes' : List Node) (log log' : List Entry) (known known' : ℕ → Type 0) → IsLater nodes nodes' log log' known known' → IfSome chain (MayBePut nodes log) → IfSome chain (MayBePut nodes' log')
 waits_later None nodes nodes' log log' known known' l h = h

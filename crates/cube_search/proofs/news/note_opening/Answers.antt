@@ -1,14 +1,13 @@
 use Rattle.std.proofs.Common.{ℕ, List, subst}
 use Rattle.std.specs.Prelude.{slice_index}
 use Rattle.cube_search.specs.Keeping.{NotesOpening}
-use Rattle.cube_search.proofs.Sets.{take_all}
-use Rattle.std.proofs.lemmas.List.{get_or_default}
-use Rattle.cdcl_learn.proofs.Lists.{no_member}
+use Rattle.std.proofs.lemmas.List.{get_or_default, take_all}
 use Rattle.cube_search.proofs.Beginning.{noted_none, opening_noted, opening_held}
 use Rattle.cube_search.proofs.news.note_opening.Goals as goal
+use Rattle.cnf_base.proofs.Lists.{Contains-nil}
 
 pub positions-init : goal.positions-init
-positions-init g c = λ given from look variables taken seen holding placed noting. (noted_none _ look c.args.diary.now noting, λ p k. absurd (no_member p k))
+positions-init g c = λ given from look variables taken seen holding placed noting. (noted_none _ look c.args.diary.now noting, λ p k. absurd (Contains-nil p k))
 
 pub positions-preserved : goal.positions-preserved
 positions-preserved g c = λ given from look variables taken seen holding placed noting.
@@ -20,4 +19,4 @@ positions-preserved g c = λ given from look variables taken seen holding placed
 pub returns : goal.returns
 returns g c =
     subst (λ (ps : List ℕ). NotesOpening (g.B.Board.nodes c.args.board.now) (g.B.Board.log c.args.board.now) c.args.positions.now ps c.args.diary.now c.positions.diary)
-    (take_all c.args.positions.now c.positions.at-index c.positions-test.false) c.positions.invariant
+    (take_all c.positions.at-index c.args.positions.now c.positions-test.false) c.positions.invariant

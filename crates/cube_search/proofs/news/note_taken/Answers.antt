@@ -1,19 +1,18 @@
 use Rattle.std.proofs.Common.{ℕ, List, [], sym, subst, ◌≡◌}
 use Rattle.std.specs.Prelude.{slice_index}
-use Rattle.std.proofs.lemmas.List.{get_or_default}
+use Rattle.std.proofs.lemmas.List.{get_or_default, take_all}
 use Rattle.cdcl_core.specs.Search.{clause_of}
-use Rattle.cdcl_learn.proofs.Lists.{no_member}
 use Rattle.cube_search.specs.Holding.{AreLeft}
 use Rattle.cube_search.specs.Keeping.{NotesTaken, IsTaken}
 use Rattle.cube_search.specs.Numbers.{global_look}
-use Rattle.cube_search.proofs.Sets.{take_all}
 use Rattle.cube_search.proofs.Moving.{left_none, left_next, noted_step}
 use Rattle.cube_search.proofs.Beginning.{noted_none, taken_noted, taken_held}
 use Rattle.cube_search.proofs.news.note_taken.Goals as goal
+use Rattle.cnf_base.proofs.Lists.{Contains-nil}
 
 pub positions-init : goal.positions-init
 positions-init c = record {
-  noted = λ names nodes log given from variables opening seen holding placed noting. (noted_none _ (global_look names (clause_of c.args.watches.now)) c.args.diary.now noting, λ id d k. absurd (no_member id.pos k));
+  noted = λ names nodes log given from variables opening seen holding placed noting. (noted_none _ (global_look names (clause_of c.args.watches.now)) c.args.diary.now noting, λ id d k. absurd (Contains-nil id.pos k));
   left = subst (AreLeft (clause_of c.args.watches.now) []) (sym c.new-held.ensures.items) (left_none (clause_of c.args.watches.now));
 }
 
@@ -38,9 +37,9 @@ positions-preserved c =
 pub returns-clause-noted : goal.returns-clause-noted
 returns-clause-noted c = λ names.
     subst (λ (ps : List ℕ). NotesTaken (global_look names (clause_of c.args.watches.now)) c.args.positions.now ps c.args.diary.now c.positions.diary)
-    (take_all c.args.positions.now c.positions.at-index c.positions-test.false) (c.positions.invariant.noted names)
+    (take_all c.positions.at-index c.args.positions.now c.positions-test.false) (c.positions.invariant.noted names)
 
 pub returns-clause-left : goal.returns-clause-left
 returns-clause-left c =
     subst (λ (ps : List ℕ). AreLeft (clause_of c.args.watches.now) ps c.positions.held.items)
-    (take_all c.args.positions.now c.positions.at-index c.positions-test.false) c.positions.invariant.left
+    (take_all c.positions.at-index c.args.positions.now c.positions-test.false) c.positions.invariant.left

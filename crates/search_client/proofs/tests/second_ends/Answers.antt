@@ -1,6 +1,7 @@
 use Rattle.std.proofs.Common.{arith}
 use Rattle.cube_search.proofs.Later.{below_later}
-use Rattle.search_client.proofs.Boards.{board_listed, board_knows, board_from, board_below, searches_later}
+use Rattle.cube_search.proofs.Steps.{still_search}
+use Rattle.search_client.proofs.Boards.{board_listed, board_knows, board_from, board_below}
 use Rattle.search_client.proofs.tests.second_ends.Goals as goal
 
 pub begun-requires-clause-listed : goal.begun-requires-clause-listed
@@ -37,7 +38,7 @@ pub run-requires-clause-below : goal.run-requires-clause-below
 run-requires-clause-below c = board_below _ _ _ _ c.args.given.now c.new-board.ensures.terms c.new-board.ensures.log c.requires.stands c.requires.given
 
 pub run-requires-2-clause-search : goal.run-requires-2-clause-search
-run-requires-2-clause-search c = searches_later c.in_ok-second.second _ _ _ _ _ _ c.run.ensures.later c.in_ok-second.ensures.search
+run-requires-2-clause-search c = still_search c.in_ok-second.second _ _ _ _ _ _ c.run.ensures.later c.in_ok-second.ensures.search
 
 pub run-requires-2-clause-known : goal.run-requires-2-clause-known
 run-requires-2-clause-known c = λ p k. c.run.ensures.later.knows p (board_knows _ _ c.len-from.result p c.new-board.ensures.log c.len-from.ensures (omega (arith, c.in_ok-second.ensures.below p k)))

@@ -1,4 +1,5 @@
 use Rattle.std.proofs.Common.{List, Some, inl, ap, ◌∙◌, subst}
+use Rattle.std.proofs.lemmas.Option.{MatchOption-at_some}
 use Rattle.cnf_base.specs.Literals.{Literal}
 use Rattle.cdcl_core.specs.Search.{literals_of, level_of, clause_of}
 use Rattle.cube_search.specs.declared.search.Search.{Search}
@@ -8,7 +9,6 @@ use Rattle.cube_search.specs.Running.{variables_in}
 use Rattle.cube_search.proofs.Courses.{course_came}
 use Rattle.cube_search.proofs.Filling.{numbered_added}
 use Rattle.cube_search.proofs.Naming.{numbers_among}
-use Rattle.cube_search.proofs.Steps.{some_of_match}
 use Rattle.cube_search.proofs.Trails.{trail_added}
 use Rattle.cube_search.proofs.search.Search.admit.Goals as goal
 
@@ -23,7 +23,7 @@ returns-clause-course c = λ h.
 pub returns-clause-numbered : goal.returns-clause-numbered
 returns-clause-numbered c =
     let s = c.args.self.now in
-    let near = some_of_match _ (IsNumbered s.names s.bound c.args.clause.now) c.in_ok-near.field-0 c.in-Some.near c.in-Some.is c.in_ok-near.ensures in
+    let near = MatchOption-at_some _ (IsNumbered s.names s.bound c.args.clause.now) c.in-Some.near c.in-Some.is c.in_ok-near.ensures in
     numbered_added s.watches c.add.new.self (record { pos = c.args.at; part = 0 })
     (λ q ne. c.in_ok-add.ensures.others q ne ∙ ap (λ (x : Search). clause_of x.watches q) c.go_back.ensures.same)
     s.names s.bound s.given.items c.in-Some.near c.requires.numbered near.numbers c.in_ok-add.ensures.held
@@ -31,7 +31,7 @@ returns-clause-numbered c =
 pub returns-clause-admitted : goal.returns-clause-admitted
 returns-clause-admitted c =
     let s = c.args.self.now in
-    let near = some_of_match _ (IsNumbered s.names s.bound c.args.clause.now) c.in_ok-near.field-0 c.in-Some.near c.in-Some.is c.in_ok-near.ensures in
+    let near = MatchOption-at_some _ (IsNumbered s.names s.bound c.args.clause.now) c.in-Some.near c.in-Some.is c.in_ok-near.ensures in
     record {
       others = λ q ne. ap (global_found s.names) (c.in_ok-add.ensures.others q ne ∙ ap (λ (x : Search). clause_of x.watches q) c.go_back.ensures.same);
       came = inl (

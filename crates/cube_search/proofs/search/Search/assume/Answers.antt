@@ -1,10 +1,10 @@
 use Rattle.std.proofs.Common.{length, get_or, refl, ap, ◌∙◌, arith}
 use Rattle.cube_search.specs.declared.search.Search.{Search}
 use Rattle.cdcl_core.specs.Search.{literals_of, level_of}
-use Rattle.cdcl_learn.proofs.Lists.{no_member}
 use Rattle.cube_search.proofs.Courses.{true_later}
 use Rattle.cube_search.proofs.Assuming.{assumed_more, none_of, same_then, course_of}
 use Rattle.cube_search.proofs.search.Search.assume.Goals as goal
+use Rattle.cnf_base.proofs.Lists.{Contains-nil}
 
 pub returns-then-self-level-clause-clash : goal.returns-then-self-level-clause-clash
 returns-then-self-level-clause-clash c = record {
@@ -20,7 +20,7 @@ literals-init c = record {
   trail = c.requires.trail;
   course = c.requires.course;
   at_base = omega (arith, c.requires.course.lower, c.if-self-level.false, c.level.ensures);
-  assumed = record { propagated = c.requires.propagated; rest = c.requires.rest; all = λ l k. absurd (no_member l k) };
+  assumed = record { propagated = c.requires.propagated; rest = c.requires.rest; all = λ l k. absurd (Contains-nil l k) };
 }
 
 pub literals-preserved : goal.literals-preserved

@@ -1,6 +1,6 @@
 use Rattle.std.proofs.Common.{ℕ, ◌++◌, ◌∷◌, [], length, drop, sym, ap, ◌∙◌, subst, arith}
 use Rattle.std.specs.Prelude.{List, slice_index}
-use Rattle.std.proofs.lemmas.List.{take_more}
+use Rattle.std.proofs.lemmas.List.{take_more, take_all}
 use Rattle.cnf_base.specs.Literals.{Literal}
 use Rattle.cnf_base.specs.Assignments.{AreBelow}
 use Rattle.proof_log.specs.Logs.{state_of}
@@ -9,7 +9,6 @@ use Rattle.cube_search.specs.Holding.{IsHolding}
 use Rattle.cube_search.specs.Numbers.{global_look, HoldsNumbers}
 use Rattle.cube_search.proofs.Filling.{placed_start}
 use Rattle.cube_search.proofs.Naming.{variables_all}
-use Rattle.cube_search.proofs.Sets.{take_all}
 use Rattle.cube_search.proofs.search.Search.new.Goals as goal
 
 pub positions-preserved : goal.positions-preserved
@@ -33,7 +32,7 @@ returns-clause-search g c =
         holding = subst (λ (vs : List ℕ). IsHolding look rows vs c.positions.opening.items c.new-3.result.items) (sym (variables_all names c.len-bound.result c.len-bound.ensures.len))
             (subst (λ (ls : List ℕ). IsHolding look rows (drop 1 c.positions.names) c.positions.opening.items ls) (sym c.new-3.ensures.items) c.positions.invariant.holding);
         placed = placed_start (g.B.Board.log c.args.board.now) c.positions.opening.items c.new-3.result.items c.args.positions.now c.args.from c.new-3.ensures.items
-            (c.positions.invariant.opening ∙ take_all c.args.positions.now c.positions.pos-index c.positions-test.false) c.requires.below c.requires.from;
+            (c.positions.invariant.opening ∙ take_all c.positions.pos-index c.args.positions.now c.positions-test.false) c.requires.below c.requires.from;
         listed = c.requires.listed;
         stands = c.requires.stands;
       },

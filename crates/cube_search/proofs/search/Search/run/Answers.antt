@@ -1,8 +1,9 @@
 use Rattle.std.proofs.Common.{◌∙◌, ap}
 use Rattle.std.proofs.lemmas.Bool.{MatchBool-at_false}
+use Rattle.std.proofs.lemmas.Option.{MatchOption-at_some}
 use Rattle.proof_log.proofs.Growth.{later_then}
 use Rattle.cube_search.proofs.Assuming.{none_of}
-use Rattle.cube_search.proofs.Steps.{same_given, some_of_match, run_end}
+use Rattle.cube_search.proofs.Steps.{same_given, run_end}
 use Rattle.cube_search.proofs.search.Search.run.Goals as goal
 
 pub steps-init : goal.steps-init
@@ -25,7 +26,7 @@ pub returns-in-Some-clause-end : goal.returns-in-Some-clause-end
 returns-in-Some-clause-end g c =
     run_end _ _ c.steps.self c.step.new.self (g.B.Board.nodes c.step.new.board) (g.B.Board.log c.step.new.board) (g.B.Board.knows c.step.new.board) (g.B.Board.found c.step.new.board) c.args.given.now c.args.self.now.from c.args.self.now.opening.items c.args.cube c.args.budget c.in-Some.end
     c.steps.invariant.upto c.steps.invariant.given c.steps.invariant.from (ap (λ v. v.items) c.steps.invariant.opening) c.in_ok-end.ensures.run.names
-    (some_of_match _ _ c.in_ok-end.field-0 c.in-Some.end c.in-Some.is c.in_ok-end.ensures.end)
+    (MatchOption-at_some _ _ c.in-Some.end c.in-Some.is c.in_ok-end.ensures.end)
 
 pub steps-preserved : goal.steps-preserved
 steps-preserved g c = record {

@@ -1,8 +1,9 @@
 use Rattle.std.proofs.Common.{◌<◌, length, arith, sym, ap, ◌∙◌}
 use Rattle.proof_log.specs.Logs.{constant_width}
 use Rattle.proof_log.proofs.Standing.{next_above, stands_over, leaf_small}
-use Rattle.proof_log.proofs.Tried.{not_some, leaf_past, leaf_held, leaf_done, leaf_other}
+use Rattle.proof_log.proofs.Tried.{leaf_past, leaf_held, leaf_done, leaf_other}
 use Rattle.proof_log.proofs.log.Log.leaf.Goals as goal
+use Rattle.cnf_base.proofs.Options.{none_from}
 
 pub returns-then-term-len-clause-ok : goal.returns-then-term-len-clause-ok
 returns-then-term-len-clause-ok c = leaf_past c.args.terms.now c.args.self.now c.args.term (omega arith)
@@ -25,7 +26,7 @@ put_leaf-requires-clause-width c =
     (ap (λ n. constant_width n.op) (sym c.node.ensures.node) ∙ sym c.width_of.ensures ∙ c.in-Some.is)
 
 pub put_leaf-requires-clause-new : goal.put_leaf-requires-clause-new
-put_leaf-requires-clause-new c = not_some _ (sym c.has_bits.ensures ∙ c.if-has_bits.false)
+put_leaf-requires-clause-new c = none_from _ (sym c.has_bits.ensures ∙ c.if-has_bits.false)
 
 pub returns-in_ok-put_leaf-in-Some-clause-ok : goal.returns-in_ok-put_leaf-in-Some-clause-ok
 returns-in_ok-put_leaf-in-Some-clause-ok c =

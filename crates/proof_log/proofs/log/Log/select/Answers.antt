@@ -1,6 +1,6 @@
 use Rattle.std.proofs.Common.{arith, sym, ◌∙◌}
 use Rattle.proof_log.proofs.Standing.{next_above, stands_over}
-use Rattle.proof_log.proofs.Tried.{not_some, select_past, select_held, select_done, select_other, select_none}
+use Rattle.proof_log.proofs.Tried.{select_past, select_held, select_done, select_other, select_none}
 use Rattle.proof_log.proofs.log.Log.select.Goals as goal
 
 pub returns-in-Some-clause-ok : goal.returns-in-Some-clause-ok
