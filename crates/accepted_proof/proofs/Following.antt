@@ -6,6 +6,7 @@ use Rattle.std.specs.Option.{option_map}
 use Rattle.std.proofs.lemmas.List.Elements.{All-head, All-tail}
 use Rattle.std.proofs.lemmas.List.{map-append}
 use Rattle.cnf_base.specs.Literals.{Literal}
+use Rattle.cnf_base.proofs.Options.{some_value}
 use Rattle.smt_terms.specs.declared.node.Node.{Node}
 use Rattle.smt_terms.specs.Values.{Interpretation}
 use Rattle.scope_selectors.specs.Scopes.{ScopesValue}
@@ -213,10 +214,6 @@ steps_by j (line.Unknown c g n) k e h = let f : ⊥ = cc in absurd f
 steps_by j (line.Take p) k e h = let f : ⊥ = cc in absurd f
 steps_by j (line.Put p) k e h = let f : ⊥ = cc in absurd f
 steps_by j (line.Drop p) k e h = let f : ⊥ = cc in absurd f
-
-some_value : {A : Type 0} (o : Option A) → IsSome o → (x : A) × (o ≡ Some x)
-some_value None h = let f : ⊥ = cc in absurd f
-some_value (Some x) h = (x, refl)
 
 abbrev pub lines_before : List (Option Line) → List Line → List (Option Line)
 lines_before ls first = map Some first ++ ls

@@ -1,13 +1,12 @@
 -- The first chunks of a text.
 use Rattle.std.proofs.Common.{◌≡◌, ℕ, List, [], ◌∷◌, ◌++◌, refl, sym, ap, ◌∙◌, subst, inl, inr, append_assoc, append-nil, Option, Some, None}
 use Rattle.std.specs.Prelude.{◌⊎◌, option_to_list}
+use Rattle.std.proofs.lemmas.Option.{some_pair_parts}
 use Rattle.smt_text.specs.declared.chunk.Chunk.{Chunk}
 use Rattle.smt_text.specs.Framing.{Held, first_chunk, last_chunk}
 use Rattle.smt_text.specs.Script.{AreChunks, Begins}
+use Rattle.smt_text.proofs.Cuts.{AreChunks-one}
 use Rattle.accepted_proof.specs.Accepted.{IsFront}
-
-pub chunk_known : (c e : Chunk) (m n : Held) → ◌≡◌ {A = Option (Chunk × Held)} (Some (c, m)) (Some (e, n)) → (c ≡ e) × (m ≡ n)
-chunk_known c e m n q = let p : ◌≡◌ {A = Chunk × Held} (c, m) (e, n) = cc in (ap (λ x. x.0) p, ap (λ x. x.1) p)
 
 -- ---- fewer of them
 
@@ -52,7 +51,7 @@ begins_both : (h : Held) (cs es : List Chunk) (rest end : Held) → Begins h cs 
 begins_both h [] es rest end p q = inl (es, refl)
 begins_both h (c ∷ cs) [] rest end p q = inr (c ∷ cs, refl)
 begins_both h (c ∷ cs) (e ∷ es) rest end p q =
-    let same = chunk_known c e p.0 q.0 (sym p.1 ∙ q.1) in
+    let same = some_pair_parts c e p.0 q.0 (sym p.1 ∙ q.1) in
     elim (begins_both p.0 cs es rest end p.2 (subst (λ m. Begins m es end) (sym same.1) q.2)) [
       | inl m ↦ inl (more_behind c e cs es same.0 m)
       | inr m ↦ inr (more_behind e c es cs (sym same.0) m)
@@ -63,7 +62,7 @@ begins_within : (h : Held) (cs whole : List Chunk) (rest end : Held) → Begins 
 begins_within h [] whole rest end p q n = (whole, refl)
 begins_within h (c ∷ cs) [] rest end p q n = let m : first_chunk h ≡ None = ap first_chunk (sym q) ∙ n in let z : ⊥ = (let s = p.1 in cc) in absurd z
 begins_within h (c ∷ cs) (w ∷ whole) rest end p q n =
-    let same = chunk_known c w p.0 q.0 (sym p.1 ∙ q.1) in
+    let same = some_pair_parts c w p.0 q.0 (sym p.1 ∙ q.1) in
     more_behind c w cs whole same.0 (begins_within p.0 cs whole rest end p.2 (subst (λ m. Begins m whole end) (sym same.1) q.2) n)
 
 begins_within_all : (text : List ℕ) (cs es : List Chunk) (rest : Held) → Begins (record { line = 1; bytes = text }) cs rest → AreChunks text es → IsMore cs es
@@ -71,24 +70,10 @@ begins_within_all text cs es rest b a =
     let m = begins_within (record { line = 1; bytes = text }) cs a.whole rest a.rest b a.begins a.ends in
     (m.0 ++ option_to_list (last_chunk a.rest), a.all ∙ ap (λ l. l ++ option_to_list (last_chunk a.rest)) m.1 ∙ append_assoc cs m.0 (option_to_list (last_chunk a.rest)))
 
-begins_all_one : (h : Held) (cs es : List Chunk) (rest end : Held) → Begins h cs rest → Begins h es end → first_chunk rest ≡ None → first_chunk end ≡ None → (cs ≡ es) × (rest ≡ end)
-begins_all_one h [] [] rest end p q a b = (refl, p ∙ sym q)
-begins_all_one h [] (e ∷ es) rest end p q a b = let n : first_chunk h ≡ None = ap first_chunk (sym p) ∙ a in let z : ⊥ = (let s = q.1 in cc) in absurd z
-begins_all_one h (c ∷ cs) [] rest end p q a b = let n : first_chunk h ≡ None = ap first_chunk (sym q) ∙ b in let z : ⊥ = (let s = p.1 in cc) in absurd z
-begins_all_one h (c ∷ cs) (e ∷ es) rest end p q a b =
-    let same = chunk_known c e p.0 q.0 (sym p.1 ∙ q.1) in
-    let more = begins_all_one p.0 cs es rest end p.2 (subst (λ m. Begins m es end) (sym same.1) q.2) a b in
-    (ap (λ x. x ∷ cs) same.0 ∙ ap (λ xs. e ∷ xs) more.0, more.1)
-
-pub chunks_one : (text : List ℕ) (cs es : List Chunk) → AreChunks text cs → AreChunks text es → cs ≡ es
-chunks_one text cs es a b =
-    let same = begins_all_one (record { line = 1; bytes = text }) a.whole b.whole a.rest b.rest a.begins b.begins a.ends b.ends in
-    a.all ∙ ap (λ xs. xs ++ option_to_list (last_chunk a.rest)) same.0 ∙ ap (λ r. b.whole ++ option_to_list (last_chunk r)) same.1 ∙ sym b.all
-
 -- each front is one of all
 pub front_of_all : (text : List ℕ) (cs es : List Chunk) → IsFront text cs → AreChunks text es → IsMore cs es
 front_of_all text cs es (inl b) a = begins_within_all text cs es b.0 b.1 a
-front_of_all text cs es (inr c) a = ([], chunks_one text es cs a c ∙ sym (append-nil cs))
+front_of_all text cs es (inr c) a = ([], AreChunks-one text es cs a c ∙ sym (append-nil cs))
 
 -- of two fronts the one is a front of the other
 pub front_of_front : (text : List ℕ) (cs es : List Chunk) → IsFront text cs → IsFront text es → IsMore cs es ⊎ IsMore es cs

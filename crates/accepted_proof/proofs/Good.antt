@@ -1,6 +1,6 @@
 -- Commands, steps and ends of checks lead from states to states, and steps keep the models of the live assertions.
 use Rattle.std.proofs.Common.{◌≡◌, ℕ, ◌<◌, List, [], ◌∷◌, ◌++◌, length, get_or, sym, ap, ◌∙◌}
-use Rattle.smt_terms.specs.Terms.{IsTermList}
+use Rattle.smt_terms.specs.Terms.{IsTermList, with_node}
 use Rattle.smt_terms.specs.Values.{Interpretation, is_true, value}
 use Rattle.smt_terms.proofs.Evaluating.{value_longer}
 use Rattle.scope_selectors.specs.declared.live.Live.{Live}
@@ -14,7 +14,7 @@ use Rattle.script_state.proofs.Keeping.{step_state}
 use Rattle.proof_log.specs.declared.entry.Entry.{Entry}
 use Rattle.proof_log.specs.declared.entry.Entry.TheVariants as entry
 use Rattle.proof_log.specs.Logs.{state_of}
-use Rattle.proof_log.specs.Faults.{IsValid, terms_after, with_node}
+use Rattle.proof_log.specs.Faults.{IsValid, terms_after}
 use Rattle.std.specs.Prelude.{Some}
 use Rattle.accepted_proof.specs.Models.{IsModel}
 use Rattle.accepted_proof.specs.Turns.{IsOfScript, with_step, with_steps, AreStepsOf}

@@ -14,5 +14,7 @@ pub mod Good
 pub mod Splitting
 -- Lemmas of the law on what is printed.
 pub mod Standing
+-- Lemmas of the interpretation that values give.
+pub mod Valuing
 -- A worked row of the definitions.
 mod Worked

@@ -6,6 +6,7 @@ use Rattle.std.specs.Option.{option_map, option_and_then}
 use Rattle.std.proofs.lemmas.Nat.{mod-pow-add}
 use Rattle.cnf_base.specs.Literals.{Literal}
 use Rattle.cnf_base.specs.declared.clause.ClauseId.{ClauseId}
+use Rattle.cnf_base.proofs.Options.{same_found}
 use Rattle.smt_words.specs.Words.{WordValue}
 use Rattle.smt_terms.specs.declared.sort.Sort.{Sort}
 use Rattle.smt_terms.specs.declared.sort.Sort.TheVariants as sort
@@ -57,9 +58,6 @@ literal_back a b e = λ i. record { variable = (e i).variable; positive = (e i).
 hint_back : (a b : ClauseId) → written_hint a ≡ written_hint b → a ≡ b
 hint_back a b e = λ i. record { pos = (e i).pos; part = (e i).part }
 
-some_back : {A : Type 0} (a b : A) (o : Option A) → o ≡ Some a → o ≡ Some b → a ≡ b
-some_back a b o p q = cc
-
 -- the operator of a head, where these are the signatures
 abbrev op_of : List Signature → Head → Option Op
 op_of signatures (head.Plain o) = Some (op.Plain o)
@@ -94,14 +92,14 @@ is_term_in None = false
 is_term_in (Some l) = is_term l
 
 -- the head and the arguments of a term's line
-record IsTermLine (o : Option Head) (args : List ℕ) (l : Line) : Type 0 where
+pub record IsTermLine (o : Option Head) (args : List ℕ) (l : Line) : Type 0 where
   pub head : Head
   pub some : o ≡ Some head
   pub written : l ≡ line.Term head args
 
-term_line : (o : Option Head) (args : List ℕ) (l : Line) → option_map (λ h. line.Term h args) o ≡ Some l → IsTermLine o args l
+pub term_line : (o : Option Head) (args : List ℕ) (l : Line) → option_map (λ h. line.Term h args) o ≡ Some l → IsTermLine o args l
 term_line None args l e = let q : ⊥ = cc in absurd q
-term_line (Some h) args l e = record { head = h; some = refl; written = some_back l (line.Term h args) (Some l) refl (sym e) }
+term_line (Some h) args l e = record { head = h; some = refl; written = same_found (Some l) l (line.Term h args) refl (sym e) }
 
 not_term : (o : Option Head) (args : List ℕ) (l : Line) (other : Option Line) → option_map (λ h. line.Term h args) o ≡ Some l → other ≡ Some l → is_term_in other ≡ false → ⊥
 not_term o args l other e p n =
@@ -118,7 +116,7 @@ same_terms s l n m p q i j =
     let r : n.args ≡ m.args = cc in
     let c = op_at s.symbols.signatures n.op a.head a.some i in
     let d = op_at s.symbols.signatures m.op b.head b.some j in
-    let o : n.op ≡ m.op = some_back n.op m.op (op_of s.symbols.signatures a.head) c (ap (op_of s.symbols.signatures) h ∙ d) in
+    let o : n.op ≡ m.op = same_found (op_of s.symbols.signatures a.head) n.op m.op c (ap (op_of s.symbols.signatures) h ∙ d) in
     (λ k. record { op = o k; args = r k })
 
 same_chains : (c d : List Literal) (hs is : List ClauseId) (l : Line) → entry_line (entry.Chain c hs) ≡ Some l → entry_line (entry.Chain d is) ≡ Some l → entry.Chain c hs ≡ entry.Chain d is
@@ -144,7 +142,7 @@ same_entry s l (entry.Leaf t) (entry.Leaf u) p q i j = cc
 same_entry s l (entry.Encode t) (entry.Encode u) p q i j = cc
 same_entry s l (entry.Selector a t) (entry.Selector b u) p q i j =
     let e : a ≡ b = cc in
-    let f : t ≡ u = some_back t u (slice_get s.scopes.terms a) i (ap (slice_get s.scopes.terms) e ∙ j) in cc
+    let f : t ≡ u = same_found (slice_get s.scopes.terms a) t u i (ap (slice_get s.scopes.terms) e ∙ j) in cc
 same_entry s l (entry.Chain c hs) (entry.Chain d is) p q i j = same_chains c d hs is l p q
 same_entry s l (entry.Leaf t) _ p q i j = let f : ⊥ = cc in absurd f
 same_entry s l (entry.Encode t) _ p q i j = let f : ⊥ = cc in absurd f
@@ -188,7 +186,7 @@ word_small n w x h = let p : w ≡ n = cc in let q : x ≡ h.0 = cc in record { 
 no_bool_word : (w x : ℕ) → HasSort sort.Bool (VWord w x) → ⊥
 no_bool_word w x h = let e : VWord w x ≡ VBool h.0 = h.1 in cc
 
-no_word_bool : (n : ℕ) (b : Bool) → HasSort (sort.Word n) (VBool b) → ⊥
+pub no_word_bool : (n : ℕ) (b : Bool) → HasSort (sort.Word n) (VBool b) → ⊥
 no_word_bool n b h = let e : VBool b ≡ VWord n h.0 = h.1 in cc
 
 same_words : (s : Sort) (v w : WordValue) → HasSort s (VWord v.width v.value) → HasSort s (VWord w.width w.value) → binary v.width v.value ≡ binary w.width w.value → v ≡ w
@@ -207,7 +205,7 @@ same_sorted s (held.Bool b) (held.Bool c) x a d p q = cc
 same_sorted s (held.Bool b) (held.Word c) x a d p q = let f : ⊥ = cc in absurd f
 same_sorted s (held.Word b) (held.Bool c) x a d p q = let f : ⊥ = cc in absurd f
 same_sorted s (held.Word b) (held.Word c) x a d p q =
-    let e : written.Word (binary b.width b.value) ≡ written.Word (binary c.width c.value) = some_back (written.Word (binary b.width b.value)) (written.Word (binary c.width c.value)) (Some x) (sym p) (sym q) in
+    let e : written.Word (binary b.width b.value) ≡ written.Word (binary c.width c.value) = same_found (Some x) (written.Word (binary b.width b.value)) (written.Word (binary c.width c.value)) (sym p) (sym q) in
     let f : binary b.width b.value ≡ binary c.width c.value = cc in
     ap held.Word (same_words s b c a d f)
 same_sorted s (held.Array b) w x a d p q = let f : ⊥ = cc in absurd f
@@ -307,7 +305,7 @@ judged_once (l ∷ ls) j cs o p a b =
 -- a header has one pair of limits
 pub same_limits : (l : Option Line) (limits bounds : Limits) → IsHeader l limits → IsHeader l bounds → limits ≡ bounds
 same_limits l limits bounds h k =
-    let e : line.Header limits.cubes limits.budget ≡ line.Header bounds.cubes bounds.budget = some_back _ _ l h.written k.written in
+    let e : line.Header limits.cubes limits.budget ≡ line.Header bounds.cubes bounds.budget = same_found l _ _ h.written k.written in
     let c : limits.cubes ≡ bounds.cubes = cc in
     let b : limits.budget ≡ bounds.budget = cc in
     (λ i. record { cubes = c i; budget = b i })

@@ -1,13 +1,11 @@
 -- States and logs that turns lead to.
-use Rattle.std.proofs.Common.{◌≡◌, ℕ, zero, suc, ◌<◌, List, [], ◌∷◌, ◌++◌, length, get_or, refl, sym, ap, ◌∙◌, subst, ⊎_elim, arith, append_assoc, append-nil, Option, Some, None}
+use Rattle.std.proofs.Common.{◌≡◌, ℕ, List, [], ◌∷◌, ◌++◌, refl, sym, ap, ◌∙◌, subst, ⊎_elim, arith, append_assoc, append-nil, Option, Some, None}
 use Rattle.std.specs.Prelude.{Contains, slice_get}
 use Rattle.std.proofs.lemmas.List.Elements.{Contains-append_cases}
 use Rattle.script_state.specs.Readings.{Reading}
 use Rattle.smt_terms.specs.declared.node.Node.{Node}
-use Rattle.smt_terms.specs.Terms.{TermsValue, IsTermList}
-use Rattle.smt_build.specs.Building.{Grows}
-use Rattle.smt_build.proofs.Growth.{grows_none, made_grows, none_declared}
-use Rattle.smt_build.proofs.Longer.{list_made}
+use Rattle.smt_terms.specs.Terms.{TermsValue}
+use Rattle.smt_build.proofs.Growth.{none_declared}
 use Rattle.script_state.specs.States.{StateValue, IsState, no_state}
 use Rattle.script_state.specs.Steps.{step}
 use Rattle.script_state.proofs.Asserting.{grown_state, standing_state}
@@ -15,23 +13,19 @@ use Rattle.script_state.proofs.Keeping.{step_goes_on}
 use Rattle.proof_log.specs.declared.entry.Entry.{Entry}
 use Rattle.proof_log.specs.declared.entry.Entry.TheVariants as entry
 use Rattle.proof_log.specs.Logs.{start, state_of, IsStep, IsLog}
-use Rattle.proof_log.specs.Faults.{IsValid, terms_after, with_node}
+use Rattle.proof_log.specs.Faults.{IsValid, terms_after}
 use Rattle.proof_log.proofs.Staying.{log_over, steps_append}
 use Rattle.proof_log.proofs.Settled.{valid_stands}
 use Rattle.proof_text.specs.declared.record.Record.{Record}
 use Rattle.accepted_proof.specs.Turns.{IsOfScript, with_step, with_steps, AreStepsOf, concluded_by, verdict_of}
+use Rattle.accepted_proof.proofs.Good.{step_grows, step_list}
+use Rattle.cnf_base.proofs.Lists.{Contains-one}
 
 -- A state, a log over its terms, and selectors that mean the terms of their assertions.
 pub record IsReached (s : StateValue) (log : List Entry) : Type 0 where
   pub state : IsState s
   pub steps : IsLog s.terms.nodes log
   pub selectors : (a t : ℕ) → Contains log (entry.Selector a t) → slice_get s.scopes.terms a ≡ Some t
-
-only : {X : Type 0} (x y : X) → Contains (x ∷ []) y → x ≡ y
-only x y c = go c.0 c.1 c.2 where
-  go : (k : ℕ) → k < 1 → get_or (x ∷ []) k y ≡ y → x ≡ y
-  go zero lt e = e
-  go (suc k) lt e = absurd (omega (arith, lt))
 
 -- a log is one over more terms
 longer_log : (nodes more others : List Node) (log : List Entry) → others ≡ nodes ++ more → IsLog nodes log → IsLog others log
@@ -62,21 +56,6 @@ terms_longer v (entry.Selector a t) = ([], sym (append-nil v.nodes))
 terms_longer v (entry.Chain c hints) = ([], sym (append-nil v.nodes))
 
 module _ (s : StateValue) (log : List Entry) (h : IsReached s log) where
-  -- the terms go on as those of a state do
-  pub grows_by_step : (e : Entry) → IsValid s.terms (state_of s.terms.nodes log) e → IsOfScript s e → Grows s.symbols.signatures s.terms (terms_after s.terms e)
-  grows_by_step (entry.Node n) valid of = made_grows s.symbols.signatures s.terms n of (length s.terms.nodes) (with_node s.terms n) valid.made
-  grows_by_step (entry.Leaf t) valid of = grows_none s.symbols.signatures s.terms
-  grows_by_step (entry.Encode t) valid of = grows_none s.symbols.signatures s.terms
-  grows_by_step (entry.Selector a t) valid of = grows_none s.symbols.signatures s.terms
-  grows_by_step (entry.Chain c hints) valid of = grows_none s.symbols.signatures s.terms
-
-  pub list_by_step : (e : Entry) → IsValid s.terms (state_of s.terms.nodes log) e → IsTermList (terms_after s.terms e).nodes
-  list_by_step (entry.Node n) valid = list_made s.terms (with_node s.terms n) n (length s.terms.nodes) valid.made h.state.terms
-  list_by_step (entry.Leaf t) valid = h.state.terms
-  list_by_step (entry.Encode t) valid = h.state.terms
-  list_by_step (entry.Selector a t) valid = h.state.terms
-  list_by_step (entry.Chain c hints) valid = h.state.terms
-
   log_by_step : (e : Entry) → IsValid s.terms (state_of s.terms.nodes log) e → IsLog (terms_after s.terms e).nodes (log ++ e ∷ [])
   log_by_step e valid =
       let more = terms_longer s.terms e in
@@ -87,13 +66,13 @@ module _ (s : StateValue) (log : List Entry) (h : IsReached s log) where
 
   selector_by_step : (e : Entry) → IsOfScript s e → (a t : ℕ) → Contains (e ∷ []) (entry.Selector a t) → slice_get s.scopes.terms a ≡ Some t
   selector_by_step e of a t c =
-      let same : e ≡ entry.Selector a t = only e (entry.Selector a t) c in
+      let same : e ≡ entry.Selector a t = Contains-one e (entry.Selector a t) c in
       let of_script : IsOfScript s (entry.Selector a t) = subst (IsOfScript s) same of in
       of_script
 
   pub reached_by_step : (e : Entry) → IsValid s.terms (state_of s.terms.nodes log) e → IsOfScript s e → IsReached (with_step s e) (log ++ e ∷ [])
   reached_by_step e valid of = record {
-    state = grown_state s (terms_after s.terms e) (grows_by_step e valid of) h.state (list_by_step e valid);
+    state = grown_state s (terms_after s.terms e) (step_grows s log e valid of) h.state (step_list s log e h.state valid);
     steps = log_by_step e valid;
     selectors = λ a t c. ⊎_elim (h.selectors a t) (selector_by_step e of a t) (Contains-append_cases log (e ∷ []) (entry.Selector a t) c);
   }

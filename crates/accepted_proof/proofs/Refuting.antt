@@ -1,9 +1,9 @@
 -- A refutation leaves no model of what its clause blames.
-use Rattle.std.proofs.Common.{◌≡◌, ℕ, ◌<◌, Bool, true, false, List, [], ◌∷◌, ◌++◌, length, get_or, refl, sym, ap, ◌∙◌, subst, inl, inr, Option, Some, arith}
+use Rattle.std.proofs.Common.{◌≡◌, ℕ, ◌<◌, Bool, true, false, List, [], ◌∷◌, ◌++◌, length, get_or, refl, sym, ap, ◌∙◌, subst, inl, inr, Option, Some}
 use Rattle.std.specs.Prelude.{◌||◌, not, is_some, All, filter, slice_get, if◌then◌else◌, ◌==◌}
 use Rattle.std.specs.List.{AllByRecursion}
 use Rattle.std.proofs.Math.Bool.{or-true}
-use Rattle.std.proofs.lemmas.Bool.{false≢true}
+use Rattle.std.proofs.lemmas.Bool.{false≢true, eq-eqb}
 use Rattle.std.proofs.lemmas.List.Elements.{All-contains, All-cons, All-head, All-nil, All-tail}
 use Rattle.cnf_base.specs.Literals.{Literal, negated, code_of}
 use Rattle.cnf_base.specs.Clauses.{lit_true, clause_true}
@@ -45,9 +45,7 @@ none_true f (l ∷ ls) h = rw (h.0, none_true f ls h.1) refl
 
 -- each literal of a clause stands in it
 stands_here : (l : Literal) (ls : List Literal) → stands (l ∷ ls) l ≡ true
-stands_here l ls = rw (same (code_of l)) refl where
-  same : (n : ℕ) → (n == n) ≡ true
-  same n = grind arith
+stands_here l ls = rw (eq-eqb (code_of l) (code_of l) refl) refl
 
 stands_behind : (k : Literal) (ls c : List Literal) → AllByRecursion (λ l. stands ls l ≡ true) c → AllByRecursion (λ l. stands (k ∷ ls) l ≡ true) c
 stands_behind k ls [] h = tt

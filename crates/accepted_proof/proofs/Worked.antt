@@ -1,5 +1,5 @@
 -- A worked check: the four clauses over p and q, which no assignment makes true together.
-use Rattle.std.proofs.Common.{◌≡◌, ℕ, zero, suc, ◌<◌, ◌≤◌, ◌^◌, Bool, true, false, not, List, [], ◌∷◌, ◌++◌, map, length, get_or, Option, Some, None, refl, sym, ap, ◌∙◌, subst, inl, inr, arith}
+use Rattle.std.proofs.Common.{◌≡◌, ℕ, ◌<◌, ◌≤◌, ◌^◌, Bool, true, false, not, List, [], ◌∷◌, ◌++◌, map, length, get_or, Option, Some, None, refl, sym, ap, ◌∙◌, subst, inl, inr, arith}
 use Rattle.std.specs.Prelude.{◌⊎◌, All, Contains, ltb}
 use Rattle.std.specs.List.{list_any, list_all, AllByRecursion}
 use Rattle.std.proofs.lemmas.Bool.{false≢true, ltb-true, and_parts}
@@ -7,6 +7,7 @@ use Rattle.std.proofs.lemmas.List.Elements.{All-cons, All-nil, Contains-get_or}
 use Rattle.std.proofs.lemmas.List.Folds.{list_any_none}
 use Rattle.cnf_base.specs.Literals.{Literal, negated, positive_of, negative_of}
 use Rattle.cnf_base.specs.declared.clause.ClauseId.{ClauseId}
+use Rattle.cnf_base.proofs.Lists.{each_member}
 use Rattle.hint_chain.specs.Chains.{IsFalse, IsUnit}
 use Rattle.smt_terms.specs.declared.sort.Sort.TheVariants as sort
 use Rattle.smt_terms.specs.declared.operator.Operator.TheVariants as plain
@@ -139,14 +140,6 @@ search = record {
 
 -- ---- what was put is good
 
-each_member : {A : Type 0} (P : A → Type 0) (xs : List A) → AllByRecursion P xs → (x : A) → Contains xs x → P x
-each_member {A = A} P xs h x c = go xs h c.0 c.1 c.2
-  where
-    go : (xs : List A) → AllByRecursion P xs → (k : ℕ) → k < length xs → get_or xs k x ≡ x → P x
-    go [] h k lt e = absurd (omega (arith, lt))
-    go (y ∷ ys) h zero lt e = subst P e h.0
-    go (y ∷ ys) h (suc k) lt e = go ys h.1 k (omega (arith, lt)) e
-
 absent : (clause : List Literal) (l : Literal) → stands clause l ≡ false → Contains clause l → ⊥
 absent clause l e c = false≢true (sym e ∙ standing_contained clause l c)
 
@@ -252,9 +245,9 @@ taken = given_literals limits state terms log 0
 
 good : IsGoodPut (subject_of limits state terms log 0 13) held learnt hints
 good = record {
-  no_pair = λ p. each_member (λ l. Contains learnt (negated l) → ⊥) learnt (absent learnt (negative_of 2) refl, (absent learnt (positive_of 8) refl, (absent learnt (positive_of 9) refl, tt))) p.0 p.1 p.2;
-  from_held = each_member (λ id. held id.pos ≡ true) hints (refl, (refl, (refl, (refl, tt))));
-  from_hints = each_member (StandsIn looked hints) learnt (
+  no_pair = λ p. each_member (λ l. Contains learnt (negated l) → ⊥) learnt p.0 (absent learnt (negative_of 2) refl, (absent learnt (positive_of 8) refl, (absent learnt (positive_of 9) refl, tt))) p.1 p.2;
+  from_held = λ id. each_member (λ id. held id.pos ≡ true) hints id (refl, (refl, (refl, (refl, tt))));
+  from_hints = λ l. each_member (StandsIn looked hints) learnt l (
     (part_of 3 2, second, (1, omega arith, refl), refl, contains_standing second (positive_of 2) refl),
     (
       (part_of 9 0, first, (0, omega arith, refl), refl, contains_standing first (negative_of 8) refl),
@@ -263,7 +256,7 @@ good = record {
   );
   used = used_first;
   is_new = is_new;
-  not_given = each_member (λ l. Contains taken l → ⊥) learnt (absent taken (positive_of 2) refl, (absent taken (negative_of 8) refl, (absent taken (negative_of 9) refl, tt)));
+  not_given = λ l. each_member (λ l. Contains taken l → ⊥) learnt l (absent taken (positive_of 2) refl, (absent taken (negative_of 8) refl, (absent taken (negative_of 9) refl, tt)));
 }
 
 -- so the check may be answered `unknown` with one `+` line

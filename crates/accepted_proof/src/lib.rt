@@ -17,6 +17,7 @@
 mod judging;
 mod laws;
 pub mod refusal;
+mod values;
 
 pub use judging::{
     accepted_proofs_are_judged, judged_proofs_are_accepted, proofs_are_judged_one_way,
@@ -26,3 +27,4 @@ pub use laws::{
     accepted_proofs_are_right, answers_are_right, answers_beside_proofs_are_right,
     scripts_are_read_one_way, split_variables_rise, what_is_printed_is_right,
 };
+pub use values::interp_of;

@@ -5,7 +5,7 @@ use Rattle.std.proofs.Math.Nat.{pow-suc}
 use Rattle.std.proofs.lemmas.Bool.{cases_lt}
 use Rattle.std.proofs.lemmas.List.{drop_all}
 use Rattle.cnf_base.specs.Literals.{Literal}
-use Rattle.proof_log.proofs.Growing.{each_append}
+use Rattle.cnf_base.proofs.Lists.{each_append}
 use Rattle.cube_tree.specs.Cubes.{cube_of, AreVariables}
 
 -- one variable more

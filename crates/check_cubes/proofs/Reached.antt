@@ -1,32 +1,22 @@
 -- Marks of the terms that some terms reach.
 use Rattle.std.proofs.Common.{◌≡◌, ℕ, zero, suc, ◌+◌, ◌<◌, ◌≤◌, Bool, true, false, List, [], ◌∷◌, ◌++◌, length, map, get_or, take, refl, sym, ap, ◌∙◌, subst, inl, inr, ⊎_elim, arith}
 use Rattle.std.specs.Prelude.{◌⊎◌, ◌==◌, ◌||◌, ltb, All}
-use Rattle.std.specs.List.{list_any, AllByRecursion}
-use Rattle.std.proofs.lemmas.Bool.{eqb-true, eq-eqb, cases_lt, ltb-true, and_parts}
+use Rattle.std.specs.List.{list_any}
+use Rattle.std.proofs.lemmas.Bool.{eqb-true, eq-eqb, cases_lt, ltb-true, and_parts, or_cases, or_left, or_right}
 use Rattle.std.proofs.lemmas.List.Elements.{All-from_recursion, recursion_from_All, All-weaker}
 use Rattle.std.proofs.lemmas.List.Folds.{Any-from_list_any, list_any-from_Any}
+use Rattle.std.proofs.lemmas.List.{take_all, get_or_default}
 use Rattle.smt_terms.specs.declared.node.Node.{Node}
 use Rattle.smt_terms.specs.Nodes.{node_at, at_term}
 use Rattle.smt_terms.specs.Terms.{IsTermList}
 use Rattle.smt_build.specs.Definitions.{reaches}
-use Rattle.smt_build.proofs.Marking.{reach_itself, reach_arguments, reach_closed, past_marks, any_default}
+use Rattle.smt_build.proofs.Marking.{reach_itself, reach_arguments, reach_closed, past_marks}
 use Rattle.scope_selectors.specs.declared.live.Live.{Live}
 use Rattle.script_state.specs.declared.answer.Asked.{Asked}
 use Rattle.script_state.specs.States.{StateValue, IsState, IsAssumption, assumptions}
-use Rattle.proof_log.proofs.Growing.{each_append}
 use Rattle.accepted_proof.specs.Searching.{is_reached}
 use Rattle.check_cubes.specs.Searches.{mark_of, AreReached}
-
-either : (a b : Bool) → (a || b) ≡ true → (a ≡ true) ⊎ (b ≡ true)
-either true b e = inl refl
-either false b e = inr e
-
-or_left : (a b : Bool) → a ≡ true → (a || b) ≡ true
-or_left a b e = ap (λ x. x || b) e
-
-or_right : (a b : Bool) → b ≡ true → (a || b) ≡ true
-or_right true b e = refl
-or_right false b e = e
+use Rattle.cnf_base.proofs.Lists.{each_append, each_map}
 
 -- one of the terms is this one
 abbrev pub is_among : List ℕ → ℕ → Bool
@@ -54,7 +44,7 @@ pub marked_within : (marks : List Bool) (t : ℕ) → mark_of marks t ≡ true �
 marked_within marks t e = ⊎_elim (λ lt. lt) (λ le. absurd (let z : ◌≡◌ {A = Bool} false true = sym (past_marks marks t le) ∙ e in let f : ⊥ = cc in f)) (cases_lt t (length marks))
 
 pub mark_here : (marks : List Bool) (b : ℕ) (r : Bool) → b < length marks → r ≡ get_or marks b r → r ≡ true → mark_of marks b ≡ true
-mark_here marks b r lt e t = any_default marks b false r lt ∙ sym e ∙ t
+mark_here marks b r lt e t = get_or_default marks b false r lt ∙ sym e ∙ t
 
 -- Marks of terms that are reached alone, the terms themselves among them, and from a bound on with all their arguments.
 pub record AreClosing (from : List ℕ) (nodes : List Node) (bound : ℕ) (marks : List Bool) : Type 0 where
@@ -102,7 +92,7 @@ module _ (from : List ℕ) (nodes : List Node) where
       count = count ∙ h.count;
       within = let w = h.within in omega (arith, w, next);
       begun = λ k d lt. kept (get_or from k d) (h.begun k d lt);
-      reached = λ t e. elim (either (mark_of old t) (is_among (node_at nodes b).args t) (sym (are t) ∙ e)) [
+      reached = λ t e. elim (or_cases (mark_of old t) (is_among (node_at nodes b).args t) (sym (are t) ∙ e)) [
         | inl m ↦ h.reached t m
         | inr m ↦ among_all (λ a. is_reached from nodes a ≡ true) (node_at nodes b).args t (from_arguments b (h.reached b here)) m
       ];
@@ -124,7 +114,7 @@ module _ (from : List ℕ) (nodes : List Node) where
       was : (t : ℕ) → b ≤ t → mark_of new t ≡ true → mark_of old t ≡ true
       was t le e = ⊎_elim (λ (m : mark_of old t ≡ true). m)
           (λ (m : is_among (node_at nodes b).args t ≡ true). absurd (let lt : t < b = among_all (λ a. a < b) (node_at nodes b).args t earlier m in omega (arith, lt, le)))
-          (either (mark_of old t) (is_among (node_at nodes b).args t) (sym (are t) ∙ e))
+          (or_cases (mark_of old t) (is_among (node_at nodes b).args t) (sym (are t) ∙ e))
 
       given : All (λ a. mark_of new a ≡ true) (node_at nodes b).args
       given k d lt = are (get_or (node_at nodes b).args k d) ∙ or_right (mark_of old (get_or (node_at nodes b).args k d)) _ (among_here (node_at nodes b).args k d lt)
@@ -166,25 +156,15 @@ term_of a = a.term
 abbrev term_asked : Asked → ℕ
 term_asked a = a.term
 
-mapped : {A : Type 0} (f : A → ℕ) (P : ℕ → Type 0) (xs : List A) → AllByRecursion (λ x. P (f x)) xs → AllByRecursion P (map f xs)
-mapped f P [] h = tt
-mapped f P (x ∷ xs) h = (h.0, mapped f P xs h.1)
-
-whole : {A : Type 0} (n : ℕ) (xs : List A) → length xs ≤ n → take n xs ≡ xs
-whole zero [] le = refl
-whole (suc n) [] le = refl
-whole zero (x ∷ xs) le = absurd (omega (arith, le))
-whole (suc n) (x ∷ xs) le = ap (λ l. x ∷ l) (whole n xs (omega (arith, le)))
-
 abbrev IsHeld : StateValue → ℕ → Type 0
 IsHeld s t = t < length s.terms.nodes
 
 pub roots_held : (s : StateValue) (found : List ℕ) (n : ℕ) → IsState s → length (assumptions s) ≤ n → found ≡ map (λ (a : Live). a.term) s.scopes.live ++ map (λ (a : Asked). a.term) (take n (assumptions s)) → All (λ t. t < length s.terms.nodes) found
-roots_held s found n is le e = subst (All (IsHeld s)) (sym (e ∙ ap (λ (asked : List Asked). map term_of s.scopes.live ++ map term_asked asked) (whole n (assumptions s) le))) held where
+roots_held s found n is le e = subst (All (IsHeld s)) (sym (e ∙ ap (λ (asked : List Asked). map term_of s.scopes.live ++ map term_asked asked) (take_all n (assumptions s) le))) held where
   held : All (IsHeld s) (map term_of s.scopes.live ++ map term_asked (assumptions s))
   held =
       All-from_recursion (IsHeld s) (map term_of s.scopes.live ++ map term_asked (assumptions s))
       (each_append (IsHeld s) (map term_of s.scopes.live) (map term_asked (assumptions s))
-      (mapped term_of (IsHeld s) s.scopes.live (recursion_from_All (λ (a : Live). IsHeld s a.term) s.scopes.live is.held))
-      (mapped term_asked (IsHeld s) (assumptions s) (recursion_from_All (λ (a : Asked). IsHeld s a.term) (assumptions s)
+      (each_map term_of (IsHeld s) s.scopes.live (recursion_from_All (λ (a : Live). IsHeld s a.term) s.scopes.live is.held))
+      (each_map term_asked (IsHeld s) (assumptions s) (recursion_from_All (λ (a : Asked). IsHeld s a.term) (assumptions s)
       (All-weaker (IsAssumption s.terms.nodes s.symbols.live) (λ (a : Asked). IsHeld s a.term) (λ a h. h.held) (assumptions s) is.assumed))))

@@ -15,6 +15,7 @@ use Rattle.proof_log.specs.Logs.{Asserted, LogState, entry_at, state_of}
 use Rattle.proof_log.specs.Diaries.{is_chain}
 use Rattle.proof_log.specs.Stored.{LogValue, IsKept, literal_of, selector_in}
 use Rattle.proof_log.proofs.Growth.{entry_within}
+use Rattle.proof_log.proofs.Standing.{some_literal}
 use Rattle.cube_tree.specs.Cubes.{cube_of}
 use Rattle.accepted_proof.specs.Searching.{Limits, cube_variables, selector_literals, bits_or_none, HasSelector, HasBit, given_literals, IsSearch}
 use Rattle.check_cubes.specs.Searches.{only, kept_selector, IsSelected, kept_bits, IsOneBit, AreChainsFrom}
@@ -50,14 +51,6 @@ chain_told log at e false here is = (e, sym here, sym is)
 
 pub no_step : (log : List Entry) (at : ℕ) → ◌≡◌ {A = Option Entry} None (entry_at log at) → (d : Entry) → entry_at log at ≡ Some d → is_chain (Some d) ≡ true
 no_step log at none d h = absurd (let z : ◌≡◌ {A = Option Entry} None (Some d) = none ∙ h in let f : ⊥ = cc in f)
-
-pub match_true : (P Q : Type 0) (b : Bool) → MatchBool b P Q → b ≡ true → P
-match_true P Q true h e = h
-match_true P Q false h e = absurd (let f : ⊥ = cc in f)
-
-pub match_false : (P Q : Type 0) (b : Bool) → MatchBool b P Q → b ≡ false → Q
-match_false P Q false h e = h
-match_false P Q true h e = absurd (let f : ⊥ = cc in f)
 
 -- ---- what is given
 
@@ -114,16 +107,12 @@ selected_literal : (o : Option Asserted) → option_to_list (literal_of o) ≡ m
 selected_literal None = refl
 selected_literal (Some r) = refl
 
-has_asserted : (o : Option Asserted) (l : Literal) → literal_of o ≡ Some l → (r : Asserted) × (o ≡ Some r)
-has_asserted None l e = let f : ⊥ = cc in absurd f
-has_asserted (Some r) l e = (r, refl)
-
 module _ (s : StateValue) (log : LogValue) (kept : IsKept s.terms.nodes log) where
   abbrev after : LogState
   after = state_of s.terms.nodes log.entries
 
   has_selector : (a : Live) → IsSelected log.selectors a → HasSelector after a
-  has_selector a h = has_asserted (after.selectors a.assertion) h.0 (sym (kept.selectors a.assertion) ∙ h.1)
+  has_selector a h = let r = some_literal (after.selectors a.assertion) h.0 (sym (kept.selectors a.assertion) ∙ h.1) in (r.0, r.1)
 
   is_selected : (a : Live) → HasSelector after a → IsSelected log.selectors a
   is_selected a h = (h.0.literal, kept.selectors a.assertion ∙ ap literal_of h.1)

@@ -7,6 +7,7 @@ use Rattle.std.proofs.lemmas.List.Elements.{All-contains, All-cons, All-from_rec
 use Rattle.cnf_base.specs.Literals.{Literal}
 use Rattle.cnf_base.specs.Clauses.{lit_true}
 use Rattle.cnf_base.specs.Assignments.{AreBelow}
+use Rattle.cnf_base.proofs.Options.{same_found}
 use Rattle.smt_terms.specs.declared.node.Node.{Node}
 use Rattle.smt_terms.specs.Bits.{bits_in}
 use Rattle.smt_terms.specs.Nodes.{node_at}
@@ -24,8 +25,9 @@ use Rattle.proof_log.specs.Diaries.{IsSpent}
 use Rattle.proof_log.specs.Logs.{Asserted, LogState, clause_at, constant_width, entry_at, state_of}
 use Rattle.proof_log.specs.Stored.{LogValue, Stands, selector_in}
 use Rattle.proof_log.proofs.Growth.{entry_within, grown_keeps}
-use Rattle.proof_log.proofs.Standing.{stands_over}
+use Rattle.proof_log.proofs.Standing.{stands_over, some_literal}
 use Rattle.cube_tree.specs.Cubes.{cube_of}
+use Rattle.cube_tree.proofs.Resolving.{members}
 use Rattle.cube_search.specs.Ends.{IsModel, assignment}
 use Rattle.proof_text.specs.Records.{AreWritten}
 use Rattle.proof_text.specs.declared.record.Record.{Record}
@@ -40,11 +42,11 @@ use Rattle.smt_session.specs.declared.solve.Found.{Found}
 use Rattle.smt_session.specs.declared.solve.Found.TheVariants as found
 use Rattle.smt_session.specs.Searched.{IsTermStep, IsAssertionStep, IsStepOf, AreEnough, AreSatisfied, HasTrueSelector, HasTrueBit, IsProblem, IsLowestSpent, IsFound, problem}
 use Rattle.smt_session.specs.Sessions.{IsSession, IsChecked}
-use Rattle.smt_session.proofs.Cubes.{members, grown_chain}
+use Rattle.smt_session.proofs.Cubes.{grown_chain}
 use Rattle.smt_session.proofs.Giving.{given_below, given_stays, selectors_true, true_bits}
 use Rattle.smt_session.proofs.Roots.{roots_live}
 use Rattle.smt_session.proofs.Satisfied.{satisfied}
-use Rattle.smt_session.proofs.Staying.{some_literal, grows_more, grown_steps}
+use Rattle.smt_session.proofs.Staying.{grows_more, grown_steps}
 use Rattle.smt_session.proofs.Turning.{refutation, true_selectors, grows_by_searches}
 
 -- ---- what is searched
@@ -69,16 +71,13 @@ entry_among log (suc k) e h = go log k h
     go (x ∷ log) zero h = let q : x ≡ e = cc in (zero, omega arith, q)
     go (x ∷ log) (suc k) h = let r = go log k h in (suc r.0, omega (arith, r.1), r.2)
 
-same_term : (x y : ℕ) (o : Option ℕ) → o ≡ Some x → o ≡ Some y → x ≡ y
-same_term x y o e f = let q : Some x ≡ Some y = sym e ∙ f in cc
-
 module _ (s : StateValue) (log : LogValue) (session : IsSession s log) (positions : List ℕ) (enough : AreEnough s.terms.nodes log (roots s) s.scopes.live positions) where
   -- the selector of a live assertion stands for its term, which is reached
   selector_reached : (a : Live) (p t : ℕ) → Contains s.scopes.live a → entry_at log.entries p ≡ Some (step.Selector a.assertion t) → Contains enough.reached t
   selector_reached a p t live e =
       let known = All-contains (λ (b : Live). slice_get s.scopes.terms b.assertion ≡ Some b.term) s.scopes.live a session.state.scopes.known live in
       let for_script = All-contains (IsStepFor s) log.entries (step.Selector a.assertion t) (All-from_recursion (IsStepFor s) log.entries session.each) (entry_among log.entries p (step.Selector a.assertion t) e) in
-      subst (Contains enough.reached) (same_term a.term t _ known for_script.1)
+      subst (Contains enough.reached) (same_found _ a.term t known for_script.1)
       (All-contains (λ (b : Live). Contains enough.reached b.term) s.scopes.live a (roots_live (Contains enough.reached) s enough.among) live)
 
   of_terms : (p : ℕ) → Contains positions p → IsOfTerms log.entries enough.reached p

@@ -6,6 +6,7 @@ use Rattle.std.proofs.lemmas.List.{map-append, take_more}
 use Rattle.std.proofs.lemmas.List.Elements.{filter-append}
 use Rattle.std.specs.Ordering.{nat_cmp}
 use Rattle.std.specs.BTreeSet.{BTreeSet, contains}
+use Rattle.std.proofs.lemmas.Grind.{flat_map-append}
 use Rattle.cnf_base.specs.Literals.{Literal, negated, code_of}
 use Rattle.smt_terms.specs.declared.node.Node.{Node}
 use Rattle.smt_terms.specs.Bits.{bits_in}
@@ -20,7 +21,6 @@ use Rattle.proof_text.specs.declared.record.Record.{Record}
 use Rattle.proof_text.specs.declared.record.Record.TheVariants.{Unsat}
 use Rattle.accepted_proof.specs.Cores.{negation_stands, bit_stands, is_blamed, is_blamed_assumption, refuting_clause}
 use Rattle.smt_session.specs.Blaming.{AreCodes}
-use Rattle.smt_session.proofs.Printing.{flat_map_append}
 
 -- ---- one of them
 
@@ -73,7 +73,7 @@ filter_more test xs k x lt at =
     ∙ ap (λ y. filter test (take k xs) ++ cond (test y) (y ∷ []) []) (sym at)
 
 texts_append : (xs ys : List Live) → name_texts (xs ++ ys) ≡ name_texts xs ++ name_texts ys
-texts_append xs ys = ap (map symbol_text) (flat_map_append names xs ys) ∙ map-append symbol_text (flat_map names xs) (flat_map names ys)
+texts_append xs ys = ap (map symbol_text) (flat_map-append names xs ys) ∙ map-append symbol_text (flat_map names xs) (flat_map names ys)
 
 pub names_more : (test : Live → Bool) (live : List Live) (items more : List (List ℕ)) (k : ℕ) (a : Live) → k < length live → a ≡ get_or live k a → test a ≡ true → items ≡ name_texts (filter test (take k live)) → more ≡ items ++ map symbol_text (option_to_list a.name) → more ≡ name_texts (filter test (take (k + 1) live))
 names_more test live items more k a lt at blamed before e =

@@ -1,13 +1,14 @@
 -- The search of a check's cubes, one after the other, over a log that grows by chains.
-use Rattle.std.proofs.Common.{◌≡◌, ℕ, zero, suc, ◌+◌, ◌/◌, ◌<◌, ◌≤◌, true, false, List, [], ◌∷◌, ◌++◌, length, get_or, Option, Some, None, refl, sym, ap, ◌∙◌, subst, inl, inr, ⊎_elim, arith, length-append}
-use Rattle.std.specs.Prelude.{◌⊎◌, All, Contains, is_some, slice_get}
+use Rattle.std.proofs.Common.{◌≡◌, ℕ, zero, suc, ◌+◌, ◌/◌, ◌<◌, ◌≤◌, true, List, [], ◌∷◌, ◌++◌, length, Option, Some, None, refl, sym, ap, ◌∙◌, subst, inl, inr, ⊎_elim, arith, length-append}
+use Rattle.std.specs.Prelude.{◌⊎◌, Contains, slice_get}
 use Rattle.std.specs.List.{AllByRecursion}
 use Rattle.std.proofs.lemmas.Bool.{cases_lt}
-use Rattle.std.proofs.lemmas.List.Elements.{All-weaker, Contains-append_cases, Contains-get_or, recursion_from_All}
+use Rattle.std.proofs.lemmas.List.Elements.{All-weaker, Contains-append_cases, recursion_from_All}
 use Rattle.cnf_base.specs.Literals.{Literal, negated}
 use Rattle.cnf_base.specs.Assignments.{AreBelow}
 use Rattle.cnf_base.specs.declared.clause.ClauseId.{ClauseId}
 use Rattle.cnf_base.proofs.Agreeing.{AreBelow-more}
+use Rattle.cnf_base.proofs.Lists.{each_append, slice_get-there, slice_get-push_cases}
 use Rattle.smt_terms.specs.declared.node.Node.{Node}
 use Rattle.proof_log.specs.declared.entry.Entry.{Entry}
 use Rattle.proof_log.specs.declared.entry.Entry.TheVariants as step
@@ -15,7 +16,6 @@ use Rattle.proof_log.specs.declared.diary.Diary.{Diary}
 use Rattle.proof_log.specs.Logs.{clause_at, entry_at, state_of, IsLog}
 use Rattle.proof_log.specs.Boards.{Grows, IsOfSearch}
 use Rattle.proof_log.specs.Diaries.{is_chain}
-use Rattle.proof_log.proofs.Growing.{each_append}
 use Rattle.proof_log.proofs.Growth.{grown_holds, grown_length, clause_stays, clause_place, entry_stays}
 use Rattle.proof_log.proofs.Lines.{diary_longer}
 use Rattle.cube_tree.specs.Cubes.{cube_of}
@@ -23,11 +23,9 @@ use Rattle.proof_log.specs.Stored.{LogValue, Stands}
 use Rattle.proof_log.proofs.Standing.{stands_over}
 use Rattle.hint_chain.specs.Chains.{Lookup}
 use Rattle.cube_tree.specs.Closing.{IsClosing, Closes, AreClosing, HaveClauses, first_of}
+use Rattle.cube_tree.proofs.Resolving.{members}
 use Rattle.cube_search.specs.Holding.{AreSeparate, Occurs}
 use Rattle.smt_session.specs.Searched.{Problem, look_in, given_in, subject_in, IsProblem, IsSpentCube, IsClosed, IsLowestSpent, AreTried}
-
-pub members : (P : Literal → Type 0) (xs : List Literal) → ((l : Literal) → Contains xs l → P l) → All P xs
-members P xs h = λ k d lt. h (get_or xs k d) (Contains-get_or xs k d lt)
 
 -- ---- a log that grew by chains
 
@@ -138,12 +136,6 @@ tried_none p log closed spent e f =
     subst (λ o. AreTried p log 0 closed o) (sym f)
     (subst (λ (l : List ℕ). AreTried p log 0 l None) (sym e) (refl, λ n at q. let x : ⊥ = cc in absurd x))
 
-push_cases : (xs : List ℕ) (x n y : ℕ) → slice_get (xs ++ x ∷ []) n ≡ Some y → (slice_get xs n ≡ Some y) ⊎ ((n ≡ length xs) × (x ≡ y))
-push_cases [] x zero y e = inr (refl, (let q : x ≡ y = cc in q))
-push_cases [] x (suc n) y e = let q : ⊥ = cc in absurd q
-push_cases (z ∷ zs) x zero y e = inl e
-push_cases (z ∷ zs) x (suc n) y e = ⊎_elim (λ q. inl q) (λ q. inr (ap suc q.0, q.1)) (push_cases zs x n y e)
-
 -- the next is closed, where all before are
 pub closed_more : (p : Problem) (log : List Entry) (cube at : ℕ) (closed new : List ℕ) (spent : Option Diary) → spent ≡ None → new ≡ closed ++ at ∷ [] → AreTried p log cube closed spent → Closes (look_in p log) p.assumed (cube_of p.variables cube) at → AreTried p log (cube + 1) new spent
 closed_more p log cube at closed new spent none e h here =
@@ -155,7 +147,7 @@ closed_more p log cube at closed new spent none e h here =
           ⊎_elim
           (λ was. old.1 n place was)
           (λ (last : (n ≡ length closed) × (at ≡ place)). subst (λ y. Closes (look_in p log) p.assumed (cube_of p.variables n) y) last.1 (subst (λ m. Closes (look_in p log) p.assumed (cube_of p.variables m) at) (sym (last.0 ∙ old.0)) here))
-          (push_cases closed at n place q),
+          (slice_get-push_cases closed at place n q),
     ))
 
 -- where one was spent before, the next changes nothing
@@ -163,22 +155,13 @@ pub still_spent : (p : Problem) (log : List Entry) (cube more : ℕ) (closed : L
 still_spent p log cube more closed spent d e h =
     subst (λ o. AreTried p log more closed o) (sym e) (let old : IsLowestSpent p log d = subst (λ o. AreTried p log cube closed o) e h in old)
 
-at_index : (xs : List ℕ) (n : ℕ) → n < length xs → (x : ℕ) × (slice_get xs n ≡ Some x)
-at_index [] n lt = absurd (omega (arith, lt))
-at_index (x ∷ xs) zero lt = (x, refl)
-at_index (x ∷ xs) (suc n) lt = at_index xs n (omega (arith, lt))
-
-pub none_of : {A : Type 0} (o : Option A) → is_some o ≡ false → o ≡ None
-none_of None e = refl
-none_of (Some x) e = let q : ⊥ = cc in absurd q
-
 -- the next is the lowest that is spent, where all before are closed
 pub spent_next : (p : Problem) (log : List Entry) (cube : ℕ) (closed : List ℕ) (spent : Option Diary) (d : Diary) → spent ≡ None → AreTried p log cube closed spent → d.cube ≡ cube → IsSpentCube p log d → IsLowestSpent p log d
 spent_next p log cube closed spent d none h e own =
     let old : (length closed ≡ cube) × AreClosing (look_in p log) p.assumed p.variables closed = subst (λ o. AreTried p log cube closed o) none h in
     record {
       own = own;
-      lower = λ n lt. (let at = at_index closed n (omega (arith, lt, e, old.0)) in (at.0, old.1 n at.0 at.1));
+      lower = λ n lt. (let at = slice_get-there closed n (omega (arith, lt, e, old.0)) in (at.0, old.1 n at.0 at.1));
     }
 
 -- ---- all cubes

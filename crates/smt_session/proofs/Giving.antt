@@ -2,10 +2,12 @@
 use Rattle.std.proofs.Common.{◌≡◌, ℕ, zero, suc, ◌+◌, ◌<◌, Bool, true, List, [], ◌∷◌, ◌++◌, length, get_or, take, Option, Some, refl, sym, ap, ◌∙◌, subst, arith}
 use Rattle.std.specs.Prelude.{map, All, Contains}
 use Rattle.std.specs.List.{AllByRecursion}
-use Rattle.std.proofs.lemmas.List.{take_more}
+use Rattle.std.proofs.lemmas.List.{take_more, map_push}
 use Rattle.cnf_base.specs.Literals.{Literal}
 use Rattle.cnf_base.specs.Clauses.{lit_true}
 use Rattle.cnf_base.specs.Assignments.{AreBelow}
+use Rattle.cnf_base.proofs.Lists.{each_append}
+use Rattle.cnf_base.proofs.Options.{some_value}
 use Rattle.smt_terms.specs.declared.sort.Sort.{Sort}
 use Rattle.smt_terms.specs.declared.sort.Sort.TheVariants as sort
 use Rattle.smt_terms.specs.declared.node.Node.{Node}
@@ -16,15 +18,14 @@ use Rattle.script_state.specs.declared.answer.Asked.{Asked}
 use Rattle.script_state.specs.States.{StateValue, IsState, IsAssumption, assumptions}
 use Rattle.proof_log.specs.Logs.{plain_width, state_of}
 use Rattle.proof_log.specs.Stored.{LogValue, Stands, selector_in}
-use Rattle.proof_log.proofs.Growing.{each_append}
 use Rattle.proof_log.proofs.Ordered.{log_is_ordered}
 use Rattle.proof_log.proofs.Settled.{stands_settled}
-use Rattle.proof_log.proofs.Standing.{stands_over}
+use Rattle.proof_log.proofs.Standing.{stands_over, some_literal}
 use Rattle.smt_session.specs.Growing.{Grows, HasBit, HasBits, AreBits, AreGiven, AreSelectors}
 use Rattle.accepted_proof.specs.Searching.{roots}
 use Rattle.smt_session.specs.Searched.{HasTrueBit}
 use Rattle.smt_session.proofs.Roots.{each_front, each_behind, roots_assumed}
-use Rattle.smt_session.proofs.Staying.{some_value, some_literal, bit_stays, bits_stay, selectors_stay}
+use Rattle.smt_session.proofs.Staying.{bit_stays, bits_stay, selectors_stay}
 
 -- ---- bits
 
@@ -53,10 +54,6 @@ assumed_bits s old new is h g has = λ k d lt.
 
 abbrev one : Literal → Option (List Literal)
 one l = Some (l ∷ [])
-
-map_push : {A B : Type 0} (f : A → B) (xs : List A) (x : A) → map f (xs ++ x ∷ []) ≡ map f xs ++ f x ∷ []
-map_push f [] x = refl
-map_push f (y ∷ xs) x = ap (λ r. f y ∷ r) (map_push f xs x)
 
 pub bits_more : (l : LogValue) (asked : List Asked) (bits more : List Literal) (k : ℕ) (a : Asked) (x : Literal) → k < length asked → a ≡ get_or asked k a → AreBits l (take k asked) bits → bits_in l.bits a.term ≡ Some (x ∷ []) → more ≡ bits ++ x ∷ [] → AreBits l (take (k + 1) asked) more
 bits_more l asked bits more k a x lt at h here e =

@@ -2,6 +2,7 @@
 use Rattle.std.proofs.Common.{◌≡◌, ℕ, ◌+◌, ◌<◌, ◌≤◌, List, [], ◌∷◌, ◌++◌, length, get_or, take, Option, Some, refl, sym, ap, ◌∙◌, subst, inl, inr}
 use Rattle.std.specs.Prelude.{All, Contains, IsSome}
 use Rattle.std.proofs.lemmas.List.Elements.{All-append, All-more, All-push, All-weaker, Contains-append_left, Contains-append_right, Contains-get_or, Contains-push}
+use Rattle.std.proofs.lemmas.List.{take_all}
 use Rattle.smt_terms.specs.declared.node.Node.{Node}
 use Rattle.smt_terms.specs.Bits.{bits_in}
 use Rattle.scope_selectors.specs.declared.live.Live.{Live}
@@ -10,8 +11,7 @@ use Rattle.proof_log.specs.Stored.{LogValue, Stands, selector_in}
 use Rattle.proof_log.proofs.Placed.{bits_placed, selector_placed}
 use Rattle.smt_session.specs.Growing.{HasBits}
 use Rattle.smt_session.specs.Searched.{IsHeldTerm, IsHeldAssertion, IsTermStep, IsAssertionStep, IsStepOf, ArePositions}
-use Rattle.smt_session.proofs.Printing.{take_all}
-use Rattle.smt_session.proofs.Staying.{some_value}
+use Rattle.cnf_base.proofs.Options.{some_value}
 
 -- what is found is the position of a step
 pub term_placed : (nodes : List Node) (log : LogValue) (t : ℕ) (o : Option ℕ) → Stands nodes log → HasBits log t → IsPlaceOf (GivesBits log.entries t) o → IsSome o

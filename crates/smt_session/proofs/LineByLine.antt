@@ -1,26 +1,27 @@
 -- Lines that can be read, one after the other.
-use Rattle.std.proofs.Common.{◌≡◌, ℕ, zero, suc, ◌+◌, ◌-◌, ◌^◌, ◌<◌, ◌≤◌, List, [], ◌∷◌, length, get_or, take, drop, Option, Some, None, refl, sym, ap, subst, arith, length-drop}
-use Rattle.std.specs.Prelude.{map, IfSome, slice_get, option_to_list}
+use Rattle.std.proofs.Common.{◌≡◌, ℕ, zero, suc, ◌+◌, ◌-◌, ◌^◌, ◌<◌, ◌≤◌, List, [], ◌∷◌, length, get_or, take, drop, Option, Some, None, sym, subst, arith, length-drop}
+use Rattle.std.specs.Prelude.{IfSome, slice_get, option_to_list}
 use Rattle.std.specs.List.{AllByRecursion, flat_map}
 use Rattle.std.specs.Option.{option_map}
-use Rattle.std.proofs.lemmas.List.{take_more}
+use Rattle.std.proofs.lemmas.List.{take_more, take_all}
 use Rattle.smt_terms.specs.declared.node.Node.{Node}
 use Rattle.smt_values.specs.declared.value.Value.{Value}
 use Rattle.smt_values.specs.declared.value.Value.TheVariants as kept
 use Rattle.proof_log.specs.declared.entry.Entry.{Entry}
 use Rattle.proof_log.specs.declared.entry.Entry.TheVariants as step
 use Rattle.proof_log.specs.Logs.{entry_at}
-use Rattle.proof_log.proofs.Growing.{each_append}
 use Rattle.proof_text.specs.declared.line.Head.{Head}
 use Rattle.proof_text.specs.declared.line.Line.TheVariants.{Term}
 use Rattle.proof_text.specs.Lines.{IsNumber, IsHead, IsLine}
 use Rattle.proof_text.specs.Entries.{head_of}
-use Rattle.proof_text.specs.Records.{binary, value_lines, record_lines}
+use Rattle.proof_text.specs.Records.{value_lines, record_lines}
 use Rattle.proof_text.specs.declared.record.Record.{Record}
 use Rattle.proof_text.specs.declared.record.Record.TheVariants.{Sat}
 use Rattle.accepted_proof.specs.Answers.{step_lines}
+use Rattle.accepted_proof.proofs.Valuing.{binary_length}
 use Rattle.smt_session.specs.Reads.{IsReadable, HasDigit}
-use Rattle.smt_session.proofs.Printing.{take_all, front, dropped, entry_of}
+use Rattle.smt_session.proofs.Printing.{front, dropped, entry_of}
+use Rattle.cnf_base.proofs.Lists.{each_append}
 
 -- ---- lists
 
@@ -29,10 +30,6 @@ each_more P xs k d lt h p = subst (AllByRecursion P) (sym (take_more xs k d lt))
 
 pub each_all : {A : Type 0} (P : A → Type 0) (xs : List A) (k : ℕ) → length xs ≤ k → AllByRecursion P (take k xs) → AllByRecursion P xs
 each_all P xs k le h = subst (AllByRecursion P) (take_all k xs le) h
-
-pub each_mapped : {A B : Type 0} (f : A → B) (P : B → Type 0) (xs : List A) → AllByRecursion (λ x. P (f x)) xs → AllByRecursion P (map f xs)
-each_mapped f P [] h = tt
-each_mapped f P (x ∷ xs) h = (h.0, each_mapped f P xs h.1)
 
 pub each_flat : {A B : Type 0} (f : A → List B) (P : B → Type 0) (xs : List A) → AllByRecursion (λ x. AllByRecursion P (f x)) xs → AllByRecursion P (flat_map f xs)
 each_flat f P [] h = tt
@@ -50,11 +47,6 @@ node_readable n h k = of_head (head_of n.op) n.args h k
 pub steps_readable : (es : List Entry) → AllByRecursion IsReadable es → AllByRecursion IsLine (step_lines es)
 steps_readable es h = each_flat _ IsLine es h
 
-pub digits : (width x : ℕ) → length (binary width x) ≡ width
-unfolding binary
-digits zero x = refl
-digits (suc n) x = ap suc (digits n x)
-
 pub all_readable : (es : List Entry) (from at : ℕ) → 0 < from → suc (length es) ≤ at → AllByRecursion IsReadable (take (at - from) (drop (from - 1) es)) → AllByRecursion IsLine (step_lines (drop (from - 1) es))
 all_readable es from at lt le h = steps_readable (drop (from - 1) es) (each_all IsReadable (drop (from - 1) es) (at - from) (omega (arith, length-drop (from - 1) es)) h)
 
@@ -70,7 +62,7 @@ next_readable es from at e lt le i r h =
 
 declared_readable : (d : ℕ) (x : Value) → d < 2 ^ 64 → HasDigit x → AllByRecursion IsLine (value_lines (d, x))
 declared_readable d (kept.Bool b) lt h = ((lt, tt), tt)
-declared_readable d (kept.Word w) lt h = ((lt, subst (λ n. 0 < n) (sym (digits w.width w.value)) h), tt)
+declared_readable d (kept.Word w) lt h = ((lt, subst (λ n. 0 < n) (sym (binary_length w.width w.value)) h), tt)
 declared_readable d (kept.Array a) lt h = tt
 declared_readable d (kept.Fun f) lt h = tt
 

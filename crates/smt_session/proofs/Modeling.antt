@@ -1,14 +1,15 @@
 -- The values of declarations are a model of the live assertions and the assumptions.
-use Rattle.std.proofs.Common.{◌≡◌, ℕ, zero, suc, ◌+◌, ◌*◌, ◌%◌, ◌^◌, ◌<◌, ◌≤◌, Bool, true, false, List, [], ◌∷◌, ◌++◌, length, get_or, map, take, Some, None, Ok, refl, sym, ap, ◌∙◌, subst, arith}
+use Rattle.std.proofs.Common.{◌≡◌, ℕ, zero, suc, ◌+◌, ◌^◌, ◌<◌, ◌≤◌, Bool, true, false, List, [], ◌∷◌, ◌++◌, length, get_or, map, take, Some, None, Ok, refl, sym, ap, ◌∙◌, subst, arith}
 use Rattle.std.specs.Prelude.{◌==◌, ◌||◌, not, if◌then◌else◌, All, Contains, Option, IsSome, position, slice_get}
 use Rattle.std.specs.List.{AllByRecursion}
-use Rattle.std.proofs.lemmas.Nat.{mod-mul-add}
 use Rattle.std.proofs.lemmas.Bool.{eqb-true, eq-eqb}
-use Rattle.std.proofs.lemmas.List.{take_more}
+use Rattle.std.proofs.lemmas.List.{take_more, map_push}
 use Rattle.std.proofs.lemmas.Option.{slice_get-get_or, slice_get_read, slice_get_within}
+use Rattle.std.proofs.Math.Nat.{mod-eq_of_lt}
 use Rattle.cnf_base.specs.Literals.{Literal}
 use Rattle.cnf_base.specs.Clauses.{lit_true, number}
 use Rattle.cnf_base.proofs.Numbers.{number_lt}
+use Rattle.cnf_base.proofs.Lists.{each_append}
 use Rattle.smt_words.specs.Words.{WordValue, word}
 use Rattle.smt_terms.specs.declared.sort.Sort.{Sort}
 use Rattle.smt_terms.specs.declared.sort.Sort.TheVariants as sort
@@ -179,19 +180,11 @@ word_long s n row is bounded w =
 
 -- ---- the values of all
 
-each_push : {A : Type 0} (P : A → Type 0) (xs : List A) (x : A) → AllByRecursion P xs → P x → AllByRecursion P (xs ++ x ∷ [])
-each_push P [] x h k = (k, tt)
-each_push P (y ∷ xs) x h k = (h.0, each_push P xs x h.1 k)
-
-map_push : {A B : Type 0} (f : A → B) (xs : List A) (x : A) → map f (xs ++ x ∷ []) ≡ map f xs ++ f x ∷ []
-map_push f [] x = refl
-map_push f (y ∷ xs) x = ap (λ r. f y ∷ r) (map_push f xs x)
-
 pub items_more : (s : StateValue) (log : LogValue) (v : ℕ → Bool) (live : List LiveName) (items : List (ℕ × Value)) (l : LiveName) (x : Value) → AreDeclaredValues s log v live items
     → IsDeclaredValue s.symbols.signatures s.terms.nodes log v (l.declaration, x) → AreDeclaredValues s log v (live ++ l ∷ []) (items ++ (l.declaration, x) ∷ [])
 items_more s log v live items l x h k = record {
   listed = map_push (λ (p : ℕ × Value). p.0) items (l.declaration, x) ∙ ap (λ r. r ++ l.declaration ∷ []) h.listed ∙ sym (map_push (λ (y : LiveName). y.declaration) live l);
-  each = each_push (IsDeclaredValue s.symbols.signatures s.terms.nodes log v) items (l.declaration, x) h.each k;
+  each = each_append (IsDeclaredValue s.symbols.signatures s.terms.nodes log v) items ((l.declaration, x) ∷ []) h.each (k, tt);
 }
 
 -- a live declaration has its signature
@@ -236,12 +229,9 @@ value_found P (p ∷ ps) d k h e = go (d == p.0) refl k (λ j q. value_found P p
     go false q zero rest e = let r : p.0 ≡ d = cc in let t : (d == p.0) ≡ true = eq-eqb d p.0 (sym r) in let f : ⊥ = cc in absurd f
     go false q (suc k) rest e = rest k e
 
-mod_small : (x w : ℕ) → x < w → x % w ≡ x
-mod_small x w lt = let e : x ≡ 0 * w + x = omega arith in ap (λ z. z % w) e ∙ mod-mul-add 0 w x lt
-
 read_same : (s : Sort) (n : ℕ) (x : of.Value) → plain_width s ≡ Some n → HasSort s x → read_at s x ≡ x
 read_same sort.Bool n x w h = subst (λ y. read_at sort.Bool y ≡ y) (sym h.1) refl
-read_same (sort.Word m) n x w h = subst (λ y. read_at (sort.Word m) y ≡ y) (sym h.1) (ap (of.VWord m) (mod_small h.0 (2 ^ m) h.2))
+read_same (sort.Word m) n x w h = subst (λ y. read_at (sort.Word m) y ≡ y) (sym h.1) (ap (of.VWord m) (mod-eq_of_lt h.2))
 read_same (sort.Array m k) n x w h = let q : ⊥ = cc in absurd q
 
 -- where a live name has a declaration
@@ -268,7 +258,7 @@ value_by_bits v sort.Bool (l ∷ []) w = (l, refl, refl)
 value_by_bits v sort.Bool (l ∷ m ∷ ls) w = let q : 1 ≡ suc (suc (length ls)) = cc in absurd (omega (arith, q))
 value_by_bits v (sort.Word n) b w =
     let width : length b ≡ n = width_is (sort.Word n) n (length b) refl w in
-    (width, ap (of.VWord n) (mod_small (number v b) (2 ^ n) (subst (λ k. number v b < 2 ^ k) width (number_lt v b))))
+    (width, ap (of.VWord n) (mod-eq_of_lt (subst (λ k. number v b < 2 ^ k) width (number_lt v b))))
 value_by_bits v (sort.Array n m) b w = let q : ⊥ = cc in absurd q
 
 -- the value that an assignment gives to a term, if it is there and has bits

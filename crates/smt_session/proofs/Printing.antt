@@ -1,7 +1,9 @@
 -- The text of the lines of steps.
-use Rattle.std.proofs.Common.{◌≡◌, ℕ, zero, suc, ◌+◌, ◌-◌, ◌<◌, ◌≤◌, List, [], ◌∷◌, ◌++◌, length, take, drop, Option, Some, None, refl, sym, ap, ◌∙◌, subst, append_assoc, append-nil, arith, length-drop}
+use Rattle.std.proofs.Common.{◌≡◌, ℕ, zero, suc, ◌+◌, ◌-◌, ◌<◌, ◌≤◌, List, [], ◌∷◌, ◌++◌, length, take, drop, Option, Some, None, sym, ap, ◌∙◌, subst, append_assoc, append-nil, arith, length-drop}
 use Rattle.std.specs.Prelude.{slice_get, IsSome, IfSome, option_to_list}
 use Rattle.std.specs.List.{flat_map}
+use Rattle.std.proofs.lemmas.List.{take_all}
+use Rattle.std.proofs.lemmas.Grind.{flat_map-append}
 use Rattle.proof_log.specs.declared.entry.Entry.{Entry}
 use Rattle.proof_log.specs.Logs.{entry_at}
 use Rattle.proof_text.specs.declared.line.Line.{Line}
@@ -17,12 +19,8 @@ text_of es = flat_map line_text (step_lines es)
 pub record AreWrittenTo (es : List Entry) (from at : ℕ) (old new : List ℕ) : Type 0 where
   pub text : new ≡ old ++ text_of (take (at - from) (drop (from - 1) es))
 
-pub flat_map_append : {A B : Type 0} (f : A → List B) (xs ys : List A) → flat_map f (xs ++ ys) ≡ flat_map f xs ++ flat_map f ys
-flat_map_append f [] ys = refl
-flat_map_append f (x ∷ xs) ys = ap (λ r. f x ++ r) (flat_map_append f xs ys) ∙ sym (append_assoc (f x) (flat_map f xs) (flat_map f ys))
-
 pub text_append : (xs ys : List Entry) → text_of (xs ++ ys) ≡ text_of xs ++ text_of ys
-text_append xs ys = ap (flat_map line_text) (flat_map_append (λ e. option_to_list (entry_line e)) xs ys) ∙ flat_map_append line_text (step_lines xs) (step_lines ys)
+text_append xs ys = ap (flat_map line_text) (flat_map-append (λ e. option_to_list (entry_line e)) xs ys) ∙ flat_map-append line_text (step_lines xs) (step_lines ys)
 
 pub front : (es : List Entry) (k : ℕ) (e : Entry) → slice_get es k ≡ Some e → take (suc k) es ≡ take k es ++ e ∷ []
 front [] k e h = let q : ⊥ = cc in absurd q
@@ -71,12 +69,6 @@ written_more es from at e old mid new lt le h i k w =
           ∙ ap (λ r. old ++ text_of r) (sym (front (drop (from - 1) es) (at - from) e here))
           ∙ ap (λ n. old ++ text_of (take n (drop (from - 1) es))) (sym next);
     }
-
-pub take_all : {A : Type 0} (n : ℕ) (xs : List A) → length xs ≤ n → take n xs ≡ xs
-take_all zero [] h = refl
-take_all zero (x ∷ xs) h = absurd (omega arith)
-take_all (suc n) [] h = refl
-take_all (suc n) (x ∷ xs) h = ap (λ ys. x ∷ ys) (take_all n xs (omega arith))
 
 pub written_all : (es : List Entry) (from at : ℕ) (old new : List ℕ) → 0 < from → suc (length es) ≤ at → AreWrittenTo es from at old new → new ≡ old ++ text_of (drop (from - 1) es)
 written_all es from at old new lt le w =

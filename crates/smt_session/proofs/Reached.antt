@@ -1,12 +1,12 @@
 -- The terms that some terms reach, as they are found one after the other.
-use Rattle.std.proofs.Common.{◌≡◌, ℕ, zero, suc, ◌+◌, ◌<◌, ◌≤◌, true, List, [], ◌∷◌, ◌++◌, length, get_or, take, refl, sym, subst, inl, inr, ⊎_elim, arith}
+use Rattle.std.proofs.Common.{◌≡◌, ℕ, ◌+◌, ◌<◌, ◌≤◌, true, List, [], ◌∷◌, ◌++◌, length, get_or, take, refl, sym, subst, inl, inr, ⊎_elim, arith}
 use Rattle.std.specs.Prelude.{◌⊎◌, All, AllPairs, Contains}
 use Rattle.std.specs.List.Sorted.{IsPermutation}
 use Rattle.std.specs.BinaryHeap.{IsUpperBound}
 use Rattle.std.specs.Ordering.{nat_cmp}
 use Rattle.std.proofs.lemmas.Bool.{cases_lt}
-use Rattle.std.proofs.lemmas.List.{take_more}
-use Rattle.std.proofs.lemmas.List.Elements.{All-push, All-contains, All-from_recursion, Contains-append_left, Contains-append_right, Contains-append_cases, Contains-push, Contains-push_cases}
+use Rattle.std.proofs.lemmas.List.{take_more, take_all}
+use Rattle.std.proofs.lemmas.List.Elements.{All-push, All-contains, All-from_recursion, Contains-append_left, Contains-append_right, Contains-append_cases, Contains-push, Contains-push_cases, Contains-get_or}
 use Rattle.std.proofs.lemmas.List.Quantifiers.{all_pairs_push}
 use Rattle.std.proofs.lemmas.List.Sorted.{IsPermutation-sym, Contains-permutation, le_from_greatest}
 use Rattle.smt_terms.specs.declared.node.Node.{Node}
@@ -15,23 +15,13 @@ use Rattle.smt_terms.specs.Terms.{IsTerm}
 use Rattle.script_state.specs.Plain.{is_plain}
 use Rattle.smt_session.specs.Reaching.{IsPlainTerm, AreOrdered, IsNext, IsUnion}
 use Rattle.smt_session.proofs.PlainTerms.{plain_arguments, earlier_arguments}
-use Rattle.smt_session.proofs.Printing.{take_all}
+use Rattle.cnf_base.proofs.Lists.{Contains-nil}
+use Rattle.cube_tree.proofs.Resolving.{members}
 
 -- ---- lists without an order
 
-no_element : (u : ℕ) → Contains [] u → ⊥
-no_element u h = omega (arith, h.1)
-
-pub contains_at : (xs : List ℕ) (k d : ℕ) → k < length xs → Contains xs (get_or xs k d)
-contains_at [] k d lt = absurd (omega arith)
-contains_at (x ∷ xs) zero d lt = (0, omega arith, refl)
-contains_at (x ∷ xs) (suc k) d lt = Contains-append_right (x ∷ []) xs (get_or xs k d) (contains_at xs k d (omega arith))
-
-pub all_contained : (P : ℕ → Type 0) (xs : List ℕ) → ((u : ℕ) → Contains xs u → P u) → All P xs
-all_contained P xs h k d lt = h (get_or xs k d) (contains_at xs k d lt)
-
 pub union_none : (old : List ℕ) → IsUnion [] old old
-union_none old = record { only = λ u h. inr h; first = λ u h. absurd (no_element u h); second = λ u h. h }
+union_none old = record { only = λ u h. inr h; first = λ u h. absurd (Contains-nil u h); second = λ u h. h }
 
 union_more : (a old mid new : List ℕ) (x : ℕ) → IsUnion a old mid → IsUnion (x ∷ []) mid new → IsUnion (a ++ x ∷ []) old new
 union_more a old mid new x h k = record {
@@ -70,7 +60,7 @@ left_all bound old = record { rest = λ u h. inr h; fewer = λ u h. h }
 popped_cases : (now new : List ℕ) (x u : ℕ) → IsPermutation now (x ∷ new) → Contains now u → (u ≡ x) ⊎ Contains new u
 popped_cases now new x u h p =
     ⊎_elim
-    (λ q. ⊎_elim (λ r. absurd (no_element u r)) (λ r. inl (sym r)) (Contains-push_cases [] x u q))
+    (λ q. ⊎_elim (λ r. absurd (Contains-nil u r)) (λ r. inl (sym r)) (Contains-push_cases [] x u q))
     (λ q. inr q)
     (Contains-append_cases (x ∷ []) new u (Contains-permutation now (x ∷ new) u h p))
 
@@ -112,14 +102,14 @@ pub record Reaching (nodes : List Node) (from waiting reached : List ℕ) (bound
 
 pub reaching_none : (nodes : List Node) (from old waiting : List ℕ) (bound : ℕ) → All (IsPlainTerm nodes) from → old ≡ [] → IsUnion from old waiting → bound ≡ length nodes → Reaching nodes from waiting [] bound
 reaching_none nodes from old waiting bound plain none h e =
-    let among : (u : ℕ) → Contains waiting u → Contains from u = λ u p. ⊎_elim (λ q. q) (λ q. absurd (no_element u (subst (λ l. Contains l u) none q))) (h.only u p) in
+    let among : (u : ℕ) → Contains waiting u → Contains from u = λ u p. ⊎_elim (λ q. q) (λ q. absurd (Contains-nil u (subst (λ l. Contains l u) none q))) (h.only u p) in
     let terms : (u : ℕ) → Contains waiting u → IsPlainTerm nodes u = λ u p. All-contains (IsPlainTerm nodes) from u plain (among u p) in
     record {
       waits = terms;
       plain = All-from_recursion (IsPlainTerm nodes) [] tt;
       rooted = λ u p. inr (h.first u p);
-      closed = λ t u p q. absurd (no_element t p);
-      above = λ u p. absurd (no_element u p);
+      closed = λ t u p q. absurd (Contains-nil t p);
+      above = λ u p. absurd (Contains-nil u p);
       seen = λ u p. inl (subst (λ n. u < n) (sym e) (terms u p).0);
       falling = λ i j d lt within. absurd (omega (arith, within));
     }
@@ -156,7 +146,7 @@ reaching_next nodes from waiting mid new reached args bound t h next term same k
           (λ q. inl (before u q))
           (λ q. ⊎_elim (λ lt. inl lt) (λ ge. (let le = next.greatest u q in let e : t ≡ u = omega arith in inr (subst (Contains (reached ++ t ∷ [])) e last))) (cases_lt u t))
           (k.only u p);
-      falling = all_pairs_push (λ a b. b < a) reached t h.falling (λ i d within. (let le = h.above (get_or reached i d) (contains_at reached i d within) in let lt = next.below in omega arith));
+      falling = all_pairs_push (λ a b. b < a) reached t h.falling (λ i d within. (let le = h.above (get_or reached i d) (Contains-get_or reached i d within) in let lt = next.below in omega arith));
     }
 
 -- where none waits that was not reached, all are reached
@@ -164,4 +154,4 @@ pub reaching_done : (nodes : List Node) (from waiting reached : List ℕ) (bound
 reaching_done nodes from waiting reached bound h none =
     let here : (u : ℕ) → Contains reached u ⊎ Contains waiting u → Contains reached u =
     λ u p. ⊎_elim (λ q. q) (λ q. ⊎_elim (λ lt. (let le = none u q in absurd (omega arith))) (λ r. r) (h.seen u q)) p in
-    (record { plain = h.plain; closed = λ t u p q. here u (h.closed t u p q); falling = h.falling }, all_contained (Contains reached) from (λ u p. here u (h.rooted u p)))
+    (record { plain = h.plain; closed = λ t u p q. here u (h.closed t u p q); falling = h.falling }, members (Contains reached) from (λ u p. here u (h.rooted u p)))

@@ -3,6 +3,8 @@ use Rattle.std.proofs.Common.{◌≡◌, ℕ, Bool, true, false, List, [], ◌�
 use Rattle.std.specs.List.{flat_map, AllByRecursion}
 use Rattle.std.specs.Io.KnownBytes.{Appends}
 use Rattle.std.proofs.KnownBytes.{Appends-nil}
+use Rattle.std.proofs.lemmas.Grind.{flat_map-append}
+use Rattle.std.proofs.lemmas.List.{drop_at}
 use Rattle.smt_text.specs.declared.chunk.Chunk.{Chunk}
 use Rattle.script_state.specs.declared.answer.Answer.{Answer}
 use Rattle.script_state.specs.declared.answer.Answer.TheVariants.{Done, Refused, Check, Says, Model, Values, Core, Assumptions, Exit}
@@ -12,7 +14,6 @@ use Rattle.script_state.specs.Readings.{Reading, ReadsAs}
 use Rattle.script_state.specs.States.{StateValue, concluded}
 use Rattle.script_state.specs.Steps.{Step, step, settled}
 use Rattle.script_state.proofs.Asserting.{standing_state}
-use Rattle.proof_log.specs.declared.entry.Entry.{Entry}
 use Rattle.proof_log.specs.Logs.{state_of}
 use Rattle.proof_log.specs.Stored.{LogValue}
 use Rattle.proof_text.specs.declared.record.Record.{Record}
@@ -26,7 +27,6 @@ use Rattle.smt_session.specs.declared.response.Response.{Response}
 use Rattle.smt_session.specs.Sessions.{IsSession, IsChecked, Responds, IsAnswered, response, is_end}
 use Rattle.smt_session.proofs.Ending.{ends_is}
 use Rattle.smt_session.proofs.Going.{more_steps}
-use Rattle.smt_session.proofs.Printing.{flat_map_append}
 use Rattle.smt_session.proofs.Staying.{grown_steps}
 use Rattle.smt_session.proofs.Turning.{are_steps, same_after}
 
@@ -77,10 +77,6 @@ module _ (limits : Limits) (line : ℕ) (s : StateValue) (l : LogValue) (last : 
   pub exit_responds : a ≡ Exit → r ≡ response (done_text s.options) false true → Responds limits line a s s l l last last r w w
   exit_responds is e = of_answer Exit is (silent limits line Exit s l last r w (refl, refl) (done_text s.options) false true e refl refl refl)
 
-dropped_all : (xs ys : List Entry) → drop (length xs) (xs ++ ys) ≡ ys
-dropped_all [] ys = refl
-dropped_all (x ∷ xs) ys = dropped_all xs ys
-
 pub check_responds : (limits : Limits) (line : ℕ) (s new_state : StateValue) (old new : LogValue) (shown : Record) (text : List ℕ) (r : Response) (w x : Option (List ℕ)) (last : Option Record)
     → IsChecked limits s old new shown
     → text ≡ flat_map line_text (step_lines (drop (length old.entries) new.entries)) ++ flat_map line_text (record_lines shown)
@@ -89,7 +85,7 @@ pub check_responds : (limits : Limits) (line : ℕ) (s new_state : StateValue) (
     → Responds limits line Check s new_state old new last (Some shown) r w x
 check_responds limits line s new_state old new shown text r w x last checked printed readable appended answered stands =
     let g = checked.grows in
-    let added : drop (length old.entries) new.entries ≡ checked.grows.added = ap (drop (length old.entries)) g.entries ∙ dropped_all old.entries g.added in
+    let added : drop (length old.entries) new.entries ≡ checked.grows.added = ap (drop (length old.entries)) g.entries ∙ drop_at old.entries g.added (length old.entries) refl in
     let same : s ≡ with_steps s checked.grows.added = sym (same_after s g.added g.each) in
     let nodes : IsShown limits s (with_steps s checked.grows.added).terms.nodes new.entries shown = subst (λ q. IsShown limits s q.terms.nodes new.entries shown) same checked.shown in
     record {
@@ -99,7 +95,7 @@ check_responds limits line s new_state old new shown text r w x last checked pri
       state = stands ∙ ap (λ q. concluded q (verdict_of shown)) same;
       log = g.entries;
       kept = refl;
-      lines = subst (Appends w x) (printed ∙ ap (λ es. flat_map line_text (step_lines es) ++ flat_map line_text (record_lines shown)) added ∙ sym (flat_map_append line_text (step_lines g.added) (record_lines shown))) appended;
+      lines = subst (Appends w x) (printed ∙ ap (λ es. flat_map line_text (step_lines es) ++ flat_map line_text (record_lines shown)) added ∙ sym (flat_map-append line_text (step_lines g.added) (record_lines shown))) appended;
       readable = subst (λ es. AllByRecursion IsLine (step_lines es ++ record_lines shown)) added readable;
       text = ap (λ q. q.text) answered;
       error = ap (λ q. q.error) answered;

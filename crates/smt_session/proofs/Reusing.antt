@@ -1,7 +1,7 @@
 -- Clauses that were learnt, whose variables stand in the clauses of some positions.
-use Rattle.std.proofs.Common.{◌≡◌, ℕ, zero, suc, ◌+◌, ◌<◌, ◌≤◌, List, [], ◌∷◌, ◌++◌, length, get_or, map, take, Some, refl, sym, ap, ◌∙◌, subst, inl, inr, ⊎_elim, arith}
+use Rattle.std.proofs.Common.{◌≡◌, ℕ, zero, suc, ◌+◌, ◌<◌, List, [], ◌∷◌, ◌++◌, length, get_or, map, take, Some, refl, sym, ap, ◌∙◌, subst, inl, inr, ⊎_elim, arith}
 use Rattle.std.specs.Prelude.{◌⊎◌, Contains}
-use Rattle.std.proofs.lemmas.List.{take_more}
+use Rattle.std.proofs.lemmas.List.{take_more, get_or_default}
 use Rattle.std.proofs.lemmas.List.Elements.{Contains-append_left, Contains-push, Contains-push_cases}
 use Rattle.cnf_base.specs.Literals.{Literal}
 use Rattle.cnf_base.specs.declared.clause.ClauseId.{ClauseId}
@@ -44,14 +44,9 @@ positions_named rows positions i d old mid new lt h k = λ x p.
 
 -- ---- clauses under these names
 
-any_default : (xs : List ℕ) (k d e : ℕ) → k < length xs → get_or xs k d ≡ get_or xs k e
-any_default [] k d e lt = absurd (omega arith)
-any_default (x ∷ xs) zero d e lt = refl
-any_default (x ∷ xs) (suc k) d e lt = any_default xs k d e (omega arith)
-
 -- a literal with a number has a name
 pub named_by : (names : List ℕ) (l m : Literal) → m.variable < length names → global names m ≡ l → Contains names l.variable
-named_by names l m lt e = (m.variable, lt, any_default names m.variable l.variable 0 lt ∙ ap (λ (k : Literal). k.variable) e)
+named_by names l m lt e = (m.variable, lt, get_or_default names m.variable l.variable 0 lt ∙ ap (λ (k : Literal). k.variable) e)
 
 pub named_more : (names : List ℕ) (clause : List Literal) (i : ℕ) (l : Literal) → i < length clause → l ≡ get_or clause i l → 0 < l.variable → Contains names l.variable → AreNamed names (take i clause) → AreNamed names (take (i + 1) clause)
 named_more names clause i l lt at above here h = λ k p.
@@ -88,9 +83,3 @@ adds_more rows steps positions names p are named h = record {
 
 pub within_more : (old positions : List ℕ) (p bound : ℕ) → p < bound → ((q : ℕ) → Contains positions q → Contains old q ⊎ (q < bound)) → (q : ℕ) → Contains (positions ++ p ∷ []) q → Contains old q ⊎ (q < bound)
 within_more old positions p bound lt h q among = ⊎_elim (λ was. h q was) (λ (same : p ≡ q). inr (omega (arith, lt, same))) (Contains-push_cases positions p q among)
-
-pub all_taken : {A : Type 0} (xs : List A) (i : ℕ) → length xs ≤ i → take i xs ≡ xs
-all_taken [] zero le = refl
-all_taken [] (suc i) le = refl
-all_taken (x ∷ xs) zero le = absurd (omega (arith, le))
-all_taken (x ∷ xs) (suc i) le = ap (λ r. x ∷ r) (all_taken xs i (omega (arith, le)))

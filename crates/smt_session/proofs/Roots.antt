@@ -6,10 +6,9 @@ use Rattle.std.proofs.lemmas.List.Elements.{All-from_recursion, recursion_from_A
 use Rattle.scope_selectors.specs.declared.live.Live.{Live}
 use Rattle.script_state.specs.declared.answer.Asked.{Asked}
 use Rattle.script_state.specs.States.{StateValue, IsState, IsAssumption, assumptions}
-use Rattle.proof_log.proofs.Growing.{each_append}
 use Rattle.accepted_proof.specs.Searching.{roots}
 use Rattle.smt_session.specs.Reaching.{IsPlainTerm}
-use Rattle.smt_session.proofs.LineByLine.{each_mapped}
+use Rattle.cnf_base.proofs.Lists.{each_append, each_map}
 
 pub each_front : {A : Type 0} (P : A → Type 0) (xs ys : List A) → AllByRecursion P (xs ++ ys) → AllByRecursion P xs
 each_front P [] ys h = tt
@@ -33,8 +32,8 @@ roots_all : (P : ℕ → Type 0) (s : StateValue) → All (λ (a : Live). P a.te
 roots_all P s live asked =
     All-from_recursion P (roots s)
     (each_append P (map term_of s.scopes.live) (map term_asked (assumptions s))
-    (each_mapped term_of P s.scopes.live (recursion_from_All (λ (a : Live). P a.term) s.scopes.live live))
-    (each_mapped term_asked P (assumptions s) (recursion_from_All (λ (a : Asked). P a.term) (assumptions s) asked)))
+    (each_map term_of P s.scopes.live (recursion_from_All (λ (a : Live). P a.term) s.scopes.live live))
+    (each_map term_asked P (assumptions s) (recursion_from_All (λ (a : Asked). P a.term) (assumptions s) asked)))
 
 -- what holds of all holds of each kind
 pub roots_live : (P : ℕ → Type 0) (s : StateValue) → All P (roots s) → All (λ (a : Live). P a.term) s.scopes.live

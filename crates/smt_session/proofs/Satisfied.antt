@@ -3,6 +3,7 @@ use Rattle.std.proofs.Common.{◌≡◌, ℕ, Bool, List, [], ◌∷◌, get_or,
 use Rattle.std.specs.Prelude.{All, Contains, IsSome}
 use Rattle.std.proofs.lemmas.List.Elements.{All-contains, All-nil, All-cons}
 use Rattle.cnf_base.specs.Literals.{Literal}
+use Rattle.cnf_base.proofs.Options.{IsSome-from}
 use Rattle.smt_terms.specs.declared.node.Node.{Node}
 use Rattle.scope_selectors.specs.declared.live.Live.{Live}
 use Rattle.script_state.specs.States.{StateValue, IsState}
@@ -19,7 +20,7 @@ use Rattle.accepted_proof.specs.Searching.{roots}
 use Rattle.smt_session.specs.Reaching.{IsPlainTerm, AreOrdered}
 use Rattle.smt_session.specs.Searched.{IsHeldTerm, IsHeldAssertion, ArePositions, AreEnough, AreSatisfied}
 use Rattle.smt_session.proofs.Roots.{roots_plain}
-use Rattle.smt_session.proofs.Staying.{bits_stay, is_some_of}
+use Rattle.smt_session.proofs.Staying.{bits_stay}
 
 -- what an entry gave it gives in a log that grew
 entry_grows : (log log' : List Entry) (p : ℕ) (e : Entry) → Prolongs log log' → entry_at log p ≡ Some e → entry_at log' p ≡ Some e
@@ -60,7 +61,7 @@ have_selectors log (a ∷ live) [] e = let q : ⊥ = cc in absurd q
 have_selectors log (a ∷ live) (x ∷ given) e =
     let first : selector_in log.selectors a.assertion ≡ Some x = cc in
     let rest : map (λ (y : Live). selector_in log.selectors y.assertion) live ≡ map Some given = cc in
-    All-cons (λ (y : Live). IsSome (selector_in log.selectors y.assertion)) a live (is_some_of (selector_in log.selectors a.assertion) x first) (have_selectors log live given rest)
+    All-cons (λ (y : Live). IsSome (selector_in log.selectors y.assertion)) a live (IsSome-from (selector_in log.selectors a.assertion) x first) (have_selectors log live given rest)
 
 pub enough : (s : StateValue) (log : LogValue) (from reached positions : List ℕ) (live : List Live) → from ≡ roots s → live ≡ s.scopes.live → AreOrdered s.terms.nodes reached → All (Contains reached) from → ArePositions log reached live positions
     → AreEnough s.terms.nodes log (roots s) s.scopes.live positions

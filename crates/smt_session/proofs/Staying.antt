@@ -3,45 +3,30 @@ use Rattle.std.proofs.Common.{◌≡◌, ℕ, zero, suc, ◌+◌, ◌<◌, ◌�
 use Rattle.std.specs.Prelude.{map, IsSome, is_some, All, Contains}
 use Rattle.std.specs.Option.{option_map}
 use Rattle.std.proofs.lemmas.Bool.{cases_lt}
-use Rattle.std.proofs.lemmas.List.{take_more}
-use Rattle.std.proofs.lemmas.List.Elements.{All-contains}
+use Rattle.std.proofs.lemmas.List.{take_more, map_push, get_or_default}
+use Rattle.std.proofs.lemmas.List.Elements.{All-contains, Contains-get_or}
 use Rattle.cnf_base.specs.Literals.{Literal}
+use Rattle.cnf_base.proofs.Lists.{each_append}
+use Rattle.cnf_base.proofs.Options.{some_value, IsSome-from}
 use Rattle.smt_terms.specs.Bits.{bits_in}
 use Rattle.smt_terms.specs.Nodes.{node_at}
 use Rattle.smt_terms.specs.Terms.{IsTerm}
 use Rattle.scope_selectors.specs.declared.live.Live.{Live}
 use Rattle.script_state.specs.States.{StateValue}
 use Rattle.proof_log.specs.declared.entry.Entry.{Entry}
-use Rattle.proof_log.specs.Logs.{Asserted, state_of, IsLog}
+use Rattle.proof_log.specs.Logs.{state_of, IsLog}
 use Rattle.proof_log.specs.Meanings.{StaysLog}
 use Rattle.proof_log.specs.Stored.{LogValue, Stands, IsPushed, selector_in, literal_of}
-use Rattle.proof_log.proofs.Growing.{each_append}
-use Rattle.proof_log.proofs.Standing.{stands_over}
+use Rattle.proof_log.proofs.Standing.{stands_over, some_literal}
 use Rattle.proof_log.proofs.Staying.{log_stays}
 use Rattle.smt_session.specs.Growing.{IsStepFor, AreStepsFor, Grows, HasBits, AreSelectors}
 use Rattle.smt_session.specs.Reaching.{AreOrdered}
 use Rattle.smt_session.proofs.PlainTerms.{earlier_arguments}
-use Rattle.smt_session.proofs.Reached.{contains_at, all_contained}
-
-pub any_default : (xs : List ℕ) (k d e : ℕ) → k < length xs → get_or xs k d ≡ get_or xs k e
-any_default [] k d e lt = absurd (omega arith)
-any_default (x ∷ xs) zero d e lt = refl
-any_default (x ∷ xs) (suc k) d e lt = any_default xs k d e (omega arith)
-
-pub some_value : {A : Type 0} (o : Option A) → IsSome o → (x : A) × (o ≡ Some x)
-some_value None h = let f : ⊥ = cc in absurd f
-some_value (Some x) h = (x, refl)
-
-pub is_some_of : {A : Type 0} (o : Option A) (x : A) → o ≡ Some x → IsSome o
-is_some_of o x e = ap is_some e
+use Rattle.cube_tree.proofs.Resolving.{members}
 
 pub none_of_not : {A : Type 0} (o : Option A) → (IsSome o → ⊥) → o ≡ None
 none_of_not None h = refl
 none_of_not (Some x) h = absurd (h refl)
-
-pub some_literal : (o : Option Asserted) (l : Literal) → literal_of o ≡ Some l → (r : Asserted) × (o ≡ Some r) × (r.literal ≡ l)
-some_literal None l e = let q : ⊥ = cc in absurd q
-some_literal (Some r) l e = let q : r.literal ≡ l = cc in (r, refl, q)
 
 -- ---- growing
 
@@ -74,7 +59,7 @@ bit_stays s old new t row h g e =
 pub bits_stay : (s : StateValue) (old new : LogValue) (t : ℕ) → Stands s.terms.nodes old → Grows s old new → HasBits old t → HasBits new t
 bits_stay s old new t h g has =
     let r = some_value (bits_in old.bits t) has in
-    is_some_of (bits_in new.bits t) r.0 (bit_stays s old new t r.0 h g r.1)
+    IsSome-from (bits_in new.bits t) r.0 (bit_stays s old new t r.0 h g r.1)
 
 pub selector_stays : (s : StateValue) (old new : LogValue) (a : ℕ) (l : Literal) → Stands s.terms.nodes old → Grows s old new → selector_in old.selectors a ≡ Some l → selector_in new.selectors a ≡ Some l
 selector_stays s old new a l h g e =
@@ -99,9 +84,6 @@ selectors_stay s old new (a ∷ live) (x ∷ given) h g e =
     cc
 
 -- one assertion more
-map_push : {A B : Type 0} (f : A → B) (xs : List A) (x : A) → map f (xs ++ x ∷ []) ≡ map f xs ++ f x ∷ []
-map_push f [] x = refl
-map_push f (y ∷ xs) x = ap (λ r. f y ∷ r) (map_push f xs x)
 
 pub selectors_push : (l : LogValue) (live : List Live) (a : Live) (given : List Literal) (x : Literal) → AreSelectors l live given → selector_in l.selectors a.assertion ≡ Some x → AreSelectors l (live ++ a ∷ []) (given ++ x ∷ [])
 selectors_push l live a given x e here =
@@ -149,12 +131,12 @@ encoded_more s old mid new reached at t h g own here = record {
 -- arguments of a term of the list stand behind it
 pub encoded_arguments : (s : StateValue) (old new : LogValue) (reached : List ℕ) (at d t : ℕ) → AreOrdered s.terms.nodes reached → AreEncoded s old new reached (suc at) → at < length reached → t ≡ get_or reached at d → IsTerm s.terms.nodes t → All (HasBits new) (node_at s.terms.nodes t).args
 encoded_arguments s old new reached at d t ordered h lt own term =
-    all_contained (HasBits new) (node_at s.terms.nodes t).args (λ u p.
-    let in_it : Contains reached t = subst (Contains reached) (sym own) (contains_at reached at d lt) in
+    members (HasBits new) (node_at s.terms.nodes t).args (λ u p.
+    let in_it : Contains reached t = subst (Contains reached) (sym own) (Contains-get_or reached at d lt) in
     let k = ordered.closed t u in_it p in
     let less : u < t = All-contains (λ a. a < t) (node_at s.terms.nodes t).args u (earlier_arguments s.terms.nodes t term) p in
     let here : get_or reached k.0 u ≡ u = k.2 in
-    let place : t ≡ get_or reached at u = own ∙ any_default reached at d u lt in
+    let place : t ≡ get_or reached at u = own ∙ get_or_default reached at d u lt in
     let behind : suc at ≤ k.0 =
     ⊎_elim
     (λ (before : k.0 < at). (let f : get_or reached at u < get_or reached k.0 u = ordered.falling k.0 at u before lt in absurd (omega arith)))

@@ -1,11 +1,12 @@
 -- The steps of a check are those of a turn, and its record is one that may end it.
-use Rattle.std.proofs.Common.{◌≡◌, ℕ, List, [], ◌∷◌, ◌++◌, Option, Some, refl, sym, ap, ◌∙◌, subst, inl, inr, ⊎_elim, arith}
+use Rattle.std.proofs.Common.{◌≡◌, ℕ, List, [], ◌∷◌, ◌++◌, Some, refl, sym, ap, ◌∙◌, subst, inl, inr, ⊎_elim, arith}
 use Rattle.std.specs.Prelude.{◌⊎◌, map, slice_get, Contains, IsSome, Bool, true}
 use Rattle.std.specs.List.{AllByRecursion}
 use Rattle.std.proofs.lemmas.List.Elements.{All-contains, All-from_recursion, All-weaker, recursion_from_All, Contains-append_cases}
 use Rattle.cnf_base.specs.Literals.{Literal, negated}
 use Rattle.cnf_base.specs.Clauses.{lit_true}
 use Rattle.cnf_base.proofs.Codes.{negated-negated}
+use Rattle.cnf_base.proofs.Options.{same_found}
 use Rattle.smt_terms.specs.Terms.{TermsValue, IsTermList}
 use Rattle.scope_selectors.specs.declared.live.Live.{Live}
 use Rattle.script_state.specs.States.{StateValue, assumptions}
@@ -16,14 +17,14 @@ use Rattle.proof_log.specs.Faults.{IsValid, MakesNoTerm}
 use Rattle.proof_log.specs.Stored.{LogValue, Stands, selector_in}
 use Rattle.proof_log.specs.Boards.{IsOfSearch, Grows as Prolongs}
 use Rattle.proof_log.proofs.Ordered.{log_is_ordered}
-use Rattle.proof_log.proofs.Standing.{stands_over}
+use Rattle.proof_log.proofs.Standing.{stands_over, some_literal}
 use Rattle.proof_log.proofs.Staying.{state_from-append, steps_parts}
 use Rattle.proof_text.specs.Entries.{entry_line}
 use Rattle.cube_tree.specs.Closing.{Closes}
 use Rattle.accepted_proof.specs.Turns.{AreStepsOf, with_step, with_steps, IsAgainstOne, IsRefutation}
 use Rattle.smt_session.specs.Growing.{IsStepFor, AreStepsFor, AreLined, Grows, AreGiven, AreSelectors}
 use Rattle.smt_session.specs.Searched.{HasTrueSelector}
-use Rattle.smt_session.proofs.Staying.{some_literal, selector_of, selector_stays, bit_stays}
+use Rattle.smt_session.proofs.Staying.{selector_of, selector_stays, bit_stays}
 use Rattle.smt_session.proofs.Giving.{bit_of}
 
 -- ---- the steps
@@ -107,16 +108,13 @@ refutation s old new given at h g e closes = record {
 abbrev IsKnown : StateValue → Live → Type 0
 IsKnown s a = slice_get s.scopes.terms a.assertion ≡ Some a.term
 
-same_term : (x y : ℕ) (o : Option ℕ) → o ≡ Some x → o ≡ Some y → x ≡ y
-same_term x y o e f = let q : Some x ≡ Some y = sym e ∙ f in cc
-
 -- an assertion's selector stands for its term
 selector_term : (s : StateValue) (l : LogValue) (a : Live) (r : Asserted) → IsTermList s.terms.nodes → Stands s.terms.nodes l → AreStepsFor s l.entries → IsKnown s a → (state_of s.terms.nodes l.entries).selectors a.assertion ≡ Some r → r.term ≡ a.term
 selector_term s l a r listed h each known e =
     let k = stands_over s.terms.nodes l h in
     let among = ((log_is_ordered s.terms.nodes l.entries listed k.steps).selectors a.assertion r e).2 in
     let step = All-contains (IsStepFor s) l.entries (step.Selector a.assertion r.term) (All-from_recursion (IsStepFor s) l.entries each) among in
-    same_term r.term a.term _ step.1 known
+    same_found _ r.term a.term step.1 known
 
 -- where the given literals are true, so are the selectors of the assertions
 pub true_selectors : (s : StateValue) (l : LogValue) (v : ℕ → Bool) (live : List Live) (given : List Literal) → IsTermList s.terms.nodes → Stands s.terms.nodes l → AreStepsFor s l.entries → AllByRecursion (IsKnown s) live → AreSelectors l live given → AllByRecursion (λ x. lit_true v x ≡ true) given → AllByRecursion (HasTrueSelector s.terms.nodes l v) live

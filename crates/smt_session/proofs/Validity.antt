@@ -1,11 +1,11 @@
 -- The steps that give plain terms bits and assertions selectors are valid.
-use Rattle.std.proofs.Common.{◌≡◌, ℕ, ◌<◌, true, List, [], ◌∷◌, length, Option, Some, None, refl, sym, ap, ◌∙◌, subst, arith}
-use Rattle.std.specs.Prelude.{if◌then◌else◌, map, IsSome, All}
+use Rattle.std.proofs.Common.{◌≡◌, ℕ, ◌<◌, true, List, [], ◌∷◌, length, Some, None, refl, sym, ap, ◌∙◌, subst, arith}
+use Rattle.std.specs.Prelude.{map, IsSome, All}
 use Rattle.std.specs.List.{AllByRecursion}
-use Rattle.std.proofs.lemmas.Bool.{eq-eqb}
 use Rattle.std.proofs.lemmas.List.Elements.{recursion_from_All}
 use Rattle.cnf_base.specs.Literals.{Literal, positive_of}
 use Rattle.cnf_base.specs.Assignments.{fresh_bits}
+use Rattle.cnf_base.proofs.Options.{some_value, IsSome-from}
 use Rattle.smt_terms.specs.declared.sort.Sort.{Sort}
 use Rattle.smt_terms.specs.declared.sort.Sort.TheVariants as sort
 use Rattle.smt_terms.specs.declared.node.Node.{Node}
@@ -21,15 +21,14 @@ use Rattle.script_state.specs.Plain.{is_plain, is_plain_op}
 use Rattle.script_state.specs.States.{StateValue, IsState}
 use Rattle.proof_log.specs.declared.entry.Entry.{Entry}
 use Rattle.proof_log.specs.declared.entry.Entry.TheVariants as step
-use Rattle.proof_log.specs.Logs.{Asserted, start, with_value, plain_width, constant_width, leaf_after, block_after, selector_after, state_of}
+use Rattle.proof_log.specs.Logs.{start, plain_width, constant_width, leaf_after, block_after, selector_after, state_of}
 use Rattle.proof_log.specs.Faults.{IsValid}
 use Rattle.proof_log.specs.Stored.{LogValue, Stands, IsPushed, selector_in, literal_of}
 use Rattle.proof_log.proofs.Settled.{stands_settled}
-use Rattle.proof_log.proofs.Standing.{stands_over}
+use Rattle.proof_log.proofs.Standing.{stands_over, no_literal, value_here}
 use Rattle.proof_log.proofs.Staying.{state_from-append}
 use Rattle.smt_session.specs.Growing.{HasBits}
 use Rattle.smt_session.proofs.PlainTerms.{plain_op}
-use Rattle.smt_session.proofs.Staying.{some_value, is_some_of}
 
 -- ---- rows of arguments
 
@@ -58,7 +57,7 @@ module _ (nodes : List Node) (l : LogValue) (all : IsTermList nodes) (h : Stands
       let n = node_at nodes t in
       let rows = rows_of (node_at nodes t).args (recursion_from_All _ _ has) in
       let b = op_there g (node_at nodes t).op (map (sort_of nodes) (node_at nodes t).args) rows.0 (sort_of nodes t) fixed (all t lt).rank rows.2 in
-      is_some_of _ b.0 (ap (block_over n.op g) rows.1 ∙ b.1)
+      IsSome-from _ b.0 (ap (block_over n.op g) rows.1 ∙ b.1)
 
   same_block : (n : Node) → block_of l.next (bits_in l.bits) n ≡ block_of (state_of nodes l.entries).next (state_of nodes l.entries).bits n
   same_block n =
@@ -86,26 +85,19 @@ encode_valid v l t all h lt new fixed has =
     let b = some_value _ (circuit_there v.nodes l all h t l.next lt fixed has) in
     record { term = lt; new = sym (k.bits t) ∙ new; block = b.0; circuit = sym (same_block v.nodes l all h (node_at v.nodes t)) ∙ b.1 }
 
-none_of : (o : Option Asserted) → literal_of o ≡ None → o ≡ None
-none_of None e = refl
-none_of (Some r) e = let q : ⊥ = cc in absurd q
-
 pub select_valid : (v : TermsValue) (l : LogValue) (a t : ℕ) → IsTermList v.nodes → Stands v.nodes l → t < length v.nodes → sort_of v.nodes t ≡ sort.Bool → selector_in l.selectors a ≡ None → HasBits l t → IsValid v (state_of v.nodes l.entries) (step.Selector a t)
 select_valid v l a t all h lt s new has =
     let k = stands_over v.nodes l h in
     let r = here_row v.nodes l all h t has in
     let one = one_bit v.nodes l all h r.0 (subst (λ x. IsRowOf x r.0) s r.2) in
-    record { term = lt; sort = s; new = none_of _ (sym (k.selectors a) ∙ new); bit = one.0; encoded = sym (k.bits t) ∙ r.1 ∙ ap Some one.1 }
+    record { term = lt; sort = s; new = no_literal _ (sym (k.selectors a) ∙ new); bit = one.0; encoded = sym (k.bits t) ∙ r.1 ∙ ap Some one.1 }
 
 -- ---- what the steps leave
-
-value_here : {A : Type 0} (f : ℕ → Option A) (x : ℕ) (a : A) → with_value f x a x ≡ Some a
-value_here f x a = ap (λ b. if b then Some a else f x) (eq-eqb x x refl)
 
 pub leaf_leaves : (v : TermsValue) (old new : LogValue) (t p : ℕ) → IsValid v (state_of v.nodes old.entries) (step.Leaf t) → IsPushed v.nodes old new (step.Leaf t) p → HasBits new t
 leaf_leaves v old new t p i q =
     let s = state_of v.nodes old.entries in
-    is_some_of (bits_in new.bits t) (fresh_bits (state_of v.nodes old.entries).next i.width)
+    IsSome-from (bits_in new.bits t) (fresh_bits (state_of v.nodes old.entries).next i.width)
     ((stands_over v.nodes new q.stands).bits t
     ∙ ap (λ es. (state_of v.nodes es).bits t) q.entries
     ∙ ap (λ r. r.bits t) (state_from-append v.nodes start old.entries (step.Leaf t ∷ []))
@@ -115,7 +107,7 @@ leaf_leaves v old new t p i q =
 pub encode_leaves : (v : TermsValue) (old new : LogValue) (t p : ℕ) → IsValid v (state_of v.nodes old.entries) (step.Encode t) → IsPushed v.nodes old new (step.Encode t) p → HasBits new t
 encode_leaves v old new t p i q =
     let s = state_of v.nodes old.entries in
-    is_some_of (bits_in new.bits t) i.block.bits
+    IsSome-from (bits_in new.bits t) i.block.bits
     ((stands_over v.nodes new q.stands).bits t
     ∙ ap (λ es. (state_of v.nodes es).bits t) q.entries
     ∙ ap (λ r. r.bits t) (state_from-append v.nodes start old.entries (step.Encode t ∷ []))
@@ -125,7 +117,7 @@ encode_leaves v old new t p i q =
 pub select_leaves : (v : TermsValue) (old new : LogValue) (a t p : ℕ) → IsValid v (state_of v.nodes old.entries) (step.Selector a t) → IsPushed v.nodes old new (step.Selector a t) p → IsSome (selector_in new.selectors a)
 select_leaves v old new a t p i q =
     let s = state_of v.nodes old.entries in
-    is_some_of (selector_in new.selectors a) (positive_of (state_of v.nodes old.entries).next)
+    IsSome-from (selector_in new.selectors a) (positive_of (state_of v.nodes old.entries).next)
     ((stands_over v.nodes new q.stands).selectors a
     ∙ ap (λ es. literal_of ((state_of v.nodes es).selectors a)) q.entries
     ∙ ap (λ r. literal_of (r.selectors a)) (state_from-append v.nodes start old.entries (step.Selector a t ∷ []))

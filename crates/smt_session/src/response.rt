@@ -4,10 +4,10 @@ ghost use Rattle.std.specs.Prelude.{◌≡◌, ◌∷◌, ◌++◌, [], true, fa
 ghost use Rattle.accepted_proof.specs.Answers.{error_text, verdict_text, done_text};
 ghost use Rattle.smt_session.specs.Sessions.{response};
 
-use crate::texts::push_decimal;
 use script_state::answer::Verdict;
 use script_state::error_text::ErrorText;
 use script_state::options::Options;
+use smt_text::number::push_number;
 use smt_text::text::Text;
 use std::alloc::{AllocError, Global};
 
@@ -43,7 +43,7 @@ fn refusal_text(alloc: Global, line: u64, error: ErrorText) -> Result<Text, Allo
     ensures { IfOk result (λ t. t ≡ error_text line error) }
 {
     let mut text = Text::from_slice(alloc, b"(error \"line ")?;
-    push_decimal(alloc, line, &mut text)?;
+    push_number(&mut text, line)?;
     text.push_slice(b": ")?;
     text.push_slice(error.text())?;
     text.push_slice(b"\")\n")?;

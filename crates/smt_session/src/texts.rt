@@ -1,7 +1,6 @@
 // The texts of models (SMT-LIB 2.6, section 4.2.6).
 
 ghost use Rattle.std.specs.Prelude.{◌≡◌, ◌++◌, IfOk, OnOk, option_copied, slice_get};
-ghost use Rattle.std.specs.Fmt.{decimal};
 ghost use Rattle.accepted_proof.specs.Answers.{sort_text, value_text, definition_text, definition_by, definitions_text, model_text};
 ghost use Rattle.accepted_proof.specs.Models.{value_for};
 
@@ -9,40 +8,33 @@ use proof_text::record::{Record, push_value};
 use script_state::state::State;
 use smt_build::symbols::LiveName;
 use smt_terms::sort::{DeclId, Sort};
+use smt_text::number::push_number;
 use smt_text::print::print_symbol;
 use smt_text::text::Text;
 use smt_values::Value;
 use std::alloc::{AllocError, Global};
 
-/// Appends a number in decimal.
-pub(crate) fn push_decimal(alloc: Global, number: u64, out: &mut Text) -> Result<(), AllocError>
-    ensures { OnOk result (out.new ≡ out.old ++ decimal number) }
-{
-    let digits = format!(in alloc; "{number}")?;
-    out.push_slice(digits.as_bytes())
-}
-
 /// Appends the sort of words of a width.
-fn push_word_sort(alloc: Global, width: u32, out: &mut Text) -> Result<(), AllocError>
+fn push_word_sort(width: u32, out: &mut Text) -> Result<(), AllocError>
     ensures { OnOk result (out.new ≡ out.old ++ sort_text (Sort.Word width)) }
 {
     out.push_slice(b"(_ BitVec ")?;
-    push_decimal(alloc, width as u64, out)?;
+    push_number(out, width as u64)?;
     out.push(b')')
 }
 
 /// Appends a sort.
-fn push_sort(alloc: Global, sort: Sort, out: &mut Text) -> Result<(), AllocError>
+fn push_sort(sort: Sort, out: &mut Text) -> Result<(), AllocError>
     ensures { OnOk result (out.new ≡ out.old ++ sort_text sort) }
 {
     match sort {
         Sort::Bool => out.push_slice(b"Bool"),
-        Sort::Word(width) => push_word_sort(alloc, width, out),
+        Sort::Word(width) => push_word_sort(width, out),
         Sort::Array(index, element) => {
             out.push_slice(b"(Array ")?;
-            push_word_sort(alloc, index, out)?;
+            push_word_sort(index, out)?;
             out.push(b' ')?;
-            push_word_sort(alloc, element, out)?;
+            push_word_sort(element, out)?;
             out.push(b')')
         }
     }
@@ -61,19 +53,13 @@ fn push_written(value: &Value, out: &mut Text) -> Result<(), AllocError>
 }
 
 /// Appends the line of a constant's definition.
-fn push_definition(
-    alloc: Global,
-    name: &[u8],
-    sort: Sort,
-    value: &Value,
-    out: &mut Text,
-) -> Result<(), AllocError>
+fn push_definition(name: &[u8], sort: Sort, value: &Value, out: &mut Text) -> Result<(), AllocError>
     ensures { OnOk result (out.new ≡ out.old ++ definition_text name.now sort value.now) }
 {
     out.push_slice(b"(define-fun ")?;
     print_symbol(name, out)?;
     out.push_slice(b" () ")?;
-    push_sort(alloc, sort, out)?;
+    push_sort(sort, out)?;
     out.push(b' ')?;
     push_written(value, out)?;
     out.push_slice(b")\n")
@@ -93,7 +79,6 @@ fn value_of(values: &[(DeclId, Value)], declaration: DeclId) -> Option<&Value>
 
 /// Appends the line of a live name.
 fn push_live(
-    alloc: Global,
     state: &State,
     values: &[(DeclId, Value)],
     live: &LiveName,
@@ -107,12 +92,11 @@ fn push_live(
     let Some(value) = value_of(values, live.declaration) else {
         return Ok(())
     };
-    push_definition(alloc, live.name.as_slice(), signature.value, value, out)
+    push_definition(live.name.as_slice(), signature.value, value, out)
 }
 
 /// Appends the lines of the live names.
 fn push_definitions(
-    alloc: Global,
     state: &State,
     values: &[(DeclId, Value)],
     out: &mut Text,
@@ -120,7 +104,7 @@ fn push_definitions(
     ensures { OnOk result (out.new ≡ out.old ++ definitions_text state.now values.now) }
 {
     'live: for live in state.declared() {
-        push_live(alloc, state, values, live, out)?;
+        push_live(state, values, live, out)?;
     }
     Ok(())
 }
@@ -136,7 +120,7 @@ pub(crate) fn model_text(
     let mut out = Text::new(alloc);
     if let Some(Record::Sat(values)) = shown {
         out.push_slice(b"(\n")?;
-        push_definitions(alloc, state, values.as_slice(), &mut out)?;
+        push_definitions(state, values.as_slice(), &mut out)?;
         out.push_slice(b")\n")?;
     }
     Ok(out)

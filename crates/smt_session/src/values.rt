@@ -1,13 +1,14 @@
 // The values of terms in a model (SMT-LIB 2.6, section 4.2.6).
 
-ghost use Rattle.std.specs.Prelude.{◌≡◌, ◌<◌, ◌++◌, ℕ, All, IfOk, OnOk, codes, false, length, map};
-ghost use Rattle.smt_values.specs.Held.{meaning, set_for};
+ghost use Rattle.std.specs.Prelude.{◌≡◌, ◌<◌, ◌++◌, All, IfOk, OnOk, codes, false, length, map};
+ghost use Rattle.smt_values.specs.Held.{meaning};
 ghost use Rattle.smt_eval.specs.Evaluated.{is_table};
 ghost use Rattle.script_state.specs.declared.answer.Asked.{Asked as AskedValue};
 ghost use Rattle.accepted_proof.specs.Answers.{asked_text, meaning_text, values_text};
-ghost use Rattle.accepted_proof.specs.Models.{interpretation_of, value_for};
+ghost use Rattle.accepted_proof.specs.Models.{interpretation_of};
 
 use crate::lists::list_text;
+use accepted_proof::interp_of;
 use proof_text::record::{Record, push_value};
 use script_state::answer::Asked;
 use script_state::state::State;
@@ -15,21 +16,8 @@ use smt_eval::values_of;
 use smt_terms::node::TermId;
 use smt_terms::sort::DeclId;
 use smt_text::text::Text;
-use smt_values::{Interp, Value};
+use smt_values::Value;
 use std::alloc::{AllocError, Global};
-
-/// The interpretation that the values of declarations give.
-fn interp_of(alloc: Global, values: &[(DeclId, Value)]) -> Result<Interp, AllocError>
-    ensures { IfOk result (λ m. (d : ℕ) → set_for m d ≡ value_for values.now d) }
-{
-    let mut interp = Interp::new(alloc);
-    for done in 0..values.len() {
-        let place = values.len() - 1 - done;
-        let value = &values[place];
-        interp.set(value.0, value.1.copy()?)?;
-    }
-    Ok(interp)
-}
 
 /// The numbers of terms that are asked for.
 fn terms_of(alloc: Global, asked: &[Asked]) -> Result<Vec<TermId>, AllocError>

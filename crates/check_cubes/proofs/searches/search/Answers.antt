@@ -1,20 +1,21 @@
 use Rattle.std.proofs.Common.{◌≤◌, suc, length, ◌∙◌, arith}
+use Rattle.std.proofs.lemmas.Bool.{MatchBool-at_true, MatchBool-at_false}
 use Rattle.proof_log.proofs.Standing.{stands_over}
 use Rattle.check_cubes.specs.Searches.{limits_of}
-use Rattle.check_cubes.proofs.Searched.{is_search, no_selector, no_bit, match_true, match_false}
+use Rattle.check_cubes.proofs.Searched.{is_search, no_selector, no_bit}
 use Rattle.check_cubes.proofs.searches.search.Goals as goal
 
 pub returns-then-not-branch : goal.returns-then-not-branch
 returns-then-not-branch c =
     let s = c.args.state.now in
     no_selector s c.args.log.now (stands_over s.terms.nodes c.args.log.now c.requires) (limits_of c.args.limits) c.args.cube c.args.start c.live.result.now c.live.ensures.live
-    (match_false _ _ c.in_ok-push_selectors.field-0 c.in_ok-push_selectors.ensures c.if-not-branch.true)
+    (MatchBool-at_false _ _ c.if-not-branch.true c.in_ok-push_selectors.ensures)
 
 pub returns-then-not-branch-2 : goal.returns-then-not-branch-2
 returns-then-not-branch-2 c =
     let s = c.args.state.now in
     no_bit s c.args.log.now (stands_over s.terms.nodes c.args.log.now c.requires) (limits_of c.args.limits) c.args.cube c.args.start c.assumptions.result.now c.assumptions.ensures.assumptions
-    (match_false _ _ c.in_ok-push_assumed.field-0 c.in_ok-push_assumed.ensures c.if-not-branch-2.true)
+    (MatchBool-at_false _ _ c.if-not-branch-2.true c.in_ok-push_assumed.ensures)
 
 pub returns : goal.returns
 returns c =
@@ -25,7 +26,7 @@ returns c =
     is_search s c.args.log.now (stands_over s.terms.nodes c.args.log.now c.requires) (limits_of c.args.limits) c.args.cube c.args.start
     c.as_slice.result.now c.in-Some.given.items c.push_selectors.new.given.items c.push_assumed.new.given.items c.live.result.now c.assumptions.result.now c.live.ensures.live c.assumptions.ensures.assumptions
     (c.as_slice.ensures.value ∙ c.in_ok-variables.ensures.variables) within
-    (match_true _ _ c.are_chains.result c.are_chains.ensures c.if-not-are_chains.false)
+    (MatchBool-at_true _ _ c.if-not-are_chains.false c.are_chains.ensures)
     (rw c.in-Some.is at c.in_ok-given.ensures)
-    (match_true _ _ c.in_ok-push_selectors.field-0 c.in_ok-push_selectors.ensures c.if-not-branch.false)
-    (match_true _ _ c.in_ok-push_assumed.field-0 c.in_ok-push_assumed.ensures c.if-not-branch-2.false)
+    (MatchBool-at_true _ _ c.if-not-branch.false c.in_ok-push_selectors.ensures)
+    (MatchBool-at_true _ _ c.if-not-branch-2.false c.in_ok-push_assumed.ensures)

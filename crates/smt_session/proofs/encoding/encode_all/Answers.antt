@@ -1,5 +1,6 @@
 use Rattle.std.proofs.Common.{◌≡◌, ◌-◌, ◌<◌, suc, length, get_or, refl, subst, arith}
-use Rattle.smt_session.proofs.Staying.{AreEncoded, any_default, encoded_none, encoded_more, encoded_arguments}
+use Rattle.std.proofs.lemmas.List.{get_or_default}
+use Rattle.smt_session.proofs.Staying.{AreEncoded, encoded_none, encoded_more, encoded_arguments}
 use Rattle.smt_session.proofs.encoding.encode_all.Goals as goal
 
 pub terms-init : goal.terms-init
@@ -30,7 +31,7 @@ terms-preserved c =
       within = omega arith;
       encoded =
           encoded_more c.args.state.now c.args.log.now c.terms.log c.encode.new.log c.args.reached.now (c.terms.at - 1) (get_or c.args.reached.now (c.terms.at - 1) 0) encoded c.in_ok-encode.ensures.grows
-          (λ d. any_default c.args.reached.now (c.terms.at - 1) 0 d within) c.in_ok-encode.ensures.bits;
+          (λ d. get_or_default c.args.reached.now (c.terms.at - 1) 0 d within) c.in_ok-encode.ensures.bits;
     }
 
 pub returns : goal.returns

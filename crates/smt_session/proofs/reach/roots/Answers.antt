@@ -1,8 +1,8 @@
 use Rattle.std.proofs.Common.{◌≤◌, List, ◌++◌, length, map, ap, ◌∙◌, subst}
+use Rattle.std.proofs.lemmas.List.{take_all}
 use Rattle.scope_selectors.specs.declared.live.Live.{Live}
 use Rattle.script_state.specs.declared.answer.Asked.{Asked}
 use Rattle.script_state.specs.States.{assumptions}
-use Rattle.smt_session.proofs.Printing.{take_all}
 use Rattle.smt_session.proofs.Satisfied.{roots_found}
 use Rattle.smt_session.proofs.reach.roots.Goals as goal
 

@@ -1,7 +1,8 @@
 use Rattle.cnf_base.specs.declared.clause.ClauseId.{ClauseId}
+use Rattle.cnf_base.proofs.Lists.{each_map}
 use Rattle.proof_text.specs.Lines.{IsHint}
 use Rattle.proof_text.specs.Entries.{written_hint}
-use Rattle.smt_session.proofs.LineByLine.{each_all, each_mapped, each_more}
+use Rattle.smt_session.proofs.LineByLine.{each_all, each_more}
 use Rattle.smt_session.proofs.readable.read_hints.Goals as goal
 
 pub loop-hint-preserved : goal.loop-hint-preserved
@@ -10,5 +11,5 @@ loop-hint-preserved c =
 
 pub returns : goal.returns
 returns c =
-    each_mapped written_hint IsHint c.args.hints.now
+    each_map written_hint IsHint c.args.hints.now
     (each_all (λ (h : ClauseId). IsHint (written_hint h)) c.args.hints.now c.loop-hint.hint-index c.loop-hint-test.false c.loop-hint.invariant)

@@ -3,8 +3,9 @@ use Rattle.std.specs.Prelude.{All}
 use Rattle.smt_terms.specs.Terms.{TermsValue}
 use Rattle.smt_values.specs.Held as set
 use Rattle.smt_eval.specs.Evaluated.{AreSuited}
-use Rattle.smt_session.proofs.Valuing.{are_suited, terms_held, same_interpretation, found_within, found_plain, item_more, read_held}
+use Rattle.smt_session.proofs.Valuing.{terms_held, found_within, found_plain, item_more, read_held}
 use Rattle.smt_session.proofs.values.value_items.Goals as goal
+use Rattle.accepted_proof.proofs.Valuing.{are_suited, same_interpretation}
 
 pub values_of-requires-clause-suited : goal.values_of-requires-clause-suited
 values_of-requires-clause-suited c = subst (λ (v : TermsValue). AreSuited v.nodes c.in_ok-interp.interp) (sym c.terms.ensures.terms) (are_suited c.args.state.now c.terms.ensures.state c.in_ok-interp.interp)

@@ -1,8 +1,8 @@
 use Rattle.std.proofs.Common.{◌≡◌, ◌+◌, ◌-◌, length, get_or, Some, ap, ◌∙◌, arith}
 use Rattle.std.specs.Prelude.{◌==◌, if◌then◌else◌}
 use Rattle.smt_values.specs.Held.{set_for}
-use Rattle.smt_session.proofs.Valuing.{values_more}
-use Rattle.smt_session.proofs.values.interp_of.Goals as goal
+use Rattle.accepted_proof.proofs.Valuing.{values_more}
+use Rattle.accepted_proof.proofs.values.interp_of.Goals as goal
 
 pub loop-done-preserved : goal.loop-done-preserved
 loop-done-preserved c =
