@@ -6,6 +6,7 @@ use Rattle.std.proofs.lemmas.List.Elements.{All-from_recursion, recursion_from_A
 use Rattle.std.proofs.lemmas.List.Folds.{Any-from_list_any, list_any-from_Any}
 use Rattle.std.proofs.lemmas.List.Sums.{AllPass-from_list_all, list_all-from_AllPass}
 use Rattle.std.specs.Cmp.{unsigned_Decides}
+use Rattle.std.proofs.lemmas.Bool.{or_cases, or_left, or_right}
 use Rattle.cnf_base.specs.Literals.{Literal, negated, code_of}
 use Rattle.cnf_base.proofs.Codes.{code_of-injective}
 use Rattle.smt_terms.specs.Bits.{bits_in}
@@ -35,17 +36,6 @@ record IsAsserted (o : Option Asserted) (m : Literal) : Type 0 where
 asserted_found : (o : Option Asserted) (m : Literal) → literal_of o ≡ Some m → IsAsserted o m
 asserted_found None m e = let f : ⊥ = cc in absurd f
 asserted_found (Some r) m e = record { asserted = r; some = refl; literal = let q : m ≡ r.literal = cc in q }
-
-either : (a b : Bool) → (a || b) ≡ true → (a ≡ true) ⊎ (b ≡ true)
-either true b e = inl refl
-either false b e = inr e
-
-or_left : (a b : Bool) → a ≡ true → (a || b) ≡ true
-or_left a b e = ap (λ x. x || b) e
-
-or_right : (a b : Bool) → b ≡ true → (a || b) ≡ true
-or_right true b e = refl
-or_right false b e = e
 
 module _ (s : StateValue) (log : LogValue) (kept : IsKept s.terms.nodes log) where
   abbrev is_selected : Literal → Bool
@@ -89,7 +79,7 @@ module _ (s : StateValue) (log : LogValue) (kept : IsKept s.terms.nodes log) whe
   against_by k (inr e) = inr (assumed_found k e)
 
   against_found : (k : Literal) → is_blamed k ≡ true → IsAgainstOne s s.terms.nodes log.entries k
-  against_found k e = against_by k (either (is_selected k) (is_assumed k) e)
+  against_found k e = against_by k (or_cases (is_selected k) (is_assumed k) e)
 
   against_there : (k : Literal) → IsAgainstOne s s.terms.nodes log.entries k → is_blamed k ≡ true
   against_there k (inl h) = or_left (is_selected k) (is_assumed k) (selected_there k h)

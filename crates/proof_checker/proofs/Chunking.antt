@@ -4,11 +4,10 @@ use Rattle.std.specs.Prelude.{option_to_list}
 use Rattle.smt_text.specs.declared.chunk.Chunk.{Chunk}
 use Rattle.smt_text.specs.Search.{stop_at}
 use Rattle.smt_text.specs.Chunks.{first_cut}
-use Rattle.smt_text.specs.Framing.{Held, first_chunk, last_chunk}
+use Rattle.smt_text.specs.Framing.{Held, first_chunk, last_chunk, and_more}
 use Rattle.smt_text.specs.Script.{Begins}
-use Rattle.smt_text.proofs.Cuts.{first_chunk-append, first_chunk_shrinks}
+use Rattle.smt_text.proofs.Cuts.{first_chunk-append, first_chunk_shrinks, one_cut}
 use Rattle.proof_checker.specs.Checked.{AreCut}
-use Rattle.proof_checker.specs.Checkings.{and_more}
 
 pub more_none : (h : Held) (more : List ℕ) → more ≡ [] → and_more h more ≡ h
 more_none h more e = (λ i. record { line = h.line; bytes = (ap (λ x. h.bytes ++ x) e ∙ append-nil h.bytes) i })
@@ -66,21 +65,9 @@ cut_there h = cut_by (length h.bytes) h (first_chunk h) (omega arith) refl
 
 -- ---- and in one way
 
-chunk_known : (c e : Chunk) (m n : Held) → ◌≡◌ {A = Option (Chunk × Held)} (Some (c, m)) (Some (e, n)) → (c ≡ e) × (m ≡ n)
-chunk_known c e m n q = let p : ◌≡◌ {A = Chunk × Held} (c, m) (e, n) = cc in (ap (λ x. x.0) p, ap (λ x. x.1) p)
-
-begins_one : (h : Held) (cs es : List Chunk) (rest end : Held) → Begins h cs rest → Begins h es end → first_chunk rest ≡ None → first_chunk end ≡ None → (cs ≡ es) × (rest ≡ end)
-begins_one h [] [] rest end p q a b = (refl, p ∙ sym q)
-begins_one h [] (e ∷ es) rest end p q a b = let n : first_chunk h ≡ None = ap first_chunk (sym p) ∙ a in let z : ⊥ = (let s = q.1 in cc) in absurd z
-begins_one h (c ∷ cs) [] rest end p q a b = let n : first_chunk h ≡ None = ap first_chunk (sym q) ∙ b in let z : ⊥ = (let s = p.1 in cc) in absurd z
-begins_one h (c ∷ cs) (e ∷ es) rest end p q a b =
-    let same = chunk_known c e p.0 q.0 (sym p.1 ∙ q.1) in
-    let more = begins_one p.0 cs es rest end p.2 (subst (λ m. Begins m es end) (sym same.1) q.2) a b in
-    (ap (λ x. x ∷ cs) same.0 ∙ ap (λ xs. e ∷ xs) more.0, more.1)
-
 pub cut_one : (h : Held) (cs es : List Chunk) → AreCut h cs → AreCut h es → cs ≡ es
 cut_one h cs es a b =
-    let same = begins_one h a.whole b.whole a.rest b.rest a.begins b.begins a.ends b.ends in
+    let same = one_cut h a.whole b.whole a.rest b.rest a.begins a.ends b.begins b.ends in
     a.all ∙ ap (λ xs. xs ++ option_to_list (last_chunk a.rest)) same.0 ∙ ap (λ r. b.whole ++ option_to_list (last_chunk r)) same.1 ∙ sym b.all
 
 -- chunks, and those behind them

@@ -4,7 +4,7 @@ use Rattle.std.specs.Prelude.{◌⊎◌, ◌||◌, Result, Ok, Err, IfOk, MatchR
 use Rattle.std.specs.Result.{result_err}
 use Rattle.std.specs.List.{list_any}
 use Rattle.smt_text.specs.declared.chunk.Chunk.{Chunk}
-use Rattle.smt_text.specs.Framing.{Held}
+use Rattle.smt_text.specs.Framing.{Held, and_more}
 use Rattle.script_state.specs.declared.answer.Verdict.{Verdict}
 use Rattle.script_state.specs.Readings.{ReadsAs}
 use Rattle.script_state.specs.Steps.{ends}
@@ -15,7 +15,7 @@ use Rattle.accepted_proof.specs.Judged.{Judging, no_judging, commanded, is_idle,
 use Rattle.accepted_proof.proofs.Following.{reach_here}
 use Rattle.proof_checker.specs.Checkers.{Says, CheckerValue, no_records, judged_so, GoesTo, answer_by, at_end}
 use Rattle.proof_checker.specs.Checked.{shown_at, AreCut, AreLines, Tells, IsTold}
-use Rattle.proof_checker.specs.Checkings.{and_more, MayCome, to_be_done, told_from, IsJudgedFrom, AreToCome, Keeps, verdicts_by, Concludes, held_by, IsSameScript, IsSameProof, TakesLine, TakesChunk, IsProofAtEnd, IsScriptAtEnd, IsLeft, HasNoCommand, IsAtLine, Stops, Advances}
+use Rattle.proof_checker.specs.Checkings.{MayCome, to_be_done, told_from, IsJudgedFrom, AreToCome, Keeps, verdicts_by, Concludes, held_by, IsSameScript, IsSameProof, TakesLine, TakesChunk, IsProofAtEnd, IsScriptAtEnd, IsLeft, HasNoCommand, IsAtLine, Stops, Advances}
 use Rattle.proof_checker.specs.declared.inputs.Inputs.{Inputs}
 use Rattle.proof_checker.specs.declared.checking.Checking.{Checking}
 use Rattle.proof_checker.specs.declared.checking.Judgement.{Judgement}

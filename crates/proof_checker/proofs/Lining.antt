@@ -2,12 +2,13 @@
 use Rattle.std.proofs.Common.{◌≡◌, ℕ, zero, suc, ◌<◌, ◌≤◌, ◌^◌, List, [], ◌∷◌, ◌++◌, length, map, get_or, slice_get, All, Bool, true, false, MatchBool, MatchOption, Option, Some, None, Result, Ok, Err, position, refl, sym, ap, ◌∙◌, subst, arith, ⊎_elim, length-append}
 use Rattle.std.specs.List.{AllByRecursion}
 use Rattle.std.specs.Prelude.{IfOk}
-use Rattle.std.specs.Option.{option_map}
 use Rattle.std.proofs.lemmas.List.{length-map}
 use Rattle.std.proofs.lemmas.List.Elements.{recursion_from_All}
 use Rattle.cnf_base.specs.Literals.{Literal, negated}
 use Rattle.cnf_base.specs.Assignments.{AreBelow}
 use Rattle.cnf_base.specs.declared.clause.ClauseId.{ClauseId}
+use Rattle.cnf_base.proofs.Options.{same_found}
+use Rattle.cnf_base.proofs.Lists.{each_slice_get}
 use Rattle.hint_chain.specs.Chains.{Lookup, ChainFrom, IsChain}
 use Rattle.smt_terms.specs.declared.sort.Sort.{Sort}
 use Rattle.smt_terms.specs.declared.sort.Signature.{Signature}
@@ -18,7 +19,7 @@ use Rattle.smt_terms.specs.declared.node.Op.TheVariants as op
 use Rattle.smt_terms.specs.declared.node.Node.{Node}
 use Rattle.smt_terms.specs.Nodes.{node_of}
 use Rattle.smt_terms.specs.Ranks.{ranked, application, and_then}
-use Rattle.smt_terms.specs.Terms.{TermsValue, IsTermList, held_sort, node_sort, numbered, make}
+use Rattle.smt_terms.specs.Terms.{TermsValue, IsTermList, held_sort, node_sort, numbered, make, with_node}
 use Rattle.smt_terms.proofs.Growing.{node_last}
 use Rattle.smt_build.specs.Names.{IsDeclared}
 use Rattle.smt_build.proofs.Longer.{list_made}
@@ -29,8 +30,7 @@ use Rattle.proof_log.specs.declared.entry.Entry.TheVariants as entry
 use Rattle.proof_log.specs.Logs.{state_of, clause_at}
 use Rattle.proof_log.specs.Stored.{LogValue, Stands}
 use Rattle.proof_log.specs.Faults as faults
-use Rattle.proof_log.specs.Faults.{IsNewNode, IsValid, terms_after, with_node}
-use Rattle.proof_log.proofs.Growing.{each_get}
+use Rattle.proof_log.specs.Faults.{IsNewNode, IsValid, terms_after}
 use Rattle.proof_log.proofs.Standing.{stands_over}
 use Rattle.proof_text.specs.declared.list.WrittenLiteral.{WrittenLiteral}
 use Rattle.proof_text.specs.declared.list.WrittenHint.{WrittenHint}
@@ -42,16 +42,13 @@ use Rattle.proof_text.specs.Entries.{head_of, written_literal, written_hint, ent
 use Rattle.accepted_proof.specs.Turns.{IsOfScript}
 use Rattle.accepted_proof.specs.Judged.{IsStepOf}
 use Rattle.accepted_proof.proofs.Good.{step_grows, step_list}
-use Rattle.accepted_proof.proofs.Once.{same_entry}
+use Rattle.accepted_proof.proofs.Once.{same_entry, term_line}
 use Rattle.proof_checker.specs.Checkers.{IsChainOf, IsTaken}
 
 -- ---- steps
 
-one_signature : (o : Option Signature) (a b : Signature) → o ≡ Some a → o ≡ Some b → a ≡ b
-one_signature o a b p q = cc
-
 pub declared_step : (s : StateValue) (e : Entry) → IsState s → IsOfScript s e → faults.IsDeclared s.terms e
-declared_step s (entry.Node n) is of = λ t d p q. one_signature (slice_get s.symbols.signatures d) _ _ (is.declared.each t d p) (of.each d q)
+declared_step s (entry.Node n) is of = λ t d p q. same_found (slice_get s.symbols.signatures d) _ _ (is.declared.each t d p) (of.each d q)
 declared_step s (entry.Leaf t) is of = tt
 declared_step s (entry.Encode t) is of = tt
 declared_step s (entry.Selector a t) is of = tt
@@ -102,7 +99,7 @@ no_apply d signatures (op.Repeat k) v args all i e h = let f : ⊥ = cc in f
 no_apply d signatures (op.Constant k s) v args all i e h = let f : ⊥ = cc in f
 no_apply d signatures (op.Param k s) v args all i e h = let f : ⊥ = cc in f
 no_apply d signatures (op.Apply k s) v args all i e h =
-    let plain = each_get IsPlainConstant signatures k s (recursion_from_All IsPlainConstant signatures all) (i.each k refl) in
+    let plain = each_slice_get IsPlainConstant signatures k s (recursion_from_All IsPlainConstant signatures all) (i.each k refl) in
     let sort = made_sort v (node_of (op.Apply k s) args) _ h.made in
     no_rank s (map (held_sort v.nodes) args) sort.0 plain.constant sort.1
 
@@ -112,16 +109,6 @@ new_args v n list new =
     let more : IsTermList (v.nodes ++ n ∷ []) = list_made v (with_node v n) n (length v.nodes) new.made list in
     let last = more (length v.nodes) (omega (arith, length-append v.nodes (n ∷ []))) in
     subst (λ (m : Node). AllByRecursion (λ a. a < length v.nodes) m.args) (node_last v.nodes n) last.earlier
-
--- the head and the arguments of a term's line
-record IsTermLine (o : Option Head) (args : List ℕ) (l : Line) : Type 0 where
-  pub head : Head
-  pub some : o ≡ Some head
-  pub written : l ≡ line.Term head args
-
-term_line : (o : Option Head) (args : List ℕ) (l : Line) → option_map (λ h. line.Term h args) o ≡ Some l → IsTermLine o args l
-term_line None args l e = let q : ⊥ = cc in absurd q
-term_line (Some h) args l e = record { head = h; some = refl; written = let q : l ≡ line.Term h args = cc in q }
 
 -- where a term's line is that of a node, the node is of its head and arguments
 pub term_head : (n : Node) (h : Head) (args : List ℕ) → entry_line (entry.Node n) ≡ Some (line.Term h args) → (head_of n.op ≡ Some h) × (n.args ≡ args)

@@ -2,6 +2,7 @@
 use Rattle.std.proofs.Common.{◌≡◌, ℕ, ◌+◌, List, [], ◌∷◌, ◌++◌, map, length, Option, Some, None, refl, sym, ap, ◌∙◌, subst, inl, inr, arith, append_assoc, append-nil}
 use Rattle.std.specs.Prelude.{◌⊎◌, ◌||◌, true, Err}
 use Rattle.std.specs.List.{list_any, flat_map, AllByRecursion}
+use Rattle.std.proofs.lemmas.List.{length-map, length-append, nil_from_length}
 use Rattle.smt_text.specs.declared.chunk.Chunk.{Chunk}
 use Rattle.smt_text.specs.Script.{AreChunks}
 use Rattle.script_state.specs.declared.answer.Verdict.{Verdict}
@@ -38,19 +39,11 @@ no_reading = Err UnfinishedCommand
 abbrev some_readings : List Chunk → List Says
 some_readings cs = map (λ _. no_reading) cs
 
-mapped_length : {A B : Type 0} (f : A → B) (xs : List A) → length (map f xs) ≡ length xs
-mapped_length f [] = refl
-mapped_length f (x ∷ xs) = let e = mapped_length f xs in omega arith
-
 read_length : (cs : List Chunk) (ss : List Says) → ReadEach cs ss → length ss ≡ length cs
 read_length [] [] r = refl
 read_length [] (s ∷ ss) r = absurd r
 read_length (c ∷ cs) [] r = absurd r
 read_length (c ∷ cs) (s ∷ ss) r = let e = read_length cs ss r.1 in omega arith
-
-length_both : {A : Type 0} (xs ys : List A) → length (xs ++ ys) ≡ length xs + length ys
-length_both [] ys = omega arith
-length_both (x ∷ xs) ys = let e = length_both xs ys in omega arith
 
 -- readings of all chunks, however many of the first ones were read in either way
 record AreReadings (ss ts : List Says) (ms ns : List Chunk) : Type 0 where
@@ -66,12 +59,12 @@ readings [] es ms ns [] ts e r q = record {
   other = some_readings ns;
   same = refl;
   long =
-      let a = length_both ts (some_readings ns) in
+      let a = length-append ts (some_readings ns) in
       let b = read_length es ts q in
-      let c = mapped_length (λ (x : Chunk). no_reading) ns in
-      let d = length_both es ns in
+      let c = length-map ns (λ (x : Chunk). no_reading) in
+      let d = length-append es ns in
       let f = ap length e in omega arith;
-  too = mapped_length (λ (x : Chunk). no_reading) ns;
+  too = length-map ns (λ (x : Chunk). no_reading);
 }
 readings [] es ms ns (s ∷ ss) ts e r q = absurd r
 readings (c ∷ cs) es ms ns [] ts e r q = absurd r
@@ -79,12 +72,12 @@ readings (c ∷ cs) [] ms ns (s ∷ ss) [] e r q = record {
   rest = some_readings ms;
   other = (s ∷ ss) ++ some_readings ms;
   same = refl;
-  long = mapped_length (λ (x : Chunk). no_reading) ms;
+  long = length-map ms (λ (x : Chunk). no_reading);
   too =
-      let a = length_both (s ∷ ss) (some_readings ms) in
+      let a = length-append (s ∷ ss) (some_readings ms) in
       let b = read_length (c ∷ cs) (s ∷ ss) r in
-      let d = mapped_length (λ (x : Chunk). no_reading) ms in
-      let g = length_both (c ∷ cs) ms in
+      let d = length-map ms (λ (x : Chunk). no_reading) in
+      let g = length-append (c ∷ cs) ms in
       let f = ap length e in omega arith;
 }
 readings (c ∷ cs) [] ms ns (s ∷ ss) (t ∷ ts) e r q = absurd q
@@ -148,7 +141,7 @@ all_told script proof vs h (inl none) =
     }
 all_told script proof vs h (inr ended) =
     let more = some_readings h.behind in
-    let m = header_told h.lines (h.says ++ more) vs (h.told more (mapped_length (λ (x : Chunk). no_reading) h.behind)) in
+    let m = header_told h.lines (h.says ++ more) vs (h.told more (length-map h.behind (λ (x : Chunk). no_reading))) in
     record {
       all = inr (ended, front_fewer script h.chunks h.behind (inr (all_cut script (h.chunks ++ h.behind) h.cut)));
       limits = m.0;
@@ -203,12 +196,8 @@ is_behind script chunks turns (inr (e, inl b)) =
     let k = cut_there b.0 in
     record { behind = k.0; cut = cut_behind (record { line = 1; bytes = script }) chunks k.0 b.0 b.1 k.1; none = inr (ended_says turns ∙ e) }
 
-no_length : (rest : List Says) → length rest ≡ 0 → rest ≡ []
-no_length [] n = refl
-no_length (r ∷ rest) n = absurd (omega arith)
-
 told_behind : (limits : Limits) (lines : List (Option Line)) (says rest : List Says) (behind : List Chunk) (vs : List Verdict) → (behind ≡ []) ⊎ (list_any ends says ≡ true) → length rest ≡ length behind → Tells (no_judging limits) says lines vs None → Tells (no_judging limits) (says ++ rest) lines vs None
-told_behind limits lines says rest behind vs (inl none) n h = subst (λ x. Tells (no_judging limits) x lines vs None) (sym (ap (λ x. says ++ x) (no_length rest (n ∙ ap length none)) ∙ append-nil says)) h
+told_behind limits lines says rest behind vs (inl none) n h = subst (λ x. Tells (no_judging limits) x lines vs None) (sym (ap (λ x. says ++ x) (nil_from_length rest (n ∙ ap length none)) ∙ append-nil says)) h
 told_behind limits lines says rest behind vs (inr ended) n h = tells_more lines rest None (no_judging limits) says vs ended h
 
 pub accepted_pass : TurnsLaw → (limits : Limits) (script proof : List ℕ) (turns : List Turn) → Accepted limits script proof turns → AllByRecursion IsLine (flat_map turn_lines turns) → IsAccepted script proof (verdicts_of turns)

@@ -1,14 +1,16 @@
 -- The lines of a text.
 use Rattle.std.proofs.Common.{◌≡◌, ◌≢◌, ℕ, ◌+◌, ◌<◌, Bool, true, false, not, List, [], ◌∷◌, ◌++◌, length, Option, Some, None, refl, sym, ap, ◌∙◌, subst, inl, inr, arith, append_assoc, append-nil, length-append, eqb}
-use Rattle.std.specs.Prelude.{◌&&◌, Result, Ok, Err}
-use Rattle.std.proofs.lemmas.Bool.{eq-eqb, eqb-true}
+use Rattle.std.specs.Prelude.{Result, Ok, Err}
+use Rattle.std.proofs.lemmas.Bool.{eq-eqb, eqb-true, and_parts}
 use Rattle.proof_text.specs.declared.line.Line.{Line}
 use Rattle.proof_text.specs.declared.reader.LineFault.{LineFault}
-use Rattle.proof_text.specs.Held.{Held, without_feed, IsNext, Answers}
+use Rattle.proof_text.specs.Held.{without_feed, IsNext, Answers}
 use Rattle.proof_text.specs.Reading.{fields, line_of}
 use Rattle.proof_text.proofs.Exact.{line_once, answer_line, answer_none}
+use Rattle.proof_text.proofs.Running.{some_bytes}
 use Rattle.proof_checker.specs.Checkers.{line_in, IsRead}
 use Rattle.proof_checker.specs.Checked.{IsLineOf, AreLines}
+use Rattle.smt_text.specs.Framing.{Held}
 
 -- ---- one line more
 
@@ -26,10 +28,6 @@ less_next old new text n =
     let f : length (text ++ 10 ∷ new.bytes) ≡ length text + length (10 ∷ new.bytes) = length-append text (10 ∷ new.bytes) in
     let g : length (10 ∷ new.bytes) ≡ length new.bytes + 1 = omega arith in
     omega arith
-
-some_bytes : (t more : List ℕ) → t ++ 10 ∷ more ≡ [] → ⊥
-some_bytes [] more e = let z : ⊥ = cc in z
-some_bytes (b ∷ t) more e = let z : ⊥ = cc in z
 
 pub lines_nothing : (ls : List (Option Line)) → AreLines [] ls → ls ≡ []
 lines_nothing [] h = refl
@@ -73,19 +71,15 @@ lines_there (b ∷ bs) = let m = lines_there bs in one_more (eqb b 10) b bs m.0 
 
 -- ---- and in one way
 
-and_both : (a b : Bool) → (a && b) ≡ true → (a ≡ true) × (b ≡ true)
-and_both true b e = (refl, e)
-and_both false b e = absurd (let z : ⊥ = cc in z)
-
 no_feed_here : (b : ℕ) (bs : List ℕ) → b ≡ 10 → without_feed (b ∷ bs) ≡ true → ⊥
 no_feed_here b bs e h =
-    let p = and_both (not (eqb b 10)) (without_feed bs) h in
+    let p = and_parts (not (eqb b 10)) (without_feed bs) h in
     let f : eqb b 10 ≡ true = eq-eqb b 10 e in
     let z : ⊥ = cc in z
 
 has_feed : (a more : List ℕ) → without_feed (a ++ 10 ∷ more) ≡ true → ⊥
 has_feed [] more h = no_feed_here 10 more refl h
-has_feed (b ∷ a) more h = has_feed a more (and_both (not (eqb b 10)) (without_feed (a ++ 10 ∷ more)) h).1
+has_feed (b ∷ a) more h = has_feed a more (and_parts (not (eqb b 10)) (without_feed (a ++ 10 ∷ more)) h).1
 
 first_feed : (a b x y : List ℕ) → without_feed a ≡ true → without_feed b ≡ true → a ++ 10 ∷ x ≡ b ++ 10 ∷ y → (a ≡ b) × (x ≡ y)
 first_feed [] [] x y f g e = (refl, let z : x ≡ y = cc in z)
@@ -94,8 +88,8 @@ first_feed (d ∷ a) [] x y f g e = absurd (no_feed_here d a (let z : d ≡ 10 =
 first_feed (d ∷ a) (c ∷ b) x y f g e =
     let head : d ≡ c = cc in
     let rest : a ++ 10 ∷ x ≡ b ++ 10 ∷ y = cc in
-    let p = and_both (not (eqb d 10)) (without_feed a) f in
-    let q = and_both (not (eqb c 10)) (without_feed b) g in
+    let p = and_parts (not (eqb d 10)) (without_feed a) f in
+    let q = and_parts (not (eqb c 10)) (without_feed b) g in
     let same = first_feed a b x y p.1 q.1 rest in
     (ap (λ v. v ∷ a) head ∙ ap (λ v. c ∷ v) same.0, same.1)
 

@@ -1,65 +1,34 @@
 -- Values that are written, and models of them.
-use Rattle.std.proofs.Common.{◌≡◌, ℕ, zero, suc, ◌+◌, ◌*◌, ◌/◌, ◌%◌, ◌^◌, ◌<◌, ◌≤◌, Bool, true, false, List, [], ◌∷◌, ◌++◌, length, take, drop, get_or, slice_get, Option, Some, refl, sym, ap, ◌∙◌, subst, arith, add-one}
-use Rattle.std.specs.Prelude.{◌==◌, if◌then◌else◌, All}
-use Rattle.std.proofs.lemmas.List.{at_drop_more, take_more, take_all}
+use Rattle.std.proofs.Common.{◌≡◌, ℕ, zero, suc, ◌+◌, ◌*◌, ◌/◌, ◌%◌, ◌^◌, ◌<◌, ◌≤◌, Bool, true, false, List, [], ◌∷◌, ◌++◌, length, take, get_or, slice_get, Option, Some, refl, sym, ap, ◌∙◌, subst, arith, add-one}
+use Rattle.std.specs.Prelude.{◌==◌, All}
+use Rattle.std.proofs.lemmas.List.{take_more, take_all}
 use Rattle.std.proofs.lemmas.List.Elements.{recursion_from_All, All-more, All-same, All-weaker}
 use Rattle.std.proofs.Math.Nat.{div-div-eq-div-mul, pow-succ'}
-use Rattle.smt_terms.specs.declared.sort.Sort.{Sort}
 use Rattle.smt_terms.specs.declared.sort.Sort.TheVariants as sort
 use Rattle.smt_terms.specs.declared.sort.Signature.{Signature}
-use Rattle.smt_terms.specs.declared.node.Op.{Op}
-use Rattle.smt_terms.specs.declared.node.Op.TheVariants as op
-use Rattle.smt_terms.specs.Nodes.{node_at}
-use Rattle.smt_terms.specs.Terms.{TermsValue, constant_signature, signature_of, declaration_of}
-use Rattle.smt_terms.specs.Values.{HasSort, Interpretation, VBool, VWord, is_true, value}
+use Rattle.smt_terms.specs.Terms.{TermsValue}
+use Rattle.smt_terms.specs.Values.{HasSort, Interpretation, VWord, is_true, value}
 use Rattle.smt_values.specs.declared.value.Value.{Value}
 use Rattle.smt_values.specs.declared.value.Value.TheVariants as kept
-use Rattle.smt_values.specs.Held.{meaning, set_for, constant_of, function_of, Suits}
+use Rattle.smt_values.specs.Held.{meaning, set_for}
 use Rattle.smt_values.specs.Held as set
-use Rattle.smt_eval.specs.Evaluated.{AreSuited, IsSuited, AreValues, held_value}
+use Rattle.smt_eval.specs.Evaluated.{AreValues, held_value}
 use Rattle.scope_selectors.specs.declared.live.Live.{Live}
-use Rattle.script_state.specs.Plain.{is_plain_sort}
 use Rattle.script_state.specs.declared.answer.Asked.{Asked}
 use Rattle.script_state.specs.States.{StateValue, IsState, IsPlainConstant, IsAssumption, assumptions}
-use Rattle.proof_log.proofs.Growing.{each_get}
 use Rattle.proof_text.specs.declared.line.WrittenValue.TheVariants as written
 use Rattle.proof_text.specs.Records.{binary, written_value}
 use Rattle.accepted_proof.specs.Models.{value_for, interpretation_of}
+use Rattle.accepted_proof.proofs.Once.{no_word_bool}
+use Rattle.accepted_proof.proofs.Valuing.{binary_length, same_interpretation}
+use Rattle.cnf_base.proofs.Lists.{each_slice_get}
 
 -- ---- models
-
-suits_plain : (s : Sort) (v : Option Value) → is_plain_sort s ≡ true → Suits s v
-suits_plain sort.Bool v e = tt
-suits_plain (sort.Word n) v e = tt
-suits_plain (sort.Array n m) v e = let f : ⊥ = cc in absurd f
 
 module _ (s : StateValue) (h : IsState s) where
   -- a declaration is a constant, and a Bool or a word
   pub plain_at : (d : ℕ) (g : Signature) → slice_get s.symbols.signatures d ≡ Some g → IsPlainConstant g
-  plain_at d g e = each_get IsPlainConstant s.symbols.signatures d g (recursion_from_All IsPlainConstant s.symbols.signatures h.constants) e
-
-  suited_op : (values : List (Option Value)) (t : ℕ) (o : Op) → (node_at s.terms.nodes t).op ≡ o → IsSuited o values
-  suited_op values t (op.Plain o) e = tt
-  suited_op values t (op.Word n x) e = tt
-  suited_op values t (op.Extract i j) e = tt
-  suited_op values t (op.ZeroExtend i) e = tt
-  suited_op values t (op.SignExtend i) e = tt
-  suited_op values t (op.RotateLeft i) e = tt
-  suited_op values t (op.RotateRight i) e = tt
-  suited_op values t (op.Repeat i) e = tt
-  suited_op values t (op.Constant d r) e =
-      let declared : slice_get s.symbols.signatures d ≡ Some (constant_signature r) = h.declared.each t d (ap declaration_of e) ∙ ap (λ x. Some (signature_of x)) e in
-      suits_plain r (set_for values d) (plain_at d (constant_signature r) declared).sort
-  suited_op values t (op.Apply d r) e = tt
-  suited_op values t (op.Param k r) e = tt
-
-  -- only plain constants are declared
-  pub are_suited : (values : List (Option Value)) → AreSuited s.terms.nodes values
-  are_suited values t lt = suited_op values t (node_at s.terms.nodes t).op refl
-
--- the interpretations of the same values
-pub same_interpretation : (held : List (Option Value)) (values : List (ℕ × Value)) → ((d : ℕ) → set_for held d ≡ value_for values d) → set.interpretation_of held ≡ interpretation_of values
-same_interpretation held values h = λ i. record { constants = λ d. constant_of (h d i); functions = λ d. function_of (h d i) }
+  plain_at d g e = each_slice_get IsPlainConstant s.symbols.signatures d g (recursion_from_All IsPlainConstant s.symbols.signatures h.constants) e
 
 -- a term's truth, as it is held
 pub truth_held : (M N : Interpretation) (s : StateValue) (values : List Value) (t : ℕ) (v : Value) (b : Bool) → M ≡ N → AreValues M s.terms.nodes values → t < length s.terms.nodes → v ≡ held_value values t → b ≡ is_true (meaning v) → is_true (value N s.terms.nodes t) ≡ b
@@ -98,14 +67,6 @@ module _ {A : Type 0} (term : A → ℕ) (items : List A) (s : StateValue) (inte
   pub all_whole : (k : ℕ) → length items ≤ k → All IsTrue (take k items) → All IsTrue items
   all_whole k le each = All-same IsTrue items (take k items) (sym (take_all k items le)) each
 
--- one value more, in front of those that were set
-pub values_more : (values : List (ℕ × Value)) (k n : ℕ) (p : ℕ × Value) (old new : List (Option Value)) → k < length values → n ≡ k + 1 → p ≡ get_or values k p → ((d : ℕ) → set_for old d ≡ value_for (drop n values) d)
-    → ((d : ℕ) → set_for new d ≡ (if d == p.0 then Some p.1 else set_for old d)) → (d : ℕ) → set_for new d ≡ value_for (drop k values) d
-values_more values k n p old new lt e here before after d =
-    after d
-    ∙ ap (λ o. if d == p.0 then Some p.1 else o) (before d ∙ ap (λ x. value_for (drop x values) d) e)
-    ∙ sym (at_drop_more (λ vs. value_for vs d) values k p lt ∙ ap (λ q. value_for (q ∷ drop (k + 1) values) d) (sym here))
-
 -- ---- digits
 
 half_digit : (x b : ℕ) → b < 2 → (2 * x + b) / 2 ≡ x
@@ -134,19 +95,11 @@ number_more digits i x b lt small same fits told =
       ap (λ k. binary k (2 * x + b)) (add-one i) ∙ binary_more i x b small ∙ ap (λ ds. ds ++ (b == 1) ∷ []) told ∙ ap (λ t. take i digits ++ t ∷ []) same ∙ sym (take_more digits i false lt),
     )
 
-pub binary_length : (n x : ℕ) → length (binary n x) ≡ n
-unfolding binary
-binary_length zero x = refl
-binary_length (suc n) x = ap suc (binary_length n x)
-
 pub binary_none : (x : ℕ) → binary 0 x ≡ []
 unfolding binary
 binary_none x = refl
 
 -- ---- values of sorts
-
-no_word_bool : (n : ℕ) (b : Bool) → HasSort (sort.Word n) (VBool b) → ⊥
-no_word_bool n b h = let e : VBool b ≡ VWord n h.0 = h.1 in cc
 
 word_width : (n w x : ℕ) → HasSort (sort.Word n) (VWord w x) → w ≡ n
 word_width n w x h = let e : VWord w x ≡ VWord n h.0 = h.1 in let q : w ≡ n = cc in q

@@ -1,7 +1,7 @@
 -- What contracts see of a check that reads its two texts in pieces.
 use Rattle.std.specs.Prelude.{◌≡◌, ◌⊎◌, ℕ, ◌+◌, ◌<◌, ◌≤◌, Bool, true, false, if◌then◌else◌, List, [], ◌∷◌, ◌++◌, length, Option, Some, None}
 use Rattle.smt_text.specs.declared.chunk.Chunk.{Chunk}
-use Rattle.smt_text.specs.Framing.{Held}
+use Rattle.smt_text.specs.Framing.{and_more}
 use Rattle.script_state.specs.declared.answer.Verdict.{Verdict}
 use Rattle.proof_text.specs.declared.line.Line.{Line}
 use Rattle.accepted_proof.specs.declared.refusal.Refusal.{Refusal}
@@ -21,10 +21,6 @@ use Rattle.proof_checker.specs.declared.checking.Step.{Step}
 use Rattle.proof_checker.specs.declared.checking.Step.TheVariants as step
 
 -- ---- what is still to come
-
--- more bytes behind what is held
-abbrev pub and_more : Held → List ℕ → Held
-and_more h more = record { line = h.line; bytes = h.bytes ++ more }
 
 -- nothing comes behind an end
 abbrev pub MayCome : Bool → List ℕ → Type 0

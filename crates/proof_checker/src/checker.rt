@@ -65,6 +65,12 @@ impl Checker {
         self.verdicts.as_slice()
     }
 
+    // Memory is wanting. The checker is dropped here, and not part by part wherever a function has to stop.
+    pub(crate) fn starve(self) -> AllocError {
+        drop(self);
+        AllocError
+    }
+
     // The next line is refused.
     pub(crate) fn refuse(self, rule: RuleName) -> Checker
         ensures { result ≡ judged_so self (refused self.judging rule) }
@@ -73,11 +79,12 @@ impl Checker {
             limits,
             state,
             log,
-            due: _,
+            due,
             values,
             line,
             verdicts,
         } = self;
+        drop(due);
         Checker {
             limits,
             state,
@@ -119,16 +126,20 @@ impl Checker {
         requires more { self.judging.line + 1 < 2 ^ 64 }
         ensures { IfOk result (λ c. c ≡ closed_with self verdict) }
     {
+        let mut checker = self;
+        let Ok(()) = checker.verdicts.push(verdict) else {
+            return Err(checker.starve());
+        };
         let Checker {
             limits,
             mut state,
             log,
-            due: _,
+            due,
             values,
             line,
-            mut verdicts,
-        } = self;
-        verdicts.push(verdict)?;
+            verdicts,
+        } = checker;
+        drop(due);
         state.conclude(verdict);
         Ok(Checker {
             limits,
@@ -191,7 +202,7 @@ impl Checker {
         ensures told { IfOk result (λ r. r.1 ≡ answer_by r.0.judging.owed) }
     {
         if self.line == u64::MAX {
-            return Err(AllocError);
+            return Err(self.starve());
         }
         let checker = match line {
             Ok(line) => self.whole_line(alloc, line)?,

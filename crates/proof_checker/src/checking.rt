@@ -105,7 +105,11 @@ fn judge_line(alloc: Global, mut inputs: Inputs, checker: Checker) -> Result<Ste
     requires { IsAtLine inputs checker }
     ensures { IfOk result (λ r. Advances inputs (Some checker) r) }
 {
-    match inputs.next_line(alloc)? {
+    let Ok(next) = inputs.next_line(alloc) else {
+        drop((inputs, checker));
+        return Err(AllocError);
+    };
+    match next {
         NextLine::Line(line) => {
             let (checker, told) = checker.line(alloc, &line)?;
             match told {
@@ -138,7 +142,11 @@ fn do_command(alloc: Global, mut inputs: Inputs, checker: Checker) -> Result<Ste
     requires { is_idle checker.judging.owed ≡ true }
     ensures { IfOk result (λ r. Advances inputs (Some checker) r) }
 {
-    match inputs.next_chunk()? {
+    let Ok(next) = inputs.next_chunk() else {
+        drop((inputs, checker));
+        return Err(AllocError);
+    };
+    match next {
         NextChunk::Chunk(chunk) => {
             let (checker, ended) = checker.apply(alloc, &chunk)?;
             inputs.run_ended = ended;

@@ -7,7 +7,7 @@ ghost use Rattle.script_state.specs.Readings.{ReadsAs};
 ghost use Rattle.script_state.specs.Steps.{step, settled, ends};
 ghost use Rattle.accepted_proof.specs.Searching as searching;
 ghost use Rattle.accepted_proof.specs.Judged.{commanded, owed_by, is_idle};
-ghost use Rattle.script_state.specs.States.{StateValue};
+ghost use Rattle.script_state.specs.States.{IsState, StateValue};
 ghost use Rattle.proof_log.specs.declared.entry.Entry.{Entry as Step};
 ghost use Rattle.proof_checker.specs.Checkers.{Says, judged_so, owed_of, IsOpen, IsNoted};
 
@@ -43,10 +43,14 @@ fn is_exit(answer: &Answer) -> bool
 /// Does a command of the script. The terms whose values it asks for are forgotten, since no proof has them.
 fn obey(alloc: Global, mut state: State, chunk: &Chunk) -> Result<(State, Answer), AllocError>
     requires assertions { state.scopes.made + 1 < 2 ^ 32 }
-    ensures { IfOk result (λ r. (says : Says) × ReadsAs chunk.now says × (r.1 ≡ (step state says).0) × (r.0 ≡ settled state (step state says).0 (step state says).1)) }
+    ensures state { IsState state }
+    ensures does { IfOk result (λ r. (says : Says) × ReadsAs chunk.now says × (r.1 ≡ (step state says).0) × (r.0 ≡ settled state (step state says).0 (step state says).1)) }
 {
     let held = state.terms().len();
-    let answer = state.apply(alloc, chunk)?;
+    let Ok(answer) = state.apply(alloc, chunk) else {
+        drop(state);
+        return Err(AllocError);
+    };
     if let Answer::Values(_) = &answer {
         state.forget(held);
         return Ok((state, answer));
@@ -61,19 +65,23 @@ impl Checker {
         requires { is_idle self.judging.owed ≡ true }
         ensures { IfOk result (λ r. (says : Says) × ReadsAs chunk.now says × (r.0 ≡ judged_so self (commanded self.judging says)) × (r.1 ≡ ends says)) }
     {
+        if self.state.assertions_made() == u32::MAX {
+            return Err(self.starve());
+        }
         let Checker {
             limits,
             state,
             log,
-            due: _,
+            due,
             values,
             line,
             verdicts,
         } = self;
-        if state.assertions_made() == u32::MAX {
+        drop(due);
+        let Ok((state, answer)) = obey(alloc, state, chunk) else {
+            drop((log, values, verdicts));
             return Err(AllocError);
-        }
-        let (state, answer) = obey(alloc, state, chunk)?;
+        };
         let ended = is_exit(&answer);
         let checker = Checker {
             limits,

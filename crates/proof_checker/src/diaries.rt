@@ -113,11 +113,12 @@ impl Checker {
             limits,
             state,
             log,
-            due: _,
+            due,
             values,
             line,
             verdicts,
         } = self;
+        drop(due);
         Checker {
             limits,
             state,
@@ -143,10 +144,13 @@ impl Checker {
         if count == 0 {
             return Ok(self.refuse(RuleName::Diary));
         }
-        match search(alloc, &self.state, &self.log, self.limits, cube, start)? {
-            Some(given) => {
-                let noting = open(alloc, &self.log, given.as_slice(), cube, start, count - 1)?;
-                Ok(self.owe_lines(noting))
+        let Ok(given) = search(alloc, &self.state, &self.log, self.limits, cube, start) else {
+            return Err(self.starve());
+        };
+        match given {
+            Some(given) => match open(alloc, &self.log, given.as_slice(), cube, start, count - 1) {
+                Ok(noting) => Ok(self.owe_lines(noting)),
+                Err(_) => Err(self.starve()),
             }
             None => Ok(self.refuse(RuleName::Diary)),
         }
@@ -190,7 +194,10 @@ impl Checker {
         let Due::Noted(noting) = due else {
             unreachable!()
         };
-        let (noting, stands) = with_line(&log, noting, line)?;
+        let Ok((noting, stands)) = with_line(&log, noting, line) else {
+            drop((state, log, values, verdicts));
+            return Err(AllocError);
+        };
         let checker = Checker {
             limits,
             state,

@@ -1,36 +1,24 @@
 // Models.
 
-ghost use Rattle.std.specs.Prelude.{◌≡◌, ◌<◌, ◌≤◌, ◌^◌, ℕ, length, Some, IfOk, MatchBool, MatchOption};
+ghost use Rattle.std.specs.Prelude.{◌≡◌, ◌<◌, ◌≤◌, ◌^◌, length, Some, IfOk, MatchBool, MatchOption};
 ghost use Rattle.smt_words.specs.Words.{IsWidth};
 ghost use Rattle.smt_terms.specs.Terms.{IsSort};
 ghost use Rattle.smt_terms.specs.Values.{HasSort, is_true};
 ghost use Rattle.smt_values.specs.declared.value.Value.{Value as Held};
-ghost use Rattle.smt_values.specs.Held.{meaning, set_for};
+ghost use Rattle.smt_values.specs.Held.{meaning};
 ghost use Rattle.proof_text.specs.Records.{binary, written_value};
 ghost use Rattle.smt_build.specs.declared.symbols.LiveName.{LiveName as Name};
-ghost use Rattle.accepted_proof.specs.Models.{value_for, interpretation_of, IsModel};
+ghost use Rattle.accepted_proof.specs.Models.{interpretation_of, IsModel};
 ghost use Rattle.accepted_proof.specs.Judged.{IsValueOf};
 
+use accepted_proof::interp_of;
 use proof_text::line::WrittenValue;
 use script_state::state::State;
 use smt_eval::Values;
 use smt_terms::sort::{DeclId, Sort};
-use smt_values::{Interp, Value};
+use smt_values::Value;
 use smt_words::Word;
 use std::alloc::{AllocError, Global};
-
-/// The interpretation that the values of declarations give.
-fn interp_of(alloc: Global, values: &[(DeclId, Value)]) -> Result<Interp, AllocError>
-    ensures { IfOk result (λ m. (d : ℕ) → set_for m d ≡ value_for values.now d) }
-{
-    let mut interp = Interp::new(alloc);
-    for done in 0..values.len() {
-        let place = values.len() - 1 - done;
-        let value = &values[place];
-        interp.set(value.0, value.1.copy()?)?;
-    }
-    Ok(interp)
-}
 
 /// Whether a value is true.
 fn is_true(value: &Value) -> bool

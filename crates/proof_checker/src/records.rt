@@ -46,12 +46,16 @@ impl Checker {
             limits,
             state,
             mut log,
-            due: _,
+            due,
             values,
             line: number,
             verdicts,
         } = self;
-        let (state, taken) = take_step(alloc, state, &mut log, line)?;
+        drop(due);
+        let Ok((state, taken)) = take_step(alloc, state, &mut log, line) else {
+            drop((log, values, verdicts));
+            return Err(AllocError);
+        };
         let checker = Checker {
             limits,
             state,
@@ -73,7 +77,10 @@ impl Checker {
         requires more { self.judging.line + 1 < 2 ^ 64 }
         ensures { IfOk result (λ c. GoesTo (AtStep self.judging (line.Unsat pos)) self c) }
     {
-        if is_refutation(alloc, &self.state, &self.log, pos)? {
+        let Ok(refutes) = is_refutation(alloc, &self.state, &self.log, pos) else {
+            return Err(self.starve());
+        };
+        if refutes {
             self.close(Verdict::Unsat)
         } else {
             Ok(self.refuse(RuleName::Unsat))

@@ -1,8 +1,7 @@
 // What the user of a check is told.
 
-ghost use Rattle.std.specs.Prelude.{◌≡◌, ◌++◌, IfOk, OnOk};
+ghost use Rattle.std.specs.Prelude.{◌≡◌, IfOk};
 ghost use Rattle.std.specs.List.{flat_map};
-ghost use Rattle.std.specs.Fmt.{decimal};
 ghost use Rattle.accepted_proof.specs.Answers.{verdict_text};
 ghost use Rattle.proof_checker.specs.Checkings.{verdicts_by};
 ghost use Rattle.proof_checker.specs.Reports.{rule_text, ending_text, report_text};
@@ -10,6 +9,7 @@ ghost use Rattle.proof_checker.specs.Reports.{rule_text, ending_text, report_tex
 use crate::checking::Judgement;
 use accepted_proof::refusal::{Refusal, RuleName};
 use script_state::answer::Verdict;
+use smt_text::number::push_number;
 use smt_text::text::Text;
 use std::alloc::{AllocError, Global};
 
@@ -46,14 +46,6 @@ fn verdict_line(verdict: Verdict) -> &'static [u8]
     }
 }
 
-/// Appends a number in decimal.
-fn push_decimal(alloc: Global, number: u64, out: &mut Text) -> Result<(), AllocError>
-    ensures { OnOk result (out.new ≡ out.old ++ decimal number) }
-{
-    let digits = format!(in alloc; "{number}")?;
-    out.push_slice(digits.as_bytes())
-}
-
 /// The line of a check's end: so many records are accepted, or the first bad line and its rule.
 fn ending_line(alloc: Global, accepted: u64, refusal: Option<Refusal>) -> Result<Text, AllocError>
     ensures { IfOk result (λ t. t ≡ ending_text accepted refusal) }
@@ -61,13 +53,13 @@ fn ending_line(alloc: Global, accepted: u64, refusal: Option<Refusal>) -> Result
     match refusal {
         None => {
             let mut text = Text::from_slice(alloc, b"accepted ")?;
-            push_decimal(alloc, accepted, &mut text)?;
+            push_number(&mut text, accepted)?;
             text.push_slice(b"\n")?;
             Ok(text)
         }
         Some(refusal) => {
             let mut text = Text::from_slice(alloc, b"refused line ")?;
-            push_decimal(alloc, refusal.line, &mut text)?;
+            push_number(&mut text, refusal.line)?;
             text.push_slice(b" rule ")?;
             text.push_slice(rule_name(refusal.rule))?;
             text.push_slice(b"\n")?;

@@ -26,11 +26,12 @@ impl Checker {
             limits,
             state,
             log,
-            due: _,
+            due,
             values: _,
             line,
             verdicts,
         } = self;
+        drop(due);
         Checker {
             limits,
             state,
@@ -47,7 +48,10 @@ impl Checker {
         requires more { self.judging.line + 1 < 2 ^ 64 }
         ensures { IfOk result (λ c. GoesTo (Goes self.judging [] values.now) self c) }
     {
-        if is_model(alloc, &self.state, values)? {
+        let Ok(holds) = is_model(alloc, &self.state, values) else {
+            return Err(self.starve());
+        };
+        if holds {
             self.close(Verdict::Sat)
         } else {
             Ok(self.refuse(RuleName::Sat))
@@ -100,12 +104,12 @@ impl Checker {
             limits,
             state,
             log,
-            due: _,
+            due,
             mut values,
             line,
             verdicts,
         } = self;
-        values.push((next, value))?;
+        drop(due);
         let checker = Checker {
             limits,
             state,
@@ -114,6 +118,9 @@ impl Checker {
             values: Vec::new(alloc),
             line,
             verdicts,
+        };
+        let Ok(()) = values.push((next, value)) else {
+            return Err(checker.starve());
         };
         checker.go_to_values(alloc, values)
     }

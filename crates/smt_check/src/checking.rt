@@ -16,50 +16,48 @@ use std::alloc::Global;
 
 /// Feeds the next piece of the script, or its end, and tells how many bytes may still be read.
 fn read_script<S: Source>(
-    checking: Checking,
+    checking: &mut Checking,
     buffer: &mut [u8],
     script: &mut S,
     left: u64,
-) -> Result<(Checking, u64), Status>
+) -> Result<u64, Status>
     requires room { 0 < length buffer.old }
-    requires unended { checking.inputs.script_ended ≡ false }
-    ensures ok { IfOk result (λ r. TakesScript checking r.0 left r.1 (S.left script.old) (S.left script.new)) }
+    requires unended { checking.old.inputs.script_ended ≡ false }
+    ensures ok { IfOk result (λ rest. TakesScript checking.old checking.new left rest (S.left script.old) (S.left script.new)) }
     ensures err { IfErr result (StopsReading left (S.left script.old) (S.left script.new)) }
     ensures later { S.faults script.old ≤ S.faults script.new }
     ensures cause { IfErr result (HasCause (counts (S.faults script.old) 0 0) (counts (S.faults script.new) 0 0)) }
 {
-    let mut checking = checking;
     let size = read_piece(script, buffer, left)?;
     if size == 0 {
         checking.end_script();
-        return Ok((checking, left));
+        return Ok(left);
     }
     checking.feed_script(&buffer[..size])?;
-    Ok((checking, left - size as u64))
+    Ok(left - size as u64)
 }
 
 /// Feeds the next piece of the proof, or its end, and tells how many bytes may still be read.
 fn read_proof<P: Source>(
-    checking: Checking,
+    checking: &mut Checking,
     buffer: &mut [u8],
     proof: &mut P,
     left: u64,
-) -> Result<(Checking, u64), Status>
+) -> Result<u64, Status>
     requires room { 0 < length buffer.old }
-    requires unended { checking.inputs.proof_ended ≡ false }
-    ensures ok { IfOk result (λ r. TakesProof checking r.0 left r.1 (P.left proof.old) (P.left proof.new)) }
+    requires unended { checking.old.inputs.proof_ended ≡ false }
+    ensures ok { IfOk result (λ rest. TakesProof checking.old checking.new left rest (P.left proof.old) (P.left proof.new)) }
     ensures err { IfErr result (StopsReading left (P.left proof.old) (P.left proof.new)) }
     ensures later { P.faults proof.old ≤ P.faults proof.new }
     ensures cause { IfErr result (HasCause (counts (P.faults proof.old) 0 0) (counts (P.faults proof.new) 0 0)) }
 {
-    let mut checking = checking;
     let size = read_piece(proof, buffer, left)?;
     if size == 0 {
         checking.end_proof();
-        return Ok((checking, left));
+        return Ok(left);
     }
     checking.feed_proof(&buffer[..size])?;
-    Ok((checking, left - size as u64))
+    Ok(left - size as u64)
 }
 
 /// Checks a script and its proof, which are read into the buffer piece by piece, each no further than the check needs it.
@@ -84,14 +82,24 @@ fn check_texts<S: Source, P: Source>(
         match checking.advance(alloc)? {
             Progress::Done(judgement) => return Ok(judgement),
             Progress::Script(held) => {
-                let (next, left) = read_script(held, buffer, script, script_left)?;
-                checking = next;
-                script_left = left;
+                checking = held;
+                match read_script(&mut checking, buffer, script, script_left) {
+                    Ok(left) => script_left = left,
+                    Err(status) => {
+                        drop(checking);
+                        return Err(status);
+                    }
+                }
             }
             Progress::Proof(held) => {
-                let (next, left) = read_proof(held, buffer, proof, proof_left)?;
-                checking = next;
-                proof_left = left;
+                checking = held;
+                match read_proof(&mut checking, buffer, proof, proof_left) {
+                    Ok(left) => proof_left = left,
+                    Err(status) => {
+                        drop(checking);
+                        return Err(status);
+                    }
+                }
             }
         }
     }
@@ -130,10 +138,15 @@ pub fn check<S: Source, P: Source, W: Sink>(
     };
     let text = match report_lines(alloc, &judgement) {
         Ok(text) => text,
-        Err(_) => return Status::NoMemory,
+        Err(_) => {
+            drop(judgement);
+            return Status::NoMemory;
+        }
     };
+    let refusal = judgement.refusal;
+    drop(judgement);
     match write_whole(answers, text.as_slice()) {
-        Ok(()) => end_status(judgement.refusal),
+        Ok(()) => end_status(refusal),
         Err(_) => Status::WriteFault,
     }
 }

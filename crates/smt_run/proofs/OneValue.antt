@@ -24,6 +24,7 @@ use Rattle.clap.specs.Simple.{Shape, filled}
 use Rattle.clap.specs.Takes.{is_given}
 use Rattle.clap.specs.Faults.{level_fault, check_fault, walk_fault, turn_fault, word_fault, flag_word_fault, long_fault, option_fault, positional_fault, stray_fault, step_fault, settle_fault, use_fault, set_fault, action_fault, repeat_fault, values_fault, react_fault, defaults_fault}
 use Rattle.smt_run.specs.Words.{number_option, IsUpTo}
+use Rattle.cnf_base.proofs.Lists.{each_append}
 
 -- ---- the first of several faults
 
@@ -75,10 +76,6 @@ pub record IsFine (c : List Rule) (r : Row) : Type 0 where
 abbrev pub AreFine : List Rule → List Row → Type 0
 AreFine c = AllByRecursion (IsFine c)
 
-each_then : {A : Type 0} (P : A → Type 0) (xs : List A) (y : A) → AllByRecursion P xs → P y → AllByRecursion P (xs ++ y ∷ [])
-each_then P [] y h k = (k, tt)
-each_then P (x ∷ xs) y h k = (h.0, each_then P xs y h.1 k)
-
 -- with no row of the id, a change of its row adds what stands for a missing one
 at_missing : (id : Text) (change : Row → List Row) (missing rows : List Row) → has_row id rows ≡ false → at_row id change missing rows ≡ rows ++ missing
 at_missing id change missing [] e = refl
@@ -117,7 +114,7 @@ used_fine c again f a p values rows e h =
         let none = not_there again a.id rows f set.0 in
         let new : Row = record { id = a.id; values = v ∷ vs; count = None; source = Some CommandLine; reading = reading_by a } in
         let fine : IsFine c new = record { rule = a; known = p.known; full = omega arith; good = set.1; reading = refl } in
-        let added : AreFine c (at_row a.id (more_values CommandLine (v ∷ vs)) (new ∷ []) rows) = subst (AreFine c) (sym (at_missing a.id (more_values CommandLine (v ∷ vs)) (new ∷ []) rows none)) (each_then (IsFine c) rows new h fine) in
+        let added : AreFine c (at_row a.id (more_values CommandLine (v ∷ vs)) (new ∷ []) rows) = subst (AreFine c) (sym (at_missing a.id (more_values CommandLine (v ∷ vs)) (new ∷ []) rows none)) (each_append (IsFine c) rows (new ∷ []) h (fine, tt)) in
         subst (λ l. AreFine c (at_row a.id (more_values CommandLine (v ∷ vs)) (new ∷ []) l)) (sym (without_missing a.id rows none)) added
 
     go : (vs : List Text) → length vs ≡ 1 → action_fault (action_of a) again a (values_or_missing a vs) rows ≡ [] → AreFine c (used a vs rows)

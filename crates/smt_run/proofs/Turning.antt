@@ -6,11 +6,11 @@ use Rattle.std.proofs.lemmas.Grind.{flat_map-append}
 use Rattle.std.proofs.lemmas.List.Folds.{list_any-append}
 use Rattle.std.specs.Io.KnownBytes.{Appends}
 use Rattle.std.proofs.KnownBytes.{Appends-nil, Appends-trans}
+use Rattle.std.proofs.lemmas.Bool.{or_parts}
 use Rattle.smt_text.specs.declared.chunk.Chunk.{Chunk}
 use Rattle.smt_text.specs.Framing.{Held, first_chunk}
 use Rattle.smt_text.specs.Script.{Begins}
 use Rattle.smt_text.proofs.Cuts.{Begins-push, Begins-append}
-use Rattle.proof_log.proofs.Growing.{each_append}
 use Rattle.proof_text.specs.Lines.{line_text, IsLine}
 use Rattle.script_state.specs.Steps.{ends}
 use Rattle.accepted_proof.specs.Turns.{Turn, AreTurns}
@@ -19,6 +19,7 @@ use Rattle.accepted_proof.specs.Accepted.{AreRead, EndLast, has_ended, has_error
 use Rattle.smt_check.specs.declared.status.Status.{Status}
 use Rattle.smt_run.specs.declared.answering.Answered.{Answered}
 use Rattle.smt_run.specs.Adding.{Moment, moment_of, behind, after, answers_at, Follow, Streams, lines_of, Adds, Advances, Breaks, BreaksAt, AdvancesWithin, BreaksWithin, AddsLast, with_piece}
+use Rattle.cnf_base.proofs.Lists.{each_append}
 
 pub after-append : (m : Moment) (ts us : List Turn) → after m (ts ++ us) ≡ after (after m ts) us
 after-append m [] us = refl
@@ -33,10 +34,6 @@ read-append (c ∷ cs) ds (t ∷ ts) us p q = (p.0, p.1, read-append cs ds ts us
 run-append : (m : Moment) (ts us : List Turn) → AreTurns m.limits m.state m.log ts → AreTurns (after m ts).limits (after m ts).state (after m ts).log us → AreTurns m.limits m.state m.log (ts ++ us)
 run-append m [] us p q = q
 run-append m (t ∷ ts) us p q = (p.0, run-append (behind m t) ts us p.1 q)
-
-or_parts : (a b : Bool) → (a || b) ≡ false → (a ≡ false) × (b ≡ false)
-or_parts true b e = let q : ⊥ = cc in absurd q
-or_parts false b e = (refl, e)
 
 last-append : (ts us : List Turn) → has_ended ts ≡ false → EndLast ts → EndLast us → EndLast (ts ++ us)
 last-append [] us g p q = q

@@ -22,6 +22,17 @@ pub(crate) struct Answered {
     pub(crate) ended: bool,
 }
 
+impl Answered {
+    /// Lets the session go, and tells whether an error was among its responses.
+    pub(crate) fn end(self) -> bool
+        ensures { result ≡ self.refused }
+    {
+        let refused = self.refused;
+        drop(self);
+        refused
+    }
+}
+
 /// The status of a run that came to its end.
 pub(crate) fn end_status(refused: bool) -> Status
     ensures { result ≡ (if refused then Status.Refused else Status.Done) }
@@ -56,7 +67,10 @@ fn answer<W: Sink, Q: Sink>(
     };
     match write_whole(answers, response.text.as_slice()) {
         Ok(()) => {}
-        Err(_) => return Err(Status::WriteFault),
+        Err(_) => {
+            drop(session);
+            return Err(Status::WriteFault);
+        }
     }
     let refused = so_far.refused || response.error;
     let ended = response.ends;
@@ -86,7 +100,11 @@ fn answer_held<W: Sink, Q: Sink>(
 {
     let mut so_far = so_far;
     'commands: while !so_far.ended {
-        let Some(chunk) = framer.next()? else {
+        let Ok(next) = framer.next() else {
+            drop(so_far);
+            return Err(Status::NoMemory);
+        };
+        let Some(chunk) = next else {
             break;
         };
         so_far = answer(alloc, so_far, &chunk, answers, proof)?;
@@ -112,7 +130,10 @@ pub(crate) fn answer_piece<W: Sink, Q: Sink>(
     ensures stopped { IfErr result StopsWriting }
     ensures cause { IfErr result (HasCause (counts 0 (W.faults answers.old) (Q.faults proof.old)) (counts 0 (W.faults answers.new) (Q.faults proof.new))) }
 {
-    framer.feed(piece)?;
+    let Ok(()) = framer.feed(piece) else {
+        drop(so_far);
+        return Err(Status::NoMemory);
+    };
     answer_held(alloc, so_far, framer, answers, proof)
 }
 
@@ -132,11 +153,12 @@ pub(crate) fn answer_rest<W: Sink, Q: Sink>(
     ensures stopped { IfErr result StopsWriting }
     ensures cause { IfErr result (HasCause (counts 0 (W.faults answers.old) (Q.faults proof.old)) (counts 0 (W.faults answers.new) (Q.faults proof.new))) }
 {
-    match framer.finish()? {
-        Some(chunk) => {
-            let last = answer(alloc, so_far, &chunk, answers, proof)?;
-            Ok(last.refused)
-        }
-        None => Ok(so_far.refused),
+    let Ok(last) = framer.finish() else {
+        drop(so_far);
+        return Err(Status::NoMemory);
+    };
+    match last {
+        Some(chunk) => Ok(answer(alloc, so_far, &chunk, answers, proof)?.end()),
+        None => Ok(so_far.end()),
     }
 }

@@ -48,12 +48,18 @@ pub(crate) fn answer_script<S: Source, W: Sink, Q: Sink>(
     };
     let mut left = INPUT_LIMIT;
     'pieces: while !so_far.ended {
-        let size = read_piece(script, buffer, left)?;
+        let size = match read_piece(script, buffer, left) {
+            Ok(size) => size,
+            Err(status) => {
+                drop(so_far);
+                return Err(status);
+            }
+        };
         if size == 0 {
             return answer_rest(alloc, so_far, &mut framer, answers, proof);
         }
         left -= size as u64;
         so_far = answer_piece(alloc, so_far, &mut framer, &buffer[..size], answers, proof)?;
     }
-    Ok(so_far.refused)
+    Ok(so_far.end())
 }

@@ -6,7 +6,8 @@ use Rattle.scope_selectors.specs.declared.live.Live.{Live}
 use Rattle.script_state.specs.declared.answer.Asked.{Asked}
 use Rattle.script_state.specs.States.{assumptions}
 use Rattle.accepted_proof.specs.Models.{Holds, HoldsAssumed, interpretation_of}
-use Rattle.proof_checker.proofs.Valued.{are_suited, assertions_held, assumptions_held, all_more, not_all, all_whole}
+use Rattle.accepted_proof.proofs.Valuing.{are_suited}
+use Rattle.proof_checker.proofs.Valued.{assertions_held, assumptions_held, all_more, not_all, all_whole}
 use Rattle.proof_checker.proofs.models.is_model.Goals as goal
 
 pub of-requires : goal.of-requires

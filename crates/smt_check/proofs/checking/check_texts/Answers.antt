@@ -23,32 +23,30 @@ returns-in-Done-clause-judged g c = way_done _ _ _ _ _ _ _ c.texts.invariant.way
 pub returns-in-Done-clause-read : goal.returns-in-Done-clause-read
 returns-in-Done-clause-read g c = both_within _ _ _ _ _ _ _ c.texts.invariant.way
 
-pub returns-in_err-next-in-Script-clause-read : goal.returns-in_err-next-in-Script-clause-read
-returns-in_err-next-in-Script-clause-read g c =
-    let p = err_from_is_err_and c.from_residual-in_err-next-in-Script.result c.from_residual-in_err-next-in-Script.ensures.1 in
-    rw (p.1, p.2) (script_stopped _ _ _ _ _ _ _ c.texts.invariant.way _ _ c.in_err-next-in-Script.ensures.err)
+pub returns-in-Err-clause-read : goal.returns-in-Err-clause-read
+returns-in-Err-clause-read g c =
+    script_stopped _ _ _ _ _ _ _ c.texts.invariant.way _ _ c.in-Err.ensures.err
 
-pub texts-preserved-in-Script : goal.texts-preserved-in-Script
-texts-preserved-in-Script g c =
+pub texts-preserved-in-Ok : goal.texts-preserved-in-Ok
+texts-preserved-in-Ok g c =
     let s = stops_script _ _ _ _ c.in-Script.is c.in_ok-judgement.ensures in
     record {
       room = rw c.read_script.auto.buffer c.texts.invariant.room;
-      way = way_script _ _ _ _ _ _ _ (way_advance _ _ _ _ _ _ _ c.texts.invariant.way _ s.0) s.1 _ _ _ c.in_ok-next-in-Script.ensures.ok;
+      way = way_script _ _ _ _ _ _ _ (way_advance _ _ _ _ _ _ _ c.texts.invariant.way _ s.0) s.1 _ _ _ c.in-Ok.ensures.ok;
       script_later = omega (arith, c.texts.invariant.script_later, c.read_script.ensures.later);
       proof_later = c.texts.invariant.proof_later;
     }
 
-pub returns-in_err-next-in-Proof-clause-read : goal.returns-in_err-next-in-Proof-clause-read
-returns-in_err-next-in-Proof-clause-read g c =
-    let p = err_from_is_err_and c.from_residual-in_err-next-in-Proof.result c.from_residual-in_err-next-in-Proof.ensures.1 in
-    rw (p.1, p.2) (proof_stopped _ _ _ _ _ _ _ c.texts.invariant.way _ _ c.in_err-next-in-Proof.ensures.err)
+pub returns-in-Err-read_proof-clause-read : goal.returns-in-Err-read_proof-clause-read
+returns-in-Err-read_proof-clause-read g c =
+    proof_stopped _ _ _ _ _ _ _ c.texts.invariant.way _ _ c.in-Err-read_proof.ensures.err
 
 pub texts-preserved : goal.texts-preserved
 texts-preserved g c =
     let s = stops_proof _ _ _ _ c.in-Proof.is c.in_ok-judgement.ensures in
     record {
       room = rw c.read_proof.auto.buffer c.texts.invariant.room;
-      way = way_proof _ _ _ _ _ _ _ (way_advance _ _ _ _ _ _ _ c.texts.invariant.way _ s.0) s.1 _ _ _ c.in_ok-next-in-Proof.ensures.ok;
+      way = way_proof _ _ _ _ _ _ _ (way_advance _ _ _ _ _ _ _ c.texts.invariant.way _ s.0) s.1 _ _ _ c.in-Ok-read_proof.ensures.ok;
       script_later = c.texts.invariant.script_later;
       proof_later = omega (arith, c.texts.invariant.proof_later, c.read_proof.ensures.later);
     }

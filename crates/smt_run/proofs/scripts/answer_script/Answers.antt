@@ -34,31 +34,29 @@ returns-in_err-session-clause-turns g c =
     let p = err_from_is_err_and c.from_residual.result c.from_residual.ensures.1 in
     rw p.1 (front_told _ _ _ [] _ _ (Consumes-nil (g.S.Source.left c.args.script.now)) (held_none _ _ _))
 
-pub returns-in_err-size-clause-turns : goal.returns-in_err-size-clause-turns
-returns-in_err-size-clause-turns g c =
-    let p = err_from_is_err_and c.from_residual-in_err-size.result c.from_residual-in_err-size.ensures.1 in
+pub returns-in-Err-clause-turns : goal.returns-in-Err-clause-turns
+returns-in-Err-clause-turns g c =
     let inv = c.pieces.invariant in
-    let more = piece_read _ _ _ _ c.in_err-size.ensures.read in
-    rw p.1 (front_told _ _ _ (inv.text ++ more.0) _ _ (Consumes-trans _ (g.S.Source.left c.pieces.script) _ _ _ inv.consumed more.1)
-    (held_more (record { line = 1; bytes = inv.text }) more.0 _ _ _ (held_stop _ _ _ _ _ _ _ _ (goes_on c.pieces.so_far.ended c.pieces-test.true) inv.begins inv.advances)))
+    let more = piece_read _ _ _ _ c.in-Err.ensures.read in
+    front_told _ _ _ (inv.text ++ more.0) _ _ (Consumes-trans _ (g.S.Source.left c.pieces.script) _ _ _ inv.consumed more.1)
+    (held_more (record { line = 1; bytes = inv.text }) more.0 _ _ _ (held_stop _ _ _ _ _ _ _ _ (goes_on c.pieces.so_far.ended c.pieces-test.true) inv.begins inv.advances))
 
 pub returns-in_err-so_far-clause-turns : goal.returns-in_err-so_far-clause-turns
 returns-in_err-so_far-clause-turns g c =
     let p = err_from_is_err_and c.from_residual-in_err-so_far.result c.from_residual-in_err-so_far.ensures.1 in
     let inv = c.pieces.invariant in
-    let piece = take c.in_ok-size.size c.read_piece.new.buffer in
-    rw p.1 (front_told _ _ _ (inv.text ++ piece) _ _ (Consumes-trans _ (g.S.Source.left c.pieces.script) _ _ _ inv.consumed c.in_ok-size.ensures.bytes)
+    let piece = take c.in-Ok.size c.read_piece.new.buffer in
+    rw p.1 (front_told _ _ _ (inv.text ++ piece) _ _ (Consumes-trans _ (g.S.Source.left c.pieces.script) _ _ _ inv.consumed c.in-Ok.ensures.bytes)
     (held_behind _ _ _ _ _ _ _ _ _ (goes_on c.pieces.so_far.ended c.pieces-test.true) (Begins-append _ _ _ piece inv.begins) inv.advances c.in_err-so_far.ensures.broken))
 
-pub returns-in_err-size-clause-read : goal.returns-in_err-size-clause-read
-returns-in_err-size-clause-read g c =
-    let p = err_from_is_err_and c.from_residual-in_err-size.result c.from_residual-in_err-size.ensures.1 in
-    rw (p.1, p.2) (read_failed _ _ _ _ _ _ c.pieces.invariant.read c.in_err-size.ensures.read)
+pub returns-in-Err-clause-read : goal.returns-in-Err-clause-read
+returns-in-Err-clause-read g c =
+    read_failed _ _ _ _ _ _ c.pieces.invariant.read c.in-Err.ensures.read
 
 pub returns-in_err-so_far-clause-read : goal.returns-in_err-so_far-clause-read
 returns-in_err-so_far-clause-read g c =
     let p = err_from_is_err_and c.from_residual-in_err-so_far.result c.from_residual-in_err-so_far.ensures.1 in
-    rw (p.1, p.2) (read_stopped _ _ _ c.in_err-so_far.ensures.stopped (within_more _ _ _ _ _ _ c.pieces.invariant.read c.in_ok-size.ensures.read.0 c.in_ok-size.ensures.read.1))
+    rw (p.1, p.2) (read_stopped _ _ _ c.in_err-so_far.ensures.stopped (within_more _ _ _ _ _ _ c.pieces.invariant.read c.in-Ok.ensures.read.0 c.in-Ok.ensures.read.1))
 
 pub returns-in_err-so_far-clause-answers : goal.returns-in_err-so_far-clause-answers
 returns-in_err-so_far-clause-answers g c = adds_more _ _ _ c.pieces.invariant.written.answers c.in_err-so_far.ensures.answers
@@ -72,11 +70,11 @@ pieces-preserved g c =
     record {
       read =
           Progress-resize _ _ _ _ _ room
-          (Progress-more _ _ _ _ _ _ c.pieces.invariant.read c.in_ok-size.ensures.read.0 c.in_ok-size.ensures.read.1);
-      text = c.pieces.invariant.text ++ take c.in_ok-size.size c.read_piece.new.buffer;
-      consumed = Consumes-trans _ (g.S.Source.left c.pieces.script) _ _ _ c.pieces.invariant.consumed c.in_ok-size.ensures.bytes;
+          (Progress-more _ _ _ _ _ _ c.pieces.invariant.read c.in-Ok.ensures.read.0 c.in-Ok.ensures.read.1);
+      text = c.pieces.invariant.text ++ take c.in-Ok.size c.read_piece.new.buffer;
+      consumed = Consumes-trans _ (g.S.Source.left c.pieces.script) _ _ _ c.pieces.invariant.consumed c.in-Ok.ensures.bytes;
       chunks = c.pieces.invariant.chunks ++ c.in_ok-so_far.ensures.turns.chunks;
-      begins = Begins-trans _ _ _ _ _ (Begins-append _ _ _ (take c.in_ok-size.size c.read_piece.new.buffer) c.pieces.invariant.begins) c.in_ok-so_far.ensures.turns.begins;
+      begins = Begins-trans _ _ _ _ _ (Begins-append _ _ _ (take c.in-Ok.size c.read_piece.new.buffer) c.pieces.invariant.begins) c.in_ok-so_far.ensures.turns.begins;
       ends = c.in_ok-so_far.ensures.turns.ends;
       advances = Advances-trans _ _ _ _ _ _ _ _ _ (goes_on c.pieces.so_far.ended c.pieces-test.true) c.pieces.invariant.advances c.in_ok-so_far.ensures.turns.advances;
       written =
@@ -87,14 +85,14 @@ pieces-preserved g c =
 pub returns-then-size-eq0-clause-read : goal.returns-then-size-eq0-clause-read
 returns-then-size-eq0-clause-read g c =
     read_whole _ _ _ c.answer_rest.ensures.stopped
-    (within_more _ _ _ _ _ _ c.pieces.invariant.read c.in_ok-size.ensures.read.0 c.in_ok-size.ensures.read.1)
+    (within_more _ _ _ _ _ _ c.pieces.invariant.read c.in-Ok.ensures.read.0 c.in-Ok.ensures.read.1)
 
 pub returns-then-size-eq0-clause-turns : goal.returns-then-size-eq0-clause-turns
 returns-then-size-eq0-clause-turns g c =
     let inv = c.pieces.invariant in
-    let all = Consumes-trans _ (g.S.Source.left c.pieces.script) _ _ _ inv.consumed c.in_ok-size.ensures.bytes in
+    let all = Consumes-trans _ (g.S.Source.left c.pieces.script) _ _ _ inv.consumed c.in-Ok.ensures.bytes in
     let all' = rw (c.if-size-eq0.true, append-nil) at all in
-    rest_told _ _ _ inv.text _ _ _ _ inv.chunks _ _ (goes_on c.pieces.so_far.ended c.pieces-test.true) all' (c.in_ok-size.ensures.read.2 c.if-size-eq0.true) inv.begins (inv.ends (goes_on c.pieces.so_far.ended c.pieces-test.true)) inv.advances c.answer_rest.ensures.turns c.answer_rest.ensures.broken
+    rest_told _ _ _ inv.text _ _ _ _ inv.chunks _ _ (goes_on c.pieces.so_far.ended c.pieces-test.true) all' (c.in-Ok.ensures.read.2 c.if-size-eq0.true) inv.begins (inv.ends (goes_on c.pieces.so_far.ended c.pieces-test.true)) inv.advances c.answer_rest.ensures.turns c.answer_rest.ensures.broken
 
 pub returns-then-size-eq0-clause-answers : goal.returns-then-size-eq0-clause-answers
 returns-then-size-eq0-clause-answers g c = adds_more _ _ _ c.pieces.invariant.written.answers c.answer_rest.ensures.answers
@@ -113,9 +111,8 @@ returns-clause-read_out g c =
 pub returns-clause-turns : goal.returns-clause-turns
 returns-clause-turns g c =
     let inv = c.pieces.invariant in
-    ended_told _ _ _ inv.text _ _ _ inv.chunks _ (is_over c.pieces.so_far.ended c.pieces-test.false) inv.consumed inv.begins inv.advances
+    rw c.end.ensures (ended_told _ _ _ inv.text _ _ _ inv.chunks _ (is_over c.pieces.so_far.ended c.pieces-test.false) inv.consumed inv.begins inv.advances)
 
-pub returns-in_err-size-clause-cause : goal.returns-in_err-size-clause-cause
-returns-in_err-size-clause-cause g c =
-    let p = err_from_is_err_and c.from_residual-in_err-size.result c.from_residual-in_err-size.ensures.1 in
-    rw (p.1, p.2) (cause_after _ _ _ _ c.pieces.invariant.written.later (script_cause (g.S.Source.faults c.pieces.script) (g.S.Source.faults c.read_piece.new.script) (g.W.Sink.faults c.pieces.answers) (g.W.Sink.faults c.pieces.answers) (g.Q.Sink.faults c.pieces.proof) (g.Q.Sink.faults c.pieces.proof) _ c.in_err-size.ensures.cause))
+pub returns-in-Err-clause-cause : goal.returns-in-Err-clause-cause
+returns-in-Err-clause-cause g c =
+    cause_after _ _ _ _ c.pieces.invariant.written.later (script_cause (g.S.Source.faults c.pieces.script) (g.S.Source.faults c.read_piece.new.script) (g.W.Sink.faults c.pieces.answers) (g.W.Sink.faults c.pieces.answers) (g.Q.Sink.faults c.pieces.proof) (g.Q.Sink.faults c.pieces.proof) _ c.in-Err.ensures.cause)

@@ -1,5 +1,4 @@
 use Rattle.std.proofs.Common.{◌≡◌, subst}
-use Rattle.script_state.specs.States.{IsState}
 use Rattle.check_cubes.specs.Searches.{limits_of}
 use Rattle.proof_checker.specs.Checkers.{CheckerValue, judged_so, owed_of}
 use Rattle.accepted_proof.specs.Judged.{commanded}
@@ -8,10 +7,10 @@ use Rattle.proof_checker.proofs.checker.Checker.apply.Goals as goal
 
 pub invariant_of-checker : goal.invariant_of-checker
 invariant_of-checker c =
-    let told = c.in_ok-state.ensures in
+    let told = c.in-Ok.ensures.does in
     let before = c.self.inside in
-    let new = c.in_ok-state.state in (
-      still_stands before.state new before.log told.0 (subst IsState c.state.view_is c.state.invariant.0) c.self.invariant.0 told.3,
+    let new = c.in-Ok.state in (
+      still_stands before.state new before.log told.0 c.obey.ensures.state c.self.invariant.0 told.3,
       c.due_by.ensures.open new.symbols.live before.values.items,
       c.due_by.ensures.noted (limits_of before.limits) new before.log.entries,
       c.self.invariant.3,
@@ -19,10 +18,10 @@ invariant_of-checker c =
 
 pub returns : goal.returns
 returns c =
-    let told = c.in_ok-state.ensures in
+    let told = c.in-Ok.ensures.does in
     let before = c.self.inside in
-    let new = c.in_ok-state.state in
-    let answer = c.in_ok-state.answer in (
+    let new = c.in-Ok.state in
+    let answer = c.in-Ok.answer in (
       told.0,
       told.1,
       subst (λ (x : CheckerValue). held (limits_of before.limits) new before.log.entries (owed_of c.due_by.result new.symbols.live before.values.items) before.line before.verdicts.items ≡ judged_so x (commanded x.judging told.0)) c.self.view_is

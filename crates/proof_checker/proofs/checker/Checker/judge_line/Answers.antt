@@ -1,11 +1,11 @@
 use Rattle.std.proofs.Common.{◌≡◌, sym, subst, arith}
+use Rattle.std.proofs.lemmas.Bool.{MatchBool-at_true, MatchBool-at_false}
 use Rattle.proof_log.specs.Diaries.{IsSpent}
 use Rattle.accepted_proof.specs.Judged.{subject_at}
 use Rattle.proof_checker.specs.declared.due.Due.TheVariants.{Noted}
 use Rattle.check_cubes.specs.Searches.{limits_of}
 use Rattle.proof_checker.specs.Checkers.{CheckerValue, IsNoted}
 use Rattle.proof_checker.proofs.Noting.{read_on, read_spent, read_unspent}
-use Rattle.check_cubes.proofs.Searched.{match_true, match_false}
 use Rattle.proof_checker.proofs.checker.Checker.judge_line.Goals as goal
 
 pub returns-then-noting-gt0 : goal.returns-then-noting-gt0
@@ -18,7 +18,7 @@ returns-then-is_spent c =
     let before = c.self.inside in
     let n = c.args.noting in
     let noted = subst (λ (x : CheckerValue). IsNoted x.judging.limits x.judging.state x.judging.log (Noted n)) (sym c.self.view_is) (c.requires.noted c.if-not-stands.false) in
-    let spent = match_true _ _ c.is_spent.result (c.is_spent.ensures (limits_of before.limits) before.state before.log.entries noted) c.if-is_spent.true in
+    let spent = MatchBool-at_true _ _ c.if-is_spent.true (c.is_spent.ensures (limits_of before.limits) before.state before.log.entries noted) in
     let some = c.if-noting-gt0.false in
     let last : n.left ≡ 0 = omega (arith, some) in
     read_spent c.args.self n c.args.stands c.close.result c.if-not-stands.false last
@@ -29,7 +29,7 @@ returns c =
     let before = c.self.inside in
     let n = c.args.noting in
     let noted = subst (λ (x : CheckerValue). IsNoted x.judging.limits x.judging.state x.judging.log (Noted n)) (sym c.self.view_is) (c.requires.noted c.if-not-stands.false) in
-    let unspent = match_false _ _ c.is_spent.result (c.is_spent.ensures (limits_of before.limits) before.state before.log.entries noted) c.if-is_spent.false in
+    let unspent = MatchBool-at_false _ _ c.if-is_spent.false (c.is_spent.ensures (limits_of before.limits) before.state before.log.entries noted) in
     let some = c.if-noting-gt0.false in
     let last : n.left ≡ 0 = omega (arith, some) in
     read_unspent c.args.self n c.args.stands c.refuse-else-is_spent.result c.if-not-stands.false last

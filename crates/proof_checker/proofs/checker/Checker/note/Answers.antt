@@ -9,7 +9,7 @@ judge_line-requires-clause-noted c =
     let before = c.self.inside in
     let limits = limits_of before.limits in
     let was = subst (IsNoted limits before.state before.log.entries) c.in-Noted.is c.self.invariant.2 in
-    noted_when limits before.state before.log.entries c.in-Noted.noting c.in_ok-noting.noting c.args.line c.in_ok-noting.stands (c.in_ok-noting.ensures limits before.state c.self.invariant.0 was)
+    noted_when limits before.state before.log.entries c.in-Noted.noting c.in-Ok.noting c.args.line c.in-Ok.stands (c.in-Ok.ensures limits before.state c.self.invariant.0 was)
 
 pub returns : goal.returns
 returns c =
@@ -18,4 +18,4 @@ returns c =
     let was = subst (IsNoted limits before.state before.log.entries) c.in-Noted.is c.self.invariant.2 in
     subst (λ (x : CheckerValue). IfOk c.judge_line.result (λ to. GoesTo (NotesBy x.judging.owed x.judging c.args.line) x to)) c.self.view_is
     (line_noted limits before.state before.log.entries before.due before.state.symbols.live before.values.items before.line before.verdicts.items
-    c.in-Noted.noting c.in_ok-noting.noting c.args.line c.in_ok-noting.stands c.judge_line.result c.in-Noted.is (c.in_ok-noting.ensures limits before.state c.self.invariant.0 was) c.judge_line.ensures)
+    c.in-Noted.noting c.in-Ok.noting c.args.line c.in-Ok.stands c.judge_line.result c.in-Noted.is (c.in-Ok.ensures limits before.state c.self.invariant.0 was) c.judge_line.ensures)

@@ -31,5 +31,5 @@ returns c =
     (value_pushed (limits_of before.limits) before.state before.log.entries before.due before.line before.verdicts.items before.values.items c.push.new.self.items next c.args.declaration c.args.written.now c.in-Some.value c.go_to_values.result
     (subst (λ (x : CheckerValue). IsOwedValues x.judging.owed) (sym c.self.view_is) c.requires.values) at
     (c.in-Some.ensures next named)
-    (c.in_ok-push.ensures.items ∙ ap (λ n. before.values.items ++ (n, c.in-Some.value) ∷ []) (sym named))
+    (c.in-Ok.ensures.items ∙ ap (λ n. before.values.items ++ (n, c.in-Some.value) ∷ []) (sym named))
     c.go_to_values.ensures)

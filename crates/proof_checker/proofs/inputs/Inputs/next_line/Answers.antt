@@ -1,8 +1,8 @@
 use Rattle.std.proofs.Common.{◌≡◌, ◌≢◌, ℕ, List, ◌++◌, [], ap, ◌∙◌, subst}
-use Rattle.proof_text.specs.Held.{Held}
 use Rattle.proof_checker.specs.Checked.{AreLines}
 use Rattle.proof_checker.proofs.Splits.{line_answered, lines_next, less_next, lines_unended, some_less, read_answered}
 use Rattle.proof_checker.proofs.inputs.Inputs.next_line.Goals as goal
+use Rattle.smt_text.specs.Framing.{Held}
 
 pub returns-in-Some-clause-line : goal.returns-in-Some-clause-line
 returns-in-Some-clause-line c =
