@@ -19,6 +19,8 @@ mod error_tests;
 #[cfg(test)]
 mod form_error_tests;
 #[cfg(test)]
+mod layer_tests;
+#[cfg(test)]
 mod limit_tests;
 #[cfg(test)]
 mod mode_error_tests;
@@ -41,8 +43,9 @@ use smt_desk::stream::Source;
 use smt_run::command_line::plan;
 use smt_run::running::run;
 use smt_run::words::Unplanned;
+use std::env;
+use std::io::ErrorKind;
 use std::process::ExitCode;
-use std::{env, io};
 
 // The number of a status.
 fn exit_code(status: Status) -> ExitCode {
@@ -71,29 +74,40 @@ fn run_with<S: Source>(rt: &HostRuntime, words: &[&str], script: &mut S, proof: 
 
 // Does what the words ask for: the script is read from its file, or where none is named from standard input. No file is
 // opened before its first use.
-fn run_words(rt: &HostRuntime, words: &[&str]) -> Status {
-    match plan(rt.alloc(), words) {
-        Ok(plan) => match plan.script {
-            Some(path) => run_with(rt, words, &mut FileSource::new(rt, path), plan.proof),
-            None => run_with(rt, words, &mut StandardInput::new(rt), plan.proof),
-        },
-        Err(Unplanned::Usage) => Status::Usage,
-        Err(Unplanned::NoMemory) => Status::NoMemory,
+fn run_words(rt: &HostRuntime, words: &[&str]) -> Result<Status, Unplanned> {
+    let plan = plan(rt.alloc(), words)?;
+    Ok(match plan.script {
+        Some(path) => run_with(rt, words, &mut FileSource::new(rt, path), plan.proof),
+        None => run_with(rt, words, &mut StandardInput::new(rt), plan.proof),
+    })
+}
+
+// The words behind the program's name. Bytes that are no text are none of the words that are taken.
+fn given_words(rt: &HostRuntime) -> Result<Vec<String>, Unplanned> {
+    match env::args(rt) {
+        Ok(words) => Ok(words.skip(1).collect(rt.alloc())?),
+        Err(error) if error.kind() == ErrorKind::OutOfMemory => Err(Unplanned::NoMemory),
+        Err(_) => Err(Unplanned::Usage),
     }
 }
 
-fn main(rt: HostRuntime) -> io::Result<ExitCode> {
-    let alloc = rt.alloc();
-    let given: Vec<String> = env::args(&rt)?.skip(1).collect(alloc)?;
-    let mut words: Vec<&str> = Vec::new(alloc);
-    for word in &given {
-        words.push(word.as_str())?;
-    }
-    let status = run_words(&rt, &words);
-    if status == Status::Usage {
-        eprintln!(rt;
-            "usage: smt_tool solve PROOF [SCRIPT] [--cubes 0..10] [--budget 0..1000000000] | check PROOF [SCRIPT]"
-        )?;
-    }
-    Ok(exit_code(status))
+// Does what the words that the program is given ask for.
+fn run_given(rt: &HostRuntime) -> Result<Status, Unplanned> {
+    let given = given_words(rt)?;
+    let words: Vec<&str> = given.iter().map(|word| word.as_str()).collect(rt.alloc())?;
+    run_words(rt, &words)
+}
+
+fn main(rt: HostRuntime) -> ExitCode {
+    exit_code(match run_given(&rt) {
+        Ok(status) => status,
+        Err(Unplanned::NoMemory) => Status::NoMemory,
+        Err(Unplanned::Usage) => {
+            // Where standard error cannot be written, the status tells it alone.
+            let _ = eprintln!(&rt;
+                "usage: smt_tool solve PROOF [SCRIPT] [--cubes 0..10] [--budget 0..1000000000] | check PROOF [SCRIPT]"
+            );
+            Status::Usage
+        }
+    })
 }
