@@ -1,6 +1,7 @@
+#!/usr/bin/env python3
 """Takes memory away from the built program, and breaks what it reads and writes, and looks at what it says.
 
-    python3 tests/faults/run.py PROGRAM [--allocations N ..]
+usage: run.py [PROGRAM]    (default: the program that `rt run` leaves in crates/smt_tool/out)
 
 For each script of `examples/` and of the rows it first runs `solve` undisturbed. Then it runs it again under less and less memory
 (a limit on the address space), with a proof or answers that cannot be written (`/dev/full`), and with a script that cannot be read (a
@@ -11,10 +12,9 @@ folder). Each time:
 - what was answered is a front of the undisturbed answers;
 - `check`, which has all the memory it wants, accepts a record for each verdict that was answered whole.
 
-With --allocations it also has the toolchain run the program with allocation N failing, for each N (`rt try --fail-alloc N`, which
-builds the program each time: more than a minute for each N), in the folder `crates/smt_tool`.
+Words that are not taken, bytes that are no text among them, give status 2, also where standard error cannot be written.
 
-It is no part of the gate.
+numbers.py makes one allocation, read or write after the other fail. Neither is a part of the gate.
 """
 
 import pathlib
@@ -101,17 +101,25 @@ def disturbed(program, script, folder, least):
     return [f for f in faults if f], runs + 3, wanted
 
 
-def failing_allocation(number):
-    """What the toolchain says of a run in which one allocation fails."""
-    words = ["rt", "try", "--fail-alloc", str(number), "--data", f"first.smt2={ROOT}/examples/first.smt2", "--", "solve", "proof", "first.smt2"]
-    done = subprocess.run(words, cwd=ROOT / "crates" / "smt_tool", stdout=subprocess.PIPE, stderr=subprocess.STDOUT)
-    return done.stdout.decode().strip().split("\n")[-1]
+def not_taken(program):
+    """The faults of runs whose words are not taken, and their number."""
+    faults, tried = [], [[], ["solve"], ["solve", b"\xff\xfe"], ["check", b"\xff\xfe"]]
+    for words in tried:
+        for errors in ("/dev/null", "/dev/full"):
+            with open(errors, "wb") as nowhere:
+                status = subprocess.run([program, *words], stdin=subprocess.DEVNULL, stderr=nowhere).returncode
+            if status != 2:
+                faults.append(f"status {status} for the words {words}, with standard error in {errors}")
+    return faults, 2 * len(tried)
 
 
 def main(words):
-    program = str(pathlib.Path(words[0]).resolve())
+    program = str(pathlib.Path(words[0]).resolve() if words else ROOT / "crates/smt_tool/out/smt_tool")
     least = least_that_starts(program)
-    all_faults, runs, wanted = 0, 0, 0
+    faults, runs = not_taken(program)
+    all_faults, wanted = len(faults), 0
+    for text in faults:
+        print(text)
     with tempfile.TemporaryDirectory() as name:
         for number, script in enumerate(scripts()):
             faults, count, short = disturbed(program, script, pathlib.Path(name), least)
@@ -119,8 +127,6 @@ def main(words):
             for text in faults:
                 print(f"script {number}: {text}")
     print(f"{runs} runs, {wanted} of them without enough memory, {all_faults} faults (the program starts with {least} MB)")
-    for number in words[2:] if words[1:2] == ["--allocations"] else []:
-        print(f"allocation {number}: {failing_allocation(number)}")
     return 1 if all_faults else 0
 
 
