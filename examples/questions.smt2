@@ -1,0 +1,23 @@
+; What somebody pays is the price and the change. How much is the change?
+(declare-const price (_ BitVec 8))
+(declare-const paid (_ BitVec 8))
+(declare-const change (_ BitVec 8))
+(assert (! (= paid (bvadd price change)) :named sum))
+(assert (! (= price #x2a) :named price-is-42))
+(assert (! (= paid #x32) :named paid-is-50))
+(assert (! (bvule change paid) :named no-wrap))
+(check-sat)
+(get-model)
+(get-value (change (bvsub paid change)))
+; It is not more than 16. The core names assertions that cannot hold together.
+(push 1)
+(assert (! (bvugt change #x10) :named much))
+(check-sat)
+(get-unsat-core)
+(pop 1)
+; Nor is it a five-piece. The assumption is of this check alone.
+(declare-const five Bool)
+(assert (=> five (= change #x05)))
+(check-sat-assuming (five))
+(get-unsat-assumptions)
+(check-sat)
