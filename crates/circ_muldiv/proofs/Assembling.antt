@@ -10,13 +10,13 @@ use Rattle.cnf_base.specs.Choices.{mux_gates, equal_gates, equal_bit}
 use Rattle.cnf_base.specs.Circuits.{CircuitValue, Gains}
 use Rattle.cnf_base.proofs.Growing.{Gains-then}
 use Rattle.cnf_base.proofs.Equating.{length-equal_gates}
-use Rattle.circ_plain.specs.Signs.{sign_of, neg_gates, neg_bits, abs_gates, abs_bits}
-use Rattle.circ_plain.proofs.Negating.{length-neg_gates, length-neg_bits, length-abs_gates}
+use Rattle.circ_plain.specs.Signs.{sign_of, neg_gates, neg_bits, signed_gates, signed_bits, abs_gates}
+use Rattle.circ_plain.proofs.Negating.{length-neg_gates, length-neg_bits, length-signed_gates, length-abs_gates}
 use Rattle.circ_muldiv.specs.Products.{sum_gates, sum_bits}
 use Rattle.circ_muldiv.specs.Quotients.{divide_gates, quotient_bits, remainder_bits}
-use Rattle.circ_muldiv.specs.Signed.{signed_gates, signed_bits, magnitudes, sdiv_gates, sdiv_bits, srem_gates, srem_bits, smod_gates, smod_bits}
+use Rattle.circ_muldiv.specs.Signed.{magnitudes, sdiv_gates, sdiv_bits, srem_gates, srem_bits, smod_gates, smod_bits}
 use Rattle.circ_muldiv.specs.Sizes.{magnitudes_size}
-use Rattle.circ_muldiv.proofs.Counting.{length-signed_gates, length-magnitudes}
+use Rattle.circ_muldiv.proofs.Counting.{length-magnitudes}
 
 -- ---- where the next variable is
 
@@ -39,16 +39,6 @@ pub equal_after : (s p : CircuitValue) (ls again zero : List Literal) → again 
 equal_after s p ls again zero same ez h =
     equal_next s p true_literal again zero (ap length same ∙ sym (ap length ez ∙ length-replicate (length ls) false_literal)) h ∙ ap (λ r. s.next + 2 * length r) same
 
--- ---- a negation and a choice
-
-pub signed_gained : (s p q : CircuitValue) (c : Literal) (a negation : List Literal) → Gains s p (neg_gates s.next a) → negation ≡ neg_bits s.next a → Gains p q (mux_gates c negation a) → Gains s q (signed_gates s.next c a)
-signed_gained s p q c a negation first e second =
-    Gains-then s p q (neg_gates s.next a) (mux_gates c (neg_bits s.next a) a) first (subst (λ n. Gains p q (mux_gates c n a)) e second)
-
-pub signed_bits_are : (s p : CircuitValue) (a negation bits : List Literal) → Gains s p (neg_gates s.next a) → negation ≡ neg_bits s.next a → bits ≡ fresh_bits p.next (length negation) → bits ≡ signed_bits s.next a
-signed_bits_are s p a negation bits first e eb =
-    eb ∙ ap (fresh_bits p.next) (ap length e ∙ length-neg_bits s.next a) ∙ ap (λ n. fresh_bits n (length a)) first.next
-
 -- ---- the division of the absolute values
 
 pub record AreDivided (s t : CircuitValue) (a b quotient remainder : List Literal) : Type 0 where
@@ -59,18 +49,18 @@ pub record AreDivided (s t : CircuitValue) (a b quotient remainder : List Litera
 pub are_divided : (s t : CircuitValue) (a b quotient remainder : List Literal) → Gains s t (magnitudes s.next a b).gates → quotient ≡ (magnitudes s.next a b).quotient → remainder ≡ (magnitudes s.next a b).remainder → AreDivided s t a b quotient remainder
 are_divided s t a b quotient remainder h eq er = record { gates = h; quotient_bits = eq; remainder_bits = er }
 
-pub magnitudes_gained : (s p q t : CircuitValue) (a b x y quotient remainder : List Literal) → Gains s p (abs_gates s.next a) → x ≡ abs_bits s.next a → Gains p q (abs_gates p.next b) → y ≡ abs_bits p.next b → Gains q t (divide_gates q.next x y) → quotient ≡ quotient_bits q.next x y → remainder ≡ remainder_bits q.next x y → AreDivided s t a b quotient remainder
+pub magnitudes_gained : (s p q t : CircuitValue) (a b x y quotient remainder : List Literal) → Gains s p (abs_gates s.next a) → x ≡ signed_bits s.next a → Gains p q (abs_gates p.next b) → y ≡ signed_bits p.next b → Gains q t (divide_gates q.next x y) → quotient ≡ quotient_bits q.next x y → remainder ≡ remainder_bits q.next x y → AreDivided s t a b quotient remainder
 magnitudes_gained s p q t a b x y quotient remainder first ex second ey third eq er =
     let h = s.next + length (abs_gates s.next a) in
     let second' = subst (λ n. Gains p q (abs_gates n b)) first.next second in
     let k = h + length (abs_gates h b) in
     let after : q.next ≡ k = second'.next ∙ ap (λ n. n + length (abs_gates h b)) first.next in
-    let ey' : y ≡ abs_bits h b = ey ∙ ap (λ n. abs_bits n b) first.next in
-    let third' = subst (λ n. Gains q t (divide_gates n (abs_bits s.next a) (abs_bits h b))) after (subst (λ z. Gains q t (divide_gates q.next (abs_bits s.next a) z)) ey' (subst (λ z. Gains q t (divide_gates q.next z y)) ex third)) in
+    let ey' : y ≡ signed_bits h b = ey ∙ ap (λ n. signed_bits n b) first.next in
+    let third' = subst (λ n. Gains q t (divide_gates n (signed_bits s.next a) (signed_bits h b))) after (subst (λ z. Gains q t (divide_gates q.next (signed_bits s.next a) z)) ey' (subst (λ z. Gains q t (divide_gates q.next z y)) ex third)) in
     record {
-      gates = Gains-then s p t (abs_gates s.next a) _ first (Gains-then p q t (abs_gates h b) (divide_gates k (abs_bits s.next a) (abs_bits h b)) second' (subst (λ n. Gains q t (divide_gates n (abs_bits s.next a) (abs_bits h b))) refl third'));
-      quotient_bits = eq ∙ ap (λ z. quotient_bits q.next z y) ex ∙ ap (λ z. quotient_bits q.next (abs_bits s.next a) z) ey' ∙ ap (λ n. quotient_bits n (abs_bits s.next a) (abs_bits h b)) after;
-      remainder_bits = er ∙ ap (λ z. remainder_bits q.next z y) ex ∙ ap (λ z. remainder_bits q.next (abs_bits s.next a) z) ey' ∙ ap (λ n. remainder_bits n (abs_bits s.next a) (abs_bits h b)) after;
+      gates = Gains-then s p t (abs_gates s.next a) _ first (Gains-then p q t (abs_gates h b) (divide_gates k (signed_bits s.next a) (signed_bits h b)) second' (subst (λ n. Gains q t (divide_gates n (signed_bits s.next a) (signed_bits h b))) refl third'));
+      quotient_bits = eq ∙ ap (λ z. quotient_bits q.next z y) ex ∙ ap (λ z. quotient_bits q.next (signed_bits s.next a) z) ey' ∙ ap (λ n. quotient_bits n (signed_bits s.next a) (signed_bits h b)) after;
+      remainder_bits = er ∙ ap (λ z. remainder_bits q.next z y) ex ∙ ap (λ z. remainder_bits q.next (signed_bits s.next a) z) ey' ∙ ap (λ n. remainder_bits n (signed_bits s.next a) (signed_bits h b)) after;
     }
 
 -- ---- a quotient's sign

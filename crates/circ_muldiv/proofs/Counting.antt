@@ -9,18 +9,17 @@ use Rattle.cnf_base.specs.Adders.{add_gates, add_bits}
 use Rattle.cnf_base.specs.Assignments.{fresh_bits}
 use Rattle.cnf_base.specs.Choices.{mux_gates, equal_gates, equal_bit}
 use Rattle.cnf_base.proofs.Adding.{length-add_gates, length-add_bits}
-use Rattle.circ_plain.specs.Signs.{sign_of, neg_gates, neg_bits, abs_gates, abs_bits}
-use Rattle.circ_plain.proofs.Negating.{length-neg_gates, length-neg_bits, length-abs_gates, length-abs_bits}
+use Rattle.circ_plain.specs.Signs.{sign_of, neg_gates, neg_bits, signed_gates, signed_bits, abs_gates}
+use Rattle.circ_plain.proofs.Negating.{length-neg_gates, length-neg_bits, length-signed_gates, length-signed_bits, length-abs_gates}
 use Rattle.circ_muldiv.specs.Products.{row_gates, sum_gates, sum_bits, rows_gates, mul_gates}
 use Rattle.circ_muldiv.specs.Quotients.{shifted, complement_of, difference_gates, place_gates, place_bit, divided, divide_gates}
-use Rattle.circ_muldiv.specs.Signed.{signed_gates, signed_bits, magnitudes, sdiv_gates, srem_gates, smod_gates}
+use Rattle.circ_muldiv.specs.Signed.{magnitudes, sdiv_gates, srem_gates, smod_gates}
 use Rattle.circ_muldiv.specs.Sizes.{mul_size, divide_size, magnitudes_size, sdiv_size, srem_size, smod_size}
 use Rattle.cnf_base.proofs.Rows.{length-fresh_bits}
 use Rattle.cnf_base.proofs.Choosing.{length-mux_gates}
 use Rattle.cnf_base.proofs.Equating.{length-equal_gates}
 use Rattle.circ_muldiv.proofs.Multiplying.{length-row_gates, length-sum_bits, length-rest}
 use Rattle.circ_muldiv.proofs.Dividing.{length-complement, length-shifted, length-divided_rest, length-quotient, length-remainder}
-use Rattle.circ_muldiv.proofs.Signs.{length-signed_bits}
 
 -- ---- products
 
@@ -90,22 +89,16 @@ length-divide_gates g a b e = length-divided_gates g a b ∙ ap (λ n. 4 * lengt
 
 -- ---- signed operators
 
-pub length-signed_gates : (g : ℕ) (c : Literal) (a : List Literal) → length (signed_gates g c a) ≡ 4 * length a
-length-signed_gates g c a =
-    let l = length-neg_bits g a in
-    length-append (neg_gates g a) (mux_gates c (neg_bits g a) a)
-    ∙ omega (arith, length-neg_gates g a, length-mux_gates c (neg_bits g a) a l, l)
-
 pub length-magnitudes : (g : ℕ) (a b : List Literal) → length a ≡ length b → length (magnitudes g a b).gates ≡ magnitudes_size (length a)
 length-magnitudes g a b e =
     let ga = abs_gates g a in
     let h = g + length ga in
     let gb = abs_gates h b in
     let k = h + length gb in
-    let x = abs_bits g a in
-    let y = abs_bits h b in
-    let lx = length-abs_bits g a in
-    let ly = length-abs_bits h b in
+    let x = signed_bits g a in
+    let y = signed_bits h b in
+    let lx = length-signed_bits g a in
+    let ly = length-signed_bits h b in
     let d = length-divide_gates k x y (lx ∙ e ∙ sym ly) ∙ ap divide_size lx in
     length-append ga (gb ++ divide_gates k x y)
     ∙ ap (λ n. length ga + n) (length-append gb (divide_gates k x y))
@@ -114,12 +107,12 @@ length-magnitudes g a b e =
 pub length-magnitudes_quotient : (g : ℕ) (a b : List Literal) → length (magnitudes g a b).quotient ≡ length a
 length-magnitudes_quotient g a b =
     let h = g + length (abs_gates g a) in
-    length-quotient (h + length (abs_gates h b)) (abs_bits g a) (abs_bits h b) ∙ length-abs_bits g a
+    length-quotient (h + length (abs_gates h b)) (signed_bits g a) (signed_bits h b) ∙ length-signed_bits g a
 
 pub length-magnitudes_remainder : (g : ℕ) (a b : List Literal) → length (magnitudes g a b).remainder ≡ length b
 length-magnitudes_remainder g a b =
     let h = g + length (abs_gates g a) in
-    length-remainder (h + length (abs_gates h b)) (abs_bits g a) (abs_bits h b) ∙ length-abs_bits h b
+    length-remainder (h + length (abs_gates h b)) (signed_bits g a) (signed_bits h b) ∙ length-signed_bits h b
 
 pub length-sdiv_gates : (g : ℕ) (a b : List Literal) → length a ≡ length b → length (sdiv_gates g a b) ≡ sdiv_size (length a)
 length-sdiv_gates g a b e =

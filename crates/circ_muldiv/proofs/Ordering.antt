@@ -12,15 +12,15 @@ use Rattle.cnf_base.proofs.Extending.{AreOrdered-append}
 use Rattle.cnf_base.proofs.Adding.{add_gates-ordered, add_bits-below, add_carry-below}
 use Rattle.cnf_base.proofs.Choosing.{mux_gates-ordered}
 use Rattle.cnf_base.proofs.Equating.{equal_gates-ordered, equal_bit-below}
-use Rattle.circ_plain.specs.Signs.{sign_of, neg_gates, neg_bits, abs_gates, abs_bits}
+use Rattle.circ_plain.specs.Signs.{sign_of, neg_gates, neg_bits, signed_gates, signed_bits, abs_gates}
 use Rattle.circ_plain.proofs.Negating.{length-neg_gates}
-use Rattle.circ_plain.proofs.Ordering.{sign_of-below, neg_gates-ordered, neg_bits-below, abs_gates-ordered, abs_bits-below}
+use Rattle.circ_plain.proofs.Ordering.{sign_of-below, neg_gates-ordered, neg_bits-below, signed_gates-ordered, signed_bits-below, abs_gates-ordered}
 use Rattle.circ_muldiv.specs.Products.{row_gates, sum_gates, sum_bits, rows_gates, rows_bits, mul_gates, mul_bits}
 use Rattle.circ_muldiv.specs.Quotients.{shifted, complement_of, difference_gates, place_gates, place_bit, place_rest, divided, divide_gates, quotient_bits, remainder_bits}
-use Rattle.circ_muldiv.specs.Signed.{signed_gates, signed_bits, magnitudes, sdiv_gates, sdiv_bits, srem_gates, srem_bits, smod_gates, smod_bits}
+use Rattle.circ_muldiv.specs.Signed.{magnitudes, sdiv_gates, sdiv_bits, srem_gates, srem_bits, smod_gates, smod_bits}
 use Rattle.circ_muldiv.proofs.Multiplying.{length-row_gates}
 use Rattle.circ_muldiv.proofs.Dividing.{length-divided_rest}
-use Rattle.circ_muldiv.proofs.Counting.{length-difference_gates, length-place_gates, length-signed_gates, length-magnitudes_quotient, length-sdiv_gates, length-magnitudes}
+use Rattle.circ_muldiv.proofs.Counting.{length-difference_gates, length-place_gates, length-magnitudes_quotient, length-sdiv_gates, length-magnitudes}
 
 -- ---- rows
 
@@ -132,15 +132,6 @@ remainder_bits-below g a b one ha hb =
 
 -- ---- signed operators
 
-signed_stands : (g : ℕ) (c : Literal) (a : List Literal) → 1 < g → c.variable < g → AreBelow g a → AreOrdered g (signed_gates g c a) × AreBelow (g + length (signed_gates g c a)) (signed_bits g a)
-signed_stands g c a one hc ha =
-    let first = neg_gates g a in
-    let h = g + length first in
-    let e : h + length a ≡ g + length (signed_gates g c a) = omega (arith, length-neg_gates g a, length-signed_gates g c a) in (
-      AreOrdered-append first (mux_gates c (neg_bits g a) a) g (neg_gates-ordered g a one ha) (mux_gates-ordered (neg_bits g a) a h c (neg_bits-below g a) (later g (length first) a ha) (omega (arith, hc))),
-      subst (λ n. AreBelow n (signed_bits g a)) e (AreBelow-fresh_bits (length a) h),
-    )
-
 pub record MagnitudesStand (g : ℕ) (a b : List Literal) : Type 0 where
   pub ordered : AreOrdered g (magnitudes g a b).gates
   pub quotient : AreBelow (g + length (magnitudes g a b).gates) (magnitudes g a b).quotient
@@ -152,11 +143,11 @@ magnitudes_stand g a b one ha hb =
     let h = g + length ga in
     let gb = abs_gates h b in
     let k = h + length gb in
-    let x = abs_bits g a in
-    let y = abs_bits h b in
+    let x = signed_bits g a in
+    let y = signed_bits h b in
     let gd = divide_gates k x y in
-    let hx = later h (length gb) x (abs_bits-below g a) in
-    let hy = abs_bits-below h b in
+    let hx = later h (length gb) x (signed_bits-below g (sign_of a) a) in
+    let hy = signed_bits-below h (sign_of b) b in
     let division = division_stands k x y (omega arith) hx hy in
     let e : k + length gd ≡ g + length (ga ++ (gb ++ gd)) = omega (arith, length-append ga (gb ++ gd), length-append gb gd) in
     record {
@@ -191,10 +182,10 @@ srem_stands g a b one ha hb =
     let h = g + length m.gates in
     let u = m.remainder in
     let sa : (sign_of a).variable < h = omega (arith, sign_of-below g a one ha) in
-    let signed = signed_stands h (sign_of a) u (omega arith) sa stand.remainder in
+    let signed = signed_gates-ordered h (sign_of a) u (omega arith) sa stand.remainder in
     let e : h + length (signed_gates h (sign_of a) u) ≡ g + length (srem_gates g a b) = omega (arith, length-append m.gates (signed_gates h (sign_of a) u)) in (
-      AreOrdered-append m.gates (signed_gates h (sign_of a) u) g stand.ordered signed.0,
-      subst (λ n. AreBelow n (srem_bits g a b)) e signed.1,
+      AreOrdered-append m.gates (signed_gates h (sign_of a) u) g stand.ordered signed,
+      subst (λ n. AreBelow n (srem_bits g a b)) e (signed_bits-below h (sign_of a) u),
     )
 
 pub smod_stands : (g : ℕ) (a b : List Literal) → 1 < g → AreBelow g a → AreBelow g b → AreOrdered g (smod_gates g a b) × AreBelow (g + length (smod_gates g a b)) (smod_bits g a b)
@@ -213,7 +204,7 @@ smod_stands g a b one ha hb =
     let w = signed_bits h u in
     let sum = sum_gates (suc y) w b (positive_of y) in
     let sa : (sign_of a).variable < h = omega (arith, sign_of-below g a one ha) in
-    let signed = signed_stands h (sign_of a) u (omega arith) sa stand.remainder in
+    let signed = signed_gates-ordered h (sign_of a) u (omega arith) sa stand.remainder in
     let sx : (sign_of a).variable < x = omega (arith, sa) in
     let sy : (sign_of b).variable < x = omega (arith, sign_of-below g b one hb) in
     let in_x : x ≤ suc x = omega arith in
@@ -221,10 +212,10 @@ smod_stands g a b one ha hb =
     let hz : z.variable < y = equal_bit-below u zero (suc x) true_literal (omega arith) in
     let in_y : x ≤ suc y = omega arith in
     let in_g : g ≤ suc y = omega arith in
-    let last = sum_gates-ordered (suc y) w b (positive_of y) (omega arith) (AreBelow-more x (suc y) in_y w signed.1) (AreBelow-more g (suc y) in_g b hb) (omega arith) in
+    let last = sum_gates-ordered (suc y) w b (positive_of y) (omega arith) (AreBelow-more x (suc y) in_y w (signed_bits-below h (sign_of a) u)) (AreBelow-more g (suc y) in_g b hb) (omega arith) in
     let e : suc y + length sum ≡ g + length (smod_gates g a b) = omega (arith, length-append m.gates (ws ++ Xor (sign_of a) (sign_of b) ∷ (zs ++ moves ∷ sum)), length-append ws (Xor (sign_of a) (sign_of b) ∷ (zs ++ moves ∷ sum)), length-append zs (moves ∷ sum)) in (
       AreOrdered-append m.gates (ws ++ Xor (sign_of a) (sign_of b) ∷ (zs ++ moves ∷ sum)) g stand.ordered
-          (AreOrdered-append ws (Xor (sign_of a) (sign_of b) ∷ (zs ++ moves ∷ sum)) h signed.0 (
+          (AreOrdered-append ws (Xor (sign_of a) (sign_of b) ∷ (zs ++ moves ∷ sum)) h signed (
             (sx, sy),
             AreOrdered-append zs (moves ∷ sum) (suc x) (equal_gates-ordered u zero (suc x) true_literal hu (AreBelow-replicate (length u) (suc x) false_literal (omega arith)) (omega arith))
                 ((omega arith, hz), last),

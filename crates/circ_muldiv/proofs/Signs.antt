@@ -14,28 +14,15 @@ use Rattle.smt_words.specs.Words.{neg_of, is_negative, abs_of, udiv_of, urem_of,
 use Rattle.cnf_base.specs.Choices.{mux_gates, equal_gates, equal_bit}
 use Rattle.circ_muldiv.specs.Products.{sum_gates}
 use Rattle.circ_muldiv.specs.Quotients.{divide_gates}
-use Rattle.circ_muldiv.specs.Signed.{signed_gates, signed_bits, Magnitudes, magnitudes, sdiv_gates, sdiv_bits, srem_gates, srem_bits, smod_gates, smod_bits}
+use Rattle.circ_muldiv.specs.Signed.{Magnitudes, magnitudes, sdiv_gates, sdiv_bits, srem_gates, srem_bits, smod_gates, smod_bits}
 use Rattle.cnf_base.proofs.Numbers.{number_lt}
-use Rattle.cnf_base.proofs.Rows.{length-fresh_bits}
 use Rattle.cnf_base.proofs.Equating.{equal_number}
-use Rattle.circ_plain.specs.Signs.{sign_of, neg_gates, neg_bits, abs_gates, abs_bits}
+use Rattle.circ_plain.specs.Signs.{sign_of, neg_gates, neg_bits, signed_gates, signed_bits, abs_gates}
 use Rattle.circ_plain.proofs.Bits.{meaning_front, meaning_back, false_is_false, number-replicate_false, choice_number}
-use Rattle.circ_plain.proofs.Negating.{sign_is, neg_number, length-neg_bits, abs_number, length-abs_bits}
+use Rattle.circ_plain.proofs.Negating.{sign_is, neg_number, length-neg_bits, signed_number, abs_number, length-signed_bits}
 use Rattle.circ_muldiv.proofs.Multiplying.{sum_number}
 use Rattle.circ_muldiv.proofs.Dividing.{length-quotient, length-remainder, divide_correct}
 use Rattle.std.proofs.Math.Bool.{and-true, and-false}
-
--- ---- a negation where a literal is true
-
-pub signed_correct : (v : ℕ → Bool) (g : ℕ) (c : Literal) (a : List Literal) → v 1 ≡ true → HaveMeaning v g (signed_gates g c a) → number v (signed_bits g a) ≡ (if lit_true v c then neg_of (length a) (number v a) else number v a)
-signed_correct v g c a one h =
-    let ks = neg_gates g a in
-    let n = neg_number v g a one (meaning_front v g ks (mux_gates c (neg_bits g a) a) h) in
-    choice_number v (g + length ks) c (neg_bits g a) a (length-neg_bits g a) (meaning_back v g ks (mux_gates c (neg_bits g a) a) h)
-    ∙ ap (λ k. if lit_true v c then k else number v a) n
-
-pub length-signed_bits : (g : ℕ) (a : List Literal) → length (signed_bits g a) ≡ length a
-length-signed_bits g a = length-fresh_bits (length a) (g + length (neg_gates g a))
 
 -- ---- the quotient and the remainder of the absolute values
 
@@ -51,13 +38,13 @@ magnitudes_correct v g a b one pos e m =
     let h = g + length ga in
     let gb = abs_gates h b in
     let k = h + length gb in
-    let x = abs_bits g a in
-    let y = abs_bits h b in
+    let x = signed_bits g a in
+    let y = signed_bits h b in
     let later = meaning_back v g ga (gb ++ divide_gates k x y) m in
     let ax = abs_number v g a one pos (meaning_front v g ga (gb ++ divide_gates k x y) m) in
     let ay = abs_number v h b one (omega (arith, e)) (meaning_front v h gb (divide_gates k x y) later) ∙ ap (λ n. abs_of n (number v b)) (sym e) in
-    let lx = length-abs_bits g a in
-    let ly = length-abs_bits h b in
+    let lx = length-signed_bits g a in
+    let ly = length-signed_bits h b in
     let d = divide_correct v k x y one (lx ∙ e ∙ sym ly) (meaning_back v h gb (divide_gates k x y) later) in
     record {
       quotient = d.0 ∙ ap (λ n. udiv_of n (number v x) (number v y)) lx ∙ rw (ax, ay) refl;
@@ -97,7 +84,7 @@ srem_correct v g a b one pos e meaning =
     let h = g + length m.gates in
     let r = m.remainder in
     let all = magnitudes_correct v g a b one pos e (meaning_front v g m.gates (signed_gates h (sign_of a) r) meaning) in
-    signed_correct v h (sign_of a) r one (meaning_back v g m.gates (signed_gates h (sign_of a) r) meaning)
+    signed_number v h (sign_of a) r one (meaning_back v g m.gates (signed_gates h (sign_of a) r) meaning)
     ∙ rw (all.rest_places, sign_is v a pos, all.remainder) refl
 
 -- u is the remainder of the absolute values, w the same with the dividend's sign, y whether the divisor comes to it
@@ -152,7 +139,7 @@ smod_correct v g a b one pos e meaning =
     let after_signed = Xor s t ∷ (zs ++ after_zero) in
     let all = magnitudes_correct v g a b one pos e (meaning_front v g m.gates (ws ++ after_signed) meaning) in
     let after = meaning_back v g m.gates (ws ++ after_signed) meaning in
-    let signed = signed_correct v h s u one (meaning_front v h ws after_signed after) in
+    let signed = signed_number v h s u one (meaning_front v h ws after_signed after) in
     let signs = meaning_back v h ws after_signed after in
     let compare = equal_number v (suc x) true_literal u (replicate (length u) false_literal) (sym (length-replicate (length u) false_literal)) (meaning_front v (suc x) zs after_zero signs.1) in
     let and_sum = meaning_back v (suc x) zs after_zero signs.1 in

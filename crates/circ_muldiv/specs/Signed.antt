@@ -5,16 +5,9 @@ use Rattle.cnf_base.specs.declared.gate.GateKind.{GateKind}
 use Rattle.cnf_base.specs.declared.gate.GateKind.TheVariants.{And, Xor}
 use Rattle.cnf_base.specs.Assignments.{fresh_bits}
 use Rattle.cnf_base.specs.Choices.{mux_gates, equal_gates, equal_bit}
-use Rattle.circ_plain.specs.Signs.{sign_of, neg_gates, neg_bits, abs_gates, abs_bits}
+use Rattle.circ_plain.specs.Signs.{sign_of, neg_gates, neg_bits, signed_gates, signed_bits, abs_gates}
 use Rattle.circ_muldiv.specs.Products.{sum_gates, sum_bits}
 use Rattle.circ_muldiv.specs.Quotients.{divide_gates, quotient_bits, remainder_bits}
-
--- the negation where c is true, else the same
-abbrev pub signed_gates : ℕ → Literal → List Literal → List GateKind
-signed_gates g c a = neg_gates g a ++ mux_gates c (neg_bits g a) a
-
-abbrev pub signed_bits : ℕ → List Literal → List Literal
-signed_bits g a = fresh_bits (g + length (neg_gates g a)) (length a)
 
 -- the quotient and the remainder of the absolute values
 pub record Magnitudes : Type 0 where
@@ -26,8 +19,8 @@ abbrev pub magnitudes : ℕ → List Literal → List Literal → Magnitudes
 magnitudes g a b =
     let h = g + length (abs_gates g a) in
     let k = h + length (abs_gates h b) in
-    let x = abs_bits g a in
-    let y = abs_bits h b in
+    let x = signed_bits g a in
+    let y = signed_bits h b in
     record {
       gates = abs_gates g a ++ (abs_gates h b ++ divide_gates k x y);
       quotient = quotient_bits k x y;

@@ -1,6 +1,6 @@
 //! Quotients and remainders.
 
-ghost use Rattle.std.specs.Prelude.{◌≡◌, ℕ, suc, ◌+◌, ◌*◌, ◌-◌, ◌^◌, ◌≤◌, ◌<◌, ◌++◌, ◌∷◌, Bool, true, IfOk, OnOk, OnErr, length, take};
+ghost use Rattle.std.specs.Prelude.{◌≡◌, ℕ, ◌+◌, ◌*◌, ◌-◌, ◌^◌, ◌≤◌, ◌<◌, ◌∷◌, Bool, true, IfOk, OnOk, OnErr, length};
 ghost use Rattle.cnf_base.specs.Clauses.{all_true, number};
 ghost use Rattle.cnf_base.specs.Circuits.{Gains};
 ghost use Rattle.smt_words.specs.Words.{udiv_of, urem_of};

@@ -1,16 +1,16 @@
 //! Signed quotients, remainders and moduli, of words in two's complement.
 
-ghost use Rattle.std.specs.Prelude.{◌≡◌, ℕ, ◌+◌, ◌*◌, ◌^◌, ◌≤◌, ◌<◌, Bool, true, IfOk, OnOk, OnErr, length};
+ghost use Rattle.std.specs.Prelude.{◌≡◌, ℕ, ◌+◌, ◌^◌, ◌≤◌, ◌<◌, Bool, true, IfOk, OnOk, OnErr, length};
 ghost use Rattle.cnf_base.specs.Clauses.{all_true, number};
 ghost use Rattle.cnf_base.specs.Circuits.{Gains};
 ghost use Rattle.smt_words.specs.Words.{sdiv_of, srem_of, smod_of};
-ghost use Rattle.circ_muldiv.specs.Signed.{magnitudes, signed_gates, signed_bits, sdiv_gates, sdiv_bits, srem_gates, srem_bits, smod_gates, smod_bits};
+ghost use Rattle.circ_muldiv.specs.Signed.{magnitudes, sdiv_gates, sdiv_bits, srem_gates, srem_bits, smod_gates, smod_bits};
 ghost use Rattle.circ_muldiv.specs.Sizes.{magnitudes_size, sdiv_size, srem_size, smod_size};
 
 use crate::products::put_sum;
 use crate::quotients::put_division;
 use crate::rows::zeros;
-use circ_plain::{abs, neg, sign};
+use circ_plain::{abs, neg, sign, signed};
 use cnf_base::{Circuit, GateKind, Lit};
 use std::alloc::AllocError;
 
@@ -92,7 +92,7 @@ fn put_remainder(circuit: &mut Circuit, a: &[Lit], b: &[Lit]) -> Result<Vec<Lit>
     ensures bits { IfOk result (λ r. r.items ≡ srem_bits circuit.old.next a.now b.now) }
 {
     let (_quotient, remainder) = put_magnitudes(circuit, a, b)?;
-    let bits = put_signed(circuit, sign(a), remainder.as_slice())?;
+    let bits = signed(circuit, sign(a), remainder.as_slice())?;
     Ok(bits)
 }
 
@@ -106,12 +106,12 @@ fn put_modulus(circuit: &mut Circuit, a: &[Lit], b: &[Lit]) -> Result<Vec<Lit>, 
 {
     let (_quotient, remainder) = put_magnitudes(circuit, a, b)?;
     let negative = sign(a);
-    let signed = put_signed(circuit, negative, remainder.as_slice())?;
+    let truncated = signed(circuit, negative, remainder.as_slice())?;
     let differ = circuit.gate(GateKind::Xor(negative, sign(b)))?;
     let zero = zeros(circuit.alloc(), remainder.len())?;
     let is_zero = circuit.equal(remainder.as_slice(), zero.as_slice())?;
     let moves = circuit.gate(GateKind::And(differ, is_zero.negated()))?;
-    let bits = put_sum(circuit, signed.as_slice(), b, moves)?;
+    let bits = put_sum(circuit, truncated.as_slice(), b, moves)?;
     Ok(bits)
 }
 
@@ -132,15 +132,4 @@ fn put_magnitudes(
     let divisor = abs(circuit, b)?;
     let parts = put_division(circuit, dividend.as_slice(), divisor.as_slice())?;
     Ok(parts)
-}
-
-// The negation where `negative` is true, else the same.
-fn put_signed(circuit: &mut Circuit, negative: Lit, a: &[Lit]) -> Result<Vec<Lit>, AllocError>
-    requires room { circuit.old.next + 4 * length a.now ≤ 2 ^ 63 }
-    ensures gains { OnOk result (Gains circuit.old circuit.new (signed_gates circuit.old.next negative a.now)) }
-    ensures bits { IfOk result (λ r. r.items ≡ signed_bits circuit.old.next a.now) }
-{
-    let negation = neg(circuit, a)?;
-    let bits = circuit.mux(negative, negation.as_slice(), a)?;
-    Ok(bits)
 }

@@ -1,6 +1,6 @@
--- The bits of a negation and of an absolute value are those of the numbers.
+-- The bits of a negation, of one chosen by a literal and of an absolute value are those of the numbers.
 use Rattle.std.proofs.Common.{◌≡◌, ℕ, suc, ◌+◌, ◌-◌, ◌*◌, ◌%◌, ◌^◌, ◌<◌, Bool, true, false, List, [], ◌∷◌, length, length-append, length-take, min, take, get_or, refl, sym, ap, ◌∙◌, subst, arith}
-use Rattle.std.specs.Prelude.{map, replicate, nat_le}
+use Rattle.std.specs.Prelude.{if◌then◌else◌, map, replicate, nat_le}
 use Rattle.std.proofs.lemmas.Bool.{le-leb, lt-leb}
 use Rattle.std.proofs.lemmas.List.{length-map, length-replicate}
 use Rattle.std.proofs.Math.Nat.{pow-suc, mod-eq_of_lt, add-mul-mod_self_left}
@@ -17,7 +17,7 @@ use Rattle.smt_words.specs.Words.{is_negative, neg_of, abs_of}
 use Rattle.cnf_base.proofs.Numbers.{number_lt, number-negated}
 use Rattle.cnf_base.proofs.Rows.{length-fresh_bits}
 use Rattle.cnf_base.proofs.Choosing.{length-mux_gates}
-use Rattle.circ_plain.specs.Signs.{sign_of, neg_gates, neg_bits, abs_gates, abs_bits}
+use Rattle.circ_plain.specs.Signs.{sign_of, neg_gates, neg_bits, signed_gates, signed_bits, abs_gates}
 use Rattle.circ_plain.proofs.Bits.{meaning_front, meaning_back, false_is_false, number-replicate_false, choice_number}
 
 -- ---- the sign
@@ -74,22 +74,30 @@ neg_number v g a one h =
     sum_mod (number v (neg_bits g a)) (2 ^ n) (bit (lit_true v (add_carry g (map negated a) zeros true_literal))) (2 ^ n - number v a) lt
     (omega (arith, sum', t, z, number-negated v a))
 
+-- ---- a negation where a literal is true
+
+pub length-signed_gates : (g : ℕ) (c : Literal) (a : List Literal) → length (signed_gates g c a) ≡ 4 * length a
+length-signed_gates g c a =
+    length-append (neg_gates g a) (mux_gates c (neg_bits g a) a)
+    ∙ omega (arith, length-neg_gates g a, length-mux_gates c (neg_bits g a) a (length-neg_bits g a), length-neg_bits g a)
+
+pub length-signed_bits : (g : ℕ) (a : List Literal) → length (signed_bits g a) ≡ length a
+length-signed_bits g a = length-fresh_bits (length a) (g + length (neg_gates g a))
+
+pub signed_number : (v : ℕ → Bool) (g : ℕ) (c : Literal) (a : List Literal) → v 1 ≡ true → HaveMeaning v g (signed_gates g c a) → number v (signed_bits g a) ≡ (if lit_true v c then neg_of (length a) (number v a) else number v a)
+signed_number v g c a one h =
+    let front = meaning_front v g (neg_gates g a) _ h in
+    let back = meaning_back v g (neg_gates g a) _ h in
+    choice_number v (g + length (neg_gates g a)) c (neg_bits g a) a (length-neg_bits g a) back
+    ∙ ap (λ k. if lit_true v c then k else number v a) (neg_number v g a one front)
+
 -- ---- absolute value
 
 pub length-abs_gates : (g : ℕ) (a : List Literal) → length (abs_gates g a) ≡ 4 * length a
-length-abs_gates g a =
-    length-append (neg_gates g a) (mux_gates (sign_of a) (neg_bits g a) a)
-    ∙ omega (arith, length-neg_gates g a, length-mux_gates (sign_of a) (neg_bits g a) a (length-neg_bits g a), length-neg_bits g a)
+length-abs_gates g a = length-signed_gates g (sign_of a) a
 
-pub length-abs_bits : (g : ℕ) (a : List Literal) → length (abs_bits g a) ≡ length a
-length-abs_bits g a = length-fresh_bits (length a) (g + length (neg_gates g a))
-
-pub abs_number : (v : ℕ → Bool) (g : ℕ) (a : List Literal) → v 1 ≡ true → 0 < length a → HaveMeaning v g (abs_gates g a) → number v (abs_bits g a) ≡ abs_of (length a) (number v a)
-abs_number v g a one some h =
-    let front = meaning_front v g (neg_gates g a) _ h in
-    let back = meaning_back v g (neg_gates g a) _ h in
-    choice_number v (g + length (neg_gates g a)) (sign_of a) (neg_bits g a) a (length-neg_bits g a) back
-    ∙ rw (sign_is v a some, neg_number v g a one front) refl
+pub abs_number : (v : ℕ → Bool) (g : ℕ) (a : List Literal) → v 1 ≡ true → 0 < length a → HaveMeaning v g (abs_gates g a) → number v (signed_bits g a) ≡ abs_of (length a) (number v a)
+abs_number v g a one some h = signed_number v g (sign_of a) a one h ∙ rw (sign_is v a some) refl
 
 -- the sign is the bit at the last place
 pub sign_at : (a : List Literal) (x : Literal) → 0 < length a → x ≡ get_or a (length a - 1) x → x ≡ sign_of a
@@ -103,10 +111,10 @@ sign_at (l ∷ m ∷ a) x h e =
 -- ---- one circuit after the other
 
 -- a negation, and the choice between it and the bits
-pub abs_joined : (s p q : CircuitValue) (a turned : List Literal) (sign : Literal) → Gains s p (neg_gates s.next a) → Gains p q (mux_gates sign turned a) → sign ≡ sign_of a → turned ≡ neg_bits s.next a → Gains s q (abs_gates s.next a)
-abs_joined s p q a turned sign first second es et =
-    Gains-then s p q (neg_gates s.next a) (mux_gates (sign_of a) (neg_bits s.next a) a) first (rw (es, et) at second)
+pub signed_joined : (s p q : CircuitValue) (c : Literal) (a turned : List Literal) → Gains s p (neg_gates s.next a) → turned ≡ neg_bits s.next a → Gains p q (mux_gates c turned a) → Gains s q (signed_gates s.next c a)
+signed_joined s p q c a turned first et second =
+    Gains-then s p q (neg_gates s.next a) (mux_gates c (neg_bits s.next a) a) first (rw et at second)
 
-pub abs_bits_are : (s p : CircuitValue) (a turned bits : List Literal) → Gains s p (neg_gates s.next a) → turned ≡ neg_bits s.next a → bits ≡ fresh_bits p.next (length turned) → bits ≡ abs_bits s.next a
-abs_bits_are s p a turned bits first et eb =
+pub signed_bits_are : (s p : CircuitValue) (a turned bits : List Literal) → Gains s p (neg_gates s.next a) → turned ≡ neg_bits s.next a → bits ≡ fresh_bits p.next (length turned) → bits ≡ signed_bits s.next a
+signed_bits_are s p a turned bits first et eb =
     eb ∙ ap (λ n. fresh_bits p.next n) (ap length et ∙ length-neg_bits s.next a) ∙ ap (λ n. fresh_bits n (length a)) first.next

@@ -12,10 +12,10 @@ use Rattle.cnf_base.proofs.Adding.{add_gates-ordered, add_bits-below}
 use Rattle.cnf_base.proofs.Choosing.{mux_gates-ordered, length-mux_gates}
 use Rattle.circ_plain.specs.declared.moves.Direction.{Direction}
 use Rattle.circ_plain.specs.declared.moves.Direction.TheVariants.{Up, Down}
-use Rattle.circ_plain.specs.Signs.{sign_of, neg_gates, neg_bits, abs_gates, abs_bits}
+use Rattle.circ_plain.specs.Signs.{sign_of, neg_gates, neg_bits, signed_gates, signed_bits, abs_gates}
 use Rattle.circ_plain.specs.Orders.{below_gates, below_bit, ult_gates, ult_bit, with_sign, slt_gates, slt_bit}
 use Rattle.circ_plain.specs.Shifts.{stages, AreNear, moved, stage_gates, stage_bits, any_gates, any_bit, mask_gates, move_gates, move_bits, over_bit, logical_gates, logical_bits, shl_gates, shl_bits, lshr_gates, lshr_bits, ashr_gates, ashr_bits}
-use Rattle.circ_plain.proofs.Negating.{length-neg_gates, length-abs_gates}
+use Rattle.circ_plain.proofs.Negating.{length-neg_gates, length-signed_gates}
 use Rattle.circ_plain.proofs.Shifting.{length-moved, AreNear-next, near_stages, length-logical_gates, length-move_gates, length-ashr_gates}
 
 -- ---- rows
@@ -41,17 +41,19 @@ neg_gates-ordered g a one h =
 pub neg_bits-below : (g : ℕ) (a : List Literal) → AreBelow (g + length (neg_gates g a)) (neg_bits g a)
 neg_bits-below g a = add_bits-below (map negated a) (replicate (length a) false_literal) g true_literal
 
-pub abs_gates-ordered : (g : ℕ) (a : List Literal) → 1 < g → AreBelow g a → AreOrdered g (abs_gates g a)
-abs_gates-ordered g a one h =
+pub signed_gates-ordered : (g : ℕ) (c : Literal) (a : List Literal) → 1 < g → c.variable < g → AreBelow g a → AreOrdered g (signed_gates g c a)
+signed_gates-ordered g c a one hc ha =
     let up : g ≤ g + length (neg_gates g a) = omega arith in
-    let sign = sign_of-below g a one h in
-    AreOrdered-append (neg_gates g a) (mux_gates (sign_of a) (neg_bits g a) a) g (neg_gates-ordered g a one h)
-    (mux_gates-ordered (neg_bits g a) a (g + length (neg_gates g a)) (sign_of a) (neg_bits-below g a) (AreBelow-more g (g + length (neg_gates g a)) up a h) (omega arith))
+    AreOrdered-append (neg_gates g a) (mux_gates c (neg_bits g a) a) g (neg_gates-ordered g a one ha)
+    (mux_gates-ordered (neg_bits g a) a (g + length (neg_gates g a)) c (neg_bits-below g a) (AreBelow-more g (g + length (neg_gates g a)) up a ha) (omega (arith, hc)))
 
-pub abs_bits-below : (g : ℕ) (a : List Literal) → AreBelow (g + length (abs_gates g a)) (abs_bits g a)
-abs_bits-below g a =
-    let e : g + length (neg_gates g a) + length a ≡ g + length (abs_gates g a) = omega (arith, length-neg_gates g a, length-abs_gates g a) in
-    subst (λ n. AreBelow n (abs_bits g a)) e (AreBelow-fresh_bits (length a) (g + length (neg_gates g a)))
+pub signed_bits-below : (g : ℕ) (c : Literal) (a : List Literal) → AreBelow (g + length (signed_gates g c a)) (signed_bits g a)
+signed_bits-below g c a =
+    let e : g + length (neg_gates g a) + length a ≡ g + length (signed_gates g c a) = omega (arith, length-neg_gates g a, length-signed_gates g c a) in
+    subst (λ n. AreBelow n (signed_bits g a)) e (AreBelow-fresh_bits (length a) (g + length (neg_gates g a)))
+
+pub abs_gates-ordered : (g : ℕ) (a : List Literal) → 1 < g → AreBelow g a → AreOrdered g (abs_gates g a)
+abs_gates-ordered g a one h = signed_gates-ordered g (sign_of a) a one (sign_of-below g a one h) h
 
 -- ---- orders
 

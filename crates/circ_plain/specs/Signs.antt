@@ -19,9 +19,13 @@ neg_gates g a = add_gates g (map negated a) (replicate (length a) false_literal)
 abbrev pub neg_bits : ℕ → List Literal → List Literal
 neg_bits g a = add_bits g (map negated a) (replicate (length a) false_literal)
 
+-- the negation where the literal is true, else the bits
+abbrev pub signed_gates : ℕ → Literal → List Literal → List GateKind
+signed_gates g c a = neg_gates g a ++ mux_gates c (neg_bits g a) a
+
+abbrev pub signed_bits : ℕ → List Literal → List Literal
+signed_bits g a = fresh_bits (g + length (neg_gates g a)) (length a)
+
 -- the negation where the sign is true, else the bits
 abbrev pub abs_gates : ℕ → List Literal → List GateKind
-abs_gates g a = neg_gates g a ++ mux_gates (sign_of a) (neg_bits g a) a
-
-abbrev pub abs_bits : ℕ → List Literal → List Literal
-abs_bits g a = fresh_bits (g + length (neg_gates g a)) (length a)
+abs_gates g a = signed_gates g (sign_of a) a

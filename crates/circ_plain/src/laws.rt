@@ -7,16 +7,17 @@ ghost use Rattle.std.specs.Prelude.{ℕ, ◌+◌, ◌<◌, List, length};
 ghost use Rattle.cnf_base.specs.Literals.{Literal};
 ghost use Rattle.cnf_base.specs.Gates.{AreOrdered};
 ghost use Rattle.cnf_base.specs.Assignments.{AreBelow};
-ghost use Rattle.circ_plain.specs.Signs.{neg_gates, neg_bits, abs_gates, abs_bits};
+ghost use Rattle.circ_plain.specs.Signs.{neg_gates, neg_bits, signed_gates, signed_bits, abs_gates};
 ghost use Rattle.circ_plain.specs.Orders.{ult_gates, ult_bit, slt_gates, slt_bit};
 ghost use Rattle.circ_plain.specs.Shifts.{shl_gates, shl_bits, lshr_gates, lshr_bits, ashr_gates, ashr_bits};
 
-/// The gates of a negation and of an absolute value, and the variables of their bits.
+/// The gates of a negation, of one chosen by a literal and of an absolute value, and the variables of their bits.
 pub fn signs_are_ordered()
     ensures neg { (g : ℕ) (a : List Literal) → 1 < g → AreBelow g a → AreOrdered g (neg_gates g a) }
     ensures neg_bits { (g : ℕ) (a : List Literal) → AreBelow (g + length (neg_gates g a)) (neg_bits g a) }
+    ensures signed { (g : ℕ) (c : Literal) (a : List Literal) → 1 < g → c.variable < g → AreBelow g a → AreOrdered g (signed_gates g c a) }
+    ensures signed_bits { (g : ℕ) (c : Literal) (a : List Literal) → AreBelow (g + length (signed_gates g c a)) (signed_bits g a) }
     ensures abs { (g : ℕ) (a : List Literal) → 1 < g → AreBelow g a → AreOrdered g (abs_gates g a) }
-    ensures abs_bits { (g : ℕ) (a : List Literal) → AreBelow (g + length (abs_gates g a)) (abs_bits g a) }
 {}
 
 /// The gates of the orders, and the variables of their literals.

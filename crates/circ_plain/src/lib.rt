@@ -21,4 +21,4 @@ pub use laws::{orders_are_ordered, shifts_are_ordered, signs_are_ordered};
 pub use orders::{sle, slt, ule, ult};
 pub use rows::sign;
 pub use shifts::{ashr, lshr, shl};
-pub use signs::{abs, neg};
+pub use signs::{abs, neg, signed};

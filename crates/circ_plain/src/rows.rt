@@ -1,6 +1,6 @@
 //! Rows of bits that take no gate.
 
-ghost use Rattle.std.specs.Prelude.{◌≡◌, ◌<◌, ◌-◌, ◌++◌, [], ◌∷◌, IfOk, length, map, replicate, take};
+ghost use Rattle.std.specs.Prelude.{◌≡◌, ◌<◌, IfOk, length, map, replicate};
 ghost use Rattle.cnf_base.specs.Literals.{negated};
 ghost use Rattle.circ_plain.specs.Signs.{sign_of};
 ghost use Rattle.circ_plain.specs.Orders.{with_sign};

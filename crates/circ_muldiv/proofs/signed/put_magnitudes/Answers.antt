@@ -1,5 +1,5 @@
 use Rattle.std.proofs.Common.{◌+◌, ◌≤◌, ◌^◌, ◌∙◌, sym, ap, length, subst, arith}
-use Rattle.circ_plain.proofs.Negating.{length-abs_bits}
+use Rattle.circ_plain.proofs.Negating.{length-signed_bits}
 use Rattle.circ_muldiv.specs.Sizes.{divide_size}
 use Rattle.circ_muldiv.proofs.Assembling.{abs_next, magnitudes_gained}
 use Rattle.circ_muldiv.proofs.signed.put_magnitudes.Goals as goal
@@ -10,13 +10,13 @@ abs-requires-2-clause-room c =
 
 pub put_division-requires-clause-same : goal.put_division-requires-clause-same
 put_division-requires-clause-same c =
-    let dividend = ap length (c.as_slice.ensures.value ∙ c.in_ok-dividend.ensures.bits) ∙ length-abs_bits _ c.args.a.now in
-    let divisor = ap length (c.as_slice-2.ensures.value ∙ c.in_ok-divisor.ensures.bits) ∙ length-abs_bits _ c.args.b.now in
+    let dividend = ap length (c.as_slice.ensures.value ∙ c.in_ok-dividend.ensures.bits) ∙ length-signed_bits _ c.args.a.now in
+    let divisor = ap length (c.as_slice-2.ensures.value ∙ c.in_ok-divisor.ensures.bits) ∙ length-signed_bits _ c.args.b.now in
     dividend ∙ c.requires.same ∙ sym divisor
 
 pub put_division-requires-clause-room : goal.put_division-requires-clause-room
 put_division-requires-clause-room c =
-    let dividend = ap length (c.as_slice.ensures.value ∙ c.in_ok-dividend.ensures.bits) ∙ length-abs_bits _ c.args.a.now in
+    let dividend = ap length (c.as_slice.ensures.value ∙ c.in_ok-dividend.ensures.bits) ∙ length-signed_bits _ c.args.a.now in
     let first = abs_next _ _ c.args.a.now c.in_ok-dividend.ensures.gains in
     let second = abs_next _ _ c.args.b.now c.in_ok-divisor.ensures.gains in
     subst (λ n. c.abs-2.new.circuit.next + divide_size n ≤ 2 ^ 63) (sym dividend) (omega (arith, first, second, c.requires.same, c.requires.room))

@@ -2,13 +2,13 @@ use Rattle.std.proofs.Common.{◌∙◌, sym, ap, length, arith}
 use Rattle.std.specs.Prelude.{replicate}
 use Rattle.std.proofs.lemmas.List.{length-replicate}
 use Rattle.cnf_base.specs.Literals.{false_literal}
+use Rattle.circ_plain.proofs.Negating.{length-signed_bits}
 use Rattle.circ_muldiv.proofs.Assembling.{are_divided, are_parts, magnitudes_next, signed_next, equal_after, smod_gained, smod_bits_are}
 use Rattle.circ_muldiv.proofs.Counting.{length-magnitudes_remainder}
-use Rattle.circ_muldiv.proofs.Signs.{length-signed_bits}
 use Rattle.circ_muldiv.proofs.signed.put_modulus.Goals as goal
 
-pub put_signed-requires : goal.put_signed-requires
-put_signed-requires c =
+pub signed-requires : goal.signed-requires
+signed-requires c =
     let long = ap length (c.as_slice.ensures.value ∙ c.in_ok-_quotient.ensures.remainder) ∙ length-magnitudes_remainder _ c.args.a.now c.args.b.now in
     let first = magnitudes_next _ _ c.args.a.now c.args.b.now c.requires.same c.in_ok-_quotient.ensures.gains in
     omega (arith, long, first, c.requires.same, c.requires.room)
@@ -17,7 +17,7 @@ pub gate-requires : goal.gate-requires
 gate-requires c =
     let long = ap length (c.as_slice.ensures.value ∙ c.in_ok-_quotient.ensures.remainder) ∙ length-magnitudes_remainder _ c.args.a.now c.args.b.now in
     let first = magnitudes_next _ _ c.args.a.now c.args.b.now c.requires.same c.in_ok-_quotient.ensures.gains in
-    let second = signed_next _ _ c.sign-negative.result c.as_slice.result.now c.in_ok-signed.ensures.gains in
+    let second = signed_next _ _ c.sign-negative.result c.as_slice.result.now c.in_ok-truncated.ensures.gains in
     omega (arith, long, first, second, c.requires.same, c.requires.room)
 
 pub equal-requires-clause-same : goal.equal-requires-clause-same
@@ -30,7 +30,7 @@ pub equal-requires-clause-room : goal.equal-requires-clause-room
 equal-requires-clause-room c =
     let long = ap length (c.as_slice.ensures.value ∙ c.in_ok-_quotient.ensures.remainder) ∙ length-magnitudes_remainder _ c.args.a.now c.args.b.now in
     let first = magnitudes_next _ _ c.args.a.now c.args.b.now c.requires.same c.in_ok-_quotient.ensures.gains in
-    let second = signed_next _ _ c.sign-negative.result c.as_slice.result.now c.in_ok-signed.ensures.gains in
+    let second = signed_next _ _ c.sign-negative.result c.as_slice.result.now c.in_ok-truncated.ensures.gains in
     let again = c.as_slice-2.ensures.value ∙ sym c.as_slice.ensures.value in
     omega (arith, long, ap length again, first, second, c.in_ok-differ.ensures.gains.next, c.requires.same, c.requires.room)
 
@@ -38,7 +38,7 @@ pub gate-requires-2 : goal.gate-requires-2
 gate-requires-2 c =
     let long = ap length (c.as_slice.ensures.value ∙ c.in_ok-_quotient.ensures.remainder) ∙ length-magnitudes_remainder _ c.args.a.now c.args.b.now in
     let first = magnitudes_next _ _ c.args.a.now c.args.b.now c.requires.same c.in_ok-_quotient.ensures.gains in
-    let second = signed_next _ _ c.sign-negative.result c.as_slice.result.now c.in_ok-signed.ensures.gains in
+    let second = signed_next _ _ c.sign-negative.result c.as_slice.result.now c.in_ok-truncated.ensures.gains in
     let zero = c.as_slice-3.ensures.value ∙ c.in_ok-zero.ensures ∙ ap (λ n. replicate n false_literal) (c.len.ensures ∙ sym c.as_slice.ensures.len) in
     let again = c.as_slice-2.ensures.value ∙ sym c.as_slice.ensures.value in
     let third = equal_after _ _ c.as_slice.result.now c.as_slice-2.result.now _ again zero c.in_ok-is_zero.ensures.gains in
@@ -47,13 +47,13 @@ gate-requires-2 c =
 pub put_sum-requires-clause-same : goal.put_sum-requires-clause-same
 put_sum-requires-clause-same c =
     let long = ap length (c.as_slice.ensures.value ∙ c.in_ok-_quotient.ensures.remainder) ∙ length-magnitudes_remainder _ c.args.a.now c.args.b.now in
-    ap length (c.as_slice-4.ensures.value ∙ c.in_ok-signed.ensures.bits) ∙ length-signed_bits _ c.as_slice.result.now ∙ long
+    ap length (c.as_slice-4.ensures.value ∙ c.in_ok-truncated.ensures.bits) ∙ length-signed_bits _ c.as_slice.result.now ∙ long
 
 pub put_sum-requires-clause-room : goal.put_sum-requires-clause-room
 put_sum-requires-clause-room c =
     let long = ap length (c.as_slice.ensures.value ∙ c.in_ok-_quotient.ensures.remainder) ∙ length-magnitudes_remainder _ c.args.a.now c.args.b.now in
     let first = magnitudes_next _ _ c.args.a.now c.args.b.now c.requires.same c.in_ok-_quotient.ensures.gains in
-    let second = signed_next _ _ c.sign-negative.result c.as_slice.result.now c.in_ok-signed.ensures.gains in
+    let second = signed_next _ _ c.sign-negative.result c.as_slice.result.now c.in_ok-truncated.ensures.gains in
     let zero = c.as_slice-3.ensures.value ∙ c.in_ok-zero.ensures ∙ ap (λ n. replicate n false_literal) (c.len.ensures ∙ sym c.as_slice.ensures.len) in
     let again = c.as_slice-2.ensures.value ∙ sym c.as_slice.ensures.value in
     let third = equal_after _ _ c.as_slice.result.now c.as_slice-2.result.now _ again zero c.in_ok-is_zero.ensures.gains in
@@ -65,7 +65,7 @@ returns-clause-gains c =
     let zero = c.as_slice-3.ensures.value ∙ c.in_ok-zero.ensures ∙ ap (λ n. replicate n false_literal) (c.len.ensures ∙ sym c.as_slice.ensures.len) in
     let again = c.as_slice-2.ensures.value ∙ sym c.as_slice.ensures.value in
     let moves = rw c.negated.ensures at c.in_ok-moves.ensures.gains in
-    let parts = are_parts _ _ _ _ _ _ _ _ _ _ c.as_slice.result.now _ _ _ c.in_ok-signed.ensures.gains c.in_ok-signed.ensures.bits c.in_ok-differ.ensures.gains c.in_ok-differ.ensures.literal again zero c.in_ok-is_zero.ensures.gains c.in_ok-is_zero.ensures.literal moves c.in_ok-moves.ensures.literal in
+    let parts = are_parts _ _ _ _ _ _ _ _ _ _ c.as_slice.result.now _ _ _ c.in_ok-truncated.ensures.gains c.in_ok-truncated.ensures.bits c.in_ok-differ.ensures.gains c.in_ok-differ.ensures.literal again zero c.in_ok-is_zero.ensures.gains c.in_ok-is_zero.ensures.literal moves c.in_ok-moves.ensures.literal in
     smod_gained _ _ _ _ _ _ _ c.args.a.now c.args.b.now _ _ _ _ _ _ _ _ _ _ divided c.as_slice.ensures.value c.sign-negative.ensures c.sign.ensures parts c.as_slice-4.ensures.value c.in_ok-bits.ensures.gains
 
 pub returns-clause-bits : goal.returns-clause-bits
@@ -74,5 +74,5 @@ returns-clause-bits c =
     let zero = c.as_slice-3.ensures.value ∙ c.in_ok-zero.ensures ∙ ap (λ n. replicate n false_literal) (c.len.ensures ∙ sym c.as_slice.ensures.len) in
     let again = c.as_slice-2.ensures.value ∙ sym c.as_slice.ensures.value in
     let moves = rw c.negated.ensures at c.in_ok-moves.ensures.gains in
-    let parts = are_parts _ _ _ _ _ _ _ _ _ _ c.as_slice.result.now _ _ _ c.in_ok-signed.ensures.gains c.in_ok-signed.ensures.bits c.in_ok-differ.ensures.gains c.in_ok-differ.ensures.literal again zero c.in_ok-is_zero.ensures.gains c.in_ok-is_zero.ensures.literal moves c.in_ok-moves.ensures.literal in
+    let parts = are_parts _ _ _ _ _ _ _ _ _ _ c.as_slice.result.now _ _ _ c.in_ok-truncated.ensures.gains c.in_ok-truncated.ensures.bits c.in_ok-differ.ensures.gains c.in_ok-differ.ensures.literal again zero c.in_ok-is_zero.ensures.gains c.in_ok-is_zero.ensures.literal moves c.in_ok-moves.ensures.literal in
     smod_bits_are _ _ _ _ _ _ c.args.a.now c.args.b.now _ _ _ _ _ _ _ _ _ _ _ divided c.as_slice.ensures.value c.sign-negative.ensures parts c.as_slice-4.ensures.value c.in_ok-bits.ensures.bits

@@ -3,8 +3,8 @@ use Rattle.circ_muldiv.proofs.Assembling.{are_divided, magnitudes_next, srem_gai
 use Rattle.circ_muldiv.proofs.Counting.{length-magnitudes_remainder}
 use Rattle.circ_muldiv.proofs.signed.put_remainder.Goals as goal
 
-pub put_signed-requires : goal.put_signed-requires
-put_signed-requires c =
+pub signed-requires : goal.signed-requires
+signed-requires c =
     let long = ap length (c.as_slice.ensures.value ∙ c.in_ok-_quotient.ensures.remainder) ∙ length-magnitudes_remainder _ c.args.a.now c.args.b.now in
     let first = magnitudes_next _ _ c.args.a.now c.args.b.now c.requires.same c.in_ok-_quotient.ensures.gains in
     omega (arith, long, first, c.requires.same, c.requires.room)
