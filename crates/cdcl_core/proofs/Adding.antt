@@ -15,9 +15,10 @@ use Rattle.cdcl_core.specs.Levels.{RestsBy, IsAdded}
 use Rattle.cdcl_core.specs.Search.{literals_of, level_of}
 use Rattle.cdcl_core.specs.Stamps.{neg, codes, Has, IsFalse, RestsAt}
 use Rattle.cdcl_core.specs.Watched.{Kept}
-use Rattle.cdcl_core.specs.State.{no_id, all_codes, IsPlaced, IsWaiting, MayCome, IsConsistent}
+use Rattle.cnf_base.specs.Clauses.{no_id}
+use Rattle.cdcl_core.specs.State.{all_codes, IsPlaced, IsWaiting, MayCome, IsConsistent}
 use Rattle.cnf_base.proofs.Codes.{code_of-injective}
-use Rattle.cdcl_core.proofs.Steps.{on_trail, trail_len}
+use Rattle.cdcl_core.proofs.Trails.{on_trail, trail_len}
 use Rattle.cdcl_core.proofs.Visits.{IsPushed}
 use Rattle.cdcl_core.proofs.Bridge.{has_to, has_from, rests_rows, rows_rest, refuted_rows, false_rows, unset_open}
 use Rattle.cdcl_core.proofs.Decisions.{pushed_rows}

@@ -9,13 +9,16 @@ use Rattle.cnf_base.specs.declared.clause.ClauseId.{ClauseId}
 use Rattle.cdcl_core.specs.declared.trail.Trail.{Trail}
 use Rattle.cdcl_core.specs.declared.watches.Watches.{Watches}
 use Rattle.cdcl_core.specs.declared.watches.Kind.{Kind}
-use Rattle.cdcl_core.specs.declared.watches.Kind.TheVariants.{Free, Fixed, Watched}
+use Rattle.cdcl_core.specs.declared.watches.Kind.TheVariants.{Free, Watched}
 use Rattle.cdcl_core.specs.Chains.{times, rest_of}
 use Rattle.cdcl_core.specs.Levels.{Row}
 use Rattle.cdcl_core.specs.Stamps.{neg, codes, Has, IsTrueAt, IsTrail, rank}
 use Rattle.cdcl_core.specs.Watched.{kind_at, Kept, IsWatched}
-use Rattle.cdcl_core.specs.State.{no_id, all_codes, IsReasoned, IsFixed, IsPlaced, MayCome, Holds}
-use Rattle.cdcl_core.proofs.Steps.{found_at, entry_on, on_trail, trail_len, pushed_trail, decided_watched, has_room, true_on_trail}
+use Rattle.cnf_base.specs.Clauses.{no_id}
+use Rattle.cdcl_core.specs.State.{all_codes, IsReasoned, IsFixed, IsPlaced, MayCome, Holds}
+use Rattle.cdcl_core.proofs.Apart.{watched_not_free, watched_not_fixed}
+use Rattle.cdcl_core.proofs.Trails.{found_at, entry_on, on_trail, trail_len, pushed_trail, has_room, true_on_trail}
+use Rattle.cdcl_core.proofs.Watching.{decided_watched}
 use Rattle.cdcl_core.proofs.Reasons.{pushed_reasoned, pushed_shown, pushed_fixed, has_row}
 use Rattle.cdcl_core.proofs.Visits.{IsPushed}
 use Rattle.cdcl_core.proofs.Ranks.{rank_open, rank_set}
@@ -119,14 +122,11 @@ held_reasoned w w2 s k c rows es rs len r free h =
     rw h.ids (reasoned_changed (all_codes w.clauses.items) w.kinds.items w.ids.items rows es rs len (all_codes w2.clauses.items) w2.kinds.items s r
     (free_apart (all_codes w.clauses.items) w.kinds.items w.ids.items rows es rs len s r free) (rw (h.kinds, length-set) refl) (λ q ne. kind_other w w2 s k c q h ne) (λ q ne. clause_other w w2 s k c q h ne))
 
-watched_is_not_fixed : {A : Type 0} → Watched ≡ Fixed → A
-watched_is_not_fixed e = absurd cc
-
 pub held_fixed : (w w2 : Watches) (s : ℕ) (c : List Literal) (ss : List ℕ) → IsFixed w.kinds.items (all_codes w.clauses.items) ss w.refuted → s < length w.kinds.items → Holds w w2 s Watched c → w2.refuted ≡ w.refuted → IsFixed w2.kinds.items (all_codes w2.clauses.items) ss w2.refuted
 held_fixed w w2 s c ss f hi h e =
     let now : kind_at w2.kinds.items s ≡ Watched = rw h.kinds (get_or-set_same w.kinds.items s Watched Free hi) in
     fixed_changed w.kinds.items (all_codes w.clauses.items) ss w.refuted w2.refuted w2.kinds.items (all_codes w2.clauses.items) s f (rw (h.kinds, length-set) refl) (λ q ne. kind_other w w2 s Watched c q h ne) (λ q ne. clause_other w w2 s Watched c q h ne) (λ x. e ∙ x)
-    (λ k. watched_is_not_fixed (sym now ∙ k))
+    (λ k. absurd (watched_not_fixed (sym now ∙ k)))
 
 pub held_rows : (w w2 : Watches) (s : ℕ) (k : Kind) (c : List Literal) → length w.kinds.items ≤ length w.ids.items → Holds w w2 s k c → length w2.kinds.items ≤ length w2.ids.items
 held_rows w w2 s k c le h = rw (h.kinds, h.ids, length-set) le
@@ -218,7 +218,7 @@ hung_unit w w2 t t2 s a b c id p r may has_a has_b differ h idle name free free2
           (held_reasoned w w2 s Watched c t.rows.items t.codes.items t.reasons.items t.len p.reasoned r.free h.holds) room wide (λ z. absurd (omega (arith, z, lo)))
           (λ _. record {
             forced = rw (h.holds.kinds, length-set) r.high;
-            live = λ f. watched_live_now (sym kind_now ∙ f);
+            live = λ f. watched_not_free (sym kind_now ∙ f);
             name = rw (h.holds.ids, name) refl;
             has = rw clause_now has_a;
             others = λ m hm ne. true_on_trail ss t.codes.items t.len t.head t.level (neg m) p.trail (others m (rw clause_now at hm) ne);
@@ -227,6 +227,3 @@ hung_unit w w2 t t2 s a b c id p r may has_a has_b differ h idle name free free2
       fixed = rw pu.stamps (held_fixed w w2 s c ss2 (pushed_fixed w.kinds.items (all_codes w.clauses.items) ss w.refuted a (t.level + 1) p.fixed ha free) r.high h.holds h.calm);
       calm = λ u. h.calm ∙ p.calm (rw same at u);
     }
-  where
-    watched_live_now : Watched ≡ Free → ⊥
-    watched_live_now e = cc

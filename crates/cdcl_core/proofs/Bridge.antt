@@ -14,7 +14,7 @@ use Rattle.cdcl_core.specs.Search.{literals_of}
 use Rattle.cdcl_core.specs.Stamps.{neg, is_set, codes, Has, IsTrueAt, IsFalse, RestsAt, IsTrail}
 use Rattle.cdcl_core.specs.State.{no_row, IsShown}
 use Rattle.cdcl_core.proofs.Counting.{neg_cases}
-use Rattle.cdcl_core.proofs.Steps.{found_at, true_on_trail, entry_true, trail_len}
+use Rattle.cdcl_core.proofs.Trails.{found_at, true_on_trail, entry_true, trail_len}
 use Rattle.cdcl_core.proofs.Clauses.{code_in}
 
 neg_of_sign : (v : ℕ) (p : Bool) → 2 * v + (if not p then 0 else 1) ≡ neg (2 * v + (if p then 0 else 1))

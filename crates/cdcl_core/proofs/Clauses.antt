@@ -8,7 +8,7 @@ use Rattle.cnf_base.specs.Literals.{Literal, code_of}
 use Rattle.cdcl_core.specs.Stamps.{codes, Has, IsFalseBut}
 use Rattle.cdcl_core.specs.State.{all_codes}
 use Rattle.cdcl_core.proofs.Counting.{item_in}
-use Rattle.cdcl_core.proofs.Steps.{found_at}
+use Rattle.cdcl_core.proofs.Trails.{found_at}
 
 -- what is read of a clause is what the codes say
 pub clause_codes : (cs : List (List Literal)) (s : ℕ) (x : List Literal) → s < length cs → x ≡ get_or cs s x → codes x ≡ get_or (all_codes cs) s []

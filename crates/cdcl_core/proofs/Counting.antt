@@ -1,14 +1,30 @@
 -- Counts, signs and writes.
-use Rattle.std.proofs.Common.{ℕ, ◌≡◌, ◌≢◌, ◌+◌, ◌-◌, ◌/◌, ◌%◌, ◌<◌, ◌≤◌, ◌⊎◌, ◌++◌, zero, suc, List, [], ◌∷◌, length, take, cond, Bool, eqb, refl, subst, inl, inr, arith}
+use Rattle.std.proofs.Common.{ℕ, ◌≡◌, ◌≢◌, ◌+◌, ◌-◌, ◌/◌, ◌%◌, ◌<◌, ◌≤◌, ◌⊎◌, ◌++◌, zero, suc, List, [], ◌∷◌, length, take, cond, Bool, true, false, eqb, refl, subst, inl, inr, arith}
 use Rattle.std.proofs.Math.ListN.{get_or, set}
 use Rattle.std.proofs.lemmas.List.{get_or-set_other, get_or-set_same, take_more, get_or_past}
 use Rattle.std.proofs.lemmas.Bool.{cases_lt, cond-true, cond-false}
 use Rattle.std.proofs.lemmas.Bool.Decides.{eqb_tells}
 use Rattle.cdcl_core.specs.Chains.{times, first_of, rest_of}
-use Rattle.cdcl_core.specs.Stamps.{neg, IsFalseBut}
+use Rattle.cdcl_core.specs.Stamps.{neg, is_set, IsFalseBut}
 
 abbrev pub bit : Bool → ℕ
 bit b = cond b 1 0
+
+pub bit_le : (b : Bool) → bit b ≤ 1
+bit_le true = omega arith
+bit_le false = omega arith
+
+pub set_one : (n : ℕ) → 0 < n → bit (is_set n) ≡ 1
+set_one zero h = absurd (omega arith)
+set_one (suc n) h = refl
+
+pub set_none : (n : ℕ) → n ≡ 0 → bit (is_set n) ≡ 0
+set_none zero h = refl
+set_none (suc n) h = absurd (omega arith)
+
+pub one_set : (n : ℕ) → 0 < bit (is_set n) → 0 < n
+one_set zero h = absurd (omega arith)
+one_set (suc n) h = omega arith
 
 pub same_or_not : (a b : ℕ) → ((a ≡ b) × (bit (eqb a b) ≡ 1)) ⊎ ((a ≢ b) × (bit (eqb a b) ≡ 0))
 same_or_not a b = elim (eqb_tells a b) [ inl p ↦ inl (p.1, cond-true (eqb a b) 1 0 p.0) | inr p ↦ inr (p.1, cond-false (eqb a b) 1 0 p.0) ]

@@ -12,7 +12,9 @@ use Rattle.cdcl_core.specs.Levels.{Row, IsOpen}
 use Rattle.cdcl_core.specs.Search.{literals_of, level_of}
 use Rattle.cdcl_core.specs.Stamps.{neg, IsTrail}
 use Rattle.cdcl_core.specs.State.{all_codes, no_row, IsShown, IsSettled, IsPropagated}
-use Rattle.cdcl_core.proofs.Steps.{has_room, decided_trail, decided_watched, trail_len, IsCut, cut_entry, cut_top, cut_trail, cut_watched, cut_gone}
+use Rattle.cdcl_core.proofs.Trails.{has_room, decided_trail, trail_len}
+use Rattle.cdcl_core.proofs.Watching.{decided_watched}
+use Rattle.cdcl_core.proofs.Cutting.{IsCut, cut_entry, cut_top, cut_trail, cut_watched, cut_gone}
 use Rattle.cdcl_core.proofs.Reasons.{pushed_reasoned, pushed_shown, pushed_fixed, shorter_reasoned, shorter_shown, has_row}
 use Rattle.cdcl_core.proofs.Visits.{IsPushed}
 use Rattle.cdcl_core.proofs.Bridge.{true_rows, false_rows}

@@ -19,7 +19,8 @@ use Rattle.cdcl_core.specs.Levels.{Row}
 use Rattle.cdcl_core.specs.Search.{id_cmp, clause_of, literals_of}
 use Rattle.cdcl_core.specs.Stamps.{codes, Has}
 use Rattle.cdcl_core.specs.Watched.{kind_at, IsPlace, IsWatching}
-use Rattle.cdcl_core.specs.State.{no_id, no_row, all_codes, IsSettled, IsPlaced, IsCleared}
+use Rattle.cnf_base.specs.Clauses.{no_id}
+use Rattle.cdcl_core.specs.State.{no_row, all_codes, IsSettled, IsPlaced, IsCleared}
 use Rattle.cdcl_core.proofs.Counting.{times_nil}
 use Rattle.cdcl_core.proofs.Bridge.{row_is}
 use Rattle.cdcl_core.proofs.Slots.{slot_changed, reasoned_changed, fixed_changed, sum_zero}
@@ -44,9 +45,6 @@ place_within w t s k p lo hi kind at_k =
     let half : k / 2 ≡ s = elim at_k [ inl e ↦ omega (arith, e) | inr e ↦ omega (arith, e) ] in
     let on : IsWatching w.kinds.items k = record { low = elim at_k [ inl e ↦ omega (arith, e) | inr e ↦ omega (arith, e) ]; high = elim at_k [ inl e ↦ omega (arith, e) | inr e ↦ omega (arith, e) ]; kind = rw half kind } in
     p.watched.within (k / 2) (get_or w.lists.literals k 0) (p.watched.inside k on)
-
-watched_not_free : Free ≡ Watched → ⊥
-watched_not_free e = cc
 
 -- a slot that is neither free nor watched has its places in no list
 pub unwatched_idle : (w : Watches) (t : Trail) (s i k : ℕ) → IsPlaced w t → kind_at w.kinds.items s ≢ Free → kind_at w.kinds.items s ≢ Watched → k / 2 ≡ s → times k (get_or w.lists.lists i []) ≡ 0

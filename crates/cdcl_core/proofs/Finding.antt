@@ -9,9 +9,10 @@ use Rattle.cnf_base.specs.declared.clause.ClauseId.{ClauseId}
 use Rattle.cdcl_core.specs.declared.trail.Trail.{Trail}
 use Rattle.cdcl_core.specs.declared.watches.Watches.{Watches}
 use Rattle.cdcl_core.specs.Search.{id_cmp, clause_of}
-use Rattle.cdcl_core.specs.State.{no_id, IsSettled}
+use Rattle.cnf_base.specs.Clauses.{no_id}
+use Rattle.cdcl_core.specs.State.{IsSettled}
 use Rattle.cdcl_core.proofs.Clauses.{codes_length}
-use Rattle.cdcl_core.proofs.Steps.{trail_len}
+use Rattle.cdcl_core.proofs.Trails.{trail_len}
 
 -- a place of the trail has a reason
 pub reason_within : (w : Watches) (t : Trail) (p : ℕ) → IsSettled w t → p < t.len → p < length t.reasons.items

@@ -13,8 +13,11 @@ use Rattle.cdcl_core.specs.Levels.{Row, IsAdded}
 use Rattle.cdcl_core.specs.Search.{literals_of, level_of}
 use Rattle.cdcl_core.specs.Stamps.{neg, codes, Has, IsFalse}
 use Rattle.cdcl_core.specs.Watched.{kind_at, IsWatched}
-use Rattle.cdcl_core.specs.State.{no_id, all_codes, IsFixed, IsPlaced, MayCome, Holds}
-use Rattle.cdcl_core.proofs.Steps.{has_room, pushed_trail, decided_watched}
+use Rattle.cnf_base.specs.Clauses.{no_id}
+use Rattle.cdcl_core.specs.State.{all_codes, IsFixed, IsPlaced, MayCome, Holds}
+use Rattle.cdcl_core.proofs.Apart.{fixed_not_free}
+use Rattle.cdcl_core.proofs.Trails.{has_room, pushed_trail}
+use Rattle.cdcl_core.proofs.Watching.{decided_watched}
 use Rattle.cdcl_core.proofs.Reasons.{pushed_reasoned, pushed_shown, pushed_fixed, has_row}
 use Rattle.cdcl_core.proofs.Visits.{IsPushed}
 use Rattle.cdcl_core.proofs.Slots.{slot_changed, fixed_changed}
@@ -111,9 +114,6 @@ open_level w w2 t s a c k open_a = elim (cases_lt 0 t.level) [ inr h ↦ omega a
 pub no_others : (w w2 : Watches) (t : Trail) (s a : ℕ) (c : List Literal) → IsFixing w w2 t s a c → (m : ℕ) → Has (codes c) m → m ≢ a → 0 < get_or t.stamps.items (neg m) 0
 no_others w w2 t s a c k m h ne = absurd (ne (k.only m h))
 
-fixed_is_not_free : Fixed ≡ Free → ⊥
-fixed_is_not_free e = cc
-
 pub open_fixed : (w w2 : Watches) (t t2 : Trail) (s a : ℕ) (c : List Literal) (id : ClauseId) → IsFixing w w2 t s a c → a ≢ 0 → get_or t.stamps.items a 0 ≡ 0 → get_or t.stamps.items (neg a) 0 ≡ 0 → get_or w.ids.items s no_id ≡ id → w2.refuted ≡ w.refuted → IsPushed t t2 a (t.level + 1) s (literal_of a, t.level, Some id) → IsPlaced w2 t2
 open_fixed w w2 t t2 s a c id k ne open_a free_a name e pu =
     let ss : List ℕ = t.stamps.items in
@@ -140,7 +140,7 @@ open_fixed w w2 t t2 s a c id k ne open_a free_a name e pu =
           (held_reasoned w w2 s Fixed c t.rows.items t.codes.items t.reasons.items t.len p.reasoned k.room.free k.holds) room wide (λ z. absurd (omega (arith, z, lo)))
           (λ _. record {
             forced = rw (k.holds.kinds, length-set) k.room.high;
-            live = λ f. fixed_is_not_free (sym kind_now ∙ f);
+            live = λ f. fixed_not_free (sym kind_now ∙ f);
             name = rw (k.holds.ids, name) refl;
             has = rw (clause_now w w2 t s a c k) has_a;
             others = λ m hm nm. absurd (nm (k.only m (rw (clause_now w w2 t s a c k) at hm)));

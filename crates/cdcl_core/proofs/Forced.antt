@@ -13,8 +13,9 @@ use Rattle.cdcl_core.specs.Chains.{times}
 use Rattle.cdcl_core.specs.Levels.{Row, IsFalseBy}
 use Rattle.cdcl_core.specs.Search.{literals_of, level_of, AreForced}
 use Rattle.cdcl_core.specs.Stamps.{neg, codes, Has, IsTrail}
-use Rattle.cdcl_core.specs.State.{no_id, no_row, all_codes, IsShown, IsSettled}
-use Rattle.cdcl_core.proofs.Steps.{found_at, trail_len}
+use Rattle.cnf_base.specs.Clauses.{no_id}
+use Rattle.cdcl_core.specs.State.{no_row, all_codes, IsShown, IsSettled}
+use Rattle.cdcl_core.proofs.Trails.{found_at, trail_len}
 use Rattle.cdcl_core.proofs.Clauses.{clause_codes, codes_length}
 use Rattle.cdcl_core.proofs.Bridge.{has_from, has_to, literals_length, code_of-negated}
 use Rattle.cdcl_core.proofs.Public.{held_at}

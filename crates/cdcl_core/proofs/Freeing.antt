@@ -8,10 +8,11 @@ use Rattle.std.proofs.lemmas.Bool.Decides.{eqb_tells}
 use Rattle.cdcl_core.specs.declared.trail.Trail.{Trail}
 use Rattle.cdcl_core.specs.declared.watches.Watches.{Watches}
 use Rattle.cdcl_core.specs.declared.watches.Kind.{Kind}
-use Rattle.cdcl_core.specs.declared.watches.Kind.TheVariants.{Free, Fixed, Watched}
+use Rattle.cdcl_core.specs.declared.watches.Kind.TheVariants.{Free, Watched}
 use Rattle.cdcl_core.specs.Chains.{times, first_of}
 use Rattle.cdcl_core.specs.Watched.{kind_at, IsWatching, IsPlace, IsWatched}
 use Rattle.cdcl_core.specs.State.{all_codes, IsSettled, IsWaiting}
+use Rattle.cdcl_core.proofs.Apart.{watched_not_free, fixed_not_free}
 use Rattle.cdcl_core.proofs.Counting.{same_or_not, times_cons}
 use Rattle.cdcl_core.proofs.Growing.{padded}
 use Rattle.cdcl_core.proofs.Slots.{slot_changed, sum_zero}
@@ -26,12 +27,6 @@ more_size ks = length-append ks (Free ∷ [])
 
 live_within : (ks : List Kind) (q : ℕ) → kind_at ks q ≢ Free → q < length ks
 live_within ks q live = elim (cases_lt q (length ks)) [ inl h ↦ h | inr h ↦ absurd (live (get_or_past ks q Free h)) ]
-
-watched_not_free : Watched ≡ Free → ⊥
-watched_not_free e = cc
-
-fixed_not_free : Fixed ≡ Free → ⊥
-fixed_not_free e = cc
 
 -- the lists with a place in front of list 1
 abbrev pub with_first : List (List ℕ) → ℕ → List (List ℕ)

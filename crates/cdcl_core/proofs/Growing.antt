@@ -16,9 +16,11 @@ use Rattle.cdcl_core.specs.declared.watches.Kind.{Kind}
 use Rattle.cdcl_core.specs.Search.{id_cmp, literals_of, clause_of}
 use Rattle.cdcl_core.specs.Stamps.{neg, is_set, codes, IsTrail}
 use Rattle.cdcl_core.specs.Watched.{Kept, IsWatching, IsPlace, IsWatched}
-use Rattle.cdcl_core.specs.State.{no_id, no_row, all_codes, IsSettled, IsLonger, IsWider}
+use Rattle.cnf_base.specs.Clauses.{no_id}
+use Rattle.cdcl_core.specs.State.{no_row, all_codes, IsSettled, IsLonger, IsWider}
 use Rattle.cdcl_core.proofs.Clauses.{codes_length}
-use Rattle.cdcl_core.proofs.Steps.{trail_len, watching_mate}
+use Rattle.cdcl_core.proofs.Trails.{trail_len}
+use Rattle.cdcl_core.proofs.Resting.{watching_mate}
 use Rattle.cdcl_core.proofs.Bridge.{rows_len}
 use Rattle.cdcl_core.proofs.Visits.{with_lists}
 

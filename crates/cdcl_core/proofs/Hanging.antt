@@ -8,6 +8,7 @@ use Rattle.cdcl_core.specs.declared.watches.Kind.TheVariants.{Free, Fixed, Watch
 use Rattle.cdcl_core.specs.Chains.{times, first_of, rest_of}
 use Rattle.cdcl_core.specs.Stamps.{neg, Has}
 use Rattle.cdcl_core.specs.Watched.{kind_at, Kept, IsPlace, IsWatched}
+use Rattle.cdcl_core.proofs.Apart.{watched_not_free}
 use Rattle.cdcl_core.proofs.Counting.{bit, same_or_not, times_cons, taken_apart, neg_cases}
 use Rattle.cdcl_core.proofs.Slots.{IsSlotChange}
 
@@ -19,16 +20,13 @@ pub record IsRoom (L : List (List ℕ)) (ws : List ℕ) (ks : List Kind) (cs : L
   pub first : first_of (get_or L 1 []) ≡ 2 * s
   pub once : times (2 * s) (get_or L 1 []) ≤ 1
 
-watched_is_not_free : {A : Type 0} → Free ≡ Watched → A
-watched_is_not_free e = absurd cc
-
 -- a place of the free slot stands in list 1 and is the first of its two
 pub free_place : (L : List (List ℕ)) (ws : List ℕ) (ks : List Kind) (cs : List (List ℕ)) (ss es : List ℕ) (head p s i k : ℕ) → IsWatched L ws ks cs ss es head p 0 → kind_at ks s ≡ Free → k / 2 ≡ s → 0 < times k (get_or L i []) → (i ≡ 1) × (k ≡ 2 * s)
 free_place L ws ks cs ss es head p s i k w free e h =
     let pl : IsPlace ws ks p i k = w.sound i k h in
     elim (eqb_tells i 1) [
       | inl a ↦ (a.1, (let ev : k % 2 ≡ 0 = pl.first a.1 in omega arith))
-      | inr a ↦ watched_is_not_free (sym free ∙ rw e at (pl.watched a.1))
+      | inr a ↦ absurd (watched_not_free (sym (rw e at (pl.watched a.1)) ∙ free))
     ]
 
 pub two_places : (k s : ℕ) → k / 2 ≡ s → (k ≡ 2 * s) ⊎ (k ≡ 2 * s + 1)
@@ -312,8 +310,8 @@ freed_change L ws ks cs L2 ks2 cs2 ss es head s lo hi row lists kinds clauses ot
           });
       named = named;
       within = within;
-      known = λ k e on. absurd (watched_is_not_free (sym free ∙ rw e at on.kind));
-      inside = λ k e on. absurd (watched_is_not_free (sym free ∙ rw e at on.kind));
-      differ = λ k e on. absurd (watched_is_not_free (sym free ∙ rw e at on.kind));
-      kept = λ k e on. absurd (watched_is_not_free (sym free ∙ rw e at on.kind));
+      known = λ k e on. absurd (watched_not_free (sym (rw e at on.kind) ∙ free));
+      inside = λ k e on. absurd (watched_not_free (sym (rw e at on.kind) ∙ free));
+      differ = λ k e on. absurd (watched_not_free (sym (rw e at on.kind) ∙ free));
+      kept = λ k e on. absurd (watched_not_free (sym (rw e at on.kind) ∙ free));
     }

@@ -1,9 +1,13 @@
 pub mod Clauses
 pub mod Counting
+pub mod Apart
 pub mod Moves
 pub mod Places
 pub mod Reasons
-pub mod Steps
+pub mod Trails
+pub mod Watching
+pub mod Resting
+pub mod Cutting
 pub mod Visits
 pub mod Bridge
 pub mod Decisions

@@ -18,7 +18,8 @@ use Rattle.cdcl_core.specs.declared.watches.Kind.{Kind}
 use Rattle.cdcl_core.specs.declared.watches.Kind.TheVariants.{Free}
 use Rattle.cdcl_core.specs.Search.{id_cmp, clause_of}
 use Rattle.cdcl_core.specs.Watched.{kind_at}
-use Rattle.cdcl_core.specs.State.{no_id, all_codes, IsNamed, IsSettled, IsPlaced, IsWaiting, HoldsSome}
+use Rattle.cnf_base.specs.Clauses.{no_id}
+use Rattle.cdcl_core.specs.State.{all_codes, IsNamed, IsSettled, IsPlaced, IsWaiting, HoldsSome}
 use Rattle.cdcl_core.proofs.Clauses.{codes_length}
 use Rattle.cdcl_core.proofs.Slots.{free_apart}
 use Rattle.std.proofs.lemmas.Bool.{cases_Bool}

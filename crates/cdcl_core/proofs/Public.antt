@@ -18,8 +18,9 @@ use Rattle.cdcl_core.specs.Search.{id_cmp, literals_of, level_of, clause_of, IsA
 use Rattle.cdcl_core.specs.Stamps.{codes, Has, IsFalse, RestsAt, IsTrail}
 use Rattle.cdcl_core.specs.Watched.{kind_at, IsWatching}
 use Rattle.cdcl_core.proofs.Counting.{times_nil}
-use Rattle.cdcl_core.specs.State.{no_id, no_row, all_codes, IsShown, IsFixed, IsSettled, IsPropagated, IsGrown, IsNew}
-use Rattle.cdcl_core.proofs.Steps.{rests}
+use Rattle.cnf_base.specs.Clauses.{no_id}
+use Rattle.cdcl_core.specs.State.{no_row, all_codes, IsShown, IsFixed, IsSettled, IsPropagated, IsGrown, IsNew}
+use Rattle.cdcl_core.proofs.Resting.{rests}
 use Rattle.cdcl_core.proofs.Clauses.{clause_codes, codes_length}
 use Rattle.cdcl_core.proofs.Bridge.{rests_rows, refuted_rows, rows_len, literals_length, front_kept}
 use Rattle.cnf_base.proofs.Options.{IsSome-from}

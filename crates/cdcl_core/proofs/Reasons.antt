@@ -12,8 +12,9 @@ use Rattle.cdcl_core.specs.Chains.{times}
 use Rattle.cdcl_core.specs.Levels.{Row}
 use Rattle.cdcl_core.specs.Stamps.{neg, Has, IsTrail}
 use Rattle.cdcl_core.specs.Watched.{kind_at}
-use Rattle.cdcl_core.specs.State.{no_id, no_row, IsShown, IsReasoned, IsFixed, IsGrown}
-use Rattle.cdcl_core.proofs.Steps.{fewer, same_stamp}
+use Rattle.cnf_base.specs.Clauses.{no_id}
+use Rattle.cdcl_core.specs.State.{no_row, IsShown, IsReasoned, IsFixed, IsGrown}
+use Rattle.cdcl_core.proofs.Trails.{fewer, same_stamp}
 use Rattle.cdcl_core.proofs.Counting.{set_cases}
 
 pub shorter_reasoned : (cs : List (List ℕ)) (ks : List Kind) (ids : List ClauseId) (rows : List Row) (es rs : List ℕ) (len n : ℕ) → n ≤ len → IsReasoned cs ks ids rows es rs len → IsReasoned cs ks ids rows es rs n

@@ -18,11 +18,15 @@ use Rattle.cdcl_core.specs.declared.watches.Kind.{Kind}
 use Rattle.cdcl_core.specs.declared.watches.Kind.TheVariants.{Free, Watched}
 use Rattle.cdcl_core.specs.Stamps.{neg, Has}
 use Rattle.cdcl_core.specs.Watched.{kind_at, Kept, IsWatching, IsPlace, IsWatched}
-use Rattle.cdcl_core.specs.State.{no_id, all_codes, IsVisiting, IsSettled}
+use Rattle.cnf_base.specs.Clauses.{no_id}
+use Rattle.cdcl_core.specs.State.{all_codes, IsVisiting, IsSettled}
+use Rattle.cdcl_core.proofs.Apart.{watched_not_free}
 use Rattle.cdcl_core.proofs.Clauses.{codes_length}
 use Rattle.cdcl_core.proofs.Counting.{times_nil, neg_below, neg_low, neg_neg, neg_slot}
 use Rattle.cdcl_core.proofs.Reasons.{pushed_reasoned, pushed_shown, pushed_fixed}
-use Rattle.cdcl_core.proofs.Steps.{move_to, step_keep, step_move, step_true, IsVisited, first_in, next_level, pushed_trail, first_there, step_start, finish_none, finish_stop, next_not_before, next_trail, trail_size, true_on_trail, has_room, watching_mate}
+use Rattle.cdcl_core.proofs.Trails.{next_level, pushed_trail, first_there, next_not_before, next_trail, trail_size, true_on_trail, has_room}
+use Rattle.cdcl_core.proofs.Watching.{move_to, step_keep, step_move, step_true, IsVisited, first_in}
+use Rattle.cdcl_core.proofs.Resting.{step_start, finish_none, finish_stop, watching_mate}
 
 -- the place that is visited, its slot, and the clause's other watched literal
 pub record AtPlace (w : Watches) (t : Trail) (p k o : ℕ) : Type 0 where
@@ -111,9 +115,6 @@ stops L ws ks cs ss es head p stop stop2 w ne = record {
   kept = w.kept;
   here = λ q on e s out. absurd (ne s);
 }
-
-watched_not_free : Watched ≡ Free → ⊥
-watched_not_free e = cc
 
 pub watched_live : (ks : List Kind) (s : ℕ) → kind_at ks s ≡ Watched → kind_at ks s ≢ Free
 watched_live ks s e f = watched_not_free (sym e ∙ f)

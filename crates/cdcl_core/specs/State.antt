@@ -2,6 +2,7 @@
 use Rattle.std.specs.Prelude.{ℕ, ◌≡◌, ◌≢◌, ◌+◌, ◌*◌, ◌/◌, ◌<◌, ◌≤◌, ◌⊎◌, Bool, true, false, List, [], length, map, take, replicate, ◌++◌, slice_set, slice_index, slice_index_or, Some, None}
 use Rattle.std.specs.BTreeMap.{BTreeMap, get}
 use Rattle.cnf_base.specs.Literals.{Literal, literal_of}
+use Rattle.cnf_base.specs.Clauses.{no_id}
 use Rattle.cnf_base.specs.declared.clause.ClauseId.{ClauseId}
 use Rattle.cdcl_core.specs.declared.trail.Trail.{Trail}
 use Rattle.cdcl_core.specs.declared.watches.Watches.{Watches}
@@ -13,9 +14,6 @@ use Rattle.cdcl_core.specs.Levels.{Row}
 use Rattle.cdcl_core.specs.Stamps.{neg, codes, Has, IsFalse, RestsAt, IsTrail}
 use Rattle.cdcl_core.specs.Watched.{kind_at, IsWatched}
 use Rattle.cdcl_core.specs.Search.{id_cmp}
-
-abbrev pub no_id : ClauseId
-no_id = record { pos = 0; part = 0 }
 
 abbrev pub no_row : Row
 no_row = (literal_of 0, 0, None)

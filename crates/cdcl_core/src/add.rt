@@ -1,6 +1,6 @@
 //! Clauses that come, at any moment of a search.
 
-ghost use Rattle.std.specs.Prelude.{ℕ, ◌≡◌, ◌≢◌, ◌+◌, ◌-◌, ◌*◌, ◌%◌, ◌^◌, ◌<◌, ◌≤◌, ◌⊎◌, ◌++◌, List, [], ◌∷◌, length, vec_len, slice_set, slice_index, slice_index_or, sum_by, Some, None, IfOk, OnOk, OnErr, Contains};
+ghost use Rattle.std.specs.Prelude.{ℕ, ◌≡◌, ◌≢◌, ◌+◌, ◌-◌, ◌*◌, ◌%◌, ◌^◌, ◌<◌, ◌≤◌, ◌++◌, List, [], ◌∷◌, length, vec_len, slice_set, slice_index, slice_index_or, sum_by, Some, None, IfOk, OnOk, OnErr, Contains};
 ghost use Rattle.cnf_base.specs.Literals.{Literal};
 ghost use Rattle.cnf_base.specs.declared.clause.ClauseId.{ClauseId};
 ghost use Rattle.cdcl_core.specs.declared.watches.Kind.TheVariants.{Fixed, Watched};
@@ -9,8 +9,8 @@ ghost use Rattle.cdcl_core.specs.Levels.{RestsBy, IsAdded};
 ghost use Rattle.std.specs.BTreeMap.{Updates};
 ghost use Rattle.cdcl_core.specs.Search.{literals_of, level_of, rows_of, clause_of, id_cmp, IsKnown};
 ghost use Rattle.cdcl_core.specs.Stamps.{neg as neg_of, codes, Has, rank};
-ghost use Rattle.cdcl_core.specs.Watched.{kind_at};
-ghost use Rattle.cdcl_core.specs.State.{IsConsistent, IsSettled, IsPlaced, IsPropagated, IsWaiting, MayCome, Holds, HoldsSome, IsLonger, IsWider, no_id};
+ghost use Rattle.cnf_base.specs.Clauses.{no_id};
+ghost use Rattle.cdcl_core.specs.State.{IsConsistent, IsSettled, IsPlaced, IsPropagated, IsWaiting, MayCome, Holds, HoldsSome, IsLonger, IsWider};
 
 use crate::trail::{Trail, enqueue, neg};
 use crate::watches::{Kind, Watches};

@@ -1,10 +1,9 @@
 //! Decisions, and the way back to a lower decision level.
 
-ghost use Rattle.std.specs.Prelude.{ℕ, ◌≡◌, ◌+◌, ◌<◌, ◌≤◌, ◌++◌, [], ◌∷◌, length, filter, nat_le, slice_index_or, Contains, None};
-ghost use Rattle.cnf_base.specs.Literals.{code_of};
+ghost use Rattle.std.specs.Prelude.{ℕ, ◌≡◌, ◌+◌, ◌<◌, ◌≤◌, ◌++◌, [], ◌∷◌, length, filter, nat_le, slice_index_or, None};
 ghost use Rattle.cdcl_core.specs.Levels.{IsOpen};
-ghost use Rattle.cdcl_core.specs.Search.{literals_of, level_of, rows_of, clause_of, IsKnown, IsAtRest};
-ghost use Rattle.cdcl_core.specs.State.{IsSettled, IsPropagated, IsCutBack, no_row};
+ghost use Rattle.cdcl_core.specs.Search.{literals_of, level_of, rows_of, IsKnown, IsAtRest};
+ghost use Rattle.cdcl_core.specs.State.{IsSettled, IsPropagated, no_row};
 
 use crate::trail::{Trail, enqueue};
 use crate::watches::Watches;

@@ -74,11 +74,24 @@ fn a_decision_forces_a_chain_of_literals(rt: HostRuntime) -> Result<(), Fail> {
     hold(&mut watches, &mut trail, 3, &[yes(4), no(1)])?;
     assert_eq!(rt; assume(&mut watches, &mut trail, yes(1)), None);
     assert_eq!(rt; trail.literals().len(), 4);
+    assert!(rt; watches.clause_at(&trail, 1, name(1)).is_some());
+    assert!(rt; watches.clause_at(&trail, 1, name(9)).is_none());
     assert_eq!(rt; trail.value(yes(3)), Some(true));
     assert_eq!(rt; trail.value(no(4)), Some(false));
     watches.backjump(&mut trail, 0);
     assert_eq!(rt; trail.literals().len(), 0);
     assert_eq!(rt; trail.value(yes(3)), None);
+    Ok(())
+}
+
+#[test]
+fn a_literal_is_decided_that_no_clause_has(rt: HostRuntime) -> Result<(), Fail> {
+    let mut trail = Trail::new(rt.alloc());
+    let mut watches = Watches::new(rt.alloc())?;
+    assert!(rt; !trail.knows(yes(5)));
+    watches.reserve(&mut trail, 6)?;
+    assert_eq!(rt; assume(&mut watches, &mut trail, yes(5)), None);
+    assert_eq!(rt; trail.value(yes(5)), Some(true));
     Ok(())
 }
 

@@ -18,7 +18,8 @@ use Rattle.cdcl_core.specs.Stamps.{neg, is_set, Has, IsTrueAt, RestsAt, IsTrail}
 use Rattle.cdcl_core.specs.Watched.{kind_at, IsWatched, IsWatching, Kept}
 use Rattle.cdcl_core.specs.State.{no_row, all_codes, IsSettled}
 use Rattle.cdcl_core.proofs.Counting.{neg_neg}
-use Rattle.cdcl_core.proofs.Steps.{entry_true, trail_len, rises, places_of, watching_mate, true_or_not}
+use Rattle.cdcl_core.proofs.Trails.{entry_true, trail_len, rises}
+use Rattle.cdcl_core.proofs.Resting.{places_of, watching_mate, true_or_not}
 use Rattle.cdcl_core.proofs.Bridge.{literals_length, code_of-negated, rests_rows}
 use Rattle.cdcl_core.proofs.Public.{slot_of, IsSlot, kinds, false_is_not}
 use Rattle.cdcl_core.proofs.Forced.{settled_forced}

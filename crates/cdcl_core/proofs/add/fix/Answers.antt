@@ -5,7 +5,7 @@ use Rattle.cdcl_core.specs.declared.watches.Watches.{Watches}
 use Rattle.cdcl_core.specs.Stamps.{neg as neg_of}
 use Rattle.cdcl_core.proofs.Counting.{neg_below}
 use Rattle.cdcl_core.proofs.Clauses.{codes_length}
-use Rattle.cdcl_core.proofs.Steps.{level_len, trail_len, has_room}
+use Rattle.cdcl_core.proofs.Trails.{level_len, trail_len, has_room}
 use Rattle.cdcl_core.proofs.Reasons.{has_row}
 use Rattle.cdcl_core.proofs.Visits.{IsPushed}
 use Rattle.cdcl_core.proofs.Adding.{room_of, false_added, false_no_rest, forced_added, unit_no_rest}

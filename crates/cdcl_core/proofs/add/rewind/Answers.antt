@@ -2,7 +2,7 @@ use Rattle.std.proofs.Common.{rules, ◌≡◌, ◌+◌, ◌-◌, ◌<◌, ◌�
 use Rattle.std.proofs.lemmas.List.{get_or_read}
 use Rattle.std.proofs.lemmas.Bool.{cases_lt}
 use Rattle.cdcl_core.proofs.Counting.{set_within}
-use Rattle.cdcl_core.proofs.Steps.{trail_len, entry_true, rises}
+use Rattle.cdcl_core.proofs.Trails.{trail_len, entry_true, rises}
 use Rattle.cdcl_core.proofs.add.rewind.Goals as goal
 use Rattle.cdcl_core.proofs.add.rewind.Goals.{else-back-test, then-back-test+then-index-t}
 

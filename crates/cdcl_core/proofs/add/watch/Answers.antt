@@ -3,7 +3,7 @@ use Rattle.std.proofs.lemmas.List.{get_or_read}
 use Rattle.cnf_base.specs.Literals.{literal_of}
 use Rattle.cdcl_core.specs.Stamps.{neg as neg_of}
 use Rattle.cdcl_core.proofs.Counting.{neg_below}
-use Rattle.cdcl_core.proofs.Steps.{level_len, trail_len, has_room}
+use Rattle.cdcl_core.proofs.Trails.{level_len, trail_len, has_room}
 use Rattle.cdcl_core.proofs.Reasons.{has_row}
 use Rattle.cdcl_core.proofs.Visits.{IsPushed}
 use Rattle.cdcl_core.proofs.Clauses.{codes_length}

@@ -1,6 +1,6 @@
 use Rattle.std.proofs.Common.{rules, ◌≡◌, ◌+◌, ◌-◌, ◌<◌, ◌≤◌, length, get_or, refl, arith}
 use Rattle.std.proofs.lemmas.List.{get_or_read}
-use Rattle.cdcl_core.proofs.Steps.{cut_start, cut_more}
+use Rattle.cdcl_core.proofs.Cutting.{cut_start, cut_more}
 use Rattle.cdcl_core.proofs.Decisions.{cut_within, cut_settles, cut_kept, cut_lost}
 use Rattle.cdcl_core.proofs.decide.cut_back.Goals as goal
 use Rattle.cdcl_core.proofs.decide.cut_back.Goals.{else-entries-test, then-entries-test+then-index-level}

@@ -4,9 +4,10 @@ use Rattle.std.proofs.Common.{rules, ℕ, Some, ◌≡◌, ◌+◌, ◌/◌, ◌
 use Rattle.std.proofs.lemmas.List.{get_or_read}
 use Rattle.cnf_base.specs.Literals.{literal_of}
 use Rattle.cdcl_core.specs.Stamps.{neg as neg_of, codes, Has}
-use Rattle.cdcl_core.specs.State.{all_codes, no_id}
+use Rattle.cnf_base.specs.Clauses.{no_id}
+use Rattle.cdcl_core.specs.State.{all_codes}
 use Rattle.cdcl_core.proofs.Clauses.{clause_codes}
-use Rattle.cdcl_core.proofs.Steps.{has_room, level_len}
+use Rattle.cdcl_core.proofs.Trails.{has_room, level_len}
 use Rattle.cdcl_core.proofs.Reasons.{pushed_grown, has_row}
 use Rattle.cdcl_core.proofs.Visits.{AtPlace, at_place, IsPushed, visit_kept, visit_false, visit_moved, visit_unit}
 use Rattle.cdcl_core.proofs.propagate.step.Goals as goal

@@ -1,6 +1,6 @@
 use Rattle.std.proofs.Common.{rules, ◌≡◌, ◌<◌, length, get_or, sym, ◌∙◌}
 use Rattle.std.proofs.lemmas.List.{get_or_read}
-use Rattle.cdcl_core.specs.State.{no_id}
+use Rattle.cnf_base.specs.Clauses.{no_id}
 use Rattle.cdcl_core.proofs.Finding.{reason_within, slot_within, clause_within, slot_named}
 use Rattle.cdcl_core.proofs.watches.Watches.clause_at.Goals as goal
 

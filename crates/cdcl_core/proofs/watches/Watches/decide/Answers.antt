@@ -1,7 +1,7 @@
 use Rattle.std.proofs.Common.{rules, None, ◌≡◌, ◌+◌, ◌^◌, ◌<◌, ◌≤◌, length, get_or, arith}
 use Rattle.cnf_base.specs.Literals.{literal_of, code_of}
 use Rattle.cdcl_core.specs.Stamps.{neg as neg_of}
-use Rattle.cdcl_core.proofs.Steps.{has_room, level_len}
+use Rattle.cdcl_core.proofs.Trails.{has_room, level_len}
 use Rattle.cdcl_core.proofs.Reasons.{has_row}
 use Rattle.cdcl_core.proofs.Visits.{IsPushed}
 use Rattle.cdcl_core.proofs.Decisions.{open_stamps, decide_settles, pushed_rows}

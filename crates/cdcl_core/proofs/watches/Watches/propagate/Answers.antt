@@ -1,6 +1,6 @@
 use Rattle.std.proofs.Common.{◌≡◌, ◌<◌, length, false, refl, ap, ◌∙◌, arith}
 use Rattle.std.proofs.lemmas.List.{get_or_read}
-use Rattle.cdcl_core.specs.State.{no_id}
+use Rattle.cnf_base.specs.Clauses.{no_id}
 use Rattle.cdcl_core.proofs.Public.{conflict_at, settled_rest, extended, unrefuted}
 use Rattle.cdcl_core.proofs.watches.Watches.propagate.Goals as goal
 use Rattle.cdcl_core.proofs.watches.Watches.propagate.Goals.{then-self+else-slot-ne0, else-self}
