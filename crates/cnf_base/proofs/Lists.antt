@@ -1,5 +1,5 @@
 -- Places and members of lists, whatever their elements are.
-use Rattle.std.proofs.Common.{◌≡◌, ℕ, zero, suc, ◌<◌, List, [], ◌∷◌, ◌++◌, length, get_or, Some, refl, ap, ◌∙◌, subst, inl, inr, ⊎_elim, arith}
+use Rattle.std.proofs.Common.{◌≡◌, ℕ, zero, suc, ◌<◌, List, [], ◌∷◌, ◌++◌, length, take, get_or, Some, refl, ap, ◌∙◌, subst, inl, inr, ⊎_elim, arith}
 use Rattle.std.specs.Prelude.{◌⊎◌, Contains, map, slice_get, slice_set}
 use Rattle.std.specs.List.{AllByRecursion}
 use Rattle.std.proofs.lemmas.List.{length-map}
@@ -36,6 +36,13 @@ module _ {A : Type 0} where
   -- what stands in a list stands there in a longer one
   pub slice_get-longer : (xs ys : List A) (i : ℕ) (x : A) → slice_get xs i ≡ Some x → slice_get (xs ++ ys) i ≡ Some x
   slice_get-longer xs ys i x e = slice_get-append_left xs ys i (slice_get_within xs i x e) ∙ e
+
+  -- what stands in a front of a list
+  pub slice_get-take : (n : ℕ) (xs : List A) (i : ℕ) (x : A) → slice_get (take n xs) i ≡ Some x → (i < n) × (slice_get xs i ≡ Some x)
+  slice_get-take zero xs i x e = let q : ⊥ = cc in absurd q
+  slice_get-take (suc n) [] i x e = let q : ⊥ = cc in absurd q
+  slice_get-take (suc n) (y ∷ xs) zero x e = (omega arith, e)
+  slice_get-take (suc n) (y ∷ xs) (suc i) x e = let h = slice_get-take n xs i x e in (omega (arith, h.0), h.1)
 
   pub slice_get-set_same : (xs : List A) (i : ℕ) (x : A) → i < length xs → slice_get (slice_set xs i x) i ≡ Some x
   slice_get-set_same [] i x lt = absurd (omega arith)
@@ -76,6 +83,14 @@ module _ {A : Type 0} (P : A → Type 0) where
   each_append [] ys h k = k
   each_append (x ∷ xs) ys h k = (h.0, each_append xs ys h.1 k)
 
+  pub each_front : (xs ys : List A) → AllByRecursion P (xs ++ ys) → AllByRecursion P xs
+  each_front [] ys h = tt
+  each_front (x ∷ xs) ys h = (h.0, each_front xs ys h.1)
+
+  pub each_behind : (xs ys : List A) → AllByRecursion P (xs ++ ys) → AllByRecursion P ys
+  each_behind [] ys h = h
+  each_behind (x ∷ xs) ys h = each_behind xs ys h.1
+
   pub each_get_or : (xs : List A) → AllByRecursion P xs → (i : ℕ) (d : A) → i < length xs → P (get_or xs i d)
   each_get_or xs h i d lt = All-get_or P xs i d lt (All-from_recursion P xs h)
 
@@ -88,3 +103,7 @@ module _ {A : Type 0} (P : A → Type 0) where
 pub each_map : {A B : Type 0} (f : A → B) (P : B → Type 0) (xs : List A) → AllByRecursion (λ x. P (f x)) xs → AllByRecursion P (map f xs)
 each_map f P [] h = tt
 each_map f P (x ∷ xs) h = (h.0, each_map f P xs h.1)
+
+pub each_mapped : {A B : Type 0} (f : A → B) (P : B → Type 0) (xs : List A) → AllByRecursion P (map f xs) → AllByRecursion (λ x. P (f x)) xs
+each_mapped f P [] h = tt
+each_mapped f P (x ∷ xs) h = (h.0, each_mapped f P xs h.1)

@@ -1,6 +1,11 @@
--- Truth of literals, clauses and lists of clauses under an assignment of the variables.
+-- Names of clauses; truth of literals, clauses and lists of clauses under an assignment of the variables.
 use Rattle.std.specs.Prelude.{ℕ, ◌+◌, ◌*◌, Bool, true, false, not, ◌&&◌, ◌||◌, if◌then◌else◌, List, [], ◌∷◌}
 use Rattle.cnf_base.specs.Literals.{Literal}
+use Rattle.cnf_base.specs.declared.clause.ClauseId.{ClauseId}
+
+-- the name that a list of names is read with where it has no element
+abbrev pub no_id : ClauseId
+no_id = record { pos = 0; part = 0 }
 
 abbrev pub lit_true : (ℕ → Bool) → Literal → Bool
 lit_true v l = if l.positive then v l.variable else not (v l.variable)

@@ -7,7 +7,7 @@ use Rattle.std.proofs.lemmas.Option.{slice_get-get_or, slice_get_within, slice_g
 use Rattle.cnf_base.specs.Literals.{Literal, negated}
 use Rattle.cnf_base.specs.Assignments.{AreBelow}
 use Rattle.cnf_base.specs.declared.clause.ClauseId.{ClauseId}
-use Rattle.cnf_base.proofs.Lists.{Contains-nil, Contains-first, Contains-later, Contains-slice_get, Contains-map}
+use Rattle.cnf_base.proofs.Lists.{Contains-nil, Contains-first, Contains-later, Contains-slice_get, Contains-map, slice_get-take}
 use Rattle.hint_chain.specs.Chains.{Lookup}
 use Rattle.local_names.specs.Names.{IsOnce, AreFromOne, AreNames, IsNamed, variable_of, global, global_clause, number_of}
 use Rattle.local_names.proofs.Numbers.{number_at, keeps_more}
@@ -72,17 +72,10 @@ taken_place (suc n) [] k x lt e = let q : ⊥ = cc in absurd q
 taken_place (suc n) (y ∷ ys) zero x lt e = e
 taken_place (suc n) (y ∷ ys) (suc k) x lt e = taken_place n ys k x (omega (arith, lt)) e
 
-place_taken : (n : ℕ) (xs : List ℕ) (k x : ℕ) → slice_get (take n xs) k ≡ Some x → (k < n) × (slice_get xs k ≡ Some x)
-place_taken zero [] k x e = let q : ⊥ = cc in absurd q
-place_taken zero (y ∷ ys) k x e = let q : ⊥ = cc in absurd q
-place_taken (suc n) [] k x e = let q : ⊥ = cc in absurd q
-place_taken (suc n) (y ∷ ys) zero x e = (omega arith, e)
-place_taken (suc n) (y ∷ ys) (suc k) x e = let p = place_taken n ys k x e in (omega (arith, p.0), p.1)
-
 pub number_in : (names : List ℕ) (bound x : ℕ) → Contains (variables_of names bound) x → (k : ℕ) × (0 < k) × (k < bound) × (slice_get names k ≡ Some x)
 number_in names bound x h =
     let p = place_in_rest (take bound names) x h in
-    let q = place_taken bound names p.0 x p.2 in
+    let q = slice_get-take bound names p.0 x p.2 in
     (p.0, p.1, q.0, q.1)
 
 pub variables_all : (names : List ℕ) (bound : ℕ) → bound ≡ length names → variables_of names bound ≡ drop 1 names

@@ -25,19 +25,19 @@ use Rattle.smt_build.specs.Names.{SymbolsValue, Meanings, AreDeclared, meaning_i
 use Rattle.smt_build.specs.Operators.{is_reserved}
 use Rattle.smt_build.specs.Sorts.{defined_sort, sort_named, word_of_width, width_sort, named_sort, indexed_sort, listed_sort, sort_in}
 use Rattle.smt_build.specs.Declaring.{Declaration, declare, declare_constant, constant_parts, function_parts, value_sort, constant, next}
-use Rattle.script_state.specs.Plain.{is_plain_sort}
+use Rattle.smt_terms.specs.Ranks as ranks
 use Rattle.script_state.specs.States.{AreLive, IsPlainConstant, IsPlainName}
 
 -- ---- sorts
 
 abbrev pub IsPlainIf : Result Sort BuildFault → Type 0
-IsPlainIf (Ok s) = (is_plain_sort s ≡ true) × IsSort s
+IsPlainIf (Ok s) = (ranks.is_plain s ≡ true) × IsSort s
 IsPlainIf (Err f) = Unit {0}
 
 abbrev pub ArePlainNames : Meanings Sort → Type 0
 ArePlainNames ms = AllByRecursion IsPlainName ms
 
-plain_either : (b : Bool) (s : Sort) (o : Option Sort) → (is_plain_sort s ≡ true) × IsSort s → IsPlainIf (defined_sort o) → IsPlainIf (defined_sort (if b then Some s else o))
+plain_either : (b : Bool) (s : Sort) (o : Option Sort) → (ranks.is_plain s ≡ true) × IsSort s → IsPlainIf (defined_sort o) → IsPlainIf (defined_sort (if b then Some s else o))
 plain_either true s o h k = h
 plain_either false s o h k = k
 
@@ -93,7 +93,7 @@ plain_value v (atom k x) s h = tt
 
 -- one constant more that is a Bool or a word, if it is made
 abbrev OneMore : SymbolsValue → Declaration → Type 0
-OneMore v (Ok d) = (x : List ℕ) × (s : Sort) × ((is_plain_sort s ≡ true) × IsSort s) × (d.1 ≡ with_declaration v x (constant_signature s))
+OneMore v (Ok d) = (x : List ℕ) × (s : Sort) × ((ranks.is_plain s ≡ true) × IsSort s) × (d.1 ≡ with_declaration v x (constant_signature s))
 OneMore v (Err f) = Unit {0}
 
 more_unless : (v : SymbolsValue) (b : Bool) (f : BuildFault) (d : Declaration) → OneMore v d → OneMore v (if b then Err f else d)
@@ -157,7 +157,7 @@ pub record AreKept (v w : SymbolsValue) (nodes : List Node) : Type 0 where
   pub levels : w.levels ≡ v.levels
   pub longer : (d : ℕ) (s : Signature) → slice_get v.signatures d ≡ Some s → slice_get w.signatures d ≡ Some s
 
-kept_more : (v : SymbolsValue) (x : List ℕ) (s : Sort) (nodes : List Node) → (is_plain_sort s ≡ true) × IsSort s → AreKept v (with_declaration v x (constant_signature s)) nodes
+kept_more : (v : SymbolsValue) (x : List ℕ) (s : Sort) (nodes : List Node) → (ranks.is_plain s ≡ true) × IsSort s → AreKept v (with_declaration v x (constant_signature s)) nodes
 kept_more v x s nodes plain = record {
   live = live_more v x (constant_signature s);
   constants = λ are. All-push IsPlainConstant v.signatures (constant_signature s) are (record { constant = refl; sort = plain.0; widths = plain.1 });

@@ -11,18 +11,18 @@ use Rattle.smt_build.specs.declared.fault.BuildFault.{BuildFault}
 use Rattle.smt_build.specs.declared.fault.BuildFault.TheVariants.{Declared, Reserved}
 use Rattle.smt_build.specs.Names.{SymbolsValue, Meanings, meaning_in, with_sort}
 use Rattle.smt_build.specs.Defining.{SortDefinition, is_sort_reserved, next_sort, name_sort, sort_parts, define_sort}
-use Rattle.script_state.specs.Plain.{is_plain_sort}
+use Rattle.smt_terms.specs.Ranks as ranks
 use Rattle.script_state.proofs.Declared.{IsPlainIf, ArePlainNames, plain_value}
 
 -- ---- names of sorts
 
-pub names_push : (ms : Meanings Sort) (x : List ℕ) (s : Sort) → ArePlainNames ms → (is_plain_sort s ≡ true) × IsSort s → ArePlainNames (ms ++ (x, s) ∷ [])
+pub names_push : (ms : Meanings Sort) (x : List ℕ) (s : Sort) → ArePlainNames ms → (ranks.is_plain s ≡ true) × IsSort s → ArePlainNames (ms ++ (x, s) ∷ [])
 names_push [] x s h plain = (plain, tt)
 names_push (m ∷ ms) x s h plain = (h.0, names_push ms x s h.1 plain)
 
 -- one name more of a plain sort, if it is defined
 abbrev OneSort : SymbolsValue → SortDefinition → Type 0
-OneSort v (Ok w) = (x : List ℕ) × (s : Sort) × ((is_plain_sort s ≡ true) × IsSort s) × (w ≡ with_sort v x s)
+OneSort v (Ok w) = (x : List ℕ) × (s : Sort) × ((ranks.is_plain s ≡ true) × IsSort s) × (w ≡ with_sort v x s)
 OneSort v (Err f) = Unit {0}
 
 sort_unless : (v : SymbolsValue) (b : Bool) (f : BuildFault) (d : SortDefinition) → OneSort v d → OneSort v (if b then Err f else d)

@@ -5,6 +5,7 @@ use Rattle.std.specs.Prelude.{nat_le, replicate, slice_get, take, All, AllPairs}
 use Rattle.std.proofs.lemmas.Bool.{cases_lt, le-leb, lt-leb, leb-false}
 use Rattle.std.proofs.lemmas.List.{take_all, take-take, take-append-le, length-take-le, length-replicate, get_or-replicate, get_or_append_left, get_or-append_right, get_or-take}
 use Rattle.std.proofs.lemmas.List.Elements.{All-filter, All-head, All-tail, filter-append}
+use Rattle.cnf_base.proofs.Lists.{slice_get-take}
 use Rattle.smt_terms.specs.declared.node.Node.{Node}
 use Rattle.scope_selectors.specs.declared.live.Live.{Live}
 use Rattle.scope_selectors.specs.Scopes.{ScopesValue, made_within}
@@ -25,12 +26,6 @@ get_at : {X : Type 0} (xs : List X) (i : ℕ) (x d : X) → i < length xs → ge
 get_at [] i x d lt e = absurd (omega (arith, lt))
 get_at (y ∷ xs) zero x d lt e = ap Some e
 get_at (y ∷ xs) (suc i) x d lt e = get_at xs i x d (omega (arith, lt)) e
-
-get_taken : {X : Type 0} (xs : List X) (n i : ℕ) (x : X) → slice_get (take n xs) i ≡ Some x → (i < n) × (slice_get xs i ≡ Some x)
-get_taken xs zero i x e = absurd (let z : ⊥ = cc in z)
-get_taken [] (suc n) i x e = absurd (let z : ⊥ = cc in z)
-get_taken (y ∷ xs) (suc n) zero x e = (omega arith, e)
-get_taken (y ∷ xs) (suc n) (suc i) x e = let h = get_taken xs n i x e in (omega (arith, h.0), h.1)
 
 get_copied : {X : Type 0} (xs : List X) (n : ℕ) (y : X) (i : ℕ) (x : X) → slice_get (xs ++ replicate n y) i ≡ Some x → (slice_get xs i ≡ Some x) ⊎ ((length xs ≤ i) × (x ≡ y))
 get_copied [] zero y i x e = absurd (let z : ⊥ = cc in z)
@@ -193,7 +188,7 @@ module _ (v : StateValue) (k : ℕ) (l : Level) (is : IsState v) (here : slice_g
   levels_ended = record {
     count = length-take-le k v.symbols.levels (omega (arith, slice_get_within v.symbols.levels k l here));
     rising = rising;
-    each = λ j m e. let old = get_taken v.symbols.levels k j m e in level_earlier j m old.0 old.1;
+    each = λ j m e. let old = slice_get-take k v.symbols.levels j m e in level_earlier j m old.0 old.1;
   } where
     rising : AllPairs IsBehind (take k v.symbols.levels)
     rising i j d lt within =

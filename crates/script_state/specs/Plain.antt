@@ -2,19 +2,13 @@
 -- over them (SMT-LIB 2.6).
 use Rattle.std.specs.Prelude.{◌≡◌, ℕ, ◌<◌, ◌≤◌, Bool, true, false, ◌&&◌, List, length, slice_index_or}
 use Rattle.std.specs.List.{list_all}
-use Rattle.smt_terms.specs.declared.sort.Sort.{Sort}
-use Rattle.smt_terms.specs.declared.sort.Sort.TheVariants as sort
 use Rattle.smt_terms.specs.declared.operator.Operator.{Operator}
 use Rattle.smt_terms.specs.declared.operator.Operator.TheVariants as plain
 use Rattle.smt_terms.specs.declared.node.Op.{Op}
 use Rattle.smt_terms.specs.declared.node.Op.TheVariants.{Plain, Word, Extract, ZeroExtend, SignExtend, RotateLeft, RotateRight, Repeat, Constant, Apply, Param}
 use Rattle.smt_terms.specs.declared.node.Node.{Node}
 use Rattle.smt_terms.specs.Nodes.{at_term}
-
-abbrev pub is_plain_sort : Sort → Bool
-is_plain_sort sort.Bool = true
-is_plain_sort (sort.Word n) = true
-is_plain_sort (sort.Array n m) = false
+use Rattle.smt_terms.specs.Ranks as ranks
 
 -- the operators of the theory ArraysEx, and `witness`, are not plain
 abbrev pub is_plain_operator : Operator → Bool
@@ -32,7 +26,7 @@ is_plain_op (SignExtend i) = true
 is_plain_op (RotateLeft i) = true
 is_plain_op (RotateRight i) = true
 is_plain_op (Repeat i) = true
-is_plain_op (Constant d s) = is_plain_sort s
+is_plain_op (Constant d s) = ranks.is_plain s
 is_plain_op (Apply d s) = false
 is_plain_op (Param k s) = false
 

@@ -17,7 +17,8 @@ use Rattle.script_state.specs.declared.answer.Asked.{Asked}
 use Rattle.script_state.specs.declared.answer.Verdict.{Verdict}
 use Rattle.script_state.specs.declared.options.Options.{Options}
 use Rattle.script_state.specs.Options.{first_options}
-use Rattle.script_state.specs.Plain.{is_plain, is_plain_sort, HavePlain}
+use Rattle.smt_terms.specs.Ranks as ranks
+use Rattle.script_state.specs.Plain.{is_plain, HavePlain}
 
 -- the names and declarations with their levels, the terms, the live assertions with their levels, the options, the verdict
 -- of the check that stands, and what that check assumes, or the one that is begun; there is no such list where it was asked
@@ -70,12 +71,12 @@ pub record AreLevels (v : StateValue) : Type 0 where
 -- the signature of a constant that is a Bool, or a word of 1 to 128 bits
 pub record IsPlainConstant (s : Signature) : Type 0 where
   pub constant : s.args ≡ []
-  pub sort : is_plain_sort s.value ≡ true
+  pub sort : ranks.is_plain s.value ≡ true
   pub widths : IsSort s.value
 
 -- a name of a sort stands for Bool, or for words of 1 to 128 bits
 abbrev pub IsPlainName : List ℕ × Sort → Type 0
-IsPlainName m = (is_plain_sort m.1 ≡ true) × IsSort m.1
+IsPlainName m = (ranks.is_plain m.1 ≡ true) × IsSort m.1
 
 -- a plain term over the live declarations
 pub record IsAsked (nodes : List Node) (live : List LiveName) (a : Asked) : Type 0 where

@@ -3,7 +3,7 @@
 ghost use Rattle.std.specs.Prelude.{◌≡◌, ◌<◌, ◌≤◌, ◌&&◌, false, OnOk, IfOk, length, slice_index_or};
 ghost use Rattle.std.specs.List.{list_all, AllByRecursion};
 ghost use Rattle.smt_terms.specs.Terms.{AreTerms, cut_at};
-ghost use Rattle.script_state.specs.Plain.{is_plain_sort, is_plain_operator, is_plain_op, is_plain, HavePlain};
+ghost use Rattle.script_state.specs.Plain.{is_plain_operator, is_plain_op, is_plain, HavePlain};
 ghost use Rattle.script_state.specs.Steps.{objection, value_objection};
 
 use crate::error_text::ErrorText;
@@ -12,13 +12,6 @@ use smt_terms::operator::Operator;
 use smt_terms::sort::Sort;
 use smt_terms::terms::Terms;
 use std::alloc::AllocError;
-
-/// Whether a sort is that of a Bool or of a word.
-fn is_plain_sort(sort: Sort) -> bool
-    ensures { result ≡ is_plain_sort sort }
-{
-    !matches!(sort, Sort::Array(_, _))
-}
 
 /// Whether an operator is one over Bools and words.
 fn is_plain_operator(operator: Operator) -> bool
@@ -39,7 +32,7 @@ fn is_plain_op(op: &Op) -> bool
         Op::Constant {
             declaration: _,
             sort,
-        } => is_plain_sort(*sort),
+        } => sort.is_plain(),
         Op::Apply {
             declaration: _,
             signature: _,

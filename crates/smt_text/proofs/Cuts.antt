@@ -5,7 +5,7 @@ use Rattle.std.proofs.lemmas.List.{length-drop, take-append-le, drop-append-le, 
 use Rattle.std.proofs.lemmas.List.Sums.{count_by-le-length}
 use Rattle.smt_text.specs.Chunks.{begins, comment_after, beginning, closes, inside_after, ends_stray, first_cut, whole_chunk}
 use Rattle.smt_text.specs.Framing.{Held, and_more, cut_off, first_chunk, lines_in}
-use Rattle.smt_text.specs.Script.{Begins, AreChunks}
+use Rattle.smt_text.specs.Script.{Begins, AreCut}
 use Rattle.smt_text.specs.declared.place.Place.TheVariants.{Plain}
 use Rattle.smt_text.specs.declared.chunk.ChunkKind.TheVariants.{Stray}
 use Rattle.smt_text.specs.declared.chunk.Cut.{Cut}
@@ -115,9 +115,9 @@ one_cut h (c ∷ a) (d ∷ b) x y p e q f =
     let back : a ≡ b = rest.0 in
     ((λ i. front i ∷ back i), rest.1)
 
-pub AreChunks-one : (text : List ℕ) (a b : List Chunk) → AreChunks text a → AreChunks text b → a ≡ b
-AreChunks-one text a b p q =
-    let o = one_cut (record { line = 1; bytes = text }) p.whole q.whole p.rest q.rest p.begins p.ends q.begins q.ends in
+pub AreCut-one : (h : Held) (a b : List Chunk) → AreCut h a → AreCut h b → a ≡ b
+AreCut-one h a b p q =
+    let o = one_cut h p.whole q.whole p.rest q.rest p.begins p.ends q.begins q.ends in
     p.all ∙ rw (o.0, o.1) (sym q.all)
 
 -- a chunk takes at least one byte away, and counts no more lines than bytes

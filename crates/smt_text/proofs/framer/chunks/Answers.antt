@@ -1,5 +1,5 @@
 use Rattle.std.proofs.Common.{◌∙◌, refl, append-nil}
-use Rattle.smt_text.proofs.Cuts.{first_chunk_shrinks, AreChunks-one}
+use Rattle.smt_text.proofs.Cuts.{first_chunk_shrinks, AreCut-one}
 use Rattle.smt_text.proofs.Driver.{framed_none, framed_fed, framed_given, framed_end, next_piece}
 use Rattle.smt_text.proofs.framer.chunks.Goals as goal
 use Rattle.smt_text.proofs.framer.chunks.Goals.{in-Some-2+in_ok-push-2, in_default-2}
@@ -29,4 +29,4 @@ pub returns-clause-split : goal.returns-clause-split
 returns-clause-split c = all_out c
 
 pub returns-clause-only : goal.returns-clause-only
-returns-clause-only c = λ others o. AreChunks-one _ _ _ (all_out c) o
+returns-clause-only c = λ others o. AreCut-one _ _ _ (all_out c) o
