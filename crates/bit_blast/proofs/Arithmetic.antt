@@ -8,18 +8,20 @@ use Rattle.cnf_base.specs.Gates.{HaveMeaning}
 use Rattle.cnf_base.specs.Assignments.{fresh_bits}
 use Rattle.cnf_base.proofs.Rows.{length-fresh_bits}
 use Rattle.smt_words.specs.Words.{mul_of, udiv_of, urem_of, sdiv_of, srem_of, smod_of}
+use Rattle.circ_plain.specs.Signs.{signed_bits}
+use Rattle.circ_plain.proofs.Negating.{length-signed_bits}
 use Rattle.circ_muldiv.specs.Products.{sum_gates, sum_bits, rows_bits, mul_bits}
-use Rattle.circ_muldiv.specs.Signed.{signed_bits, magnitudes, smod_bits}
+use Rattle.circ_muldiv.specs.Signed.{magnitudes, smod_bits}
 use Rattle.circ_muldiv.specs.Sizes.{mul_size, divide_size, sdiv_size, srem_size, smod_size}
 use Rattle.circ_muldiv.proofs.Multiplying.{length-sum_bits, length-rest, mul_correct}
 use Rattle.circ_muldiv.proofs.Dividing.{length-quotient, length-remainder, divide_correct}
-use Rattle.circ_muldiv.proofs.Signs.{length-signed_bits, sdiv_correct, srem_correct, smod_correct}
+use Rattle.circ_muldiv.proofs.Signs.{sdiv_correct, srem_correct, smod_correct}
 use Rattle.circ_muldiv.proofs.Counting.{length-magnitudes_quotient, length-magnitudes_remainder, mul_small, divide_small}
 use Rattle.smt_terms.specs.declared.sort.Sort.{Sort}
 use Rattle.smt_terms.specs.declared.sort.Sort.TheVariants as sort
 use Rattle.smt_terms.specs.declared.fault.MakeFault.{MakeFault}
 use Rattle.smt_terms.specs.Values.{VWord}
-use Rattle.bit_blast.specs.Blocks.{product, quotient, remainder, signed_quotient, signed_remainder, signed_modulus}
+use Rattle.bit_blast.specs.Circuits.{product, quotient, remainder, signed_quotient, signed_remainder, signed_modulus}
 use Rattle.bit_blast.specs.Meanings.{AreBitsOf}
 use Rattle.bit_blast.proofs.Correct.{ok_is, as_word}
 

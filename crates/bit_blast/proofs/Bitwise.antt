@@ -11,7 +11,7 @@ use Rattle.cnf_base.proofs.Numbers.{number-negated, half_of}
 use Rattle.smt_words.specs.Words.{not_of}
 use Rattle.bit_blast.specs.declared.rows.Connective.{Connective}
 use Rattle.bit_blast.specs.declared.rows.Connective.TheVariants.{Both, Neither, ButNot, Differ}
-use Rattle.bit_blast.specs.Blocks.{gate_of, each_gate, signed}
+use Rattle.bit_blast.specs.Circuits.{gate_of, each_gate, signed}
 
 -- what a connective says of two truth values
 abbrev pub said : Connective → Bool → Bool → Bool

@@ -18,7 +18,8 @@ use Rattle.smt_terms.specs.declared.sort.Sort.TheVariants as sort
 use Rattle.smt_terms.specs.declared.fault.MakeFault.{MakeFault}
 use Rattle.smt_terms.specs.Ranks.{ranked, concatenation, equality as equality_rank, choice as choice_rank}
 use Rattle.smt_terms.specs.Values.{Value, VBool, VWord, same_value, is_true, width_in, number_of}
-use Rattle.bit_blast.specs.Blocks.{Block, Makes, Takes, Lacks, built, two, wires, equality, choice, choice_by, below, not_above, signed_below, signed_not_above, shift_up, shift_down, signed_shift_down}
+use Rattle.bit_blast.specs.Circuits.{Makes, Takes, Lacks, built, two, wires, equality, choice, choice_by, below, not_above, signed_below, signed_not_above, shift_up, shift_down, signed_shift_down}
+use Rattle.bit_blast.specs.Blocks.{Block}
 use Rattle.bit_blast.specs.Meanings.{AreBitsOf, EachIsBits}
 use Rattle.bit_blast.proofs.Correct.{ok_is, as_word, as_truth}
 use Rattle.bit_blast.proofs.Wired.{concat_means}

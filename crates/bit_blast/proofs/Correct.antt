@@ -21,7 +21,7 @@ use Rattle.smt_terms.specs.declared.fault.MakeFault.TheVariants.{WidthOutOfRange
 use Rattle.smt_terms.specs.Ranks.{word_sort}
 use Rattle.smt_terms.specs.Values.{VBool, VWord}
 use Rattle.bit_blast.specs.declared.rows.Connective.{Connective}
-use Rattle.bit_blast.specs.Blocks.{signed, by_gate, sum, difference}
+use Rattle.bit_blast.specs.Circuits.{signed, by_gate, sum, difference}
 use Rattle.bit_blast.specs.Meanings.{AreBitsOf}
 use Rattle.bit_blast.proofs.Bitwise.{said, agreed, gate_said, Works, row_number, negated_number, unnegated_number}
 

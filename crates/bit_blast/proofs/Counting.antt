@@ -9,7 +9,8 @@ use Rattle.smt_terms.specs.declared.node.Op.TheVariants.{Plain, Word, Extract, Z
 use Rattle.smt_terms.specs.declared.node.Node.{Node}
 use Rattle.smt_terms.specs.Bits.{TermBits, bits_in}
 use Rattle.bit_blast.specs.declared.rows.Connective.TheVariants.{Both, Neither, ButNot, Differ}
-use Rattle.bit_blast.specs.Blocks.{Block, Makes, Lacks, built, two, two_some, choice, by_gate, below, not_above, signed_below, signed_not_above, shift_up, shift_down, signed_shift_down, product, quotient, remainder, signed_quotient, signed_remainder, signed_modulus, sum, difference, equality, operator_circuit, circuit_of, with_first, all_bits, block_over, block_of, EachShort}
+use Rattle.bit_blast.specs.Circuits.{Makes, Lacks, built, two, two_some, choice, by_gate, below, not_above, signed_below, signed_not_above, shift_up, shift_down, signed_shift_down, product, quotient, remainder, signed_quotient, signed_remainder, signed_modulus, sum, difference, equality}
+use Rattle.bit_blast.specs.Blocks.{Block, operator_circuit, circuit_of, with_first, all_bits, block_over, block_of, EachShort}
 
 -- the bits of a term are few
 pub short_of : (held : List TermBits) (t : ℕ) (b : List Literal) → EachShort held → Some b ≡ bits_in held t → length b ≤ 128

@@ -18,7 +18,8 @@ use Rattle.smt_terms.specs.Same.{same_sort}
 use Rattle.smt_terms.specs.Ranks.{Rank, Gives, Takes as TakesSort, ranked, one_word, two_words, one_truth, two_truths, concatenation, equality as equality_rank, choice as choice_rank, truth, word_sort, extract_sort, literal_sort, index_sort, element_sort}
 use Rattle.smt_terms.specs.Terms.{op_rank}
 use Rattle.bit_blast.specs.declared.rows.Connective.TheVariants.{Both, Neither, ButNot, Differ}
-use Rattle.bit_blast.specs.Blocks.{Block, CircuitOf, Makes, Takes, Lacks, built, one, two, two_some, wires, by_gate, sum, difference, equality, choice, negation, below, not_above, signed_below, signed_not_above, shift_up, shift_down, signed_shift_down, product, quotient, remainder, signed_quotient, signed_remainder, signed_modulus, literal_bits, extracted, repeated, turned_left, turned_right, operator_circuit}
+use Rattle.bit_blast.specs.Circuits.{CircuitOf, Makes, Takes, Lacks, built, one, two, two_some, wires, by_gate, sum, difference, equality, choice, negation, below, not_above, signed_below, signed_not_above, shift_up, shift_down, signed_shift_down, product, quotient, remainder, signed_quotient, signed_remainder, signed_modulus, literal_bits, extracted, repeated, turned_left, turned_right}
+use Rattle.bit_blast.specs.Blocks.{Block, operator_circuit}
 use Rattle.bit_blast.specs.Meanings.{IsRowOf, AreRowsOf, BlocksExist}
 use Rattle.bit_blast.proofs.Shapes.{same_word, equality_rank_is, choice_rank_is, concatenation_rank_is}
 

@@ -14,7 +14,8 @@ use Rattle.smt_terms.specs.declared.sort.Sort.TheVariants as sort
 use Rattle.smt_terms.specs.declared.node.Node.{Node}
 use Rattle.smt_terms.specs.Bits.{TermBits, bits_in}
 use Rattle.smt_terms.specs.Values.{Value, VBool, VWord, op_value}
-use Rattle.bit_blast.specs.Blocks.{Block, built, circuit_of, all_bits, block_over, block_of, IsBuilt, HasNone}
+use Rattle.bit_blast.specs.Circuits.{built}
+use Rattle.bit_blast.specs.Blocks.{Block, circuit_of, all_bits, block_over, block_of, IsBuilt, HasNone}
 use Rattle.bit_blast.specs.Meanings.{AreBitsOf, EachIsBits, ClausesFixValues, BlocksExtendAssignments, Fix}
 use Rattle.bit_blast.proofs.Table.{op_correct}
 use Rattle.bit_blast.proofs.Ordered.{op_ordered}

@@ -19,7 +19,8 @@ use Rattle.smt_terms.specs.declared.operator.Operator.TheVariants as plain
 use Rattle.smt_terms.specs.declared.node.Op.TheVariants.{Plain, Word, Extract, ZeroExtend, SignExtend, RotateLeft, RotateRight, Repeat, Constant, Apply, Param}
 use Rattle.bit_blast.specs.declared.rows.Connective.{Connective}
 use Rattle.bit_blast.specs.declared.rows.Connective.TheVariants.{Both, Neither, ButNot, Differ}
-use Rattle.bit_blast.specs.Blocks.{Block, Makes, Takes, Lacks, built, one, two, two_some, wires, signed, each_gate, by_gate, sum, difference, equality, choice, negation, below, not_above, signed_below, signed_not_above, shift_up, shift_down, signed_shift_down, product, quotient, remainder, signed_quotient, signed_remainder, signed_modulus, literal_bits, rotated, extracted, repeated, operator_circuit}
+use Rattle.bit_blast.specs.Circuits.{Makes, Takes, Lacks, built, one, two, two_some, wires, signed, each_gate, by_gate, sum, difference, equality, choice, negation, below, not_above, signed_below, signed_not_above, shift_up, shift_down, signed_shift_down, product, quotient, remainder, signed_quotient, signed_remainder, signed_modulus, literal_bits, rotated, extracted, repeated}
+use Rattle.bit_blast.specs.Blocks.{Block, operator_circuit}
 use Rattle.bit_blast.specs.Meanings.{BlocksAreOrdered}
 use Rattle.bit_blast.proofs.Shapes.{some_rows}
 use Rattle.std.proofs.lemmas.Option.{same_Some}

@@ -13,7 +13,8 @@ use Rattle.smt_terms.specs.declared.fault.MakeFault.TheVariants.{WrongSort}
 use Rattle.smt_terms.specs.Same.{same_sort, sort_same}
 use Rattle.smt_terms.specs.Ranks.{ranked, one_word, two_words, one_truth, two_truths, concatenation, equality as equality_rank, choice as choice_rank, word_sort}
 use Rattle.smt_terms.specs.Values.{Value, VBool, applied, word_of, words_of, truth_of, truths_of}
-use Rattle.bit_blast.specs.Blocks.{Block, Makes, Lacks, built, one, two, two_some}
+use Rattle.bit_blast.specs.Circuits.{Makes, Lacks, built, one, two, two_some}
+use Rattle.bit_blast.specs.Blocks.{Block}
 use Rattle.bit_blast.specs.Meanings.{AreBitsOf, EachIsBits}
 use Rattle.std.proofs.lemmas.Option.{same_Some}
 

@@ -26,7 +26,8 @@ use Rattle.smt_terms.specs.declared.node.Node.{Node}
 use Rattle.smt_terms.specs.Bits.{TermBits, bits_in}
 use Rattle.bit_blast.specs.declared.rows.Connective.{Connective}
 use Rattle.bit_blast.specs.declared.rows.Connective.TheVariants.{Both, Neither, ButNot, Differ}
-use Rattle.bit_blast.specs.Blocks.{Block, Makes, Takes, Lacks, built, one, two, two_some, wires, by_gate, sum, difference, equality, choice, negation, below, not_above, signed_below, signed_not_above, shift_up, shift_down, signed_shift_down, product, quotient, remainder, signed_quotient, signed_remainder, signed_modulus, literal_bits, extracted, repeated, turned_left, turned_right, operator_circuit, circuit_of, with_first, all_bits, block_over, block_of, EachShort, IsBuilt, HasNone}
+use Rattle.bit_blast.specs.Circuits.{Makes, Takes, Lacks, built, one, two, two_some, wires, by_gate, sum, difference, equality, choice, negation, below, not_above, signed_below, signed_not_above, shift_up, shift_down, signed_shift_down, product, quotient, remainder, signed_quotient, signed_remainder, signed_modulus, literal_bits, extracted, repeated, turned_left, turned_right}
+use Rattle.bit_blast.specs.Blocks.{Block, operator_circuit, circuit_of, with_first, all_bits, block_over, block_of, EachShort, IsBuilt, HasNone}
 use Rattle.bit_blast.specs.Meanings.{BlocksAreSmall}
 use Rattle.bit_blast.proofs.Counting.{short_of}
 use Rattle.bit_blast.proofs.Ordered.{length-each_gate}

@@ -17,7 +17,8 @@ use Rattle.smt_terms.specs.Ranks.{ranked, Gives, truth, word_sort, extract_sort,
 use Rattle.smt_terms.specs.Terms.{op_rank}
 use Rattle.smt_terms.specs.Values.{Value, VBool, VWord, applied, differ, operator_meaning}
 use Rattle.bit_blast.specs.declared.rows.Connective.TheVariants.{Both, Neither, ButNot, Differ}
-use Rattle.bit_blast.specs.Blocks.{Block, Makes, built, wires, by_gate, sum, difference, equality, negation, below, not_above, signed_below, signed_not_above, shift_up, shift_down, signed_shift_down, product, quotient, remainder, signed_quotient, signed_remainder, signed_modulus, literal_bits, extracted, turned_left, turned_right, repeated, operator_circuit}
+use Rattle.bit_blast.specs.Circuits.{Makes, built, wires, by_gate, sum, difference, equality, negation, below, not_above, signed_below, signed_not_above, shift_up, shift_down, signed_shift_down, product, quotient, remainder, signed_quotient, signed_remainder, signed_modulus, literal_bits, extracted, turned_left, turned_right, repeated}
+use Rattle.bit_blast.specs.Blocks.{Block, operator_circuit}
 use Rattle.bit_blast.specs.Meanings.{AreBitsOf, EachIsBits, BlocksAreCorrect}
 use Rattle.bit_blast.proofs.Bitwise.{said, agreed, and_works, or_works, xor_works}
 use Rattle.bit_blast.proofs.Shapes.{one_correct, two_correct, some_correct, truth_correct, truths_correct}

@@ -17,7 +17,7 @@ use Rattle.smt_terms.specs.declared.fault.MakeFault.{MakeFault}
 use Rattle.smt_terms.specs.declared.fault.MakeFault.TheVariants.{WrongSort}
 use Rattle.smt_terms.specs.Ranks.{word_sort, extract_sort, literal_sort}
 use Rattle.smt_terms.specs.Values.{VWord}
-use Rattle.bit_blast.specs.Blocks.{negation, literal_bits, extracted, turned_left, turned_right, repeated}
+use Rattle.bit_blast.specs.Circuits.{negation, literal_bits, extracted, turned_left, turned_right, repeated}
 use Rattle.bit_blast.specs.Meanings.{AreBitsOf}
 use Rattle.bit_blast.proofs.Bitwise.{negated_number}
 use Rattle.bit_blast.proofs.Wires.{length-literal_bits, literal_number, extract_number, length-extracted, zero_extend_number, sign_extend_number, length-extended, length-rotated, rotate_left_number, rotate_right_number, repeat_number, length-repeated}

@@ -11,7 +11,7 @@ use Rattle.smt_words.specs.Words.{extract_of, sign_extend_of, rotate_left_of, ro
 use Rattle.circ_plain.specs.Signs.{sign_of}
 use Rattle.circ_plain.proofs.Bits.{false_is_false, number-replicate_false, number-replicate_true}
 use Rattle.circ_plain.proofs.Negating.{sign_is}
-use Rattle.bit_blast.specs.Blocks.{literal_bits, rotated, repeated, extracted}
+use Rattle.bit_blast.specs.Circuits.{literal_bits, rotated, repeated, extracted}
 
 -- ---- literals
 

@@ -2,7 +2,7 @@
 use Rattle.std.proofs.Common.{◌≡◌, ℕ, suc, ◌+◌, ◌-◌, ◌/◌, ◌%◌, ◌<◌, List, [], ◌∷◌, ◌++◌, append_assoc, ap, ◌∙◌, sym, arith}
 use Rattle.std.specs.Prelude.{◌==◌, if◌then◌else◌, replicate}
 use Rattle.cnf_base.specs.Literals.{Literal, true_literal, false_literal}
-use Rattle.bit_blast.specs.Blocks.{literal_bits, repeated}
+use Rattle.bit_blast.specs.Circuits.{literal_bits, repeated}
 
 -- one place more was put before the rest
 pub pushed_row : {A : Type 0} (old new rest after whole : List A) (x : A) → new ≡ old ++ x ∷ [] → rest ≡ x ∷ after → old ++ rest ≡ whole → new ++ after ≡ whole

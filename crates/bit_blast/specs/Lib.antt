@@ -1,3 +1,4 @@
+pub mod Circuits
 pub mod Blocks
 pub mod Meanings
 pub mod Assigned

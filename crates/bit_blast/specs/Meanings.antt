@@ -13,7 +13,8 @@ use Rattle.smt_terms.specs.declared.node.Node.{Node}
 use Rattle.smt_terms.specs.Terms.{op_rank}
 use Rattle.smt_terms.specs.Scalars.{is_fixed}
 use Rattle.smt_terms.specs.Values.{Value, VBool, VWord, Interpretation, op_value}
-use Rattle.bit_blast.specs.Blocks.{Block, built, circuit_of, all_bits}
+use Rattle.bit_blast.specs.Circuits.{built}
+use Rattle.bit_blast.specs.Blocks.{Block, circuit_of, all_bits}
 
 -- Under an assignment the literals are the bits of a value of a sort: a Bool has one, a word as many as its width, the
 -- lowest first. An array has none.

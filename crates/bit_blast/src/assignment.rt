@@ -1,6 +1,6 @@
 //! Assignments of truth values to the variables.
 
-ghost use Rattle.std.specs.Prelude.{◌≡◌, ◌<◌, ◌≤◌, length, IsSomeAnd, IfSome};
+ghost use Rattle.std.specs.Prelude.{◌≡◌, ◌<◌, length, IsSomeAnd, IfSome};
 ghost use Rattle.cnf_base.specs.Clauses.{lit_true, number};
 ghost use Rattle.smt_words.specs.Words.{word};
 ghost use Rattle.smt_terms.specs.Bits.{bits_in};

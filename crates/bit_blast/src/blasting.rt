@@ -1,12 +1,11 @@
 //! The circuit of a term.
 
 ghost use Rattle.std.specs.Prelude.{◌≡◌, ◌≢◌, None, [], ◌∷◌, ◌+◌, ◌^◌, ◌≤◌, ◌<◌, IfOk, IfSome, OnErr, MatchOption, length};
-ghost use Rattle.std.specs.Option.{option_copied};
 ghost use Rattle.smt_terms.specs.Nodes.{node_at};
-ghost use Rattle.smt_terms.specs.Terms.{IsTerm};
 ghost use Rattle.smt_terms.specs.Bits.{bits_in};
 ghost use Rattle.bit_blast.specs.Meanings.{Fix};
-ghost use Rattle.bit_blast.specs.Blocks.{block_of, built, circuit_of, operator_circuit, connective_of, IsSigned, IsProduct, IsBuilt, HasNone, EachShort};
+ghost use Rattle.bit_blast.specs.Circuits.{built};
+ghost use Rattle.bit_blast.specs.Blocks.{block_of, circuit_of, operator_circuit, connective_of, IsSigned, IsProduct, IsBuilt, HasNone, EachShort};
 
 use crate::rows;
 use circ_muldiv::{divide, mul, sdiv, smod, srem};

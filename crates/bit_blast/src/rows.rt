@@ -1,11 +1,12 @@
 //! Rows of bits: wires without a gate, and rows of one gate a place.
 
-ghost use Rattle.std.specs.Prelude.{◌≡◌, if◌then◌else◌, ◌+◌, ◌-◌, ◌^◌, ◌≤◌, ◌<◌, ◌++◌, Some, ◌*◌, IfOk, OnOk, OnErr, length, map, replicate, take, drop};
+ghost use Rattle.std.specs.Prelude.{◌≡◌, if◌then◌else◌, ◌+◌, ◌-◌, ◌^◌, ◌≤◌, ◌<◌, ◌++◌, Some, ◌*◌, IfOk, OnOk, OnErr, length, map, replicate};
 ghost use Rattle.cnf_base.specs.Literals.{negated, true_literal, false_literal};
 ghost use Rattle.cnf_base.specs.Circuits.{Gains};
 ghost use Rattle.cnf_base.specs.Assignments.{fresh_bits};
 ghost use Rattle.circ_plain.specs.Signs.{sign_of};
-ghost use Rattle.bit_blast.specs.Blocks.{gate_of, each_gate, literal_bits, rotated as rotated_row, repeated as repeated_row, extracted as extracted_row, turned_left, turned_right, connective_of, by_gate, sum as sum_block, difference as difference_block, equality as equality_block, below as below_block, not_above as not_above_block, signed_below as signed_below_block, signed_not_above as signed_not_above_block, IsBuilt};
+ghost use Rattle.bit_blast.specs.Circuits.{gate_of, each_gate, literal_bits, rotated as rotated_row, repeated as repeated_row, extracted as extracted_row, turned_left, turned_right, by_gate, sum as sum_block, difference as difference_block, equality as equality_block, below as below_block, not_above as not_above_block, signed_below as signed_below_block, signed_not_above as signed_not_above_block};
+ghost use Rattle.bit_blast.specs.Blocks.{connective_of, IsBuilt};
 
 use circ_plain::{sign, sle, slt, ule, ult};
 use cnf_base::{Circuit, GateKind, Lit};

@@ -15,6 +15,7 @@ use smt_terms::scalar::Scalar;
 use smt_terms::sort::Sort;
 use smt_terms::terms::Terms;
 use std::alloc::{AllocError, Global};
+use std::process::Abort;
 use std::test::Fail;
 
 const OF_TRUTHS: [Operator; 5] = [
@@ -219,119 +220,206 @@ fn satisfying(
     Ok(if satisfied { Some(assignment) } else { None })
 }
 
-// Whether the operator's block over parameters of these sorts gives the operator's value, for all their values.
-fn agrees(alloc: Global, op: &Op, sorts: &[Sort]) -> Result<bool, Fail>
-    requires few { length sorts.now ≤ 3 }
+// Where a block ends: its term, the term's sort, and the first variable of its gates.
+#[derive(Clone, Copy)]
+struct Output {
+    term: TermId,
+    sort: Sort,
+    first: u64,
+}
+
+// Whether the block gives the operator's value under this assignment.
+fn gives(
+    alloc: Global,
+    assignment: &Assignment,
+    bits: &Bits,
+    op: &Op,
+    args: &[TermId],
+    sorts: &[Sort],
+    block: Output,
+) -> Result<bool, Fail>
+    requires { is_fixed op.now ≡ true }
 {
-    if !fixed(op) {
-        return Ok(false);
+    let mut scalars = Vec::new(alloc);
+    for (term, sort) in args.iter().zip(sorts) {
+        scalars.push(value(assignment, bits, *term, *sort)?)?;
     }
-    let mut terms = Terms::new(alloc);
-    let mut bits = Bits::new(alloc);
-    let (args, next) = parameters(&mut terms, &mut bits, alloc, sorts)?;
-    let (term, circuit) = built(&mut terms, &mut bits, alloc, op, args.as_slice(), next)?;
-    let sort = terms.sort(term);
-    let inputs = 1u64 << (next - 2).min(12);
+    let result = value(assignment, bits, block.term, block.sort)?;
+    Ok(apply(op, scalars.as_slice()) == Some(result))
+}
+
+// Whether the block gives the operator's value for all values of the parameters.
+fn gives_always(
+    circuit: &Circuit,
+    alloc: Global,
+    bits: &Bits,
+    op: &Op,
+    args: &[TermId],
+    sorts: &[Sort],
+    block: Output,
+) -> Result<bool, Fail>
+    requires fixed { is_fixed op.now ≡ true }
+    requires first { 1 < block.first }
+{
+    let inputs = 1u64 << (block.first - 2).min(12);
     for input in 0..inputs {
-        let Some(assignment) = satisfying(alloc, input, next, &circuit)? else {
+        let Some(assignment) = satisfying(alloc, input, block.first, circuit)? else {
             return Ok(false)
         };
-        let mut scalars = Vec::new(alloc);
-        for (term, sort) in args.iter().zip(sorts) {
-            scalars.push(value(&assignment, &bits, *term, *sort)?)?;
-        }
-        let result = value(&assignment, &bits, term, sort)?;
-        if apply(op, scalars.as_slice()) != Some(result) {
+        let given = gives(alloc, &assignment, bits, op, args, sorts, block);
+        drop(assignment);
+        if !given? {
             return Ok(false);
         }
     }
     Ok(true)
 }
 
+// Whether the operator's block over these parameters gives the operator's value, for all their values.
+fn agrees_over(
+    terms: &mut Terms,
+    bits: &mut Bits,
+    alloc: Global,
+    op: &Op,
+    args: &[TermId],
+    sorts: &[Sort],
+    first: u64,
+) -> Result<bool, Fail>
+    requires fixed { is_fixed op.now ≡ true }
+    requires short { EachShort bits.old }
+    requires first { (1 < first) × (first ≤ 400) }
+{
+    let (term, circuit) = built(terms, bits, alloc, op, args, first)?;
+    let block = Output {
+        term,
+        sort: terms.sort(term),
+        first,
+    };
+    let agreed = gives_always(&circuit, alloc, bits, op, args, sorts, block);
+    drop(circuit);
+    agreed
+}
+
+// The same over parameters of these sorts, which are made first.
+fn agrees_of(
+    terms: &mut Terms,
+    bits: &mut Bits,
+    alloc: Global,
+    op: &Op,
+    sorts: &[Sort],
+) -> Result<bool, Fail>
+    requires few { length sorts.now ≤ 3 }
+    requires short { EachShort bits.old }
+{
+    if !fixed(op) {
+        return Ok(false);
+    }
+    let (args, first) = parameters(terms, bits, alloc, sorts)?;
+    let agreed = agrees_over(terms, bits, alloc, op, args.as_slice(), sorts, first);
+    drop(args);
+    agreed
+}
+
+// The operator's block over parameters of these sorts gives the operator's value, for all their values.
+fn agree(rt: &(impl Abort + AllocGlobal), op: Op, sorts: &[Sort]) -> Result<(), Fail>
+    requires few { length sorts.now ≤ 3 }
+{
+    let mut terms = Terms::new(rt.alloc());
+    let mut bits = Bits::new(rt.alloc());
+    let agreed = agrees_of(&mut terms, &mut bits, rt.alloc(), &op, sorts);
+    drop((terms, bits));
+    if matches!(&agreed, Ok(false)) {
+        panic!(rt; "{op:?} {sorts:?}");
+    }
+    drop(op);
+    let _agreed = agreed?;
+    Ok(())
+}
+
+// The same of each of these operators.
+fn all_agree(
+    rt: &(impl Abort + AllocGlobal),
+    operators: &[Operator],
+    sorts: &[Sort],
+) -> Result<(), Fail>
+    requires few { length sorts.now ≤ 3 }
+{
+    for operator in operators {
+        agree(rt, Op::Plain(*operator), sorts)?;
+    }
+    Ok(())
+}
+
 #[test]
 fn blocks_of_truths_give_the_operators_values(rt: HostRuntime) -> Result<(), Fail> {
-    for operator in [Operator::True, Operator::False] {
-        assert!(rt;
-            agrees(rt.alloc(), &Op::Plain(operator), &[])?,
-            "{operator:?}"
-        );
-    }
-    assert!(rt; agrees(rt.alloc(), &Op::Plain(Operator::Not), &[Sort::Bool])?);
-    for operator in OF_TRUTHS {
-        let sorts = [Sort::Bool, Sort::Bool];
-        assert!(rt;
-            agrees(rt.alloc(), &Op::Plain(operator), &sorts)?,
-            "{operator:?}"
-        );
-    }
-    let sorts = [Sort::Bool, Sort::Bool, Sort::Bool];
-    assert!(rt; agrees(rt.alloc(), &Op::Plain(Operator::Ite), &sorts)?);
-    Ok(())
+    all_agree(&rt, &[Operator::True, Operator::False], &[])?;
+    all_agree(&rt, &[Operator::Not], &[Sort::Bool])?;
+    all_agree(&rt, &OF_TRUTHS, &[Sort::Bool, Sort::Bool])?;
+    all_agree(&rt, &[Operator::Ite], &[Sort::Bool, Sort::Bool, Sort::Bool])
 }
 
 #[test]
 fn blocks_of_words_give_the_operators_values(rt: HostRuntime) -> Result<(), Fail> {
     for width in 1..4u32 {
         let word = Sort::Word(width);
-        for operator in OF_WORD {
-            assert!(rt;
-                agrees(rt.alloc(), &Op::Plain(operator), &[word])?,
-                "{operator:?} {width}"
-            );
-        }
-        for operator in OF_WORDS {
-            let op = Op::Plain(operator);
-            assert!(rt;
-                agrees(rt.alloc(), &op, &[word, word])?,
-                "{operator:?} {width}"
-            );
-        }
-        let concat = Op::Plain(Operator::Concat);
-        assert!(rt;
-            agrees(rt.alloc(), &concat, &[Sort::Word(2), word])?,
-            "concat {width}"
-        );
-        let choice = Op::Plain(Operator::Ite);
-        assert!(rt;
-            agrees(rt.alloc(), &choice, &[Sort::Bool, word, word])?,
-            "ite {width}"
-        );
+        all_agree(&rt, &OF_WORD, &[word])?;
+        all_agree(&rt, &OF_WORDS, &[word, word])?;
+        all_agree(&rt, &[Operator::Concat], &[Sort::Word(2), word])?;
+        all_agree(&rt, &[Operator::Ite], &[Sort::Bool, word, word])?;
     }
     Ok(())
+}
+
+// The operators of this index, and a literal, of this width.
+fn all_agree_at(rt: &(impl Abort + AllocGlobal), index: u64, width: u32) -> Result<(), Fail>
+    requires { index < 5 }
+{
+    let sorts = [Sort::Word(width)];
+    agree(rt, Op::ZeroExtend(index), &sorts)?;
+    agree(rt, Op::SignExtend(index), &sorts)?;
+    agree(rt, Op::RotateLeft(index), &sorts)?;
+    agree(rt, Op::RotateRight(index), &sorts)?;
+    agree(rt, Op::Repeat(index + 1), &sorts)?;
+    let literal = Op::Word {
+        width: u64::from(width),
+        value: u128::from(index) % 2,
+    };
+    agree(rt, literal, &[])
 }
 
 #[test]
 fn blocks_with_an_index_give_the_operators_values(rt: HostRuntime) -> Result<(), Fail> {
     for width in 1..4u32 {
-        let sorts = [Sort::Word(width)];
         for index in 0..5u64 {
-            for op in &[
-                Op::ZeroExtend(index),
-                Op::SignExtend(index),
-                Op::RotateLeft(index),
-                Op::RotateRight(index),
-                Op::Repeat(index + 1),
-                Op::Word {
-                    width: u64::from(width),
-                    value: u128::from(index) % 2,
-                },
-            ] {
-                let sorts: &[Sort] = if let Op::Word { .. } = op {
-                    &[]
-                } else {
-                    &sorts
-                };
-                assert!(rt; agrees(rt.alloc(), op, sorts)?, "{op:?} {width}");
-            }
+            all_agree_at(&rt, index, width)?;
         }
         for high in 0..u64::from(width) {
             for low in 0..high + 1 {
-                let op = Op::Extract { high, low };
-                assert!(rt; agrees(rt.alloc(), &op, &sorts)?, "{op:?} {width}");
+                agree(&rt, Op::Extract { high, low }, &[Sort::Word(width)])?;
             }
         }
     }
     Ok(())
+}
+
+// How many variables the operator's block over two parameters of 128 bits has.
+fn variables_of(
+    terms: &mut Terms,
+    bits: &mut Bits,
+    alloc: Global,
+    operator: Operator,
+) -> Result<u64, Fail>
+    requires short { EachShort bits.old }
+{
+    let sorts = [Sort::Word(128), Sort::Word(128)];
+    let (args, first) = parameters(terms, bits, alloc, &sorts)?;
+    let op = Op::Plain(operator);
+    let made = built(terms, bits, alloc, &op, args.as_slice(), first);
+    drop((args, op));
+    let (_, circuit) = made?;
+    let next = circuit.next();
+    drop(circuit);
+    Ok(next.wrapping_sub(first))
 }
 
 #[test]
@@ -344,18 +432,9 @@ fn blocks_of_128_bits_have_as_many_variables_as_gates(rt: HostRuntime) -> Result
     ] {
         let mut terms = Terms::new(rt.alloc());
         let mut bits = Bits::new(rt.alloc());
-        let sorts = [Sort::Word(128), Sort::Word(128)];
-        let (args, next) = parameters(&mut terms, &mut bits, rt.alloc(), &sorts)?;
-        let op = Op::Plain(operator);
-        let (_, circuit) = built(
-            &mut terms,
-            &mut bits,
-            rt.alloc(),
-            &op,
-            args.as_slice(),
-            next,
-        )?;
-        assert_eq!(rt; circuit.next().wrapping_sub(next), gates, "{operator:?}");
+        let variables = variables_of(&mut terms, &mut bits, rt.alloc(), operator);
+        drop((terms, bits));
+        assert_eq!(rt; variables?, gates, "{operator:?}");
         assert!(rt; gates <= 1 << 17);
     }
     Ok(())

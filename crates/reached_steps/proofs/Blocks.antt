@@ -14,7 +14,8 @@ use Rattle.smt_terms.specs.declared.node.Op.{Op}
 use Rattle.smt_terms.specs.declared.node.Op.TheVariants.{Plain, Word, Extract, ZeroExtend, SignExtend, RotateLeft, RotateRight, Repeat, Constant, Apply, Param}
 use Rattle.bit_blast.specs.declared.rows.Connective.{Connective}
 use Rattle.bit_blast.specs.declared.rows.Connective.TheVariants.{Both, Neither, ButNot, Differ}
-use Rattle.bit_blast.specs.Blocks.{Block, Makes, Takes, Lacks, built, one as one_row, two, two_some, wires, signed, each_gate, by_gate, sum, difference, equality, choice, negation, below, not_above, signed_below, signed_not_above, shift_up, shift_down, signed_shift_down, product, quotient, remainder, signed_quotient, signed_remainder, signed_modulus, literal_bits, rotated, extracted, repeated, operator_circuit, circuit_of}
+use Rattle.bit_blast.specs.Circuits.{Makes, Takes, Lacks, built, one as one_row, two, two_some, wires, signed, each_gate, by_gate, sum, difference, equality, choice, negation, below, not_above, signed_below, signed_not_above, shift_up, shift_down, signed_shift_down, product, quotient, remainder, signed_quotient, signed_remainder, signed_modulus, literal_bits, rotated, extracted, repeated}
+use Rattle.bit_blast.specs.Blocks.{Block, operator_circuit, circuit_of}
 use Rattle.bit_blast.proofs.Shapes.{some_rows}
 use Rattle.reached_steps.proofs.Inputs.{AreOf, EachReads, HasFrom, of-append, of-replicate, of-take, of-drop, of-negated, of-fresh_bits, of-sign}
 use Rattle.reached_steps.proofs.Plain.{add_gates-read, add_bits-of, mux_gates-read, equal_gates-read, equal_bit-of, neg_gates-read, neg_bits-of, ult_gates-read, ult_bit-of, slt_gates-read, slt_bit-of, logical_gates-read, logical_bits-of, ashr_gates-read, ashr_bits-of}

@@ -6,12 +6,12 @@ use Rattle.cnf_base.specs.declared.gate.GateKind.TheVariants.{And, Xor}
 use Rattle.cnf_base.specs.Assignments.{fresh_bits}
 use Rattle.cnf_base.specs.Adders.{add_gates, add_bits}
 use Rattle.cnf_base.specs.Choices.{mux_gates, equal_gates, equal_bit}
-use Rattle.circ_plain.specs.Signs.{sign_of, neg_gates, neg_bits, abs_gates, abs_bits}
+use Rattle.circ_plain.specs.Signs.{sign_of, neg_gates, neg_bits, signed_gates, signed_bits, abs_gates}
 use Rattle.circ_muldiv.specs.Products.{row_gates, sum_gates, sum_bits, rows_gates, rows_bits, mul_gates, mul_bits}
 use Rattle.circ_muldiv.specs.Quotients.{shifted, complement_of, difference_gates, place_gates, place_bit, place_rest, divided, divide_gates, quotient_bits, remainder_bits}
-use Rattle.circ_muldiv.specs.Signed.{signed_gates, signed_bits, magnitudes, sdiv_gates, sdiv_bits, srem_gates, srem_bits, smod_gates, smod_bits}
+use Rattle.circ_muldiv.specs.Signed.{magnitudes, sdiv_gates, sdiv_bits, srem_gates, srem_bits, smod_gates, smod_bits}
 use Rattle.reached_steps.proofs.Inputs.{AreOf, EachReads, HasFrom, later, of-append, reads-append, of-replicate, of-take, of-drop, of-negated, of-fresh_bits, of-sign}
-use Rattle.reached_steps.proofs.Plain.{add_gates-read, add_bits-of, add_carry-of, mux_gates-read, equal_gates-read, equal_bit-of, neg_gates-read, neg_bits-of, abs_gates-read, abs_bits-of}
+use Rattle.reached_steps.proofs.Plain.{add_gates-read, add_bits-of, add_carry-of, mux_gates-read, equal_gates-read, equal_bit-of, neg_gates-read, neg_bits-of, signed_gates-read, signed_bits-of, abs_gates-read}
 
 -- a division in its course
 pub record ReadsDivision (S : ℕ → Type 0) (g : ℕ) (a b : List Literal) : Type 0 where
@@ -121,25 +121,18 @@ module _ (S : ℕ → Type 0) (one : S 1) where
 
   -- ---- signed operators
 
-  signed_gates-read : (g : ℕ) (c : Literal) (a : List Literal) → HasFrom S g → S c.variable → AreOf S a → EachReads S (signed_gates g c a)
-  signed_gates-read g c a up hc ha =
-      reads-append S (neg_gates g a) (mux_gates c (neg_bits g a) a) (neg_gates-read S one g a up ha) (mux_gates-read S one c (neg_bits g a) a hc (neg_bits-of S one g a up) ha)
-
-  signed_bits-of : (g : ℕ) (a : List Literal) → HasFrom S g → AreOf S (signed_bits g a)
-  signed_bits-of g a up = of-fresh_bits S (length a) (g + length (neg_gates g a)) (behind g (length (neg_gates g a)) up)
-
   magnitudes-read : (g : ℕ) (a b : List Literal) → HasFrom S g → AreOf S a → AreOf S b → ReadsMagnitudes S g a b
   magnitudes-read g a b up ha hb =
       let ga = abs_gates g a in
       let h = g + length ga in
       let gb = abs_gates h b in
       let k = h + length gb in
-      let x = abs_bits g a in
-      let y = abs_bits h b in
+      let x = signed_bits g a in
+      let y = signed_bits h b in
       let uph = behind g (length ga) up in
       let upk = behind h (length gb) uph in
-      let hx = abs_bits-of S one g a up in
-      let hy = abs_bits-of S one h b uph in
+      let hx = signed_bits-of S one g a up in
+      let hy = signed_bits-of S one h b uph in
       let division = division-read k x y upk hx hy in
       record {
         gates = reads-append S ga (gb ++ divide_gates k x y) (abs_gates-read S one g a up ha) (reads-append S gb (divide_gates k x y) (abs_gates-read S one h b uph hb) division.gates);
@@ -170,8 +163,8 @@ module _ (S : ℕ → Type 0) (one : S 1) where
       let all = magnitudes-read g a b up ha hb in
       let h = g + length m.gates in
       let uph = behind g (length m.gates) up in (
-        reads-append S m.gates (signed_gates h (sign_of a) m.remainder) all.gates (signed_gates-read h (sign_of a) m.remainder uph (of-sign S a one ha) all.remainder),
-        signed_bits-of h m.remainder uph,
+        reads-append S m.gates (signed_gates h (sign_of a) m.remainder) all.gates (signed_gates-read S one h (sign_of a) m.remainder uph (of-sign S a one ha) all.remainder),
+        signed_bits-of S one h m.remainder uph,
       )
 
   pub smod_read : (g : ℕ) (a b : List Literal) → HasFrom S g → AreOf S a → AreOf S b → EachReads S (smod_gates g a b) × AreOf S (smod_bits g a b)
@@ -196,10 +189,10 @@ module _ (S : ℕ → Type 0) (one : S 1) where
       let ups = later S y (suc y) (omega arith) upy in
       let sa = of-sign S a one ha in (
         reads-append S m.gates (ws ++ Xor (sign_of a) (sign_of b) ∷ (zs ++ moves ∷ sum)) all.gates
-            (reads-append S ws (Xor (sign_of a) (sign_of b) ∷ (zs ++ moves ∷ sum)) (signed_gates-read h (sign_of a) u uph sa all.remainder) (
+            (reads-append S ws (Xor (sign_of a) (sign_of b) ∷ (zs ++ moves ∷ sum)) (signed_gates-read S one h (sign_of a) u uph sa all.remainder) (
               (sa, of-sign S b one hb),
               reads-append S zs (moves ∷ sum) (equal_gates-read S one u zero (suc x) true_literal upz all.remainder (of-replicate S (length u) false_literal one) one)
-                  ((upx x (omega arith), equal_bit-of S one u zero (suc x) true_literal upz one), sum_gates-read (suc y) w b (positive_of y) ups (signed_bits-of h u uph) hb (upy y (omega arith))),
+                  ((upx x (omega arith), equal_bit-of S one u zero (suc x) true_literal upz one), sum_gates-read (suc y) w b (positive_of y) ups (signed_bits-of S one h u uph) hb (upy y (omega arith))),
             )),
         sum_bits-of (suc y) w b ups,
       )

@@ -7,7 +7,7 @@ use Rattle.cnf_base.specs.Adders.{add_gates, add_bits, add_carry}
 use Rattle.cnf_base.specs.Choices.{mux_gates, equal_gates, equal_bit}
 use Rattle.circ_plain.specs.declared.moves.Direction.{Direction}
 use Rattle.circ_plain.specs.declared.moves.Direction.TheVariants.{Up, Down}
-use Rattle.circ_plain.specs.Signs.{sign_of, neg_gates, neg_bits, abs_gates, abs_bits}
+use Rattle.circ_plain.specs.Signs.{sign_of, neg_gates, neg_bits, signed_gates, signed_bits, abs_gates}
 use Rattle.circ_plain.specs.Orders.{below_gates, below_bit, ult_gates, ult_bit, with_sign, slt_gates, slt_bit}
 use Rattle.circ_plain.specs.Shifts.{stages, moved, stage_gates, stage_bits, any_gates, any_bit, mask_gates, move_gates, move_bits, over_bit, logical_gates, logical_bits, ashr_gates, ashr_bits}
 use Rattle.reached_steps.proofs.Inputs.{AreOf, EachReads, HasFrom, later, of-append, reads-append, of-replicate, of-take, of-drop, of-negated, of-fresh_bits, of-sign}
@@ -64,13 +64,15 @@ module _ (S : ℕ → Type 0) (one : S 1) where
   pub neg_bits-of : (g : ℕ) (a : List Literal) → HasFrom S g → AreOf S (neg_bits g a)
   neg_bits-of g a up = add_bits-of (map negated a) (replicate (length a) false_literal) g up
 
-  pub abs_gates-read : (g : ℕ) (a : List Literal) → HasFrom S g → AreOf S a → EachReads S (abs_gates g a)
-  abs_gates-read g a up h =
-      reads-append S (neg_gates g a) (mux_gates (sign_of a) (neg_bits g a) a) (neg_gates-read g a up h)
-      (mux_gates-read (sign_of a) (neg_bits g a) a (of-sign S a one h) (neg_bits-of g a up) h)
+  pub signed_gates-read : (g : ℕ) (c : Literal) (a : List Literal) → HasFrom S g → S c.variable → AreOf S a → EachReads S (signed_gates g c a)
+  signed_gates-read g c a up hc ha =
+      reads-append S (neg_gates g a) (mux_gates c (neg_bits g a) a) (neg_gates-read g a up ha) (mux_gates-read c (neg_bits g a) a hc (neg_bits-of g a up) ha)
 
-  pub abs_bits-of : (g : ℕ) (a : List Literal) → HasFrom S g → AreOf S (abs_bits g a)
-  abs_bits-of g a up = of-fresh_bits S (length a) (g + length (neg_gates g a)) (later S g (g + length (neg_gates g a)) (omega arith) up)
+  pub signed_bits-of : (g : ℕ) (a : List Literal) → HasFrom S g → AreOf S (signed_bits g a)
+  signed_bits-of g a up = of-fresh_bits S (length a) (g + length (neg_gates g a)) (later S g (g + length (neg_gates g a)) (omega arith) up)
+
+  pub abs_gates-read : (g : ℕ) (a : List Literal) → HasFrom S g → AreOf S a → EachReads S (abs_gates g a)
+  abs_gates-read g a up ha = signed_gates-read g (sign_of a) a up (of-sign S a one ha) ha
 
   -- ---- orders
 

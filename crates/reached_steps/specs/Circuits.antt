@@ -5,7 +5,8 @@ use Rattle.cnf_base.specs.Literals.{Literal}
 use Rattle.cnf_base.specs.Assignments.{AreBelow}
 use Rattle.cnf_base.specs.Gates.{gates_clauses}
 use Rattle.smt_terms.specs.declared.node.Op.{Op}
-use Rattle.bit_blast.specs.Blocks.{Block, built, circuit_of}
+use Rattle.bit_blast.specs.Circuits.{built}
+use Rattle.bit_blast.specs.Blocks.{Block, circuit_of}
 
 -- the variable stands in one of these rows
 abbrev pub IsInRow : List (List Literal) → ℕ → Type 0

@@ -1,7 +1,7 @@
 use Rattle.std.proofs.Common.{◌≡◌, ◌+◌, drop}
 use Rattle.cnf_base.specs.Assignments.{fresh_bits}
 use Rattle.cnf_base.specs.Circuits.{Grows}
-use Rattle.bit_blast.specs.Blocks.{each_gate}
+use Rattle.bit_blast.specs.Circuits.{each_gate}
 use Rattle.bit_blast.proofs.rows.gate_places.Given as goal
 
 -- the gates so far, and those of the rest, are the whole row

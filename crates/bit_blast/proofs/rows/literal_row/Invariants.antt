@@ -1,5 +1,5 @@
 use Rattle.std.proofs.Common.{◌≡◌, ◌++◌, ◌-◌}
-use Rattle.bit_blast.specs.Blocks.{literal_bits}
+use Rattle.bit_blast.specs.Circuits.{literal_bits}
 use Rattle.bit_blast.proofs.rows.literal_row.Given as goal
 
 abbrev pub invariant-loop-place : goal.invariant-loop-place

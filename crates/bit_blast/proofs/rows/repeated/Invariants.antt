@@ -1,5 +1,5 @@
 use Rattle.std.proofs.Common.{◌≡◌, ◌++◌, ◌-◌}
-use Rattle.bit_blast.specs.Blocks.{repeated}
+use Rattle.bit_blast.specs.Circuits.{repeated}
 use Rattle.bit_blast.proofs.rows.repeated.Given as goal
 
 abbrev pub invariant-loop-copy : goal.invariant-loop-copy
