@@ -1,4 +1,4 @@
-//! Worked definitions with parameters, with ample memory.
+//! Worked definitions of functions and of sorts, and terms that are no command's, with ample memory.
 
 ghost use Rattle.std.specs.Prelude.{◌≤◌, ◌^◌};
 ghost use Rattle.smt_build.specs.Names.{AreDeclared};
@@ -7,6 +7,8 @@ use crate::fault::{BuildError, BuildFault};
 use crate::symbols::Symbols;
 use crate::tests::{P, X, declared, no_terms};
 use smt_syntax::command::{Command, SyntaxError, read_command};
+use smt_syntax::span::Span;
+use smt_terms::sort::Sort;
 use smt_terms::terms::Terms;
 use smt_text::chunk::{Chunk, ChunkKind};
 use smt_text::text::Text;
@@ -16,7 +18,25 @@ use std::alloc::Global;
 use std::process::Abort;
 use std::test::Fail;
 
-/// The number of the term that a command asserts; of a definition, how many terms are held then.
+/// What a command that defines gives.
+fn define(
+    alloc: Global,
+    symbols: &mut Symbols,
+    terms: &mut Terms,
+    tokens: &Tokens<'_>,
+    command: &Command,
+) -> Result<(), BuildError>
+    requires { AreDeclared symbols.old.signatures terms.old.nodes }
+    ensures { AreDeclared symbols.new.signatures terms.new.nodes }
+{
+    match command {
+        Command::DefineSort { .. } => symbols.define_sort(alloc, tokens, command),
+        _ => symbols.define(alloc, terms, tokens, command),
+    }
+}
+
+/// The number of the term that a command asserts; of a definition, how many terms are held then. What is no command is read
+/// as a term.
 fn obey(
     alloc: Global,
     symbols: &mut Symbols,
@@ -26,11 +46,18 @@ fn obey(
     requires { AreDeclared symbols.old.signatures terms.old.nodes }
     ensures { AreDeclared symbols.new.signatures terms.new.nodes }
 {
-    let command = read_command(alloc, tokens)?;
+    let command = match read_command(alloc, tokens) {
+        Ok(command) => command,
+        Err(SyntaxError::Fault(_)) => {
+            let end = tokens.as_slice().len();
+            return Ok(symbols.elaborate(alloc, terms, tokens, Span { start: 0, end }));
+        }
+        Err(error) => return Err(error),
+    };
     if let Command::Assert { term } = &command {
         return Ok(symbols.assert_term(alloc, terms, tokens, *term));
     }
-    Ok(match symbols.define(alloc, terms, tokens, &command) {
+    Ok(match define(alloc, symbols, terms, tokens, &command) {
         Ok(()) => Ok(terms.len()),
         Err(error) => Err(error),
     })
@@ -217,6 +244,119 @@ const DEFINED: [(&[u8], u32); 3] = [
     (b"(define-fun k ((w (_ BitVec 8))) (_ BitVec 8) w)", 3),
     (b"(define-fun k ((v Bool)) Bool true)", 4),
 ];
+
+/// Terms that are no command's, each with what it gives behind the first of the definitions above, and with how many terms
+/// are held then.
+const READ: [(&[u8], Result<u32, BuildError>, u32); 8] = [
+    (b"x", Ok(3), 4),
+    (b"(= (inc #x04) #x05)", Ok(6), 7),
+    (b"(let ((a (not p))) (and a a))", Ok(5), 6),
+    (b"(! p :flag)", Ok(3), 4),
+    (b"w", Err(BuildError::Fault(BuildFault::UnknownSymbol)), 3),
+    (
+        b"(= (inc p) w)",
+        Err(BuildError::Fault(BuildFault::WrongSort)),
+        3,
+    ),
+    (
+        b"(and (not p) (! p :named a))",
+        Err(BuildError::Fault(BuildFault::NotSupported)),
+        3,
+    ),
+    (
+        b"#x000000000000000000000000000000000",
+        Err(BuildError::Fault(BuildFault::LiteralTooWide)),
+        3,
+    ),
+];
+
+const BYTE: &[u8] = b"(define-sort Byte () (_ BitVec 8))";
+
+/// Commands behind the definition of a sort, each with what it gives and with how many terms are held then.
+const SORTS: [(&[u8], Result<u32, BuildError>, u32); 12] = [
+    (b"(define-fun f ((v Byte)) Byte (bvadd v x))", Ok(3), 3),
+    (b"(define-fun f ((v Byte)) |Byte| x)", Ok(1), 1),
+    (b"(define-sort Octet () Byte)", Ok(0), 0),
+    (b"(define-sort x () Bool)", Ok(0), 0),
+    (
+        b"(define-fun f ((v Byte)) Byte p)",
+        Err(BuildError::Fault(BuildFault::WrongSort)),
+        0,
+    ),
+    (
+        b"(define-sort |Byte| () w)",
+        Err(BuildError::Fault(BuildFault::Declared)),
+        0,
+    ),
+    (
+        b"(define-sort Bool () w)",
+        Err(BuildError::Fault(BuildFault::Reserved)),
+        0,
+    ),
+    (
+        b"(define-sort Array () w)",
+        Err(BuildError::Fault(BuildFault::Reserved)),
+        0,
+    ),
+    (
+        b"(define-sort bvadd () Byte)",
+        Err(BuildError::Fault(BuildFault::Reserved)),
+        0,
+    ),
+    (
+        b"(define-sort W () Octet)",
+        Err(BuildError::Fault(BuildFault::UnknownSymbol)),
+        0,
+    ),
+    (
+        b"(define-sort W () (_ BitVec 129))",
+        Err(BuildError::Fault(BuildFault::Width)),
+        0,
+    ),
+    (
+        b"(define-sort W () (Array Byte Byte))",
+        Err(BuildError::Fault(BuildFault::NotSupported)),
+        0,
+    ),
+];
+
+#[test]
+fn a_term_is_read_over_the_live_names(rt: HostRuntime) -> Result<(), Fail> {
+    for (text, number, count) in &READ {
+        give(&rt, 100, INC, text, (*number, *count))?;
+    }
+    Ok(())
+}
+
+#[test]
+fn a_name_of_a_sort_stands_for_it(rt: HostRuntime) -> Result<(), Fail> {
+    for (text, number, count) in &SORTS {
+        give(&rt, 100, BYTE, text, (*number, *count))?;
+    }
+    Ok(())
+}
+
+/// A name of a sort is given in a level, and ends with it.
+fn name_sort_in_level(rt: &(impl Abort + AllocGlobal), symbols: &mut Symbols) -> Result<(), Fail> {
+    symbols.push(1)?;
+    let mut terms = no_terms(rt.alloc(), symbols, 0);
+    let defined = done(rt, symbols, &mut terms, BYTE);
+    drop(terms);
+    assert!(rt; defined? == Ok(0));
+    assert!(rt; symbols.defined_sort(b"Byte") == Some(Sort::Word(8)));
+    assert!(rt; symbols.levels() == 1);
+    symbols.pop(1);
+    assert!(rt; symbols.defined_sort(b"Byte").is_none());
+    Ok(())
+}
+
+#[test]
+fn names_of_sorts_last_with_their_level(rt: HostRuntime) -> Result<(), Fail> {
+    let mut symbols = Symbols::new(rt.alloc());
+    let ended = name_sort_in_level(&rt, &mut symbols);
+    drop(symbols);
+    ended
+}
 
 #[test]
 fn a_use_makes_the_body_anew(rt: HostRuntime) -> Result<(), Fail> {

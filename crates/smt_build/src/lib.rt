@@ -14,26 +14,26 @@
 //! `:named`, which are definitions from then on. [`naming::name_of_assertion`] tells the name of the assertion itself.
 #![tactic(auto)]
 
-pub mod assertion;
-pub mod binding;
-pub mod build;
-pub mod declare;
-pub mod define;
+mod assertion;
+mod binding;
+mod build;
+mod declare;
+mod define;
 pub mod definition;
 #[cfg(test)]
 mod definition_tests;
-pub mod elaborate;
+mod elaborate;
 pub mod fault;
 mod grouping;
-pub mod indices;
+mod indices;
 pub mod literal;
 mod making;
 pub mod naming;
-pub mod operators;
-pub mod parameters;
-pub mod reader;
-pub mod scope;
-pub mod sorts;
+mod operators;
+mod parameters;
+mod reader;
+mod scope;
+mod sorts;
 pub mod symbols;
 #[cfg(test)]
 mod tests;

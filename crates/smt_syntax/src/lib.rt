@@ -9,11 +9,11 @@
 
 pub mod command;
 pub mod depth;
-pub mod form;
-pub mod judge;
+mod form;
+mod judge;
 pub mod parts;
-pub mod shape;
+mod shape;
 pub mod span;
 #[cfg(test)]
 mod tests;
-pub mod words;
+mod words;
