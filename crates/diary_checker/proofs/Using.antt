@@ -5,6 +5,7 @@ use Rattle.std.proofs.lemmas.Bool.{cases_lt}
 use Rattle.std.proofs.lemmas.List.{drop_more, drop_all, get_or_default}
 use Rattle.std.proofs.lemmas.List.Elements.{Contains-append_left, Contains-push, Contains-get_or}
 use Rattle.cnf_base.specs.Literals.{Literal, negated}
+use Rattle.cnf_base.specs.Clauses.{no_id}
 use Rattle.cnf_base.specs.declared.clause.ClauseId.{ClauseId}
 use Rattle.cnf_base.proofs.Rows.{take_at}
 use Rattle.hint_chain.specs.Chains.{IsFalse, IsUnit, Lookup}
@@ -45,31 +46,28 @@ given_hint look id h n old new l e g =
 
 -- ---- the last hint with a literal
 
-abbrev pub noone : ClauseId
-noone = record { pos = 0; part = 0 }
-
 pub lasts_none : (look : Lookup) (hints : List ClauseId) (t : Stamps) → ((l : Literal) → number_of t l ≡ 0) → (x : Literal) (j : ℕ) → (j < number_of t x) ↔ StandsFrom look hints j 0 x
 lasts_none look hints t h x j = ((λ lt. let e = h x in absurd (omega arith)), (λ s. absurd (omega (arith, s.2))))
 
-lasts_to : (look : Lookup) (hints : List ClauseId) (k n o : ℕ) (x : Literal) (j : ℕ) → (j < o → StandsFrom look hints j k x) → (HasIn look (get_or hints k noone) x × (n ≡ k + 1)) ⊎ ((¬ (HasIn look (get_or hints k noone) x)) × (n ≡ o)) → j < n → StandsFrom look hints j (k + 1) x
+lasts_to : (look : Lookup) (hints : List ClauseId) (k n o : ℕ) (x : Literal) (j : ℕ) → (j < o → StandsFrom look hints j k x) → (HasIn look (get_or hints k no_id) x × (n ≡ k + 1)) ⊎ ((¬ (HasIn look (get_or hints k no_id) x)) × (n ≡ o)) → j < n → StandsFrom look hints j (k + 1) x
 lasts_to look hints k n o x j old g lt =
     ⊎_elim
     (λ p. (k, (let e = p.1 in omega arith), omega arith, p.0))
     (λ p. let s = old (let e = p.1 in omega arith) in (s.0, s.1, omega (arith, s.2), s.3))
     g
 
-lasts_from : (look : Lookup) (hints : List ClauseId) (k n o : ℕ) (x : Literal) (j : ℕ) → (StandsFrom look hints j k x → j < o) → (HasIn look (get_or hints k noone) x × (n ≡ k + 1)) ⊎ ((¬ (HasIn look (get_or hints k noone) x)) × (n ≡ o)) → StandsFrom look hints j (k + 1) x → j < n
+lasts_from : (look : Lookup) (hints : List ClauseId) (k n o : ℕ) (x : Literal) (j : ℕ) → (StandsFrom look hints j k x → j < o) → (HasIn look (get_or hints k no_id) x × (n ≡ k + 1)) ⊎ ((¬ (HasIn look (get_or hints k no_id) x)) × (n ≡ o)) → StandsFrom look hints j (k + 1) x → j < n
 lasts_from look hints k n o x j old g s =
     ⊎_elim
     (λ p. let e = p.1 in omega (arith, s.1, s.2))
     (λ p. let e = p.1 in
     ⊎_elim
     (λ lt. let f = old (s.0, s.1, lt, s.3) in omega arith)
-    (λ le. let same : s.0 ≡ k = omega (arith, s.2) in absurd (p.0 (subst (λ i. HasIn look (get_or hints i noone) x) same s.3)))
+    (λ le. let same : s.0 ≡ k = omega (arith, s.2) in absurd (p.0 (subst (λ i. HasIn look (get_or hints i no_id) x) same s.3)))
     (cases_lt s.0 k))
     g
 
-pub lasts_step : (look : Lookup) (hints : List ClauseId) (k : ℕ) (t t' : Stamps) → ((x : Literal) (j : ℕ) → (j < number_of t x) ↔ StandsFrom look hints j k x) → ((x : Literal) → IsGiven (HasIn look (get_or hints k noone) x) (k + 1) t t' x) → (x : Literal) (j : ℕ) → (j < number_of t' x) ↔ StandsFrom look hints j (k + 1) x
+pub lasts_step : (look : Lookup) (hints : List ClauseId) (k : ℕ) (t t' : Stamps) → ((x : Literal) (j : ℕ) → (j < number_of t x) ↔ StandsFrom look hints j k x) → ((x : Literal) → IsGiven (HasIn look (get_or hints k no_id) x) (k + 1) t t' x) → (x : Literal) (j : ℕ) → (j < number_of t' x) ↔ StandsFrom look hints j (k + 1) x
 lasts_step look hints k t t' h g x j = (
   lasts_to look hints k (number_of t' x) (number_of t x) x j (h x j).0 (g x),
   lasts_from look hints k (number_of t' x) (number_of t x) x j (h x j).1 (g x),
@@ -89,9 +87,9 @@ drop_contains (x ∷ xs) (suc j) y d c = let r = drop_contains xs j y d c in (su
 
 pub from_in : (look : Lookup) (hints : List ClauseId) (j : ℕ) (l : Literal) → StandsFrom look hints j (length hints) l ↔ StandsIn look (drop j hints) l
 from_in look hints j l = (
-  (λ s. (get_or hints s.0 noone, s.3.0, contains_drop hints j s.0 noone s.1 s.2, s.3.1, s.3.2)),
+  (λ s. (get_or hints s.0 no_id, s.3.0, contains_drop hints j s.0 no_id s.1 s.2, s.3.1, s.3.2)),
   (λ s.
-      let r = drop_contains hints j s.0 noone s.2 in
+      let r = drop_contains hints j s.0 no_id s.2 in
       (r.0, r.1, r.2, subst (λ id. HasIn look id l) (sym r.3) (s.1, s.3, s.4))),
 )
 
@@ -127,15 +125,15 @@ unit_at look id h known (Some l) e m = (h, e, m)
 
 -- ---- each hint is used
 
-two_left : (hints : List ClauseId) (k : ℕ) → k + 1 < length hints → drop k hints ≡ get_or hints k noone ∷ get_or hints (k + 1) noone ∷ drop (k + 1 + 1) hints
-two_left hints k h = drop_more hints k noone (omega arith) ∙ ap (λ t. get_or hints k noone ∷ t) (drop_more hints (k + 1) noone h)
+two_left : (hints : List ClauseId) (k : ℕ) → k + 1 < length hints → drop k hints ≡ get_or hints k no_id ∷ get_or hints (k + 1) no_id ∷ drop (k + 1 + 1) hints
+two_left hints k h = drop_more hints k no_id (omega arith) ∙ ap (λ t. get_or hints k no_id ∷ t) (drop_more hints (k + 1) no_id h)
 
 pub used_last : (look : Lookup) (ts : List Literal) (hints : List ClauseId) (k : ℕ) → k + 1 ≡ length hints → EachIsUsed look ts (drop k hints)
 used_last look ts hints k e =
-    let left : drop k hints ≡ get_or hints k noone ∷ [] = drop_more hints k noone (omega arith) ∙ ap (λ t. get_or hints k noone ∷ t) (drop_all (k + 1) hints (omega arith)) in
+    let left : drop k hints ≡ get_or hints k no_id ∷ [] = drop_more hints k no_id (omega arith) ∙ ap (λ t. get_or hints k no_id ∷ t) (drop_all (k + 1) hints (omega arith)) in
     subst (EachIsUsed look ts) (sym left) tt
 
-pub used_none : (look : Lookup) (ts : List Literal) (hints : List ClauseId) (k : ℕ) → k + 1 < length hints → ((h : List Literal) (l : Literal) → look (get_or hints k noone) ≡ Some h → ¬ (IsUnit ts h l)) → ¬ (EachIsUsed look ts (drop k hints))
+pub used_none : (look : Lookup) (ts : List Literal) (hints : List ClauseId) (k : ℕ) → k + 1 < length hints → ((h : List Literal) (l : Literal) → look (get_or hints k no_id) ≡ Some h → ¬ (IsUnit ts h l)) → ¬ (EachIsUsed look ts (drop k hints))
 used_none look ts hints k lt none u =
     let v = subst (EachIsUsed look ts) (two_left hints k lt) u in
     none v.0 v.1 v.2 v.3
@@ -149,22 +147,22 @@ same_unit look ts id l m h a e u =
     let v = subst (λ hs. IsUnit ts hs m) (same_found (look id) h a.0 e a.1) u in
     only_open ts a.0 l m a.2 v.among v.open_yet
 
-pub used_unused : (look : Lookup) (ts : List Literal) (hints : List ClauseId) (k : ℕ) (l : Literal) → k + 1 < length hints → Adds look ts (get_or hints k noone) l → ¬ (StandsIn look (drop (k + 1) hints) (negated l)) → ¬ (EachIsUsed look ts (drop k hints))
+pub used_unused : (look : Lookup) (ts : List Literal) (hints : List ClauseId) (k : ℕ) (l : Literal) → k + 1 < length hints → Adds look ts (get_or hints k no_id) l → ¬ (StandsIn look (drop (k + 1) hints) (negated l)) → ¬ (EachIsUsed look ts (drop k hints))
 used_unused look ts hints k l lt a without u =
     let v = subst (EachIsUsed look ts) (two_left hints k lt) u in
-    let same = same_unit look ts (get_or hints k noone) l v.1 v.0 a v.2 v.3 in
-    without (subst (λ m. StandsIn look (drop (k + 1) hints) (negated m)) same (subst (λ ids. StandsIn look ids (negated v.1)) (sym (drop_more hints (k + 1) noone lt)) v.4))
+    let same = same_unit look ts (get_or hints k no_id) l v.1 v.0 a v.2 v.3 in
+    without (subst (λ m. StandsIn look (drop (k + 1) hints) (negated m)) same (subst (λ ids. StandsIn look ids (negated v.1)) (sym (drop_more hints (k + 1) no_id lt)) v.4))
 
-pub used_more : (look : Lookup) (ts : List Literal) (hints : List ClauseId) (k : ℕ) (l : Literal) → k + 1 < length hints → Adds look ts (get_or hints k noone) l → StandsIn look (drop (k + 1) hints) (negated l) → EachIsUsed look (ts ++ l ∷ []) (drop (k + 1) hints) → EachIsUsed look ts (drop k hints)
+pub used_more : (look : Lookup) (ts : List Literal) (hints : List ClauseId) (k : ℕ) (l : Literal) → k + 1 < length hints → Adds look ts (get_or hints k no_id) l → StandsIn look (drop (k + 1) hints) (negated l) → EachIsUsed look (ts ++ l ∷ []) (drop (k + 1) hints) → EachIsUsed look ts (drop k hints)
 used_more look ts hints k l lt a stands rest =
-    let more = drop_more hints (k + 1) noone lt in
+    let more = drop_more hints (k + 1) no_id lt in
     let stands' = subst (λ ids. StandsIn look ids (negated l)) more stands in
     let rest' = subst (EachIsUsed look (ts ++ l ∷ [])) more rest in
     subst (EachIsUsed look ts) (sym (two_left hints k lt)) (a.0, l, a.1, a.2, stands', rest')
 
-pub used_rest : (look : Lookup) (ts : List Literal) (hints : List ClauseId) (k : ℕ) (l : Literal) → k + 1 < length hints → Adds look ts (get_or hints k noone) l → EachIsUsed look ts (drop k hints) → EachIsUsed look (ts ++ l ∷ []) (drop (k + 1) hints)
+pub used_rest : (look : Lookup) (ts : List Literal) (hints : List ClauseId) (k : ℕ) (l : Literal) → k + 1 < length hints → Adds look ts (get_or hints k no_id) l → EachIsUsed look ts (drop k hints) → EachIsUsed look (ts ++ l ∷ []) (drop (k + 1) hints)
 used_rest look ts hints k l lt a u =
     let v = subst (EachIsUsed look ts) (two_left hints k lt) u in
-    let same = same_unit look ts (get_or hints k noone) l v.1 v.0 a v.2 v.3 in
-    let rest = subst (λ m. EachIsUsed look (ts ++ m ∷ []) (get_or hints (k + 1) noone ∷ drop (k + 1 + 1) hints)) same v.5 in
-    subst (EachIsUsed look (ts ++ l ∷ [])) (sym (drop_more hints (k + 1) noone lt)) rest
+    let same = same_unit look ts (get_or hints k no_id) l v.1 v.0 a v.2 v.3 in
+    let rest = subst (λ m. EachIsUsed look (ts ++ m ∷ []) (get_or hints (k + 1) no_id ∷ drop (k + 1 + 1) hints)) same v.5 in
+    subst (EachIsUsed look (ts ++ l ∷ [])) (sym (drop_more hints (k + 1) no_id lt)) rest

@@ -1,6 +1,7 @@
 -- Which hints stand where, and which held clauses say as much as another.
 use Rattle.std.specs.Prelude.{◌≡◌, ℕ, ◌<◌, ◌≤◌, ◌↔◌, ◌⊎◌, Bool, true, List, Option, Some, None, Contains, drop, map, slice_index_or}
 use Rattle.cnf_base.specs.Literals.{Literal, negated}
+use Rattle.cnf_base.specs.Clauses.{no_id}
 use Rattle.cnf_base.specs.declared.clause.ClauseId.{ClauseId}
 use Rattle.hint_chain.specs.Chains.{Lookup, HasPair}
 use Rattle.proof_log.specs.Diaries.{StandsIn, EachIsUsed}
@@ -32,7 +33,7 @@ IsGiven There number old new l = (There × (number_of new l ≡ number)) ⊎ ((�
 
 -- one hint from number k on, and before number n, has the literal
 abbrev pub StandsFrom : Lookup → List ClauseId → ℕ → ℕ → Literal → Type 0
-StandsFrom look hints k n l = (i : ℕ) × (k ≤ i) × (i < n) × HasIn look (slice_index_or hints i (record { pos = 0; part = 0 })) l
+StandsFrom look hints k n l = (i : ℕ) × (k ≤ i) × (i < n) × HasIn look (slice_index_or hints i no_id) l
 
 -- ---- what may be put, in two halves
 

@@ -1,4 +1,4 @@
-//! Worked diaries, with ample memory.
+//! Worked diaries, with ample memory. Each test is a table of lines, each with whether it is taken.
 
 ghost use Rattle.std.specs.Prelude.{IfOk};
 ghost use Rattle.proof_log.specs.Stored.{Stands};
@@ -13,6 +13,7 @@ use smt_terms::node::{Node, Op};
 use smt_terms::operator::Operator;
 use smt_terms::terms::Terms;
 use std::alloc::{AllocError, Global};
+use std::process::Abort;
 use std::test::Fail;
 
 // A log, and the terms that it stands over.
@@ -55,91 +56,126 @@ fn chain(
 fn begun(alloc: Global) -> Result<Proof, AllocError>
     ensures { IfOk result (λ p. Stands p.terms.nodes p.log) }
 {
-    let log = Log::new(alloc)?;
     let mut terms = Terms::new(alloc);
-    match terms.make(Node::leaf(alloc, Op::Plain(Operator::False))) {
-        Ok(_) => Ok(Proof { log, terms }),
-        Err(_) => Err(AllocError),
+    let made = terms.make(Node::leaf(alloc, Op::Plain(Operator::False)));
+    match (made, Log::new(alloc)) {
+        (Ok(_), Ok(log)) => Ok(Proof { log, terms }),
+        (_, log) => {
+            drop((log, terms));
+            Err(AllocError)
+        }
     }
 }
 
 // False is asserted: its selector is variable 2, and position 2 has the clause {-2, -1}. Position 3 derives {-2}, twice
 // over with position 4, and position 5 has the clause of position 2 again.
-fn refuted(alloc: Global) -> Result<Proof, AllocError>
-    ensures { IfOk result (λ p. Stands p.terms.nodes p.log) }
+fn refute(proof: &mut Proof, alloc: Global) -> Result<(), AllocError>
+    requires { Stands proof.old.terms.nodes proof.old.log }
+    ensures { Stands proof.new.terms.nodes proof.new.log }
 {
-    let mut proof = begun(alloc)?;
-    step(&mut proof, alloc, Entry::Encode(0))?;
-    step(&mut proof, alloc, Entry::Selector(0, 0))?;
+    step(proof, alloc, Entry::Encode(0))?;
+    step(proof, alloc, Entry::Selector(0, 0))?;
     let negated = Lit::new(2, false);
     let once = Clause::of_one(alloc, negated)?;
-    chain(&mut proof, alloc, once, &[TRUE, IMPLIED])?;
+    chain(proof, alloc, once, &[TRUE, IMPLIED])?;
     let twice = Clause::of_one(alloc, negated)?;
-    chain(&mut proof, alloc, twice, &[TRUE, IMPLIED])?;
+    chain(proof, alloc, twice, &[TRUE, IMPLIED])?;
     let wider = Clause::of_two(alloc, negated, Lit::FALSE)?;
-    chain(&mut proof, alloc, wider, &[IMPLIED])?;
-    Ok(proof)
+    chain(proof, alloc, wider, &[IMPLIED])
 }
 
-// Which of the lines were taken, and whether they spent a budget of 0.
-fn read(
+// The first line that is taken where it is not told so, or is not where it is, counted from 0.
+fn first_other(
+    reader: &mut DiaryReader,
+    log: &Log,
+    lines: &[(DiaryLine, bool)],
+) -> Result<Option<usize>, AllocError> {
+    for at in 0..lines.len() {
+        let (line, taken) = lines[at];
+        if reader.line(log, line)? != taken {
+            return Ok(Some(at));
+        }
+    }
+    Ok(None)
+}
+
+// The same of a diary of this log, and whether the lines spent a budget of 0.
+fn first_other_of(
     alloc: Global,
+    log: &Log,
     given: Lit,
     from: Pos,
-    lines: &[DiaryLine],
-) -> Result<(Vec<bool>, bool), AllocError> {
-    let proof = refuted(alloc)?;
-    let mut reader = DiaryReader::new(alloc, &proof.log, &[given], from)?;
-    let mut taken = Vec::new(alloc);
-    for line in lines {
-        taken.push(reader.line(&proof.log, *line)?)?;
+    lines: &[(DiaryLine, bool)],
+) -> Result<(Option<usize>, bool), AllocError> {
+    let mut reader = DiaryReader::new(alloc, log, &[given], from)?;
+    let other = first_other(&mut reader, log, lines);
+    let spent = reader.is_spent(0);
+    drop(reader);
+    Ok((other?, spent))
+}
+
+// Each of the lines of a diary is taken or is not, as is told, and they spend a budget of 0 or do not.
+fn read(
+    rt: &(impl Abort + AllocGlobal),
+    given: Lit,
+    from: Pos,
+    lines: &[(DiaryLine, bool)],
+    spends: bool,
+) -> Result<(), Fail> {
+    let mut proof = begun(rt.alloc())?;
+    let refuted = refute(&mut proof, rt.alloc());
+    let read = first_other_of(rt.alloc(), &proof.log, given, from, lines);
+    drop(proof);
+    refuted?;
+    let (other, spent) = read?;
+    if let Some(at) = other {
+        panic!(rt; "line {at}");
     }
-    Ok((taken, reader.is_spent(0)))
+    assert!(rt; spent == spends);
+    Ok(())
 }
 
 #[test]
 fn a_good_put_spends_a_budget_of_none(rt: HostRuntime) -> Result<(), Fail> {
-    let (taken, spent) = read(rt.alloc(), Lit::new(2, true), 3, &[DiaryLine::Put(3)])?;
-    assert!(rt; spent);
-    assert_eq!(rt; taken.as_slice(), [true].as_slice());
-    Ok(())
+    read(
+        &rt,
+        Lit::new(2, true),
+        3,
+        &[(DiaryLine::Put(3), true)],
+        true,
+    )
 }
 
 #[test]
 fn a_held_clause_bars_wider_ones(rt: HostRuntime) -> Result<(), Fail> {
     let lines = [
-        DiaryLine::Put(5),
-        DiaryLine::Put(3),
-        DiaryLine::Put(3),
-        DiaryLine::Put(4),
+        (DiaryLine::Put(5), false),
+        (DiaryLine::Put(3), true),
+        (DiaryLine::Put(3), false),
+        (DiaryLine::Put(4), false),
     ];
-    let (taken, _) = read(rt.alloc(), Lit::new(2, true), 3, &lines)?;
-    assert_eq!(rt; taken.as_slice(), [false, true, false, false].as_slice());
-    Ok(())
+    read(&rt, Lit::new(2, true), 3, &lines, true)
 }
 
 #[test]
 fn a_given_literal_bars_its_clauses(rt: HostRuntime) -> Result<(), Fail> {
-    let (taken, spent) = read(rt.alloc(), Lit::new(2, false), 3, &[DiaryLine::Put(3)])?;
-    assert!(rt; !spent);
-    assert_eq!(rt; taken.as_slice(), [false].as_slice());
-    Ok(())
+    read(
+        &rt,
+        Lit::new(2, false),
+        3,
+        &[(DiaryLine::Put(3), false)],
+        false,
+    )
 }
 
 #[test]
 fn hints_are_taken_before_they_are_used(rt: HostRuntime) -> Result<(), Fail> {
     let lines = [
-        DiaryLine::Put(3),
-        DiaryLine::Take(6),
-        DiaryLine::Take(2),
-        DiaryLine::Put(3),
-        DiaryLine::Drop(3),
+        (DiaryLine::Put(3), false),
+        (DiaryLine::Take(6), false),
+        (DiaryLine::Take(2), true),
+        (DiaryLine::Put(3), true),
+        (DiaryLine::Drop(3), false),
     ];
-    let (taken, spent) = read(rt.alloc(), Lit::new(2, true), 2, &lines)?;
-    assert!(rt; spent);
-    assert_eq!(rt;
-        taken.as_slice(),
-        [false, false, true, true, false].as_slice()
-    );
-    Ok(())
+    read(&rt, Lit::new(2, true), 2, &lines, true)
 }

@@ -1,10 +1,10 @@
 -- An assignment that makes the clauses of the steps of some terms true gives these terms the bits of their values.
-use Rattle.std.proofs.Common.{◌≡◌, ℕ, zero, suc, ◌+◌, ◌<◌, Bool, true, false, not, ◌||◌, List, [], ◌∷◌, ◌++◌, length, map, Option, Some, None, refl, sym, ap, ◌∙◌, subst, ⊎_elim, arith}
-use Rattle.std.specs.Prelude.{◌⊎◌, Contains, slice_get}
+use Rattle.std.proofs.Common.{◌≡◌, ℕ, zero, suc, ◌<◌, Bool, true, false, not, ◌||◌, List, [], ◌∷◌, ◌++◌, length, map, Option, Some, None, refl, sym, ap, ◌∙◌, subst, ⊎_elim, arith}
+use Rattle.std.specs.Prelude.{Contains, slice_get}
 use Rattle.std.specs.List.{AllByRecursion}
 use Rattle.std.proofs.lemmas.List.Elements.{Contains-append_right}
 use Rattle.cnf_base.specs.Literals.{Literal, positive_of}
-use Rattle.cnf_base.specs.Clauses.{lit_true, clause_true, all_true}
+use Rattle.cnf_base.specs.Clauses.{no_id, lit_true, clause_true, all_true}
 use Rattle.cnf_base.specs.Gates.{gates_clauses}
 use Rattle.cnf_base.specs.declared.clause.ClauseId.{ClauseId}
 use Rattle.cnf_base.proofs.Lists.{slice_get-push}
@@ -99,7 +99,7 @@ module _ (M : Interpretation) (nodes : List Node) (all : IsTermList nodes) (reac
 
   one : v 1 ≡ true
   one =
-      let e : (v 1 || false) ≡ true = h.first 0 _ (ap (λ x. clause_at x (record { pos = 0; part = 0 })) kept.clauses ∙ (steps_hold nodes start log.entries kept.steps).clauses (record { pos = 0; part = 0 }) _ refl) in
+      let e : (v 1 || false) ≡ true = h.first 0 _ (ap (λ x. clause_at x no_id) kept.clauses ∙ (steps_hold nodes start log.entries kept.steps).clauses no_id _ refl) in
       holds (v 1) e
     where
       holds : (b : Bool) → (b || false) ≡ true → b ≡ true

@@ -21,7 +21,8 @@ use Rattle.smt_terms.specs.Nodes.{node_at}
 use Rattle.smt_terms.specs.Terms.{IsTermList, op_rank, sort_of}
 use Rattle.smt_terms.specs.Values.{Value, VBool, VWord, HasSort, Interpretation, is_true, value}
 use Rattle.smt_terms.proofs.Typing.{value_is, typed}
-use Rattle.bit_blast.specs.Blocks.{Block, with_first, all_bits, block_over, block_of, built, circuit_of}
+use Rattle.bit_blast.specs.Circuits.{built}
+use Rattle.bit_blast.specs.Blocks.{Block, with_first, all_bits, block_over, block_of, circuit_of}
 use Rattle.bit_blast.specs.Meanings.{AreBitsOf, EachIsBits}
 use Rattle.bit_blast.proofs.Correct.{word_sort_is}
 use Rattle.bit_blast.proofs.Table.{op_correct}

@@ -5,6 +5,7 @@ use Rattle.std.proofs.lemmas.List.Folds.{list_all-append}
 use Rattle.std.specs.Prelude.{nat_lt}
 use Rattle.std.specs.Fmt.{decimal}
 use Rattle.std.specs.List.{list_all, AllByRecursion}
+use Rattle.cnf_base.proofs.Lists.{each_append}
 use Rattle.smt_terms.specs.declared.operator.Operator.{Operator}
 use Rattle.smt_terms.specs.declared.operator.Operator.TheVariants as plain
 use Rattle.proof_text.specs.Operators.{name_of}
@@ -28,10 +29,6 @@ is_clear w = list_all (λ b. nat_lt 32 b) w
 
 abbrev pub AreClear : List (List ℕ) → Type 0
 AreClear ws = AllByRecursion (λ w. is_clear w ≡ true) ws
-
-pub all_append : {X : Type 0} (P : X → Type 0) (xs ys : List X) → AllByRecursion P xs → AllByRecursion P ys → AllByRecursion P (xs ++ ys)
-all_append P [] ys h k = k
-all_append P (x ∷ xs) ys h k = (h.0, all_append P xs ys h.1 k)
 
 all_map : {X Y : Type 0} (P : X → Type 0) (Q : Y → Type 0) (f : X → Y) → ((x : X) → P x → Q (f x)) → (xs : List X) → AllByRecursion P xs → AllByRecursion Q (map f xs)
 all_map P Q f h [] all = tt
@@ -127,13 +124,13 @@ head_clear (Apply i) k = (refl, (number_clear i k, tt))
 
 pub words_clear : (l : Line) → IsLine l → AreClear (words_of l)
 words_clear (line.Header c b) h = (refl, (refl, (refl, (number_clear c h.0, (refl, (number_clear b h.1, tt))))))
-words_clear (line.Term head args) h = (refl, all_append (λ w. is_clear w ≡ true) (head_words head) (map decimal args) (head_clear head h.0) (all_map IsNumber (λ w. is_clear w ≡ true) decimal number_clear args h.1))
+words_clear (line.Term head args) h = (refl, each_append (λ w. is_clear w ≡ true) (head_words head) (map decimal args) (head_clear head h.0) (all_map IsNumber (λ w. is_clear w ≡ true) decimal number_clear args h.1))
 words_clear (line.Leaf n) h = (refl, (number_clear n h, tt))
 words_clear (line.Encode n) h = (refl, (number_clear n h, tt))
 words_clear (line.Selector n) h = (refl, (number_clear n h, tt))
 words_clear (line.Chain clause hints) h = (
   refl,
-  all_append (λ w. is_clear w ≡ true) (map literal_text clause) ((48 ∷ []) ∷ map hint_text hints) (all_map IsLiteral (λ w. is_clear w ≡ true) literal_text literal_clear clause h.0)
+  each_append (λ w. is_clear w ≡ true) (map literal_text clause) ((48 ∷ []) ∷ map hint_text hints) (all_map IsLiteral (λ w. is_clear w ≡ true) literal_text literal_clear clause h.0)
       (refl, all_map IsHint (λ w. is_clear w ≡ true) hint_text hint_clear hints h.1),
 )
 words_clear (line.Sat n) h = (refl, (number_clear n h, tt))

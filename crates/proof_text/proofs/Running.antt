@@ -8,7 +8,7 @@ use Rattle.proof_text.specs.Lines.{joined, words_of, line_text, IsLine}
 use Rattle.smt_text.specs.Framing.{Held}
 use Rattle.proof_text.specs.Held.{without_feed, IsNext, IsFirstFault}
 use Rattle.proof_text.specs.declared.line.Line.{Line}
-use Rattle.proof_text.proofs.Clear.{all_append}
+use Rattle.cnf_base.proofs.Lists.{each_append}
 use Rattle.proof_text.proofs.Exact.{line_free, line_once}
 
 -- these lines were given of the text, and the rest of it is held
@@ -33,7 +33,7 @@ read_given text t h g out more l r n a e =
     let held : h.bytes ≡ line_text l ++ g.bytes = n.bytes ∙ sym (append_assoc t (10 ∷ []) g.bytes) ∙ ap (λ x. x ++ g.bytes) a.1 in
     rw e (record {
       printed = r.printed ∙ rw (front, held) (sym (append_assoc (flat_map line_text out) (line_text l) g.bytes));
-      each = all_append IsLine out (l ∷ []) r.each (a.0, tt);
+      each = each_append IsLine out (l ∷ []) r.each (a.0, tt);
       count = let s = length-append out (l ∷ []) in let c = r.count in let d = n.line in omega arith;
     })
 

@@ -1,6 +1,6 @@
 //! A search by conflict-driven clause learning over `cdcl_core` and `cdcl_learn`.
 
-ghost use Rattle.std.specs.Prelude.{ℕ, ◌≡◌, ◌≢◌, ◌+◌, ◌<◌, ◌≤◌, OnOk, Some, false, slice_get};
+ghost use Rattle.std.specs.Prelude.{ℕ, ◌≡◌, ◌≢◌, ◌+◌, ◌<◌, OnOk, Some, false, slice_get};
 ghost use Rattle.cnf_base.specs.Literals.{Literal};
 ghost use Rattle.cdcl_core.specs.Search.{literals_of, level_of, IsConflict};
 ghost use Rattle.cdcl_core.specs.State.{IsSettled};

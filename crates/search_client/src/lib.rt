@@ -6,4 +6,8 @@
 #![tactic(auto)]
 
 #[cfg(test)]
+mod assertions;
+#[cfg(test)]
+mod runs;
+#[cfg(test)]
 mod tests;

@@ -1,6 +1,6 @@
 use Rattle.std.proofs.Common.{arith}
 use Rattle.cnf_base.proofs.Agreeing.{AreBelow-more}
-use Rattle.search_client.proofs.tests.is_chain.Goals as goal
+use Rattle.search_client.proofs.assertions.is_chain.Goals as goal
 
 pub follows-requires-clause-rooms : goal.follows-requires-clause-rooms
 follows-requires-clause-rooms c = λ id h e.

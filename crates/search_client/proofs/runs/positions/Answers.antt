@@ -1,7 +1,7 @@
 use Rattle.std.proofs.Common.{ℕ, List, ⊎_elim, subst, arith}
 use Rattle.std.specs.Prelude.{Contains}
 use Rattle.std.proofs.lemmas.List.Elements.{Contains-push_cases}
-use Rattle.search_client.proofs.tests.positions.Goals as goal
+use Rattle.search_client.proofs.runs.positions.Goals as goal
 
 pub positions-preserved : goal.positions-preserved
 positions-preserved c = λ p k.

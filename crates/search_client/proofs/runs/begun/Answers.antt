@@ -1,6 +1,6 @@
 use Rattle.std.proofs.Common.{ℕ, List, ◌∙◌, subst, arith}
 use Rattle.std.specs.Prelude.{Contains}
-use Rattle.search_client.proofs.tests.begun.Goals as goal
+use Rattle.search_client.proofs.runs.begun.Goals as goal
 
 pub new-requires-2-clause-known : goal.new-requires-2-clause-known
 new-requires-2-clause-known g c = λ p k. c.requires.known p (c.in_ok-positions.ensures p (subst (λ (ps : List ℕ). Contains ps p) c.as_slice.ensures.value k))

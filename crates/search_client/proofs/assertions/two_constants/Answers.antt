@@ -7,7 +7,7 @@ use Rattle.smt_terms.specs.declared.node.Node.{Node}
 use Rattle.smt_terms.specs.declared.fault.MakeFault.{MakeFault}
 use Rattle.smt_terms.specs.Nodes.{leaf}
 use Rattle.smt_terms.specs.Terms.{TermsValue, Agrees, signature_of, constant_signature, no_terms, make}
-use Rattle.search_client.proofs.tests.two_constants.Goals as goal
+use Rattle.search_client.proofs.assertions.two_constants.Goals as goal
 
 -- one term agrees with another of the same signature
 agrees_one : (n : Node) (op : Op) → signature_of n.op ≡ constant_signature sort.Bool → signature_of op ≡ constant_signature sort.Bool → Agrees (n ∷ []) op
