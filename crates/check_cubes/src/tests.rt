@@ -1,7 +1,11 @@
 //! Worked limits and cubes, with ample memory.
 
-use crate::{Limits, cube_literals};
-use cnf_base::Lit;
+ghost use Rattle.proof_log.specs.Stored.{Stands};
+
+use crate::{Limits, cube_literals, cube_variables, search};
+use cnf_base::{Lit, Pos};
+use proof_log::Log;
+use script_state::state::State;
 use std::alloc::{AllocError, Global};
 use std::test::Fail;
 
@@ -24,6 +28,56 @@ fn two_variables_have_four_cubes(rt: HostRuntime) -> Result<(), Fail> {
     assert!(rt; has_cube(alloc, 2, Some([a, b.negated()]))?);
     assert!(rt; has_cube(alloc, 3, Some([a.negated(), b.negated()]))?);
     assert!(rt; has_cube(alloc, 4, None)?);
+    Ok(())
+}
+
+const TWO: Limits = Limits {
+    cubes: 2,
+    budget: 5,
+};
+
+// How many literals the search of a cube takes as true; none where it may not start.
+fn taken(
+    alloc: Global,
+    state: &State,
+    log: &Log,
+    cube: u64,
+    start: Pos,
+) -> Result<Option<usize>, AllocError>
+    requires { Stands state.now.terms.nodes log.now }
+{
+    let given = search(alloc, state, log, TWO, cube, start)?;
+    Ok(given.map(|given| given.len()))
+}
+
+// Whether there is no variable to split, and one search of one cube, which takes nothing as true.
+fn has_one_cube(alloc: Global, state: &State, log: &Log) -> Result<bool, AllocError>
+    requires { Stands state.now.terms.nodes log.now }
+{
+    let variables = cube_variables(alloc, state, log, TWO)?;
+    Ok(
+        variables.is_empty()
+            && taken(alloc, state, log, 0, 1)? == Some(0)
+            && taken(alloc, state, log, 0, 2)?.is_none()
+            && taken(alloc, state, log, 1, 1)?.is_none(),
+    )
+}
+
+// The same before any command.
+fn nothing_has_one_cube(alloc: Global) -> Result<bool, AllocError> {
+    let state = State::new(alloc);
+    let Ok(log) = Log::new(alloc) else {
+        drop(state);
+        return Err(AllocError);
+    };
+    let told = has_one_cube(alloc, &state, &log);
+    drop((state, log));
+    told
+}
+
+#[test]
+fn a_check_of_nothing_has_one_cube(rt: HostRuntime) -> Result<(), Fail> {
+    assert!(rt; nothing_has_one_cube(rt.alloc())?);
     Ok(())
 }
 

@@ -129,6 +129,28 @@ fn a_replay_leaves_who_has_which_cube(rt: HostRuntime) -> Result<(), Fail> {
     Ok(())
 }
 
+// A copy of the event in which a pass claims a cube.
+fn copied(alloc: Global, law: &HubLaw<'_>, pass: u32) -> Result<Event, AllocError> {
+    let claim = Event {
+        pass,
+        call: Call::Claim,
+    };
+    match law.copy(alloc, &claim) {
+        Ok(copy) => Ok(copy),
+        Err(_) => Err(AllocError),
+    }
+}
+
+#[test]
+fn a_copied_event_is_that_of_its_pass(rt: HostRuntime) -> Result<(), Fail> {
+    let alloc = rt.alloc();
+    let terms = Terms::new(alloc);
+    let law = opened(alloc, &terms)?;
+    let copy = copied(alloc, &law, 3)?;
+    assert!(rt; copy.pass == 3 && matches!(copy.call, Call::Claim));
+    Ok(())
+}
+
 #[test]
 fn a_law_tells_what_it_was_made_of(rt: HostRuntime) -> Result<(), Fail> {
     let alloc = rt.alloc();

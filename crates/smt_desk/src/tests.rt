@@ -7,6 +7,10 @@ fn read_one<S: Source>(source: &mut S, buf: &mut [u8]) -> Result<usize, Failed> 
     source.read(buf)
 }
 
+fn write_one<K: Sink>(sink: &mut K, piece: &[u8]) -> Result<usize, Failed> {
+    sink.write(piece)
+}
+
 #[test]
 fn a_source_gives_pieces_and_fails_at_its_call(rt: HostRuntime) {
     let mut source = MemSource::new(b"hello", 3, &[1]);
@@ -25,6 +29,15 @@ fn a_sink_takes_all_in_pieces(rt: HostRuntime) {
     assert_eq!(rt; write_whole(&mut sink, b"hello"), Ok(()));
     assert!(rt; sink.bytes() == b"hello".as_slice());
     assert!(rt; sink.into_bytes().as_slice() == b"hello".as_slice());
+}
+
+#[test]
+fn a_sink_takes_a_piece_and_fails_at_its_call(rt: HostRuntime) {
+    let mut sink = MemSink::new(rt.alloc(), 2, &[1]);
+    assert_eq!(rt; write_one(&mut sink, b"hello"), Ok(2));
+    assert_eq!(rt; write_one(&mut sink, b"llo"), Err(Failed));
+    assert_eq!(rt; write_one(&mut sink, b"llo"), Ok(2));
+    assert!(rt; sink.bytes() == b"hell".as_slice());
 }
 
 #[test]

@@ -73,6 +73,7 @@ fn a_table_gives_its_rows_and_elsewhere_its_default(rt: HostRuntime) -> Result<(
     table.set(Scalars::of(rt.alloc(), &args)?, Scalar::Bool(true))?;
     assert!(rt; table.at(&args) == Scalar::Bool(true));
     assert!(rt; table.at(&[Scalar::Word(byte(1)), Scalar::Bool(false)]) == Scalar::Bool(false));
+    assert!(rt; table.default() == Scalar::Bool(false) && table.rows().len() == 1);
     let mut interp = Interp::new(rt.alloc());
     interp.set(0, Value::Fun(table))?;
     assert!(rt; interp.call(0, Sort::Bool, &args) == Scalar::Bool(true));
