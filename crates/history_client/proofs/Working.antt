@@ -1,9 +1,11 @@
 -- Lists of workers, and passes that are merged one after another.
-use Rattle.std.proofs.Common.{◌≡◌, ℕ, ◌+◌, ◌<◌, ◌≤◌, ◌&&◌, IsTrue, Bool, true, false, List, [], ◌∷◌, ◌++◌, length, get_or, sym, ap, ◌∙◌, subst, arith, append_assoc, length-append}
+use Rattle.std.proofs.Common.{◌≡◌, ℕ, ◌+◌, ◌-◌, ◌<◌, ◌≤◌, ◌==◌, ◌&&◌, IsTrue, Bool, true, false, List, [], ◌∷◌, ◌++◌, length, drop, get_or, sym, ap, ◌∙◌, subst, arith, append_assoc, length-append}
 use mathlib.Core.Logic.{dite}
 use native.Mathlib.Decide.{ℕ_discrete}
 use Rattle.std.specs.List.{AllByRecursion}
-use Rattle.std.proofs.lemmas.List.{get_or_append_left}
+use Rattle.std.proofs.lemmas.Bool.{eqb-true}
+use Rattle.std.proofs.lemmas.List.{get_or_append_left, length-drop}
+use Rattle.shared_history.specs.Events.{StartsWith}
 use Rattle.std.proofs.Math.Seq.{get_or-append_seam}
 use Rattle.history_client.specs.declared.worker.Task.{Task}
 use Rattle.history_client.specs.declared.worker.Worker.{Worker}
@@ -74,3 +76,12 @@ gathered hist tasks ws left w n m done old new is count less each merged before 
     let mine : w.pass.mine ≡ notes (k + 1) t.topic t.times = of_done w.done _ both.1 here.2 in
     (old, w.pass.ended, merged ∙ (λ i. old ++ (here.1 i, mine i) ∷ w.pass.ended)))
     (λ other. subst (λ l. IsOneOf l (k + 1, notes (k + 1) t.topic t.times)) (sym merged) (still_one_of old ((w.pass.number, w.pass.mine) ∷ w.pass.ended) (k + 1, notes (k + 1) t.topic t.times) (before both.0 k d (omega arith) near)))
+
+-- ---- reading
+
+-- where nothing was read the pass has got what it had got
+pub nothing_new : {E : Type 0} → (got now : ℕ) (seen more events : List E) → StartsWith more seen → events ≡ drop got more → now ≡ length more → got ≤ length seen → (length events == 0) ≡ true → now ≡ got
+nothing_new got now seen more events (rest, starts) is now_is within none =
+    let long : length more ≡ length seen + length rest = ap length starts ∙ length-append seen rest in
+    let left : length more - got ≡ 0 = sym (length-drop got more) ∙ ap length (sym is) ∙ eqb-true (length events) 0 none in
+    omega arith

@@ -1,5 +1,5 @@
 //! A pass at work in a thread of its own.
-ghost use Rattle.std.specs.Prelude.{◌≡◌, ◌<◌, ◌++◌, length, IfSome};
+ghost use Rattle.std.specs.Prelude.{◌≡◌, ◌<◌, ◌++◌, length, drop, IfSome};
 ghost use Rattle.std.specs.Bool.{OnTrue};
 ghost use Rattle.shared_history.specs.Known.{IsPassOf};
 ghost use Rattle.history_client.specs.Pools.{notes};
@@ -53,12 +53,17 @@ impl<'h, 'a> Worker<'h, 'a> {
     }
 
     /// Reads until there are entries that the pass has not got. `None` is want of memory.
+    #[tactic(auto, using(crate::proofs::Working::nothing_new))]
     pub fn wait_and_read<R: Wait>(&mut self, rt: &R, alloc: Global) -> Option<Pieces<Event>>
-        ensures same { (self.new.hist.now ≡ self.old.hist.now) × (self.new.pass.number ≡ self.old.pass.number) × (self.new.pass.mine ≡ self.old.pass.mine) }
-        ensures events { IfSome result (λ events. (0 < length events) × (self.new.pass.got ≡ length self.new.pass.seen)) }
+        ensures same { (self.new.hist.now ≡ self.old.hist.now) × (self.new.pass.number ≡ self.old.pass.number) × (self.new.pass.mine ≡ self.old.pass.mine) × (self.new.task ≡ self.old.task) × (self.new.done ≡ self.old.done) }
+        ensures events { IfSome result (λ events. (0 < length events) × (events ≡ drop self.old.pass.got self.new.pass.seen) × (self.new.pass.got ≡ length self.new.pass.seen)) }
     {
+        // Tells that the pass has seen what it has got.
+        let _got = self.pass.got();
         for _ in rt.forever() {
-            let events = self.hist.read(rt, alloc, &mut self.pass).ok()?;
+            let Ok(events) = self.hist.read(rt, alloc, &mut self.pass) else {
+                return None;
+            };
             if !events.is_empty() {
                 return Some(events);
             }
@@ -73,8 +78,8 @@ impl<'h, 'a> Worker<'h, 'a> {
         rt: &R,
         alloc: Global,
     ) -> (Worker<'h, 'a>, Option<Pieces<Event>>)
-        ensures same { (result.0.hist.now ≡ self.entry.hist.now) × (result.0.pass.number ≡ self.entry.pass.number) × (result.0.pass.mine ≡ self.entry.pass.mine) }
-        ensures events { IfSome result.1 (λ events. (0 < length events) × (result.0.pass.got ≡ length result.0.pass.seen)) }
+        ensures same { (result.0.hist.now ≡ self.entry.hist.now) × (result.0.pass.number ≡ self.entry.pass.number) × (result.0.pass.mine ≡ self.entry.pass.mine) × (result.0.task ≡ self.entry.task) × (result.0.done ≡ self.entry.done) }
+        ensures events { IfSome result.1 (λ events. (0 < length events) × (events ≡ drop self.entry.pass.got result.0.pass.seen) × (result.0.pass.got ≡ length result.0.pass.seen)) }
     {
         let events = self.wait_and_read(rt, alloc);
         (self, events)
