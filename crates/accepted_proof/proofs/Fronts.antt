@@ -5,7 +5,7 @@ use Rattle.std.proofs.lemmas.Option.{some_pair_parts}
 use Rattle.smt_text.specs.declared.chunk.Chunk.{Chunk}
 use Rattle.smt_text.specs.Framing.{Held, first_chunk, last_chunk}
 use Rattle.smt_text.specs.Script.{AreChunks, Begins}
-use Rattle.smt_text.proofs.Cuts.{AreChunks-one}
+use Rattle.smt_text.proofs.Cuts.{AreCut-one}
 use Rattle.accepted_proof.specs.Accepted.{IsFront}
 
 -- ---- fewer of them
@@ -73,7 +73,7 @@ begins_within_all text cs es rest b a =
 -- each front is one of all
 pub front_of_all : (text : List ℕ) (cs es : List Chunk) → IsFront text cs → AreChunks text es → IsMore cs es
 front_of_all text cs es (inl b) a = begins_within_all text cs es b.0 b.1 a
-front_of_all text cs es (inr c) a = ([], AreChunks-one text es cs a c ∙ sym (append-nil cs))
+front_of_all text cs es (inr c) a = ([], AreCut-one (record { line = 1; bytes = text }) es cs a c ∙ sym (append-nil cs))
 
 -- of two fronts the one is a front of the other
 pub front_of_front : (text : List ℕ) (cs es : List Chunk) → IsFront text cs → IsFront text es → IsMore cs es ⊎ IsMore es cs

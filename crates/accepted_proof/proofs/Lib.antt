@@ -8,6 +8,7 @@ pub mod Reading
 pub mod Settling
 pub mod Once
 pub mod Following
+pub mod Remaining
 pub mod Completing
 pub mod Good
 -- Lemmas of the law on split variables.

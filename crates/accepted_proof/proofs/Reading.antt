@@ -4,7 +4,7 @@ use Rattle.std.specs.Prelude.{◌⊎◌, ◌||◌}
 use Rattle.std.specs.List.{list_any}
 use Rattle.smt_text.specs.declared.chunk.Chunk.{Chunk}
 use Rattle.smt_text.specs.Script.{AreChunks}
-use Rattle.smt_text.proofs.Cuts.{AreChunks-one}
+use Rattle.smt_text.proofs.Cuts.{AreCut-one}
 use Rattle.script_state.specs.Readings.{Reading}
 use Rattle.script_state.specs.Steps.{ends}
 use Rattle.script_state.proofs.Deciding.{reads_one_way}
@@ -51,7 +51,7 @@ pub accepted_read_one : (limits bounds : Limits) (script proof other : List ℕ)
 accepted_read_one limits bounds script proof other ts us a b = by_cut a.cut b.cut
   where
     by_cut : AreAll script a.chunks ts → AreAll script b.chunks us → readings_of ts ≡ readings_of us
-    by_cut (inl x) (inl y) = read_one b.chunks ts us (subst (λ cs. AreRead cs ts) (AreChunks-one script a.chunks b.chunks x y) a.read) b.read
+    by_cut (inl x) (inl y) = read_one b.chunks ts us (subst (λ cs. AreRead cs ts) (AreCut-one (record { line = 1; bytes = script }) a.chunks b.chunks x y) a.read) b.read
     by_cut (inl x) (inr y) = sym (read_within b.chunks a.chunks us ts (front_of_all script b.chunks a.chunks y.1 x) b.read a.read y.0 b.last a.last)
     by_cut (inr x) (inl y) = read_within a.chunks b.chunks ts us (front_of_all script a.chunks b.chunks x.1 y) a.read b.read x.0 a.last b.last
     by_cut (inr x) (inr y) = elim (front_of_front script a.chunks b.chunks x.1 y.1) [

@@ -14,7 +14,7 @@ use Rattle.smt_values.specs.declared.value.Value.{Value}
 use Rattle.smt_values.specs.Held.{set_for, constant_of, function_of, Suits}
 use Rattle.smt_values.specs.Held as set
 use Rattle.smt_eval.specs.Evaluated.{AreSuited, IsSuited}
-use Rattle.script_state.specs.Plain.{is_plain_sort}
+use Rattle.smt_terms.specs.Ranks as ranks
 use Rattle.script_state.specs.States.{StateValue, IsState, IsPlainConstant}
 use Rattle.proof_text.specs.Records.{binary}
 use Rattle.accepted_proof.specs.Models.{value_for, interpretation_of}
@@ -33,7 +33,7 @@ values_more values k n p old new lt e here before after d =
 pub same_interpretation : (held : List (Option Value)) (values : List (ℕ × Value)) → ((d : ℕ) → set_for held d ≡ value_for values d) → set.interpretation_of held ≡ interpretation_of values
 same_interpretation held values h = λ i. record { constants = λ d. constant_of (h d i); functions = λ d. function_of (h d i) }
 
-suits_plain : (s : Sort) (v : Option Value) → is_plain_sort s ≡ true → Suits s v
+suits_plain : (s : Sort) (v : Option Value) → ranks.is_plain s ≡ true → Suits s v
 suits_plain sort.Bool v e = tt
 suits_plain (sort.Word n) v e = tt
 suits_plain (sort.Array n m) v e = let f : ⊥ = cc in absurd f

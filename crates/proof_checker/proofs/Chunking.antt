@@ -5,9 +5,8 @@ use Rattle.smt_text.specs.declared.chunk.Chunk.{Chunk}
 use Rattle.smt_text.specs.Search.{stop_at}
 use Rattle.smt_text.specs.Chunks.{first_cut}
 use Rattle.smt_text.specs.Framing.{Held, first_chunk, last_chunk, and_more}
-use Rattle.smt_text.specs.Script.{Begins}
-use Rattle.smt_text.proofs.Cuts.{first_chunk-append, first_chunk_shrinks, one_cut}
-use Rattle.proof_checker.specs.Checked.{AreCut}
+use Rattle.smt_text.specs.Script.{Begins, AreCut}
+use Rattle.smt_text.proofs.Cuts.{first_chunk-append, first_chunk_shrinks}
 
 pub more_none : (h : Held) (more : List ℕ) → more ≡ [] → and_more h more ≡ h
 more_none h more e = (λ i. record { line = h.line; bytes = (ap (λ x. h.bytes ++ x) e ∙ append-nil h.bytes) i })
@@ -63,14 +62,7 @@ mutual
 pub cut_there : (h : Held) → (cs : List Chunk) × AreCut h cs
 cut_there h = cut_by (length h.bytes) h (first_chunk h) (omega arith) refl
 
--- ---- and in one way
-
-pub cut_one : (h : Held) (cs es : List Chunk) → AreCut h cs → AreCut h es → cs ≡ es
-cut_one h cs es a b =
-    let same = one_cut h a.whole b.whole a.rest b.rest a.begins a.ends b.begins b.ends in
-    a.all ∙ ap (λ xs. xs ++ option_to_list (last_chunk a.rest)) same.0 ∙ ap (λ r. b.whole ++ option_to_list (last_chunk r)) same.1 ∙ sym b.all
-
--- chunks, and those behind them
+-- ---- chunks, and those behind them
 pub cut_behind : (h : Held) (cs behind : List Chunk) (rest : Held) → Begins h cs rest → AreCut rest behind → AreCut h (cs ++ behind)
 cut_behind h [] behind rest b k = subst (λ (x : Held). AreCut x behind) b k
 cut_behind h (c ∷ cs) behind rest b k =

@@ -5,6 +5,8 @@ use Rattle.std.specs.Result.{result_err}
 use Rattle.std.specs.List.{list_any}
 use Rattle.smt_text.specs.declared.chunk.Chunk.{Chunk}
 use Rattle.smt_text.specs.Framing.{Held, and_more}
+use Rattle.smt_text.specs.Script.{AreCut}
+use Rattle.smt_text.proofs.Cuts.{AreCut-one}
 use Rattle.script_state.specs.declared.answer.Verdict.{Verdict}
 use Rattle.script_state.specs.Readings.{ReadsAs}
 use Rattle.script_state.specs.Steps.{ends}
@@ -14,7 +16,7 @@ use Rattle.accepted_proof.specs.Searching.{Limits}
 use Rattle.accepted_proof.specs.Judged.{Judging, no_judging, commanded, is_idle, ending, Moves, IsHeader, bad_header, ReadEach}
 use Rattle.accepted_proof.proofs.Following.{reach_here}
 use Rattle.proof_checker.specs.Checkers.{Says, CheckerValue, no_records, judged_so, GoesTo, answer_by, at_end}
-use Rattle.proof_checker.specs.Checked.{shown_at, AreCut, AreLines, Tells, IsTold}
+use Rattle.proof_checker.specs.Checked.{shown_at, AreLines, Tells, IsTold}
 use Rattle.proof_checker.specs.Checkings.{MayCome, to_be_done, told_from, IsJudgedFrom, AreToCome, Keeps, verdicts_by, Concludes, held_by, IsSameScript, IsSameProof, TakesLine, TakesChunk, IsProofAtEnd, IsScriptAtEnd, IsLeft, HasNoCommand, IsAtLine, Stops, Advances}
 use Rattle.proof_checker.specs.declared.inputs.Inputs.{Inputs}
 use Rattle.proof_checker.specs.declared.checking.Checking.{Checking}
@@ -24,7 +26,7 @@ use Rattle.proof_checker.specs.declared.checking.Progress.TheVariants as progres
 use Rattle.proof_checker.specs.declared.checking.Step.{Step}
 use Rattle.proof_checker.specs.declared.checking.Step.TheVariants as step
 use Rattle.proof_checker.proofs.Splits.{lines_there}
-use Rattle.proof_checker.proofs.Chunking.{more_none, cut_there, cut_one}
+use Rattle.proof_checker.proofs.Chunking.{more_none, cut_there}
 use Rattle.proof_checker.proofs.Telling.{IsReached, tells_line, tells_end, tells_command, tells_over, over_of, ending_none, shown_behind}
 
 -- ---- steps after steps
@@ -60,7 +62,7 @@ none_behind [] b e = (refl, e)
 none_behind (x ∷ a) b e = absurd (let z : ⊥ = cc in z)
 
 no_chunks : (i : Inputs) (s : List ℕ) (cs : List Chunk) → IsScriptAtEnd i → MayCome i.script_ended s → AreCut (and_more i.framer s) cs → cs ≡ []
-no_chunks i s cs e t k = cut_one i.framer cs [] (subst (λ (x : Held). AreCut x cs) (more_none i.framer s (t e.ended)) k) e.cut
+no_chunks i s cs e t k = AreCut-one i.framer cs [] (subst (λ (x : Held). AreCut x cs) (more_none i.framer s (t e.ended)) k) e.cut
 
 no_readings : (cs : List Chunk) (says : List Says) → cs ≡ [] → ReadEach cs says → says ≡ []
 no_readings [] [] e r = refl

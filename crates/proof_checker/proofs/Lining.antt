@@ -6,6 +6,7 @@ use Rattle.std.proofs.lemmas.List.{length-map}
 use Rattle.std.proofs.lemmas.List.Elements.{recursion_from_All}
 use Rattle.cnf_base.specs.Literals.{Literal, negated}
 use Rattle.cnf_base.specs.Assignments.{AreBelow}
+use Rattle.cnf_base.specs.Clauses.{no_id}
 use Rattle.cnf_base.specs.declared.clause.ClauseId.{ClauseId}
 use Rattle.cnf_base.proofs.Options.{same_found}
 use Rattle.cnf_base.proofs.Lists.{each_slice_get}
@@ -172,7 +173,7 @@ pub no_chain : (rows : List (List (List Literal))) (hints : List WrittenHint) (k
     → (c : List Literal) (names : List ClauseId) → map written_hint names ≡ hints → IsChain (clause_at rows) c names → ⊥
 no_chain rows hints k d lt none wide c names e chain =
     let within : k < length names = omega (arith, lt, ap length e, length-map names written_hint) in
-    let x : ClauseId = record { pos = 0; part = 0 } in
+    let x = no_id in
     ⊎_elim
     (λ p. let empty : length names ≡ 0 = ap length p.1 in omega (arith, empty, within))
     (λ p. chain_finds (clause_at rows) (map negated c) names k x p.1 within (ap (clause_at rows) (named_at hints names k d x e lt) ∙ none (get_or hints k d).part wide))

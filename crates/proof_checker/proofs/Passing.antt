@@ -1,10 +1,11 @@
 -- Of laws on what is judged of two texts.
-use Rattle.std.proofs.Common.{◌≡◌, ℕ, ◌+◌, List, [], ◌∷◌, ◌++◌, map, length, Option, Some, None, refl, sym, ap, ◌∙◌, subst, inl, inr, arith, append_assoc, append-nil}
+use Rattle.std.proofs.Common.{◌≡◌, ℕ, List, [], ◌∷◌, ◌++◌, map, length, Option, Some, None, refl, sym, ap, ◌∙◌, subst, inl, inr, arith, append_assoc, append-nil}
 use Rattle.std.specs.Prelude.{◌⊎◌, ◌||◌, true, Err}
 use Rattle.std.specs.List.{list_any, flat_map, AllByRecursion}
 use Rattle.std.proofs.lemmas.List.{length-map, length-append, nil_from_length}
 use Rattle.smt_text.specs.declared.chunk.Chunk.{Chunk}
 use Rattle.smt_text.specs.Script.{AreChunks}
+use Rattle.smt_text.proofs.Cuts.{AreCut-one}
 use Rattle.script_state.specs.declared.answer.Verdict.{Verdict}
 use Rattle.script_state.specs.States.{no_state}
 use Rattle.script_state.specs.Steps.{ends}
@@ -24,9 +25,9 @@ use Rattle.accepted_proof.specs.Judged.{no_judging, Judged, ReadEach, AreAllSaid
 use Rattle.script_state.specs.Readings.{ReadsAs}
 use Rattle.script_state.specs.declared.error_text.ErrorText.TheVariants.{UnfinishedCommand}
 use Rattle.proof_checker.specs.Checkers.{Says}
-use Rattle.proof_checker.specs.Checked.{AreCut, AreLines, Tells, TellsProof, IsJudged, IsAccepted, verdicts_of}
+use Rattle.proof_checker.specs.Checked.{AreLines, Tells, TellsProof, IsJudged, IsAccepted, verdicts_of}
 use Rattle.proof_checker.proofs.Splits.{lines_one}
-use Rattle.proof_checker.proofs.Chunking.{cut_there, cut_behind, cut_one}
+use Rattle.proof_checker.proofs.Chunking.{cut_there, cut_behind}
 use Rattle.proof_checker.proofs.Telling.{tells_more, tells_less}
 use Rattle.proof_checker.proofs.Verdicts.{judged_of, tells_there, one_proof_telling, proof_verdicts, line_verdict, of_turns}
 
@@ -91,7 +92,7 @@ readings (c ∷ cs) (d ∷ es) ms ns (s ∷ ss) (t ∷ ts) e r q =
 
 pub judged_one_way : (script proof : List ℕ) (vs us : List Verdict) (o q : Option Refusal) → IsJudged script proof vs o → IsJudged script proof us q → (vs ≡ us) × (o ≡ q)
 judged_one_way script proof vs us o q a b =
-    let cuts = cut_one (record { line = 1; bytes = script }) (a.chunks ++ a.behind) (b.chunks ++ b.behind) a.cut b.cut in
+    let cuts = AreCut-one (record { line = 1; bytes = script }) (a.chunks ++ a.behind) (b.chunks ++ b.behind) a.cut b.cut in
     let lines = lines_one proof a.lines b.lines a.split b.split in
     let all = readings a.chunks b.chunks a.behind b.behind a.says b.says cuts a.read b.read in
     let t : TellsProof (b.says ++ all.other) a.lines vs o = subst (λ x. TellsProof x a.lines vs o) all.same (a.told all.rest all.long) in
@@ -103,10 +104,30 @@ none_some : (r : Refusal) → ◌≡◌ {A = Option Refusal} None (Some r) → �
 none_some r e = cc
 
 -- the lines behind the header
-header_told : (ls : List (Option Line)) (cs : List Says) (vs : List Verdict) → TellsProof cs ls vs None → (limits : Limits) × AreLimits limits × (rest : List (Option Line)) × Tells (no_judging limits) cs rest vs None
+record IsHeaderTold (lines : List (Option Line)) (cs : List Says) (vs : List Verdict) : Type 0 where
+  pub limits : Limits
+  pub allowed : AreLimits limits
+  pub rest : List (Option Line)
+  pub header : lines ≡ Some (line.Header limits.cubes limits.budget) ∷ rest
+  pub told : Tells (no_judging limits) cs rest vs None
+
+header_told : (ls : List (Option Line)) (cs : List Says) (vs : List Verdict) → TellsProof cs ls vs None → IsHeaderTold ls cs vs
 header_told [] cs vs h = absurd (none_some _ h.1)
-header_told (l ∷ ls) cs vs (inl h) = (h.0, h.1.allowed, ls, h.2)
+header_told (l ∷ ls) cs vs (inl h) = record { limits = h.0; allowed = h.1.allowed; rest = ls; header = ap (λ x. x ∷ ls) h.1.written; told = h.2 }
 header_told (l ∷ ls) cs vs (inr h) = absurd (none_some _ h.2)
+
+-- a text whose lines can all be read is the text of these lines
+text_of_lines : (ls : List Line) (text : List ℕ) → AreLines text (map (λ l. Some l) ls) → text ≡ flat_map line_text ls
+text_of_lines [] text h = h
+text_of_lines (l ∷ ls) text (inl h) =
+    h.1.cut
+    ∙ sym (append_assoc h.1.before (10 ∷ []) h.0)
+    ∙ ap (λ x. x ++ h.0) h.1.line_is.1
+    ∙ ap (λ x. line_text l ++ x) (text_of_lines ls h.0 h.2)
+text_of_lines (l ∷ ls) text (inr h) = absurd (line_there l h.1)
+  where
+    line_there : (l : Line) → ◌≡◌ {A = Option Line} (Some l) None → ⊥
+    line_there l e = cc
 
 abbrev pub JudgedLaw : Type 0
 JudgedLaw = (limits : Limits) (script : List ℕ) (chunks : List Chunk) (says : List Says) (lines : List (Option Line))
@@ -116,16 +137,13 @@ JudgedLaw = (limits : Limits) (script : List ℕ) (chunks : List Chunk) (says : 
 abbrev pub RightLaw : Type 0
 RightLaw = (limits : Limits) (script proof : List ℕ) (turns : List Turn) → Accepted limits script proof turns → AreRight no_state turns
 
--- the whole script is cut into these chunks
-all_cut : (script : List ℕ) (chunks : List Chunk) → AreCut (record { line = 1; bytes = script }) chunks → AreChunks script chunks
-all_cut script chunks k = record { whole = k.whole; rest = k.rest; begins = k.begins; ends = k.ends; all = k.all }
-
 -- the commands that are read, and what is told where no others are
 record IsAllTold (script : List ℕ) (chunks : List Chunk) (says : List Says) (lines : List (Option Line)) (vs : List Verdict) : Type 0 where
   pub all : AreAllSaid script chunks says
   pub limits : Limits
   pub allowed : AreLimits limits
   pub rest : List (Option Line)
+  pub header : lines ≡ Some (line.Header limits.cubes limits.budget) ∷ rest
   pub told : Tells (no_judging limits) says rest vs None
 
 all_told : (script proof : List ℕ) (vs : List Verdict) (h : IsAccepted script proof vs) → (h.behind ≡ []) ⊎ (list_any ends h.says ≡ true) → IsAllTold script h.chunks h.says h.lines vs
@@ -133,28 +151,34 @@ all_told script proof vs h (inl none) =
     let said : TellsProof h.says h.lines vs None = subst (λ x. TellsProof x h.lines vs None) (append-nil h.says) (h.told [] (sym (ap length none))) in
     let m = header_told h.lines h.says vs said in
     record {
-      all = inl (all_cut script h.chunks (subst (AreCut (record { line = 1; bytes = script })) (ap (λ x. h.chunks ++ x) none ∙ append-nil h.chunks) h.cut));
-      limits = m.0;
-      allowed = m.1;
-      rest = m.2;
-      told = m.3;
+      all = inl (subst (AreChunks script) (ap (λ x. h.chunks ++ x) none ∙ append-nil h.chunks) h.cut);
+      limits = m.limits;
+      allowed = m.allowed;
+      rest = m.rest;
+      header = m.header;
+      told = m.told;
     }
 all_told script proof vs h (inr ended) =
     let more = some_readings h.behind in
     let m = header_told h.lines (h.says ++ more) vs (h.told more (length-map h.behind (λ (x : Chunk). no_reading))) in
     record {
-      all = inr (ended, front_fewer script h.chunks h.behind (inr (all_cut script (h.chunks ++ h.behind) h.cut)));
-      limits = m.0;
-      allowed = m.1;
-      rest = m.2;
-      told = tells_less m.2 more None (no_judging m.0) h.says vs ended m.3;
+      all = inr (ended, front_fewer script h.chunks h.behind (inr h.cut));
+      limits = m.limits;
+      allowed = m.allowed;
+      rest = m.rest;
+      header = m.header;
+      told = tells_less m.rest more None (no_judging m.limits) h.says vs ended m.told;
     }
 
-pub accepted_right : JudgedLaw → RightLaw → (script proof : List ℕ) (vs : List Verdict) → IsAccepted script proof vs → (limits : Limits) × (turns : List Turn) × Accepted limits script (proof_of limits turns) turns × AreRight no_state turns × (vs ≡ verdicts_of turns)
+pub accepted_right : JudgedLaw → RightLaw → (script proof : List ℕ) (vs : List Verdict) → IsAccepted script proof vs → (limits : Limits) × (turns : List Turn) × Accepted limits script proof turns × AreRight no_state turns × (vs ≡ verdicts_of turns)
 accepted_right law right script proof vs h =
     let m = all_told script proof vs h (h.whole refl) in
     let t = law m.limits script h.chunks h.says m.rest m.allowed m.all h.read (judged_of m.rest (no_judging m.limits) h.says vs None m.told) in
-    (m.limits, t.0, t.2, right m.limits script (proof_of m.limits t.0) t.0 t.2, proof_verdicts m.limits m.rest h.says vs m.told ∙ ap (flat_map line_verdict) t.1 ∙ of_turns t.0)
+    let header : Line = line.Header m.limits.cubes m.limits.budget in
+    let lines : h.lines ≡ map (λ l. Some l) (header ∷ flat_map turn_lines t.0) = m.header ∙ ap (λ ls. Some header ∷ ls) t.1 in
+    let text : proof ≡ proof_of m.limits t.0 = text_of_lines (header ∷ flat_map turn_lines t.0) proof (subst (AreLines proof) lines h.split) in
+    let accepted = subst (λ p. Accepted m.limits script p t.0) (sym text) t.2 in
+    (m.limits, t.0, accepted, right m.limits script proof t.0 accepted, proof_verdicts m.limits m.rest h.says vs m.told ∙ ap (flat_map line_verdict) t.1 ∙ of_turns t.0)
 
 -- ---- accepted proofs pass
 
@@ -183,7 +207,7 @@ ended_says (t ∷ ts) = ap (λ b. ends t.says || b) (ended_says ts)
 -- what is behind the chunks that are read, and that it does not matter
 record IsBehind (script : List ℕ) (chunks : List Chunk) (turns : List Turn) : Type 0 where
   pub behind : List Chunk
-  pub cut : AreCut (record { line = 1; bytes = script }) (chunks ++ behind)
+  pub cut : AreChunks script (chunks ++ behind)
   pub none : (behind ≡ []) ⊎ (list_any ends (map (λ (t : Turn). t.says) turns) ≡ true)
 
 whole_behind : (script : List ℕ) (chunks : List Chunk) (turns : List Turn) → AreChunks script chunks → IsBehind script chunks turns

@@ -3,8 +3,8 @@ use Rattle.std.specs.Prelude.{◌≡◌, ◌≢◌, ◌⊎◌, ℕ, Bool, true, 
 use Rattle.std.specs.List.{list_any, flat_map}
 use Rattle.std.specs.Option.{option_map}
 use Rattle.smt_text.specs.declared.chunk.Chunk.{Chunk}
-use Rattle.smt_text.specs.Framing.{Held, first_chunk, last_chunk}
-use Rattle.smt_text.specs.Script.{Begins}
+use Rattle.smt_text.specs.Framing.{Held}
+use Rattle.smt_text.specs.Script.{AreCut}
 use Rattle.script_state.specs.declared.answer.Verdict.{Verdict}
 use Rattle.script_state.specs.Steps.{ends}
 use Rattle.proof_text.specs.declared.line.Line.{Line}
@@ -39,16 +39,6 @@ pub record IsUnended (text : List ℕ) : Type 0 where
 abbrev pub AreLines : List ℕ → List (Option Line) → Type 0
 AreLines text [] = text ≡ []
 AreLines text (l ∷ ls) = ((rest : List ℕ) × IsFirstLine text l rest × AreLines rest ls) ⊎ (IsUnended text × (l ≡ None) × (ls ≡ []))
-
--- ---- the chunks of a script
-
--- what is held is cut into these chunks
-pub record AreCut (held : Held) (chunks : List Chunk) : Type 0 where
-  pub whole : List Chunk
-  pub rest : Held
-  pub begins : Begins held whole rest
-  pub ends : first_chunk rest ≡ None
-  pub all : chunks ≡ whole ++ option_to_list (last_chunk rest)
 
 -- ---- verdicts
 

@@ -2,12 +2,13 @@
 use Rattle.std.specs.Prelude.{◌≡◌, ◌⊎◌, ℕ, ◌+◌, ◌<◌, ◌≤◌, Bool, true, false, if◌then◌else◌, List, [], ◌∷◌, ◌++◌, length, Option, Some, None}
 use Rattle.smt_text.specs.declared.chunk.Chunk.{Chunk}
 use Rattle.smt_text.specs.Framing.{and_more}
+use Rattle.smt_text.specs.Script.{AreCut}
 use Rattle.script_state.specs.declared.answer.Verdict.{Verdict}
 use Rattle.proof_text.specs.declared.line.Line.{Line}
 use Rattle.accepted_proof.specs.declared.refusal.Refusal.{Refusal}
 use Rattle.accepted_proof.specs.Judged.{is_idle}
 use Rattle.proof_checker.specs.Checkers.{Says, CheckerValue, IsRead, line_in}
-use Rattle.proof_checker.specs.Checked.{AreCut, AreLines, Tells, TellsProof, IsTold}
+use Rattle.proof_checker.specs.Checked.{AreLines, Tells, TellsProof, IsTold}
 use Rattle.proof_checker.specs.declared.inputs.Inputs.{Inputs}
 use Rattle.proof_checker.specs.declared.inputs.NextLine.{NextLine}
 use Rattle.proof_checker.specs.declared.inputs.NextLine.TheVariants as line

@@ -8,7 +8,7 @@ ghost use Rattle.proof_text.specs.Lines.{IsLine};
 ghost use Rattle.accepted_proof.specs.declared.refusal.Refusal.{Refusal};
 ghost use Rattle.accepted_proof.specs.Searching.{Limits};
 ghost use Rattle.accepted_proof.specs.Turns.{Turn};
-ghost use Rattle.accepted_proof.specs.Answers.{turn_lines, proof_of};
+ghost use Rattle.accepted_proof.specs.Answers.{turn_lines};
 ghost use Rattle.accepted_proof.specs.Accepted.{Accepted};
 ghost use Rattle.accepted_proof.specs.Right.{AreRight};
 ghost use Rattle.proof_checker.specs.Checked.{IsJudged, IsAccepted, verdicts_of};
@@ -22,11 +22,11 @@ pub fn texts_are_judged_one_way()
     ensures { (script proof : List ℕ) (vs us : List Verdict) (o q : Option Refusal) → IsJudged script proof vs o → IsJudged script proof us q → (vs ≡ us) × (o ≡ q) }
 {}
 
-/// What a check accepts is right, whoever wrote it: within some limits there are turns with these verdicts which make an
-/// accepted proof, each `sat` stands beside a model, and where there is an `unsat` there is none.
+/// What a check accepts is right, whoever wrote it: within some limits it is, byte by byte, the accepted proof of turns with these
+/// verdicts, each `sat` stands beside a model, and where there is an `unsat` there is none.
 pub fn what_is_accepted_is_right()
     ensures { (script proof : List ℕ) (vs : List Verdict) → IsAccepted script proof vs
-        → (limits : Limits) × (turns : List Turn) × Accepted limits script (proof_of limits turns) turns × AreRight no_state turns × (vs ≡ verdicts_of turns) }
+        → (limits : Limits) × (turns : List Turn) × Accepted limits script proof turns × AreRight no_state turns × (vs ≡ verdicts_of turns) }
 {
     judged_proofs_are_accepted();
     accepted_proofs_are_right();

@@ -65,8 +65,8 @@ impl Checker {
         self.verdicts.as_slice()
     }
 
-    // Memory is wanting. The checker is dropped here, and not part by part wherever a function has to stop.
-    pub(crate) fn starve(self) -> AllocError {
+    // Lets the checker go for want of memory. It is dropped here, and not part by part wherever a function has to stop.
+    pub(crate) fn release(self) -> AllocError {
         drop(self);
         AllocError
     }
@@ -128,7 +128,7 @@ impl Checker {
     {
         let mut checker = self;
         let Ok(()) = checker.verdicts.push(verdict) else {
-            return Err(checker.starve());
+            return Err(checker.release());
         };
         let Checker {
             limits,
@@ -202,7 +202,7 @@ impl Checker {
         ensures told { IfOk result (λ r. r.1 ≡ answer_by r.0.judging.owed) }
     {
         if self.line == u64::MAX {
-            return Err(self.starve());
+            return Err(self.release());
         }
         let checker = match line {
             Ok(line) => self.whole_line(alloc, line)?,

@@ -66,7 +66,7 @@ impl Checker {
         ensures { IfOk result (λ r. (says : Says) × ReadsAs chunk.now says × (r.0 ≡ judged_so self (commanded self.judging says)) × (r.1 ≡ ends says)) }
     {
         if self.state.assertions_made() == u32::MAX {
-            return Err(self.starve());
+            return Err(self.release());
         }
         let Checker {
             limits,

@@ -145,12 +145,12 @@ impl Checker {
             return Ok(self.refuse(RuleName::Diary));
         }
         let Ok(given) = search(alloc, &self.state, &self.log, self.limits, cube, start) else {
-            return Err(self.starve());
+            return Err(self.release());
         };
         match given {
             Some(given) => match open(alloc, &self.log, given.as_slice(), cube, start, count - 1) {
                 Ok(noting) => Ok(self.owe_lines(noting)),
-                Err(_) => Err(self.starve()),
+                Err(_) => Err(self.release()),
             }
             None => Ok(self.refuse(RuleName::Diary)),
         }

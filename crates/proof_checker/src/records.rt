@@ -78,7 +78,7 @@ impl Checker {
         ensures { IfOk result (λ c. GoesTo (AtStep self.judging (line.Unsat pos)) self c) }
     {
         let Ok(refutes) = is_refutation(alloc, &self.state, &self.log, pos) else {
-            return Err(self.starve());
+            return Err(self.release());
         };
         if refutes {
             self.close(Verdict::Unsat)

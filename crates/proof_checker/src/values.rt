@@ -49,7 +49,7 @@ impl Checker {
         ensures { IfOk result (λ c. GoesTo (Goes self.judging [] values.now) self c) }
     {
         let Ok(holds) = is_model(alloc, &self.state, values) else {
-            return Err(self.starve());
+            return Err(self.release());
         };
         if holds {
             self.close(Verdict::Sat)
@@ -120,7 +120,7 @@ impl Checker {
             verdicts,
         };
         let Ok(()) = values.push((next, value)) else {
-            return Err(checker.starve());
+            return Err(checker.release());
         };
         checker.go_to_values(alloc, values)
     }

@@ -29,8 +29,8 @@ read_stopped left s s' NoMemory h = absurd h
 read_stopped left s s' TooLong h = rw h.0 h.1
 
 -- want of memory behind a read
-pub read_starved : (left n : ℕ) (s s' : Option (List ℕ)) (t : Status) → t ≡ NoMemory → n ≤ left → ReadsBytes n s s' → StopsReading left s s' t
-read_starved left n s s' t e le h = subst (λ x. StopsReading left s s' x) (sym e) (n, le, h)
+pub read_without_memory : (left n : ℕ) (s s' : Option (List ℕ)) (t : Status) → t ≡ NoMemory → n ≤ left → ReadsBytes n s s' → StopsReading left s s' t
+read_without_memory left n s s' t e le h = subst (λ x. StopsReading left s s' x) (sym e) (n, le, h)
 
 -- nothing came, so the input is at its end
 consumes_none : (s s' : Option (List ℕ)) (n : ℕ) → n ≡ 0 → ReadsBytes n s s' → Consumes s s' []

@@ -106,11 +106,11 @@ pub write_end : (P : Type 0) → (WriteFault ≡ Done) ⊎ (WriteFault ≡ Refus
 write_end P k = absurd (⊎_elim (λ e. let z : ⊥ = cc in z) (λ e. let z : ⊥ = cc in z) k)
 
 -- want of memory behind what was read
-pub starved_both : (s s' p p' : Option (List ℕ)) (t : Status) → t ≡ NoMemory → ReadsWithin s s' × ReadsWithin p p' → ReadsBoth s s' p p' (Err t)
-starved_both s s' p p' t e h = subst (λ x. ReadsBoth s s' p p' (Err x)) (sym e) h
+pub both_without_memory : (s s' p p' : Option (List ℕ)) (t : Status) → t ≡ NoMemory → ReadsWithin s s' × ReadsWithin p p' → ReadsBoth s s' p p' (Err t)
+both_without_memory s s' p p' t e h = subst (λ x. ReadsBoth s s' p p' (Err x)) (sym e) h
 
-pub starved_cause : (a b d e : ℕ) (t : Status) → t ≡ NoMemory → HasReadCause a b d e t
-starved_cause a b d e t f = subst (λ x. HasReadCause a b d e x) (sym f) tt
+pub cause_without_memory : (a b d e : ℕ) (t : Status) → t ≡ NoMemory → HasReadCause a b d e t
+cause_without_memory a b d e t f = subst (λ x. HasReadCause a b d e x) (sym f) tt
 
 -- ---- how a check stops
 

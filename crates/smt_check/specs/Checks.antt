@@ -6,7 +6,6 @@ use Rattle.script_state.specs.States.{no_state}
 use Rattle.accepted_proof.specs.declared.refusal.Refusal.{Refusal}
 use Rattle.accepted_proof.specs.Searching.{Limits}
 use Rattle.accepted_proof.specs.Turns.{Turn}
-use Rattle.accepted_proof.specs.Answers.{proof_of}
 use Rattle.accepted_proof.specs.Accepted.{Accepted}
 use Rattle.accepted_proof.specs.Right.{AreRight}
 use Rattle.proof_checker.specs.Checkings.{Judges}
@@ -98,12 +97,12 @@ pub record IsEndOfCheck (status : Status) (text lines answered : List ℕ) : Typ
   pub report : answered ≡ report_text verdicts refusal
   pub status_is : status ≡ status_of refusal
 
--- There are turns of the script with the verdicts that are told. They make an accepted proof within some limits, and they are
--- right: each `sat` has a model, and where there is an `unsat` there is none.
+-- There are turns of the script with the verdicts that are told. Within some limits the proof is their accepted proof, and they
+-- are right: each `sat` has a model, and where there is an `unsat` there is none.
 pub record IsRightlyAccepted (text lines answered : List ℕ) : Type 0 where
   pub limits : Limits
   pub turns : List Turn
-  pub accepted : Accepted limits text (proof_of limits turns) turns
+  pub accepted : Accepted limits text lines turns
   pub right : AreRight no_state turns
   pub report : answered ≡ report_text (verdicts_of turns) None
 

@@ -1,7 +1,7 @@
 use Rattle.std.proofs.Common.{arith}
 use Rattle.std.proofs.lemmas.Result.{err_from_is_err_and}
 use Rattle.smt_check.proofs.Checks.{way_none, way_advance, way_script, way_proof, way_done, both_within, script_stopped, proof_stopped}
-use Rattle.smt_check.proofs.Reported.{starved_both, stops_script, stops_proof, stops_done}
+use Rattle.smt_check.proofs.Reported.{both_without_memory, stops_script, stops_proof, stops_done}
 use Rattle.smt_check.proofs.checking.check_texts.Goals as goal
 
 pub texts-init : goal.texts-init
@@ -15,7 +15,7 @@ texts-init g c = record {
 pub returns-in_err-judgement-clause-read : goal.returns-in_err-judgement-clause-read
 returns-in_err-judgement-clause-read g c =
     let p = err_from_is_err_and c.from_residual.result c.from_residual.ensures.1 in
-    rw p.1 (starved_both _ _ _ _ p.0 p.2 (both_within _ _ _ _ _ _ _ c.texts.invariant.way))
+    rw p.1 (both_without_memory _ _ _ _ p.0 p.2 (both_within _ _ _ _ _ _ _ c.texts.invariant.way))
 
 pub returns-in-Done-clause-judged : goal.returns-in-Done-clause-judged
 returns-in-Done-clause-judged g c = way_done _ _ _ _ _ _ _ c.texts.invariant.way c.in-Done.judgement (stops_done _ _ _ _ c.in-Done.is c.in_ok-judgement.ensures)

@@ -1,5 +1,5 @@
 use Rattle.std.proofs.lemmas.Result.{err_from_is_err_and}
-use Rattle.smt_check.proofs.Checks.{read_stopped, read_starved, proof_ends, proof_fed}
+use Rattle.smt_check.proofs.Checks.{read_stopped, read_without_memory, proof_ends, proof_fed}
 use Rattle.smt_check.proofs.checking.read_proof.Goals as goal
 
 pub returns-in_err-size-clause-ok : goal.returns-in_err-size-clause-ok
@@ -30,7 +30,7 @@ returns-in_err-feed_proof-clause-ok g c =
 pub returns-in_err-feed_proof-clause-err : goal.returns-in_err-feed_proof-clause-err
 returns-in_err-feed_proof-clause-err g c =
     let p = err_from_is_err_and c.from_residual-in_err-feed_proof.result c.from_residual-in_err-feed_proof.ensures.1 in
-    rw p.1 (read_starved _ _ _ _ p.0 p.2 c.in_ok-size.ensures.read.0 c.in_ok-size.ensures.read.1)
+    rw p.1 (read_without_memory _ _ _ _ p.0 p.2 c.in_ok-size.ensures.read.0 c.in_ok-size.ensures.read.1)
 
 pub returns-in_err-feed_proof-clause-cause : goal.returns-in_err-feed_proof-clause-cause
 returns-in_err-feed_proof-clause-cause g c =
