@@ -6,7 +6,6 @@ use Rattle.script_state.specs.States.{no_state}
 use Rattle.accepted_proof.specs.declared.refusal.Refusal.{Refusal}
 use Rattle.accepted_proof.specs.Searching.{Limits}
 use Rattle.accepted_proof.specs.Turns.{Turn}
-use Rattle.accepted_proof.specs.Answers.{proof_of}
 use Rattle.accepted_proof.specs.Accepted.{Accepted}
 use Rattle.accepted_proof.specs.Right.{AreRight}
 use Rattle.proof_checker.specs.Checked.{IsJudged, IsAccepted, verdicts_of}
@@ -19,7 +18,7 @@ use Rattle.smt_run.specs.Beside.{IsShort, IsWithoutFault}
 
 -- what is accepted is right
 abbrev pub AcceptedLaw : Type 0
-AcceptedLaw = (script proof : List ℕ) (vs : List Verdict) → IsAccepted script proof vs → (limits : Limits) × (turns : List Turn) × Accepted limits script (proof_of limits turns) turns × AreRight no_state turns × (vs ≡ verdicts_of turns)
+AcceptedLaw = (script proof : List ℕ) (vs : List Verdict) → IsAccepted script proof vs → (limits : Limits) × (turns : List Turn) × Accepted limits script proof turns × AreRight no_state turns × (vs ≡ verdicts_of turns)
 
 right_end : (text lines answered : List ℕ) (t : Status) → AcceptedLaw → t ≡ Done → IsEndOfCheck t text lines answered → IsRightlyAccepted text lines answered
 right_end text lines answered t law e k = go k.refusal k.judged k.report (sym e ∙ k.status_is)

@@ -1,6 +1,6 @@
 -- Turns after turns.
 use Rattle.std.proofs.Common.{◌≡◌, ℕ, Bool, true, false, List, [], ◌∷◌, ◌++◌, Option, Some, None, refl, sym, ap, ◌∙◌, subst, append_assoc, append-nil, inl, ⊎_elim}
-use Rattle.std.specs.Prelude.{not, ◌||◌, Result, Ok, Err, IfOk, IfErr, option_to_list}
+use Rattle.std.specs.Prelude.{◌||◌, Result, Ok, Err, IfOk, IfErr, option_to_list}
 use Rattle.std.specs.List.{flat_map, AllByRecursion}
 use Rattle.std.proofs.lemmas.Grind.{flat_map-append}
 use Rattle.std.proofs.lemmas.List.Folds.{list_any-append}
@@ -63,14 +63,6 @@ answers-append m (t ∷ ts) us =
 
 lines-append : (ts us : List Turn) → lines_of (ts ++ us) ≡ lines_of ts ++ lines_of us
 lines-append ts us = ap (flat_map line_text) (flat_map-append turn_lines ts us) ∙ flat_map-append line_text (flat_map turn_lines ts) (flat_map turn_lines us)
-
-pub goes_on : (ended : Bool) → not ended ≡ true → ended ≡ false
-goes_on true e = let q : ⊥ = cc in absurd q
-goes_on false e = refl
-
-pub is_over : (ended : Bool) → not ended ≡ false → ended ≡ true
-is_over true e = refl
-is_over false e = let q : ⊥ = cc in absurd q
 
 -- ---- what is added
 

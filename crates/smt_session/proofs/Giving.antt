@@ -6,7 +6,7 @@ use Rattle.std.proofs.lemmas.List.{take_more, map_push}
 use Rattle.cnf_base.specs.Literals.{Literal}
 use Rattle.cnf_base.specs.Clauses.{lit_true}
 use Rattle.cnf_base.specs.Assignments.{AreBelow}
-use Rattle.cnf_base.proofs.Lists.{each_append}
+use Rattle.cnf_base.proofs.Lists.{each_append, each_front, each_behind}
 use Rattle.cnf_base.proofs.Options.{some_value}
 use Rattle.smt_terms.specs.declared.sort.Sort.{Sort}
 use Rattle.smt_terms.specs.declared.sort.Sort.TheVariants as sort
@@ -24,7 +24,7 @@ use Rattle.proof_log.proofs.Standing.{stands_over, some_literal}
 use Rattle.smt_session.specs.Growing.{Grows, HasBit, HasBits, AreBits, AreGiven, AreSelectors}
 use Rattle.accepted_proof.specs.Searching.{roots}
 use Rattle.smt_session.specs.Searched.{HasTrueBit}
-use Rattle.smt_session.proofs.Roots.{each_front, each_behind, roots_assumed}
+use Rattle.smt_session.proofs.Roots.{roots_assumed}
 use Rattle.smt_session.proofs.Staying.{bit_stays, bits_stay, selectors_stay}
 
 -- ---- bits

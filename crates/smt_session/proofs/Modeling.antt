@@ -33,7 +33,7 @@ use Rattle.smt_values.specs.Held.{meaning, IsOfSort, constant_of, function_of}
 use Rattle.smt_build.specs.declared.symbols.LiveName.{LiveName}
 use Rattle.smt_build.specs.Scoped.{is_live, is_over}
 use Rattle.smt_build.proofs.ScopedValues.{AgreeOn, value_is_over}
-use Rattle.script_state.specs.Plain.{is_plain_sort}
+use Rattle.smt_terms.specs.Ranks as ranks
 use Rattle.script_state.specs.States.{StateValue, IsState, assumptions}
 use Rattle.proof_log.specs.Logs.{plain_width, constant_width}
 use Rattle.proof_log.specs.Stored.{LogValue, Stands}
@@ -83,14 +83,14 @@ constant_of_width (Param k s) n e = let q : ⊥ = cc in absurd q
 
 -- ---- the value of one constant
 
-written_of : (s : Sort) (x : Value) → is_plain_sort s ≡ true → IsOfSort s x → IsSome (written_value x)
+written_of : (s : Sort) (x : Value) → ranks.is_plain s ≡ true → IsOfSort s x → IsSome (written_value x)
 written_of s (held.Bool b) p h = refl
 written_of s (held.Word w) p h = refl
-written_of s (held.Array a) p h = let q : is_plain_sort s ≡ false = ap is_plain_sort h in let f : ⊥ = cc in absurd f
+written_of s (held.Array a) p h = let q : ranks.is_plain s ≡ false = ap ranks.is_plain h in let f : ⊥ = cc in absurd f
 written_of s (held.Fun f) p h = absurd h
 
 -- a constant whose term has no bits
-pub unset_value : (nodes : List Node) (log : LogValue) (v : ℕ → Bool) (d : ℕ) (s : Sort) (x : Value) → is_plain_sort s ≡ true → meaning x ≡ default_of s → IsOfSort s x
+pub unset_value : (nodes : List Node) (log : LogValue) (v : ℕ → Bool) (d : ℕ) (s : Sort) (x : Value) → ranks.is_plain s ≡ true → meaning x ≡ default_of s → IsOfSort s x
     → ((t : ℕ) (b : List Literal) → (node_at nodes t).op ≡ Constant d s → bits_in log.bits t ≡ Some b → ⊥) → IsValueIn nodes log v d s x
 unset_value nodes log v d s x plain means of_sort none = record {
   sorted = subst (HasSort s) (sym means) (default_has_sort s);
@@ -166,7 +166,7 @@ word_value v log f d s n u row w terms stands found q is means =
     }
 
 -- a plain sort that is not Bool is that of words
-pub plain_word : (s : Sort) → is_plain_sort s ≡ true → (s ≡ sort.Bool → ⊥) → (n : ℕ) × (s ≡ sort.Word n)
+pub plain_word : (s : Sort) → ranks.is_plain s ≡ true → (s ≡ sort.Bool → ⊥) → (n : ℕ) × (s ≡ sort.Word n)
 plain_word sort.Bool p h = absurd (h refl)
 plain_word (sort.Word n) p h = (n, refl)
 plain_word (sort.Array n m) p h = let q : ⊥ = cc in absurd q
@@ -188,7 +188,7 @@ items_more s log v live items l x h k = record {
 }
 
 -- a live declaration has its signature
-pub live_declared : (s : StateValue) (k : ℕ) (l : LiveName) → IsState s → slice_get s.symbols.live k ≡ Some l → (g : Signature) × (slice_get s.symbols.signatures l.declaration ≡ Some g) × (g.args ≡ []) × (is_plain_sort g.value ≡ true) × IsSort g.value
+pub live_declared : (s : StateValue) (k : ℕ) (l : LiveName) → IsState s → slice_get s.symbols.live k ≡ Some l → (g : Signature) × (slice_get s.symbols.signatures l.declaration ≡ Some g) × (g.args ≡ []) × (ranks.is_plain g.value ≡ true) × IsSort g.value
 live_declared s k l h e =
     let none : Signature = constant_signature sort.Bool in
     let within = slice_get_within s.symbols.live k l e in

@@ -13,7 +13,8 @@ use Rattle.smt_terms.specs.declared.node.Node.{Node}
 use Rattle.smt_terms.specs.Nodes.{node_at}
 use Rattle.smt_terms.specs.Terms.{IsTerm}
 use Rattle.script_state.specs.Plain.{is_plain}
-use Rattle.smt_session.specs.Reaching.{IsPlainTerm, AreOrdered, IsNext, IsUnion}
+use Rattle.proof_log.specs.Assigned.{AreClosed}
+use Rattle.smt_session.specs.Reaching.{IsPlainTerm, AreLeast, AreOrdered, IsNext, IsUnion}
 use Rattle.smt_session.proofs.PlainTerms.{plain_arguments, earlier_arguments}
 use Rattle.cnf_base.proofs.Lists.{Contains-nil}
 use Rattle.cube_tree.proofs.Resolving.{members}
@@ -99,6 +100,7 @@ pub record Reaching (nodes : List Node) (from waiting reached : List ℕ) (bound
   pub above : (u : ℕ) → Contains reached u → bound ≤ u
   pub seen : (u : ℕ) → Contains waiting u → (u < bound) ⊎ Contains reached u
   pub falling : AllPairs (λ a b. b < a) reached
+  pub only : (others : List ℕ) → AreClosed nodes (Contains others) → All (Contains others) from → (u : ℕ) → Contains reached u ⊎ Contains waiting u → Contains others u
 
 pub reaching_none : (nodes : List Node) (from old waiting : List ℕ) (bound : ℕ) → All (IsPlainTerm nodes) from → old ≡ [] → IsUnion from old waiting → bound ≡ length nodes → Reaching nodes from waiting [] bound
 reaching_none nodes from old waiting bound plain none h e =
@@ -112,6 +114,7 @@ reaching_none nodes from old waiting bound plain none h e =
       above = λ u p. absurd (Contains-nil u p);
       seen = λ u p. inl (subst (λ n. u < n) (sym e) (terms u p).0);
       falling = λ i j d lt within. absurd (omega (arith, within));
+      only = λ others closed has u p. ⊎_elim (λ q. absurd (Contains-nil u q)) (λ q. All-contains (Contains others) from u has (among u q)) p;
     }
 
 pub reaching_next : (nodes : List Node) (from waiting mid new reached args : List ℕ) (bound t : ℕ) → Reaching nodes from waiting reached bound → IsNext bound waiting mid t → IsTerm nodes t → args ≡ (node_at nodes t).args → IsUnion args mid new
@@ -147,11 +150,22 @@ reaching_next nodes from waiting mid new reached args bound t h next term same k
           (λ q. ⊎_elim (λ lt. inl lt) (λ ge. (let le = next.greatest u q in let e : t ≡ u = omega arith in inr (subst (Contains (reached ++ t ∷ [])) e last))) (cases_lt u t))
           (k.only u p);
       falling = all_pairs_push (λ a b. b < a) reached t h.falling (λ i d within. (let le = h.above (get_or reached i d) (Contains-get_or reached i d within) in let lt = next.below in omega arith));
+      only = λ others closed has u p.
+          (let before = h.only others closed has in
+          let here : Contains others t = before t (inr next.among) in
+          ⊎_elim
+          (λ q. ⊎_elim (λ r. before u (inl r)) (λ e. subst (Contains others) e here) (Contains-push_cases reached t u q))
+          (λ q. ⊎_elim (λ r. closed t u here (argument u r)) (λ r. before u (inr (next.fewer u r))) (k.only u q))
+          p);
     }
 
 -- where none waits that was not reached, all are reached
-pub reaching_done : (nodes : List Node) (from waiting reached : List ℕ) (bound : ℕ) → Reaching nodes from waiting reached bound → ((u : ℕ) → Contains waiting u → bound ≤ u) → AreOrdered nodes reached × All (Contains reached) from
+pub reaching_done : (nodes : List Node) (from waiting reached : List ℕ) (bound : ℕ) → Reaching nodes from waiting reached bound → ((u : ℕ) → Contains waiting u → bound ≤ u)
+    → AreOrdered nodes reached × All (Contains reached) from × AreLeast nodes from reached
 reaching_done nodes from waiting reached bound h none =
     let here : (u : ℕ) → Contains reached u ⊎ Contains waiting u → Contains reached u =
-    λ u p. ⊎_elim (λ q. q) (λ q. ⊎_elim (λ lt. (let le = none u q in absurd (omega arith))) (λ r. r) (h.seen u q)) p in
-    (record { plain = h.plain; closed = λ t u p q. here u (h.closed t u p q); falling = h.falling }, members (Contains reached) from (λ u p. here u (h.rooted u p)))
+    λ u p. ⊎_elim (λ q. q) (λ q. ⊎_elim (λ lt. (let le = none u q in absurd (omega arith))) (λ r. r) (h.seen u q)) p in (
+      record { plain = h.plain; closed = λ t u p q. here u (h.closed t u p q); falling = h.falling },
+      members (Contains reached) from (λ u p. here u (h.rooted u p)),
+      λ others closed has. members (Contains others) reached (λ u p. h.only others closed has u (inl p)),
+    )

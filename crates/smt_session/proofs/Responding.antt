@@ -24,7 +24,7 @@ use Rattle.accepted_proof.specs.Turns.{IsShown, HasProof, with_steps, concluded_
 use Rattle.accepted_proof.specs.Answers.{answer_text, error_text, verdict_text, done_text, model_text, values_text, core_text, assumptions_text, is_error, step_lines}
 use Rattle.accepted_proof.specs.Cores.{refuting_clause}
 use Rattle.smt_session.specs.declared.response.Response.{Response}
-use Rattle.smt_session.specs.Sessions.{IsSession, IsChecked, Responds, IsAnswered, response, is_end}
+use Rattle.smt_session.specs.Sessions.{IsSession, IsChecked, Responds, IsAnswered, response, asks_values, is_end}
 use Rattle.smt_session.proofs.Ending.{ends_is}
 use Rattle.smt_session.proofs.Going.{more_steps}
 use Rattle.smt_session.proofs.Staying.{grown_steps}
@@ -76,6 +76,14 @@ module _ (limits : Limits) (line : ℕ) (s : StateValue) (l : LogValue) (last : 
 
   pub exit_responds : a ≡ Exit → r ≡ response (done_text s.options) false true → Responds limits line a s s l l last last r w w
   exit_responds is e = of_answer Exit is (silent limits line Exit s l last r w (refl, refl) (done_text s.options) false true e refl refl refl)
+
+pub checks_nothing : (a : Answer) → a ≡ Check → asks_values a ≡ true → ⊥
+checks_nothing a e h = let k : false ≡ true = subst (λ x. asks_values x ≡ true) e h in let f : ⊥ = cc in f
+
+-- an answer to a check is one to what is a check
+pub of_check : (limits : Limits) (line : ℕ) (s t : StateValue) (l m : LogValue) (last now : Option Record) (r : Response) (w x : Option (List ℕ)) (a : Answer) → a ≡ Check
+    → Responds limits line Check s t l m last now r w x → Responds limits line a s t l m last now r w x
+of_check limits line s t l m last now r w x a e h = subst (λ b. Responds limits line b s t l m last now r w x) (sym e) h
 
 pub check_responds : (limits : Limits) (line : ℕ) (s new_state : StateValue) (old new : LogValue) (shown : Record) (text : List ℕ) (r : Response) (w x : Option (List ℕ)) (last : Option Record)
     → IsChecked limits s old new shown

@@ -1,26 +1,13 @@
 -- The terms of live assertions, and of assumptions.
-use Rattle.std.proofs.Common.{ℕ, List, [], ◌∷◌, ◌++◌, map}
+use Rattle.std.proofs.Common.{ℕ, map}
 use Rattle.std.specs.Prelude.{All}
-use Rattle.std.specs.List.{AllByRecursion}
 use Rattle.std.proofs.lemmas.List.Elements.{All-from_recursion, recursion_from_All, All-weaker}
 use Rattle.scope_selectors.specs.declared.live.Live.{Live}
 use Rattle.script_state.specs.declared.answer.Asked.{Asked}
 use Rattle.script_state.specs.States.{StateValue, IsState, IsAssumption, assumptions}
 use Rattle.accepted_proof.specs.Searching.{roots}
 use Rattle.smt_session.specs.Reaching.{IsPlainTerm}
-use Rattle.cnf_base.proofs.Lists.{each_append, each_map}
-
-pub each_front : {A : Type 0} (P : A → Type 0) (xs ys : List A) → AllByRecursion P (xs ++ ys) → AllByRecursion P xs
-each_front P [] ys h = tt
-each_front P (x ∷ xs) ys h = (h.0, each_front P xs ys h.1)
-
-pub each_behind : {A : Type 0} (P : A → Type 0) (xs ys : List A) → AllByRecursion P (xs ++ ys) → AllByRecursion P ys
-each_behind P [] ys h = h
-each_behind P (x ∷ xs) ys h = each_behind P xs ys h.1
-
-each_of : {A B : Type 0} (f : A → B) (P : B → Type 0) (xs : List A) → AllByRecursion P (map f xs) → AllByRecursion (λ x. P (f x)) xs
-each_of f P [] h = tt
-each_of f P (x ∷ xs) h = (h.0, each_of f P xs h.1)
+use Rattle.cnf_base.proofs.Lists.{each_append, each_front, each_behind, each_map, each_mapped}
 
 abbrev term_of : Live → ℕ
 term_of a = a.term
@@ -37,10 +24,10 @@ roots_all P s live asked =
 
 -- what holds of all holds of each kind
 pub roots_live : (P : ℕ → Type 0) (s : StateValue) → All P (roots s) → All (λ (a : Live). P a.term) s.scopes.live
-roots_live P s h = All-from_recursion (λ (a : Live). P a.term) s.scopes.live (each_of term_of P s.scopes.live (each_front P (map term_of s.scopes.live) (map term_asked (assumptions s)) (recursion_from_All P (roots s) h)))
+roots_live P s h = All-from_recursion (λ (a : Live). P a.term) s.scopes.live (each_mapped term_of P s.scopes.live (each_front P (map term_of s.scopes.live) (map term_asked (assumptions s)) (recursion_from_All P (roots s) h)))
 
 pub roots_assumed : (P : ℕ → Type 0) (s : StateValue) → All P (roots s) → All (λ (a : Asked). P a.term) (assumptions s)
-roots_assumed P s h = All-from_recursion (λ (a : Asked). P a.term) (assumptions s) (each_of term_asked P (assumptions s) (each_behind P (map term_of s.scopes.live) (map term_asked (assumptions s)) (recursion_from_All P (roots s) h)))
+roots_assumed P s h = All-from_recursion (λ (a : Asked). P a.term) (assumptions s) (each_mapped term_asked P (assumptions s) (each_behind P (map term_of s.scopes.live) (map term_asked (assumptions s)) (recursion_from_All P (roots s) h)))
 
 -- they are plain
 pub roots_plain : (s : StateValue) → IsState s → All (IsPlainTerm s.terms.nodes) (roots s)

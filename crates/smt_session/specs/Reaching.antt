@@ -14,6 +14,10 @@ pub record AreOrdered (nodes : List Node) (reached : List ℕ) : Type 0 where
   pub closed : AreClosed nodes (Contains reached)
   pub falling : AllPairs (λ a b. b < a) reached
 
+-- each list of terms that has these, and is closed under arguments, has all that are reached
+abbrev pub AreLeast : List Node → List ℕ → List ℕ → Type 0
+AreLeast nodes from reached = (others : List ℕ) → AreClosed nodes (Contains others) → All (Contains others) from → All (Contains others) reached
+
 -- the term is the greatest of the waiting ones below the bound, and those after it wait on
 pub record IsNext (bound : ℕ) (old new : List ℕ) (t : ℕ) : Type 0 where
   pub below : t < bound

@@ -1,15 +1,16 @@
 // A check: its steps, its verdict, and its record.
 
-ghost use Rattle.std.specs.Prelude.{◌≡◌, ◌++◌, ◌-◌, ◌<◌, IfOk, OnOk, drop, length};
+ghost use Rattle.std.specs.Prelude.{◌≡◌, ◌++◌, ◌-◌, ◌<◌, ◌⊎◌, ℕ, suc, Contains, IfOk, OnOk, drop, length};
 ghost use Rattle.std.specs.List.{flat_map, AllByRecursion};
 ghost use Rattle.proof_log.specs.Stored.{Stands};
+ghost use Rattle.reached_steps.specs.Reached.{AddsNoVariable};
 ghost use Rattle.proof_text.specs.Lines.{line_text, IsLine};
 ghost use Rattle.proof_text.specs.Records.{AreWritten, record_lines};
 ghost use Rattle.accepted_proof.specs.Answers.{step_lines};
 ghost use Rattle.accepted_proof.specs.Searching.{roots, AreLimits, Rise, cube_variables};
 ghost use Rattle.accepted_proof.specs.Turns.{verdict_of};
 ghost use Rattle.check_cubes.specs.Searches.{limits_of};
-ghost use Rattle.smt_session.specs.Growing.{AreGiven, AreLined};
+ghost use Rattle.smt_session.specs.Growing.{AreGiven, AreLined, Grows};
 ghost use Rattle.smt_session.specs.Reads.{HaveDigits};
 ghost use Rattle.smt_session.specs.Searched.{AreEnough};
 ghost use Rattle.smt_session.specs.Sessions.{IsChecked, IsSession};
@@ -26,6 +27,7 @@ use crate::workspace::Workspace;
 use check_cubes::{Limits, cube_variables};
 use cnf_base::{Lit, Pos};
 use cube_tree::Tree;
+use local_names::LocalNames;
 use proof_log::Log;
 use proof_text::entry::write_entry;
 use proof_text::record::{Record, write_record};
@@ -56,6 +58,26 @@ fn split(alloc: Global, state: &State, log: &Log, limits: Limits) -> Result<Tree
     Tree::split(alloc, variables.as_slice(), limits.cubes)
 }
 
+/// The cubes of a check. Its positions get those of what earlier checks learnt of the variables of its steps.
+fn split_and_reuse(
+    alloc: Global,
+    state: &State,
+    log: &Log,
+    names: &mut LocalNames,
+    positions: &mut Vec<Pos>,
+    limits: Limits,
+) -> Result<Tree, AllocError>
+    requires limits { AreLimits (limits_of limits) }
+    requires stands { Stands state.now.terms.nodes log.now }
+    ensures variables { IfOk result (λ t. t ≡ cube_variables (limits_of limits) state.now state.now.terms.nodes log.now.entries) }
+    ensures rise { IfOk result (λ t. Rise 2 log.now.next t) }
+    ensures adds { IfOk result (λ _. AddsNoVariable log.now.clauses positions.old.items positions.new.items) }
+    ensures within { IfOk result (λ _. (p : ℕ) → Contains positions.new.items p → Contains positions.old.items p ⊎ (p < suc (length log.now.entries))) }
+{
+    add_learnt(alloc, log, names, positions)?;
+    split(alloc, state, log, limits)
+}
+
 /// What a check leaves to the next one, and its record.
 #[derive(Drop)]
 struct Concluded {
@@ -80,9 +102,12 @@ fn conclude(
     ensures { IfOk result (λ c. IsChecked (limits_of limits) state.now workspace.log c.workspace.log c.shown) }
 {
     let Workspace { log, mut names } = workspace;
-    let tree = split(alloc, state, &log, limits)?;
     let mut positions = steps;
-    add_learnt(alloc, &log, &mut names, &mut positions)?;
+    let cubes = split_and_reuse(alloc, state, &log, &mut names, &mut positions, limits);
+    let Ok(tree) = cubes else {
+        drop((log, names, positions));
+        return Err(AllocError);
+    };
     let Searched { workspace, found } = solve(
         alloc,
         state.terms(),
@@ -98,13 +123,11 @@ fn conclude(
             shown: Record::Unsat(at),
         }),
         Found::Model(values) => {
-            let values = model(
-                alloc,
-                state,
-                &workspace.log,
-                &workspace.names,
-                values.as_slice(),
-            )?;
+            let values = values.as_slice();
+            let Ok(values) = model(alloc, state, &workspace.log, &workspace.names, values) else {
+                drop(workspace);
+                return Err(AllocError);
+            };
             Ok(Concluded {
                 workspace,
                 shown: Record::Sat(values),
@@ -117,8 +140,29 @@ fn conclude(
     }
 }
 
-/// Gives what the live assertions and the assumptions reach its bits, searches for a verdict, and gives the record that
-/// shows it.
+/// The positions of a check's steps, and what it takes as true.
+#[derive(Drop)]
+struct Prepared {
+    steps: Vec<Pos>,
+    given: Vec<Lit>,
+}
+
+/// Gives what the live assertions and the assumptions reach its bits, and each live assertion a selector.
+fn prepare(alloc: Global, state: &State, log: &mut Log) -> Result<Prepared, AllocError>
+    requires { IsSession state.now log.old }
+    ensures grows { IfOk result (λ _. Grows state.now log.old log.new) }
+    ensures steps { IfOk result (λ p. AreEnough state.now.terms.nodes log.new (roots state.now) state.now.scopes.live p.steps.items) }
+    ensures given { IfOk result (λ p. AreGiven state.now log.new p.given.items) }
+{
+    let roots = roots(alloc, state)?;
+    let reached = reach(alloc, state.terms(), roots.as_slice())?;
+    encode_all(alloc, state, log, reached.as_slice())?;
+    let given = give(alloc, state, log)?;
+    let steps = positions(alloc, state.terms(), log, reached.as_slice(), state.live())?;
+    Ok(Prepared { steps, given })
+}
+
+/// Prepares a check, searches for its verdict, and gives the record that shows it.
 fn check(
     alloc: Global,
     state: &State,
@@ -130,19 +174,12 @@ fn check(
     ensures { IfOk result (λ c. IsChecked (limits_of limits) state.now workspace.log c.workspace.log c.shown) }
 {
     let Workspace { mut log, names } = workspace;
-    let roots = roots(alloc, state)?;
-    let reached = reach(alloc, state.terms(), roots.as_slice())?;
-    encode_all(alloc, state, &mut log, reached.as_slice())?;
-    let given = give(alloc, state, &mut log)?;
-    let steps = positions(alloc, state.terms(), &log, reached.as_slice(), state.live())?;
-    conclude(
-        alloc,
-        state,
-        Workspace { log, names },
-        steps,
-        given.as_slice(),
-        limits,
-    )
+    let Ok(Prepared { steps, given }) = prepare(alloc, state, &mut log) else {
+        drop((log, names));
+        return Err(AllocError);
+    };
+    let workspace = Workspace { log, names };
+    conclude(alloc, state, workspace, steps, given.as_slice(), limits)
 }
 
 /// Appends the lines of the steps from a position on.
@@ -203,7 +240,10 @@ pub(crate) fn run_check(
 {
     let from = workspace.log.len();
     let Concluded { workspace, shown } = check(alloc, state, workspace, limits)?;
-    let text = lines(alloc, &workspace.log, from, &shown)?;
+    let Ok(text) = lines(alloc, &workspace.log, from, &shown) else {
+        drop((workspace, shown));
+        return Err(AllocError);
+    };
     Ok(Checked {
         workspace,
         shown,

@@ -9,7 +9,7 @@ ghost use Rattle.smt_terms.specs.Nodes.{leaf};
 ghost use Rattle.smt_terms.specs.Same.{same_node};
 ghost use Rattle.smt_terms.specs.Terms.{AreTerms, IsSort};
 ghost use Rattle.bit_blast.specs.Assigned.{IsLongAsWord};
-ghost use Rattle.script_state.specs.Plain.{is_plain_sort};
+ghost use Rattle.smt_terms.specs.Ranks as ranks;
 ghost use Rattle.script_state.specs.States.{IsState, assumptions};
 ghost use Rattle.cube_search.specs.Ends.{assignment};
 ghost use Rattle.proof_log.specs.Stored.{Stands};
@@ -83,7 +83,7 @@ fn constant_value(
 ) -> Value
     requires terms { AreTerms terms.now }
     requires stands { Stands terms.now.nodes log.now }
-    requires plain { is_plain_sort sort ≡ true }
+    requires plain { ranks.is_plain sort ≡ true }
     requires widths { IsSort sort }
     ensures { IsValueIn terms.now.nodes log.now (global_values names.now (assignment values.now)) declaration sort result }
 {

@@ -2,7 +2,7 @@
 
 ghost use Rattle.std.specs.Prelude.{◌≡◌, All, IfOk, Contains};
 ghost use Rattle.accepted_proof.specs.Searching.{roots};
-ghost use Rattle.smt_session.specs.Reaching.{IsPlainTerm, AreOrdered};
+ghost use Rattle.smt_session.specs.Reaching.{IsPlainTerm, AreLeast, AreOrdered};
 
 use crate::waiting::Waiting;
 use script_state::state::State;
@@ -25,7 +25,7 @@ pub(crate) fn roots(alloc: Global, state: &State) -> Result<Vec<TermId>, AllocEr
     Ok(found)
 }
 
-/// The terms that plain terms reach, themselves among them: each once, the last made first. No other term is visited.
+/// The terms that plain terms reach, themselves among them, and no others: each once, the last made first.
 pub(crate) fn reach(
     alloc: Global,
     terms: &Terms,
@@ -34,6 +34,7 @@ pub(crate) fn reach(
     requires plain { All (IsPlainTerm terms.now.nodes) from.now }
     ensures ordered { IfOk result (λ r. AreOrdered terms.now.nodes r.items) }
     ensures from { IfOk result (λ r. All (Contains r.items) from.now) }
+    ensures only { IfOk result (λ r. AreLeast terms.now.nodes from.now r.items) }
 {
     let mut waiting = Waiting::new(alloc);
     waiting.push_all(from)?;

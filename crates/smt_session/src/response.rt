@@ -11,11 +11,14 @@ use smt_text::number::push_number;
 use smt_text::text::Text;
 use std::alloc::{AllocError, Global};
 
-/// The text that answers a command, whether it is an error, and whether the run ends with it.
+/// What a command is answered.
 #[derive(Debug, Drop)]
 pub struct Response {
+    /// The lines to be printed, each with its end; there may be none.
     pub text: Text,
+    /// Whether the command was refused.
     pub error: bool,
+    /// Whether the run ends with this command.
     pub ends: bool,
 }
 
@@ -24,6 +27,7 @@ pub struct Response {
 pub enum Stop {
     /// The proof could not be written.
     Failed,
+    /// Memory is wanting, or numbers of assertions are.
     NoMemory,
 }
 

@@ -1,12 +1,12 @@
 // Sessions.
 
-ghost use Rattle.std.specs.Prelude.{◌≡◌, ◌≤◌, ℕ, List, [], Option, None, Err, IfOk, OnOk, true, if◌then◌else◌};
+ghost use Rattle.std.specs.Prelude.{◌≡◌, ◌≢◌, ◌≤◌, ℕ, List, [], Option, None, Err, IfOk, OnOk, MatchBool, true, if◌then◌else◌};
 ghost use Rattle.std.specs.Io.KnownBytes.{Appends};
 ghost use Rattle.smt_desk.specs.Faults.{Rose};
 ghost use Rattle.proof_text.specs.declared.record.Record.{Record as RecordValue};
 ghost use Rattle.script_state.specs.States.{no_state, IsState};
 ghost use Rattle.script_state.specs.Steps.{forgotten};
-ghost use Rattle.accepted_proof.specs.Searching.{AreLimits};
+ghost use Rattle.accepted_proof.specs.Searching.{AreLimits, Limits as LimitsValue};
 ghost use Rattle.check_cubes.specs.Searches as check_cubes;
 ghost use Rattle.smt_session.specs.Sessions.{AreHeld, IsAnswered, IsSession, Responds, asks_values, limits_of};
 
@@ -50,7 +50,7 @@ impl Model for Session {
     ghost invariant = { λ s. IsSession s.state s.workspace.log × AreLimits (limits_of s.limits) };
 }
 
-/// Writes the lines of a check.
+/// Writes the lines of a check. The error is that the proof could not be written.
 fn write_lines<Q: Sink>(text: &Text, proof: &mut Q) -> Result<(), Stop>
     ensures ok { OnOk result (Appends (Q.written proof.old) (Q.written proof.new) text.now) }
     ensures written { (bytes : List ℕ) × Appends (Q.written proof.old) (Q.written proof.new) bytes }
@@ -94,8 +94,14 @@ fn answer_check<Q: Sink>(
         text,
     } = run_check(alloc, state, workspace, limits)?;
     let verdict = verdict_of(&shown);
-    let response = Response::verdict(alloc, verdict)?;
-    write_lines(&text, proof)?;
+    let Ok(response) = Response::verdict(alloc, verdict) else {
+        drop((workspace, shown, text));
+        return Err(Stop::NoMemory);
+    };
+    if let Err(stop) = write_lines(&text, proof) {
+        drop((workspace, shown, text, response));
+        return Err(stop);
+    }
     state.conclude(verdict);
     Ok(Reply {
         response,
@@ -111,6 +117,13 @@ fn asks_values(answer: &Answer) -> bool
     matches!(answer, Answer::Values(_))
 }
 
+/// Whether a check is asked for.
+fn is_check(answer: &Answer) -> bool
+    ensures { MatchBool result (answer.now ≡ Answer.Check) (answer.now ≢ Answer.Check) }
+{
+    matches!(answer, Answer::Check)
+}
+
 /// Forgets the terms from a number on, where values were asked for.
 fn settle(state: &mut State, asked: bool, len: u32)
     requires { asked ≡ true → IsState (forgotten state.old len) }
@@ -121,7 +134,35 @@ fn settle(state: &mut State, asked: bool, len: u32)
     }
 }
 
-/// Answers what the state says of a command, where the last check has this record.
+/// The response to a command that asks for no check, where the last check has this record.
+fn response_without_check(
+    alloc: Global,
+    line: u64,
+    answer: Answer,
+    last: &Option<Record>,
+    state: &State,
+    log: &Log,
+) -> Result<Response, AllocError>
+    requires session { IsSession state.now log.now }
+    requires held { AreHeld state.now answer }
+    requires unchecked { answer ≢ Answer.Check }
+    ensures { IfOk result (λ r. (limits : LimitsValue) (written : Option (List ℕ)) → Responds limits line answer state.now state.now log.now log.now last.now last.now r written written) }
+{
+    let text = match answer {
+        Answer::Done => return Response::done(alloc, state.options(), false),
+        Answer::Refused(error) => return Response::refusal(alloc, line, error),
+        Answer::Check => unreachable!(),
+        Answer::Says(text) => return Response::line(text),
+        Answer::Model => model_text(alloc, state, last)?,
+        Answer::Values(asked) => values_text(alloc, state, last, asked.as_slice())?,
+        Answer::Core => core_text(alloc, state, log, last)?,
+        Answer::Assumptions => assumptions_text(alloc, state, log, last)?,
+        Answer::Exit => return Response::done(alloc, state.options(), true),
+    };
+    Ok(Response::told(text))
+}
+
+/// Answers what the state says of the command on a line, where the last check has this record.
 fn respond<Q: Sink>(
     alloc: Global,
     line: u64,
@@ -142,23 +183,14 @@ fn respond<Q: Sink>(
     ensures failed { result ≡ Err Stop.Failed → Rose (Q.faults proof.old) (Q.faults proof.new) }
     ensures later { Q.faults proof.old ≤ Q.faults proof.new }
 {
-    let response = match answer {
-        Answer::Done => Response::done(alloc, state.options(), false)?,
-        Answer::Refused(error) => Response::refusal(alloc, line, error)?,
-        Answer::Check => return answer_check(alloc, line, state, workspace, limits, proof),
-        Answer::Says(text) => Response::line(text)?,
-        Answer::Model => Response::told(model_text(alloc, state, &last)?),
-        Answer::Values(asked) => Response::told(values_text(
-            alloc,
-            state,
-            &last,
-            asked.as_slice(),
-        )?),
-        Answer::Core => Response::told(core_text(alloc, state, &workspace.log, &last)?),
-        Answer::Assumptions => {
-            Response::told(assumptions_text(alloc, state, &workspace.log, &last)?)
-        }
-        Answer::Exit => Response::done(alloc, state.options(), true)?,
+    if is_check(&answer) {
+        drop((answer, last));
+        return answer_check(alloc, line, state, workspace, limits, proof);
+    }
+    let told = response_without_check(alloc, line, answer, &last, state, &workspace.log);
+    let Ok(response) = told else {
+        drop((last, workspace));
+        return Err(Stop::NoMemory);
     };
     Ok(Reply {
         response,
@@ -168,26 +200,26 @@ fn respond<Q: Sink>(
 }
 
 impl Session {
-    /// No command yet.
+    /// A session before its first command, each of whose checks is searched within the limits of these settings. The one
+    /// error is want of memory.
     pub fn new(alloc: Global, settings: Settings) -> Result<Session, AllocError>
         requires { AreLimits (limits_of settings) }
         ensures fresh { IfOk result (λ s. (s.state ≡ no_state) × (s.log.entries ≡ []) × (s.shown ≡ None)) }
         ensures limits { IfOk result (λ s. s.limits ≡ limits_of settings) }
     {
-        let workspace = Workspace {
-            log: Log::new(alloc)?,
-            names: LocalNames::new(alloc)?,
-        };
+        let names = LocalNames::new(alloc)?;
+        let log = Log::new(alloc)?;
         Ok(Session {
             state: State::new(alloc),
-            workspace,
+            workspace: Workspace { log, names },
             shown: None,
             limits: settings.limits(),
         })
     }
 
-    /// Does what a command says, and answers it. A check's lines and record are written before. For want of numbers of
-    /// assertions the answer is want of memory.
+    /// Does what a command says: gives the session behind it, and its response. A check's lines and record are written before
+    /// the response is given. After an error there is no session any more; for want of numbers of assertions it is that of
+    /// want of memory.
     pub fn command<Q: Sink>(
         self,
         alloc: Global,
@@ -199,21 +231,31 @@ impl Session {
         ensures failed { result ≡ Err Stop.Failed → Rose (Q.faults proof.old) (Q.faults proof.new) }
         ensures later { Q.faults proof.old ≤ Q.faults proof.new }
     {
+        if self.state.assertions_made() == u32::MAX {
+            drop(self);
+            return Err(Stop::NoMemory);
+        }
         let Session {
             mut state,
             workspace,
             shown,
             limits,
         } = self;
-        if state.assertions_made() == u32::MAX {
-            return Err(Stop::NoMemory);
-        }
         let len = state.terms().len();
-        let answer = state.apply(alloc, chunk)?;
+        let Ok(answer) = state.apply(alloc, chunk) else {
+            drop((state, workspace, shown));
+            return Err(Stop::NoMemory);
+        };
         let asked = asks_values(&answer);
-        let reply = respond(
+        let reply = match respond(
             alloc, chunk.line, answer, shown, &mut state, workspace, limits, proof,
-        )?;
+        ) {
+            Ok(reply) => reply,
+            Err(stop) => {
+                drop(state);
+                return Err(stop);
+            }
+        };
         settle(&mut state, asked, len);
         let session = Session {
             state,

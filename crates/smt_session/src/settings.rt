@@ -6,11 +6,14 @@ ghost use Rattle.smt_session.specs.Sessions.{limits_of};
 
 use check_cubes::Limits;
 
-/// How many workers search, how many variables split a check into cubes, and how many clauses the search of a cube may learn.
+/// How checks are searched.
 #[derive(Clone, Copy, Debug, PartialEq, Eq)]
 pub struct Settings {
+    /// How many workers search. A session has one, whatever stands here.
     pub workers: u32,
+    /// How many variables split a check into cubes.
     pub cubes: u32,
+    /// How many clauses the search of a cube may learn.
     pub budget: u32,
 }
 

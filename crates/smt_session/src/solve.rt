@@ -188,9 +188,12 @@ pub(crate) fn solve(
     let Workspace { log, names } = workspace;
     let from = log.len();
     let mut board = LogBoard::new(alloc, log, terms);
-    let mut search = Search::new(alloc, &board, names, positions, from)?;
+    let Ok(mut search) = Search::new(alloc, &board, names, positions, from) else {
+        drop(board);
+        return Err(AllocError);
+    };
     let mut tried = Tried::new(alloc);
-    let model = search_cubes(
+    let Ok(model) = search_cubes(
         alloc,
         &mut search,
         &mut board,
@@ -198,16 +201,23 @@ pub(crate) fn solve(
         assumed,
         budget,
         &mut tried,
-    )?;
+    ) else {
+        drop((board, search, tried));
+        return Err(AllocError);
+    };
     let mut log = board.into_log();
     let names = search.into_names();
     if let Some(values) = model {
+        drop(tried);
         return Ok(Searched {
             workspace: Workspace { log, names },
             found: Found::Model(values),
         });
     }
-    let found = tried.conclude(alloc, terms, &mut log, tree)?;
+    let Ok(found) = tried.conclude(alloc, terms, &mut log, tree) else {
+        drop((log, names));
+        return Err(AllocError);
+    };
     Ok(Searched {
         workspace: Workspace { log, names },
         found,

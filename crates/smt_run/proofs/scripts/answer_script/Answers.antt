@@ -1,11 +1,16 @@
-use Rattle.std.proofs.Common.{◌<◌, ◌++◌, [], length, take, refl, inr, append-nil, arith}
+use Rattle.std.proofs.Common.{false, ◌<◌, ◌++◌, [], length, take, refl, inr, append-nil, arith}
 use Rattle.std.proofs.lemmas.Result.{err_from_is_err_and}
 use Rattle.std.proofs.KnownBytes.{Consumes-nil, Consumes-trans}
+use Rattle.std.proofs.lemmas.Bool.{not-true, not-false}
+use Rattle.smt_text.specs.Framing.{Held}
 use Rattle.smt_text.proofs.Cuts.{Begins-append}
 use Rattle.smt_text.proofs.Driver.{framed_none}
+use Rattle.smt_check.specs.Runs.{counts}
 use Rattle.smt_check.proofs.Parts.{adds_more, cause_after}
+use Rattle.smt_session.specs.Sessions.{limits_of}
+use Rattle.smt_run.specs.Adding.{opening, streams, with_piece}
 use Rattle.smt_run.proofs.Written.{Progress-none, Progress-more, Progress-resize, Written-none, Written-more, within_none, within_more, read_stopped, read_failed, read_whole, at_most, piece_read, script_cause}
-use Rattle.smt_run.proofs.Turning.{goes_on, is_over, Advances-none, Advances-trans, Begins-trans, held_none, held_stop, held_more, held_behind}
+use Rattle.smt_run.proofs.Turning.{Advances-none, Advances-trans, Begins-trans, held_none, held_stop, held_more, held_behind}
 use Rattle.smt_run.proofs.Telling.{front_told, rest_told, ended_told, ended_read}
 use Rattle.smt_run.proofs.scripts.answer_script.Goals as goal
 
@@ -32,22 +37,34 @@ pieces-init g c =
 pub returns-in_err-session-clause-turns : goal.returns-in_err-session-clause-turns
 returns-in_err-session-clause-turns g c =
     let p = err_from_is_err_and c.from_residual.result c.from_residual.ensures.1 in
-    rw p.1 (front_told _ _ _ [] _ _ (Consumes-nil (g.S.Source.left c.args.script.now)) (held_none _ _ _))
+    let start = streams (g.W.Sink.written c.args.answers.now) (g.Q.Sink.written c.args.proof.now) in
+    rw p.1 (front_told (limits_of c.args.settings) (g.S.Source.left c.args.script.now) (g.S.Source.left c.args.script.now) [] start start (Consumes-nil (g.S.Source.left c.args.script.now)) (held_none (record { line = 1; bytes = [] }) (opening (limits_of c.args.settings)) start))
 
 pub returns-in-Err-clause-turns : goal.returns-in-Err-clause-turns
 returns-in-Err-clause-turns g c =
     let inv = c.pieces.invariant in
-    let more = piece_read _ _ _ _ c.in-Err.ensures.read in
-    front_told _ _ _ (inv.text ++ more.0) _ _ (Consumes-trans _ (g.S.Source.left c.pieces.script) _ _ _ inv.consumed more.1)
-    (held_more (record { line = 1; bytes = inv.text }) more.0 _ _ _ (held_stop _ _ _ _ _ _ _ _ (goes_on c.pieces.so_far.ended c.pieces-test.true) inv.begins inv.advances))
+    let held : Held = record { line = 1; bytes = inv.text } in
+    let start = streams (g.W.Sink.written c.args.answers.now) (g.Q.Sink.written c.args.proof.now) in
+    let here = streams (g.W.Sink.written c.pieces.answers) (g.Q.Sink.written c.pieces.proof) in
+    let more = piece_read c.pieces.left (g.S.Source.left c.pieces.script) (g.S.Source.left c.read_piece.new.script) c.in-Err.status c.in-Err.ensures.read in
+    front_told (limits_of c.args.settings) (g.S.Source.left c.args.script.now) (g.S.Source.left c.read_piece.new.script) (inv.text ++ more.0) start here
+    (Consumes-trans (g.S.Source.left c.args.script.now) (g.S.Source.left c.pieces.script) (g.S.Source.left c.read_piece.new.script) inv.text more.0 inv.consumed more.1)
+    (held_more held more.0 (opening (limits_of c.args.settings)) start here
+    (held_stop held c.pieces.framer (opening (limits_of c.args.settings)) false c.pieces.so_far start here inv.chunks (not-true c.pieces.so_far.ended c.pieces-test.true) inv.begins inv.advances))
 
 pub returns-in_err-so_far-clause-turns : goal.returns-in_err-so_far-clause-turns
 returns-in_err-so_far-clause-turns g c =
     let p = err_from_is_err_and c.from_residual-in_err-so_far.result c.from_residual-in_err-so_far.ensures.1 in
     let inv = c.pieces.invariant in
     let piece = take c.in-Ok.size c.read_piece.new.buffer in
-    rw p.1 (front_told _ _ _ (inv.text ++ piece) _ _ (Consumes-trans _ (g.S.Source.left c.pieces.script) _ _ _ inv.consumed c.in-Ok.ensures.bytes)
-    (held_behind _ _ _ _ _ _ _ _ _ (goes_on c.pieces.so_far.ended c.pieces-test.true) (Begins-append _ _ _ piece inv.begins) inv.advances c.in_err-so_far.ensures.broken))
+    let held : Held = record { line = 1; bytes = inv.text } in
+    let start = streams (g.W.Sink.written c.args.answers.now) (g.Q.Sink.written c.args.proof.now) in
+    let here = streams (g.W.Sink.written c.pieces.answers) (g.Q.Sink.written c.pieces.proof) in
+    let behind = streams (g.W.Sink.written c.answer_piece.new.answers) (g.Q.Sink.written c.answer_piece.new.proof) in
+    rw p.1
+    (front_told (limits_of c.args.settings) (g.S.Source.left c.args.script.now) (g.S.Source.left c.read_piece.new.script) (inv.text ++ piece) start behind (Consumes-trans (g.S.Source.left c.args.script.now) (g.S.Source.left c.pieces.script) (g.S.Source.left c.read_piece.new.script) inv.text piece inv.consumed c.in-Ok.ensures.bytes)
+    (held_behind (with_piece held piece) (with_piece c.pieces.framer piece) (opening (limits_of c.args.settings)) false c.pieces.so_far start here behind inv.chunks
+    (not-true c.pieces.so_far.ended c.pieces-test.true) (Begins-append held inv.chunks c.pieces.framer piece inv.begins) inv.advances c.in_err-so_far.ensures.broken))
 
 pub returns-in-Err-clause-read : goal.returns-in-Err-clause-read
 returns-in-Err-clause-read g c =
@@ -67,18 +84,31 @@ returns-in_err-so_far-clause-proof g c = adds_more _ _ _ c.pieces.invariant.writ
 pub pieces-preserved : goal.pieces-preserved
 pieces-preserved g c =
     let room : 0 < length c.read_piece.new.buffer = omega (arith, c.pieces.invariant.read.room) in
+    let inv = c.pieces.invariant in
+    let turns = c.in_ok-so_far.ensures.turns in
+    let piece = take c.in-Ok.size c.read_piece.new.buffer in
+    let held : Held = record { line = 1; bytes = inv.text } in
+    let start = streams (g.W.Sink.written c.args.answers.now) (g.Q.Sink.written c.args.proof.now) in
+    let here = streams (g.W.Sink.written c.pieces.answers) (g.Q.Sink.written c.pieces.proof) in
+    let behind = streams (g.W.Sink.written c.answer_piece.new.answers) (g.Q.Sink.written c.answer_piece.new.proof) in
     record {
       read =
           Progress-resize _ _ _ _ _ room
           (Progress-more _ _ _ _ _ _ c.pieces.invariant.read c.in-Ok.ensures.read.0 c.in-Ok.ensures.read.1);
-      text = c.pieces.invariant.text ++ take c.in-Ok.size c.read_piece.new.buffer;
-      consumed = Consumes-trans _ (g.S.Source.left c.pieces.script) _ _ _ c.pieces.invariant.consumed c.in-Ok.ensures.bytes;
-      chunks = c.pieces.invariant.chunks ++ c.in_ok-so_far.ensures.turns.chunks;
-      begins = Begins-trans _ _ _ _ _ (Begins-append _ _ _ (take c.in-Ok.size c.read_piece.new.buffer) c.pieces.invariant.begins) c.in_ok-so_far.ensures.turns.begins;
-      ends = c.in_ok-so_far.ensures.turns.ends;
-      advances = Advances-trans _ _ _ _ _ _ _ _ _ (goes_on c.pieces.so_far.ended c.pieces-test.true) c.pieces.invariant.advances c.in_ok-so_far.ensures.turns.advances;
+      text = inv.text ++ piece;
+      consumed = Consumes-trans (g.S.Source.left c.args.script.now) (g.S.Source.left c.pieces.script) (g.S.Source.left c.read_piece.new.script) inv.text piece inv.consumed c.in-Ok.ensures.bytes;
+      chunks = inv.chunks ++ turns.chunks;
+      begins =
+          Begins-trans (with_piece held piece) (with_piece c.pieces.framer piece) c.answer_piece.new.framer inv.chunks turns.chunks
+          (Begins-append held inv.chunks c.pieces.framer piece inv.begins) turns.begins;
+      ends = turns.ends;
+      advances =
+          Advances-trans (opening (limits_of c.args.settings)) false c.pieces.so_far c.in_ok-so_far.so_far start here behind inv.chunks turns.chunks
+          (not-true c.pieces.so_far.ended c.pieces-test.true) inv.advances turns.advances;
       written =
-          Written-more _ _ _ _ _ _ _ _ _ c.pieces.invariant.written c.in_ok-so_far.ensures.answers c.in_ok-so_far.ensures.proof
+          Written-more (g.W.Sink.written c.args.answers.now) (g.W.Sink.written c.pieces.answers) (g.W.Sink.written c.answer_piece.new.answers) (g.Q.Sink.written c.args.proof.now) (g.Q.Sink.written c.pieces.proof) (g.Q.Sink.written c.answer_piece.new.proof)
+          (counts (g.S.Source.faults c.args.script.now) (g.W.Sink.faults c.args.answers.now) (g.Q.Sink.faults c.args.proof.now)) (counts (g.S.Source.faults c.pieces.script) (g.W.Sink.faults c.pieces.answers) (g.Q.Sink.faults c.pieces.proof)) (counts (g.S.Source.faults c.read_piece.new.script) (g.W.Sink.faults c.answer_piece.new.answers) (g.Q.Sink.faults c.answer_piece.new.proof))
+          c.pieces.invariant.written c.in_ok-so_far.ensures.answers c.in_ok-so_far.ensures.proof
           (record { script = c.read_piece.ensures.later; answers = c.answer_piece.ensures.later.answers; proof = c.answer_piece.ensures.later.proof });
     }
 
@@ -90,9 +120,13 @@ returns-then-size-eq0-clause-read g c =
 pub returns-then-size-eq0-clause-turns : goal.returns-then-size-eq0-clause-turns
 returns-then-size-eq0-clause-turns g c =
     let inv = c.pieces.invariant in
-    let all = Consumes-trans _ (g.S.Source.left c.pieces.script) _ _ _ inv.consumed c.in-Ok.ensures.bytes in
+    let all = Consumes-trans (g.S.Source.left c.args.script.now) (g.S.Source.left c.pieces.script) (g.S.Source.left c.read_piece.new.script) inv.text (take c.in-Ok.size c.read_piece.new.buffer) inv.consumed c.in-Ok.ensures.bytes in
     let all' = rw (c.if-size-eq0.true, append-nil) at all in
-    rest_told _ _ _ inv.text _ _ _ _ inv.chunks _ _ (goes_on c.pieces.so_far.ended c.pieces-test.true) all' (c.in-Ok.ensures.read.2 c.if-size-eq0.true) inv.begins (inv.ends (goes_on c.pieces.so_far.ended c.pieces-test.true)) inv.advances c.answer_rest.ensures.turns c.answer_rest.ensures.broken
+    let start = streams (g.W.Sink.written c.args.answers.now) (g.Q.Sink.written c.args.proof.now) in
+    let here = streams (g.W.Sink.written c.pieces.answers) (g.Q.Sink.written c.pieces.proof) in
+    let behind = streams (g.W.Sink.written c.answer_rest.new.answers) (g.Q.Sink.written c.answer_rest.new.proof) in
+    rest_told (limits_of c.args.settings) (g.S.Source.left c.args.script.now) (g.S.Source.left c.read_piece.new.script) inv.text c.pieces.so_far start here behind inv.chunks c.pieces.framer c.answer_rest.result
+    (not-true c.pieces.so_far.ended c.pieces-test.true) all' (c.in-Ok.ensures.read.2 c.if-size-eq0.true) inv.begins (inv.ends (not-true c.pieces.so_far.ended c.pieces-test.true)) inv.advances c.answer_rest.ensures.turns c.answer_rest.ensures.broken
 
 pub returns-then-size-eq0-clause-answers : goal.returns-then-size-eq0-clause-answers
 returns-then-size-eq0-clause-answers g c = adds_more _ _ _ c.pieces.invariant.written.answers c.answer_rest.ensures.answers
@@ -106,12 +140,19 @@ returns-clause-read g c = at_most _ _ _ _ c.pieces.invariant.read
 pub returns-clause-read_out : goal.returns-clause-read_out
 returns-clause-read_out g c =
     let inv = c.pieces.invariant in
-    ended_read _ _ _ inv.text _ _ _ inv.chunks _ (is_over c.pieces.so_far.ended c.pieces-test.false) inv.consumed inv.begins inv.advances
+    let start = streams (g.W.Sink.written c.args.answers.now) (g.Q.Sink.written c.args.proof.now) in
+    let here = streams (g.W.Sink.written c.pieces.answers) (g.Q.Sink.written c.pieces.proof) in
+    ended_read (limits_of c.args.settings) (g.S.Source.left c.args.script.now) (g.S.Source.left c.pieces.script) inv.text c.pieces.so_far start here inv.chunks c.pieces.framer
+    (not-false c.pieces.so_far.ended c.pieces-test.false) inv.consumed inv.begins inv.advances
 
 pub returns-clause-turns : goal.returns-clause-turns
 returns-clause-turns g c =
     let inv = c.pieces.invariant in
-    rw c.end.ensures (ended_told _ _ _ inv.text _ _ _ inv.chunks _ (is_over c.pieces.so_far.ended c.pieces-test.false) inv.consumed inv.begins inv.advances)
+    let start = streams (g.W.Sink.written c.args.answers.now) (g.Q.Sink.written c.args.proof.now) in
+    let here = streams (g.W.Sink.written c.pieces.answers) (g.Q.Sink.written c.pieces.proof) in
+    rw c.end.ensures
+    (ended_told (limits_of c.args.settings) (g.S.Source.left c.args.script.now) (g.S.Source.left c.pieces.script) inv.text c.pieces.so_far start here inv.chunks c.pieces.framer
+    (not-false c.pieces.so_far.ended c.pieces-test.false) inv.consumed inv.begins inv.advances)
 
 pub returns-in-Err-clause-cause : goal.returns-in-Err-clause-cause
 returns-in-Err-clause-cause g c =

@@ -1,46 +1,18 @@
-use Rattle.std.proofs.Common.{◌≡◌, sym, ◌∙◌, subst}
-use Rattle.std.specs.Prelude.{All, IsSome}
 use Rattle.std.proofs.lemmas.Result.{IfOk-weaker}
 use Rattle.check_cubes.specs.Searches.{limits_of}
-use Rattle.scope_selectors.specs.declared.live.Live.{Live}
-use Rattle.proof_log.specs.Stored.{selector_in}
-use Rattle.smt_session.specs.Growing.{HasBits}
-use Rattle.accepted_proof.specs.Searching.{roots}
-use Rattle.smt_session.specs.Reaching.{AreOrdered}
-use Rattle.smt_session.specs.Searched.{ArePositions}
 use Rattle.smt_session.proofs.Concluding.{checked_more}
-use Rattle.smt_session.proofs.Staying.{grows_more}
-use Rattle.smt_session.proofs.Satisfied.{root_bits, reached_bits, have_selectors, enough}
+use Rattle.smt_session.proofs.Staying.{grown_steps}
 use Rattle.smt_session.proofs.check.check.Goals as goal
 
-pub give-requires-clause-bits : goal.give-requires-clause-bits
-give-requires-clause-bits c =
-    let from : c.as_slice.result.now ≡ roots c.args.state.now = c.as_slice.ensures.value ∙ c.in_ok-roots.ensures.roots in
-    let bits : All (HasBits c.encode_all.new.log) c.in_ok-reached.reached.items = subst (All (HasBits c.encode_all.new.log)) c.as_slice-2.ensures.value c.in_ok-encode_all.ensures.bits in
-    root_bits c.args.state.now c.encode_all.new.log c.as_slice.result.now c.in_ok-reached.reached.items from c.in_ok-reached.ensures.from bits
-
-pub positions-requires-clause-bits : goal.positions-requires-clause-bits
-positions-requires-clause-bits c =
-    let same : c.as_slice-2.result.now ≡ c.as_slice-3.result.now = c.as_slice-2.ensures.value ∙ sym c.as_slice-3.ensures.value in
-    subst (All (HasBits c.give.new.log)) same
-    (reached_bits c.args.state.now c.encode_all.new.log c.give.new.log c.as_slice-2.result.now c.in_ok-encode_all.ensures.grows.stands c.in_ok-given.ensures.grows c.in_ok-encode_all.ensures.bits)
-
-pub positions-requires-clause-selectors : goal.positions-requires-clause-selectors
-positions-requires-clause-selectors c =
-    subst (All (λ (a : Live). IsSome (selector_in c.give.new.log.selectors a.assertion))) (sym c.live.ensures.live)
-    (have_selectors c.give.new.log c.args.state.now.scopes.live c.in_ok-given.ensures.given.selectors c.in_ok-given.ensures.given.chosen)
-
-pub conclude-requires-clause-steps : goal.conclude-requires-clause-steps
-conclude-requires-clause-steps c =
-    let from : c.as_slice.result.now ≡ roots c.args.state.now = c.as_slice.ensures.value ∙ c.in_ok-roots.ensures.roots in
-    let each : ArePositions c.give.new.log c.in_ok-reached.reached.items c.live.result.now c.in_ok-steps.steps.items =
-    subst (λ l. ArePositions c.give.new.log l c.live.result.now c.in_ok-steps.steps.items) c.as_slice-3.ensures.value c.in_ok-steps.ensures in
-    enough c.args.state.now c.give.new.log c.as_slice.result.now c.in_ok-reached.reached.items c.in_ok-steps.steps.items c.live.result.now from c.live.ensures.live
-    (subst (λ v. AreOrdered v.nodes c.in_ok-reached.reached.items) c.terms.ensures.terms c.in_ok-reached.ensures.ordered) c.in_ok-reached.ensures.from each
+pub conclude-requires-clause-session : goal.conclude-requires-clause-session
+conclude-requires-clause-session c = record {
+  state = c.requires.session.state;
+  stands = c.in-Ok.ensures.grows.stands;
+  each = grown_steps c.args.state.now c.args.workspace.log c.prepare.new.log c.requires.session.each c.in-Ok.ensures.grows;
+}
 
 pub returns : goal.returns
 returns c =
     IfOk-weaker c.conclude.result _ _
-    (λ r. checked_more (limits_of c.args.limits) c.args.state.now c.args.workspace.log c.give.new.log r.workspace.log r.shown
-    (grows_more c.args.state.now c.args.workspace.log c.encode_all.new.log c.give.new.log c.in_ok-encode_all.ensures.grows c.in_ok-given.ensures.grows))
+    (λ r. checked_more (limits_of c.args.limits) c.args.state.now c.args.workspace.log c.prepare.new.log r.workspace.log r.shown c.in-Ok.ensures.grows)
     c.conclude.ensures

@@ -19,4 +19,4 @@ terms-preserved c =
 pub returns : goal.returns
 returns c =
     let done = reaching_done c.args.terms.now.nodes c.args.from.now c.terms.waiting c.terms.reached.items c.terms.bound c.terms.invariant c.in_default.ensures in
-    record { ordered = done.0; from = done.1 }
+    record { ordered = done.0; from = done.1; only = done.2 }

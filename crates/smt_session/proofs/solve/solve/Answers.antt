@@ -23,23 +23,23 @@ new-requires-clause-stands c =
 
 pub conclude-requires-clause-tried : goal.conclude-requires-clause-tried
 conclude-requires-clause-tried c =
-    let begun = start_problem c.in_ok-search.search c.new-board.result c.args.terms.now.nodes c.args.workspace.log.entries c.args.positions.now c.args.tree.now c.args.assumed.now c.args.budget (ap (λ (t : TermsValue). t.nodes) c.new-board.ensures.terms) c.in_ok-search.ensures.opening (c.in_ok-search.ensures.from ∙ c.len-from.ensures) in (
+    let begun = start_problem c.in-Ok.search c.new-board.result c.args.terms.now.nodes c.args.workspace.log.entries c.args.positions.now c.args.tree.now c.args.assumed.now c.args.budget (ap (λ (t : TermsValue). t.nodes) c.new-board.ensures.terms) c.in-Ok.ensures.opening (c.in-Ok.ensures.from ∙ c.len-from.ensures) in (
       problem c.args.terms.now.nodes c.args.workspace.log.entries c.args.positions.now c.args.tree.now c.args.assumed.now c.args.budget,
       refl,
       refl,
       tried_back _ (problem c.args.terms.now.nodes c.args.workspace.log.entries c.args.positions.now c.args.tree.now c.args.assumed.now c.args.budget) _ c.into_log-log.result.entries _ _ _ _ _
-          (c.in_ok-model.ensures.same ∙ begun) (ap (λ (l : LogValue). l.entries) c.into_log-log.ensures.log) c.in_default.is c.in_ok-model.ensures.tried,
+          (c.in-Ok-search_cubes.ensures.same ∙ begun) (ap (λ (l : LogValue). l.entries) c.into_log-log.ensures.log) c.in_default-model.is c.in-Ok-search_cubes.ensures.tried,
     )
 
 pub returns-clause-grows : goal.returns-clause-grows
 returns-clause-grows c =
     let first : Grows c.args.workspace.log.entries c.into_log-log.result.entries =
-    subst (λ (l : LogValue). Grows l.entries c.into_log-log.result.entries) c.new-board.ensures.log (subst (λ (l : LogValue). Grows c.new-board.result.log.entries l.entries) (sym c.into_log-log.ensures.log) c.in_ok-model.ensures.grows) in
-    grows_then c.args.workspace.log.entries c.into_log-log.result.entries c.conclude.new.log.entries first c.in_ok-found.ensures.grows
+    subst (λ (l : LogValue). Grows l.entries c.into_log-log.result.entries) c.new-board.ensures.log (subst (λ (l : LogValue). Grows c.new-board.result.log.entries l.entries) (sym c.into_log-log.ensures.log) c.in-Ok-search_cubes.ensures.grows) in
+    grows_then c.args.workspace.log.entries c.into_log-log.result.entries c.conclude.new.log.entries first c.in-Ok-conclude.ensures.grows
 
 pub returns-clause-found : goal.returns-clause-found
 returns-clause-found c =
-    let begun = start_problem c.in_ok-search.search c.new-board.result c.args.terms.now.nodes c.args.workspace.log.entries c.args.positions.now c.args.tree.now c.args.assumed.now c.args.budget (ap (λ (t : TermsValue). t.nodes) c.new-board.ensures.terms) c.in_ok-search.ensures.opening (c.in_ok-search.ensures.from ∙ c.len-from.ensures) in
-    c.in_ok-found.ensures.found (problem c.args.terms.now.nodes c.args.workspace.log.entries c.args.positions.now c.args.tree.now c.args.assumed.now c.args.budget) c.into_names-names.result refl refl
+    let begun = start_problem c.in-Ok.search c.new-board.result c.args.terms.now.nodes c.args.workspace.log.entries c.args.positions.now c.args.tree.now c.args.assumed.now c.args.budget (ap (λ (t : TermsValue). t.nodes) c.new-board.ensures.terms) c.in-Ok.ensures.opening (c.in-Ok.ensures.from ∙ c.len-from.ensures) in
+    c.in-Ok-conclude.ensures.found (problem c.args.terms.now.nodes c.args.workspace.log.entries c.args.positions.now c.args.tree.now c.args.assumed.now c.args.budget) c.into_names-names.result refl refl
     (tried_back _ (problem c.args.terms.now.nodes c.args.workspace.log.entries c.args.positions.now c.args.tree.now c.args.assumed.now c.args.budget) _ c.into_log-log.result.entries _ _ _ _ _
-    (c.in_ok-model.ensures.same ∙ begun) (ap (λ (l : LogValue). l.entries) c.into_log-log.ensures.log) c.in_default.is c.in_ok-model.ensures.tried)
+    (c.in-Ok-search_cubes.ensures.same ∙ begun) (ap (λ (l : LogValue). l.entries) c.into_log-log.ensures.log) c.in_default-model.is c.in-Ok-search_cubes.ensures.tried)
