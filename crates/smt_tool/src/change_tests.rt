@@ -1,4 +1,7 @@
+//! Proofs with one line changed, and how a check of each ends.
+
 use crate::check_tests::check;
+use crate::worked::joined;
 use smt_check::status::Status;
 use smt_desk::memory::MemSink;
 use std::alloc::{AllocError, AllocGlobal, Global};
@@ -86,54 +89,66 @@ fn push_text(changed: &mut Vec<u8>, to: &str) -> Result<(), AllocError> {
 
 /// How a check ends that refuses this line by this rule.
 fn refused(alloc: Global, line: &str, name: &str) -> Result<Vec<u8>, AllocError> {
-    let mut text: Vec<u8> = Vec::new(alloc);
-    text.extend_from_slice(b"refused line ")?;
-    text.extend_from_slice(line.as_bytes())?;
-    text.extend_from_slice(b" rule ")?;
-    text.extend_from_slice(name.as_bytes())?;
-    text.push(b'\n')?;
-    Ok(text)
+    joined(
+        alloc,
+        &[
+            b"refused line ",
+            line.as_bytes(),
+            b" rule ",
+            name.as_bytes(),
+            b"\n",
+        ],
+    )
 }
 
-/// A line of a proof is changed, and the proof checked. A row has the line's number, the number of the line that is refused
-/// then, the rule of that or `accepted`, and the text in the line's place.
-fn judge_change(rt: &(impl Abort + AllocGlobal), proved: &Proved, row: &str) -> Result<(), Fail> {
-    let alloc = rt.alloc();
-    let (at, rest) = row.split_once(' ').ok_or("a changed line")?;
-    let (line, rest) = rest.split_once(' ').ok_or("a refused line")?;
-    let (name, to) = rest.split_once(' ').ok_or("a rule")?;
-    let at = at.parse::<u64>().ok().ok_or("a number")?;
+/// The parts of a row: the number of the line that is changed, the number of the line that is refused then, the rule of that or
+/// `accepted`, and the text in the line's place.
+fn parts(row: &str) -> Option<(u64, &str, &str, &str)> {
+    let (at, rest) = row.split_once(' ')?;
+    let (line, rest) = rest.split_once(' ')?;
+    let (name, to) = rest.split_once(' ')?;
+    let at = at.parse::<u64>().ok()?;
+    Some((at, line, name, to))
+}
+
+/// Whether the proof is judged as the row says where the row's line is changed.
+fn is_judged(alloc: Global, proved: &Proved, row: &str) -> Result<bool, AllocError> {
+    let Some((at, line, name, to)) = parts(row) else {
+        return Ok(false);
+    };
     let changed = with_line(alloc, proved.proof, at, to)?;
     let mut answers = MemSink::new(alloc, 100, &[]);
     let status = check(alloc, proved.script, changed.as_slice(), 100, &mut answers);
     if name == "accepted" {
-        assert_eq!(rt; status, Status::Done, "{row}");
-        return Ok(());
+        return Ok(status == Status::Done);
     }
     let wanted = refused(alloc, line, name)?;
-    assert_eq!(rt; status, Status::Refused, "{row}");
-    assert!(rt; answers.bytes().ends_with(wanted.as_slice()));
-    Ok(())
+    Ok(status == Status::Refused && answers.bytes().ends_with(wanted.as_slice()))
 }
 
-/// Each change of one line is judged as its row says.
-pub(crate) fn judge_each(
+/// Changes of a proof, a row each.
+#[derive(Clone, Copy)]
+pub(crate) struct Changes {
+    pub(crate) of: Proved,
+    pub(crate) rows: &'static str,
+}
+
+/// Each change is judged as its row says.
+pub(crate) fn judge_changes(
     rt: &(impl Abort + AllocGlobal),
-    proved: &Proved,
-    rows: &str,
+    tables: &[Changes],
 ) -> Result<(), Fail> {
-    for row in rows.lines() {
-        judge_change(rt, proved, row)?;
+    for table in tables {
+        for row in table.rows.lines() {
+            assert!(rt; is_judged(rt.alloc(), &table.of, row)?, "{row}");
+        }
     }
     Ok(())
 }
 
-#[test]
-fn bad_headers(rt: HostRuntime) -> Result<(), Fail> {
-    judge_each(
-        &rt,
-        &FALSE,
-        "1 1 header smt_proof 2 cubes 0 budget 100000|\n\
+const BAD_HEADERS: Changes = Changes {
+    of: FALSE,
+    rows: "1 1 header smt_proof 2 cubes 0 budget 100000|\n\
     1 1 header smt_proof 1 cubes 11 budget 100000|\n\
     1 1 header smt_proof 1 cubes 0 budget 1000000001|\n\
     1 1 header smt_proof 1 cubes 00 budget 100000|\n\
@@ -143,15 +158,11 @@ fn bad_headers(rt: HostRuntime) -> Result<(), Fail> {
     1 1 header \n\
     1 1 header e 0|\n\
     2 2 line smt_proof 1 cubes 0 budget 100000|",
-    )
-}
+};
 
-#[test]
-fn lines_that_are_none_of_a_proof(rt: HostRuntime) -> Result<(), Fail> {
-    judge_each(
-        &rt,
-        &FALSE,
-        "2 2 line e|\n\
+const LINES_THAT_ARE_NONE_OF_A_PROOF: Changes = Changes {
+    of: FALSE,
+    rows: "2 2 line e|\n\
     2 2 line e 0 0|\n\
     2 2 line e 00|\n\
     2 2 line e 0 |\n\
@@ -171,15 +182,11 @@ fn lines_that_are_none_of_a_proof(rt: HostRuntime) -> Result<(), Fail> {
     5 5 line unsat 3\n\
     5 5 line unsat|\n\
     5 5 line unknown 3|",
-    )
-}
+};
 
-#[test]
-fn steps_that_are_not_valid(rt: HostRuntime) -> Result<(), Fail> {
-    judge_each(
-        &rt,
-        &FALSE,
-        "2 2 selector \n\
+const STEPS_THAT_ARE_NOT_VALID: Changes = Changes {
+    of: FALSE,
+    rows: "2 2 selector \n\
     2 2 encode e 1|\n\
     2 2 encode e 4294967296|\n\
     2 3 encode e 0|e 0|\n\
@@ -191,15 +198,11 @@ fn steps_that_are_not_valid(rt: HostRuntime) -> Result<(), Fail> {
     3 3 chain \n\
     3 3 selector s 1|\n\
     3 4 selector s 0|s 0|",
-    )
-}
+};
 
-#[test]
-fn chains_that_are_none(rt: HostRuntime) -> Result<(), Fail> {
-    judge_each(
-        &rt,
-        &FALSE,
-        "4 4 chain c -2 0 2.0|\n\
+const CHAINS_THAT_ARE_NONE: Changes = Changes {
+    of: FALSE,
+    rows: "4 4 chain c -2 0 2.0|\n\
     4 4 chain c -2 0 0.0|\n\
     4 4 chain c -2 0|\n\
     4 4 chain c -2 0 0.0 2.1|\n\
@@ -211,15 +214,11 @@ fn chains_that_are_none(rt: HostRuntime) -> Result<(), Fail> {
     4 4 chain c 0 0.0 2.0|\n\
     4 4 chain c -2 2 0 0.0|\n\
     4 4 chain c -2 0 0.0 2.0 0.0|",
-    )
-}
+};
 
-#[test]
-fn records_that_show_nothing(rt: HostRuntime) -> Result<(), Fail> {
-    judge_each(
-        &rt,
-        &FALSE,
-        "2 2 unsat unsat 0|\n\
+const RECORDS_THAT_SHOW_NOTHING: Changes = Changes {
+    of: FALSE,
+    rows: "2 2 unsat unsat 0|\n\
     2 2 unsat unsat 3|\n\
     2 2 sat sat 0|\n\
     2 2 sat sat 1|\n\
@@ -233,15 +232,11 @@ fn records_that_show_nothing(rt: HostRuntime) -> Result<(), Fail> {
     5 5 end \n\
     5 6 end unsat 3|unsat 3|\n\
     5 6 end unsat 3|sat",
-    )
-}
+};
 
-#[test]
-fn terms_that_cannot_be_made(rt: HostRuntime) -> Result<(), Fail> {
-    judge_each(
-        &rt,
-        &WITH_TERM,
-        "2 2 node t not 1|\n\
+const TERMS_THAT_CANNOT_BE_MADE: Changes = Changes {
+    of: WITH_TERM,
+    rows: "2 2 node t not 1|\n\
     2 2 node t not 0 0|\n\
     2 2 node t bvnot 0|\n\
     2 2 node t zero_extend 0|\n\
@@ -252,15 +247,11 @@ fn terms_that_cannot_be_made(rt: HostRuntime) -> Result<(), Fail> {
     2 3 node t not 0|t not 0|\n\
     2 3 encode \n\
     3 3 encode ",
-    )
-}
+};
 
-#[test]
-fn models_and_refutations_of_two_checks(rt: HostRuntime) -> Result<(), Fail> {
-    judge_each(
-        &rt,
-        &DENIED,
-        "2 2 encode e 0|\n\
+const MODELS_AND_REFUTATIONS_OF_TWO_CHECKS: Changes = Changes {
+    of: DENIED,
+    rows: "2 2 encode e 0|\n\
     4 4 sat sat 0|\n\
     4 4 sat sat 2|\n\
     4 4 unsat unsat 2|\n\
@@ -282,15 +273,11 @@ fn models_and_refutations_of_two_checks(rt: HostRuntime) -> Result<(), Fail> {
     9 10 sat sat 1|v 0 true|\n\
     9 10 sat sat 1|v 0 false|\n\
     9 9 end ",
-    )
-}
+};
 
-#[test]
-fn values_of_words(rt: HostRuntime) -> Result<(), Fail> {
-    judge_each(
-        &rt,
-        &WORDS,
-        "9 9 sat v 0 #b0|\n\
+const VALUES_OF_WORDS: Changes = Changes {
+    of: WORDS,
+    rows: "9 9 sat v 0 #b0|\n\
     9 9 sat v 0 #b000|\n\
     9 9 sat v 0 false|\n\
     9 9 line v 0 #b|\n\
@@ -302,15 +289,11 @@ fn values_of_words(rt: HostRuntime) -> Result<(), Fail> {
     10 10 sat v 0 #b01|\n\
     10 10 end \n\
     10 11 end v 1 #b01|v 1 #b01|",
-    )
-}
+};
 
-#[test]
-fn levels_and_the_end_of_a_run(rt: HostRuntime) -> Result<(), Fail> {
-    judge_each(
-        &rt,
-        &LEVELS,
-        "1 0 accepted smt_proof 1 cubes 0 budget 100000|\n\
+const LEVELS_AND_THE_END_OF_A_RUN: Changes = Changes {
+    of: LEVELS,
+    rows: "1 0 accepted smt_proof 1 cubes 0 budget 100000|\n\
     6 0 accepted f 1|s 1|sat 2|\n\
     6 6 selector s 0|\n\
     8 0 accepted v 2 true|\n\
@@ -321,15 +304,11 @@ fn levels_and_the_end_of_a_run(rt: HostRuntime) -> Result<(), Fail> {
     8 8 sat v 1 false|\n\
     8 9 end v 2 false|unsat 3|\n\
     8 9 end v 2 false|sat 2|",
-    )
-}
+};
 
-#[test]
-fn assumptions_are_of_their_check_alone(rt: HostRuntime) -> Result<(), Fail> {
-    judge_each(
-        &rt,
-        &ASSUMED,
-        "1 0 accepted smt_proof 1 cubes 0 budget 100000|\n\
+const ASSUMPTIONS_ARE_OF_THEIR_CHECK_ALONE: Changes = Changes {
+    of: ASSUMED,
+    rows: "1 0 accepted smt_proof 1 cubes 0 budget 100000|\n\
     5 5 encode e 0|\n\
     8 0 accepted c -5 2 3 0 3.2 6.0|\n\
     8 8 chain c -5 2 0 6.0 3.2|\n\
@@ -342,30 +321,57 @@ fn assumptions_are_of_their_check_alone(rt: HostRuntime) -> Result<(), Fail> {
     13 13 encode e 5|\n\
     13 0 accepted t and 0 1|sat 2|\n\
     14 15 sat v 0 false|",
-    )
-}
+};
 
-#[test]
-fn other_proofs_of_the_same_scripts(rt: HostRuntime) -> Result<(), Fail> {
-    judge_each(
-        &rt,
-        &FALSE,
-        "1 0 accepted smt_proof 1 cubes 10 budget 0|\n\
+const OTHER_PROOFS_OF_THE_SAME_SCRIPTS_OF_FALSE: Changes = Changes {
+    of: FALSE,
+    rows: "1 0 accepted smt_proof 1 cubes 10 budget 0|\n\
     4 0 accepted c -2 0 2.0 0.0|\n\
     4 0 accepted c -2 -2 0 0.0 2.0|",
-    )?;
-    judge_each(
-        &rt,
-        &WITH_TERM,
-        "2 0 accepted t word 2 3|\n\
+};
+
+const OTHER_PROOFS_OF_THE_SAME_SCRIPTS_OF_WITH_TERM: Changes = Changes {
+    of: WITH_TERM,
+    rows: "2 0 accepted t word 2 3|\n\
     2 0 accepted t true|",
-    )?;
-    judge_each(&rt, &DENIED, "8 0 accepted c -3 -4 0 4.0 2.0|")?;
-    judge_each(&rt, &WORDS, "9 0 accepted v 0 #b00|")?;
-    judge_each(
-        &rt,
-        &TWICE,
-        "8 0 accepted c -6 0 5.0|\n\
+};
+
+const OTHER_PROOFS_OF_THE_SAME_SCRIPTS_OF_DENIED: Changes = Changes {
+    of: DENIED,
+    rows: "8 0 accepted c -3 -4 0 4.0 2.0|",
+};
+
+const OTHER_PROOFS_OF_THE_SAME_SCRIPTS_OF_WORDS: Changes = Changes {
+    of: WORDS,
+    rows: "9 0 accepted v 0 #b00|",
+};
+
+const OTHER_PROOFS_OF_THE_SAME_SCRIPTS_OF_TWICE: Changes = Changes {
+    of: TWICE,
+    rows: "8 0 accepted c -6 0 5.0|\n\
     9 0 accepted unsat 5|",
+};
+
+#[test]
+fn changes_are_judged_by_their_rules(rt: HostRuntime) -> Result<(), Fail> {
+    judge_changes(
+        &rt,
+        &[
+            BAD_HEADERS,
+            LINES_THAT_ARE_NONE_OF_A_PROOF,
+            STEPS_THAT_ARE_NOT_VALID,
+            CHAINS_THAT_ARE_NONE,
+            RECORDS_THAT_SHOW_NOTHING,
+            TERMS_THAT_CANNOT_BE_MADE,
+            MODELS_AND_REFUTATIONS_OF_TWO_CHECKS,
+            VALUES_OF_WORDS,
+            LEVELS_AND_THE_END_OF_A_RUN,
+            ASSUMPTIONS_ARE_OF_THEIR_CHECK_ALONE,
+            OTHER_PROOFS_OF_THE_SAME_SCRIPTS_OF_FALSE,
+            OTHER_PROOFS_OF_THE_SAME_SCRIPTS_OF_WITH_TERM,
+            OTHER_PROOFS_OF_THE_SAME_SCRIPTS_OF_DENIED,
+            OTHER_PROOFS_OF_THE_SAME_SCRIPTS_OF_WORDS,
+            OTHER_PROOFS_OF_THE_SAME_SCRIPTS_OF_TWICE,
+        ],
     )
 }

@@ -1,8 +1,9 @@
+//! Checks of a proof beside its script: what they answer, in whatever pieces both come, and how they end where a call fails.
+
 use smt_check::status::Status;
 use smt_desk::memory::{MemSink, MemSource};
 use smt_run::running::run;
 use std::alloc::Global;
-use std::process::Abort;
 
 const SCRIPT: &[u8] = b"(assert false) (check-sat)\n";
 
@@ -29,117 +30,127 @@ pub(crate) fn check<'a>(
     )
 }
 
-/// Both texts, in whatever pieces they come, give this status and these answers.
-fn expect_answers<R: Abort>(
-    rt: &R,
-    alloc: Global,
-    script: &[u8],
-    proof: &[u8],
-    status: Status,
-    wanted: &[u8],
-) {
-    for piece in [1, 7, 1000] {
-        let mut answers = MemSink::new(alloc, 3, &[]);
-        assert_eq!(rt; check(alloc, script, proof, piece, &mut answers), status);
-        assert!(rt; answers.bytes() == wanted);
-    }
-}
-
-#[test]
-fn an_accepted_refutation(rt: HostRuntime) {
-    expect_answers(
-        &rt,
-        rt.alloc(),
+/// What a script and a proof show, both texts, the status and the answers of their check.
+const CHECKED: [(&str, &[u8], &[u8], Status, &[u8]); 8] = [
+    (
+        "an accepted refutation",
         SCRIPT,
         PROOF,
         Status::Done,
         b"unsat\naccepted 1\n",
-    );
-}
-
-#[test]
-fn a_hint_left_out_of_a_chain(rt: HostRuntime) {
-    let proof = b"smt_proof 1 cubes 0 budget 100000\ne 0\ns 0\nc -2 0 2.0\nunsat 3\n";
-    let wanted = b"refused line 4 rule chain\n";
-    expect_answers(&rt, rt.alloc(), SCRIPT, proof, Status::Refused, wanted);
-}
-
-#[test]
-fn a_proof_of_another_script(rt: HostRuntime) {
-    let wanted = b"refused line 2 rule encode\n";
-    expect_answers(
-        &rt,
-        rt.alloc(),
+    ),
+    (
+        "a hint left out of a chain",
+        SCRIPT,
+        b"smt_proof 1 cubes 0 budget 100000\ne 0\ns 0\nc -2 0 2.0\nunsat 3\n",
+        Status::Refused,
+        b"refused line 4 rule chain\n",
+    ),
+    (
+        "a proof of another script",
         b"(check-sat)\n",
         PROOF,
         Status::Refused,
-        wanted,
-    );
+        b"refused line 2 rule encode\n",
+    ),
+    (
+        "a proof cut before its record",
+        SCRIPT,
+        b"smt_proof 1 cubes 0 budget 100000\ne 0\ns 0\nc -2 0 0.0 2.0\n",
+        Status::Refused,
+        b"refused line 5 rule end\n",
+    ),
+    (
+        "verdicts before a bad line are told",
+        b"(assert false) (check-sat) (check-sat)\n",
+        PROOF,
+        Status::Refused,
+        b"unsat\nrefused line 6 rule end\n",
+    ),
+    (
+        "a script without a check",
+        b"",
+        b"smt_proof 1 cubes 0 budget 100000\n",
+        Status::Done,
+        b"accepted 0\n",
+    ),
+    (
+        "nothing behind exit is a command",
+        b"(assert false) (check-sat) (exit) (check-sat) (",
+        PROOF,
+        Status::Done,
+        b"unsat\naccepted 1\n",
+    ),
+    (
+        "no error of the script is told",
+        b"(nope) (assert false) (assert nope) (check-sat) (pop 1)\n",
+        PROOF,
+        Status::Done,
+        b"unsat\naccepted 1\n",
+    ),
+];
+
+/// Whether both texts, which come in pieces of so many bytes, give this status and these answers.
+fn is_checked(
+    alloc: Global,
+    script: &[u8],
+    proof: &[u8],
+    piece: usize,
+    status: Status,
+    wanted: &[u8],
+) -> bool {
+    let mut answers = MemSink::new(alloc, 3, &[]);
+    check(alloc, script, proof, piece, &mut answers) == status && answers.bytes() == wanted
 }
 
 #[test]
-fn a_proof_cut_before_its_record(rt: HostRuntime) {
-    let proof = b"smt_proof 1 cubes 0 budget 100000\ne 0\ns 0\nc -2 0 0.0 2.0\n";
-    let wanted = b"refused line 5 rule end\n";
-    expect_answers(&rt, rt.alloc(), SCRIPT, proof, Status::Refused, wanted);
+fn proofs_are_checked_in_whatever_pieces_they_come(rt: HostRuntime) {
+    for (what, script, proof, status, wanted) in &CHECKED {
+        for piece in [1, 7, 1000] {
+            let is_so = is_checked(rt.alloc(), script, proof, piece, *status, wanted);
+            assert!(rt; is_so, "{what}, pieces of {piece}");
+        }
+    }
 }
 
-#[test]
-fn verdicts_before_a_bad_line_are_told(rt: HostRuntime) {
-    let script = b"(assert false) (check-sat) (check-sat)\n";
-    let wanted = b"unsat\nrefused line 6 rule end\n";
-    expect_answers(&rt, rt.alloc(), script, PROOF, Status::Refused, wanted);
-}
+/// Which calls fail: of the script, of the proof, of the answers.
+type Failing = [&'static [u64]; 3];
 
-#[test]
-fn a_script_without_a_check(rt: HostRuntime) {
-    let proof = b"smt_proof 1 cubes 0 budget 100000\n";
-    expect_answers(&rt, rt.alloc(), b"", proof, Status::Done, b"accepted 0\n");
-}
+/// Calls that fail, and the status of a check then.
+const FAULTS: [(Failing, Status); 4] = [
+    ([&[1], &[], &[]], Status::ReadFault),
+    ([&[], &[2], &[]], Status::ReadFault),
+    ([&[], &[], &[1]], Status::WriteFault),
+    ([&[], &[], &[]], Status::Done),
+];
 
-#[test]
-fn nothing_behind_exit_is_a_command(rt: HostRuntime) {
-    let script = b"(assert false) (check-sat) (exit) (check-sat) (";
-    let wanted = b"unsat\naccepted 1\n";
-    expect_answers(&rt, rt.alloc(), script, PROOF, Status::Done, wanted);
-}
-
-#[test]
-fn a_script_is_not_read_on_behind_exit(rt: HostRuntime) {
-    let status = run(
-        rt.alloc(),
-        &["check", "PROOF"],
-        &mut MemSource::new(b"(exit)    (check-sat)", 10, &[2]),
-        &mut MemSource::new(b"smt_proof 1 cubes 0 budget 100000\n", 100, &[]),
-        &mut MemSink::new(rt.alloc(), 100, &[]),
-        &mut MemSink::new(rt.alloc(), 1, &[]),
-    );
-    assert_eq!(rt; status, Status::Done);
-}
-
-/// The status where the call of this number fails, of the script or of the proof.
-fn failing(alloc: Global, script: &[u64], proof: &[u64], answers: &[u64]) -> Status {
+/// The status of a check of both texts where these calls fail.
+fn failing(alloc: Global, script: &[u8], proof: &[u8], calls: Failing) -> Status {
     run(
         alloc,
         &["check", "PROOF"],
-        &mut MemSource::new(SCRIPT, 10, script),
-        &mut MemSource::new(PROOF, 10, proof),
-        &mut MemSink::new(alloc, 3, answers),
+        &mut MemSource::new(script, 10, calls[0]),
+        &mut MemSource::new(proof, 10, calls[1]),
+        &mut MemSink::new(alloc, 3, calls[2]),
         &mut MemSink::new(alloc, 1, &[]),
     )
 }
 
 #[test]
 fn faults_of_sources_and_sinks(rt: HostRuntime) {
-    assert_eq!(rt; failing(rt.alloc(), &[1], &[], &[]), Status::ReadFault);
-    assert_eq!(rt; failing(rt.alloc(), &[], &[2], &[]), Status::ReadFault);
-    assert_eq!(rt; failing(rt.alloc(), &[], &[], &[1]), Status::WriteFault);
-    assert_eq!(rt; failing(rt.alloc(), &[], &[], &[]), Status::Done);
-}
-
-#[test]
-fn no_error_of_the_script_is_told(rt: HostRuntime) {
-    let script = b"(nope) (assert false) (assert nope) (check-sat) (pop 1)\n";
-    let wanted = b"unsat\naccepted 1\n";
-    expect_answers(&rt, rt.alloc(), script, PROOF, Status::Done, wanted);
+    for (row, (calls, status)) in FAULTS.iter().enumerate() {
+        assert!(rt;
+            failing(rt.alloc(), SCRIPT, PROOF, *calls) == *status,
+            "row {row}"
+        );
+    }
+    // A script is not read on behind `exit`.
+    let header = b"smt_proof 1 cubes 0 budget 100000\n";
+    let status = failing(
+        rt.alloc(),
+        b"(exit)    (check-sat)",
+        header,
+        [&[2], &[], &[]],
+    );
+    assert!(rt; status == Status::Done);
 }

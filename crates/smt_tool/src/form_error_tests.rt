@@ -1,12 +1,11 @@
 //! The error that a command of a wrong form is told as, and one of a form that is left out.
 
-use crate::error_tests::tell;
+use crate::worked::{Rows, Table, judge};
 use std::test::Fail;
 
-#[test]
-fn a_malformed_term(rt: HostRuntime) -> Result<(), Fail> {
-    tell(
-        &rt,
+const A_MALFORMED_TERM: Table = Table {
+    what: "a malformed term",
+    rows: Rows::Told(
         b"malformed command",
         &[
             b"(assert)",
@@ -57,13 +56,12 @@ fn a_malformed_term(rt: HostRuntime) -> Result<(), Fail> {
             b"(assert (= x ((_ bv1 8))))",
             b"(assert ((_ and) p q))",
         ],
-    )
-}
+    ),
+};
 
-#[test]
-fn a_malformed_sort_or_name(rt: HostRuntime) -> Result<(), Fail> {
-    tell(
-        &rt,
+const A_MALFORMED_SORT_OR_NAME: Table = Table {
+    what: "a malformed sort or name",
+    rows: Rows::Told(
         b"malformed command",
         &[
             b"(declare-const r)",
@@ -102,13 +100,12 @@ fn a_malformed_sort_or_name(rt: HostRuntime) -> Result<(), Fail> {
             b"(define-fun f ((a nope)) Bool (let () p))",
             b"(define-fun let () () p)",
         ],
-    )
-}
+    ),
+};
 
-#[test]
-fn a_malformed_command(rt: HostRuntime) -> Result<(), Fail> {
-    tell(
-        &rt,
+const A_MALFORMED_COMMAND: Table = Table {
+    what: "a malformed command",
+    rows: Rows::Told(
         b"malformed command",
         &[
             b"(check-sat p)",
@@ -161,13 +158,12 @@ fn a_malformed_command(rt: HostRuntime) -> Result<(), Fail> {
             b"(echo \"a\" \"b\")",
             b"(exit 0)",
         ],
-    )
-}
+    ),
+};
 
-#[test]
-fn what_is_not_supported(rt: HostRuntime) -> Result<(), Fail> {
-    tell(
-        &rt,
+const WHAT_IS_NOT_SUPPORTED: Table = Table {
+    what: "what is not supported",
+    rows: Rows::Told(
         b"not supported",
         &[
             b"(declare-sort S 0)",
@@ -198,6 +194,19 @@ fn what_is_not_supported(rt: HostRuntime) -> Result<(), Fail> {
             b"(define-sort b () Bool)(declare-const r (Array b b))",
             b"(declare-fun r ((Array (_ BitVec 4) (_ BitVec 4)) nope) Bool)",
             b"(define-fun f ((a (Array (_ BitVec 4) (_ BitVec 4))) (b nope)) Bool p)",
+        ],
+    ),
+};
+
+#[test]
+fn commands_of_a_wrong_form(rt: HostRuntime) -> Result<(), Fail> {
+    judge(
+        &rt,
+        &[
+            A_MALFORMED_TERM,
+            A_MALFORMED_SORT_OR_NAME,
+            A_MALFORMED_COMMAND,
+            WHAT_IS_NOT_SUPPORTED,
         ],
     )
 }

@@ -11,15 +11,12 @@ use script_state::answer::Verdict;
 use smt_check::checking::check;
 use smt_check::status::Status;
 use smt_desk::memory::{MemSink, MemSource};
-use smt_run::command_line::plan;
-use smt_run::words::{Command, Unplanned};
 use smt_session::session::Session;
 use smt_session::settings::Settings;
 use smt_text::chunk::Chunk;
 use smt_text::framer::chunks;
 use smt_text::text::Text;
 use std::alloc::{AllocError, Global};
-use std::test::Fail;
 
 /// A symbol is asserted and checked.
 const SCRIPT: &[u8] = b"(declare-const p Bool) (assert p) (check-sat)";
@@ -59,30 +56,30 @@ fn answer_each(
     true
 }
 
-#[test]
-fn a_session_answers_command_by_command(rt: HostRuntime) -> Result<(), Fail> {
-    let alloc = rt.alloc();
+/// Lets a new session answer the script, and tells whether it answered each command.
+fn answer_script(
+    alloc: Global,
+    answers: &mut Vec<u8>,
+    proof: &mut MemSink<'_>,
+) -> Result<bool, AllocError> {
     let settings = Settings {
         workers: 1,
         cubes: 0,
         budget: 9,
     };
     let commands = commands_of(alloc, SCRIPT)?;
-    let mut answers = Vec::new(alloc);
-    let mut proof = MemSink::new(alloc, 100, &[]);
     let session = Session::new(alloc, settings)?;
-    assert!(rt;
-        answer_each(
-            alloc,
-            session,
-            commands.as_slice(),
-            &mut answers,
-            &mut proof
-        )
-    );
+    Ok(answer_each(alloc, session, commands.as_slice(), answers, proof))
+}
+
+#[test]
+fn a_session_answers_command_by_command(rt: HostRuntime) {
+    let mut answers = Vec::new(rt.alloc());
+    let mut proof = MemSink::new(rt.alloc(), 100, &[]);
+    let answered = answer_script(rt.alloc(), &mut answers, &mut proof);
+    assert!(rt; answered == Ok(true));
     assert!(rt; answers.as_slice() == b"sat\n".as_slice());
     assert!(rt; proof.bytes() == CHECK);
-    Ok(())
 }
 
 /// The next line that the reader holds.
@@ -97,8 +94,10 @@ fn next_line(reader: &mut ProofReader) -> Option<Line>
 
 /// A checker behind the first line of a proof, where that is a header.
 fn begun(alloc: Global, reader: &mut ProofReader) -> Option<Checker> {
-    let first = next_line(reader)?;
-    Checker::new(alloc, &Ok(first)).ok()?.ok()
+    let first = Ok(next_line(reader)?);
+    let checker = Checker::new(alloc, &first);
+    drop(first);
+    checker.ok()?.ok()
 }
 
 /// The checker behind these commands, where none comes while a record is owed.
@@ -127,7 +126,10 @@ fn told(
             drop(checker);
             return None;
         };
-        let (next, answer) = checker.line(alloc, &Ok(line)).ok()?;
+        let line = Ok(line);
+        let answered = checker.line(alloc, &line);
+        drop(line);
+        let (next, answer) = answered.ok()?;
         if let Err(refusal) = answer {
             drop(next);
             return Some(Err(refusal));
@@ -137,19 +139,17 @@ fn told(
     Some(Ok(checker))
 }
 
-/// What is told of the end of a proof with this text and the script's commands, after so many lines behind the header; and
-/// whether the verdicts by then are that of one satisfiable check.
-fn ended(
+/// What is told of the end of a proof, whose text the reader holds, with these commands, after so many lines behind the header;
+/// and whether the verdicts by then are that of one satisfiable check.
+fn ended_behind(
     alloc: Global,
-    proof: &[u8],
+    reader: &mut ProofReader,
     commands: &[Chunk],
     count: u32,
 ) -> Option<(Result<(), Refusal>, bool)> {
-    let mut reader = ProofReader::new(alloc);
-    reader.feed(proof).ok()?;
-    let checker = begun(alloc, &mut reader)?;
+    let checker = begun(alloc, reader)?;
     let checker = commanded(alloc, checker, commands)?;
-    match told(alloc, checker, &mut reader, count)? {
+    match told(alloc, checker, reader, count)? {
         Ok(checker) => {
             let (checker, answer) = checker.end();
             let is_sat = checker.verdicts() == [Verdict::Sat].as_slice();
@@ -160,24 +160,23 @@ fn ended(
     }
 }
 
-#[test]
-fn a_checker_takes_commands_and_lines(rt: HostRuntime) -> Result<(), Fail> {
-    let alloc = rt.alloc();
-    let commands = commands_of(alloc, SCRIPT)?;
-    assert!(rt; ended(alloc, PROOF, commands.as_slice(), 4) == Some((Ok(()), true)));
-    Ok(())
+/// The same of the proof's text and the commands of its script.
+fn ended(alloc: Global, count: u32) -> Option<(Result<(), Refusal>, bool)> {
+    let commands = commands_of(alloc, SCRIPT).ok()?;
+    let mut reader = ProofReader::new(alloc);
+    reader.feed(PROOF).ok()?;
+    ended_behind(alloc, &mut reader, commands.as_slice(), count)
 }
 
 #[test]
-fn a_checker_refuses_a_record_that_is_cut(rt: HostRuntime) -> Result<(), Fail> {
-    let alloc = rt.alloc();
-    let commands = commands_of(alloc, SCRIPT)?;
+fn a_checker_takes_commands_and_lines(rt: HostRuntime) {
+    assert!(rt; ended(rt.alloc(), 4) == Some((Ok(()), true)));
+    // A record that is cut.
     let cut = Refusal {
         line: 5,
         rule: RuleName::End,
     };
-    assert!(rt; ended(alloc, PROOF, commands.as_slice(), 3) == Some((Err(cut), false)));
-    Ok(())
+    assert!(rt; ended(rt.alloc(), 3) == Some((Err(cut), false)));
 }
 
 #[test]
@@ -193,20 +192,6 @@ fn two_texts_are_checked(rt: HostRuntime) {
         &mut proof,
         &mut answers,
     );
-    assert_eq!(rt; status, Status::Done);
+    assert!(rt; status == Status::Done);
     assert!(rt; answers.bytes() == b"sat\naccepted 1\n".as_slice());
-}
-
-#[test]
-fn words_are_planned(rt: HostRuntime) {
-    let alloc = rt.alloc();
-    let words = ["solve", "PROOF", "SCRIPT", "--cubes", "2", "--budget", "3"];
-    let Ok(planned) = plan(alloc, &words) else {
-        panic!(rt; "the words are not taken")
-    };
-    assert_eq!(rt; planned.command, Command::Solve);
-    assert!(rt; planned.proof == "PROOF");
-    assert!(rt; planned.script == Some("SCRIPT"));
-    assert_eq!(rt; (planned.settings.cubes, planned.settings.budget), (2, 3));
-    assert!(rt; matches!(plan(alloc, &["solve"]), Err(Unplanned::Usage)));
 }

@@ -6,9 +6,10 @@ ghost use Rattle.std.specs.Prelude.{◌≤◌, ◌^◌};
 use script_state::answer::Answer;
 use script_state::state::State;
 use smt_terms::terms::Terms;
+use smt_text::chunk::Chunk;
 use smt_text::framer::chunks;
 use smt_text::text::Text;
-use std::alloc::Global;
+use std::alloc::{AllocError, Global};
 use std::process::Abort;
 use std::test::Fail;
 
@@ -20,43 +21,67 @@ fn state_within(alloc: Global, limit: u32) -> State
     State::from_parts(Terms::with_limit(alloc, limit), rest)
 }
 
-/// What the last command of the script is told where there is room for so many terms; no bytes where it is no error.
-fn last_error(
-    rt: &(impl Abort + AllocGlobal),
-    limit: u32,
-    script: &[u8],
-) -> Result<&'static [u8], Fail>
-    requires { limit ≤ 2 ^ 24 }
-{
-    let alloc = rt.alloc();
-    let mut state = state_within(alloc, limit);
-    let pieces = [Text::from_slice(alloc, script)?];
-    let mut told: &'static [u8] = b"";
-    for chunk in chunks(alloc, &pieces)? {
-        assert!(rt; state.assertions_made() < 1000);
-        told = match state.apply(alloc, &chunk)? {
-            Answer::Refused(error) => error.text(),
-            _ => b"",
-        };
+/// The text of the error that an answer tells; no bytes where it is none.
+fn error_of(answer: &Answer) -> &'static [u8] {
+    match answer {
+        Answer::Refused(error) => error.text(),
+        _ => b"",
     }
-    Ok(told)
 }
 
-/// The last command of each script is told so, where there is room for so many terms.
-fn tell(rt: &(impl Abort + AllocGlobal), text: &[u8], rows: &[(u32, &[u8])]) -> Result<(), Fail> {
-    for (row, (limit, script)) in rows.iter().enumerate() {
+/// What a state tells of the last of these commands; `None` where it has made a thousand assertions.
+fn told_last(
+    alloc: Global,
+    state: &mut State,
+    commands: &[Chunk],
+) -> Result<Option<&'static [u8]>, AllocError> {
+    let mut told: &'static [u8] = b"";
+    for command in commands {
+        if state.assertions_made() >= 1000 {
+            return Ok(None);
+        }
+        let answer = state.apply(alloc, command)?;
+        told = error_of(&answer);
+        drop(answer);
+    }
+    Ok(Some(told))
+}
+
+/// What the last command of the script is told where there is room for so many terms.
+fn last_error(alloc: Global, limit: u32, script: &[u8]) -> Result<Option<&'static [u8]>, AllocError>
+    requires { limit ≤ 2 ^ 24 }
+{
+    let pieces = [Text::from_slice(alloc, script)?];
+    let commands = chunks(alloc, &pieces)?;
+    let mut state = state_within(alloc, limit);
+    let told = told_last(alloc, &mut state, commands.as_slice());
+    drop(state);
+    told
+}
+
+/// Scripts whose last commands are told this, each with how many terms there is room for.
+struct Table {
+    what: &'static str,
+    error: &'static [u8],
+    rows: &'static [(u32, &'static [u8])],
+}
+
+/// The last command of each script is told so.
+fn tell(rt: &(impl Abort + AllocGlobal), table: &Table) -> Result<(), Fail> {
+    let what = table.what;
+    for (row, (limit, script)) in table.rows.iter().enumerate() {
         assert!(rt; *limit <= 16);
-        assert!(rt; last_error(rt, *limit, script)? == text, "row {row}");
+        let told = last_error(rt.alloc(), *limit, script)?;
+        assert!(rt; told == Some(table.error), "{what}: row {row}");
     }
     Ok(())
 }
 
-#[test]
-fn too_many_terms(rt: HostRuntime) -> Result<(), Fail> {
-    tell(
-        &rt,
-        b"too many terms",
-        &[
+const TABLES: [Table; 6] = [
+    Table {
+        what: "too many terms",
+        error: b"too many terms",
+        rows: &[
             (0, b"(assert true)"),
             (0, b"(declare-const p Bool)(assert p)"),
             (0, b"(declare-const p Bool)(assert (and p nope))"),
@@ -80,15 +105,11 @@ fn too_many_terms(rt: HostRuntime) -> Result<(), Fail> {
                 b"(define-fun f ((a Bool)) Bool (not (not a)))(assert (f true))",
             ),
         ],
-    )
-}
-
-#[test]
-fn as_many_terms_as_there_is_room_for(rt: HostRuntime) -> Result<(), Fail> {
-    tell(
-        &rt,
-        b"",
-        &[
+    },
+    Table {
+        what: "as many terms as there is room for",
+        error: b"",
+        rows: &[
             (
                 0,
                 b"(declare-const p Bool)(define-sort s () Bool)(push 1)(check-sat)",
@@ -118,36 +139,40 @@ fn as_many_terms_as_there_is_room_for(rt: HostRuntime) -> Result<(), Fail> {
             // A use of a definition without parameters makes no term.
             (2, b"(define-fun f () Bool (not true))(assert f)(assert f)"),
         ],
-    )
-}
-
-#[test]
-fn faults_before_that_of_the_limit(rt: HostRuntime) -> Result<(), Fail> {
-    tell(
-        &rt,
-        b"unknown symbol",
-        &[
+    },
+    Table {
+        what: "faults before that of the limit",
+        error: b"unknown symbol",
+        rows: &[
             (0, b"(assert (and nope true))"),
             (1, b"(assert (and true nope))"),
         ],
-    )?;
-    tell(
-        &rt,
-        b"wrong number or sorts of arguments",
-        &[
+    },
+    Table {
+        what: "faults before that of the limit",
+        error: b"wrong number or sorts of arguments",
+        rows: &[
             (2, b"(assert (and true #b1))"),
             (1, b"(assert #b1)"),
             (1, b"(assert (not true true))"),
         ],
-    )?;
-    tell(
-        &rt,
-        b"width out of range",
-        &[(1, b"(assert (= ((_ repeat 129) #b1) #b1))")],
-    )?;
-    tell(
-        &rt,
-        b"literal too wide",
-        &[(0, b"(assert (= (_ bv2 1) #b1))")],
-    )
+    },
+    Table {
+        what: "faults before that of the limit",
+        error: b"width out of range",
+        rows: &[(1, b"(assert (= ((_ repeat 129) #b1) #b1))")],
+    },
+    Table {
+        what: "faults before that of the limit",
+        error: b"literal too wide",
+        rows: &[(0, b"(assert (= (_ bv2 1) #b1))")],
+    },
+];
+
+#[test]
+fn as_many_terms_are_made_as_there_is_room_for(rt: HostRuntime) -> Result<(), Fail> {
+    for table in &TABLES {
+        tell(&rt, table)?;
+    }
+    Ok(())
 }

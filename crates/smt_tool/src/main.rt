@@ -36,6 +36,8 @@ mod term_error_tests;
 mod tests;
 #[cfg(test)]
 mod word_tests;
+#[cfg(test)]
+mod worked;
 
 use smt_check::status::Status;
 use smt_desk::files::{FileSink, FileSource, StandardInput, StandardOutput};

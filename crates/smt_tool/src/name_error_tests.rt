@@ -1,12 +1,11 @@
 //! The errors of names, and of sorts.
 
-use crate::error_tests::{take, tell};
+use crate::worked::{Rows, Table, judge};
 use std::test::Fail;
 
-#[test]
-fn an_unknown_symbol(rt: HostRuntime) -> Result<(), Fail> {
-    tell(
-        &rt,
+const AN_UNKNOWN_SYMBOL: Table = Table {
+    what: "an unknown symbol",
+    rows: Rows::Told(
         b"unknown symbol",
         &[
             b"(assert nope)",
@@ -41,13 +40,12 @@ fn an_unknown_symbol(rt: HostRuntime) -> Result<(), Fail> {
             b"(push 1)(declare-const r Bool)(pop 1)(assert r)",
             b"(push 1)(define-fun f ((a Bool)) Bool a)(pop 1)(assert (f p))",
         ],
-    )
-}
+    ),
+};
 
-#[test]
-fn an_unknown_sort(rt: HostRuntime) -> Result<(), Fail> {
-    tell(
-        &rt,
+const AN_UNKNOWN_SORT: Table = Table {
+    what: "an unknown sort",
+    rows: Rows::Told(
         b"unknown symbol",
         &[
             b"(declare-const r Int)",
@@ -68,13 +66,12 @@ fn an_unknown_sort(rt: HostRuntime) -> Result<(), Fail> {
             b"(define-fun f ((b nope) (a (Array (_ BitVec 4) (_ BitVec 4)))) Bool p)",
             b"(push 1)(define-sort s () Bool)(pop 1)(declare-const r s)",
         ],
-    )
-}
+    ),
+};
 
-#[test]
-fn a_name_that_is_declared(rt: HostRuntime) -> Result<(), Fail> {
-    tell(
-        &rt,
+const A_NAME_THAT_IS_DECLARED: Table = Table {
+    what: "a name that is declared",
+    rows: Rows::Told(
         b"symbol already declared",
         &[
             b"(declare-const p Bool)",
@@ -100,13 +97,12 @@ fn a_name_that_is_declared(rt: HostRuntime) -> Result<(), Fail> {
             b"(define-sort s () Bool)(define-sort s () Int)",
             b"(define-sort s () Bool)(push 1)(define-sort s () Bool)",
         ],
-    )
-}
+    ),
+};
 
-#[test]
-fn a_name_that_is_reserved(rt: HostRuntime) -> Result<(), Fail> {
-    tell(
-        &rt,
+const A_NAME_THAT_IS_RESERVED: Table = Table {
+    what: "a name that is reserved",
+    rows: Rows::Told(
         b"reserved symbol",
         &[
             b"(declare-const let Bool)",
@@ -149,32 +145,28 @@ fn a_name_that_is_reserved(rt: HostRuntime) -> Result<(), Fail> {
             b"(define-sort bvadd () Bool)",
             b"(define-sort let () Bool)",
         ],
-    )
-}
+    ),
+};
 
-#[test]
-fn names_and_sorts_that_are_taken(rt: HostRuntime) -> Result<(), Fail> {
-    take(
-        &rt,
-        &[
-            b"(declare-const word Bool)(declare-const apply Bool)(declare-const const Bool)(assert (and word apply const))",
-            b"(declare-const witness Bool)(declare-const Param Bool)(assert (and witness Param))",
-            b"(declare-const bv1 Bool)(declare-const Bool Bool)(declare-const Int |Bool|)(assert (and bv1 Bool Int))",
-            b"(declare-fun r () Bool)(assert (= r p))",
-            b"(define-sort p () Bool)(declare-const r p)(assert r)",
-            b"(define-sort s () Bool)(declare-const s s)(assert s)",
-            b"(define-sort word () (_ BitVec 8))(declare-const r word)(assert (= r x))",
-            b"(define-sort s () (_ BitVec 8))(define-sort u () s)(declare-const r u)(assert (= r x))",
-            b"(push 1)(declare-const r Bool)(pop 1)(declare-const r (_ BitVec 8))(assert (= r x))",
-            b"(push 1)(define-sort s () Bool)(pop 1)(define-sort s () (_ BitVec 8))(declare-const r s)(assert (= r x))",
-        ],
-    )
-}
+const NAMES_AND_SORTS_THAT_ARE_TAKEN: Table = Table {
+    what: "names and sorts that are taken",
+    rows: Rows::Taken(&[
+        b"(declare-const word Bool)(declare-const apply Bool)(declare-const const Bool)(assert (and word apply const))",
+        b"(declare-const witness Bool)(declare-const Param Bool)(assert (and witness Param))",
+        b"(declare-const bv1 Bool)(declare-const Bool Bool)(declare-const Int |Bool|)(assert (and bv1 Bool Int))",
+        b"(declare-fun r () Bool)(assert (= r p))",
+        b"(define-sort p () Bool)(declare-const r p)(assert r)",
+        b"(define-sort s () Bool)(declare-const s s)(assert s)",
+        b"(define-sort word () (_ BitVec 8))(declare-const r word)(assert (= r x))",
+        b"(define-sort s () (_ BitVec 8))(define-sort u () s)(declare-const r u)(assert (= r x))",
+        b"(push 1)(declare-const r Bool)(pop 1)(declare-const r (_ BitVec 8))(assert (= r x))",
+        b"(push 1)(define-sort s () Bool)(pop 1)(define-sort s () (_ BitVec 8))(declare-const r s)(assert (= r x))",
+    ]),
+};
 
-#[test]
-fn a_width_out_of_range(rt: HostRuntime) -> Result<(), Fail> {
-    tell(
-        &rt,
+const A_WIDTH_OUT_OF_RANGE: Table = Table {
+    what: "a width out of range",
+    rows: Rows::Told(
         b"width out of range",
         &[
             b"(declare-const r (_ BitVec 0))",
@@ -196,6 +188,21 @@ fn a_width_out_of_range(rt: HostRuntime) -> Result<(), Fail> {
             b"(assert (= x ((_ sign_extend 18446744073709551616) x)))",
             b"(assert (= x ((_ repeat 0) x)))",
             b"(assert (= x ((_ repeat 17) x)))",
+        ],
+    ),
+};
+
+#[test]
+fn names_and_sorts(rt: HostRuntime) -> Result<(), Fail> {
+    judge(
+        &rt,
+        &[
+            AN_UNKNOWN_SYMBOL,
+            AN_UNKNOWN_SORT,
+            A_NAME_THAT_IS_DECLARED,
+            A_NAME_THAT_IS_RESERVED,
+            NAMES_AND_SORTS_THAT_ARE_TAKEN,
+            A_WIDTH_OUT_OF_RANGE,
         ],
     )
 }

@@ -1,85 +1,62 @@
 //! Levels, options, models, and the end of a run.
 
-use crate::error_tests::{answer, append};
+use crate::worked::{SOLVE, is_answered, joined};
 use smt_check::status::Status;
-use std::process::Abort;
+use std::alloc::Global;
 use std::test::Fail;
 
-/// The script is answered so, and its status is this.
-fn tell(rt: &(impl Abort + AllocGlobal), script: &[u8], answers: &[u8], status: Status) {
-    let (found, told) = answer(rt.alloc(), script);
-    assert!(rt; told.as_slice() == answers);
-    assert_eq!(rt; found, status);
-}
-
-#[test]
-fn success_is_told_where_it_is_asked(rt: HostRuntime) {
-    tell(
-        &rt,
+/// What a script shows, its answers and its status.
+const SESSIONS: [(&str, &[u8], &[u8], Status); 7] = [
+    (
+        "success is told where it is asked",
         b"(set-option :print-success true) (set-logic QF_BV) (echo \"a\"\"b\") (get-model) (pop 1) (push 1)\n",
         b"success\nsuccess\n\"a\"\"b\"\n(error \"line 1: no model stands\")\n(error \"line 1: level out of range\")\nsuccess\n",
         Status::Refused,
-    );
-}
-
-#[test]
-fn a_popped_assertion_is_gone(rt: HostRuntime) {
-    tell(
-        &rt,
+    ),
+    (
+        "a popped assertion is gone",
         b"(declare-const p Bool) (assert p) (push 1) (assert (not p)) (check-sat) (pop 1) (check-sat)\n",
         b"unsat\nsat\n",
         Status::Done,
-    );
-}
-
-#[test]
-fn a_name_is_declared_again_after_a_pop(rt: HostRuntime) {
-    tell(
-        &rt,
+    ),
+    (
+        "a name is declared again after a pop",
         b"(push 1) (declare-const x (_ BitVec 8)) (assert (distinct x x)) (check-sat) (pop 1) (declare-const x (_ BitVec 4)) (assert (= x #xf)) (check-sat) (get-model)\n",
         b"unsat\nsat\n(\n(define-fun x () (_ BitVec 4) #b1111)\n)\n",
         Status::Done,
-    );
-}
-
-#[test]
-fn a_model_of_the_first_check(rt: HostRuntime) {
-    tell(
-        &rt,
+    ),
+    (
+        "a model of the first check",
         b"(declare-const x (_ BitVec 8)) (declare-const y (_ BitVec 8)) (assert (= (bvadd x y) #x0f)) (assert (= (bvand x #xf0) (bvnot #x0f))) (assert (= y #x1f)) (check-sat) (get-model) (assert (= x y)) (check-sat)\n",
         b"sat\n(\n(define-fun x () (_ BitVec 8) #b11110000)\n(define-fun y () (_ BitVec 8) #b00011111)\n)\nunsat\n",
         Status::Done,
-    );
-}
-
-#[test]
-fn a_model_names_what_is_live(rt: HostRuntime) {
-    tell(
-        &rt,
+    ),
+    (
+        "a model names what is live",
         b"(declare-const |a b| Bool) (push 1) (declare-const q Bool) (assert (and |a b| q)) (check-sat) (pop 1) (declare-const r Bool) (assert (and |a b| (not r))) (check-sat) (get-model)\n",
         b"sat\nsat\n(\n(define-fun |a b| () Bool true)\n(define-fun r () Bool false)\n)\n",
         Status::Done,
-    );
-}
-
-#[test]
-fn no_model_stands_after_a_reset(rt: HostRuntime) {
-    tell(
-        &rt,
+    ),
+    (
+        "no model stands after a reset",
         b"(declare-const p Bool) (assert p) (check-sat) (reset)\n(get-model)\n",
         b"sat\n(error \"line 2: no model stands\")\n",
         Status::Refused,
-    );
-}
-
-#[test]
-fn nothing_is_answered_behind_exit(rt: HostRuntime) {
-    tell(
-        &rt,
+    ),
+    (
+        "nothing is answered behind exit",
         b"(set-option :print-success true) (check-sat) (exit) (check-sat) (nope",
         b"success\nsat\nsuccess\n",
         Status::Done,
-    );
+    ),
+];
+
+#[test]
+fn sessions_are_answered(rt: HostRuntime) {
+    for (what, script, answers, status) in &SESSIONS {
+        let is_so = is_answered(rt.alloc(), SOLVE, script, answers, Some(*status));
+        assert!(rt; is_so, "{what}");
+    }
 }
 
 /// Commands, each with its answer where each stands on a line of its own.
@@ -115,43 +92,50 @@ const COMMANDS: [(&[u8], &[u8]); 20] = [
     (b"(exit)", b"success\n"),
 ];
 
-/// Behind the lines that are answered so, a front of a command is told to be unfinished.
-fn cut(
-    rt: &(impl Abort + AllocGlobal),
+/// Whether behind the lines that are answered so, a front of a command on this line is told to be unfinished.
+fn is_cut(
+    alloc: Global,
     lines: &[u8],
     answers: &[u8],
     front: &[u8],
     line: usize,
-) -> Result<(), Fail> {
-    let mut script = Vec::from_slice(rt.alloc(), lines)?;
-    append(&mut script, front)?;
-    let mut wanted = Vec::from_slice(rt.alloc(), answers)?;
-    let error = format!(in rt.alloc(); "(error \"line {line}: unfinished command\")\n")?;
-    append(&mut wanted, error.as_bytes())?;
-    let (_, told) = answer(rt.alloc(), &script);
-    assert!(rt; told == wanted, "line {line}");
-    Ok(())
+) -> Result<bool, Fail> {
+    let script = joined(alloc, &[lines, front])?;
+    let error = format!(in alloc; "(error \"line {line}: unfinished command\")\n")?;
+    let wanted = joined(alloc, &[answers, error.as_bytes()])?;
+    Ok(is_answered(alloc, SOLVE, script.as_slice(), wanted.as_slice(), None))
+}
+
+/// Whether that holds of each front of the command.
+fn are_cut(
+    alloc: Global,
+    lines: &[u8],
+    answers: &[u8],
+    command: &[u8],
+    line: usize,
+) -> Result<bool, Fail> {
+    for end in 1..command.len() {
+        if !is_cut(alloc, lines, answers, &command[..end], line)? {
+            return Ok(false);
+        }
+    }
+    Ok(true)
 }
 
 #[test]
 fn every_prefix_answers_its_whole_commands(rt: HostRuntime) -> Result<(), Fail> {
-    let mut lines = Vec::new(rt.alloc());
-    let mut answers = Vec::new(rt.alloc());
+    let alloc = rt.alloc();
+    let mut lines: Vec<u8> = Vec::new(alloc);
+    let mut answers: Vec<u8> = Vec::new(alloc);
     for (row, (command, told)) in COMMANDS.iter().enumerate() {
-        for end in 1..command.len() {
-            cut(
-                &rt,
-                &lines,
-                &answers,
-                &command[..end],
-                row.saturating_add(1),
-            )?;
-        }
-        append(&mut lines, command)?;
-        append(&mut answers, told)?;
-        let (_, all) = answer(rt.alloc(), &lines);
-        assert!(rt; all == answers, "row {row}");
-        append(&mut lines, b"\n")?;
+        let line = row.saturating_add(1);
+        let are_cut = are_cut(alloc, lines.as_slice(), answers.as_slice(), command, line)?;
+        assert!(rt; are_cut, "line {line}");
+        lines.extend_from_slice(command)?;
+        answers.extend_from_slice(told)?;
+        let is_so = is_answered(alloc, SOLVE, lines.as_slice(), answers.as_slice(), None);
+        assert!(rt; is_so, "line {line}");
+        lines.push(b'\n')?;
     }
     Ok(())
 }

@@ -1,12 +1,11 @@
 //! The errors of terms.
 
-use crate::error_tests::{take, tell};
+use crate::worked::{Rows, Table, judge};
 use std::test::Fail;
 
-#[test]
-fn wrong_arguments(rt: HostRuntime) -> Result<(), Fail> {
-    tell(
-        &rt,
+const WRONG_ARGUMENTS: Table = Table {
+    what: "wrong arguments",
+    rows: Rows::Told(
         b"wrong number or sorts of arguments",
         &[
             b"(assert x)",
@@ -44,13 +43,12 @@ fn wrong_arguments(rt: HostRuntime) -> Result<(), Fail> {
             b"(assert (let ((p x)) p))",
             b"(assert (! x :a))",
         ],
-    )
-}
+    ),
+};
 
-#[test]
-fn wrong_indices(rt: HostRuntime) -> Result<(), Fail> {
-    tell(
-        &rt,
+const WRONG_INDICES: Table = Table {
+    what: "wrong indices",
+    rows: Rows::Told(
         b"wrong number or sorts of arguments",
         &[
             b"(assert (extract x))",
@@ -72,13 +70,12 @@ fn wrong_indices(rt: HostRuntime) -> Result<(), Fail> {
             b"(assert (= x ((_ bv1 8) x)))",
             b"(define-fun f ((a Bool)) Bool ((_ a 1) p))",
         ],
-    )
-}
+    ),
+};
 
-#[test]
-fn wrong_bodies_and_uses_of_definitions(rt: HostRuntime) -> Result<(), Fail> {
-    tell(
-        &rt,
+const WRONG_BODIES_AND_USES_OF_DEFINITIONS: Table = Table {
+    what: "wrong bodies and uses of definitions",
+    rows: Rows::Told(
         b"wrong number or sorts of arguments",
         &[
             b"(define-fun f () Bool x)",
@@ -98,13 +95,12 @@ fn wrong_bodies_and_uses_of_definitions(rt: HostRuntime) -> Result<(), Fail> {
             b"(define-fun f ((a Bool) (b (_ BitVec 8))) Bool a)(assert (f x p))",
             b"(define-fun f ((a Bool)) (_ BitVec 8) x)(assert (f p))",
         ],
-    )
-}
+    ),
+};
 
-#[test]
-fn a_literal_too_wide(rt: HostRuntime) -> Result<(), Fail> {
-    tell(
-        &rt,
+const A_LITERAL_TOO_WIDE: Table = Table {
+    what: "a literal too wide",
+    rows: Rows::Told(
         b"literal too wide",
         &[
             b"(assert (= x (_ bv256 8)))",
@@ -114,47 +110,56 @@ fn a_literal_too_wide(rt: HostRuntime) -> Result<(), Fail> {
             b"(assert (= w #b000000000000000000000000000000000000000000000000000000000000000000000000000000000000000000000000000000000000000000000000000000000))",
             b"(assert (= (_ bv256 8) nope))",
         ],
-    )
-}
+    ),
+};
+
+const TERMS_THAT_ARE_TAKEN: Table = Table {
+    what: "terms that are taken",
+    rows: Rows::Taken(&[
+        b"(assert (let ((x p)) x))",
+        b"(assert (let ((p q) (q p)) (= p q)))",
+        b"(assert (let ((a p)) (let ((a x)) (= a x))))",
+        b"(assert (! p :a (let () q) :b 5 :c))",
+        b"(assert (! p :a :b (c) :d))",
+        b"(assert (! (! p :a) :a))",
+        b"(assert (= p p p))",
+        b"(assert (=> p q (not p) p))",
+        b"(assert (distinct #b00 #b01 #b10 #b11))",
+        b"(assert (= (bvadd x x x) (bvmul x #x03)))",
+        b"(assert (= w (_ bv340282366920938463463374607431768211455 128)))",
+        b"(assert (= x ((_ rotate_left 340282366920938463463374607431768211456) x)))",
+        b"(assert (= x ((_ rotate_right 18446744073709551616) x)))",
+        b"(assert (= (concat #b0 #b1 #b1) #b011))",
+    ]),
+};
+
+const DEFINITIONS_THAT_ARE_TAKEN: Table = Table {
+    what: "definitions that are taken",
+    rows: Rows::Taken(&[
+        b"(define-fun f () Bool p)(assert f)(assert (let ((f x)) (= f x)))",
+        b"(define-fun f () (_ BitVec 8) (bvadd x #x01))(declare-fun r () (_ BitVec 8))(assert (= r f))",
+        b"(define-fun f ((a Bool)) Bool (not a))(assert (f (f p)))",
+        b"(define-fun f ((a Bool) (b (_ BitVec 8))) (_ BitVec 8) (ite a b x))(assert (= (f p x) x))",
+        b"(define-fun f ((a Bool) (b Bool)) Bool a)(define-fun g ((b Bool)) Bool (f b b))(assert (g p))",
+        b"(define-fun f ((x Bool)) Bool (and x p))(assert (f p))",
+        b"(define-fun f ((f Bool)) Bool f)(assert (f p))",
+        b"(define-fun f ((a Bool)) Bool (let ((a x)) (= a x)))(assert (f p))",
+        b"(define-fun f ((true1 Bool)) Bool true1)(assert (|f| p))",
+        b"(define-sort W () (_ BitVec 8))(define-fun inc ((v W)) W (bvadd v #x01))(assert (= (inc #x04) #x05))",
+    ]),
+};
 
 #[test]
-fn terms_that_are_taken(rt: HostRuntime) -> Result<(), Fail> {
-    take(
+fn terms(rt: HostRuntime) -> Result<(), Fail> {
+    judge(
         &rt,
         &[
-            b"(assert (let ((x p)) x))",
-            b"(assert (let ((p q) (q p)) (= p q)))",
-            b"(assert (let ((a p)) (let ((a x)) (= a x))))",
-            b"(assert (! p :a (let () q) :b 5 :c))",
-            b"(assert (! p :a :b (c) :d))",
-            b"(assert (! (! p :a) :a))",
-            b"(assert (= p p p))",
-            b"(assert (=> p q (not p) p))",
-            b"(assert (distinct #b00 #b01 #b10 #b11))",
-            b"(assert (= (bvadd x x x) (bvmul x #x03)))",
-            b"(assert (= w (_ bv340282366920938463463374607431768211455 128)))",
-            b"(assert (= x ((_ rotate_left 340282366920938463463374607431768211456) x)))",
-            b"(assert (= x ((_ rotate_right 18446744073709551616) x)))",
-            b"(assert (= (concat #b0 #b1 #b1) #b011))",
-        ],
-    )
-}
-
-#[test]
-fn definitions_that_are_taken(rt: HostRuntime) -> Result<(), Fail> {
-    take(
-        &rt,
-        &[
-            b"(define-fun f () Bool p)(assert f)(assert (let ((f x)) (= f x)))",
-            b"(define-fun f () (_ BitVec 8) (bvadd x #x01))(declare-fun r () (_ BitVec 8))(assert (= r f))",
-            b"(define-fun f ((a Bool)) Bool (not a))(assert (f (f p)))",
-            b"(define-fun f ((a Bool) (b (_ BitVec 8))) (_ BitVec 8) (ite a b x))(assert (= (f p x) x))",
-            b"(define-fun f ((a Bool) (b Bool)) Bool a)(define-fun g ((b Bool)) Bool (f b b))(assert (g p))",
-            b"(define-fun f ((x Bool)) Bool (and x p))(assert (f p))",
-            b"(define-fun f ((f Bool)) Bool f)(assert (f p))",
-            b"(define-fun f ((a Bool)) Bool (let ((a x)) (= a x)))(assert (f p))",
-            b"(define-fun f ((true1 Bool)) Bool true1)(assert (|f| p))",
-            b"(define-sort W () (_ BitVec 8))(define-fun inc ((v W)) W (bvadd v #x01))(assert (= (inc #x04) #x05))",
+            WRONG_ARGUMENTS,
+            WRONG_INDICES,
+            WRONG_BODIES_AND_USES_OF_DEFINITIONS,
+            A_LITERAL_TOO_WIDE,
+            TERMS_THAT_ARE_TAKEN,
+            DEFINITIONS_THAT_ARE_TAKEN,
         ],
     )
 }

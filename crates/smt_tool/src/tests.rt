@@ -1,6 +1,8 @@
+//! Runs of `solve`: what they answer and prove, and how they end where a call fails.
+
+use crate::worked::{SOLVE, count};
 use smt_check::status::Status;
 use smt_desk::memory::{MemSink, MemSource};
-use smt_desk::stream::{Sink, Source};
 use smt_run::running::run;
 use std::alloc::Global;
 
@@ -15,148 +17,194 @@ const FIRST_CHECK: &[u8] =
 const SECOND_CHECK: &[u8] =
     b"smt_proof 1 cubes 0 budget 100000\nf 0\nf 1\ne 2\ne 3\ne 4\ne 5\ne 6\ne 7\ne 8\ne 9\ne 10\ns 0\ns 1\ns 2\nsat 2\nv 0 #b11110000\nv 1 #b00011111\ne 11\ns 3\n";
 
-fn solve<S: Source, W: Sink, Q: Sink>(
+/// Which calls fail: of the script, of the answers, of the proof.
+type Failing<'a> = [&'a [u64]; 3];
+
+/// How many bytes a call moves: of the script, of the answers, of the proof.
+type Pieces = [usize; 3];
+
+/// The status, the answers and the proof of a script that comes in such pieces, where these calls fail.
+fn solve_in(
     alloc: Global,
-    script: &mut S,
-    answers: &mut W,
-    proof: &mut Q,
-) -> Status {
-    let mut unread = MemSource::new(b"", 1, &[]);
-    run(
-        alloc,
-        &["solve", "PROOF"],
-        script,
-        &mut unread,
-        answers,
-        proof,
-    )
-}
-
-#[test]
-fn the_first_script(rt: HostRuntime) {
-    let mut answers = MemSink::new(rt.alloc(), 1, &[]);
-    let mut proof = MemSink::new(rt.alloc(), 100, &[]);
-    let mut script = MemSource::new(FIRST, 7, &[]);
-    assert_eq!(rt;
-        solve(rt.alloc(), &mut script, &mut answers, &mut proof),
-        Status::Done
-    );
-    assert!(rt; answers.bytes() == b"sat\nunsat\n".as_slice());
-    assert!(rt; proof.bytes().starts_with(SECOND_CHECK));
-}
-
-#[test]
-fn a_record_stands_before_its_answer(rt: HostRuntime) {
-    let mut answers = MemSink::new(rt.alloc(), 100, &[0]);
-    let mut proof = MemSink::new(rt.alloc(), 100, &[]);
-    let mut script = MemSource::new(FIRST, 1000, &[]);
-    assert_eq!(rt;
-        solve(rt.alloc(), &mut script, &mut answers, &mut proof),
-        Status::WriteFault
-    );
-    assert!(rt; answers.bytes().is_empty());
-    assert!(rt; proof.bytes() == FIRST_CHECK);
-}
-
-#[test]
-fn a_command_that_is_left_out(rt: HostRuntime) {
-    let mut answers = MemSink::new(rt.alloc(), 100, &[]);
-    let mut proof = MemSink::new(rt.alloc(), 100, &[]);
-    let mut script = MemSource::new(b"\n(declare-sort S 0) (check-sat)\n", 5, &[]);
-    assert_eq!(rt;
-        solve(rt.alloc(), &mut script, &mut answers, &mut proof),
-        Status::Refused
-    );
-    assert!(rt; answers.bytes() == b"(error \"line 2: not supported\")\nsat\n".as_slice());
-    assert!(rt; proof.bytes() == b"smt_proof 1 cubes 0 budget 100000\nsat 0\n".as_slice());
-}
-
-#[test]
-fn an_empty_script(rt: HostRuntime) {
-    let mut answers = MemSink::new(rt.alloc(), 100, &[]);
-    let mut proof = MemSink::new(rt.alloc(), 100, &[]);
-    let mut script = MemSource::new(b"", 5, &[]);
-    assert_eq!(rt;
-        solve(rt.alloc(), &mut script, &mut answers, &mut proof),
-        Status::Done
-    );
-    assert!(rt; answers.bytes().is_empty());
-    assert!(rt; proof.bytes() == b"smt_proof 1 cubes 0 budget 100000\n".as_slice());
-}
-
-#[test]
-fn a_read_that_fails_leaves_what_was_answered(rt: HostRuntime) {
-    let mut answers = MemSink::new(rt.alloc(), 100, &[]);
-    let mut proof = MemSink::new(rt.alloc(), 100, &[]);
-    let mut script = MemSource::new(b"(check-sat) (check-sat)", 11, &[1]);
-    assert_eq!(rt;
-        solve(rt.alloc(), &mut script, &mut answers, &mut proof),
-        Status::ReadFault
-    );
-    assert!(rt; answers.bytes() == b"sat\n".as_slice());
-    assert!(rt; proof.bytes() == b"smt_proof 1 cubes 0 budget 100000\nsat 0\n".as_slice());
-}
-
-#[test]
-fn a_proof_that_fails_at_once(rt: HostRuntime) {
-    let mut answers = MemSink::new(rt.alloc(), 100, &[]);
-    let mut proof = MemSink::new(rt.alloc(), 100, &[0]);
-    let mut script = MemSource::new(b"(check-sat)", 100, &[]);
-    assert_eq!(rt;
-        solve(rt.alloc(), &mut script, &mut answers, &mut proof),
-        Status::WriteFault
-    );
-    assert!(rt; answers.bytes().is_empty());
-    assert!(rt; proof.bytes().is_empty());
-}
-
-// What a run of the first script answers and proves, its bytes one by one, where these calls fail.
-fn run_bytewise(
-    alloc: Global,
-    reads: &[u64],
-    answering: &[u64],
-    proving: &[u64],
+    script: &[u8],
+    pieces: Pieces,
+    failing: Failing<'_>,
 ) -> (Status, Vec<u8>, Vec<u8>) {
-    let mut script = MemSource::new(FIRST, 1, reads);
-    let mut answers = MemSink::new(alloc, 1, answering);
-    let mut proof = MemSink::new(alloc, 50, proving);
-    let status = solve(alloc, &mut script, &mut answers, &mut proof);
+    let mut script = MemSource::new(script, pieces[0].max(1), failing[0]);
+    let mut unread = MemSource::new(b"", 1, &[]);
+    let mut answers = MemSink::new(alloc, pieces[1].max(1), failing[1]);
+    let mut proof = MemSink::new(alloc, pieces[2].max(1), failing[2]);
+    let status = run(
+        alloc,
+        SOLVE,
+        &mut script,
+        &mut unread,
+        &mut answers,
+        &mut proof,
+    );
     (status, answers.into_bytes(), proof.into_bytes())
 }
 
-/// How often the word stands in the bytes.
-pub(crate) fn count(bytes: &[u8], word: &[u8]) -> usize {
-    let mut found = 0usize;
-    for at in 0..bytes.len() {
-        if bytes[at..].starts_with(word) {
-            found = found.saturating_add(1);
-        }
+/// What is written of a proof.
+enum Written {
+    /// These bytes.
+    Whole(&'static [u8]),
+    /// These first.
+    Front(&'static [u8]),
+}
+
+/// A script, and how its run ends.
+struct Run {
+    what: &'static str,
+    script: &'static [u8],
+    pieces: Pieces,
+    failing: Failing<'static>,
+    status: Status,
+    answers: &'static [u8],
+    proof: Written,
+}
+
+const RUNS: [Run; 6] = [
+    Run {
+        what: "the first script",
+        script: FIRST,
+        pieces: [7, 1, 100],
+        failing: [&[], &[], &[]],
+        status: Status::Done,
+        answers: b"sat\nunsat\n",
+        proof: Written::Front(SECOND_CHECK),
+    },
+    Run {
+        what: "a record stands before its answer",
+        script: FIRST,
+        pieces: [1000, 100, 100],
+        failing: [&[], &[0], &[]],
+        status: Status::WriteFault,
+        answers: b"",
+        proof: Written::Whole(FIRST_CHECK),
+    },
+    Run {
+        what: "a command that is left out",
+        script: b"\n(declare-sort S 0) (check-sat)\n",
+        pieces: [5, 100, 100],
+        failing: [&[], &[], &[]],
+        status: Status::Refused,
+        answers: b"(error \"line 2: not supported\")\nsat\n",
+        proof: Written::Whole(b"smt_proof 1 cubes 0 budget 100000\nsat 0\n"),
+    },
+    Run {
+        what: "an empty script",
+        script: b"",
+        pieces: [5, 100, 100],
+        failing: [&[], &[], &[]],
+        status: Status::Done,
+        answers: b"",
+        proof: Written::Whole(b"smt_proof 1 cubes 0 budget 100000\n"),
+    },
+    Run {
+        what: "a read that fails leaves what was answered",
+        script: b"(check-sat) (check-sat)",
+        pieces: [11, 100, 100],
+        failing: [&[1], &[], &[]],
+        status: Status::ReadFault,
+        answers: b"sat\n",
+        proof: Written::Whole(b"smt_proof 1 cubes 0 budget 100000\nsat 0\n"),
+    },
+    Run {
+        what: "a proof that fails at once",
+        script: b"(check-sat)",
+        pieces: [100, 100, 100],
+        failing: [&[], &[], &[0]],
+        status: Status::WriteFault,
+        answers: b"",
+        proof: Written::Whole(b""),
+    },
+];
+
+fn is_written(proof: &[u8], wanted: &Written) -> bool {
+    match wanted {
+        Written::Whole(bytes) => proof == *bytes,
+        Written::Front(bytes) => proof.starts_with(bytes),
     }
-    found
+}
+
+fn is_run(alloc: Global, row: &Run) -> bool {
+    let (status, answers, proof) = solve_in(alloc, row.script, row.pieces, row.failing);
+    status == row.status
+        && answers.as_slice() == row.answers
+        && is_written(proof.as_slice(), &row.proof)
 }
 
 #[test]
-fn each_call_of_each_stream_fails_in_turn(rt: HostRuntime) {
-    let alloc = rt.alloc();
-    let (_, all_answers, all_proof) = run_bytewise(alloc, &[], &[], &[]);
-    // The stream, how many calls a whole run makes of it, and the status where one of them fails.
-    for (stream, calls, stopped) in [
-        (0u8, 195u64, Status::ReadFault),
-        (1u8, 10u64, Status::WriteFault),
-        (2u8, 9u64, Status::WriteFault),
-    ] {
-        for call in 0..=calls {
-            let failing = [call];
-            let reads: &[u64] = if stream == 0 { &failing } else { &[] };
-            let answering: &[u64] = if stream == 1 { &failing } else { &[] };
-            let proving: &[u64] = if stream == 2 { &failing } else { &[] };
-            let (status, answers, proof) = run_bytewise(alloc, reads, answering, proving);
-            let whole = status == Status::Done && answers == all_answers && proof == all_proof;
-            let front = status == stopped
+fn scripts_are_run(rt: HostRuntime) {
+    for row in &RUNS {
+        let what = row.what;
+        assert!(rt; is_run(rt.alloc(), row), "{what}");
+    }
+}
+
+/// What a run of the first script answers and proves, its bytes one by one, where these calls fail.
+fn run_bytewise(alloc: Global, failing: Failing<'_>) -> (Status, Vec<u8>, Vec<u8>) {
+    solve_in(alloc, FIRST, [1, 1, 50], failing)
+}
+
+/// Whether a run is whole where no call has failed, and else ends with this status and has written a front of it all, in which
+/// each answer of a check has its record.
+fn is_front(
+    alloc: Global,
+    failing: Failing<'_>,
+    stopped: Option<Status>,
+    all_answers: &[u8],
+    all_proof: &[u8],
+) -> bool {
+    let (status, answers, proof) = run_bytewise(alloc, failing);
+    match stopped {
+        None => {
+            status == Status::Done
+                && answers.as_slice() == all_answers
+                && proof.as_slice() == all_proof
+        }
+        Some(stopped) => {
+            status == stopped
                 && all_answers.starts_with(&answers)
                 && all_proof.starts_with(&proof)
-                && count(&answers, b"\n") <= count(&proof, b"sat ");
-            let right = if call < calls { front } else { whole };
+                && count(&answers, b"\n") <= count(&proof, b"sat ")
+        }
+    }
+}
+
+/// The same where the call of this number fails of the script, of the answers or of the proof, numbered from 0.
+fn is_front_behind(
+    alloc: Global,
+    stream: u8,
+    call: u64,
+    stopped: Option<Status>,
+    all_answers: &[u8],
+    all_proof: &[u8],
+) -> bool {
+    let calls = [call];
+    let failing: Failing<'_> = match stream {
+        0 => [&calls, &[], &[]],
+        1 => [&[], &calls, &[]],
+        _ => [&[], &[], &calls],
+    };
+    is_front(alloc, failing, stopped, all_answers, all_proof)
+}
+
+/// The stream, how many calls a whole run makes of it, and the status where one of them fails.
+const STREAMS: [(u8, u64, Status); 3] = [
+    (0, 195, Status::ReadFault),
+    (1, 10, Status::WriteFault),
+    (2, 9, Status::WriteFault),
+];
+
+#[test]
+fn each_call_of_each_stream_fails_in_turn(rt: HostRuntime) {
+    let (_, answers, proof) = run_bytewise(rt.alloc(), [&[], &[], &[]]);
+    for (stream, calls, stopped) in &STREAMS {
+        for call in 0..=*calls {
+            let stopped = if call < *calls { Some(*stopped) } else { None };
+            let right = is_front_behind(rt.alloc(), *stream, call, stopped, &answers, &proof);
             assert!(rt; right, "stream {stream}, call {call}");
         }
     }
