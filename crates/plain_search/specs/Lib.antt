@@ -1,4 +1,0 @@
-pub mod Trails
-pub mod Passes
-pub mod Marks
-pub mod Searches
