@@ -100,7 +100,6 @@ fn settings_of<'a>(found: &ArgMatches<'a>) -> Settings
     ensures { limits_of result ≡ limits_in (rows_of (found_of found.now)) }
 {
     Settings {
-        workers: Settings::DEFAULT.workers,
         cubes: number_or(found, "cubes", Settings::DEFAULT.cubes),
         budget: number_or(found, "budget", Settings::DEFAULT.budget),
     }

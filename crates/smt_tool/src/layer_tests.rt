@@ -63,7 +63,6 @@ fn answer_script(
     proof: &mut MemSink<'_>,
 ) -> Result<bool, AllocError> {
     let settings = Settings {
-        workers: 1,
         cubes: 0,
         budget: 9,
     };

@@ -19,15 +19,11 @@ fn asks(
     }
 }
 
-// Whether the words ask to solve with this proof file, one worker and these limits.
+// Whether the words ask to solve with this proof file and these limits.
 fn asks_within(alloc: Global, words: &[&str], cubes: u32, budget: u32) -> bool {
     match plan(alloc, words) {
         Ok(plan) => {
-            let settings = Settings {
-                workers: 1,
-                cubes,
-                budget,
-            };
+            let settings = Settings { cubes, budget };
             plan.command == Command::Solve && plan.proof == "p" && plan.settings == settings
         }
         Err(_) => false,
