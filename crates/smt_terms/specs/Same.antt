@@ -181,12 +181,6 @@ node_itself a = rw (op_itself a.op, numbers_itself a.args) refl
 
 -- ---- the laws of `==`
 
-pub numbers_equivalence : IsEquivalence same_numbers
-numbers_equivalence = equivalence_by same_numbers numbers_same numbers_itself
-
-pub sorts_equivalence : IsEquivalence same_sorts
-sorts_equivalence = equivalence_by same_sorts sorts_same sorts_itself
-
 pub signature_equivalence : IsEquivalence same_signature
 signature_equivalence = equivalence_by same_signature signature_same signature_itself
 
@@ -234,9 +228,6 @@ op_input op = fed.u8 (tag_of op) ++ indexes_input op
 
 abbrev pub node_input : Node → List (List ℕ)
 node_input n = op_input n.op ++ numbers_input n.args
-
-pub numbers_respects : (a b : List ℕ) → IsTrue (same_numbers a b) → numbers_input a ≡ numbers_input b
-numbers_respects a b e = ap numbers_input (numbers_same a b e)
 
 pub op_respects : (a b : Op) → IsTrue (same_op a b) → op_input a ≡ op_input b
 op_respects a b e = ap op_input (op_same a b e)
