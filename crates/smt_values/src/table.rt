@@ -8,49 +8,14 @@ ghost use Rattle.smt_values.specs.Tables.{AreRowsRising, RowsSplit, row_at, row_
 
 use crate::order::compare;
 use crate::scalars::read_scalar;
+use plain_list::List;
 use smt_terms::scalar::Scalar;
 use smt_terms::sort::Sort;
 use std::alloc::{AllocError, Global};
 use std::marker::Model;
 
 /// A list of truth values and words.
-#[derive(Clone, Debug, Drop)]
-pub struct Scalars {
-    items: Vec<Scalar>,
-}
-
-impl Model for Scalars {
-    ghost use Rattle.std.specs.Prelude.{List};
-    ghost use Rattle.smt_terms.specs.declared.scalar.Scalar.{Scalar};
-
-    ghost Value = { List Scalar };
-
-    ghost view = { λ s. s.items.items };
-}
-
-impl Scalars {
-    /// The list of these values; takes no memory.
-    pub fn from_vec(items: Vec<Scalar>) -> Scalars
-        ensures { result ≡ items.items }
-    {
-        Scalars { items }
-    }
-
-    /// The values in a list of their own.
-    pub fn of(alloc: Global, items: &[Scalar]) -> Result<Scalars, AllocError>
-        ensures { IfOk result (λ s. s ≡ items.now) }
-    {
-        Ok(Scalars {
-            items: Vec::from_slice(alloc, items)?,
-        })
-    }
-
-    pub fn as_slice(&self) -> &[Scalar]
-        ensures { result.now ≡ self.now }
-    {
-        self.items.as_slice()
-    }
-}
+pub type Scalars = List<Scalar>;
 
 /// The value of a function for a list of arguments.
 #[derive(Clone, Debug, Drop)]
