@@ -12,7 +12,7 @@ use Rattle.smt_terms.specs.declared.sort.Sort.TheVariants as sort
 use Rattle.smt_terms.specs.declared.operator.Operator.{Operator}
 use Rattle.smt_terms.specs.declared.operator.Operator.TheVariants as plain
 use Rattle.smt_terms.specs.declared.node.Op.{Op}
-use Rattle.smt_terms.specs.declared.node.Op.TheVariants.{Plain, Word, Extract, ZeroExtend, SignExtend, RotateLeft, RotateRight, Repeat, Constant, Apply, Param}
+use Rattle.smt_terms.specs.declared.node.Op.TheVariants.{Plain, Word, Extract, ZeroExtend, SignExtend, RotateLeft, RotateRight, Repeat, ConstantArray, Constant, Apply, Param}
 use Rattle.smt_terms.specs.declared.node.Node.{Node}
 use Rattle.smt_terms.specs.declared.fault.MakeFault.{MakeFault}
 use Rattle.smt_terms.specs.Same.{same_sort, sort_same}
@@ -235,6 +235,7 @@ suited M (SignExtend i) = word_suited (λ n. word_sort (n + i)) (λ n x. VWord (
 suited M (RotateLeft i) = one_suited (λ n x. rotate_left_of n i x) (λ n x p lt. fits.rotate_left_fits n i x p lt)
 suited M (RotateRight i) = one_suited (λ n x. rotate_right_of n i x) (λ n x p lt. fits.rotate_right_fits n i x p lt)
 suited M (Repeat i) = word_suited (λ n. word_sort (n * i)) (λ n x. VWord (n * i) (repeat_of n i x)) λ n x s lt e. word_given (n * i) (repeat_of n i x) s e (fits.repeat_fits n i x lt)
+suited M (ConstantArray k) = word_suited (λ n. constant_sort (sort.Array k n)) (λ n x. VArray k n (λ i. x)) λ n x s lt e. subst (λ r. HasSort r (VArray k n (λ i. x))) (constant_sort_ok (sort.Array k n) s e) ((λ i. x), refl, (λ i. lt))
 suited M (Constant d t) = λ s e. subst (λ k. HasSort k (read_at t (M.constants d))) (constant_sort_ok t s e) (read_has_sort t (M.constants d))
 suited M (Apply d g) = application_suited g.args g.value (M.functions d)
 suited M (Param k t) = λ s e. subst (λ k. HasSort k (default_of t)) (plain_sort_ok t s e) (default_has_sort t)

@@ -7,7 +7,7 @@ use Rattle.smt_terms.specs.declared.sort.Sort.TheVariants as sort
 use Rattle.smt_terms.specs.declared.operator.Operator.{Operator}
 use Rattle.smt_terms.specs.declared.operator.Operator.TheVariants as plain
 use Rattle.smt_terms.specs.declared.node.Op.{Op}
-use Rattle.smt_terms.specs.declared.node.Op.TheVariants.{Plain, Word, Extract, ZeroExtend, SignExtend, RotateLeft, RotateRight, Repeat, Constant, Apply, Param}
+use Rattle.smt_terms.specs.declared.node.Op.TheVariants.{Plain, Word, Extract, ZeroExtend, SignExtend, RotateLeft, RotateRight, Repeat, ConstantArray, Constant, Apply, Param}
 use Rattle.smt_terms.specs.declared.node.Node.{Node}
 use Rattle.smt_terms.specs.declared.fault.MakeFault.{MakeFault}
 use Rattle.smt_terms.specs.Nodes.{node_at}
@@ -126,6 +126,7 @@ rank_bounded (SignExtend i) = λ a al h. word_bounded (width_of a + i)
 rank_bounded (RotateLeft i) = λ a al h. word_bounded (width_of a)
 rank_bounded (RotateRight i) = λ a al h. word_bounded (width_of a)
 rank_bounded (Repeat i) = λ a al h. word_bounded (width_of a * i)
+rank_bounded (ConstantArray k) = λ a al h. constant_bounded (sort.Array k (width_of a))
 rank_bounded (Constant d t) = constant_bounded t
 rank_bounded (Apply d g) = application_bounded g.args g.value
 rank_bounded (Param k t) = plain_bounded t

@@ -5,7 +5,7 @@ use Rattle.smt_terms.specs.declared.sort.Sort.TheVariants as sort
 use Rattle.smt_terms.specs.declared.operator.Operator.{Operator}
 use Rattle.smt_terms.specs.declared.operator.Operator.TheVariants as plain
 use Rattle.smt_terms.specs.declared.node.Op.{Op}
-use Rattle.smt_terms.specs.declared.node.Op.TheVariants.{Plain, Word, Extract, ZeroExtend, SignExtend, RotateLeft, RotateRight, Repeat, Constant, Apply, Param}
+use Rattle.smt_terms.specs.declared.node.Op.TheVariants.{Plain, Word, Extract, ZeroExtend, SignExtend, RotateLeft, RotateRight, Repeat, ConstantArray, Constant, Apply, Param}
 use Rattle.smt_terms.specs.declared.rank.Demand.{Demand}
 use Rattle.smt_terms.specs.declared.rank.Demand.TheVariants.{Any, AnyWord, AnyArray, Exactly, Argument}
 use Rattle.smt_terms.specs.declared.fault.MakeFault.{MakeFault}
@@ -199,6 +199,7 @@ rank_of (SignExtend i) = one_word λ n. word_sort (n + i)
 rank_of (RotateLeft i) = one_word word_sort
 rank_of (RotateRight i) = one_word word_sort
 rank_of (Repeat i) = one_word λ n. word_sort (n * i)
+rank_of (ConstantArray k) = one_word λ n. constant_sort (sort.Array k n)
 rank_of (Constant d s) = Gives (constant_sort s)
 rank_of (Apply d s) = application s.args s.value
 rank_of (Param k s) = Gives (plain_sort s)

@@ -9,7 +9,7 @@ use Rattle.smt_terms.specs.declared.sort.Sort.{Sort}
 use Rattle.smt_terms.specs.declared.sort.Sort.TheVariants as sort
 use Rattle.smt_terms.specs.declared.sort.Signature.{Signature}
 use Rattle.smt_terms.specs.declared.node.Op.{Op}
-use Rattle.smt_terms.specs.declared.node.Op.TheVariants.{Plain, Word, Extract, ZeroExtend, SignExtend, RotateLeft, RotateRight, Repeat, Constant, Apply, Param}
+use Rattle.smt_terms.specs.declared.node.Op.TheVariants.{Plain, Word, Extract, ZeroExtend, SignExtend, RotateLeft, RotateRight, Repeat, ConstantArray, Constant, Apply, Param}
 use Rattle.smt_terms.specs.declared.node.Node.{Node}
 use Rattle.smt_terms.specs.Equivalences.{equivalence_by}
 use Rattle.smt_terms.specs.Operators.{same_operator, operator_same, operator_itself, code_of}
@@ -48,6 +48,8 @@ same_op (RotateRight i) (RotateRight j) = i == j
 same_op (RotateRight i) _ = false
 same_op (Repeat i) (Repeat j) = i == j
 same_op (Repeat i) _ = false
+same_op (ConstantArray i) (ConstantArray j) = i == j
+same_op (ConstantArray i) _ = false
 same_op (Constant c s) (Constant d t) = (c == d) && same_sort s t
 same_op (Constant c s) _ = false
 same_op (Apply c s) (Apply d t) = (c == d) && same_signature s t
@@ -125,6 +127,8 @@ op_same (RotateRight i) (RotateRight j) e = ap RotateRight (eqb-true i j e)
 op_same (RotateRight i) _ e = cc
 op_same (Repeat i) (Repeat j) e = ap Repeat (eqb-true i j e)
 op_same (Repeat i) _ e = cc
+op_same (ConstantArray i) (ConstantArray j) e = ap ConstantArray (eqb-true i j e)
+op_same (ConstantArray i) _ e = cc
 op_same (Constant c s) (Constant d t) e = with_sort Constant c d s t e
 op_same (Constant c s) _ e = cc
 op_same (Apply c s) (Apply d t) e =
@@ -172,6 +176,7 @@ op_itself (SignExtend i) = self_number i
 op_itself (RotateLeft i) = self_number i
 op_itself (RotateRight i) = self_number i
 op_itself (Repeat i) = self_number i
+op_itself (ConstantArray i) = self_number i
 op_itself (Constant c s) = rw (self_number c, sort_itself s) refl
 op_itself (Apply c s) = rw (self_number c, signature_itself s) refl
 op_itself (Param c s) = rw (self_number c, sort_itself s) refl
@@ -208,6 +213,7 @@ tag_of (Repeat i) = 70
 tag_of (Constant d s) = 71
 tag_of (Apply d s) = 72
 tag_of (Param k s) = 73
+tag_of (ConstantArray i) = 74
 
 -- what its indexes add, and the declaration or place that it names
 abbrev pub indexes_input : Op → List (List ℕ)
@@ -219,6 +225,7 @@ indexes_input (SignExtend i) = fed.u64 i
 indexes_input (RotateLeft i) = fed.u64 i
 indexes_input (RotateRight i) = fed.u64 i
 indexes_input (Repeat i) = fed.u64 i
+indexes_input (ConstantArray i) = fed.u64 i
 indexes_input (Constant d s) = fed.u32 d
 indexes_input (Apply d s) = fed.u32 d
 indexes_input (Param k s) = fed.u32 k

@@ -5,7 +5,7 @@ use Rattle.smt_terms.specs.declared.sort.Sort.{Sort}
 use Rattle.smt_terms.specs.declared.sort.Sort.TheVariants as sort
 use Rattle.smt_terms.specs.declared.sort.Signature.{Signature}
 use Rattle.smt_terms.specs.declared.node.Op.{Op}
-use Rattle.smt_terms.specs.declared.node.Op.TheVariants.{Plain, Word, Extract, ZeroExtend, SignExtend, RotateLeft, RotateRight, Repeat, Constant, Apply, Param}
+use Rattle.smt_terms.specs.declared.node.Op.TheVariants.{Plain, Word, Extract, ZeroExtend, SignExtend, RotateLeft, RotateRight, Repeat, ConstantArray, Constant, Apply, Param}
 use Rattle.smt_terms.specs.declared.node.Node.{Node}
 use Rattle.smt_terms.specs.declared.fault.MakeFault.{MakeFault}
 use Rattle.smt_terms.specs.declared.fault.MakeFault.TheVariants.{TermLimit}
@@ -69,6 +69,7 @@ declaration_of (SignExtend i) = None
 declaration_of (RotateLeft i) = None
 declaration_of (RotateRight i) = None
 declaration_of (Repeat i) = None
+declaration_of (ConstantArray k) = None
 declaration_of (Constant d s) = Some d
 declaration_of (Apply d s) = Some d
 declaration_of (Param k s) = None
@@ -86,6 +87,7 @@ signature_of (SignExtend i) = constant_signature sort.Bool
 signature_of (RotateLeft i) = constant_signature sort.Bool
 signature_of (RotateRight i) = constant_signature sort.Bool
 signature_of (Repeat i) = constant_signature sort.Bool
+signature_of (ConstantArray k) = constant_signature sort.Bool
 signature_of (Constant d s) = constant_signature s
 signature_of (Apply d s) = s
 signature_of (Param k s) = constant_signature sort.Bool

@@ -6,7 +6,7 @@ use Rattle.smt_terms.specs.declared.sort.Sort.TheVariants as sort
 use Rattle.smt_terms.specs.declared.operator.Operator.{Operator}
 use Rattle.smt_terms.specs.declared.operator.Operator.TheVariants as plain
 use Rattle.smt_terms.specs.declared.node.Op.{Op}
-use Rattle.smt_terms.specs.declared.node.Op.TheVariants.{Plain, Word, Extract, ZeroExtend, SignExtend, RotateLeft, RotateRight, Repeat, Constant, Apply, Param}
+use Rattle.smt_terms.specs.declared.node.Op.TheVariants.{Plain, Word, Extract, ZeroExtend, SignExtend, RotateLeft, RotateRight, Repeat, ConstantArray, Constant, Apply, Param}
 use Rattle.smt_terms.specs.declared.node.Node.{Node}
 use Rattle.smt_terms.specs.Nodes.{at_term}
 
@@ -209,6 +209,7 @@ meaning_of M (SignExtend i) = word_of λ n x. VWord (n + i) (sign_extend_of n i 
 meaning_of M (RotateLeft i) = one λ n x. rotate_left_of n i x
 meaning_of M (RotateRight i) = one λ n x. rotate_right_of n i x
 meaning_of M (Repeat i) = word_of λ n x. VWord (n * i) (repeat_of n i x)
+meaning_of M (ConstantArray k) = word_of λ n x. VArray k n (λ i. x)
 meaning_of M (Constant d s) = Is (read_at s (M.constants d))
 meaning_of M (Apply d s) = collected s.args λ vs. read_at s.value (M.functions d vs)
 meaning_of M (Param k s) = Is (default_of s)

@@ -38,6 +38,8 @@ pub enum Op {
     RotateRight(u64),
     /// So many copies.
     Repeat(u64),
+    /// The array with indexes of this width that has one element everywhere.
+    ConstantArray(u64),
     /// A declared constant, with its sort.
     Constant {
         declaration: DeclId,
@@ -79,6 +81,7 @@ impl Op {
             Op::Constant { .. } => 71,
             Op::Apply { .. } => 72,
             Op::Param { .. } => 73,
+            Op::ConstantArray(_) => 74,
         }
     }
 }
@@ -105,6 +108,7 @@ impl PartialEq for Op {
             Op::RotateLeft(i) => matches!(other, Op::RotateLeft(j) if i == j),
             Op::RotateRight(i) => matches!(other, Op::RotateRight(j) if i == j),
             Op::Repeat(i) => matches!(other, Op::Repeat(j) if i == j),
+            Op::ConstantArray(i) => matches!(other, Op::ConstantArray(j) if i == j),
             Op::Constant {
                 declaration: c,
                 sort: s,
@@ -149,7 +153,8 @@ impl Hash for Op {
             | Op::SignExtend(index)
             | Op::RotateLeft(index)
             | Op::RotateRight(index)
-            | Op::Repeat(index) => index.hash(state),
+            | Op::Repeat(index)
+            | Op::ConstantArray(index) => index.hash(state),
             Op::Constant { declaration, .. } | Op::Apply { declaration, .. } => {
                 declaration.hash(state)
             }

@@ -3,6 +3,7 @@
 ghost use Rattle.std.specs.Prelude.{◌≡◌, ℕ, Result, Ok, ◌+◌, ◌*◌, ◌^◌, ◌≤◌, length, nat_lt, true};
 ghost use Rattle.smt_terms.specs.Ranks.{and_then, allows, width_of, is_plain, index_sort, element_sort, word_sort, constant_sort, plain_sort, literal_sort, extract_sort, one_truth, two_truths, two_words, one_word, concatenation, equality, choice, selection, storing, difference, truth, application, each_of, ranked, rank_of, operator_rank};
 ghost use Rattle.smt_terms.specs.declared.sort.Sort.{Sort};
+ghost use Rattle.smt_terms.specs.declared.sort.Sort.TheVariants as sort;
 ghost use Rattle.smt_terms.specs.declared.fault.MakeFault.{MakeFault};
 ghost use Rattle.smt_terms.specs.Places.{sorts_at, taken, ended, ranked_at};
 
@@ -214,6 +215,24 @@ fn repetition(held: &[Sort], args: &[TermId], copies: u64) -> Result<Sort, MakeF
     )
 }
 
+/// The sort of an array whose index width stands in an operator.
+fn array_sort(index: u64, element: u32) -> Result<Sort, MakeFault>
+    ensures { result ≡ constant_sort (sort.Array index element) }
+{
+    if index > 128 {
+        return Err(MakeFault::WidthOutOfRange(u128::from(index)));
+    }
+    constant_sort(Sort::Array(index as u32, element))
+}
+
+/// A word, and the sort of an array of such words.
+fn everywhere(held: &[Sort], args: &[TermId], index: u64) -> Result<Sort, MakeFault>
+    ensures { result ≡ ranked_at (one_word λ n. constant_sort (sort.Array index n)) 0 (sorts_at held.now args.now) }
+{
+    let word = taken(held, args, 0, Demand::AnyWord)?;
+    ended(args, 1, array_sort(index, word.width()))
+}
+
 /// The sort of two words of one sort.
 fn two_words(held: &[Sort], args: &[TermId]) -> Result<Sort, MakeFault>
     ensures { result ≡ ranked_at (two_words Ok) 0 (sorts_at held.now args.now) }
@@ -367,6 +386,7 @@ fn op_sort(op: &Op, held: &[Sort], args: &[TermId]) -> Result<Sort, MakeFault>
         Op::ZeroExtend(by) | Op::SignExtend(by) => extension(held, args, *by),
         Op::RotateLeft(_) | Op::RotateRight(_) => same_word(held, args),
         Op::Repeat(copies) => repetition(held, args, *copies),
+        Op::ConstantArray(index) => everywhere(held, args, *index),
         Op::Constant { sort, .. } => ended(args, 0, constant_sort(*sort)),
         Op::Apply { signature, .. } => application(held, args, signature),
         Op::Param { sort, .. } => ended(args, 0, plain_sort(*sort)),
