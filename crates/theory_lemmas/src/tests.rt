@@ -1,0 +1,272 @@
+//! Clauses and faults of lemmas, with ample memory. Each test walks one table.
+
+ghost use Rattle.std.specs.Prelude.{◌≡◌, ◌+◌, ◌*◌, nat_lt, if◌then◌else◌, Some, None, IfOk};
+ghost use Rattle.cnf_base.specs.Literals.{positive_of};
+ghost use Rattle.smt_terms.specs.Terms.{declaration_of};
+
+use crate::clauses::{Equalities, clause_of};
+use crate::fault::{LemmaError, LemmaFault};
+use cnf_base::{Clause, Lit};
+use smt_terms::bits::Bits;
+use smt_terms::list::Arguments;
+use smt_terms::node::{Node, Op, TermId};
+use smt_terms::operator::Operator;
+use smt_terms::sort::Sort;
+use smt_terms::terms::Terms;
+use std::alloc::{AllocError, Global};
+use std::test::Fail;
+use theory_terms::lemma::{Access, Lemma, Move, Path, Start};
+
+/// Terms t below u have the variable 100 * (t + 1) + u, where u is below a bound; others have none.
+#[derive(Clone, Copy)]
+struct Named {
+    bound: TermId,
+}
+
+impl Equalities for Named {
+    ghost equal = { λ e t u. if nat_lt u e.bound then Some (positive_of (100 * (t + 1) + u)) else None };
+
+    fn of(&self, t: TermId, u: TermId) -> Option<Lit> {
+        if u < self.bound {
+            Some(Lit::new(100 * (u64::from(t) + 1) + u64::from(u), true))
+        } else {
+            None
+        }
+    }
+}
+
+/// A term that is made.
+#[derive(Clone, Copy)]
+enum Made {
+    /// The parameter of this place and sort.
+    Param(u32, Sort),
+    /// The array with indexes of width 4 that has this element everywhere.
+    Filled(TermId),
+    Plain(Operator, &'static [TermId]),
+}
+
+/// Each term has its place in this table as its number.
+const MADE: [Made; 19] = [
+    Made::Param(0, Sort::Word(4)),
+    Made::Param(1, Sort::Word(4)),
+    Made::Param(2, Sort::Word(8)),
+    Made::Param(3, Sort::Word(8)),
+    Made::Param(4, Sort::Bool),
+    Made::Filled(2),
+    Made::Filled(3),
+    Made::Plain(Operator::Store, &[5, 0, 3]),
+    Made::Plain(Operator::Select, &[7, 1]),
+    Made::Plain(Operator::Select, &[5, 1]),
+    Made::Plain(Operator::Equal, &[5, 6]),
+    Made::Plain(Operator::Witness, &[5, 6]),
+    Made::Plain(Operator::Select, &[5, 11]),
+    Made::Plain(Operator::Select, &[6, 11]),
+    Made::Plain(Operator::Ite, &[4, 5, 6]),
+    Made::Plain(Operator::Select, &[14, 0]),
+    Made::Plain(Operator::Select, &[5, 0]),
+    Made::Plain(Operator::Select, &[6, 0]),
+    Made::Plain(Operator::Equal, &[6, 7]),
+];
+
+fn node_of(alloc: Global, made: Made) -> Result<Node, AllocError>
+    ensures { IfOk result (λ n. declaration_of n.op ≡ None) }
+{
+    match made {
+        Made::Param(place, sort) => Ok(Node::leaf(alloc, Op::Param { place, sort })),
+        Made::Filled(element) => Ok(Node {
+            op: Op::ConstantArray(4),
+            args: Arguments::of(alloc, &[element])?,
+        }),
+        Made::Plain(operator, args) => Ok(Node {
+            op: Op::Plain(operator),
+            args: Arguments::of(alloc, args)?,
+        }),
+    }
+}
+
+/// The terms of the table; none where one gets another number.
+fn terms_of(alloc: Global) -> Result<Option<Terms>, AllocError> {
+    let mut terms = Terms::new(alloc);
+    let mut number = 0;
+    for made in &MADE {
+        let node = node_of(alloc, *made)?;
+        if terms.make(node) != Ok(number) {
+            return Ok(None);
+        }
+        number += 1;
+    }
+    Ok(Some(terms))
+}
+
+#[derive(Clone, Copy)]
+enum Case {
+    Congruence(TermId, TermId),
+    Witness(TermId),
+    Arrays(Start, &'static [Move], Start, &'static [Move]),
+}
+
+#[derive(Clone, Copy)]
+enum Expected {
+    /// These literals, each by its variable, which is negative where the literal is negated.
+    Clause(&'static [i64]),
+    NoEqual(TermId, TermId),
+    Shape,
+}
+
+fn access_of(alloc: Global, start: Start, moves: &[Move]) -> Result<Access, AllocError> {
+    let path = Path::from_vec(Vec::from_slice(alloc, moves)?);
+    Ok(Access { start, path })
+}
+
+fn lemma_of(alloc: Global, case: Case) -> Result<Lemma, AllocError> {
+    match case {
+        Case::Congruence(t, u) => Ok(Lemma::Congruence(t, u)),
+        Case::Witness(t) => Ok(Lemma::Witness(t)),
+        Case::Arrays(start, moves, other, others) => Ok(Lemma::Arrays(
+            access_of(alloc, start, moves)?,
+            access_of(alloc, other, others)?,
+        )),
+    }
+}
+
+fn is_literal(literal: Lit, number: i64) -> bool {
+    literal.variable() == number.unsigned_abs() && literal.is_positive() == (number > 0)
+}
+
+fn are_literals(clause: &Clause, numbers: &[i64]) -> bool {
+    if clause.len() != numbers.len() {
+        return false;
+    }
+    let mut literals = clause.literals().iter();
+    for number in numbers {
+        match literals.next() {
+            Some(literal) => {
+                if !is_literal(*literal, *number) {
+                    return false;
+                }
+            }
+            None => return false,
+        }
+    }
+    true
+}
+
+fn is_expected(given: &Result<Clause, LemmaError>, expected: Expected) -> bool {
+    match (given, expected) {
+        (Ok(clause), Expected::Clause(numbers)) => are_literals(clause, numbers),
+        (Err(LemmaError::Fault(LemmaFault::NoEqual(t, u))), Expected::NoEqual(v, w)) => {
+            *t == v && *u == w
+        }
+        (Err(LemmaError::Fault(LemmaFault::Shape)), Expected::Shape) => true,
+        _ => false,
+    }
+}
+
+const STORED: Case = Case::Arrays(Start::Term(8), &[Move::Store(7)], Start::Term(9), &[]);
+
+const CHOSEN: Case = Case::Arrays(Start::Term(15), &[Move::Then(14)], Start::Term(16), &[]);
+
+const REFUSED: Case = Case::Arrays(Start::Term(15), &[Move::Else(14)], Start::Term(17), &[]);
+
+/// A lemma, the bound below which equalities have variables, and what it gives.
+const ROWS: [(Case, TermId, Expected); 22] = [
+    (STORED, 19, Expected::Clause(&[101, -1, 909])),
+    (STORED, 9, Expected::NoEqual(8, 9)),
+    (STORED, 1, Expected::NoEqual(0, 1)),
+    (CHOSEN, 19, Expected::Clause(&[-40, -1, 1616])),
+    (REFUSED, 19, Expected::Clause(&[40, -1, 1617])),
+    (
+        Case::Arrays(Start::Term(7), &[Move::Store(7)], Start::Term(9), &[]),
+        19,
+        Expected::Clause(&[1, -101, 409]),
+    ),
+    (
+        Case::Arrays(Start::Term(9), &[Move::Sides(10)], Start::Term(17), &[]),
+        19,
+        Expected::Clause(&[-30, -101, 1017]),
+    ),
+    (
+        Case::Arrays(Start::Const(5, 1), &[], Start::Term(9), &[]),
+        19,
+        Expected::Clause(&[-1, 309]),
+    ),
+    (
+        Case::Arrays(Start::Const(5, 0), &[Move::Store(7)], Start::Term(8), &[]),
+        19,
+        Expected::Clause(&[1, -101, 308]),
+    ),
+    (Case::Witness(10), 19, Expected::Clause(&[30, -1313])),
+    (Case::Witness(10), 13, Expected::NoEqual(12, 13)),
+    (
+        Case::Arrays(Start::Term(8), &[], Start::Term(9), &[]),
+        19,
+        Expected::Shape,
+    ),
+    (
+        Case::Arrays(Start::Term(8), &[Move::Then(7)], Start::Term(9), &[]),
+        19,
+        Expected::Shape,
+    ),
+    (
+        Case::Arrays(Start::Term(9), &[Move::Else(14)], Start::Term(15), &[]),
+        19,
+        Expected::Shape,
+    ),
+    (
+        Case::Arrays(Start::Const(5, 2), &[], Start::Term(9), &[]),
+        19,
+        Expected::Shape,
+    ),
+    (
+        Case::Arrays(Start::Const(5, 19), &[], Start::Term(9), &[]),
+        19,
+        Expected::Shape,
+    ),
+    (
+        Case::Arrays(Start::Const(7, 0), &[], Start::Term(8), &[]),
+        19,
+        Expected::Shape,
+    ),
+    (
+        Case::Arrays(Start::Term(14), &[], Start::Term(9), &[]),
+        19,
+        Expected::Shape,
+    ),
+    (Case::Witness(18), 19, Expected::Shape),
+    (Case::Witness(14), 19, Expected::Shape),
+    (Case::Congruence(8, 9), 19, Expected::Shape),
+    (Case::Congruence(19, 19), 19, Expected::Shape),
+];
+
+#[test]
+fn lemmas_have_their_clauses_and_faults(rt: HostRuntime) -> Result<(), Fail> {
+    let alloc = rt.alloc();
+    let Some(terms) = terms_of(alloc)? else {
+        return Err("a term has another number".into());
+    };
+    let mut bits = Bits::new(alloc);
+    bits.set(10, &[Lit::new(30, true)])?;
+    bits.set(4, &[Lit::new(40, true)])?;
+    for (case, bound, expected) in ROWS {
+        let lemma = lemma_of(alloc, case)?;
+        let given = clause_of(alloc, &terms, &bits, &Named { bound }, &lemma);
+        assert!(rt; is_expected(&given, expected));
+    }
+    Ok(())
+}
+
+/// A missing bit is told before a missing equality.
+#[test]
+fn a_shape_is_told_before_an_equality(rt: HostRuntime) -> Result<(), Fail> {
+    let alloc = rt.alloc();
+    let Some(terms) = terms_of(alloc)? else {
+        return Err("a term has another number".into());
+    };
+    let bits = Bits::new(alloc);
+    for case in [CHOSEN, REFUSED, Case::Witness(10)] {
+        let lemma = lemma_of(alloc, case)?;
+        let given = clause_of(alloc, &terms, &bits, &Named { bound: 0 }, &lemma);
+        assert!(rt; is_expected(&given, Expected::Shape));
+    }
+    Ok(())
+}

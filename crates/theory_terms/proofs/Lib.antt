@@ -1,0 +1,3 @@
+pub mod Ranked
+pub mod Shapes
+pub mod Sound
