@@ -79,6 +79,7 @@ op_at signatures (op.SignExtend k) h e i = ap (λ x. option_and_then (op_of sign
 op_at signatures (op.RotateLeft k) h e i = ap (λ x. option_and_then (op_of signatures) x) (sym e)
 op_at signatures (op.RotateRight k) h e i = ap (λ x. option_and_then (op_of signatures) x) (sym e)
 op_at signatures (op.Repeat k) h e i = ap (λ x. option_and_then (op_of signatures) x) (sym e)
+op_at signatures (op.ConstantArray k) h e i = let q : ⊥ = cc in absurd q
 op_at signatures (op.Constant d s) h e i = let q : ⊥ = cc in absurd q
 op_at signatures (op.Apply d s) h e i = ap (λ x. option_and_then (op_of signatures) x) (sym e) ∙ ap (λ x. option_map (λ s. op.Apply d s) x) (i.each d refl)
 op_at signatures (op.Param k s) h e i = let q : ⊥ = cc in absurd q

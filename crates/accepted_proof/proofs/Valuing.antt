@@ -48,6 +48,7 @@ module _ (s : StateValue) (h : IsState s) where
   suited_op values t (op.RotateLeft i) e = tt
   suited_op values t (op.RotateRight i) e = tt
   suited_op values t (op.Repeat i) e = tt
+  suited_op values t (op.ConstantArray k) e = tt
   suited_op values t (op.Constant d r) e =
       let declared : slice_get s.symbols.signatures d ≡ Some (constant_signature r) = h.declared.each t d (ap declaration_of e) ∙ ap (λ x. Some (signature_of x)) e in
       let plain = each_slice_get IsPlainConstant s.symbols.signatures d (constant_signature r) (recursion_from_All IsPlainConstant s.symbols.signatures h.constants) declared in

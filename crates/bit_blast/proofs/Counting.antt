@@ -5,7 +5,7 @@ use Rattle.cnf_base.specs.Literals.{Literal, false_literal}
 use Rattle.smt_terms.specs.declared.operator.Operator.{Operator}
 use Rattle.smt_terms.specs.declared.operator.Operator.TheVariants as plain
 use Rattle.smt_terms.specs.declared.node.Op.{Op}
-use Rattle.smt_terms.specs.declared.node.Op.TheVariants.{Plain, Word, Extract, ZeroExtend, SignExtend, RotateLeft, RotateRight, Repeat, Constant, Apply, Param}
+use Rattle.smt_terms.specs.declared.node.Op.TheVariants.{Plain, Word, Extract, ZeroExtend, SignExtend, RotateLeft, RotateRight, Repeat, ConstantArray, Constant, Apply, Param}
 use Rattle.smt_terms.specs.declared.node.Node.{Node}
 use Rattle.smt_terms.specs.Bits.{TermBits, bits_in}
 use Rattle.bit_blast.specs.declared.rows.Connective.TheVariants.{Both, Neither, ButNot, Differ}
@@ -96,6 +96,7 @@ circuit_many (SignExtend i) g w x y z r = refl
 circuit_many (RotateLeft i) g w x y z r = refl
 circuit_many (RotateRight i) g w x y z r = refl
 circuit_many (Repeat i) g w x y z r = refl
+circuit_many (ConstantArray k) g w x y z r = refl
 circuit_many (Constant d s) g w x y z r = refl
 circuit_many (Apply d s) g w x y z r = refl
 circuit_many (Param k s) g w x y z r = refl

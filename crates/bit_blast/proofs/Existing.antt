@@ -10,7 +10,7 @@ use Rattle.smt_terms.specs.declared.sort.Sort.{Sort}
 use Rattle.smt_terms.specs.declared.sort.Sort.TheVariants as sort
 use Rattle.smt_terms.specs.declared.operator.Operator.{Operator}
 use Rattle.smt_terms.specs.declared.operator.Operator.TheVariants as plain
-use Rattle.smt_terms.specs.declared.node.Op.TheVariants.{Plain, Word, Extract, ZeroExtend, SignExtend, RotateLeft, RotateRight, Repeat, Constant, Apply, Param}
+use Rattle.smt_terms.specs.declared.node.Op.TheVariants.{Plain, Word, Extract, ZeroExtend, SignExtend, RotateLeft, RotateRight, Repeat, ConstantArray, Constant, Apply, Param}
 use Rattle.smt_terms.specs.declared.fault.MakeFault.{MakeFault}
 use Rattle.smt_terms.specs.declared.fault.MakeFault.TheVariants.{WrongSort}
 use Rattle.smt_terms.specs.declared.rank.Demand.TheVariants.{AnyArray, Exactly}
@@ -222,6 +222,7 @@ op_there g (SignExtend i) ss rows s fixed rank each = there_one g (λ n. word_so
 op_there g (RotateLeft i) ss rows s fixed rank each = there_one g word_sort (λ a. wires (turned_left i a)) ss rows s rank each
 op_there g (RotateRight i) ss rows s fixed rank each = there_one g word_sort (λ a. wires (turned_right i a)) ss rows s rank each
 op_there g (Repeat i) ss rows s fixed rank each = there_one g (λ n. word_sort (n * i)) (λ a. wires (repeated i a)) ss rows s rank each
+op_there g (ConstantArray k) ss rows s fixed rank each = let q : ⊥ = cc in absurd q
 op_there g (Constant d t) ss rows s fixed rank each = let q : ⊥ = cc in absurd q
 op_there g (Apply d t) ss rows s fixed rank each = let q : ⊥ = cc in absurd q
 op_there g (Param k t) ss rows s fixed rank each = let q : ⊥ = cc in absurd q

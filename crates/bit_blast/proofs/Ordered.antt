@@ -16,7 +16,7 @@ use Rattle.circ_plain.proofs.Ordering.{sign_of-below, neg_gates-ordered, neg_bit
 use Rattle.circ_muldiv.proofs.Ordering.{mul_stands, division_stands, remainder_bits-below, sdiv_stands, srem_stands, smod_stands}
 use Rattle.smt_terms.specs.declared.operator.Operator.{Operator}
 use Rattle.smt_terms.specs.declared.operator.Operator.TheVariants as plain
-use Rattle.smt_terms.specs.declared.node.Op.TheVariants.{Plain, Word, Extract, ZeroExtend, SignExtend, RotateLeft, RotateRight, Repeat, Constant, Apply, Param}
+use Rattle.smt_terms.specs.declared.node.Op.TheVariants.{Plain, Word, Extract, ZeroExtend, SignExtend, RotateLeft, RotateRight, Repeat, ConstantArray, Constant, Apply, Param}
 use Rattle.bit_blast.specs.declared.rows.Connective.{Connective}
 use Rattle.bit_blast.specs.declared.rows.Connective.TheVariants.{Both, Neither, ButNot, Differ}
 use Rattle.bit_blast.specs.Circuits.{Makes, Takes, Lacks, built, one, two, two_some, wires, signed, each_gate, by_gate, sum, difference, equality, choice, negation, below, not_above, signed_below, signed_not_above, shift_up, shift_down, signed_shift_down, product, quotient, remainder, signed_quotient, signed_remainder, signed_modulus, literal_bits, rotated, extracted, repeated}
@@ -173,6 +173,7 @@ op_ordered g (SignExtend i) rows b up all is = made_one g (λ a. wires (a ++ rep
 op_ordered g (RotateLeft i) rows b up all is = made_one g (λ a. wires (rotated (i % length a) a)) (λ a h. wired g (rotated (i % length a) a) (below-rotated g (i % length a) a h)) rows b all is
 op_ordered g (RotateRight i) rows b up all is = made_one g (λ a. wires (rotated (length a - i % length a) a)) (λ a h. wired g (rotated (length a - i % length a) a) (below-rotated g (length a - i % length a) a h)) rows b all is
 op_ordered g (Repeat i) rows b up all is = made_one g (λ a. wires (repeated i a)) (λ a h. wired g (repeated i a) (below-repeated g i a h)) rows b all is
+op_ordered g (ConstantArray k) rows b up all is = let q : ⊥ = cc in absurd q
 op_ordered g (Constant d t) rows b up all is = let q : ⊥ = cc in absurd q
 op_ordered g (Apply d t) rows b up all is = let q : ⊥ = cc in absurd q
 op_ordered g (Param k t) rows b up all is = let q : ⊥ = cc in absurd q

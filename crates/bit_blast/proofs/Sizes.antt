@@ -21,7 +21,7 @@ use Rattle.circ_muldiv.specs.Sizes.{sdiv_size, srem_size, smod_size}
 use Rattle.circ_muldiv.proofs.Counting.{mul_small, divide_small, length-mul_gates, length-divide_gates, length-sdiv_gates, length-srem_gates, length-smod_gates}
 use Rattle.smt_terms.specs.declared.operator.Operator.{Operator}
 use Rattle.smt_terms.specs.declared.operator.Operator.TheVariants as plain
-use Rattle.smt_terms.specs.declared.node.Op.TheVariants.{Plain, Word, Extract, ZeroExtend, SignExtend, RotateLeft, RotateRight, Repeat, Constant, Apply, Param}
+use Rattle.smt_terms.specs.declared.node.Op.TheVariants.{Plain, Word, Extract, ZeroExtend, SignExtend, RotateLeft, RotateRight, Repeat, ConstantArray, Constant, Apply, Param}
 use Rattle.smt_terms.specs.declared.node.Node.{Node}
 use Rattle.smt_terms.specs.Bits.{TermBits, bits_in}
 use Rattle.bit_blast.specs.declared.rows.Connective.{Connective}
@@ -210,6 +210,7 @@ op_small g (SignExtend i) rows b all is = few_one g (λ a. wires (a ++ replicate
 op_small g (RotateLeft i) rows b all is = few_one g (λ a. wires (turned_left i a)) (λ a h. few_wires (turned_left i a) g) rows b all is
 op_small g (RotateRight i) rows b all is = few_one g (λ a. wires (turned_right i a)) (λ a h. few_wires (turned_right i a) g) rows b all is
 op_small g (Repeat i) rows b all is = few_one g (λ a. wires (repeated i a)) (λ a h. few_wires (repeated i a) g) rows b all is
+op_small g (ConstantArray k) rows b all is = let q : ⊥ = cc in absurd q
 op_small g (Constant d t) rows b all is = let q : ⊥ = cc in absurd q
 op_small g (Apply d t) rows b all is = let q : ⊥ = cc in absurd q
 op_small g (Param k t) rows b all is = let q : ⊥ = cc in absurd q

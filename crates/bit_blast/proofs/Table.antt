@@ -11,7 +11,7 @@ use Rattle.smt_terms.specs.declared.sort.Sort.{Sort}
 use Rattle.smt_terms.specs.declared.sort.Sort.TheVariants as sort
 use Rattle.smt_terms.specs.declared.operator.Operator.{Operator}
 use Rattle.smt_terms.specs.declared.operator.Operator.TheVariants as plain
-use Rattle.smt_terms.specs.declared.node.Op.TheVariants.{Plain, Word, Extract, ZeroExtend, SignExtend, RotateLeft, RotateRight, Repeat, Constant, Apply, Param}
+use Rattle.smt_terms.specs.declared.node.Op.TheVariants.{Plain, Word, Extract, ZeroExtend, SignExtend, RotateLeft, RotateRight, Repeat, ConstantArray, Constant, Apply, Param}
 use Rattle.smt_terms.specs.declared.fault.MakeFault.{MakeFault}
 use Rattle.smt_terms.specs.Ranks.{ranked, Gives, truth, word_sort, extract_sort, literal_sort}
 use Rattle.smt_terms.specs.Terms.{op_rank}
@@ -161,6 +161,7 @@ op_correct M v g (RotateRight i) ss rows xs s b one rank each is have =
     one_correct v g word_sort (λ a. wires (turned_right i a)) (λ n x. VWord n (rotate_right_of n i x)) (λ a s e h. rotate_right_means v i a s e) ss rows xs s b rank each is have
 op_correct M v g (Repeat i) ss rows xs s b one rank each is have =
     one_correct v g (λ n. word_sort (n * i)) (λ a. wires (repeated i a)) (λ n x. VWord (n * i) (repeat_of n i x)) (λ a s e h. repeat_means v i a s e) ss rows xs s b rank each is have
+op_correct M v g (ConstantArray k) ss rows xs s b one rank each is have = let q : ⊥ = cc in absurd q
 op_correct M v g (Constant d t) ss rows xs s b one rank each is have = let q : ⊥ = cc in absurd q
 op_correct M v g (Apply d t) ss rows xs s b one rank each is have = let q : ⊥ = cc in absurd q
 op_correct M v g (Param k t) ss rows xs s b one rank each is have = let q : ⊥ = cc in absurd q

@@ -10,7 +10,7 @@ use Rattle.smt_terms.specs.Bits.{TermBits}
 use Rattle.smt_terms.specs.declared.operator.Operator.{Operator}
 use Rattle.smt_terms.specs.declared.operator.Operator.TheVariants as plain
 use Rattle.smt_terms.specs.declared.node.Op.{Op}
-use Rattle.smt_terms.specs.declared.node.Op.TheVariants.{Plain, Word, Extract, ZeroExtend, SignExtend, RotateLeft, RotateRight, Repeat, Constant, Apply, Param}
+use Rattle.smt_terms.specs.declared.node.Op.TheVariants.{Plain, Word, Extract, ZeroExtend, SignExtend, RotateLeft, RotateRight, Repeat, ConstantArray, Constant, Apply, Param}
 use Rattle.smt_terms.specs.declared.node.Node.{Node}
 use Rattle.bit_blast.specs.Circuits.{CircuitOf, built, wires, one, two, two_some, bitwise, sum, difference, equality, negation, below, not_above, signed_below, signed_not_above, shift_up, shift_down, signed_shift_down, product, quotient, remainder, signed_quotient, signed_remainder, signed_modulus, choice, literal_bits, repeated, turned_left, turned_right, extracted, Makes, Takes, Lacks}
 pub use Rattle.circ_muldiv.specs.Signed.{Block}
@@ -118,6 +118,7 @@ circuit_of (SignExtend i) = one λ a. wires (a ++ replicate i (sign_of a))
 circuit_of (RotateLeft i) = one λ a. wires (turned_left i a)
 circuit_of (RotateRight i) = one λ a. wires (turned_right i a)
 circuit_of (Repeat i) = one λ a. wires (repeated i a)
+circuit_of (ConstantArray k) = Lacks
 circuit_of (Constant d s) = Lacks
 circuit_of (Apply d s) = Lacks
 circuit_of (Param k s) = Lacks

@@ -86,7 +86,7 @@ fn fixed(op: &Op) -> bool
     ensures { result ≡ is_fixed op.now }
 {
     match op {
-        Op::Constant { .. } | Op::Apply { .. } | Op::Param { .. } => false,
+        Op::ConstantArray(_) | Op::Constant { .. } | Op::Apply { .. } | Op::Param { .. } => false,
         _ => true,
     }
 }

@@ -97,6 +97,7 @@ no_apply d signatures (op.SignExtend k) v args all i e h = let f : ⊥ = cc in f
 no_apply d signatures (op.RotateLeft k) v args all i e h = let f : ⊥ = cc in f
 no_apply d signatures (op.RotateRight k) v args all i e h = let f : ⊥ = cc in f
 no_apply d signatures (op.Repeat k) v args all i e h = let f : ⊥ = cc in f
+no_apply d signatures (op.ConstantArray k) v args all i e h = let f : ⊥ = cc in f
 no_apply d signatures (op.Constant k s) v args all i e h = let f : ⊥ = cc in f
 no_apply d signatures (op.Param k s) v args all i e h = let f : ⊥ = cc in f
 no_apply d signatures (op.Apply k s) v args all i e h =

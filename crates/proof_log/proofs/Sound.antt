@@ -15,7 +15,7 @@ use Rattle.cnf_base.proofs.Lists.{each_append}
 use Rattle.smt_terms.specs.declared.sort.Sort.{Sort}
 use Rattle.smt_terms.specs.declared.sort.Sort.TheVariants as sort
 use Rattle.smt_terms.specs.declared.node.Op.{Op}
-use Rattle.smt_terms.specs.declared.node.Op.TheVariants.{Plain, Word, Extract, ZeroExtend, SignExtend, RotateLeft, RotateRight, Repeat, Constant, Apply, Param}
+use Rattle.smt_terms.specs.declared.node.Op.TheVariants.{Plain, Word, Extract, ZeroExtend, SignExtend, RotateLeft, RotateRight, Repeat, ConstantArray, Constant, Apply, Param}
 use Rattle.smt_terms.specs.declared.node.Node.{Node}
 use Rattle.smt_terms.specs.Nodes.{node_at}
 use Rattle.smt_terms.specs.Terms.{IsTermList, op_rank, sort_of}
@@ -176,6 +176,7 @@ leaf_sort (SignExtend i) ss s n e w = let q : ⊥ = cc in absurd q
 leaf_sort (RotateLeft i) ss s n e w = let q : ⊥ = cc in absurd q
 leaf_sort (RotateRight i) ss s n e w = let q : ⊥ = cc in absurd q
 leaf_sort (Repeat i) ss s n e w = let q : ⊥ = cc in absurd q
+leaf_sort (ConstantArray k) ss s n e w = let q : ⊥ = cc in absurd q
 leaf_sort (Apply d t) ss s n e w = let q : ⊥ = cc in absurd q
 leaf_sort (Param k t) ss s n e w = let q : ⊥ = cc in absurd q
 

@@ -4,7 +4,7 @@ use Rattle.cnf_base.specs.Literals.{Literal}
 use Rattle.cnf_base.specs.Assignments.{AreBelow}
 use Rattle.cnf_base.specs.declared.clause.ClauseId.{ClauseId}
 use Rattle.smt_terms.specs.declared.node.Op.{Op}
-use Rattle.smt_terms.specs.declared.node.Op.TheVariants.{Plain, Word, Extract, ZeroExtend, SignExtend, RotateLeft, RotateRight, Repeat, Constant, Apply, Param}
+use Rattle.smt_terms.specs.declared.node.Op.TheVariants.{Plain, Word, Extract, ZeroExtend, SignExtend, RotateLeft, RotateRight, Repeat, ConstantArray, Constant, Apply, Param}
 use Rattle.smt_terms.specs.declared.node.Node.{Node}
 use Rattle.smt_terms.specs.declared.fault.MakeFault.{MakeFault}
 use Rattle.smt_terms.specs.declared.fault.MakeError.{MakeError}
@@ -34,6 +34,7 @@ IsGiven (SignExtend i) = ⊥
 IsGiven (RotateLeft i) = ⊥
 IsGiven (RotateRight i) = ⊥
 IsGiven (Repeat i) = ⊥
+IsGiven (ConstantArray k) = ⊥
 IsGiven (Constant d s) = Unit {0}
 IsGiven (Apply d s) = ⊥
 IsGiven (Param k s) = Unit {0}

@@ -24,6 +24,7 @@ head_of (op.SignExtend i) = Some (SignExtend i)
 head_of (op.RotateLeft i) = Some (RotateLeft i)
 head_of (op.RotateRight i) = Some (RotateRight i)
 head_of (op.Repeat i) = Some (Repeat i)
+head_of (op.ConstantArray width) = None
 head_of (op.Constant d sort) = None
 head_of (op.Apply d signature) = Some (Apply d)
 head_of (op.Param place sort) = None

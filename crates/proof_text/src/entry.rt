@@ -45,6 +45,7 @@ fn push_head(op: &Op, out: &mut Text) -> Result<(), AllocError>
             sort: _,
         } => unreachable!(),
         Op::Param { place: _, sort: _ } => unreachable!(),
+        Op::ConstantArray(_) => unreachable!(),
     }
 }
 

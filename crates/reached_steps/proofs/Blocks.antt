@@ -11,7 +11,7 @@ use Rattle.circ_plain.specs.Signs.{sign_of}
 use Rattle.smt_terms.specs.declared.operator.Operator.{Operator}
 use Rattle.smt_terms.specs.declared.operator.Operator.TheVariants as plain
 use Rattle.smt_terms.specs.declared.node.Op.{Op}
-use Rattle.smt_terms.specs.declared.node.Op.TheVariants.{Plain, Word, Extract, ZeroExtend, SignExtend, RotateLeft, RotateRight, Repeat, Constant, Apply, Param}
+use Rattle.smt_terms.specs.declared.node.Op.TheVariants.{Plain, Word, Extract, ZeroExtend, SignExtend, RotateLeft, RotateRight, Repeat, ConstantArray, Constant, Apply, Param}
 use Rattle.bit_blast.specs.declared.rows.Connective.{Connective}
 use Rattle.bit_blast.specs.declared.rows.Connective.TheVariants.{Both, Neither, ButNot, Differ}
 use Rattle.bit_blast.specs.Circuits.{Makes, Takes, Lacks, built, one as one_row, two, two_some, wires, signed, each_gate, by_gate, sum, difference, equality, choice, negation, below, not_above, signed_below, signed_not_above, shift_up, shift_down, signed_shift_down, product, quotient, remainder, signed_quotient, signed_remainder, signed_modulus, literal_bits, rotated, extracted, repeated}
@@ -173,6 +173,7 @@ module _ (S : ℕ → Type 0) (one : S 1) (g : ℕ) (up : HasFrom S g) where
   block_is_of (RotateLeft i) rows b all is = made_one (λ a. wires (rotated (i % length a) a)) (λ a h. (tt, of-rotated (i % length a) a h)) rows b all is
   block_is_of (RotateRight i) rows b all is = made_one (λ a. wires (rotated (length a - i % length a) a)) (λ a h. (tt, of-rotated (length a - i % length a) a h)) rows b all is
   block_is_of (Repeat i) rows b all is = made_one (λ a. wires (repeated i a)) (λ a h. (tt, of-repeated i a h)) rows b all is
+  block_is_of (ConstantArray k) rows b all is = let q : ⊥ = cc in absurd q
   block_is_of (Constant d t) rows b all is = let q : ⊥ = cc in absurd q
   block_is_of (Apply d t) rows b all is = let q : ⊥ = cc in absurd q
   block_is_of (Param k t) rows b all is = let q : ⊥ = cc in absurd q

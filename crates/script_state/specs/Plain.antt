@@ -5,7 +5,7 @@ use Rattle.std.specs.List.{list_all}
 use Rattle.smt_terms.specs.declared.operator.Operator.{Operator}
 use Rattle.smt_terms.specs.declared.operator.Operator.TheVariants as plain
 use Rattle.smt_terms.specs.declared.node.Op.{Op}
-use Rattle.smt_terms.specs.declared.node.Op.TheVariants.{Plain, Word, Extract, ZeroExtend, SignExtend, RotateLeft, RotateRight, Repeat, Constant, Apply, Param}
+use Rattle.smt_terms.specs.declared.node.Op.TheVariants.{Plain, Word, Extract, ZeroExtend, SignExtend, RotateLeft, RotateRight, Repeat, ConstantArray, Constant, Apply, Param}
 use Rattle.smt_terms.specs.declared.node.Node.{Node}
 use Rattle.smt_terms.specs.Nodes.{at_term}
 use Rattle.smt_terms.specs.Ranks as ranks
@@ -26,6 +26,7 @@ is_plain_op (SignExtend i) = true
 is_plain_op (RotateLeft i) = true
 is_plain_op (RotateRight i) = true
 is_plain_op (Repeat i) = true
+is_plain_op (ConstantArray k) = false
 is_plain_op (Constant d s) = ranks.is_plain s
 is_plain_op (Apply d s) = false
 is_plain_op (Param k s) = false

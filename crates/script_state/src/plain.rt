@@ -38,6 +38,7 @@ fn is_plain_op(op: &Op) -> bool
             signature: _,
         } => false,
         Op::Param { place: _, sort: _ } => false,
+        Op::ConstantArray(_) => false,
         _ => true,
     }
 }

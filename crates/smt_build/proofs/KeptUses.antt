@@ -8,7 +8,7 @@ use Rattle.std.proofs.Math.Seq.{get_or-append_seam}
 use Rattle.smt_syntax.specs.Walk.{◌>>=◌}
 use Rattle.smt_terms.specs.declared.sort.Signature.{Signature}
 use Rattle.smt_terms.specs.declared.node.Op.{Op}
-use Rattle.smt_terms.specs.declared.node.Op.TheVariants.{Plain, Word, Extract, ZeroExtend, SignExtend, RotateLeft, RotateRight, Repeat, Constant, Apply, Param}
+use Rattle.smt_terms.specs.declared.node.Op.TheVariants.{Plain, Word, Extract, ZeroExtend, SignExtend, RotateLeft, RotateRight, Repeat, ConstantArray, Constant, Apply, Param}
 use Rattle.smt_terms.specs.declared.node.Node.{Node}
 use Rattle.smt_terms.specs.declared.fault.MakeFault.{MakeFault}
 use Rattle.smt_terms.specs.Nodes.{node_of, node_at}
@@ -77,6 +77,7 @@ module _ (symbols : SymbolsValue) (Has : TermsValue → ℕ → Type 0) (kept : 
   argument_has v args (RotateLeft i) h = tt
   argument_has v args (RotateRight i) h = tt
   argument_has v args (Repeat i) h = tt
+  argument_has v args (ConstantArray k) h = tt
   argument_has v args (Constant d s) h = tt
   argument_has v args (Apply d s) h = tt
 

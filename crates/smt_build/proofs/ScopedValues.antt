@@ -6,7 +6,7 @@ use Rattle.std.specs.List.{list_all, AllByRecursion}
 use Rattle.std.proofs.lemmas.List.Folds.{list_all-map}
 use Rattle.smt_terms.specs.declared.sort.Signature.{Signature}
 use Rattle.smt_terms.specs.declared.node.Op.{Op}
-use Rattle.smt_terms.specs.declared.node.Op.TheVariants.{Plain, Word, Extract, ZeroExtend, SignExtend, RotateLeft, RotateRight, Repeat, Constant, Apply, Param}
+use Rattle.smt_terms.specs.declared.node.Op.TheVariants.{Plain, Word, Extract, ZeroExtend, SignExtend, RotateLeft, RotateRight, Repeat, ConstantArray, Constant, Apply, Param}
 use Rattle.smt_terms.specs.declared.node.Node.{Node}
 use Rattle.smt_terms.specs.Nodes.{node_at}
 use Rattle.smt_terms.specs.Terms.{IsTermList, declaration_of}
@@ -34,6 +34,7 @@ module _ (live : List LiveName) (M N : Interpretation) (agree : AgreeOn live M N
   op_same (RotateLeft i) vs h = refl
   op_same (RotateRight i) vs h = refl
   op_same (Repeat i) vs h = refl
+  op_same (ConstantArray k) vs h = refl
   op_same (Constant d s) vs h = ap (read_at s) (agree.constants d h)
   op_same (Apply d s) vs h = function_same s vs (M.functions d) (N.functions d) (λ xs. agree.functions d xs h)
   op_same (Param k s) vs h = refl

@@ -5,3 +5,4 @@ pub mod Calling
 pub mod Suiting
 pub mod Reaching
 pub mod Placing
+pub mod Fillings

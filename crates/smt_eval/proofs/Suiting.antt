@@ -4,7 +4,7 @@ use Rattle.std.specs.Prelude.{◌==◌, if◌then◌else◌}
 use Rattle.smt_terms.specs.declared.sort.Sort.{Sort}
 use Rattle.smt_terms.specs.declared.sort.Sort.TheVariants as sort
 use Rattle.smt_terms.specs.declared.node.Op.{Op}
-use Rattle.smt_terms.specs.declared.node.Op.TheVariants.{Plain, Word, Extract, ZeroExtend, SignExtend, RotateLeft, RotateRight, Repeat, Constant, Apply, Param}
+use Rattle.smt_terms.specs.declared.node.Op.TheVariants.{Plain, Word, Extract, ZeroExtend, SignExtend, RotateLeft, RotateRight, Repeat, ConstantArray, Constant, Apply, Param}
 use Rattle.smt_terms.specs.declared.node.Node.{Node}
 use Rattle.smt_terms.specs.Nodes.{node_at}
 use Rattle.smt_values.specs.declared.value.Value.{Value}
@@ -35,6 +35,7 @@ suited (SignExtend i) values h = tt
 suited (RotateLeft i) values h = tt
 suited (RotateRight i) values h = tt
 suited (Repeat i) values h = tt
+suited (ConstantArray k) values h = tt
 suited (Constant d s) values h = suits s (set_for values d) (h d)
 suited (Apply d g) values h = tt
 suited (Param k s) values h = tt

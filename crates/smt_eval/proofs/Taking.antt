@@ -8,7 +8,7 @@ use Rattle.smt_terms.specs.declared.sort.Sort.TheVariants as sort
 use Rattle.smt_terms.specs.declared.operator.Operator.{Operator}
 use Rattle.smt_terms.specs.declared.operator.Operator.TheVariants as plain
 use Rattle.smt_terms.specs.declared.node.Op.{Op}
-use Rattle.smt_terms.specs.declared.node.Op.TheVariants.{Plain, Word, Extract, ZeroExtend, SignExtend, RotateLeft, RotateRight, Repeat, Constant, Apply, Param}
+use Rattle.smt_terms.specs.declared.node.Op.TheVariants.{Plain, Word, Extract, ZeroExtend, SignExtend, RotateLeft, RotateRight, Repeat, ConstantArray, Constant, Apply, Param}
 use Rattle.smt_terms.specs.declared.fault.MakeFault.{MakeFault}
 use Rattle.smt_terms.specs.declared.fault.MakeFault.TheVariants.{WrongSort}
 use Rattle.smt_terms.specs.Same.{same_sort, sort_same}
@@ -337,6 +337,7 @@ takes_none (SignExtend i) h = word_plain λ n. word_sort (n + i)
 takes_none (RotateLeft i) h = word_plain word_sort
 takes_none (RotateRight i) h = word_plain word_sort
 takes_none (Repeat i) h = word_plain λ n. word_sort (n * i)
+takes_none (ConstantArray k) h = word_plain λ n. constant_sort (sort.Array k n)
 takes_none (Constant d s) h = tt
 takes_none (Apply d g) h = application_plain g.args g.value
 takes_none (Param k s) h = tt

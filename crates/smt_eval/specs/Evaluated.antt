@@ -4,7 +4,7 @@ use Rattle.std.specs.List.{AllByRecursion}
 use Rattle.smt_terms.specs.declared.sort.Sort.{Sort}
 use Rattle.smt_terms.specs.declared.sort.Sort.TheVariants as sort
 use Rattle.smt_terms.specs.declared.node.Op.{Op}
-use Rattle.smt_terms.specs.declared.node.Op.TheVariants.{Plain, Word, Extract, ZeroExtend, SignExtend, RotateLeft, RotateRight, Repeat, Constant, Apply, Param}
+use Rattle.smt_terms.specs.declared.node.Op.TheVariants.{Plain, Word, Extract, ZeroExtend, SignExtend, RotateLeft, RotateRight, Repeat, ConstantArray, Constant, Apply, Param}
 use Rattle.smt_terms.specs.declared.node.Node.{Node}
 use Rattle.smt_terms.specs.Nodes.{node_at}
 use Rattle.smt_terms.specs.Terms.{op_rank, sort_of}
@@ -33,6 +33,7 @@ IsSuited (SignExtend i) values = Unit {0}
 IsSuited (RotateLeft i) values = Unit {0}
 IsSuited (RotateRight i) values = Unit {0}
 IsSuited (Repeat i) values = Unit {0}
+IsSuited (ConstantArray k) values = Unit {0}
 IsSuited (Constant d s) values = Suits s (set_for values d)
 IsSuited (Apply d s) values = Unit {0}
 IsSuited (Param k s) values = Unit {0}

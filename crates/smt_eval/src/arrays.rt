@@ -2,7 +2,7 @@
 
 ghost use Rattle.std.specs.Prelude.{◌≡◌, ◌<◌, ◌^◌, ◌==◌, not, true, false, [], ◌∷◌, map, length, IfOk, IsOk};
 ghost use Rattle.std.specs.List.{AllByRecursion, list_any};
-ghost use Rattle.smt_terms.specs.declared.node.Op.TheVariants.{Plain};
+ghost use Rattle.smt_terms.specs.declared.node.Op.TheVariants.{Plain, ConstantArray};
 ghost use Rattle.smt_terms.specs.declared.operator.Operator.TheVariants as plain;
 ghost use Rattle.smt_terms.specs.Terms.{op_rank};
 ghost use Rattle.smt_words.specs.Words.{word};
@@ -16,7 +16,7 @@ use smt_terms::operator::Operator;
 use smt_values::array::ArrayValue;
 use smt_values::value::Value;
 use smt_words::Word;
-use std::alloc::AllocError;
+use std::alloc::{AllocError, Global};
 
 /// What an operator gives for arguments of which one is an array.
 pub fn with_arrays(
@@ -40,6 +40,28 @@ pub fn with_arrays(
             &values[*c as usize],
         ),
         _ => Ok(Value::Bool(false)),
+    }
+}
+
+/// The array that has this argument at each index.
+pub fn everywhere(alloc: Global, width: u64, values: &[Value], args: &[TermId]) -> Value
+    requires within { AllByRecursion (λ a. a < length values.now) args.now }
+    requires taken { AreTaken (ConstantArray width) (given values.now args.now) }
+    ensures { (M : Interpretation) → IsGiven M (ConstantArray width) (given values.now args.now) result }
+{
+    match args {
+        [element] => everywhere_this(alloc, width, &values[*element as usize]),
+        _ => Value::Bool(false),
+    }
+}
+
+fn everywhere_this(alloc: Global, width: u64, element: &Value) -> Value
+    requires taken { AreTaken (ConstantArray width) (element.now ∷ []) }
+    ensures { (M : Interpretation) → IsGiven M (ConstantArray width) (element.now ∷ []) result }
+{
+    match element {
+        Value::Word(word) => Value::Array(ArrayValue::constant(alloc, width as u32, *word)),
+        _ => Value::Bool(false),
     }
 }
 

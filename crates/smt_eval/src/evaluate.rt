@@ -10,7 +10,7 @@ ghost use Rattle.smt_terms.specs.Values.{Interpretation};
 ghost use Rattle.smt_values.specs.Held.{value_of, interpretation_of};
 ghost use Rattle.smt_eval.specs.Evaluated.{IsSuited, is_table, holds_array, IsTyped, given, AreTaken, IsGiven};
 
-use crate::arrays::with_arrays;
+use crate::arrays::{everywhere, with_arrays};
 use smt_terms::apply::apply;
 use smt_terms::node::{Op, TermId};
 use smt_terms::operator::Operator;
@@ -142,6 +142,7 @@ pub fn evaluate(
             signature,
         } => called(*declaration, signature, args, values, interp, scalars),
         Op::Plain(operator) => theory(*operator, args, values, scalars),
+        Op::ConstantArray(width) => Ok(everywhere(alloc, *width, values, args)),
         _ => indexed(op, args, values, scalars),
     }
 }

@@ -23,6 +23,8 @@ enum Made {
     Word(u64, u128, TermId),
     /// An operator over these terms.
     Plain(Operator, &'static [TermId], TermId),
+    /// The array of this index width that has this element everywhere.
+    Filled(u64, TermId, TermId),
 }
 
 /// What a term is worth.
@@ -69,6 +71,21 @@ fn adds_plain(
     Ok(terms.make(node) == Ok(number))
 }
 
+/// Whether a constant array gets this number.
+fn adds_filled(
+    alloc: Global,
+    terms: &mut Terms,
+    width: u64,
+    element: TermId,
+    number: TermId,
+) -> Result<bool, AllocError> {
+    let node = Node {
+        op: Op::ConstantArray(width),
+        args: Arguments::of(alloc, &[element])?,
+    };
+    Ok(terms.make(node) == Ok(number))
+}
+
 /// Whether a literal gets this number.
 fn adds_word(alloc: Global, terms: &mut Terms, width: u64, value: u128, number: TermId) -> bool {
     terms.make(Node::leaf(alloc, Op::Word { width, value })) == Ok(number)
@@ -81,6 +98,12 @@ fn make(rt: &(impl Abort + AllocGlobal), terms: &mut Terms, made: &[Made]) -> Re
             Made::Word(width, value, number) => {
                 assert!(rt;
                     adds_word(rt.alloc(), terms, width, value, number),
+                    "term {number}"
+                );
+            }
+            Made::Filled(width, element, number) => {
+                assert!(rt;
+                    adds_filled(rt.alloc(), terms, width, element, number)?,
                     "term {number}"
                 );
             }
@@ -205,6 +228,37 @@ fn arrays_are_equal_where_every_index_is_stored(rt: HostRuntime) -> Result<(), F
             (11, Worth::Byte(0)),
             (12, Worth::Byte(3)),
             (14, Worth::Truth(true)),
+        ],
+    )
+}
+
+#[test]
+fn a_constant_array_has_its_element_everywhere(rt: HostRuntime) -> Result<(), Fail> {
+    walk(
+        &rt,
+        Sort::Word(8),
+        Word::new(8, 7),
+        &[
+            Made::Filled(1, 0, 1),
+            Made::Word(1, 0, 2),
+            Made::Word(1, 1, 3),
+            Made::Plain(Operator::Select, &[1, 2], 4),
+            Made::Plain(Operator::Select, &[1, 3], 5),
+            Made::Plain(Operator::Store, &[1, 2, 0], 6),
+            Made::Plain(Operator::Equal, &[6, 1], 7),
+            Made::Word(8, 9, 8),
+            Made::Filled(1, 8, 9),
+            Made::Plain(Operator::Equal, &[1, 9], 10),
+            Made::Plain(Operator::Store, &[9, 2, 0], 11),
+            Made::Plain(Operator::Store, &[11, 3, 0], 12),
+            Made::Plain(Operator::Equal, &[12, 1], 13),
+        ],
+        &[
+            (4, Worth::Byte(7)),
+            (5, Worth::Byte(7)),
+            (7, Worth::Truth(true)),
+            (10, Worth::Truth(false)),
+            (13, Worth::Truth(true)),
         ],
     )
 }

@@ -15,7 +15,7 @@ use Rattle.smt_terms.specs.declared.sort.Sort.{Sort}
 use Rattle.smt_terms.specs.declared.sort.Sort.TheVariants as sort
 use Rattle.smt_terms.specs.declared.sort.Signature.{Signature}
 use Rattle.smt_terms.specs.declared.node.Op.{Op}
-use Rattle.smt_terms.specs.declared.node.Op.TheVariants.{Plain, Word, Extract, ZeroExtend, SignExtend, RotateLeft, RotateRight, Repeat, Constant, Apply, Param}
+use Rattle.smt_terms.specs.declared.node.Op.TheVariants.{Plain, Word, Extract, ZeroExtend, SignExtend, RotateLeft, RotateRight, Repeat, ConstantArray, Constant, Apply, Param}
 use Rattle.smt_terms.specs.declared.node.Node.{Node}
 use Rattle.smt_terms.specs.Nodes.{leaf, node_at}
 use Rattle.smt_terms.specs.Same.{same_node}
@@ -78,6 +78,7 @@ constant_of_width (SignExtend i) n e = let q : ⊥ = cc in absurd q
 constant_of_width (RotateLeft i) n e = let q : ⊥ = cc in absurd q
 constant_of_width (RotateRight i) n e = let q : ⊥ = cc in absurd q
 constant_of_width (Repeat i) n e = let q : ⊥ = cc in absurd q
+constant_of_width (ConstantArray k) n e = let q : ⊥ = cc in absurd q
 constant_of_width (Apply d s) n e = let q : ⊥ = cc in absurd q
 constant_of_width (Param k s) n e = let q : ⊥ = cc in absurd q
 

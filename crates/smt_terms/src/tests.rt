@@ -3,7 +3,7 @@
 use crate::bits::Bits;
 use crate::fault::{MakeError, MakeFault};
 use crate::list::{Arguments, Sorts};
-use crate::node::{Node, Op};
+use crate::node::{Node, Op, TermId};
 use crate::operator::Operator;
 use crate::rank::node_sort;
 use crate::sort::{Signature, Sort};
@@ -111,6 +111,36 @@ fn an_application_takes_the_sorts_of_its_signature(rt: HostRuntime) -> Result<()
     };
     assert!(rt; node_sort(&held, &much) == Err(MakeFault::WrongSort(2)));
     assert!(rt; Sorts::none(rt.alloc()).as_slice().is_empty());
+    Ok(())
+}
+
+/// An index width, the arguments over the held sorts, and what the array of one element everywhere is.
+const FILLED: [(u64, &[TermId], Result<Sort, MakeFault>); 10] = [
+    (4, &[1], Ok(Sort::Array(4, 8))),
+    (1, &[1], Ok(Sort::Array(1, 8))),
+    (128, &[1], Ok(Sort::Array(128, 8))),
+    (0, &[1], Err(MakeFault::WidthOutOfRange(0))),
+    (129, &[1], Err(MakeFault::WidthOutOfRange(129))),
+    (0, &[0], Err(MakeFault::WrongSort(0))),
+    (4, &[2], Err(MakeFault::WrongSort(0))),
+    (4, &[3], Err(MakeFault::WrongSort(0))),
+    (4, &[], Err(MakeFault::WrongSort(0))),
+    (4, &[1, 1], Err(MakeFault::WrongSort(1))),
+];
+
+#[test]
+fn a_constant_array_takes_one_word(rt: HostRuntime) -> Result<(), Fail> {
+    let held = [Sort::Bool, Sort::Word(8), Sort::Array(4, 8)];
+    for (index, args, sort) in FILLED {
+        let node = Node {
+            op: Op::ConstantArray(index),
+            args: Arguments::of(rt.alloc(), args)?,
+        };
+        assert!(rt; node_sort(&held, &node) == sort);
+    }
+    assert!(rt; Op::ConstantArray(4) == Op::ConstantArray(4));
+    assert!(rt; Op::ConstantArray(4) != Op::ConstantArray(5));
+    assert!(rt; Op::ConstantArray(4) != Op::Repeat(4));
     Ok(())
 }
 
