@@ -25,3 +25,4 @@ pub mod Freeing
 pub mod Naming
 pub mod Taking
 pub mod Dropping
+pub mod Leveling

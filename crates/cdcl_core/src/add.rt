@@ -17,20 +17,25 @@ use crate::watches::{Kind, Watches};
 use cnf_base::{Clause, ClauseId, Lit};
 use std::alloc::AllocError;
 
+// The stamp of a code, 0 where it has no row.
+#[inline(always)]
+pub(crate) fn stamp_of(stamps: &[u64], code: usize) -> u64
+    ensures { result ≡ slice_index stamps.now code }
+{
+    if code < stamps.len() { stamps[code] } else { 0 }
+}
+
 // How late the literal became false: the greatest number where it is not false.
 #[inline(always)]
-fn rank_of(stamps: &[u64], code: usize) -> u64
-    requires { neg_of code < length stamps.now }
+pub(crate) fn rank_of(stamps: &[u64], code: usize) -> u64
     ensures { result ≡ rank stamps.now code }
 {
-    let stamp = stamps[neg(code)];
+    let stamp = stamp_of(stamps, neg(code));
     if stamp == 0 { u64::MAX } else { stamp }
 }
 
 // Of the literals other than `except`, one that is not false, else one that became false last; 0 where there is none.
-fn latest(clause: &[Lit], stamps: &[u64], except: usize) -> usize
-    requires within { (l : ℕ) → Has (codes clause.now) l → l < length stamps.now }
-    requires even { length stamps.now % 2 ≡ 0 }
+pub(crate) fn latest(clause: &[Lit], stamps: &[u64], except: usize) -> usize
     ensures none { result ≡ 0 → (l : ℕ) → Has (codes clause.now) l → l ≡ except }
     ensures has { result ≢ 0 → Has (codes clause.now) result }
     ensures other { result ≢ 0 → result ≢ except }

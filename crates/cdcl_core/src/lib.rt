@@ -12,6 +12,7 @@
 mod add;
 mod decide;
 mod drop;
+mod level;
 mod lists;
 mod propagate;
 mod trail;

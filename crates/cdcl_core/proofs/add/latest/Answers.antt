@@ -1,7 +1,6 @@
 use Rattle.std.proofs.Common.{◌≡◌, ◌<◌, length, get_or, arith}
 use Rattle.std.proofs.lemmas.List.{length-map}
 use Rattle.cdcl_core.specs.Stamps.{codes, Has}
-use Rattle.cdcl_core.proofs.Counting.{neg_below}
 use Rattle.cdcl_core.proofs.Clauses.{code_read, code_in}
 use Rattle.cdcl_core.proofs.Ranks.{IsLatest, latest_start, latest_taken, latest_kept, latest_none, latest_above}
 use Rattle.cdcl_core.proofs.add.latest.Goals as goal
@@ -9,11 +8,6 @@ use Rattle.cdcl_core.proofs.add.latest.Goals.{then-code-except+then-highest-own,
 
 pub loop-l-init : goal.loop-l-init
 loop-l-init c = latest_start (codes c.args.clause.now) c.args.stamps.now c.args.except
-
-pub rank_of-own-requires : goal.rank_of-own-requires
-rank_of-own-requires c =
-    let has : Has (codes c.args.clause.now) c.code-code.result = code_in c.args.clause.now c.loop-l.l-index c.l-item.result c.code-code.result c.loop-l-test.true c.l-item.is c.code-code.ensures.code in
-    neg_below c.code-code.result (length c.args.stamps.now) (c.requires.within c.code-code.result has) c.requires.even
 
 pub loop-l-preserved : goal.loop-l-preserved
 loop-l-preserved c =
