@@ -7,7 +7,7 @@ use Rattle.cnf_base.specs.declared.clause.ClauseId.{ClauseId}
 use Rattle.hint_chain.specs.Chains.{Lookup}
 use Rattle.proof_log.specs.Diaries.{with_held}
 use Rattle.proof_log.proofs.Lines.{held_cases}
-use Rattle.diary_checker.specs.Tables.{filed_under, first_of, IsFiled}
+use Rattle.diary_checker.specs.Tables.{filed_under, IsFiled}
 use Rattle.diary_checker.specs.Uses.{AreFiled}
 use Rattle.std.proofs.Math.Bool.{and-false}
 
@@ -46,7 +46,7 @@ pub filed_more : (look : Lookup) (old new : ℕ → Bool) (lists lists' : List (
 filed_more look old new lists lists' at w kept here h id c held is =
     ⊎_elim
     (λ e. here id c e is)
-    (λ before. kept (first_of c) id (h id c before is))
+    (λ before. let f = h id c before is in (f.0, f.1, kept f.0 id f.2))
     (held_cases old at true id.pos (sym (w id.pos) ∙ held))
 
 -- a position less, where nothing more is filed

@@ -1,6 +1,7 @@
 mod Tables
 mod Sets
 mod Using
+mod Keys
 mod Holding
 mod Puts
 pub mod Reading

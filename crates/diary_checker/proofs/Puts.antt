@@ -5,10 +5,10 @@ use Rattle.cnf_base.specs.Literals.{Literal, negated}
 use Rattle.cnf_base.specs.declared.clause.ClauseId.{ClauseId}
 use Rattle.hint_chain.specs.Chains.{Lookup, HasPair}
 use Rattle.proof_log.specs.Diaries.{Subject, look_of, IsGoodPut, EachIsUsed}
-use Rattle.diary_checker.specs.Tables.{Stamps, number_of, IsSetOf, first_of}
+use Rattle.diary_checker.specs.Tables.{Stamps, number_of, IsSetOf, IsKey}
 use Rattle.diary_checker.specs.Tables.{filed_under}
-use Rattle.std.specs.Prelude.{Option, [], ◌∷◌}
-use Rattle.diary_checker.specs.Uses.{AreLasts, AreFiled, IsFirst, Subsumes, IsApart, IsDerived}
+use Rattle.std.specs.Prelude.{Option, Some, None}
+use Rattle.diary_checker.specs.Uses.{AreLasts, AreFiled, MayBeUnder, Subsumes, IsApart, IsDerived}
 
 pub derived : {E : Type 0} (look : Lookup) (held : ℕ → Bool) (clause : List Literal) (hints : List ClauseId) (lasts trues : Stamps) (r : Result Bool E) →
     ((id : ClauseId) → Contains hints id → held id.pos ≡ true) →
@@ -25,15 +25,15 @@ derived look held clause hints lasts trues (Err e) from_held are within set h = 
 pub not_from_hints : (look : Lookup) (held : ℕ → Bool) (clause : List Literal) (hints : List ClauseId) (lasts : Stamps) (l : Literal) → AreLasts look lasts hints → Contains clause l → number_of lasts l ≡ 0 → ¬ (IsDerived look held clause hints)
 not_from_hints look held clause hints lasts l are c e d = let lt = (are l 0).1 (d.from_hints l c) in absurd (omega arith)
 
-first_is : (clause c : List Literal) → ((l : Literal) → Contains c l → Contains clause l) → IsFirst clause (first_of c)
-first_is clause [] h = tt
-first_is clause (l ∷ ls) h = h l (0, omega arith, refl)
+key_within : (clause c : List Literal) (key : Option Literal) → ((l : Literal) → Contains c l → Contains clause l) → IsKey c key → MayBeUnder clause key
+key_within clause c None h k = tt
+key_within clause c (Some l) h k = h l k
 
 pub apart : (look : Lookup) (held : ℕ → Bool) (given clause : List Literal) (lists : List (List ClauseId)) (own : Stamps) (r : Bool) →
     ¬ (HasPair clause) → IsSetOf own clause → ((l : Literal) → Contains clause l → Contains given l → ⊥) → AreFiled look held lists →
     MatchBool r
     ((id : ClauseId) × Subsumes look held own id)
-    ((id : ClauseId) (first : Option Literal) → IsFirst clause first → Contains (filed_under lists first) id → ¬ (Subsumes look held own id)) →
+    ((id : ClauseId) (key : Option Literal) → MayBeUnder clause key → Contains (filed_under lists key) id → ¬ (Subsumes look held own id)) →
     MatchBool (not r) (IsApart look held given clause) (¬ (IsApart look held given clause))
 apart look held given clause lists own true alone set free filed h = λ a.
     let s = h.1 in
@@ -41,7 +41,8 @@ apart look held given clause lists own true alone set free filed h = λ a.
 apart look held given clause lists own false alone set free filed h = record {
   no_pair = alone;
   is_new = λ id c is_held is within.
-      h id (first_of c) (first_is clause c within) (filed id c is_held is) (record { is_held = is_held; clause = c; is = is; within = λ l cl. (set l).1 (within l cl) });
+      let f = filed id c is_held is in
+      h id f.0 (key_within clause c f.0 within f.1) f.2 (record { is_held = is_held; clause = c; is = is; within = λ l cl. (set l).1 (within l cl) });
   not_given = free;
 }
 

@@ -10,7 +10,7 @@ use Rattle.diary_checker.specs.Tables.{Stamps, IsSetOf, bit_in}
 use Rattle.diary_checker.specs.Uses.{AreFiled}
 
 -- the given literals, a bit for each position, the counts of chains held, of puts and of drops that are left, whether the
--- last line was a put, and the clauses by their first literal
+-- last line was a put, and the clauses by one of their literals
 pub record ReaderValue : Type 0 where
   pub given : Stamps
   pub held : List Bool
@@ -28,7 +28,7 @@ pub record IsAbout (g : Subject) (log : LogValue) : Type 0 where
   pub entries : log.entries ≡ g.log
   pub clauses : log.clauses ≡ (state_of g.nodes g.log).clauses
 
--- the given literals are the diary's, and each held clause is filed under its first literal
+-- the given literals are the diary's, and each held clause is filed under one of its literals
 pub record IsSetUp (g : Subject) (r : ReaderValue) : Type 0 where
   pub given : IsSetOf r.given g.given
   pub filed : AreFiled (look_of g) (bit_in r.held) r.filed

@@ -1,5 +1,5 @@
 -- Tables by literal and by position.
-use Rattle.std.specs.Prelude.{ℕ, ◌-◌, ◌<◌, ◌↔◌, Bool, false, List, [], ◌∷◌, Option, Some, None, Contains, slice_index_or}
+use Rattle.std.specs.Prelude.{◌≡◌, ℕ, ◌-◌, ◌<◌, ◌≤◌, ◌↔◌, Bool, false, List, [], Option, Some, None, Contains, length, slice_index_or}
 use Rattle.cnf_base.specs.Literals.{Literal, code_of}
 use Rattle.cnf_base.specs.declared.clause.ClauseId.{ClauseId}
 
@@ -20,19 +20,25 @@ IsSetOf t literals = (l : Literal) → (0 < number_of t l) ↔ Contains literals
 abbrev pub bit_in : List Bool → ℕ → Bool
 bit_in bits at = slice_index_or bits at false
 
--- the row of the clauses with this first literal; row 0 is no literal's, and has the empty clauses
+-- the row of the clauses under this literal; row 0 is no literal's, and has the empty clauses
 abbrev pub row_of : Option Literal → ℕ
 row_of None = 0
 row_of (Some l) = code_of l
 
--- the clauses that are filed under a first literal
+-- the clauses that are filed under a literal, or under none
 abbrev pub filed_under : List (List ClauseId) → Option Literal → List ClauseId
-filed_under lists first = slice_index_or lists (row_of first) []
+filed_under lists key = slice_index_or lists (row_of key) []
 
-abbrev pub first_of : List Literal → Option Literal
-first_of [] = None
-first_of (l ∷ ls) = Some l
+-- a literal of the clause, or none where it has none
+abbrev pub IsKey : List Literal → Option Literal → Type 0
+IsKey clause None = clause ≡ []
+IsKey clause (Some l) = Contains clause l
 
--- the clause is filed under its first literal
+-- a literal of the clause under which no more clauses are filed than under any other of its literals
+pub record IsShortest (lists : List (List ClauseId)) (clause : List Literal) (key : Option Literal) : Type 0 where
+  pub is_key : IsKey clause key
+  pub least : (l : Literal) → Contains clause l → length (filed_under lists key) ≤ length (filed_under lists (Some l))
+
+-- the clause is filed under one of its literals, an empty one under none
 abbrev pub IsFiled : List (List ClauseId) → ClauseId → List Literal → Type 0
-IsFiled lists id clause = Contains (filed_under lists (first_of clause)) id
+IsFiled lists id clause = (key : Option Literal) × IsKey clause key × Contains (filed_under lists key) id

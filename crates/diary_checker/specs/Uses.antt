@@ -18,10 +18,10 @@ pub record Subsumes (look : Lookup) (held : ℕ → Bool) (t : Stamps) (id : Cla
   pub is : look id ≡ Some clause
   pub within : (l : Literal) → Contains clause l → 0 < number_of t l
 
--- the first literal of a clause of literals of this one, if it has a first
-abbrev pub IsFirst : List Literal → Option Literal → Type 0
-IsFirst clause None = Unit {0}
-IsFirst clause (Some l) = Contains clause l
+-- where a clause of literals of this one may be filed
+abbrev pub MayBeUnder : List Literal → Option Literal → Type 0
+MayBeUnder clause None = Unit {0}
+MayBeUnder clause (Some l) = Contains clause l
 
 -- a clause of this name has the literal
 abbrev pub HasIn : Lookup → ClauseId → Literal → Type 0
@@ -49,6 +49,6 @@ pub record IsApart (look : Lookup) (held : ℕ → Bool) (given : List Literal) 
   pub is_new : (id : ClauseId) (c : List Literal) → held id.pos ≡ true → look id ≡ Some c → ((l : Literal) → Contains c l → Contains clause l) → ⊥
   pub not_given : (l : Literal) → Contains clause l → Contains given l → ⊥
 
--- each held clause is filed under its first literal
+-- each held clause is filed under one of its literals
 abbrev pub AreFiled : Lookup → (ℕ → Bool) → List (List ClauseId) → Type 0
 AreFiled look held lists = (id : ClauseId) (c : List Literal) → held id.pos ≡ true → look id ≡ Some c → IsFiled lists id c

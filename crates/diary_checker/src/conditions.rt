@@ -6,7 +6,7 @@ ghost use Rattle.cnf_base.specs.declared.clause.ClauseId.{ClauseId};
 ghost use Rattle.hint_chain.specs.Chains.{HasPair};
 ghost use Rattle.proof_log.specs.Logs.{clause_at};
 ghost use Rattle.diary_checker.specs.Tables.{number_of, bit_in, filed_under, IsSetOf};
-ghost use Rattle.diary_checker.specs.Uses.{IsFirst, Subsumes};
+ghost use Rattle.diary_checker.specs.Uses.{MayBeUnder, Subsumes};
 
 use crate::positions::Positions;
 use crate::table::LiteralNumbers;
@@ -133,7 +133,7 @@ pub(crate) fn is_subsumed(
 ) -> bool
     ensures { MatchBool result
         ((id : ClauseId) × Subsumes (clause_at log.now.clauses) (bit_in held.now) own.now id)
-        ((id : ClauseId) (first : Option Literal) → IsFirst clause.now first → Contains (filed_under watches.now first) id → ¬ (Subsumes (clause_at log.now.clauses) (bit_in held.now) own.now id)) }
+        ((id : ClauseId) (key : Option Literal) → MayBeUnder clause.now key → Contains (filed_under watches.now key) id → ¬ (Subsumes (clause_at log.now.clauses) (bit_in held.now) own.now id)) }
 {
     if is_one_within(log, held, own, watches.under(None)) {
         return true;

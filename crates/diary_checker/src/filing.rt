@@ -1,11 +1,11 @@
 //! What is held, with its clauses filed.
 
-ghost use Rattle.std.specs.Prelude.{◌≡◌, ◌&&◌, ◌+◌, not, ltb, true, false, ℕ, List, Option, Some, Contains, OnOk};
+ghost use Rattle.std.specs.Prelude.{◌≡◌, ◌≤◌, ◌⊎◌, ◌&&◌, ◌+◌, not, ltb, true, false, ℕ, List, Option, Some, Contains, OnOk, length};
 ghost use Rattle.cnf_base.specs.Literals.{Literal};
 ghost use Rattle.cnf_base.specs.declared.clause.ClauseId.{ClauseId};
 ghost use Rattle.proof_log.specs.Logs.{clause_at, entry_at};
 ghost use Rattle.proof_log.specs.Diaries.{is_chain, with_held};
-ghost use Rattle.diary_checker.specs.Tables.{bit_in, filed_under, first_of, IsFiled};
+ghost use Rattle.diary_checker.specs.Tables.{bit_in, filed_under, IsFiled, IsShortest};
 ghost use Rattle.diary_checker.specs.Uses.{AreFiled};
 
 use crate::positions::Positions;
@@ -25,16 +25,34 @@ pub(crate) fn is_chain_at(log: &Log, at: Pos) -> bool
     }
 }
 
-fn first(clause: &[Lit]) -> Option<Lit>
-    ensures { result ≡ first_of clause.now }
+// Of a literal and the key so far, the one under which fewer clauses are filed.
+fn shorter(watches: &Watches, key: Option<Lit>, l: Lit) -> Lit
+    ensures one { (result ≡ l) ⊎ (key ≡ Some result) }
+    ensures here { length (filed_under watches.now (Some result)) ≤ length (filed_under watches.now (Some l)) }
+    ensures before { (k : Literal) → key ≡ Some k → length (filed_under watches.now (Some result)) ≤ length (filed_under watches.now (Some k)) }
 {
-    match clause {
-        [] => None,
-        [l, ..] => Some(*l),
+    let Some(k) = key else {
+        return l;
+    };
+    if watches.under(Some(l)).len() < watches.under(key).len() {
+        l
+    } else {
+        k
     }
 }
 
-// Files each clause of a position under its first literal. A position with as many clauses as there are names has no room.
+// The literal of a clause under which fewest clauses are filed.
+fn key_of(watches: &Watches, clause: &[Lit]) -> Option<Lit>
+    ensures { IsShortest watches.now clause.now result }
+{
+    let mut key = None;
+    for l in clause {
+        key = Some(shorter(watches, key, *l));
+    }
+    key
+}
+
+// Files each clause of a position under the literal whose list is shortest. A position with as many clauses as there are names has no room.
 fn file(watches: &mut Watches, log: &Log, at: Pos) -> Result<(), AllocError>
     ensures kept { (k : Option Literal) (i : ClauseId) → Contains (filed_under watches.old k) i → Contains (filed_under watches.new k) i }
     ensures filed { OnOk result ((id : ClauseId) (c : List Literal) → id.pos ≡ at → clause_at log.now.clauses id ≡ Some c → IsFiled watches.new id c) }
@@ -44,7 +62,8 @@ fn file(watches: &mut Watches, log: &Log, at: Pos) -> Result<(), AllocError>
         let Some(clause) = log.clause(id) else {
             return Ok(());
         };
-        watches.add(first(clause.literals()), id)?;
+        let key = key_of(watches, clause.literals());
+        watches.add(key, id)?;
     }
     Err(AllocError)
 }

@@ -4,8 +4,8 @@
 //! that it is about: `line` answers true exactly where the line may stand after those that were taken, and then it is one
 //! of them; `is_spent` answers true exactly where they have spent a budget. What a diary is, and when it has spent its
 //! budget, is defined in `proof_log`; `specs/Readers` says what the reader keeps. A put is decided in a time that is linear
-//! in the literals of its clause, of its hints' clauses and of the held clauses whose first literal stands in it. The crate
-//! stands on `proof_log`, `hint_chain`, `smt_terms` and `cnf_base`.
+//! in the literals of its clause, of its hints' clauses and of the held clauses that are filed under one of its literals. The
+//! crate stands on `proof_log`, `hint_chain`, `smt_terms` and `cnf_base`.
 #![tactic(auto)]
 
 mod conditions;

@@ -1,4 +1,4 @@
-//! Clauses by their first literal.
+//! Clauses by one of their literals.
 
 ghost use Rattle.std.specs.Prelude.{◌≡◌, ◌<◌, ◌+◌, ℕ, List, [], ◌∷◌, ◌++◌, Option, Contains, length, OnOk, OnErr, slice_index_or};
 ghost use Rattle.cnf_base.specs.Literals.{Literal};
@@ -48,7 +48,7 @@ impl Names {
     }
 }
 
-/// The names of clauses, each filed under the clause's first literal, the empty ones by themselves.
+/// The names of clauses, each filed under one of the clause's literals, the empty ones by themselves.
 #[derive(Debug, Drop)]
 pub(crate) struct Watches {
     lists: Vec<Names>,
@@ -73,31 +73,31 @@ impl Watches {
         }
     }
 
-    /// The clauses that are filed under a first literal.
-    pub(crate) fn under(&self, first: Option<Lit>) -> &[ClauseId]
-        ensures { result.now ≡ filed_under self.now first }
+    /// The clauses that are filed under a literal, or under none.
+    pub(crate) fn under(&self, key: Option<Lit>) -> &[ClauseId]
+        ensures { result.now ≡ filed_under self.now key }
     {
-        match self.lists.get(row(first)) {
+        match self.lists.get(row(key)) {
             Some(names) => names.as_slice(),
             None => &[],
         }
     }
 
     /// Files one clause more.
-    pub(crate) fn add(&mut self, first: Option<Lit>, id: ClauseId) -> Result<(), AllocError>
+    pub(crate) fn add(&mut self, key: Option<Lit>, id: ClauseId) -> Result<(), AllocError>
         ensures kept { (k : Option Literal) (i : ClauseId) → Contains (filed_under self.old k) i → Contains (filed_under self.new k) i }
-        ensures ok { OnOk result (Contains (filed_under self.new first) id) }
+        ensures ok { OnOk result (Contains (filed_under self.new key) id) }
     {
-        let at = row(first);
+        let at = row(key);
         grow(self.alloc, &mut self.lists, at)?;
         self.lists[at].push(id)
     }
 }
 
-fn row(first: Option<Lit>) -> usize
-    ensures { result ≡ row_of first }
+fn row(key: Option<Lit>) -> usize
+    ensures { result ≡ row_of key }
 {
-    match first {
+    match key {
         Some(l) => l.code() as usize,
         None => 0,
     }

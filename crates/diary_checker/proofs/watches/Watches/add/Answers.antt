@@ -19,4 +19,4 @@ on_ok (Err e) P Q f h = tt
 
 pub returns-clause-ok : goal.returns-clause-ok
 returns-clause-ok c =
-    on_ok c.push.result _ _ (has_row c.grow.new.lists.items c.row-at.result (row_of c.args.first) c.row-at.ensures c.push.new.self c.args.id c.in_ok-grow.ensures.room) c.push.ensures.ok
+    on_ok c.push.result _ _ (has_row c.grow.new.lists.items c.row-at.result (row_of c.args.key) c.row-at.ensures c.push.new.self c.args.id c.in_ok-grow.ensures.room) c.push.ensures.ok
