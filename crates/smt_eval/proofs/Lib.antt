@@ -3,5 +3,4 @@ pub mod Evaluating
 pub mod Stores
 pub mod Calling
 pub mod Suiting
-pub mod Reaching
 pub mod Placing

@@ -3,7 +3,7 @@
 //! `Values::of` goes over a list of terms once, the lowest number first, and computes each term's value from those of its
 //! arguments. `values_of` computes the values of some terms from those of the terms that they reach alone. The contracts say
 //! that each is the value that the definition of `smt_terms` gives the term. The crate stands on the values and
-//! interpretations of `smt_values`.
+//! interpretations of `smt_values`, and on `term_reach`.
 #![tactic(auto)]
 
 mod arrays;
