@@ -64,7 +64,7 @@ fn compute(
 
 /// The values of these terms under an interpretation, in order. What they do not reach is passed over; what they reach
 /// stands in `reached` then, and what it had before is forgotten.
-pub fn values_of(
+pub fn values_with(
     alloc: Global,
     terms: &Terms,
     interp: &Interp,
@@ -83,4 +83,19 @@ pub fn values_of(
         values.push(computed[place].copy()?)?;
     }
     Ok(values)
+}
+
+/// The same, for a caller that keeps no table of what was reached.
+pub fn values_of(
+    alloc: Global,
+    terms: &Terms,
+    interp: &Interp,
+    asked: &[TermId],
+) -> Result<Vec<Value>, AllocError>
+    requires suited { AreSuited terms.now.nodes interp.now }
+    requires held { All (λ t. t < length terms.now.nodes) asked.now }
+    ensures { IfOk result (λ values. AreValuesOf (interpretation_of interp.now) terms.now.nodes asked.now values.items) }
+{
+    let mut reached = Reached::new(alloc);
+    values_with(alloc, terms, interp, asked, &mut reached)
 }

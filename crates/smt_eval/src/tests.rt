@@ -15,7 +15,6 @@ use smt_words::Word;
 use std::alloc::{AllocError, Global};
 use std::process::Abort;
 use std::test::Fail;
-use term_reach::Reached;
 
 /// A term that is made, and the number that it gets.
 #[derive(Clone, Copy)]
@@ -221,9 +220,8 @@ fn are_worth(
         return Ok(false);
     }
     let interp = Interp::new(alloc);
-    let mut reached = Reached::new(alloc);
-    let asked = values_of(alloc, terms, &interp, &[2, 0], &mut reached);
-    drop((interp, reached));
+    let asked = values_of(alloc, terms, &interp, &[2, 0]);
+    drop(interp);
     let values = asked?;
     let worth = is_worth(&values[0], first) && is_worth(&values[1], second);
     drop(values);

@@ -2,7 +2,7 @@ use Rattle.std.proofs.Common.{◌∙◌, get_or, arith}
 use Rattle.smt_values.specs.Held.{interpretation_of}
 use Rattle.smt_eval.proofs.Stores.{read_is}
 use Rattle.smt_eval.proofs.Placing.{found_at, asked_more}
-use Rattle.smt_eval.proofs.asked.values_of.Goals as goal
+use Rattle.smt_eval.proofs.asked.values_with.Goals as goal
 
 pub index-requires : goal.index-requires
 index-requires c =
