@@ -3,6 +3,5 @@ pub mod Evaluating
 pub mod Stores
 pub mod Calling
 pub mod Suiting
-pub mod Reaching
 pub mod Placing
 pub mod Fillings
