@@ -58,7 +58,8 @@ fn explain_all(
     let mut walk = Walk::start(alloc, watches, rows, conflict)?;
     walk.explain(watches, trail, rows, rows.len(), true)?;
     let clause = walk.clause(alloc, rows)?;
-    Ok((clause, walk.into_hints()))
+    let hints = walk.into_hints(alloc)?;
+    Ok((clause, hints))
 }
 
 // The place of the opposite of a false literal.
