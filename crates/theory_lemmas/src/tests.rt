@@ -45,27 +45,28 @@ enum Made {
     Plain(Operator, &'static [TermId]),
 }
 
-/// Each term has its place in this table as its number.
+/// The terms behind a declared array of words of width 8 by words of width 4, which is term 0. Each has its place in this
+/// table, counted from 1, as its number.
 const MADE: [Made; 19] = [
     Made::Param(0, Sort::Word(4)),
     Made::Param(1, Sort::Word(4)),
     Made::Param(2, Sort::Word(8)),
-    Made::Param(3, Sort::Word(8)),
-    Made::Param(4, Sort::Bool),
-    Made::Filled(2),
-    Made::Filled(3),
-    Made::Plain(Operator::Store, &[5, 0, 3]),
-    Made::Plain(Operator::Select, &[7, 1]),
+    Made::Param(3, Sort::Bool),
+    Made::Plain(Operator::Store, &[0, 1, 3]),
+    Made::Plain(Operator::Select, &[5, 2]),
+    Made::Plain(Operator::Select, &[0, 2]),
+    Made::Plain(Operator::Equal, &[0, 5]),
+    Made::Plain(Operator::Witness, &[0, 5]),
+    Made::Plain(Operator::Select, &[0, 9]),
+    Made::Plain(Operator::Select, &[5, 9]),
+    Made::Plain(Operator::Ite, &[4, 0, 5]),
+    Made::Plain(Operator::Select, &[12, 1]),
+    Made::Plain(Operator::Select, &[0, 1]),
     Made::Plain(Operator::Select, &[5, 1]),
-    Made::Plain(Operator::Equal, &[5, 6]),
-    Made::Plain(Operator::Witness, &[5, 6]),
-    Made::Plain(Operator::Select, &[5, 11]),
-    Made::Plain(Operator::Select, &[6, 11]),
-    Made::Plain(Operator::Ite, &[4, 5, 6]),
-    Made::Plain(Operator::Select, &[14, 0]),
-    Made::Plain(Operator::Select, &[5, 0]),
-    Made::Plain(Operator::Select, &[6, 0]),
-    Made::Plain(Operator::Equal, &[6, 7]),
+    Made::Plain(Operator::Equal, &[5, 0]),
+    Made::Filled(3),
+    Made::Plain(Operator::Select, &[17, 2]),
+    Made::Plain(Operator::Store, &[17, 1, 3]),
 ];
 
 fn node_of(alloc: Global, made: Made) -> Result<Node, AllocError>
@@ -84,10 +85,26 @@ fn node_of(alloc: Global, made: Made) -> Result<Node, AllocError>
     }
 }
 
-/// The terms of the table; none where one gets another number.
-fn terms_of(alloc: Global) -> Result<Option<Terms>, AllocError> {
+/// The terms, the declared array alone; none where it gets another number.
+fn array_alone(alloc: Global) -> Option<Terms> {
     let mut terms = Terms::new(alloc);
-    let mut number = 0;
+    let op = Op::Constant {
+        declaration: 0,
+        sort: Sort::Array(4, 8),
+    };
+    if terms.make(Node::leaf(alloc, op)) == Ok(0) {
+        Some(terms)
+    } else {
+        None
+    }
+}
+
+/// The declared array and the terms of the table; none where one gets another number.
+fn terms_of(alloc: Global) -> Result<Option<Terms>, AllocError> {
+    let Some(mut terms) = array_alone(alloc) else {
+        return Ok(None);
+    };
+    let mut number = 1;
     for made in &MADE {
         let node = node_of(alloc, *made)?;
         if terms.make(node) != Ok(number) {
@@ -162,80 +179,95 @@ fn is_expected(given: &Result<Clause, LemmaError>, expected: Expected) -> bool {
     }
 }
 
-const STORED: Case = Case::Arrays(Start::Term(8), &[Move::Store(7)], Start::Term(9), &[]);
+const STORED: Case = Case::Arrays(Start::Term(6), &[Move::Store(5)], Start::Term(7), &[]);
 
-const CHOSEN: Case = Case::Arrays(Start::Term(15), &[Move::Then(14)], Start::Term(16), &[]);
+const CHOSEN: Case = Case::Arrays(Start::Term(13), &[Move::Then(12)], Start::Term(14), &[]);
 
-const REFUSED: Case = Case::Arrays(Start::Term(15), &[Move::Else(14)], Start::Term(17), &[]);
+const REFUSED: Case = Case::Arrays(Start::Term(13), &[Move::Else(12)], Start::Term(15), &[]);
 
 /// A lemma, the bound below which equalities have variables, and what it gives.
-const ROWS: [(Case, TermId, Expected); 22] = [
-    (STORED, 19, Expected::Clause(&[101, -1, 909])),
-    (STORED, 9, Expected::NoEqual(8, 9)),
-    (STORED, 1, Expected::NoEqual(0, 1)),
-    (CHOSEN, 19, Expected::Clause(&[-40, -1, 1616])),
-    (REFUSED, 19, Expected::Clause(&[40, -1, 1617])),
+const ROWS: [(Case, TermId, Expected); 24] = [
+    (STORED, 20, Expected::Clause(&[202, -1, 707])),
+    (STORED, 7, Expected::NoEqual(6, 7)),
+    (STORED, 1, Expected::NoEqual(1, 2)),
+    (CHOSEN, 20, Expected::Clause(&[-40, -1, 1414])),
+    (REFUSED, 20, Expected::Clause(&[40, -1, 1415])),
     (
-        Case::Arrays(Start::Term(7), &[Move::Store(7)], Start::Term(9), &[]),
-        19,
-        Expected::Clause(&[1, -101, 409]),
+        Case::Arrays(Start::Term(5), &[Move::Store(5)], Start::Term(7), &[]),
+        20,
+        Expected::Clause(&[1, -202, 407]),
     ),
     (
-        Case::Arrays(Start::Term(9), &[Move::Sides(10)], Start::Term(17), &[]),
-        19,
-        Expected::Clause(&[-30, -101, 1017]),
+        Case::Arrays(Start::Term(7), &[Move::Sides(8)], Start::Term(15), &[]),
+        20,
+        Expected::Clause(&[-30, -202, 815]),
     ),
+    (Case::Witness(8), 20, Expected::Clause(&[30, -1111])),
+    (Case::Witness(8), 11, Expected::NoEqual(10, 11)),
     (
-        Case::Arrays(Start::Const(5, 1), &[], Start::Term(9), &[]),
-        19,
-        Expected::Clause(&[-1, 309]),
-    ),
-    (
-        Case::Arrays(Start::Const(5, 0), &[Move::Store(7)], Start::Term(8), &[]),
-        19,
-        Expected::Clause(&[1, -101, 308]),
-    ),
-    (Case::Witness(10), 19, Expected::Clause(&[30, -1313])),
-    (Case::Witness(10), 13, Expected::NoEqual(12, 13)),
-    (
-        Case::Arrays(Start::Term(8), &[], Start::Term(9), &[]),
-        19,
+        Case::Arrays(Start::Term(14), &[Move::Sides(16)], Start::Term(15), &[]),
+        20,
         Expected::Shape,
     ),
     (
-        Case::Arrays(Start::Term(8), &[Move::Then(7)], Start::Term(9), &[]),
-        19,
+        Case::Arrays(Start::Term(6), &[], Start::Term(7), &[]),
+        20,
         Expected::Shape,
     ),
     (
-        Case::Arrays(Start::Term(9), &[Move::Else(14)], Start::Term(15), &[]),
-        19,
+        Case::Arrays(Start::Term(6), &[Move::Then(5)], Start::Term(7), &[]),
+        20,
         Expected::Shape,
     ),
     (
-        Case::Arrays(Start::Const(5, 2), &[], Start::Term(9), &[]),
-        19,
+        Case::Arrays(Start::Term(7), &[Move::Else(12)], Start::Term(13), &[]),
+        20,
         Expected::Shape,
     ),
     (
-        Case::Arrays(Start::Const(5, 19), &[], Start::Term(9), &[]),
-        19,
+        Case::Arrays(Start::Const(5, 1), &[], Start::Term(6), &[]),
+        20,
         Expected::Shape,
     ),
     (
-        Case::Arrays(Start::Const(7, 0), &[], Start::Term(8), &[]),
-        19,
+        Case::Arrays(Start::Term(12), &[], Start::Term(7), &[]),
+        20,
         Expected::Shape,
     ),
     (
-        Case::Arrays(Start::Term(14), &[], Start::Term(9), &[]),
-        19,
+        Case::Arrays(Start::Const(17, 2), &[], Start::Term(18), &[]),
+        20,
+        Expected::Clause(&[-1, 418]),
+    ),
+    (
+        Case::Arrays(Start::Const(17, 1), &[], Start::Term(18), &[]),
+        20,
+        Expected::Clause(&[-202, 418]),
+    ),
+    (
+        Case::Arrays(
+            Start::Const(17, 1),
+            &[Move::Store(19)],
+            Start::Term(19),
+            &[],
+        ),
+        20,
+        Expected::Clause(&[1, -1, 1]),
+    ),
+    (
+        Case::Arrays(Start::Const(17, 3), &[], Start::Term(18), &[]),
+        20,
         Expected::Shape,
     ),
-    (Case::Witness(18), 19, Expected::Shape),
-    (Case::Witness(14), 19, Expected::Shape),
-    (Case::Congruence(8, 9), 19, Expected::Shape),
-    (Case::Congruence(19, 19), 19, Expected::Shape),
+    (
+        Case::Arrays(Start::Const(17, 99), &[], Start::Term(18), &[]),
+        20,
+        Expected::Shape,
+    ),
+    (Case::Witness(16), 20, Expected::Shape),
+    (Case::Witness(12), 20, Expected::Shape),
+    (Case::Congruence(6, 7), 20, Expected::Shape),
+    (Case::Congruence(99, 99), 20, Expected::Shape),
 ];
 
 #[test]
@@ -245,7 +277,7 @@ fn lemmas_have_their_clauses_and_faults(rt: HostRuntime) -> Result<(), Fail> {
         return Err("a term has another number".into());
     };
     let mut bits = Bits::new(alloc);
-    bits.set(10, &[Lit::new(30, true)])?;
+    bits.set(8, &[Lit::new(30, true)])?;
     bits.set(4, &[Lit::new(40, true)])?;
     for (case, bound, expected) in ROWS {
         let lemma = lemma_of(alloc, case)?;
@@ -263,7 +295,7 @@ fn a_shape_is_told_before_an_equality(rt: HostRuntime) -> Result<(), Fail> {
         return Err("a term has another number".into());
     };
     let bits = Bits::new(alloc);
-    for case in [CHOSEN, REFUSED, Case::Witness(10)] {
+    for case in [CHOSEN, REFUSED, Case::Witness(8)] {
         let lemma = lemma_of(alloc, case)?;
         let given = clause_of(alloc, &terms, &bits, &Named { bound: 0 }, &lemma);
         assert!(rt; is_expected(&given, Expected::Shape));
