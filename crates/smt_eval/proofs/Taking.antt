@@ -12,7 +12,7 @@ use Rattle.smt_terms.specs.declared.node.Op.TheVariants.{Plain, Word, Extract, Z
 use Rattle.smt_terms.specs.declared.fault.MakeFault.{MakeFault}
 use Rattle.smt_terms.specs.declared.fault.MakeFault.TheVariants.{WrongSort}
 use Rattle.smt_terms.specs.Same.{same_sort, sort_same}
-use Rattle.smt_terms.specs.Ranks.{Rank, Gives, Takes, allows, ranked, is_array, is_word, is_plain, extract_sort, plain_sort, each_of, application, rank_of, truth, one_truth, two_truths, one_word, two_words, concatenation, word_sort, operator_rank}
+use Rattle.smt_terms.specs.Ranks.{Rank, Gives, Takes, allows, ranked, is_array, is_word, is_plain, extract_sort, constant_sort, plain_sort, each_of, application, rank_of, truth, one_truth, two_truths, one_word, two_words, concatenation, word_sort, operator_rank}
 use Rattle.smt_terms.specs.Terms.{op_rank}
 use Rattle.smt_terms.proofs.Growing.{takes_ok}
 use Rattle.smt_terms.proofs.Arities.{too_many, four_are_too_many}
