@@ -192,10 +192,7 @@ term_steps (Some h) args = refl
 
 entry_steps : (e : Entry) → is_step_in (entry_line e) ≡ true
 entry_steps (entry.Node n) = term_steps (head_of n.op) n.args
-entry_steps (entry.Leaf t) = refl
-entry_steps (entry.Encode t) = refl
-entry_steps (entry.Selector a t) = refl
-entry_steps (entry.Chain c hs) = refl
+entry_steps e = refl
 
 pub line_steps : (e : Entry) (l : Line) → entry_line e ≡ Some l → is_step l ≡ true
 line_steps e l h = ap is_step_in (sym h) ∙ entry_steps e

@@ -22,17 +22,11 @@ use Rattle.accepted_proof.proofs.Following.{Keeping}
 
 pub step_grows : (s : StateValue) (log : List Entry) (e : Entry) → IsValid s.terms (state_of s.terms.nodes log) e → IsOfScript s e → Grows s.symbols.signatures s.terms (terms_after s.terms e)
 step_grows s log (entry.Node n) valid of = made_grows s.symbols.signatures s.terms n of (length s.terms.nodes) (with_node s.terms n) valid.made
-step_grows s log (entry.Leaf t) valid of = grows_none s.symbols.signatures s.terms
-step_grows s log (entry.Encode t) valid of = grows_none s.symbols.signatures s.terms
-step_grows s log (entry.Selector a t) valid of = grows_none s.symbols.signatures s.terms
-step_grows s log (entry.Chain c hints) valid of = grows_none s.symbols.signatures s.terms
+step_grows s log e valid of = grows_none s.symbols.signatures s.terms
 
 pub step_list : (s : StateValue) (log : List Entry) (e : Entry) → IsState s → IsValid s.terms (state_of s.terms.nodes log) e → IsTermList (terms_after s.terms e).nodes
 step_list s log (entry.Node n) is valid = list_made s.terms (with_node s.terms n) n (length s.terms.nodes) valid.made is.terms
-step_list s log (entry.Leaf t) is valid = is.terms
-step_list s log (entry.Encode t) is valid = is.terms
-step_list s log (entry.Selector a t) is valid = is.terms
-step_list s log (entry.Chain c hints) is valid = is.terms
+step_list s log e is valid = is.terms
 
 good_step : (s : StateValue) (log : List Entry) (e : Entry) → IsState s → IsValid s.terms (state_of s.terms.nodes log) e → IsOfScript s e → IsState (with_step s e)
 good_step s log e is valid of = grown_state s (terms_after s.terms e) (step_grows s log e valid of) is (step_list s log e is valid)

@@ -130,24 +130,15 @@ same_chains c d hs is l p q =
 -- a line is that of one step of the script
 pub same_entry : (s : StateValue) (l : Line) (e d : Entry) → entry_line e ≡ Some l → entry_line d ≡ Some l → IsOfScript s e → IsOfScript s d → e ≡ d
 same_entry s l (entry.Node n) (entry.Node m) p q i j = ap entry.Node (same_terms s l n m p q i j)
-same_entry s l (entry.Node n) (entry.Leaf t) p q i j = absurd (not_term _ _ l _ p q refl)
-same_entry s l (entry.Node n) (entry.Encode t) p q i j = absurd (not_term _ _ l _ p q refl)
-same_entry s l (entry.Node n) (entry.Selector a t) p q i j = absurd (not_term _ _ l _ p q refl)
-same_entry s l (entry.Node n) (entry.Chain c hs) p q i j = absurd (not_term _ _ l _ p q refl)
-same_entry s l (entry.Leaf t) (entry.Node n) p q i j = absurd (not_term _ _ l _ q p refl)
-same_entry s l (entry.Encode t) (entry.Node n) p q i j = absurd (not_term _ _ l _ q p refl)
-same_entry s l (entry.Selector a t) (entry.Node n) p q i j = absurd (not_term _ _ l _ q p refl)
-same_entry s l (entry.Chain c hs) (entry.Node n) p q i j = absurd (not_term _ _ l _ q p refl)
+same_entry s l (entry.Node n) _ p q i j = absurd (not_term _ _ l _ p q refl)
+same_entry s l _ (entry.Node n) p q i j = absurd (not_term _ _ l _ q p refl)
 same_entry s l (entry.Leaf t) (entry.Leaf u) p q i j = cc
 same_entry s l (entry.Encode t) (entry.Encode u) p q i j = cc
 same_entry s l (entry.Selector a t) (entry.Selector b u) p q i j =
     let e : a ≡ b = cc in
     let f : t ≡ u = same_found (slice_get s.scopes.terms a) t u i (ap (slice_get s.scopes.terms) e ∙ j) in cc
 same_entry s l (entry.Chain c hs) (entry.Chain d is) p q i j = same_chains c d hs is l p q
-same_entry s l (entry.Leaf t) _ p q i j = let f : ⊥ = cc in absurd f
-same_entry s l (entry.Encode t) _ p q i j = let f : ⊥ = cc in absurd f
-same_entry s l (entry.Selector a t) _ p q i j = let f : ⊥ = cc in absurd f
-same_entry s l (entry.Chain c hs) _ p q i j = let f : ⊥ = cc in absurd f
+same_entry s l _ _ p q i j = let f : ⊥ = cc in absurd f
 
 -- ---- values
 

@@ -50,10 +50,7 @@ reached_by_record s log (Some r) h = record { state = standing_state s (Some (ve
 
 pub terms_longer : (v : TermsValue) (e : Entry) → (more : List Node) × ((terms_after v e).nodes ≡ v.nodes ++ more)
 terms_longer v (entry.Node n) = (n ∷ [], refl)
-terms_longer v (entry.Leaf t) = ([], sym (append-nil v.nodes))
-terms_longer v (entry.Encode t) = ([], sym (append-nil v.nodes))
-terms_longer v (entry.Selector a t) = ([], sym (append-nil v.nodes))
-terms_longer v (entry.Chain c hints) = ([], sym (append-nil v.nodes))
+terms_longer v e = ([], sym (append-nil v.nodes))
 
 module _ (s : StateValue) (log : List Entry) (h : IsReached s log) where
   log_by_step : (e : Entry) → IsValid s.terms (state_of s.terms.nodes log) e → IsLog (terms_after s.terms e).nodes (log ++ e ∷ [])

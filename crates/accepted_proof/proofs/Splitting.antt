@@ -63,10 +63,7 @@ leaf_rises roots nodes final s t i =
 
 step_rises : (roots : List ℕ) (nodes : List Node) (final s : LogState) (e : Entry) → IsStep nodes s e → Holds (after nodes s e) final → Rise s.next (after nodes s e).next (leaf_variables roots nodes final e)
 step_rises roots nodes final s (entry.Leaf t) i h = leaf_rises roots nodes final s t i h
-step_rises roots nodes final s (entry.Node n) i h = (step_holds nodes s (entry.Node n) i).next
-step_rises roots nodes final s (entry.Encode t) i h = (step_holds nodes s (entry.Encode t) i).next
-step_rises roots nodes final s (entry.Selector a t) i h = (step_holds nodes s (entry.Selector a t) i).next
-step_rises roots nodes final s (entry.Chain c hints) i h = (step_holds nodes s (entry.Chain c hints) i).next
+step_rises roots nodes final s e i h = (step_holds nodes s e i).next
 
 pub steps_rise : (roots : List ℕ) (nodes : List Node) (final s : LogState) (log : List Entry) → AreSteps nodes s log → Holds (state_from nodes s log) final → Rise s.next (state_from nodes s log).next (flat_map (leaf_variables roots nodes final) log)
 steps_rise roots nodes final s [] h k = omega arith

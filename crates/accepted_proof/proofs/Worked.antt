@@ -167,7 +167,7 @@ rows_new (row ∷ rows) e = let p = and_parts (list_all escapes row) (list_all (
 
 -- the log before the chain
 grown : Grows steps log
-grown = record { more = step.Chain learnt hints ∷ []; is = refl; of_search = (tt, tt) }
+grown = record { more = step.Chain learnt hints ∷ []; is = refl; of_search = (refl, tt) }
 
 abbrev looked : ClauseId → Option (List Literal)
 looked = look_of (subject_of limits state terms log 0 13)

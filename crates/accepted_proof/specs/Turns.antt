@@ -31,10 +31,8 @@ use Rattle.accepted_proof.specs.Searching.{Limits, IsUnknown}
 -- what a step names of the script is as the script has it: an assertion with its term, a declaration with its signature
 abbrev pub IsOfScript : StateValue → Entry → Type 0
 IsOfScript s (entry.Node n) = IsDeclared s.symbols.signatures n.op
-IsOfScript s (entry.Leaf t) = Unit {0}
-IsOfScript s (entry.Encode t) = Unit {0}
 IsOfScript s (entry.Selector a t) = slice_get s.scopes.terms a ≡ Some t
-IsOfScript s (entry.Chain c hints) = Unit {0}
+IsOfScript s _ = Unit {0}
 
 -- the terms after a step
 abbrev pub with_step : StateValue → Entry → StateValue

@@ -80,10 +80,7 @@ module _ (nodes : List Node) (log : LogValue) (kept : IsKept nodes log) where
 
   leaf_same : (from : List ℕ) (e : Entry) → map variable (leaf_bits from nodes log.bits e) ≡ leaf_variables from nodes left e
   leaf_same from (entry.Leaf t) = chosen (is_some (constant_width (node_at nodes t).op) && is_reached from nodes t) t
-  leaf_same from (entry.Node n) = refl
-  leaf_same from (entry.Encode t) = refl
-  leaf_same from (entry.Selector a t) = refl
-  leaf_same from (entry.Chain c hints) = refl
+  leaf_same from e = refl
 
   leaves_same : (from : List ℕ) (es : List Entry) → map variable (flat_map (leaf_bits from nodes log.bits) es) ≡ flat_map (leaf_variables from nodes left) es
   leaves_same from [] = refl

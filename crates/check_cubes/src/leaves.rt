@@ -95,10 +95,7 @@ fn push_drawn(
 {
     match drawn {
         Entry::Leaf(term) => push_leaf(state, log, marks, *term, to),
-        Entry::Node(_) => Ok(()),
-        Entry::Encode(_) => Ok(()),
-        Entry::Selector(_, _) => Ok(()),
-        Entry::Chain(_, _) => Ok(()),
+        _ => Ok(()),
     }
 }
 

@@ -31,12 +31,8 @@ use Rattle.cube_search.specs.Running.{IsSearchOf}
 -- ---- chains
 
 pub chain_entry : (o : Option Entry) → is_chain o ≡ true → (c : List Literal) × (hints : List ClauseId) × (o ≡ Some (step.Chain c hints))
-chain_entry None e = let f : ⊥ = cc in absurd f
-chain_entry (Some (step.Node n)) e = let f : ⊥ = cc in absurd f
-chain_entry (Some (step.Leaf t)) e = let f : ⊥ = cc in absurd f
-chain_entry (Some (step.Encode t)) e = let f : ⊥ = cc in absurd f
-chain_entry (Some (step.Selector a t)) e = let f : ⊥ = cc in absurd f
 chain_entry (Some (step.Chain c hints)) e = (c, hints, refl)
+chain_entry _ e = let f : ⊥ = cc in absurd f
 
 pub chain_within : (log : List Entry) (p : ℕ) → is_chain (entry_at log p) ≡ true → p ≤ length log
 chain_within log p e = let k = chain_entry (entry_at log p) e in entry_within log p (step.Chain k.0 k.1) k.2

@@ -1,5 +1,5 @@
 -- Logs that grow by joining.
-use Rattle.std.proofs.Common.{◌≡◌, ℕ, suc, ◌<◌, List, [], ◌∷◌, ◌++◌, length, Some, sym, ap, ◌∙◌, subst, ⊎_elim}
+use Rattle.std.proofs.Common.{◌≡◌, ℕ, suc, ◌<◌, List, [], ◌∷◌, ◌++◌, length, Some, refl, sym, ap, ◌∙◌, subst, ⊎_elim}
 use Rattle.std.specs.Prelude.{Contains}
 use Rattle.std.proofs.lemmas.List.Elements.{All-contains, recursion_from_All, All-from_recursion}
 use Rattle.cnf_base.specs.Literals.{Literal}
@@ -22,7 +22,7 @@ use Rattle.cube_tree.specs.Resolvents.{IsResolvent, AreHintsOf}
 use Rattle.cube_tree.proofs.Resolving.{members, is_chain}
 
 pub grows_chain : (old new : List Entry) (c : List Literal) (hints : List ClauseId) → new ≡ old ++ step.Chain c hints ∷ [] → Grows old new
-grows_chain old new c hints e = subst (Grows old) (sym e) (grows_one old (step.Chain c hints) tt)
+grows_chain old new c hints e = subst (Grows old) (sym e) (grows_one old (step.Chain c hints) refl)
 
 -- what could be looked up still can
 pub finds_more : (nodes : List Node) (old new : LogValue) → Stands nodes old → Stands nodes new → Grows old.entries new.entries → FindsMore (clause_at old.clauses) (clause_at new.clauses)

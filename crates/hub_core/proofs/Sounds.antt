@@ -36,7 +36,7 @@ claim_goes nodes v n true h = same_goes nodes v.log v.log refl h
 claim_goes nodes v n false h = same_goes nodes v.log v.log refl h
 
 pub call_goes : (law : HubValue) (v : HubView) (n : ℕ) (call : Call) → IsLog law.nodes v.log → may law v n call → GoesOn law.nodes v.log (call_after law v n call).log
-call_goes law v n (PutChain c hints) h m = one_goes law.nodes v.log (step.Chain c hints) tt h m
+call_goes law v n (PutChain c hints) h m = one_goes law.nodes v.log (step.Chain c hints) refl h m
 call_goes law v n Claim h m = claim_goes law.nodes v n (has_next law v) h
 call_goes law v n (Close c p) h m = same_goes law.nodes v.log v.log refl h
 call_goes law v n (Spend c) h m = same_goes law.nodes v.log v.log refl h

@@ -50,10 +50,7 @@ use Rattle.proof_checker.specs.Checkers.{IsChainOf, IsTaken}
 
 pub declared_step : (s : StateValue) (e : Entry) → IsState s → IsOfScript s e → faults.IsDeclared s.terms e
 declared_step s (entry.Node n) is of = λ t d p q. same_found (slice_get s.symbols.signatures d) _ _ (is.declared.each t d p) (of.each d q)
-declared_step s (entry.Leaf t) is of = tt
-declared_step s (entry.Encode t) is of = tt
-declared_step s (entry.Selector a t) is of = tt
-declared_step s (entry.Chain c hints) is of = tt
+declared_step s e is of = tt
 
 pub fit_step : (t w : TermsValue) (r : RestValue) (log : List Entry) (e : Entry) → Fit t r → IsValid t (state_of t.nodes log) e → IsOfScript (with_terms r t) e → w ≡ terms_after t e → Fit w r
 fit_step t w r log e fit valid of same = subst (λ x. Fit x r) (sym same) (fit_more t (terms_after t e) r (step_grows (with_terms r t) log e valid of) (step_list (with_terms r t) log e fit.state valid) fit)
@@ -196,10 +193,7 @@ no_node n l e other = let t = term_line (head_of n.op) n.args l e in other t.hea
 module _ (s : StateValue) (log : List Entry) (l : Line) where
   pub chain_line : (literals : List WrittenLiteral) (hints : List WrittenHint) (e : Entry) → l ≡ line.Chain literals hints → IsChainOf literals hints e → (entry_line e ≡ Some l) × IsOfScript s e
   chain_line literals hints (entry.Chain c names) w is = (ap (λ x. Some (line.Chain x (map written_hint names))) is.0 ∙ ap (λ x. Some (line.Chain literals x)) is.1 ∙ ap Some (sym w), tt)
-  chain_line literals hints (entry.Node n) w is = absurd is
-  chain_line literals hints (entry.Leaf t) w is = absurd is
-  chain_line literals hints (entry.Encode t) w is = absurd is
-  chain_line literals hints (entry.Selector a t) w is = absurd is
+  chain_line literals hints e w is = absurd is
 
 -- a chain over a stored log
 pub no_chain_line : (s : StateValue) (log : LogValue) (l : Line) (literals : List WrittenLiteral) (hints : List WrittenHint) → Stands s.terms.nodes log → l ≡ line.Chain literals hints

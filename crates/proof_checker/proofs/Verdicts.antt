@@ -220,10 +220,7 @@ steps_none (Some h) args = refl
 
 step_none : (e : Entry) → flat_map line_verdict (map (λ l. Some l) (option_to_list (entry_line e))) ≡ []
 step_none (entry.Node n) = steps_none (head_of n.op) n.args
-step_none (entry.Leaf t) = refl
-step_none (entry.Encode t) = refl
-step_none (entry.Selector a t) = refl
-step_none (entry.Chain c hs) = refl
+step_none e = refl
 
 -- the verdicts of these lines
 abbrev pub of_lines : List Line → List Verdict

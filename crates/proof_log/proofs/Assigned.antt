@@ -22,7 +22,7 @@ use Rattle.bit_blast.proofs.Fixing.{clauses_fix}
 use Rattle.proof_log.specs.declared.entry.Entry.{Entry}
 use Rattle.proof_log.specs.declared.entry.Entry.TheVariants as step
 use Rattle.proof_log.specs.Logs.{Asserted, LogState, start, clause_in, clause_at, entry_at, IsStep, IsLeaf, IsEncoding, IsSelector, block_after, selector_clause, selector_after, after, state_from, state_of, IsLog}
-use Rattle.proof_log.specs.Places.{GivesSelector}
+use Rattle.proof_log.specs.Places.{GivesSelector, IsForTerm}
 use Rattle.proof_log.specs.Stored.{LogValue, IsKept, Stands}
 use Rattle.proof_log.specs.Assigned.{IsTrueAt, Satisfies, AreValues}
 use Rattle.proof_log.proofs.Ordered.{steps_length}
@@ -166,14 +166,22 @@ module _ (M : Interpretation) (nodes : List Node) (all : IsTermList nodes) (reac
       let i : IsEncoding nodes r.state t = r.step in
       i.term
 
+  -- whichever step gave the term its bits
+  given_valued : (t p : ℕ) (e : Entry) → reached t → entry_at log.entries p ≡ Some e → IsForTerm t e → IsTrueAt log v p → (t < length nodes → AllByRecursion Valued (node_at nodes t).args) → Valued t
+  given_valued t p (step.Leaf u) in_it e for_term is args =
+      let own : u ≡ t = cc in
+      leaf_valued t p in_it (e ∙ ap (λ x. Some (step.Leaf x)) own)
+  given_valued t p (step.Encode u) in_it e for_term is args =
+      let own : u ≡ t = cc in
+      let there : entry_at log.entries p ≡ Some (step.Encode t) = e ∙ ap (λ x. Some (step.Encode x)) own in
+      encode_valued t p there is (args (term_within t p there))
+  given_valued t p other in_it e for_term is args = let f : ⊥ = cc in absurd f
+
   valued_below : (n t : ℕ) → t < n → reached t → Valued t
   valued_below zero t lt in_it = absurd (omega arith)
   valued_below (suc n) t lt in_it =
       let k = h.steps t in_it in
-      ⊎_elim
-      (λ e. leaf_valued t k.0 in_it e)
-      (λ e. encode_valued t k.0 e k.2 (args_valued n t (node_at nodes t).args (valued_below n) lt (all t (term_within t k.0 e)).earlier (λ u. h.closed t u in_it)))
-      k.1
+      given_valued t k.0 k.1.0 in_it k.1.1 k.1.2 k.2 (λ within. args_valued n t (node_at nodes t).args (valued_below n) lt (all t within).earlier (λ u. h.closed t u in_it))
 
   pub valued : (t : ℕ) → reached t → Valued t
   valued t in_it = valued_below (suc t) t (omega arith) in_it

@@ -18,8 +18,9 @@ use Rattle.smt_terms.specs.declared.node.Node.{Node}
 use Rattle.smt_terms.specs.Terms.{IsTermList, TermsValue}
 use Rattle.proof_log.specs.declared.entry.Entry.{Entry}
 use Rattle.proof_log.specs.declared.entry.Entry.TheVariants as step
+use Rattle.proof_log.specs.declared.entry.Role.TheVariants as role
 use Rattle.proof_log.specs.Logs.{LogState, start, clause_in, clause_at, entry_at, constant_width, selector_clause, IsStep, leaf_after, block_after, selector_after, after, state_from, state_of, IsLog}
-use Rattle.proof_log.specs.Stored.{LogValue, Stands, IsPushed}
+use Rattle.proof_log.specs.Stored.{LogValue, Stands, IsPushed, clauses_of}
 use Rattle.proof_log.specs.Faults.{IsValid, MakesNoTerm}
 use Rattle.proof_log.specs.Boards.{IsOfSearch, Grows, IsLater, IsPutAt, KnowsOneMore, IsClauseOf}
 use Rattle.proof_log.proofs.Growing.{clause_within}
@@ -63,11 +64,10 @@ grown_holds nodes log log' g h =
 -- a search gives no term bits and no assertion a selector
 search_keeps : (nodes : List Node) (s : LogState) (more : List Entry) → AllByRecursion IsOfSearch more → ((state_from nodes s more).bits ≡ s.bits) × ((state_from nodes s more).selectors ≡ s.selectors)
 search_keeps nodes s [] h = (refl, refl)
-search_keeps nodes s (step.Node n ∷ more) h = absurd h.0
-search_keeps nodes s (step.Leaf t ∷ more) h = absurd h.0
-search_keeps nodes s (step.Encode t ∷ more) h = absurd h.0
-search_keeps nodes s (step.Selector a t ∷ more) h = absurd h.0
-search_keeps nodes s (step.Chain c hints ∷ more) h = search_keeps nodes (after nodes s (step.Chain c hints)) more h.1
+search_keeps nodes s (step.Leaf t ∷ more) h = let q = h.0 in let f : ⊥ = cc in absurd f
+search_keeps nodes s (step.Encode t ∷ more) h = let q = h.0 in let f : ⊥ = cc in absurd f
+search_keeps nodes s (step.Selector a t ∷ more) h = let q = h.0 in let f : ⊥ = cc in absurd f
+search_keeps nodes s (e ∷ more) h = search_keeps nodes (after nodes s e) more h.1
 
 -- bits and selectors stay
 pub grown_keeps : (nodes : List Node) (log log' : List Entry) → Grows log log' → ((state_of nodes log').bits ≡ (state_of nodes log).bits) × ((state_of nodes log').selectors ≡ (state_of nodes log).selectors)
@@ -96,37 +96,6 @@ entry_left log more (suc p) le = slice_get-append_left log more p (omega (arith,
 pub entry_stays : (log log' : List Entry) (p : ℕ) → Grows log log' → p ≤ length log → entry_at log' p ≡ entry_at log p
 entry_stays log log' p g le = ap (λ l. entry_at l p) g.is ∙ entry_left log g.more p le
 
--- the steps of a search leave the clauses of each position
-search_rows : (nodes : List Node) (s : LogState) (more : List Entry) → AllByRecursion IsOfSearch more → (rest : List (List (List Literal))) × ((state_from nodes s more).clauses ≡ s.clauses ++ rest)
-search_rows nodes s [] h = ([], sym (append-nil s.clauses))
-search_rows nodes s (step.Node n ∷ more) h = absurd h.0
-search_rows nodes s (step.Leaf t ∷ more) h = absurd h.0
-search_rows nodes s (step.Encode t ∷ more) h = absurd h.0
-search_rows nodes s (step.Selector a t ∷ more) h = absurd h.0
-search_rows nodes s (step.Chain c hints ∷ more) h =
-    let k = search_rows nodes (after nodes s (step.Chain c hints)) more h.1 in
-    ((c ∷ []) ∷ k.0, k.1 ∙ append_assoc s.clauses ((c ∷ []) ∷ []) k.0)
-
--- the clause of a name at an old position stays, also where there is none
-pub clause_stays : (nodes : List Node) (log log' : List Entry) (id : ClauseId) → Grows log log' → id.pos ≤ length log → clause_at (state_of nodes log').clauses id ≡ clause_at (state_of nodes log).clauses id
-clause_stays nodes log log' id g le =
-    let is = ap (λ l. (state_of nodes l).clauses) g.is ∙ ap (λ s. s.clauses) (state_from-append nodes start log g.more) in
-    let k = search_rows nodes (state_of nodes log) g.more g.of_search in
-    let lt : id.pos < length (state_of nodes log).clauses = omega (arith, le, positions nodes log) in
-    ap (λ o. clause_in o id.part) (ap (λ rs. slice_get rs id.pos) (is ∙ k.1) ∙ slice_get-append_left (state_of nodes log).clauses k.0 id.pos lt)
-
-pub clause_place : (nodes : List Node) (log : List Entry) (id : ClauseId) (c : List Literal) → clause_at (state_of nodes log).clauses id ≡ Some c → id.pos ≤ length log
-clause_place nodes log id c e = let k = clause_within (state_of nodes log).clauses id c e in omega (arith, k, positions nodes log)
-
--- ---- chains
-
--- a valid step of a search stays valid
-pub step_stays : (nodes nodes' : List Node) (log log' : List Entry) (known known' : ℕ → Type 0) → IsLater nodes nodes' log log' known known' → (c : List Literal) (hints : List ClauseId) → IsStep nodes (state_of nodes log) (step.Chain c hints) → IsStep nodes' (state_of nodes' log') (step.Chain c hints)
-step_stays nodes nodes' log log' known known' h c hints v =
-    let k = grown_holds nodes log log' h.grows (subst (λ n. IsLog n log') h.nodes h.stands) in
-    subst (λ n. IsStep n (state_of n log') (step.Chain c hints)) (sym h.nodes)
-    (AreBelow-more _ _ k.next c v.0, IsChain-grows _ _ k.clauses c hints v.1)
-
 -- ---- what a step of a log has
 
 abbrev OneRow : LogState → LogState → Type 0
@@ -147,11 +116,10 @@ selector_row s a t (Some (b ∷ bs)) = (selector_clause s.next b ∷ [], refl)
 
 -- each step has one position
 step_row : (nodes : List Node) (s : LogState) (e : Entry) → OneRow s (after nodes s e)
-step_row nodes s (step.Node n) = ([], refl)
 step_row nodes s (step.Leaf t) = leaf_row s t (constant_width (node_at nodes t).op)
 step_row nodes s (step.Encode t) = block_row s t (block_of s.next s.bits (node_at nodes t))
 step_row nodes s (step.Selector a t) = selector_row s a t (s.bits t)
-step_row nodes s (step.Chain c hints) = (c ∷ [], refl)
+step_row nodes s e = (clauses_of e [], refl)
 
 pub steps_rows : (nodes : List Node) (s : LogState) (log : List Entry) → (rest : List (List (List Literal))) × ((state_from nodes s log).clauses ≡ s.clauses ++ rest)
 steps_rows nodes s [] = ([], sym (append-nil s.clauses))
@@ -159,6 +127,30 @@ steps_rows nodes s (e ∷ log) =
     let one = step_row nodes s e in
     let k = steps_rows nodes (after nodes s e) log in
     (one.0 ∷ k.0, k.1 ∙ ap (λ l. l ++ k.0) one.1 ∙ append_assoc s.clauses (one.0 ∷ []) k.0)
+
+-- ---- old clauses
+
+-- the clause of a name at an old position stays, also where there is none
+pub clause_stays : (nodes : List Node) (log log' : List Entry) (id : ClauseId) → Grows log log' → id.pos ≤ length log → clause_at (state_of nodes log').clauses id ≡ clause_at (state_of nodes log).clauses id
+clause_stays nodes log log' id g le =
+    let is = ap (λ l. (state_of nodes l).clauses) g.is ∙ ap (λ s. s.clauses) (state_from-append nodes start log g.more) in
+    let k = steps_rows nodes (state_of nodes log) g.more in
+    let lt : id.pos < length (state_of nodes log).clauses = omega (arith, le, positions nodes log) in
+    ap (λ o. clause_in o id.part) (ap (λ rs. slice_get rs id.pos) (is ∙ k.1) ∙ slice_get-append_left (state_of nodes log).clauses k.0 id.pos lt)
+
+pub clause_place : (nodes : List Node) (log : List Entry) (id : ClauseId) (c : List Literal) → clause_at (state_of nodes log).clauses id ≡ Some c → id.pos ≤ length log
+clause_place nodes log id c e = let k = clause_within (state_of nodes log).clauses id c e in omega (arith, k, positions nodes log)
+
+-- ---- chains
+
+-- a valid step of a search stays valid
+pub step_stays : (nodes nodes' : List Node) (log log' : List Entry) (known known' : ℕ → Type 0) → IsLater nodes nodes' log log' known known' → (c : List Literal) (hints : List ClauseId) → IsStep nodes (state_of nodes log) (step.Chain c hints) → IsStep nodes' (state_of nodes' log') (step.Chain c hints)
+step_stays nodes nodes' log log' known known' h c hints v =
+    let k = grown_holds nodes log log' h.grows (subst (λ n. IsLog n log') h.nodes h.stands) in
+    subst (λ n. IsStep n (state_of n log') (step.Chain c hints)) (sym h.nodes)
+    (AreBelow-more _ _ k.next c v.0, IsChain-grows _ _ k.clauses c hints v.1)
+
+-- ---- the clauses of a chain
 
 chain_row_from : (nodes : List Node) (s : LogState) (log : List Entry) (p : ℕ) (c : List Literal) (hints : List ClauseId) → slice_get log p ≡ Some (step.Chain c hints) → slice_get (state_from nodes s log).clauses (length s.clauses + p) ≡ Some (c ∷ [])
 chain_row_from nodes s [] p c hints e = let f : ⊥ = cc in absurd f
@@ -219,18 +211,11 @@ clauses_exist nodes log all h = (log_is_ordered nodes log all h).clauses
 
 -- a step of a search is one that a log takes
 pub search_step : (e : Entry) → IsOfSearch e → MakesNoTerm e
-search_step (step.Node n) h = h
-search_step (step.Leaf t) h = tt
-search_step (step.Encode t) h = tt
-search_step (step.Selector a t) h = tt
-search_step (step.Chain c hints) h = tt
+search_step e h = λ m. let r : role.Search ≡ role.Term = sym h ∙ m in cc
 
 pub search_valid : (v : TermsValue) (s : LogState) (e : Entry) → IsOfSearch e → IsStep v.nodes s e → IsValid v s e
-search_valid v s (step.Node n) h k = absurd h
-search_valid v s (step.Leaf t) h k = absurd h
-search_valid v s (step.Encode t) h k = absurd h
-search_valid v s (step.Selector a t) h k = absurd h
-search_valid v s (step.Chain c hints) h k = k
+search_valid v s (step.Node n) h k = let f : ⊥ = cc in absurd f
+search_valid v s e h k = k
 
 pub board_stands : (nodes : List Node) (l : LogValue) → Stands nodes l → IsLog nodes l.entries
 board_stands nodes l h = (stands_over nodes l h).steps

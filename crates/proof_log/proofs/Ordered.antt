@@ -67,11 +67,10 @@ selector_length s a t (Some []) = row_length s.clauses _
 selector_length s a t (Some (b ∷ bs)) = row_length s.clauses _
 
 step_length : (nodes : List Node) (s : LogState) (e : Entry) → length (after nodes s e).clauses ≡ suc (length s.clauses)
-step_length nodes s (step.Node n) = row_length s.clauses _
 step_length nodes s (step.Leaf t) = leaf_length s t (constant_width (node_at nodes t).op)
 step_length nodes s (step.Encode t) = block_length s t (block_of s.next s.bits (node_at nodes t))
 step_length nodes s (step.Selector a t) = selector_length s a t (s.bits t)
-step_length nodes s (step.Chain c hints) = row_length s.clauses _
+step_length nodes s e = row_length s.clauses _
 
 -- a log has a position for each step, and one before
 pub steps_length : (nodes : List Node) (s : LogState) (log : List Entry) → length (state_from nodes s log).clauses ≡ length s.clauses + length log

@@ -31,7 +31,7 @@ leaf_given : (log : List Entry) (s : LogState) (t : ℕ) (o : Option ℕ) → Ar
 leaf_given log s t None h = more_given log (step.Leaf t) s.bits h
 leaf_given log s t (Some n) h = λ u b q.
     ⊎_elim
-    (λ p. subst (IsGivenIn (log ++ step.Leaf t ∷ [])) (sym p.0) (suc (length log), inl (entry_last log (step.Leaf t))))
+    (λ p. subst (IsGivenIn (log ++ step.Leaf t ∷ [])) (sym p.0) (suc (length log), (step.Leaf t, entry_last log (step.Leaf t), refl)))
     (λ p. more_given log (step.Leaf t) s.bits h u b p)
     (with_value_cases s.bits t _ u b q)
 
@@ -39,7 +39,7 @@ block_given : (log : List Entry) (s : LogState) (t : ℕ) (o : Option Block) →
 block_given log s t None h = more_given log (step.Encode t) s.bits h
 block_given log s t (Some n) h = λ u b q.
     ⊎_elim
-    (λ p. subst (IsGivenIn (log ++ step.Encode t ∷ [])) (sym p.0) (suc (length log), inr (entry_last log (step.Encode t))))
+    (λ p. subst (IsGivenIn (log ++ step.Encode t ∷ [])) (sym p.0) (suc (length log), (step.Encode t, entry_last log (step.Encode t), refl)))
     (λ p. more_given log (step.Encode t) s.bits h u b p)
     (with_value_cases s.bits t _ u b q)
 
@@ -49,12 +49,11 @@ selector_same s a t (Some []) = refl
 selector_same s a t (Some (b ∷ bs)) = refl
 
 step_given : (nodes : List Node) (log : List Entry) (s : LogState) (e : Entry) → AreGivenIn log s.bits → AreGivenIn (log ++ e ∷ []) (after nodes s e).bits
-step_given nodes log s (step.Node n) h = more_given log (step.Node n) s.bits h
 step_given nodes log s (step.Leaf t) h = leaf_given log s t (constant_width (node_at nodes t).op) h
 step_given nodes log s (step.Encode t) h = block_given log s t (block_of s.next s.bits (node_at nodes t)) h
 step_given nodes log s (step.Selector a t) h =
     subst (AreGivenIn (log ++ step.Selector a t ∷ [])) (sym (selector_same s a t (s.bits t))) (more_given log (step.Selector a t) s.bits h)
-step_given nodes log s (step.Chain c hints) h = more_given log (step.Chain c hints) s.bits h
+step_given nodes log s e h = more_given log e s.bits h
 
 steps_given : (nodes : List Node) (before : List Entry) (s : LogState) (log : List Entry) → AreGivenIn before s.bits → AreGivenIn (before ++ log) (state_from nodes s log).bits
 steps_given nodes before s [] h = subst (λ l. AreGivenIn l s.bits) (sym (append-nil before)) h

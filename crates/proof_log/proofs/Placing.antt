@@ -5,6 +5,8 @@ use Rattle.std.proofs.lemmas.Bool.{eqb-true}
 use Rattle.std.proofs.lemmas.List.{map_push}
 use Rattle.proof_log.specs.declared.entry.Entry.{Entry}
 use Rattle.proof_log.specs.declared.entry.Entry.TheVariants as step
+use Rattle.proof_log.specs.declared.entry.Role.TheVariants as role
+use Rattle.proof_log.specs.Roles.{role_of}
 use Rattle.proof_log.specs.Logs.{entry_at, with_value}
 use Rattle.proof_log.specs.Places.{GivesBits, GivesSelector, IsPlaceOf, place_in, ArePlaces, IsForTerm, IsPlain}
 use Rattle.cnf_base.proofs.Lists.{slice_get-longer, slice_get-push, slice_get-push_cases}
@@ -26,7 +28,7 @@ entry_last log e = slice_get-push log e
 
 pub no_places : ArePlaces [] [] []
 no_places = record {
-  bits = λ t p h. ⊎_elim (none p (step.Leaf t)) (none p (step.Encode t)) h;
+  bits = λ t p h. none p h.0 h.1;
   selectors = λ a p h. none p (step.Selector a h.0) h.1;
 }
   where
@@ -35,14 +37,10 @@ no_places = record {
     none (suc p) e h = cc
 
 pub bits_more : (log : List Entry) (e : Entry) (t p : ℕ) → GivesBits log t p → GivesBits (log ++ e ∷ []) t p
-bits_more log e t p h = ⊎_elim (λ q. inl (entry_more log e (step.Leaf t) p q)) (λ q. inr (entry_more log e (step.Encode t) p q)) h
+bits_more log e t p h = (h.0, entry_more log e h.0 p h.1, h.2)
 
 bits_push : (log : List Entry) (e : Entry) (t p : ℕ) → GivesBits (log ++ e ∷ []) t p → GivesBits log t p ⊎ IsForTerm t e
-bits_push log e t p h =
-    ⊎_elim
-    (λ q. ⊎_elim (λ r. inl (inl r)) (λ r. inr (inl r)) (entry_push log e (step.Leaf t) p q))
-    (λ q. ⊎_elim (λ r. inl (inr r)) (λ r. inr (inr r)) (entry_push log e (step.Encode t) p q))
-    h
+bits_push log e t p h = ⊎_elim (λ q. inl (h.0, q, h.2)) (λ q. inr (subst (IsForTerm t) (sym q) h.2)) (entry_push log e h.0 p h.1)
 
 selector_more : (log : List Entry) (e : Entry) (a p : ℕ) → GivesSelector log a p → GivesSelector (log ++ e ∷ []) a p
 selector_more log e a p h = (h.0, entry_more log e (step.Selector a h.0) p h.1)
@@ -56,29 +54,18 @@ place_more P Q None on back h = λ p q. h p (back p q)
 place_more P Q (Some p) on back h = on p h
 
 same_term : (t u : ℕ) (e : Entry) → IsForTerm t e → IsForTerm u e → t ≡ u
-same_term t u e h k =
-    ⊎_elim
-    (λ p. ⊎_elim (λ q. let r : step.Leaf t ≡ step.Leaf u = sym p ∙ q in cc) (λ q. let r : step.Leaf t ≡ step.Encode u = sym p ∙ q in cc) k)
-    (λ p. ⊎_elim (λ q. let r : step.Encode t ≡ step.Leaf u = sym p ∙ q in cc) (λ q. let r : step.Encode t ≡ step.Encode u = sym p ∙ q in cc) k)
-    h
+same_term t u e h k = let r : role.Bits t ≡ role.Bits u = sym h ∙ k in cc
 
 plain_term : (e : Entry) (t : ℕ) → IsPlain e → IsForTerm t e → ⊥
-plain_term (step.Node n) t h k = ⊎_elim (λ p. cc) (λ p. cc) k
-plain_term (step.Leaf u) t h k = h
-plain_term (step.Encode u) t h k = h
-plain_term (step.Selector a u) t h k = h
-plain_term (step.Chain c hints) t h k = ⊎_elim (λ p. cc) (λ p. cc) k
+plain_term e t h k =
+    ⊎_elim (λ p. let r : role.Term ≡ role.Bits t = sym p ∙ k in cc) (λ p. let r : role.Search ≡ role.Bits t = sym p ∙ k in cc) h
 
 plain_selector : (e : Entry) (a t : ℕ) → IsPlain e → e ≡ step.Selector a t → ⊥
-plain_selector (step.Node n) a t h k = cc
-plain_selector (step.Leaf u) a t h k = h
-plain_selector (step.Encode u) a t h k = h
-plain_selector (step.Selector b u) a t h k = h
-plain_selector (step.Chain c hints) a t h k = cc
+plain_selector e a t h k =
+    ⊎_elim (λ p. let r : role.Term ≡ role.Selector a = sym p ∙ ap role_of k in cc) (λ p. let r : role.Search ≡ role.Selector a = sym p ∙ ap role_of k in cc) h
 
 term_selector : (e : Entry) (t a u : ℕ) → IsForTerm t e → e ≡ step.Selector a u → ⊥
-term_selector e t a u h k =
-    ⊎_elim (λ p. let r : step.Leaf t ≡ step.Selector a u = sym p ∙ k in cc) (λ p. let r : step.Encode t ≡ step.Selector a u = sym p ∙ k in cc) h
+term_selector e t a u h k = let r : role.Bits t ≡ role.Selector a = sym h ∙ ap role_of k in cc
 
 bits_other : (log : List Entry) (e : Entry) (t : ℕ) (o : Option ℕ) → (IsForTerm t e → ⊥) → IsPlaceOf (GivesBits log t) o → IsPlaceOf (GivesBits (log ++ e ∷ []) t) o
 bits_other log e t o other h =
@@ -115,7 +102,7 @@ pub term_places : (log : List Entry) (e : Entry) (t : ℕ) (terms mid new assert
 term_places log e t terms mid new assertions is same set h = record {
   bits = λ u. subst (IsPlaceOf (GivesBits (log ++ e ∷ []) u)) (sym (set u))
       (value_cases (λ v o. IsPlaceOf (GivesBits (log ++ e ∷ []) v) o) (place_in mid) t (suc (length log)) u
-      (⊎_elim (λ p. inl (entry_last log e ∙ ap Some p)) (λ p. inr (entry_last log e ∙ ap Some p)) is)
+      (e, entry_last log e, is)
       (λ other. bits_other log e u (place_in mid u) (λ k. other (same_term t u e is k)) (subst (IsPlaceOf (GivesBits log u)) (sym (same u)) (h.bits u))));
   selectors = λ a. selector_other log e a (place_in assertions a) (λ u. term_selector e t a u is) (h.selectors a);
 }

@@ -41,13 +41,12 @@ selector_made log s a t (Some (b ∷ bs)) h = λ x r g.
     (with_value_cases s.selectors a new x r g)
 
 step_made : (nodes : List Node) (log : List Entry) (s : LogState) (e : Entry) → AreMadeIn log s.selectors → AreMadeIn (log ++ e ∷ []) (after nodes s e).selectors
-step_made nodes log s (step.Node n) h = more_made log (step.Node n) s.selectors h
 step_made nodes log s (step.Leaf t) h =
     subst (AreMadeIn (log ++ step.Leaf t ∷ [])) (sym (leaf_same s t (constant_width (node_at nodes t).op))) (more_made log (step.Leaf t) s.selectors h)
 step_made nodes log s (step.Encode t) h =
     subst (AreMadeIn (log ++ step.Encode t ∷ [])) (sym (block_same s t (block_of s.next s.bits (node_at nodes t)))) (more_made log (step.Encode t) s.selectors h)
 step_made nodes log s (step.Selector a t) h = selector_made log s a t (s.bits t) h
-step_made nodes log s (step.Chain c hints) h = more_made log (step.Chain c hints) s.selectors h
+step_made nodes log s e h = more_made log e s.selectors h
 
 steps_made : (nodes : List Node) (before : List Entry) (s : LogState) (log : List Entry) → AreMadeIn before s.selectors → AreMadeIn (before ++ log) (state_from nodes s log).selectors
 steps_made nodes before s [] h = λ a r g. let k = h a r g in (k.0, Contains-append_left before [] (step.Selector a r.term) k.1)

@@ -41,7 +41,4 @@ stands_settled nodes l all h =
 
 pub valid_stands : (v : TermsValue) (s : LogState) (e : Entry) → IsValid v s e → IsStep (terms_after v e).nodes s e
 valid_stands v s (step.Node n) i = Contains-push v.nodes n
-valid_stands v s (step.Leaf t) i = i
-valid_stands v s (step.Encode t) i = i
-valid_stands v s (step.Selector a t) i = i
-valid_stands v s (step.Chain c hints) i = i
+valid_stands v s e i = i

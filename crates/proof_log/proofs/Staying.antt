@@ -17,6 +17,7 @@ use Rattle.hint_chain.specs.Chains.{FindsMore}
 use Rattle.proof_log.specs.declared.entry.Entry.{Entry}
 use Rattle.proof_log.specs.declared.entry.Entry.TheVariants as step
 use Rattle.proof_log.specs.Logs.{LogState, start, clause_at, with_value, constant_width, IsStep, leaf_after, block_after, selector_after, after, state_from, state_of, AreSteps, IsLog}
+use Rattle.proof_log.specs.Stored.{clauses_of}
 use Rattle.proof_log.specs.Meanings.{leaf_mean, block_mean, mean_after, mean_from, meaning, GivesMore, StaysLog, IsLogOver}
 use Rattle.proof_log.proofs.Growing.{clause_more}
 
@@ -74,11 +75,10 @@ selector_holds s a t (Some []) n = record { next = omega arith; clauses = clause
 selector_holds s a t (Some (b ∷ bs)) n = record { next = omega arith; clauses = clause_more s.clauses _; bits = λ u b e. e; selectors = gives_more s.selectors a _ n }
 
 pub step_holds : (nodes : List Node) (s : LogState) (e : Entry) → IsStep nodes s e → Holds s (after nodes s e)
-step_holds nodes s (step.Node n) i = record { next = omega arith; clauses = clause_more s.clauses ([] ∷ []); bits = λ u b e. e; selectors = λ a r e. e }
 step_holds nodes s (step.Leaf t) i = leaf_holds s t (constant_width (node_at nodes t).op) i.new
 step_holds nodes s (step.Encode t) i = block_holds s t (block_of s.next s.bits (node_at nodes t)) i.new
 step_holds nodes s (step.Selector a t) i = selector_holds s a t (s.bits t) i.new
-step_holds nodes s (step.Chain c hints) i = record { next = omega arith; clauses = clause_more s.clauses ((c ∷ []) ∷ []); bits = λ u b e. e; selectors = λ a r e. e }
+step_holds nodes s e i = record { next = omega arith; clauses = clause_more s.clauses (clauses_of e [] ∷ []); bits = λ u b e. e; selectors = λ a r e. e }
 
 pub steps_hold : (nodes : List Node) (s : LogState) (log : List Entry) → AreSteps nodes s log → Holds s (state_from nodes s log)
 steps_hold nodes s [] h = Holds-refl s
@@ -96,11 +96,10 @@ block_agrees f g None = AgreeBelow-refl g f
 block_agrees f g (Some b) = with_gates-agrees b.gates f g
 
 step_agrees : (M : Interpretation) (nodes : List Node) (s : LogState) (f : ℕ → Bool) (e : Entry) → AgreeBelow s.next f (mean_after M nodes s f e)
-step_agrees M nodes s f (step.Node n) = AgreeBelow-refl s.next f
 step_agrees M nodes s f (step.Leaf t) = leaf_agrees f s.next (constant_width (node_at nodes t).op) (value M nodes t)
 step_agrees M nodes s f (step.Encode t) = block_agrees f s.next (block_of s.next s.bits (node_at nodes t))
 step_agrees M nodes s f (step.Selector a t) = with_variable-agrees f s.next (is_true (value M nodes t))
-step_agrees M nodes s f (step.Chain c hints) = AgreeBelow-refl s.next f
+step_agrees M nodes s f e = AgreeBelow-refl s.next f
 
 pub steps_agree : (M : Interpretation) (nodes : List Node) (s : LogState) (f : ℕ → Bool) (log : List Entry) → AreSteps nodes s log → AgreeBelow s.next f (mean_from M nodes s f log)
 steps_agree M nodes s f [] h = AgreeBelow-refl s.next f
@@ -134,18 +133,16 @@ module _ (nodes more : List Node) where
   within t lt = omega (arith, length-append nodes more)
 
   same_after : (s : LogState) (e : Entry) → IsStep nodes s e → after (nodes ++ more) s e ≡ after nodes s e
-  same_after s (step.Node n) i = refl
   same_after s (step.Leaf t) i = ap (λ n. leaf_after s t (constant_width n.op)) (node_longer nodes more t i.term)
   same_after s (step.Encode t) i = ap (λ n. block_after s t (block_of s.next s.bits n)) (node_longer nodes more t i.term)
-  same_after s (step.Selector a t) i = refl
-  same_after s (step.Chain c hints) i = refl
+  same_after s e i = refl
 
   pub step_longer : (s : LogState) (e : Entry) → IsStep nodes s e → IsStep (nodes ++ more) s e
   step_longer s (step.Node n) i = Contains-append_left nodes more n i
   step_longer s (step.Leaf t) i = record { term = within t i.term; new = i.new; width = i.width; constant = ap (λ n. constant_width n.op) (node_longer nodes more t i.term) ∙ i.constant }
   step_longer s (step.Encode t) i = record { term = within t i.term; new = i.new; block = i.block; circuit = ap (block_of s.next s.bits) (node_longer nodes more t i.term) ∙ i.circuit }
   step_longer s (step.Selector a t) i = record { term = within t i.term; sort = sort_longer nodes more t i.term ∙ i.sort; new = i.new; bit = i.bit; encoded = i.encoded }
-  step_longer s (step.Chain c hints) i = i
+  step_longer s e i = i
 
   pub same_state : (s : LogState) (log : List Entry) → AreSteps nodes s log → state_from (nodes ++ more) s log ≡ state_from nodes s log
   same_state s [] i = refl
@@ -157,13 +154,12 @@ module _ (nodes more : List Node) where
       (step_longer s e i.0, subst (λ r. AreSteps (nodes ++ more) r log) (sym (same_after s e i.0)) (steps_longer (after nodes s e) log i.1))
 
   same_mean : (M : Interpretation) (s : LogState) (f : ℕ → Bool) (e : Entry) → IsStep nodes s e → mean_after M (nodes ++ more) s f e ≡ mean_after M nodes s f e
-  same_mean M s f (step.Node n) i = refl
   same_mean M s f (step.Leaf t) i =
       ap (λ n. leaf_mean f s.next (constant_width n.op) (value M (nodes ++ more) t)) (node_longer nodes more t i.term)
       ∙ ap (leaf_mean f s.next (constant_width (node_at nodes t).op)) (value_longer M nodes more t i.term)
   same_mean M s f (step.Encode t) i = ap (λ n. block_mean f s.next (block_of s.next s.bits n)) (node_longer nodes more t i.term)
   same_mean M s f (step.Selector a t) i = ap (λ v. with_variable f s.next (is_true v)) (value_longer M nodes more t i.term)
-  same_mean M s f (step.Chain c hints) i = refl
+  same_mean M s f e i = refl
 
   same_means : (M : Interpretation) (s : LogState) (f : ℕ → Bool) (log : List Entry) → AreSteps nodes s log → mean_from M (nodes ++ more) s f log ≡ mean_from M nodes s f log
   same_means M s f [] i = refl

@@ -140,11 +140,9 @@ same_shown v old c hints k h s =
 
 -- what is shown leaves no chain
 no_chain : (next : ℕ) (rows : List (List (List Literal))) (c : List Literal) (hints : List ClauseId) (k : Kept) → ShowsChain next rows c hints k → AreBelow next c × IsChain (clause_at rows) c hints → ⊥
-no_chain next rows c hints kept.Operator s i = s
-no_chain next rows c hints (kept.Make f) s i = s
-no_chain next rows c hints (kept.Term u) s i = s
 no_chain next rows c hints (kept.Variable x) s i = let lt = below_member next c s.0 i.0 s.1 in let e = s.2 in let le = s.3 in omega arith
 no_chain next rows c hints (kept.Chain f) s i = IsChain-no_fault (clause_at rows) c hints f i.1 s.1
+no_chain next rows c hints k s i = s
 
 pub chain_shown : (v : TermsValue) (old new : LogValue) (c : List Literal) (hints : List ClauseId) (o : Option Kept) (k : Kept) → Stands v.nodes old
     → MatchOption o (AreBelow old.next c × IsChain (clause_at old.clauses) c hints) (ShowsChain old.next old.clauses c hints) → o ≡ Some k → new ≡ old → Tried v (step.Chain c hints) old new (Some k)
@@ -177,11 +175,8 @@ answered v e old new None p r m at h a =
     subst (Answers v v e old new) (sym a) (h.0, same_terms v e m, subst (IsPushed v.nodes old new e) (sym at) h.1)
   where
     same_terms : (v : TermsValue) (e : Entry) → MakesNoTerm e → v ≡ terms_after v e
-    same_terms v (step.Node n) m = absurd m
-    same_terms v (step.Leaf t) m = refl
-    same_terms v (step.Encode t) m = refl
-    same_terms v (step.Selector a t) m = refl
-    same_terms v (step.Chain c hints) m = refl
+    same_terms v (step.Node n) m = absurd (m refl)
+    same_terms v e m = refl
 answered v e old new (Some k) p r m at h a =
     subst (Answers v v e old new) (sym a) (record { invalid = h.0; kind = refl; shown = h.1 }, refl, h.2)
 

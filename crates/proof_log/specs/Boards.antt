@@ -7,17 +7,14 @@ use Rattle.smt_terms.specs.declared.node.Node.{Node}
 use Rattle.smt_terms.specs.Terms.{TermsValue}
 use Rattle.smt_terms.specs.Bits.{TermBits, bits_in}
 use Rattle.proof_log.specs.declared.entry.Entry.{Entry}
-use Rattle.proof_log.specs.declared.entry.Entry.TheVariants as step
+use Rattle.proof_log.specs.declared.entry.Role.TheVariants as role
+use Rattle.proof_log.specs.Roles.{role_of}
 use Rattle.proof_log.specs.Logs.{clause_at, entry_at, state_of, IsLog}
 use Rattle.proof_log.specs.Stored.{LogValue}
 
 -- a step that a search adds: it makes no term, gives no term bits, and no assertion a selector
 abbrev pub IsOfSearch : Entry → Type 0
-IsOfSearch (step.Node n) = ⊥
-IsOfSearch (step.Leaf t) = ⊥
-IsOfSearch (step.Encode t) = ⊥
-IsOfSearch (step.Selector a t) = ⊥
-IsOfSearch (step.Chain c hints) = Unit {0}
+IsOfSearch e = role_of e ≡ role.Search
 
 -- the new log is the old one, then steps of searches
 pub record Grows (old new : List Entry) : Type 0 where

@@ -22,12 +22,8 @@ abbrev pub look_of : Subject → Lookup
 look_of g = clause_at (state_of g.nodes g.log).clauses
 
 abbrev pub is_chain : Option Entry → Bool
-is_chain None = false
-is_chain (Some (step.Node n)) = false
-is_chain (Some (step.Leaf t)) = false
-is_chain (Some (step.Encode t)) = false
-is_chain (Some (step.Selector a t)) = false
 is_chain (Some (step.Chain c hints)) = true
+is_chain _ = false
 
 -- ---- what is held
 

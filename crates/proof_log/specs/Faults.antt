@@ -1,5 +1,5 @@
 -- Which steps are valid against a list of terms and a log, and what shows that one is not.
-use Rattle.std.specs.Prelude.{◌≡◌, ℕ, suc, ◌≤◌, List, length, position, Option, Some, None, Result, Ok, Err, Contains}
+use Rattle.std.specs.Prelude.{◌≡◌, ◌≢◌, ℕ, suc, ◌≤◌, List, length, position, Option, Some, None, Result, Ok, Err, Contains}
 use Rattle.cnf_base.specs.Literals.{Literal}
 use Rattle.cnf_base.specs.Assignments.{AreBelow}
 use Rattle.cnf_base.specs.declared.clause.ClauseId.{ClauseId}
@@ -14,6 +14,7 @@ use Rattle.smt_terms.specs.Terms.{TermsValue, Agrees, make, with_node}
 use Rattle.hint_chain.specs.Faults.{FirstFault}
 use Rattle.proof_log.specs.declared.entry.Entry.{Entry}
 use Rattle.proof_log.specs.declared.entry.Entry.TheVariants as step
+use Rattle.proof_log.specs.declared.entry.Role.TheVariants as role
 use Rattle.proof_log.specs.declared.fault.StepKind.{StepKind}
 use Rattle.proof_log.specs.declared.fault.StepKind.TheVariants as kind
 use Rattle.proof_log.specs.declared.fault.Kept.{Kept}
@@ -21,6 +22,7 @@ use Rattle.proof_log.specs.declared.fault.StepFault.{StepFault}
 use Rattle.proof_log.specs.declared.fault.Kept.TheVariants as kept
 use Rattle.proof_log.specs.declared.fault.PushError.{PushError}
 use Rattle.proof_log.specs.declared.fault.PushError.TheVariants as push
+use Rattle.proof_log.specs.Roles.{role_of}
 use Rattle.proof_log.specs.Logs.{Asserted, LogState, clause_at, state_of, IsStep}
 use Rattle.proof_log.specs.Stored.{LogValue, IsPushed}
 
@@ -47,34 +49,21 @@ pub record IsNewNode (v : TermsValue) (n : Node) : Type 0 where
 -- the step is valid against these terms and what the log has
 abbrev pub IsValid : TermsValue → LogState → Entry → Type 0
 IsValid v s (step.Node n) = IsNewNode v n
-IsValid v s (step.Leaf t) = IsStep v.nodes s (step.Leaf t)
-IsValid v s (step.Encode t) = IsStep v.nodes s (step.Encode t)
-IsValid v s (step.Selector a t) = IsStep v.nodes s (step.Selector a t)
-IsValid v s (step.Chain c hints) = IsStep v.nodes s (step.Chain c hints)
+IsValid v s e = IsStep v.nodes s e
 
 -- the terms after the step
 abbrev pub terms_after : TermsValue → Entry → TermsValue
 terms_after v (step.Node n) = with_node v n
-terms_after v (step.Leaf t) = v
-terms_after v (step.Encode t) = v
-terms_after v (step.Selector a t) = v
-terms_after v (step.Chain c hints) = v
+terms_after v _ = v
 
 -- the step makes no term
 abbrev pub MakesNoTerm : Entry → Type 0
-MakesNoTerm (step.Node n) = ⊥
-MakesNoTerm (step.Leaf t) = Unit {0}
-MakesNoTerm (step.Encode t) = Unit {0}
-MakesNoTerm (step.Selector a t) = Unit {0}
-MakesNoTerm (step.Chain c hints) = Unit {0}
+MakesNoTerm e = role_of e ≢ role.Term
 
 -- a term that the step makes gives its declaration no other signature than the terms do
 abbrev pub IsDeclared : TermsValue → Entry → Type 0
 IsDeclared v (step.Node n) = Agrees v.nodes n.op
-IsDeclared v (step.Leaf t) = Unit {0}
-IsDeclared v (step.Encode t) = Unit {0}
-IsDeclared v (step.Selector a t) = Unit {0}
-IsDeclared v (step.Chain c hints) = Unit {0}
+IsDeclared v _ = Unit {0}
 
 abbrev pub kind_of : Entry → StepKind
 kind_of (step.Node n) = kind.Node
@@ -90,32 +79,23 @@ abbrev pub ShowsNode : TermsValue → Node → Kept → Type 0
 ShowsNode v n kept.Operator = IsGiven n.op
 ShowsNode v n (kept.Make f) = make v n ≡ Err f
 ShowsNode v n (kept.Term t) = position (same_node n) v.nodes ≡ Some t
-ShowsNode v n (kept.Variable x) = ⊥
-ShowsNode v n (kept.Chain f) = ⊥
+ShowsNode v n _ = ⊥
 
 -- the term, where no step has what it asks for
 abbrev pub ShowsTerm : ℕ → Kept → Type 0
-ShowsTerm t kept.Operator = ⊥
-ShowsTerm t (kept.Make f) = ⊥
-ShowsTerm t (kept.Term u) = u ≡ t
-ShowsTerm t (kept.Variable x) = ⊥
-ShowsTerm t (kept.Chain f) = ⊥
+ShowsTerm t k = k ≡ kept.Term t
 
 -- the term, which is no Bool with a bit, or the variable that is the assertion's selector
 abbrev pub ShowsSelector : LogState → ℕ → ℕ → Kept → Type 0
-ShowsSelector s a t kept.Operator = ⊥
-ShowsSelector s a t (kept.Make f) = ⊥
 ShowsSelector s a t (kept.Term u) = u ≡ t
 ShowsSelector s a t (kept.Variable x) = (r : Asserted) × (s.selectors a ≡ Some r) × (r.literal.variable ≡ x)
-ShowsSelector s a t (kept.Chain f) = ⊥
+ShowsSelector s a t _ = ⊥
 
 -- a variable of the clause that no step made, or the first fault of the hints
 abbrev pub ShowsChain : ℕ → List (List (List Literal)) → List Literal → List ClauseId → Kept → Type 0
-ShowsChain next rows c hints kept.Operator = ⊥
-ShowsChain next rows c hints (kept.Make f) = ⊥
-ShowsChain next rows c hints (kept.Term u) = ⊥
 ShowsChain next rows c hints (kept.Variable x) = (l : Literal) × Contains c l × (l.variable ≡ x) × (next ≤ x)
 ShowsChain next rows c hints (kept.Chain f) = AreBelow next c × FirstFault (clause_at rows) c hints f
+ShowsChain next rows c hints _ = ⊥
 
 abbrev pub Shows : TermsValue → LogState → Entry → Kept → Type 0
 Shows v s (step.Node n) k = ShowsNode v n k

@@ -1,3 +1,4 @@
+pub mod Roles
 pub mod Logs
 pub mod Meanings
 pub mod Places

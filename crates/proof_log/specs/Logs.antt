@@ -143,11 +143,11 @@ selector_after s a t (Some (bit ∷ bits)) = record {
 
 -- what the log has after the step
 abbrev pub after : List Node → LogState → Entry → LogState
-after nodes s (step.Node n) = with_row s []
 after nodes s (step.Leaf t) = leaf_after s t (constant_width (node_at nodes t).op)
 after nodes s (step.Encode t) = block_after s t (block_of s.next s.bits (node_at nodes t))
 after nodes s (step.Selector a t) = selector_after s a t (s.bits t)
 after nodes s (step.Chain c hints) = with_row s (c ∷ [])
+after nodes s _ = with_row s []
 
 -- what it has after all steps
 abbrev pub state_from : List Node → LogState → List Entry → LogState

@@ -34,11 +34,10 @@ block_mean f g (Some b) = with_gates f g b.gates
 -- What the variables mean after a step, if they meant f before it: those of a leaf the bits of its value, those of a
 -- circuit their gates, a selector the value of its assertion's term.
 abbrev pub mean_after : Interpretation → List Node → LogState → (ℕ → Bool) → Entry → ℕ → Bool
-mean_after M nodes s f (step.Node n) = f
 mean_after M nodes s f (step.Leaf t) = leaf_mean f s.next (constant_width (node_at nodes t).op) (value M nodes t)
 mean_after M nodes s f (step.Encode t) = block_mean f s.next (block_of s.next s.bits (node_at nodes t))
 mean_after M nodes s f (step.Selector a t) = with_variable f s.next (is_true (value M nodes t))
-mean_after M nodes s f (step.Chain c hints) = f
+mean_after M nodes s f _ = f
 
 abbrev pub mean_from : Interpretation → List Node → LogState → (ℕ → Bool) → List Entry → ℕ → Bool
 mean_from M nodes s f [] = f

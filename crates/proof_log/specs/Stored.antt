@@ -74,11 +74,8 @@ pub record StepValue : Type 0 where
 
 -- the clauses of a step: a chain has its own clause, another step those that were made with it
 abbrev pub clauses_of : Entry → List (List Literal) → List (List Literal)
-clauses_of (step.Node n) made = made
-clauses_of (step.Leaf t) made = made
-clauses_of (step.Encode t) made = made
-clauses_of (step.Selector a t) made = made
 clauses_of (step.Chain c hints) made = c ∷ []
+clauses_of _ made = made
 
 -- the steps in order, and the clauses of each position
 pub record StepsValue : Type 0 where

@@ -1,6 +1,7 @@
 //! The steps of a log.
 
 ghost use Rattle.std.specs.Prelude.{◌≡◌, [], IfOk, length};
+ghost use Rattle.proof_log.specs.Roles.{role_of};
 
 use cnf_base::{Clause, ClauseId};
 use smt_terms::node::{Node, TermId};
@@ -70,4 +71,32 @@ pub enum Entry {
     Selector(AssertId, TermId),
     /// A clause that follows from earlier ones.
     Chain(Clause, Hints),
+}
+
+/// What a step leaves to those behind it.
+#[derive(Clone, Copy, Debug, PartialEq, Eq)]
+pub enum Role {
+    /// A term.
+    Term,
+    /// The bits of this term.
+    Bits(TermId),
+    /// The selector of this assertion.
+    Selector(AssertId),
+    /// What a search adds.
+    Search,
+}
+
+impl Entry {
+    /// What the step leaves.
+    pub fn role(&self) -> Role
+        ensures { result ≡ role_of self.now }
+    {
+        match self {
+            Entry::Node(_) => Role::Term,
+            Entry::Leaf(term) => Role::Bits(*term),
+            Entry::Encode(term) => Role::Bits(*term),
+            Entry::Selector(assertion, _) => Role::Selector(*assertion),
+            Entry::Chain(_, _) => Role::Search,
+        }
+    }
 }

@@ -164,7 +164,7 @@ impl Log {
                 self.put_plain(alloc, over, Entry::Chain(clause, hints))?;
             }
             // Excluded by the condition on the kind.
-            Entry::Node(node) => self.put_plain(alloc, over, Entry::Node(node))?,
+            Entry::Node(_) => return Err(AllocError),
         }
         Ok(at)
     }

@@ -15,7 +15,7 @@ use Rattle.proof_log.specs.declared.entry.Entry.{Entry}
 use Rattle.proof_log.specs.declared.entry.Entry.TheVariants as step
 use Rattle.proof_log.specs.Logs.{start, clause_in, entry_at, selector_clause, state_of, IsLog}
 use Rattle.proof_log.specs.Meanings.{Owns}
-use Rattle.proof_log.specs.Places.{GivesBits}
+use Rattle.proof_log.specs.Places.{GivesBits, IsForTerm}
 use Rattle.proof_log.specs.Diaries.{is_chain}
 use Rattle.proof_log.proofs.Growth.{clause_place, steps_rows}
 use Rattle.proof_log.proofs.Ordered.{log_is_ordered}
@@ -95,19 +95,21 @@ module _ (nodes : List Node) (log : List Entry) (positions : List ℕ) (all : Is
       let r = encode_step nodes log all is p t e in
       same_bits t r.block.bits c r.bits q (each_if (λ (l : Literal). Own l.variable) r.block.bits (λ l m. block_own t p l.variable r k each (r.stands.bits l m)))
 
+  -- the step that gave a term bits is one of two kinds
+  bits_step : (t p : ℕ) (e : Entry) → slice_get log p ≡ Some e → IsForTerm t e → (slice_get log p ≡ Some (step.Leaf t)) ⊎ (slice_get log p ≡ Some (step.Encode t))
+  bits_step t p (step.Leaf u) there is_for = let own : u ≡ t = cc in inl (there ∙ ap (λ x. Some (step.Leaf x)) own)
+  bits_step t p (step.Encode u) there is_for = let own : u ≡ t = cc in inr (there ∙ ap (λ x. Some (step.Encode x)) own)
+  bits_step t p e there is_for = let f : ⊥ = cc in absurd f
+
   gives_known : (t q : ℕ) → GivesBits log t q → Contains positions q → AllByRecursion Known (node_at nodes t).args → Known t
-  gives_known t zero (inl e) k each = let f : ⊥ = cc in absurd f
-  gives_known t zero (inr e) k each = let f : ⊥ = cc in absurd f
-  gives_known t (suc p) (inl e) k each = leaf_known t p k e
-  gives_known t (suc p) (inr e) k each = encode_known t p k e each
+  gives_known t zero (e, there, is) k each = let f : ⊥ = cc in absurd f
+  gives_known t (suc p) (e, there, is) k each = ⊎_elim (λ l. leaf_known t p k l) (λ l. encode_known t p k l each) (bits_step t p e there is)
 
   -- ---- all terms, each behind its arguments
 
   gives_within : (t q : ℕ) → GivesBits log t q → t < length nodes
-  gives_within t zero (inl e) = let f : ⊥ = cc in absurd f
-  gives_within t zero (inr e) = let f : ⊥ = cc in absurd f
-  gives_within t (suc p) (inl e) = (leaf_step nodes log all is p t e).term
-  gives_within t (suc p) (inr e) = (encode_step nodes log all is p t e).term
+  gives_within t zero (e, there, is_for) = let f : ⊥ = cc in absurd f
+  gives_within t (suc p) (e, there, is_for) = ⊎_elim (λ l. (leaf_step nodes log all is p t l).term) (λ l. (encode_step nodes log all is p t l).term) (bits_step t p e there is_for)
 
   args_known : (n t : ℕ) (args : List ℕ) → ((u : ℕ) → u < n → Contains h.reached u → Known u) → t < suc n → AllByRecursion (λ a. a < t) args → ((u : ℕ) → Contains args u → Contains h.reached u) → AllByRecursion Known args
   args_known n t [] ih lt earlier among = tt
@@ -158,8 +160,9 @@ module _ (nodes : List Node) (log : List Entry) (positions : List ℕ) (all : Is
 
   position_own : (q k : ℕ) (c : List Literal) (l : Literal) → Contains positions q → IsOfTerms log h.reached q → clause_in (slice_get (state_of nodes log).clauses q) k ≡ Some c → Contains c l → Own l.variable
   position_own q k c l held (inl z) g m = first_clause k c l (ap (λ i. clause_in (slice_get (state_of nodes log).clauses i) k) (sym z) ∙ g) m
-  position_own q k c l held (inr (inl (t, in_it, inl e))) g m = absurd (leaf_clause t q k c e g)
-  position_own q k c l held (inr (inl (t, in_it, inr e))) g m = encode_clause t q k c l in_it held e g m
+  position_own zero k c l held (inr (inl (t, in_it, (e, there, is_for)))) g m = let f : ⊥ = cc in absurd f
+  position_own (suc p) k c l held (inr (inl (t, in_it, (e, there, is_for)))) g m =
+      ⊎_elim (λ r. absurd (leaf_clause t (suc p) k c r g)) (λ r. encode_clause t (suc p) k c l in_it held r g m) (bits_step t p e there is_for)
   position_own q k c l held (inr (inr (a, t, in_it, e))) g m = selector_clause_own a t q k c l in_it held e g m
 
   occurs_own : (x : ℕ) → Occurs (state_of nodes log).clauses positions x → Own x

@@ -13,6 +13,7 @@ use Rattle.bit_blast.specs.Blocks.{Block, with_first, all_bits, block_of}
 use Rattle.proof_log.specs.declared.entry.Entry.{Entry}
 use Rattle.proof_log.specs.declared.entry.Entry.TheVariants as step
 use Rattle.proof_log.specs.Logs.{LogState, start, clause_in, constant_width, IsStep, IsLeaf, IsEncoding, IsSelector, leaf_after, block_after, selector_clause, selector_after, after, state_from, state_of, AreSteps, IsLog}
+use Rattle.proof_log.specs.Stored.{clauses_of}
 use Rattle.proof_log.proofs.Ordered.{any_interpretation, log_is_ordered}
 use Rattle.proof_log.proofs.Sound.{log_suits, block_rows}
 use Rattle.proof_log.proofs.Staying.{Holds, steps_hold}
@@ -40,11 +41,9 @@ selector_row s (Some []) = []
 selector_row s (Some (bit ∷ bits)) = selector_clause s.next bit ∷ []
 
 abbrev pub row_of : List Node → LogState → Entry → List (List Literal)
-row_of nodes s (step.Node n) = []
-row_of nodes s (step.Leaf t) = []
 row_of nodes s (step.Encode t) = block_row s (block_of s.next s.bits (node_at nodes t))
 row_of nodes s (step.Selector a t) = selector_row s (s.bits t)
-row_of nodes s (step.Chain c hints) = c ∷ []
+row_of nodes s e = clauses_of e []
 
 leaf_adds : (s : LogState) (t : ℕ) (o : Option ℕ) → (leaf_after s t o).clauses ≡ s.clauses ++ [] ∷ []
 leaf_adds s t None = refl
@@ -60,11 +59,10 @@ selector_adds s a t (Some []) = refl
 selector_adds s a t (Some (bit ∷ bits)) = refl
 
 step_adds : (nodes : List Node) (s : LogState) (e : Entry) → (after nodes s e).clauses ≡ s.clauses ++ row_of nodes s e ∷ []
-step_adds nodes s (step.Node n) = refl
 step_adds nodes s (step.Leaf t) = leaf_adds s t (constant_width (node_at nodes t).op)
 step_adds nodes s (step.Encode t) = block_adds s t (block_of s.next s.bits (node_at nodes t))
 step_adds nodes s (step.Selector a t) = selector_adds s a t (s.bits t)
-step_adds nodes s (step.Chain c hints) = refl
+step_adds nodes s e = refl
 
 -- the row that a step added stays
 row_stays : (nodes : List Node) (s : LogState) (e : Entry) (log : List Entry) → slice_get (state_from nodes s (e ∷ log)).clauses (length s.clauses) ≡ Some (row_of nodes s e)

@@ -98,10 +98,7 @@ module _ (s : StateValue) (log : LogValue) (session : IsSession s log) (position
       ⊎_elim
       (λ (e : p ≡ 0). omega (arith, e))
       (λ other. ⊎_elim
-      (λ (t : IsTermStep log enough.reached p). ⊎_elim
-      (λ e. (let le = entry_within log.entries p (step.Leaf t.0) e in omega (arith, le)))
-      (λ e. (let le = entry_within log.entries p (step.Encode t.0) e in omega (arith, le)))
-      t.2)
+      (λ (t : IsTermStep log enough.reached p). (let le = entry_within log.entries p t.2.0 t.2.1 in omega (arith, le)))
       (λ (a : IsAssertionStep log s.scopes.live p). (let le = entry_within log.entries p (step.Selector a.0.assertion a.2.0) a.2.1 in omega (arith, le)))
       other)
       (All-contains (IsStepOf log enough.reached s.scopes.live) positions p enough.each.only among)
@@ -128,18 +125,12 @@ module _ (s : StateValue) (log : LogValue) (session : IsSession s log) (position
 module _ (from : List ℕ) (nodes : List Node) (s s' : LogState) (same : s'.bits ≡ s.bits) where
   same_leaf : (e : Entry) → leaf_variables from nodes s' e ≡ leaf_variables from nodes s e
   same_leaf (step.Leaf t) = ap (λ (bits : ℕ → Option (List Literal)). if is_some (constant_width (node_at nodes t).op) && is_reached from nodes t then variables_of (bits t) else []) same
-  same_leaf (step.Node n) = refl
-  same_leaf (step.Encode t) = refl
-  same_leaf (step.Selector a t) = refl
-  same_leaf (step.Chain c hints) = refl
+  same_leaf e = refl
 
   chains_split : (more : List Entry) → AllByRecursion IsOfSearch more → flat_map (leaf_variables from nodes s') more ≡ []
   chains_split [] h = refl
-  chains_split (step.Node n ∷ more) h = absurd h.0
-  chains_split (step.Leaf t ∷ more) h = absurd h.0
-  chains_split (step.Encode t ∷ more) h = absurd h.0
-  chains_split (step.Selector a t ∷ more) h = absurd h.0
-  chains_split (step.Chain c hints ∷ more) h = chains_split more h.1
+  chains_split (step.Leaf t ∷ more) h = let q = h.0 in let f : ⊥ = cc in absurd f
+  chains_split (e ∷ more) h = chains_split more h.1
 
   same_split : (log more : List Entry) → AllByRecursion IsOfSearch more → flat_map (leaf_variables from nodes s') (log ++ more) ≡ flat_map (leaf_variables from nodes s) log
   same_split [] more h = chains_split more h

@@ -30,11 +30,8 @@ use Rattle.smt_session.specs.Searched.{Problem, look_in, given_in, subject_in, I
 -- ---- a log that grew by chains
 
 is_chain_of : (e : Entry) → IsOfSearch e → is_chain (Some e) ≡ true
-is_chain_of (step.Node n) h = absurd h
-is_chain_of (step.Leaf t) h = absurd h
-is_chain_of (step.Encode t) h = absurd h
-is_chain_of (step.Selector a t) h = absurd h
 is_chain_of (step.Chain c hints) h = refl
+is_chain_of e h = let f : ⊥ = cc in absurd f
 
 chain_behind : (log more : List Entry) (k : ℕ) (e : Entry) → AllByRecursion IsOfSearch more → length log ≤ k → slice_get (log ++ more) k ≡ Some e → is_chain (Some e) ≡ true
 chain_behind [] [] k e h le q = let f : ⊥ = cc in absurd f

@@ -1,5 +1,5 @@
 -- A session goes on over the terms and the assertions that a command leaves.
-use Rattle.std.proofs.Common.{◌≡◌, ℕ, List, [], ◌∷◌, sym, subst, Some}
+use Rattle.std.proofs.Common.{◌≡◌, ℕ, List, [], ◌∷◌, refl, sym, subst, Some}
 use Rattle.std.specs.Prelude.{slice_get}
 use Rattle.script_state.specs.Readings.{Reading}
 use Rattle.script_state.specs.declared.answer.Answer.{Answer}
@@ -16,11 +16,9 @@ use Rattle.smt_session.specs.Growing.{AreStepsFor}
 use Rattle.smt_session.specs.Sessions.{IsSession}
 
 more_for : (old new : StateValue) → ((a t : ℕ) → slice_get old.scopes.terms a ≡ Some t → slice_get new.scopes.terms a ≡ Some t) → (e : Entry) → MakesNoTerm e → IsOfScript old e → IsOfScript new e
-more_for old new more (entry.Node n) k i = absurd k
-more_for old new more (entry.Leaf t) k i = tt
-more_for old new more (entry.Encode t) k i = tt
+more_for old new more (entry.Node n) k i = absurd (k refl)
 more_for old new more (entry.Selector a t) k i = more a t i
-more_for old new more (entry.Chain c hints) k i = tt
+more_for old new more e k i = tt
 
 -- steps for a script are for one with more assertions
 pub more_steps : (old new : StateValue) (es : List Entry) → ((a t : ℕ) → slice_get old.scopes.terms a ≡ Some t → slice_get new.scopes.terms a ≡ Some t) → AreStepsFor old es → AreStepsFor new es

@@ -27,7 +27,7 @@ entry_grows : (log log' : List Entry) (p : ℕ) (e : Entry) → Prolongs log log
 entry_grows log log' p e g q = entry_stays log log' p g (entry_within log p e q) ∙ q
 
 bits_given : (log log' : List Entry) (t p : ℕ) → Prolongs log log' → GivesBits log t p → GivesBits log' t p
-bits_given log log' t p g h = ⊎_elim (λ q. inl (entry_grows log log' p (step.Leaf t) g q)) (λ q. inr (entry_grows log log' p (step.Encode t) g q)) h
+bits_given log log' t p g h = (h.0, entry_grows log log' p h.0 g h.1, h.2)
 
 -- where the clauses of what is held are true, that suffices for a model
 pub satisfied : (nodes : List Node) (old new : LogValue) (from : List ℕ) (live : List Live) (positions : List ℕ) (v : ℕ → Bool) → Prolongs old.entries new.entries → AreEnough nodes old from live positions

@@ -16,6 +16,7 @@ use Rattle.proof_log.specs.Logs.{Asserted, LogState, start, clause_at, IsStep, s
 use Rattle.proof_log.specs.Faults.{IsValid, MakesNoTerm}
 use Rattle.proof_log.specs.Stored.{LogValue, Stands, selector_in}
 use Rattle.proof_log.specs.Boards.{IsOfSearch, Grows as Prolongs}
+use Rattle.proof_log.proofs.Growth.{search_step}
 use Rattle.proof_log.proofs.Ordered.{log_is_ordered}
 use Rattle.proof_log.proofs.Standing.{stands_over, some_literal}
 use Rattle.proof_log.proofs.Staying.{state_from-append, steps_parts}
@@ -30,25 +31,16 @@ use Rattle.smt_session.proofs.Giving.{bit_of}
 -- ---- the steps
 
 lined : (e : Entry) → MakesNoTerm e → IsSome (entry_line e)
-lined (step.Node n) h = absurd h
-lined (step.Leaf t) h = refl
-lined (step.Encode t) h = refl
-lined (step.Selector a t) h = refl
-lined (step.Chain c hints) h = refl
+lined (step.Node n) h = absurd (h refl)
+lined e h = refl
 
 valid : (v : TermsValue) (s : LogState) (e : Entry) → MakesNoTerm e → IsStep v.nodes s e → IsValid v s e
-valid v s (step.Node n) h i = absurd h
-valid v s (step.Leaf t) h i = i
-valid v s (step.Encode t) h i = i
-valid v s (step.Selector a t) h i = i
-valid v s (step.Chain c hints) h i = i
+valid v s (step.Node n) h i = absurd (h refl)
+valid v s e h i = i
 
 same_state : (s : StateValue) (e : Entry) → MakesNoTerm e → with_step s e ≡ s
-same_state s (step.Node n) h = absurd h
-same_state s (step.Leaf t) h = refl
-same_state s (step.Encode t) h = refl
-same_state s (step.Selector a t) h = refl
-same_state s (step.Chain c hints) h = refl
+same_state s (step.Node n) h = absurd (h refl)
+same_state s e h = refl
 
 pub all_lined : (s : StateValue) (es : List Entry) → AreStepsFor s es → AreLined es
 all_lined s [] h = tt
@@ -130,11 +122,9 @@ true_selectors s l v (a ∷ live) (x ∷ given) listed h each known e all =
 
 search_steps : (s : StateValue) (es : List Entry) → AllByRecursion IsOfSearch es → AreStepsFor s es
 search_steps s [] h = tt
-search_steps s (step.Node n ∷ es) h = absurd h.0
-search_steps s (step.Leaf t ∷ es) h = absurd h.0
-search_steps s (step.Encode t ∷ es) h = absurd h.0
-search_steps s (step.Selector a t ∷ es) h = absurd h.0
-search_steps s (step.Chain c hints ∷ es) h = ((tt, tt), search_steps s es h.1)
+search_steps s (step.Node n ∷ es) h = let q = h.0 in let f : ⊥ = cc in absurd f
+search_steps s (step.Selector a t ∷ es) h = let q = h.0 in let f : ⊥ = cc in absurd f
+search_steps s (e ∷ es) h = ((search_step e h.0, tt), search_steps s es h.1)
 
 -- a log that searches added to
 pub grows_by_searches : (s : StateValue) (old new : LogValue) → Prolongs old.entries new.entries → Stands s.terms.nodes new → Grows s old new

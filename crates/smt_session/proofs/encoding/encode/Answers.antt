@@ -15,7 +15,7 @@ push-requires-clause-valid c =
 
 pub returns-then-is_constant-clause-grows : goal.returns-then-is_constant-clause-grows
 returns-then-is_constant-clause-grows c =
-    grows_one c.args.state.now c.args.log.now c.push.new.self (step.Leaf c.args.term) c.in_ok-push.field-0 (tt, tt)
+    grows_one c.args.state.now c.args.log.now c.push.new.self (step.Leaf c.args.term) c.in_ok-push.field-0 ((λ q. let f : ⊥ = cc in f), tt)
     (pushed_over c.args.state.now c.terms-terms.result.now c.args.log.now c.push.new.self (step.Leaf c.args.term) c.in_ok-push.field-0 c.terms-terms.ensures.terms c.in_ok-push.ensures.pushed)
 
 pub returns-then-is_constant-clause-bits : goal.returns-then-is_constant-clause-bits
@@ -35,7 +35,7 @@ push-requires-2-clause-valid c =
 
 pub returns-clause-grows : goal.returns-clause-grows
 returns-clause-grows c =
-    grows_one c.args.state.now c.args.log.now c.push-2.new.self (step.Encode c.args.term) c.in_ok-push-2.field-0 (tt, tt)
+    grows_one c.args.state.now c.args.log.now c.push-2.new.self (step.Encode c.args.term) c.in_ok-push-2.field-0 ((λ q. let f : ⊥ = cc in f), tt)
     (pushed_over c.args.state.now c.terms-terms.result.now c.args.log.now c.push-2.new.self (step.Encode c.args.term) c.in_ok-push-2.field-0 c.terms-terms.ensures.terms c.in_ok-push-2.ensures.pushed)
 
 pub returns-clause-bits : goal.returns-clause-bits
