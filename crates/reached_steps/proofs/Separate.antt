@@ -160,8 +160,8 @@ module _ (nodes : List Node) (log : List Entry) (positions : List ℕ) (all : Is
 
   position_own : (q k : ℕ) (c : List Literal) (l : Literal) → Contains positions q → IsOfTerms log h.reached q → clause_in (slice_get (state_of nodes log).clauses q) k ≡ Some c → Contains c l → Own l.variable
   position_own q k c l held (inl z) g m = first_clause k c l (ap (λ i. clause_in (slice_get (state_of nodes log).clauses i) k) (sym z) ∙ g) m
-  position_own zero k c l held (inr (inl (t, in_it, e, there, is_for))) g m = let f : ⊥ = cc in absurd f
-  position_own (suc p) k c l held (inr (inl (t, in_it, e, there, is_for))) g m =
+  position_own zero k c l held (inr (inl (t, in_it, (e, there, is_for)))) g m = let f : ⊥ = cc in absurd f
+  position_own (suc p) k c l held (inr (inl (t, in_it, (e, there, is_for)))) g m =
       ⊎_elim (λ r. absurd (leaf_clause t (suc p) k c r g)) (λ r. encode_clause t (suc p) k c l in_it held r g m) (bits_step t p e there is_for)
   position_own q k c l held (inr (inr (a, t, in_it, e))) g m = selector_clause_own a t q k c l in_it held e g m
 
