@@ -11,7 +11,7 @@ use smt_terms::terms::Terms;
 use std::alloc::{AllocError, Global};
 
 /// The terms of the live assertions, and then those of the assumptions.
-fn roots(alloc: Global, state: &State) -> Result<Vec<TermId>, AllocError>
+pub fn roots(alloc: Global, state: &State) -> Result<Vec<TermId>, AllocError>
     ensures roots { IfOk result (λ r. r.items ≡ roots state.now) }
     ensures held { IfOk result (λ r. All (λ t. t < length state.now.terms.nodes) r.items) }
 {

@@ -1,8 +1,11 @@
 -- Values that are written, and models of them.
 use Rattle.std.proofs.Common.{◌≡◌, ℕ, zero, suc, ◌+◌, ◌*◌, ◌/◌, ◌%◌, ◌^◌, ◌<◌, ◌≤◌, Bool, true, false, List, [], ◌∷◌, ◌++◌, length, take, get_or, slice_get, Option, Some, refl, sym, ap, ◌∙◌, subst, arith, add-one}
-use Rattle.std.specs.Prelude.{◌==◌, All}
-use Rattle.std.proofs.lemmas.List.{take_more, take_all}
-use Rattle.std.proofs.lemmas.List.Elements.{recursion_from_All, All-more, All-same, All-weaker}
+use Rattle.std.specs.Prelude.{◌==◌, ◌&&◌, MatchBool, map}
+use Rattle.std.specs.List.{list_all}
+use Rattle.std.proofs.lemmas.List.{take_more}
+use Rattle.std.proofs.lemmas.List.Elements.{recursion_from_All}
+use Rattle.std.proofs.lemmas.List.Folds.{list_all-append, list_all-map}
+use Rattle.std.proofs.lemmas.List.Sums.{AllPass-from_list_all, list_all-from_AllPass}
 use Rattle.std.proofs.Math.Nat.{div-div-eq-div-mul, pow-succ'}
 use Rattle.smt_terms.specs.declared.sort.Sort.TheVariants as sort
 use Rattle.smt_terms.specs.declared.sort.Signature.{Signature}
@@ -12,13 +15,15 @@ use Rattle.smt_values.specs.declared.value.Value.{Value}
 use Rattle.smt_values.specs.declared.value.Value.TheVariants as kept
 use Rattle.smt_values.specs.Held.{meaning, set_for}
 use Rattle.smt_values.specs.Held as set
-use Rattle.smt_eval.specs.Evaluated.{AreValues, held_value}
+use Rattle.smt_eval.specs.Evaluated.{held_value}
+use Rattle.smt_eval.specs.Asked.{AreValuesOf}
 use Rattle.scope_selectors.specs.declared.live.Live.{Live}
 use Rattle.script_state.specs.declared.answer.Asked.{Asked}
-use Rattle.script_state.specs.States.{StateValue, IsState, IsPlainConstant, IsAssumption, assumptions}
+use Rattle.script_state.specs.States.{StateValue, IsState, IsPlainConstant, assumptions}
 use Rattle.proof_text.specs.declared.line.WrittenValue.TheVariants as written
 use Rattle.proof_text.specs.Records.{binary, written_value}
-use Rattle.accepted_proof.specs.Models.{value_for, interpretation_of}
+use Rattle.accepted_proof.specs.Models.{value_for, interpretation_of, IsModel}
+use Rattle.accepted_proof.specs.Searching.{roots}
 use Rattle.accepted_proof.proofs.Once.{no_word_bool}
 use Rattle.accepted_proof.proofs.Valuing.{binary_length, same_interpretation}
 use Rattle.cnf_base.proofs.Lists.{each_slice_get}
@@ -30,42 +35,49 @@ module _ (s : StateValue) (h : IsState s) where
   pub plain_at : (d : ℕ) (g : Signature) → slice_get s.symbols.signatures d ≡ Some g → IsPlainConstant g
   plain_at d g e = each_slice_get IsPlainConstant s.symbols.signatures d g (recursion_from_All IsPlainConstant s.symbols.signatures h.constants) e
 
--- a term's truth, as it is held
-pub truth_held : (M N : Interpretation) (s : StateValue) (values : List Value) (t : ℕ) (v : Value) (b : Bool) → M ≡ N → AreValues M s.terms.nodes values → t < length s.terms.nodes → v ≡ held_value values t → b ≡ is_true (meaning v) → is_true (value N s.terms.nodes t) ≡ b
-truth_held M N s values t v b e are lt here told =
-    ap (λ m. is_true (value m s.terms.nodes t)) (sym e) ∙ ap is_true (sym (are.means t lt)) ∙ ap (λ x. is_true (meaning x)) (sym here) ∙ sym told
+-- values of terms that are as true as the terms
+all_alike : (q : Value → Bool) (p : ℕ → Bool) (found : List Value) (ts : List ℕ) → length found ≡ length ts → ((k : ℕ) → k < length ts → q (held_value found k) ≡ p (get_or ts k 0)) → list_all q found ≡ list_all p ts
+all_alike q p [] [] n h = refl
+all_alike q p [] (t ∷ ts) n h = absurd (omega arith)
+all_alike q p (v ∷ vs) [] n h = absurd (omega arith)
+all_alike q p (v ∷ vs) (t ∷ ts) n h =
+    ap (λ b. b && list_all q vs) (h 0 (omega arith)) ∙ ap (λ b. p t && b) (all_alike q p vs ts (omega arith) (λ k lt. h (suc k) (omega arith)))
 
--- the terms of live assertions and of assumptions are held
-pub assertions_held : (s : StateValue) (live : List Live) → IsState s → live ≡ s.scopes.live → All (λ (a : Live). a.term < length s.terms.nodes) live
-assertions_held s live is e = All-same (λ (a : Live). a.term < length s.terms.nodes) live s.scopes.live e is.held
+module _ (s : StateValue) (values : List (ℕ × Value)) where
+  abbrev truth : ℕ → Bool
+  truth t = is_true (value (interpretation_of values) s.terms.nodes t)
 
-pub assumptions_held : (s : StateValue) (asked : List Asked) → IsState s → asked ≡ assumptions s → All (λ (a : Asked). a.term < length s.terms.nodes) asked
-assumptions_held s asked is e =
-    All-same (λ (a : Asked). a.term < length s.terms.nodes) asked (assumptions s) e
-    (All-weaker (IsAssumption s.terms.nodes s.symbols.live) (λ (a : Asked). a.term < length s.terms.nodes) (λ a h. h.held) (assumptions s) is.assumed)
+  abbrev live_truth : Live → Bool
+  live_truth a = truth a.term
 
--- what is found of the terms of some items, one by one
-module _ {A : Type 0} (term : A → ℕ) (items : List A) (s : StateValue) (interp : List (Option Value)) (values : List (ℕ × Value)) (evaluated : List Value) (terms : TermsValue)
-    (within : All (λ (a : A). term a < length s.terms.nodes) items) (held : terms ≡ s.terms) (given : (d : ℕ) → set_for interp d ≡ value_for values d) (are : AreValues (set.interpretation_of interp) terms.nodes evaluated) where
-  abbrev IsTrue : A → Type 0
-  IsTrue a = is_true (value (interpretation_of values) s.terms.nodes (term a)) ≡ true
+  abbrev asked_truth : Asked → Bool
+  asked_truth a = truth a.term
 
-  truth_told : (k : ℕ) (a : A) (v : Value) (b : Bool) → k < length items → a ≡ get_or items k a → v ≡ held_value evaluated (term a) → b ≡ is_true (meaning v) → is_true (value (interpretation_of values) s.terms.nodes (term a)) ≡ b
-  truth_told k a v b lt here found told =
-      let here_within : term a < length s.terms.nodes = subst (λ (x : A). term x < length s.terms.nodes) (sym here) (within k a lt) in
-      truth_held (set.interpretation_of interp) (interpretation_of values) s evaluated (term a) v b (same_interpretation interp values given) (subst (λ (w : TermsValue). AreValues (set.interpretation_of interp) w.nodes evaluated) held are) here_within found told
+  -- the values are a model exactly where all terms that a check is about are true
+  all_roots : list_all truth (roots s) ≡ (list_all live_truth s.scopes.live && list_all asked_truth (assumptions s))
+  all_roots =
+      list_all-append truth (map (λ (a : Live). a.term) s.scopes.live) (map (λ (a : Asked). a.term) (assumptions s))
+      ∙ ap (λ b. b && list_all truth (map (λ (a : Asked). a.term) (assumptions s))) (list_all-map truth (λ (a : Live). a.term) s.scopes.live)
+      ∙ ap (λ b. list_all live_truth s.scopes.live && b) (list_all-map truth (λ (a : Asked). a.term) (assumptions s))
 
-  pub all_more : (k : ℕ) (a : A) (v : Value) (b : Bool) → k < length items → a ≡ get_or items k a → v ≡ held_value evaluated (term a) → b ≡ is_true (meaning v) → b ≡ true → All IsTrue (take k items) → All IsTrue (take (k + 1) items)
-  all_more k a v b lt here found told holds before = All-more IsTrue items k a lt before (subst IsTrue here (truth_told k a v b lt here found told ∙ holds))
+  judged_roots : (b x y : Bool) → b ≡ (x && y) → list_all live_truth s.scopes.live ≡ x → list_all asked_truth (assumptions s) ≡ y → MatchBool b (IsModel s (interpretation_of values)) (IsModel s (interpretation_of values) → ⊥)
+  judged_roots true true true e l a = record { asserted = AllPass-from_list_all live_truth s.scopes.live l; assumed = AllPass-from_list_all asked_truth (assumptions s) a }
+  judged_roots true true false e l a = let f : ⊥ = cc in absurd f
+  judged_roots true false y e l a = let f : ⊥ = cc in absurd f
+  judged_roots false true true e l a = let f : ⊥ = cc in absurd f
+  judged_roots false true false e l a = λ m. let t = list_all-from_AllPass asked_truth (assumptions s) m.assumed in let f : ⊥ = cc in f
+  judged_roots false false y e l a = λ m. let t = list_all-from_AllPass live_truth s.scopes.live m.asserted in let f : ⊥ = cc in f
 
-  pub not_all : (k : ℕ) (a : A) (v : Value) (b : Bool) → k < length items → a ≡ get_or items k a → v ≡ held_value evaluated (term a) → b ≡ is_true (meaning v) → b ≡ false → All IsTrue items → ⊥
-  not_all k a v b lt here found told fails all =
-      let truth : IsTrue a = subst IsTrue (sym here) (all k a lt) in
-      let other : is_true (value (interpretation_of values) s.terms.nodes (term a)) ≡ false = truth_told k a v b lt here found told ∙ fails in
-      let f : ⊥ = cc in f
-
-  pub all_whole : (k : ℕ) → length items ≤ k → All IsTrue (take k items) → All IsTrue items
-  all_whole k le each = All-same IsTrue items (take k items) (sym (take_all k items le)) each
+  -- what is told of the values of those terms
+  pub judged : (interp : List (Option Value)) (found : List Value) (asked : List ℕ) (terms : TermsValue) (b : Bool) → terms ≡ s.terms → asked ≡ roots s → ((d : ℕ) → set_for interp d ≡ value_for values d) → AreValuesOf (set.interpretation_of interp) terms.nodes asked found → b ≡ list_all (λ v. is_true (meaning v)) found → MatchBool b (IsModel s (interpretation_of values)) (IsModel s (interpretation_of values) → ⊥)
+  judged interp found asked terms b held from given are told =
+      judged_roots b (list_all live_truth s.scopes.live) (list_all asked_truth (assumptions s)) (told ∙ all_alike (λ v. is_true (meaning v)) truth found asked are.count each ∙ ap (list_all truth) from ∙ all_roots) refl refl
+    where
+      each : (k : ℕ) → k < length asked → is_true (meaning (held_value found k)) ≡ truth (get_or asked k 0)
+      each k lt =
+          ap is_true (are.means k lt)
+          ∙ ap (λ M. is_true (value M terms.nodes (get_or asked k 0))) (same_interpretation interp values given)
+          ∙ ap (λ (v : TermsValue). is_true (value (interpretation_of values) v.nodes (get_or asked k 0))) held
 
 -- ---- digits
 

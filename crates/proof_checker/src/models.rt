@@ -1,6 +1,7 @@
 // Models.
 
 ghost use Rattle.std.specs.Prelude.{◌≡◌, ◌<◌, ◌≤◌, ◌^◌, length, Some, IfOk, MatchBool, MatchOption};
+ghost use Rattle.std.specs.List.{list_all};
 ghost use Rattle.smt_words.specs.Words.{IsWidth};
 ghost use Rattle.smt_terms.specs.Terms.{IsSort};
 ghost use Rattle.smt_terms.specs.Values.{HasSort, is_true};
@@ -12,9 +13,10 @@ ghost use Rattle.accepted_proof.specs.Models.{interpretation_of, IsModel};
 ghost use Rattle.accepted_proof.specs.Judged.{IsValueOf};
 
 use accepted_proof::interp_of;
+use check_cubes::roots;
 use proof_text::line::WrittenValue;
 use script_state::state::State;
-use smt_eval::Values;
+use smt_eval::values_of;
 use smt_terms::sort::{DeclId, Sort};
 use smt_values::Value;
 use smt_words::Word;
@@ -32,7 +34,19 @@ fn is_true(value: &Value) -> bool
     }
 }
 
-/// Whether each live assertion and each assumption is true under the values.
+/// Whether each of these values is true.
+fn are_true(values: &[Value]) -> bool
+    ensures { result ≡ list_all (λ v. is_true (meaning v)) values.now }
+{
+    for value in values {
+        if !is_true(value) {
+            return false;
+        }
+    }
+    true
+}
+
+/// Whether each live assertion and each assumption is true under the values. Terms that they do not reach are passed over.
 pub fn is_model(
     alloc: Global,
     state: &State,
@@ -43,18 +57,10 @@ pub fn is_model(
         (IsModel state.now (interpretation_of values.now) → ⊥)) }
 {
     let interp = interp_of(alloc, values)?;
-    let evaluated = Values::of(alloc, state.terms(), &interp)?;
-    for assertion in state.live() {
-        if !is_true(evaluated.get(assertion.term)) {
-            return Ok(false);
-        }
-    }
-    for assumption in state.assumptions() {
-        if !is_true(evaluated.get(assumption.term)) {
-            return Ok(false);
-        }
-    }
-    Ok(true)
+    let asked = roots(alloc, state)?;
+    let found = values_of(alloc, state.terms(), &interp, asked.as_slice())?;
+    let truths = found.as_slice();
+    Ok(are_true(truths))
 }
 
 /// The number of these binary digits, the highest first.
