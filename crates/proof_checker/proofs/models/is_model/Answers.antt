@@ -9,10 +9,10 @@ use Rattle.proof_checker.proofs.models.is_model.Goals as goal
 pub values_of-requires : goal.values_of-requires
 values_of-requires c = record {
   suited = subst (λ (v : TermsValue). AreSuited v.nodes c.in_ok-interp.interp) (sym c.terms.ensures.terms) (are_suited c.args.state.now c.terms.ensures.state c.in_ok-interp.interp);
-  held = rw c.as_slice.ensures (subst (λ (v : TermsValue). All (λ t. t < length v.nodes) c.in_ok-asked.asked.items) (sym c.terms.ensures.terms) c.in_ok-asked.ensures.held);
+  held = rw c.as_slice.ensures.value (subst (λ (v : TermsValue). All (λ t. t < length v.nodes) c.in_ok-asked.asked.items) (sym c.terms.ensures.terms) c.in_ok-asked.ensures.held);
 }
 
 pub returns : goal.returns
 returns c =
     judged c.args.state.now c.args.values.now c.in_ok-interp.interp c.as_slice-truths.result.now c.as_slice.result.now c.terms.result.now c.are_true.result c.terms.ensures.terms
-    (rw c.as_slice.ensures c.in_ok-asked.ensures.roots) c.in_ok-interp.ensures (rw c.as_slice-truths.ensures c.in_ok-found.ensures) c.are_true.ensures
+    (rw c.as_slice.ensures.value c.in_ok-asked.ensures.roots) c.in_ok-interp.ensures (rw c.as_slice-truths.ensures.value c.in_ok-found.ensures) c.are_true.ensures
