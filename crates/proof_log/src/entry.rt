@@ -1,62 +1,17 @@
 //! The steps of a log.
 
-ghost use Rattle.std.specs.Prelude.{◌≡◌, [], IfOk, length};
+ghost use Rattle.std.specs.Prelude.{◌≡◌};
 ghost use Rattle.proof_log.specs.Roles.{role_of};
 
 use cnf_base::{Clause, ClauseId};
+use plain_list::List;
 use smt_terms::node::{Node, TermId};
-use std::alloc::{AllocError, Global};
-use std::marker::Model;
 
 /// The number of an assertion, counted from 0 over a script.
 pub type AssertId = u32;
 
 /// The clauses by which a chain's clause follows, by name, in the order in which they are used.
-#[derive(Debug, Drop)]
-pub struct Hints {
-    names: Vec<ClauseId>,
-}
-
-impl Model for Hints {
-    ghost use Rattle.std.specs.Prelude.{List};
-    ghost use Rattle.cnf_base.specs.declared.clause.ClauseId.{ClauseId};
-
-    ghost Value = { List ClauseId };
-
-    ghost view = { λ h. h.names.items };
-}
-
-impl Hints {
-    /// No hint.
-    pub fn none(alloc: Global) -> Hints
-        ensures { result ≡ [] }
-    {
-        Hints {
-            names: Vec::new(alloc),
-        }
-    }
-
-    /// These hints.
-    pub fn from_vec(names: Vec<ClauseId>) -> Hints
-        ensures { result ≡ names.items }
-    {
-        Hints { names }
-    }
-
-    /// The hints, in order.
-    pub fn as_slice(&self) -> &[ClauseId]
-        ensures { result.now ≡ self.now }
-    {
-        self.names.as_slice()
-    }
-
-    /// Equal hints.
-    pub fn copy(&self, alloc: Global) -> Result<Hints, AllocError>
-        ensures { IfOk result (λ h. h ≡ self.now) }
-    {
-        Ok(Hints::from_vec(Vec::from_slice(alloc, self.names.as_slice())?))
-    }
-}
+pub type Hints = List<ClauseId>;
 
 /// A step of a log.
 #[derive(Debug, Drop)]
