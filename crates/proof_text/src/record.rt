@@ -8,6 +8,7 @@ ghost use Rattle.proof_text.specs.Records.{binary, written_value, value_lines, d
 
 use crate::write::{push_line, push_spaced, push_with_number};
 use cnf_base::Pos;
+use plain_list::List;
 use proof_log::diary::{Diary, DiaryLine};
 use smt_terms::sort::DeclId;
 use smt_text::print::whole_or_none;
@@ -15,38 +16,9 @@ use smt_text::text::Text;
 use smt_values::Value;
 use smt_words::Word;
 use std::alloc::AllocError;
-use std::marker::Model;
 
 /// The values of the live declarations, by their numbers.
-#[derive(Debug, Drop)]
-pub struct DeclaredValues {
-    items: Vec<(DeclId, Value)>,
-}
-
-impl Model for DeclaredValues {
-    ghost use Rattle.std.specs.Prelude.{List, ℕ};
-    ghost use Rattle.smt_values.specs.declared.value.Value.{Value as Held};
-
-    ghost Value = { List (ℕ × Held) };
-
-    ghost view = { λ v. v.items.items };
-}
-
-impl DeclaredValues {
-    /// These values.
-    pub fn from_vec(items: Vec<(DeclId, Value)>) -> DeclaredValues
-        ensures { result ≡ items.items }
-    {
-        DeclaredValues { items }
-    }
-
-    /// The values, in order.
-    pub fn as_slice(&self) -> &[(DeclId, Value)]
-        ensures { result.now ≡ self.now }
-    {
-        self.items.as_slice()
-    }
-}
+pub type DeclaredValues = List<(DeclId, Value)>;
 
 /// What ends a check: a model's values, the place of a refutation, or the diary of a cube on which the budget was spent.
 #[derive(Debug, Drop)]
