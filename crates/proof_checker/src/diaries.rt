@@ -36,7 +36,7 @@ fn open(
         → given.now ≡ given_literals limits s s.terms.nodes log.now.entries cube → IsNoted limits s log.now.entries (Noted n)) }
 {
     let reader = DiaryReader::new(alloc, log, given, start)?;
-    let lines = DiaryLines::new(alloc);
+    let lines = DiaryLines::none(alloc);
     Ok(Noting {
         cube,
         start,

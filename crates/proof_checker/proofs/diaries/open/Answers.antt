@@ -7,5 +7,5 @@ use Rattle.proof_checker.proofs.diaries.open.Goals as goal
 pub returns-clause-noted : goal.returns-clause-noted
 returns-clause-noted c = λ limits s stands given.
     let g = subject_of limits s s.terms.nodes c.args.log.now.entries c.args.cube c.args.start in
-    subst (λ ls. HasRead g ls c.in_ok-reader.reader) (sym c.new-lines.ensures)
+    subst (λ ls. HasRead g ls c.in_ok-reader.reader) (sym c.none-lines.ensures)
     (c.in_ok-reader.ensures g (is_about limits s c.args.log.now c.args.cube c.args.start stands) (sym given) refl)
