@@ -1,12 +1,9 @@
 //! Answers to commands, and verdicts of checks.
 
-ghost use Rattle.std.specs.Prelude.{◌≡◌};
-
 use crate::error_text::ErrorText;
+use plain_list::List;
 use smt_terms::node::TermId;
 use smt_text::text::Text;
-use std::alloc::Global;
-use std::marker::Model;
 
 /// A term that a command asks for, with its text as the command has it.
 #[derive(Debug, Drop)]
@@ -16,35 +13,7 @@ pub struct Asked {
 }
 
 /// Terms that a command asks for, in order.
-#[derive(Debug, Drop)]
-pub struct AskedTerms {
-    items: Vec<Asked>,
-}
-
-impl Model for AskedTerms {
-    ghost use Rattle.std.specs.Prelude.{List};
-    ghost use Rattle.script_state.specs.declared.answer.Asked.{Asked};
-
-    ghost Value = { List Asked };
-
-    ghost view = { λ a. a.items.items };
-}
-
-impl AskedTerms {
-    /// These terms.
-    pub fn from_vec(items: Vec<Asked>) -> AskedTerms
-        ensures { result ≡ items.items }
-    {
-        AskedTerms { items }
-    }
-
-    /// The terms, in order.
-    pub fn as_slice(&self) -> &[Asked]
-        ensures { result.now ≡ self.now }
-    {
-        self.items.as_slice()
-    }
-}
+pub type AskedTerms = List<Asked>;
 
 /// What a command comes to.
 #[derive(Debug, Drop)]
