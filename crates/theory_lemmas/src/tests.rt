@@ -104,13 +104,12 @@ fn terms_of(alloc: Global) -> Result<Option<Terms>, AllocError> {
     let Some(mut terms) = array_alone(alloc) else {
         return Ok(None);
     };
-    let mut number = 1;
     for made in &MADE {
+        let number = terms.len();
         let node = node_of(alloc, *made)?;
         if terms.make(node) != Ok(number) {
             return Ok(None);
         }
-        number += 1;
     }
     Ok(Some(terms))
 }
