@@ -28,7 +28,7 @@ pub struct Choices {
     // how many rows of the trail were seen
     seen: usize,
     conflicts: u64,
-    // the chains that may be dropped, with their worth
+    // the chains that may be dropped, with their worth: those that were learnt, and those that were taken
     chains: Vec<Pos>,
     learnt: Vec<Learnt>,
 }
@@ -143,6 +143,14 @@ impl Choices {
 
     /// Names the clause that was weighed last.
     pub(crate) fn name(&mut self, at: Pos) -> Result<(), AllocError> {
+        self.chains.push(at)?;
+        Ok(())
+    }
+
+    /// Names a chain that another search put, of so many literals: it is worth as much as a clause with a level for each.
+    pub(crate) fn take(&mut self, at: Pos, size: usize) -> Result<(), AllocError> {
+        let size = (size % (1 << 32)) as u32;
+        self.learnt.push(Learnt { glue: size, size })?;
         self.chains.push(at)?;
         Ok(())
     }

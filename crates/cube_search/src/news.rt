@@ -86,7 +86,7 @@ fn note_taken(
 }
 
 impl Search {
-    // Holds the clause of a chain, at level 0, where it has no variable of its own.
+    // Holds the clause of a chain where it has no variable of its own. It goes back no farther than the clause asks.
     fn admit(&mut self, at: Pos, clause: &Clause) -> Result<(), AllocError>
         requires trail { IsTrailOf self.old.watches self.old.trail }
         requires fresh { clause_of self.old.watches (record { pos = at; part = 0 }) ≡ None }
@@ -100,9 +100,12 @@ impl Search {
         let Some(near) = find_clause(self.alloc, &self.names, self.bound, clause)? else {
             return Ok(());
         };
-        self.go_back(0);
+        let level = self.watches.level_for(&self.trail, &near);
+        self.go_back(level);
+        let size = near.literals().len();
         self.watches
             .add(&mut self.trail, ClauseId { pos: at, part: 0 }, near)?;
+        self.choices.take(at, size)?;
         Ok(())
     }
 

@@ -1,7 +1,8 @@
-use Rattle.std.proofs.Common.{List, Some, inl, ap, ◌∙◌, subst}
+use Rattle.std.proofs.Common.{◌<◌, List, Some, inl, ap, ◌∙◌, subst, arith}
 use Rattle.std.proofs.lemmas.Option.{MatchOption-at_some}
 use Rattle.cnf_base.specs.Literals.{Literal}
 use Rattle.cdcl_core.specs.Search.{literals_of, level_of, clause_of}
+use Rattle.cdcl_learn.proofs.Orders.{rests_after}
 use Rattle.cube_search.specs.declared.search.Search.{Search}
 use Rattle.cube_search.specs.Holding.{AreAmong}
 use Rattle.cube_search.specs.Numbers.{global_found, IsNumbered}
@@ -11,6 +12,11 @@ use Rattle.cube_search.proofs.Filling.{numbered_added}
 use Rattle.cube_search.proofs.Naming.{numbers_among}
 use Rattle.cube_search.proofs.Trails.{trail_added}
 use Rattle.cube_search.proofs.search.Search.admit.Goals as goal
+
+pub add-requires-clause-rests : goal.add-requires-clause-rests
+add-requires-clause-rests c = λ j h.
+    let low : j < c.level_for-level.result = omega (arith, h, c.go_back.ensures.level) in
+    rw c.go_back.ensures.literals (rests_after (literals_of c.args.self.now.trail) c.level_for-level.result j c.in-Some.near (omega (arith, low)) (c.level_for-level.ensures.rests j low))
 
 pub returns-clause-trail : goal.returns-clause-trail
 returns-clause-trail c = trail_added c.go_back.new.self.watches c.add.new.self c.go_back.new.self.trail c.add.new.trail (record { pos = c.args.at; part = 0 }) c.in-Some.near c.go_back.ensures.trail c.in_ok-add.ensures.settled c.in_ok-add.ensures.literals
