@@ -72,8 +72,6 @@ kind_of (step.Leaf t) = kind.Leaf
 kind_of (step.Encode t) = kind.Encode
 kind_of (step.Selector a t) = kind.Selector
 kind_of (step.Chain c hints) = kind.Chain
-kind_of (step.Rewrite r t u) = kind.Rewrite
-kind_of (step.Equal t u) = kind.Equal
 
 -- ---- what shows that a step is not valid
 
@@ -106,7 +104,6 @@ Shows v s (step.Leaf t) k = ShowsTerm t k
 Shows v s (step.Encode t) k = ShowsTerm t k
 Shows v s (step.Selector a t) k = ShowsSelector s a t k
 Shows v s (step.Chain c hints) k = ShowsChain s.next s.clauses c hints k
-Shows v s _ k = k ≡ kept.NoRule
 
 -- the step is not valid, and the fault says of what kind it is and what shows it
 pub record IsFault (v : TermsValue) (s : LogState) (e : Entry) (f : StepFault) : Type 0 where

@@ -100,15 +100,13 @@ pub record IsSelector (nodes : List Node) (s : LogState) (a t : ℕ) : Type 0 wh
   pub bit : Literal
   pub encoded : s.bits t ≡ Some (bit ∷ [])
 
--- The step may stand after what the log has, over these terms, among which the term of a Node step is. Of the kinds that no rule
--- makes valid yet none may.
+-- The step may stand after what the log has, over these terms, among which the term of a Node step is.
 abbrev pub IsStep : List Node → LogState → Entry → Type 0
 IsStep nodes s (step.Node n) = Contains nodes n
 IsStep nodes s (step.Leaf t) = IsLeaf nodes s t
 IsStep nodes s (step.Encode t) = IsEncoding nodes s t
 IsStep nodes s (step.Selector a t) = IsSelector nodes s a t
 IsStep nodes s (step.Chain c hints) = AreBelow s.next c × IsChain (clause_at s.clauses) c hints
-IsStep nodes s _ = ⊥
 
 -- ---- what a step leaves
 

@@ -26,11 +26,6 @@ pub enum Entry {
     Selector(AssertId, TermId),
     /// A clause that follows from earlier ones.
     Chain(Clause, Hints),
-    /// The term `from` gets the bits of the term `to`, to which this rule, one of 1 to 40, takes it. No rule makes such a step
-    /// valid yet.
-    Rewrite { rule: u8, from: TermId, to: TermId },
-    /// A variable that is true where two terms are equal. No rule makes such a step valid yet.
-    Equal(TermId, TermId),
 }
 
 /// What a step leaves to those behind it.
@@ -55,10 +50,8 @@ impl Entry {
             Entry::Node(_) => Role::Term,
             Entry::Leaf(term) => Role::Bits(*term),
             Entry::Encode(term) => Role::Bits(*term),
-            Entry::Rewrite { from, .. } => Role::Bits(*from),
             Entry::Selector(assertion, _) => Role::Selector(*assertion),
             Entry::Chain(_, _) => Role::Search,
-            Entry::Equal(_, _) => Role::Search,
         }
     }
 }

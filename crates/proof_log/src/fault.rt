@@ -13,8 +13,6 @@ pub enum StepKind {
     Encode,
     Selector,
     Chain,
-    Rewrite,
-    Equal,
 }
 
 /// What shows that a step is not valid.
@@ -30,8 +28,6 @@ pub enum Kept {
     Variable(u64),
     /// The first fault of the hints.
     Chain(ChainFault),
-    /// No rule makes a step of the kind valid.
-    NoRule,
 }
 
 /// Why a step is not valid: of what kind it is, and what shows it.

@@ -163,10 +163,8 @@ impl Log {
             Entry::Chain(clause, hints) => {
                 self.put_plain(alloc, over, Entry::Chain(clause, hints))?;
             }
-            // Excluded by the conditions: a Node by its kind, the others since no rule makes them valid.
-            Entry::Node(_) | Entry::Rewrite { .. } | Entry::Equal(_, _) => {
-                return Err(AllocError);
-            }
+            // Excluded by the condition on the kind.
+            Entry::Node(_) => return Err(AllocError),
         }
         Ok(at)
     }
@@ -220,8 +218,6 @@ impl Log {
                 at,
                 self.chain(alloc, terms, clause, hints)?,
             ),
-            Entry::Rewrite { .. } => Err(refused(StepKind::Rewrite, Kept::NoRule)),
-            Entry::Equal(_, _) => Err(refused(StepKind::Equal, Kept::NoRule)),
         }
     }
 

@@ -70,8 +70,6 @@ enum Given {
     Selector(AssertId, TermId),
     // The clause that variable 2 is false, by these hints.
     Refuted(&'static [ClauseId]),
-    Rewrite(TermId, TermId),
-    Equal(TermId, TermId),
 }
 
 // What is seen of a log. A literal is its variable, and whether it is positive.
@@ -198,8 +196,6 @@ fn entry_of(alloc: Global, given: Given) -> Result<Entry, AllocError>
         Given::Encode(term) => Ok(Entry::Encode(term)),
         Given::Selector(assertion, term) => Ok(Entry::Selector(assertion, term)),
         Given::Refuted(hints) => refuted(alloc, hints),
-        Given::Rewrite(from, to) => Ok(Entry::Rewrite { rule: 1, from, to }),
-        Given::Equal(first, second) => Ok(Entry::Equal(first, second)),
     }
 }
 
@@ -309,9 +305,6 @@ fn a_refused_step_shows_its_term(rt: HostRuntime) -> Result<(), Fail> {
                 fault(StepKind::Selector, Kept::Term(0)),
             ),
             Step::Try(Given::True, fault(StepKind::Node, Kept::Term(0))),
-            Step::Try(Given::Rewrite(0, 0), fault(StepKind::Rewrite, Kept::NoRule)),
-            Step::Try(Given::Equal(0, 1), fault(StepKind::Equal, Kept::NoRule)),
-            Step::See(Seen::Counts(1, 0)),
         ],
     )
 }

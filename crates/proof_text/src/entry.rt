@@ -132,8 +132,6 @@ fn push_entry(entry: &Entry, out: &mut Text) -> Result<(), AllocError>
         Entry::Encode(term) => push_line(out, b"e", *term as u64),
         Entry::Selector(assertion, _) => push_line(out, b"s", *assertion as u64),
         Entry::Chain(clause, hints) => push_chain(clause, hints, out),
-        // Excluded by the condition: these have no line yet.
-        Entry::Rewrite { .. } | Entry::Equal(_, _) => Ok(()),
     }
 }
 

@@ -113,8 +113,6 @@ pub(crate) fn read_step(entry: &Entry)
             let _number = *assertion;
         }
         Entry::Chain(clause, hints) => read_chain(clause, hints),
-        // These have no line.
-        Entry::Rewrite { .. } | Entry::Equal(_, _) => {}
     }
 }
 
