@@ -19,7 +19,7 @@ rise_from : (low a high : ℕ) (xs : List ℕ) → low ≤ a → Rise a high xs 
 rise_from low a high [] le h = omega arith
 rise_from low a high (x ∷ xs) le h = let first = h.0 in (omega arith, h.1)
 
-rise_ends : (low high : ℕ) (xs : List ℕ) → Rise low high xs → low ≤ high
+pub rise_ends : (low high : ℕ) (xs : List ℕ) → Rise low high xs → low ≤ high
 rise_ends low high [] h = h
 rise_ends low high (x ∷ xs) h = let first = h.0 in let rest = rise_ends (suc x) high xs h.1 in omega (arith, first, rest)
 

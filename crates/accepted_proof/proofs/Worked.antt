@@ -17,7 +17,7 @@ use Rattle.smt_terms.specs.Nodes.{leaf, node_of, below}
 use Rattle.scope_selectors.specs.declared.live.Live.{Live}
 use Rattle.scope_selectors.specs.Cores.{stands}
 use Rattle.scope_selectors.proofs.Standing.{standing_contained, contains_standing}
-use Rattle.script_state.specs.States.{StateValue, no_state}
+use Rattle.script_state.specs.States.{StateValue, no_state, roots}
 use Rattle.proof_log.specs.declared.entry.Entry.{Entry}
 use Rattle.proof_log.specs.declared.entry.Entry.TheVariants as step
 use Rattle.proof_log.specs.declared.diary.Diary.{Diary}
@@ -30,7 +30,7 @@ use Rattle.proof_log.proofs.Growth.{clause_stays, entry_within}
 use Rattle.proof_text.specs.declared.line.Line.TheVariants as line
 use Rattle.proof_text.specs.declared.record.Record.TheVariants as shown
 use Rattle.proof_text.specs.Records.{record_lines}
-use Rattle.accepted_proof.specs.Searching.{Limits, roots, split_variables, cube_variables, given_literals, HasSelector, HasBit, IsSearch, subject_of, IsUnknown}
+use Rattle.accepted_proof.specs.Searching.{Limits, split_variables, cube_variables, given_literals, HasSelector, HasBit, IsSearch, subject_of, IsUnknown}
 
 -- p, q, then `(or p q)`, `(not q)`, `(or p (not q))`, `(not p)`, `(or (not p) q)` and `(or (not p) (not q))`
 abbrev terms : List Node

@@ -9,7 +9,7 @@ use Rattle.smt_terms.specs.Nodes.{node_at}
 use Rattle.smt_build.specs.Definitions.{reaches}
 use Rattle.scope_selectors.specs.declared.live.Live.{Live}
 use Rattle.script_state.specs.declared.answer.Asked.{Asked}
-use Rattle.script_state.specs.States.{StateValue, assumptions}
+use Rattle.script_state.specs.States.{StateValue, assumptions, roots}
 use Rattle.proof_log.specs.declared.entry.Entry.{Entry}
 use Rattle.proof_log.specs.declared.entry.Entry.TheVariants as entry
 use Rattle.proof_log.specs.declared.diary.Diary.{Diary}
@@ -30,10 +30,6 @@ pub record AreLimits (limits : Limits) : Type 0 where
   pub budget : limits.budget ≤ 1000000000
 
 -- ---- cubes
-
--- the terms that a check is about
-abbrev pub roots : StateValue → List ℕ
-roots s = map (λ (a : Live). a.term) s.scopes.live ++ map (λ (a : Asked). a.term) (assumptions s)
 
 -- one of these reaches the term
 abbrev pub is_reached : List ℕ → List Node → ℕ → Bool

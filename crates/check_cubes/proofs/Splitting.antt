@@ -7,13 +7,13 @@ use Rattle.cnf_base.specs.Literals.{Literal}
 use Rattle.smt_terms.specs.declared.node.Node.{Node}
 use Rattle.smt_terms.specs.Nodes.{node_at}
 use Rattle.smt_terms.specs.Bits.{bits_in}
-use Rattle.script_state.specs.States.{StateValue}
+use Rattle.script_state.specs.States.{StateValue, roots}
 use Rattle.proof_log.specs.declared.entry.Entry.{Entry}
 use Rattle.proof_log.specs.declared.entry.Entry.TheVariants as entry
 use Rattle.proof_log.specs.Logs.{LogState, constant_width, entry_at, state_of, start}
 use Rattle.proof_log.specs.Stored.{LogValue, IsKept}
 use Rattle.proof_log.proofs.Staying.{Holds-refl}
-use Rattle.accepted_proof.specs.Searching.{Limits, Rise, roots, is_reached, variables_of, leaf_variables, split_variables, cube_variables, bits_or_none}
+use Rattle.accepted_proof.specs.Searching.{Limits, Rise, is_reached, variables_of, leaf_variables, split_variables, cube_variables, bits_or_none}
 use Rattle.accepted_proof.proofs.Splitting.{rise_take, steps_rise}
 use Rattle.check_cubes.specs.Searches.{leaf_bits}
 

@@ -5,7 +5,7 @@ ghost use Rattle.std.specs.List.{flat_map};
 ghost use Rattle.smt_terms.specs.Nodes.{node_at};
 ghost use Rattle.proof_log.specs.declared.entry.Entry.TheVariants as step;
 ghost use Rattle.proof_log.specs.Logs.{constant_width, entry_at};
-ghost use Rattle.accepted_proof.specs.Searching.{roots};
+ghost use Rattle.script_state.specs.States.{roots};
 ghost use Rattle.check_cubes.specs.Searches.{mark_of, AreReached, leaf_bits};
 
 use cnf_base::{Lit, Pos};

@@ -2,28 +2,13 @@
 
 ghost use Rattle.std.specs.Prelude.{◌≡◌, ◌<◌, ◌==◌, ◌||◌, ℕ, All, IfOk, length};
 ghost use Rattle.std.specs.List.{list_any};
-ghost use Rattle.accepted_proof.specs.Searching.{roots};
+ghost use Rattle.script_state.specs.States.{roots};
 ghost use Rattle.check_cubes.specs.Searches.{mark_of, AreReached};
 
 use script_state::state::State;
 use smt_terms::node::TermId;
 use smt_terms::terms::Terms;
 use std::alloc::{AllocError, Global};
-
-/// The terms of the live assertions, and then those of the assumptions.
-pub fn roots(alloc: Global, state: &State) -> Result<Vec<TermId>, AllocError>
-    ensures roots { IfOk result (λ r. r.items ≡ roots state.now) }
-    ensures held { IfOk result (λ r. All (λ t. t < length state.now.terms.nodes) r.items) }
-{
-    let mut found = Vec::new(alloc);
-    'live: for assertion in state.live() {
-        found.push(assertion.term)?;
-    }
-    'assumed: for assumption in state.assumptions() {
-        found.push(assumption.term)?;
-    }
-    Ok(found)
-}
 
 /// Gives each of these terms its mark.
 fn mark_all(marks: &mut Vec<bool>, terms: &[TermId])
@@ -58,7 +43,7 @@ pub(crate) fn reached(alloc: Global, state: &State) -> Result<Vec<bool>, AllocEr
     ensures { IfOk result (λ marks. AreReached (roots state.now) state.now.terms.nodes marks.items) }
 {
     let terms = state.terms();
-    let from = roots(alloc, state)?;
+    let from = state.roots(alloc)?;
     let mut marks = Vec::new(alloc);
     marks.resize(terms.len() as usize, false)?;
     mark_all(&mut marks, from.as_slice());

@@ -19,11 +19,10 @@ use Rattle.smt_eval.specs.Evaluated.{held_value}
 use Rattle.smt_eval.specs.Asked.{AreValuesOf}
 use Rattle.scope_selectors.specs.declared.live.Live.{Live}
 use Rattle.script_state.specs.declared.answer.Asked.{Asked}
-use Rattle.script_state.specs.States.{StateValue, IsState, IsPlainConstant, assumptions}
+use Rattle.script_state.specs.States.{StateValue, IsState, IsPlainConstant, assumptions, roots}
 use Rattle.proof_text.specs.declared.line.WrittenValue.TheVariants as written
 use Rattle.proof_text.specs.Records.{binary, written_value}
 use Rattle.accepted_proof.specs.Models.{value_for, interpretation_of, IsModel}
-use Rattle.accepted_proof.specs.Searching.{roots}
 use Rattle.accepted_proof.proofs.Once.{no_word_bool}
 use Rattle.accepted_proof.proofs.Valuing.{binary_length, same_interpretation}
 use Rattle.cnf_base.proofs.Lists.{each_slice_get}

@@ -13,7 +13,6 @@ ghost use Rattle.accepted_proof.specs.Models.{interpretation_of, IsModel};
 ghost use Rattle.accepted_proof.specs.Judged.{IsValueOf};
 
 use accepted_proof::interp_of;
-use check_cubes::roots;
 use proof_text::line::WrittenValue;
 use script_state::state::State;
 use smt_eval::values_of;
@@ -57,7 +56,7 @@ pub fn is_model(
         (IsModel state.now (interpretation_of values.now) → ⊥)) }
 {
     let interp = interp_of(alloc, values)?;
-    let asked = roots(alloc, state)?;
+    let asked = state.roots(alloc)?;
     let found = values_of(alloc, state.terms(), &interp, asked.as_slice())?;
     let truths = found.as_slice();
     Ok(are_true(truths))

@@ -10,6 +10,7 @@ pub mod Naming
 pub mod Asking
 pub mod Gathering
 pub mod Listing
+pub mod Roots
 pub mod Writing
 pub mod Judging
 pub mod Cases

@@ -1,5 +1,5 @@
 -- The state of a session (SMT-LIB 2.6, section 4.1).
-use Rattle.std.specs.Prelude.{◌≡◌, ℕ, ◌<◌, ◌≤◌, ◌^◌, Bool, true, List, [], length, slice_get, take, All, AllPairs, Option, Some, None}
+use Rattle.std.specs.Prelude.{◌≡◌, ℕ, ◌<◌, ◌≤◌, ◌^◌, ◌++◌, Bool, true, List, [], length, map, slice_get, take, All, AllPairs, Option, Some, None}
 use Rattle.std.specs.List.{AllByRecursion}
 use Rattle.smt_terms.specs.declared.sort.Sort.{Sort}
 use Rattle.smt_terms.specs.declared.sort.Sort.TheVariants as sort
@@ -38,6 +38,10 @@ all_asked (Some asked) = asked
 -- the assumptions of the check that stands, or of the one that is begun
 abbrev pub assumptions : StateValue → List Asked
 assumptions s = all_asked s.assumed
+
+-- the terms that a check is about: those of the live assertions, and then those of the assumptions
+abbrev pub roots : StateValue → List ℕ
+roots s = map (λ (a : Live). a.term) s.scopes.live ++ map (λ (a : Asked). a.term) (assumptions s)
 
 -- the live names stand for declarations that were made, in the order in which they were
 pub record AreLive (v : SymbolsValue) : Type 0 where

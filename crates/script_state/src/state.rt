@@ -1,8 +1,8 @@
 //! The state of a session, and its steps.
 
-ghost use Rattle.std.specs.Prelude.{◌≡◌, ◌+◌, ◌<◌, ◌^◌, slice_get};
+ghost use Rattle.std.specs.Prelude.{◌≡◌, ◌+◌, ◌<◌, ◌^◌, All, IfOk, length, slice_get};
 ghost use Rattle.std.specs.Option.{option_copied};
-ghost use Rattle.script_state.specs.States.{assumptions, no_state, concluded, with_terms, IsState, Fit};
+ghost use Rattle.script_state.specs.States.{assumptions, roots, no_state, concluded, with_terms, IsState, Fit};
 ghost use Rattle.script_state.specs.Steps.{forgotten, Applies};
 
 use crate::answer::{Answer, Asked, AskedTerms, Verdict};
@@ -12,6 +12,7 @@ use crate::plain::cut;
 use scope_selectors::live::Live;
 use scope_selectors::scopes::Scopes;
 use smt_build::symbols::{LiveName, Symbols};
+use smt_terms::node::TermId;
 use smt_terms::sort::{DeclId, Signature};
 use smt_terms::terms::Terms;
 use smt_text::chunk::{Chunk, ChunkKind};
@@ -209,6 +210,22 @@ impl State {
         ensures state { IsState self.now }
     {
         self.scopes.live()
+    }
+
+    /// The terms of the live assertions, and then those of the assumptions.
+    pub fn roots(&self, alloc: Global) -> Result<Vec<TermId>, AllocError>
+        ensures roots { IfOk result (λ r. r.items ≡ roots self.now) }
+        ensures held { IfOk result (λ r. All (λ t. t < length self.now.terms.nodes) r.items) }
+        ensures state { IsState self.now }
+    {
+        let mut found = Vec::new(alloc);
+        'live: for assertion in self.live() {
+            found.push(assertion.term)?;
+        }
+        'assumed: for assumption in self.assumptions() {
+            found.push(assumption.term)?;
+        }
+        Ok(found)
     }
 
     /// The live names, in the order of their declarations.

@@ -16,7 +16,7 @@ use Rattle.smt_values.specs.declared.value.Value.{Value}
 use Rattle.local_names.specs.Names.{global_values}
 use Rattle.scope_selectors.specs.declared.live.Live.{Live}
 use Rattle.script_state.specs.declared.answer.Asked.{Asked}
-use Rattle.script_state.specs.States.{StateValue, assumptions}
+use Rattle.script_state.specs.States.{StateValue, assumptions, roots}
 use Rattle.proof_log.specs.declared.entry.Entry.{Entry}
 use Rattle.proof_log.specs.declared.entry.Entry.TheVariants as step
 use Rattle.proof_log.specs.declared.diary.Diary.{Diary}
@@ -33,7 +33,7 @@ use Rattle.proof_text.specs.Records.{AreWritten}
 use Rattle.proof_text.specs.declared.record.Record.{Record}
 use Rattle.proof_text.specs.declared.record.Record.TheVariants.{Sat, Unsat, Unknown}
 use Rattle.accepted_proof.specs.Models.{IsWrittenModel}
-use Rattle.accepted_proof.specs.Searching.{Limits, roots, is_reached, variables_of, leaf_variables, Rise, cube_variables, selector_literals, bits_or_none, given_literals, HasSelector, HasBit, IsUnknown}
+use Rattle.accepted_proof.specs.Searching.{Limits, is_reached, variables_of, leaf_variables, Rise, cube_variables, selector_literals, bits_or_none, given_literals, HasSelector, HasBit, IsUnknown}
 use Rattle.reached_steps.specs.Reached.{IsOfTerms, AreReachedSteps, AddsNoVariable}
 use Rattle.reached_steps.proofs.Separate.{reached_are_separate}
 use Rattle.reached_steps.proofs.Adding.{still_separate}

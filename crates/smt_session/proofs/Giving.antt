@@ -15,14 +15,13 @@ use Rattle.smt_terms.specs.Bits.{bits_in}
 use Rattle.smt_terms.specs.Terms.{IsTermList, sort_of}
 use Rattle.scope_selectors.specs.declared.live.Live.{Live}
 use Rattle.script_state.specs.declared.answer.Asked.{Asked}
-use Rattle.script_state.specs.States.{StateValue, IsState, IsAssumption, assumptions}
+use Rattle.script_state.specs.States.{StateValue, IsState, IsAssumption, assumptions, roots}
 use Rattle.proof_log.specs.Logs.{plain_width, state_of}
 use Rattle.proof_log.specs.Stored.{LogValue, Stands, selector_in}
 use Rattle.proof_log.proofs.Ordered.{log_is_ordered}
 use Rattle.proof_log.proofs.Settled.{stands_settled}
 use Rattle.proof_log.proofs.Standing.{stands_over, some_literal}
 use Rattle.smt_session.specs.Growing.{Grows, HasBit, HasBits, AreBits, AreGiven, AreSelectors}
-use Rattle.accepted_proof.specs.Searching.{roots}
 use Rattle.smt_session.specs.Searched.{HasTrueBit}
 use Rattle.smt_session.proofs.Roots.{roots_assumed}
 use Rattle.smt_session.proofs.Staying.{bit_stays, bits_stay, selectors_stay}

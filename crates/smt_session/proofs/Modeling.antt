@@ -34,7 +34,7 @@ use Rattle.smt_build.specs.declared.symbols.LiveName.{LiveName}
 use Rattle.smt_build.specs.Scoped.{is_live, is_over}
 use Rattle.smt_build.proofs.ScopedValues.{AgreeOn, value_is_over}
 use Rattle.smt_terms.specs.Ranks as ranks
-use Rattle.script_state.specs.States.{StateValue, IsState, assumptions}
+use Rattle.script_state.specs.States.{StateValue, IsState, assumptions, roots}
 use Rattle.proof_log.specs.Logs.{plain_width, constant_width}
 use Rattle.proof_log.specs.Stored.{LogValue, Stands}
 use Rattle.proof_log.proofs.Assigned.{terms_valued}
@@ -44,7 +44,6 @@ use Rattle.proof_text.specs.declared.record.Record.TheVariants.{Sat}
 use Rattle.accepted_proof.specs.Models.{IsModel, value_for, interpretation_of, IsOfSignature, IsWrittenModel}
 use Rattle.local_names.specs.Names.{AreNames, global, number_of, global_values}
 use Rattle.local_names.proofs.Numbers.{literal_value, value_without}
-use Rattle.accepted_proof.specs.Searching.{roots}
 use Rattle.smt_session.specs.Searched.{AreSatisfied, HasTrueBit, HasTrueSelector}
 use Rattle.smt_session.proofs.Roots.{roots_live, roots_assumed}
 use Rattle.smt_session.specs.Modeled.{IsValueIn, IsDeclaredValue, AreDeclaredValues}

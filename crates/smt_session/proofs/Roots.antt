@@ -4,8 +4,7 @@ use Rattle.std.specs.Prelude.{All}
 use Rattle.std.proofs.lemmas.List.Elements.{All-from_recursion, recursion_from_All, All-weaker}
 use Rattle.scope_selectors.specs.declared.live.Live.{Live}
 use Rattle.script_state.specs.declared.answer.Asked.{Asked}
-use Rattle.script_state.specs.States.{StateValue, IsState, IsAssumption, assumptions}
-use Rattle.accepted_proof.specs.Searching.{roots}
+use Rattle.script_state.specs.States.{StateValue, IsState, IsAssumption, assumptions, roots}
 use Rattle.smt_session.specs.Reaching.{IsPlainTerm}
 use Rattle.cnf_base.proofs.Lists.{each_append, each_front, each_behind, each_map, each_mapped}
 

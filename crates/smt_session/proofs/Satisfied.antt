@@ -6,7 +6,7 @@ use Rattle.cnf_base.specs.Literals.{Literal}
 use Rattle.cnf_base.proofs.Options.{IsSome-from}
 use Rattle.smt_terms.specs.declared.node.Node.{Node}
 use Rattle.scope_selectors.specs.declared.live.Live.{Live}
-use Rattle.script_state.specs.States.{StateValue, IsState}
+use Rattle.script_state.specs.States.{StateValue, IsState, roots}
 use Rattle.proof_log.specs.declared.entry.Entry.{Entry}
 use Rattle.proof_log.specs.declared.entry.Entry.TheVariants as step
 use Rattle.proof_log.specs.Boards.{Grows as Prolongs}
@@ -16,7 +16,6 @@ use Rattle.proof_log.specs.Stored.{LogValue, Stands, selector_in}
 use Rattle.proof_log.specs.Assigned.{IsTrueAt}
 use Rattle.proof_log.proofs.Growth.{entry_stays, entry_within}
 use Rattle.smt_session.specs.Growing.{Grows, HasBits, AreSelectors}
-use Rattle.accepted_proof.specs.Searching.{roots}
 use Rattle.smt_session.specs.Reaching.{IsPlainTerm, AreOrdered}
 use Rattle.smt_session.specs.Searched.{IsHeldTerm, IsHeldAssertion, ArePositions, AreEnough, AreSatisfied}
 use Rattle.smt_session.proofs.Roots.{roots_plain}

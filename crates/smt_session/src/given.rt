@@ -5,7 +5,7 @@ ghost use Rattle.smt_terms.specs.Bits.{bits_in};
 ghost use Rattle.script_state.specs.declared.answer.Asked.{Asked as AskedValue};
 ghost use Rattle.proof_log.specs.Stored.{Stands};
 ghost use Rattle.smt_session.specs.Growing.{Grows, HasBit, HasBits, AreBits, AreGiven};
-ghost use Rattle.accepted_proof.specs.Searching.{roots};
+ghost use Rattle.script_state.specs.States.{roots};
 
 use crate::encoding::select_all;
 use cnf_base::Lit;

@@ -10,13 +10,12 @@ ghost use Rattle.smt_terms.specs.Same.{same_node};
 ghost use Rattle.smt_terms.specs.Terms.{AreTerms, IsSort};
 ghost use Rattle.bit_blast.specs.Assigned.{IsLongAsWord};
 ghost use Rattle.smt_terms.specs.Ranks as ranks;
-ghost use Rattle.script_state.specs.States.{IsState, assumptions};
+ghost use Rattle.script_state.specs.States.{IsState, assumptions, roots};
 ghost use Rattle.cube_search.specs.Ends.{assignment};
 ghost use Rattle.proof_log.specs.Stored.{Stands};
 ghost use Rattle.proof_text.specs.Records.{AreWritten};
 ghost use Rattle.proof_text.specs.declared.record.Record.TheVariants.{Sat};
 ghost use Rattle.accepted_proof.specs.Models.{IsWrittenModel};
-ghost use Rattle.accepted_proof.specs.Searching.{roots};
 ghost use Rattle.smt_session.specs.Searched.{AreSatisfied, HasTrueBit, HasTrueSelector};
 ghost use Rattle.smt_session.specs.Modeled.{IsValueIn, AreDeclaredValues};
 

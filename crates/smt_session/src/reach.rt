@@ -1,7 +1,7 @@
 // Which terms some terms reach, through all arguments.
 
 ghost use Rattle.std.specs.Prelude.{◌≡◌, All, IfOk, Contains};
-ghost use Rattle.accepted_proof.specs.Searching.{roots};
+ghost use Rattle.script_state.specs.States.{roots};
 ghost use Rattle.smt_session.specs.Reaching.{IsPlainTerm, AreLeast, AreOrdered};
 
 use crate::waiting::Waiting;
@@ -15,14 +15,7 @@ pub(crate) fn roots(alloc: Global, state: &State) -> Result<Vec<TermId>, AllocEr
     ensures roots { IfOk result (λ r. r.items ≡ roots state.now) }
     ensures plain { IfOk result (λ r. All (IsPlainTerm state.now.terms.nodes) r.items) }
 {
-    let mut found = Vec::new(alloc);
-    'live: for assertion in state.live() {
-        found.push(assertion.term)?;
-    }
-    'assumed: for assumption in state.assumptions() {
-        found.push(assumption.term)?;
-    }
-    Ok(found)
+    state.roots(alloc)
 }
 
 /// The terms that plain terms reach, themselves among them, and no others: each once, the last made first.

@@ -1,4 +1,4 @@
-use Rattle.accepted_proof.specs.Searching.{roots}
+use Rattle.script_state.specs.States.{roots}
 use Rattle.check_cubes.specs.Searches.{leaf_bits}
 use Rattle.check_cubes.proofs.Splitting.{bits_more}
 use Rattle.check_cubes.proofs.leaves.split_bits.Goals as goal

@@ -1,5 +1,5 @@
 use Rattle.std.proofs.Common.{◌≡◌, ◌-◌, flat_map, take}
-use Rattle.accepted_proof.specs.Searching.{roots}
+use Rattle.script_state.specs.States.{roots}
 use Rattle.check_cubes.specs.Searches.{leaf_bits}
 use Rattle.check_cubes.proofs.leaves.split_bits.Given as goal
 

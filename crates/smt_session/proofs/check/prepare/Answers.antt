@@ -3,7 +3,7 @@ use Rattle.std.specs.Prelude.{All, IsSome}
 use Rattle.scope_selectors.specs.declared.live.Live.{Live}
 use Rattle.proof_log.specs.Stored.{selector_in}
 use Rattle.smt_session.specs.Growing.{HasBits}
-use Rattle.accepted_proof.specs.Searching.{roots}
+use Rattle.script_state.specs.States.{roots}
 use Rattle.smt_session.specs.Reaching.{AreOrdered}
 use Rattle.smt_session.specs.Searched.{ArePositions}
 use Rattle.smt_session.proofs.Staying.{grows_more}
