@@ -131,6 +131,12 @@ same_chains c d hs is l p q =
 -- a line is that of one step of the script
 pub same_entry : (s : StateValue) (l : Line) (e d : Entry) → entry_line e ≡ Some l → entry_line d ≡ Some l → IsOfScript s e → IsOfScript s d → e ≡ d
 same_entry s l (entry.Node n) (entry.Node m) p q i j = ap entry.Node (same_terms s l n m p q i j)
+same_entry s l (entry.Rewrite r) _ p q i j = let f : ⊥ = cc in absurd f
+same_entry s l (entry.Equal t u) _ p q i j = let f : ⊥ = cc in absurd f
+same_entry s l (entry.Lemma a) _ p q i j = let f : ⊥ = cc in absurd f
+same_entry s l _ (entry.Rewrite r) p q i j = let f : ⊥ = cc in absurd f
+same_entry s l _ (entry.Equal t u) p q i j = let f : ⊥ = cc in absurd f
+same_entry s l _ (entry.Lemma a) p q i j = let f : ⊥ = cc in absurd f
 same_entry s l (entry.Node n) _ p q i j = absurd (not_term _ _ l _ p q refl)
 same_entry s l _ (entry.Node n) p q i j = absurd (not_term _ _ l _ q p refl)
 same_entry s l (entry.Leaf t) (entry.Leaf u) p q i j = cc

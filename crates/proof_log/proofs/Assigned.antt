@@ -1,5 +1,5 @@
 -- An assignment that makes the clauses of the steps of some terms true gives these terms the bits of their values.
-use Rattle.std.proofs.Common.{◌≡◌, ℕ, zero, suc, ◌<◌, Bool, true, false, not, ◌||◌, List, [], ◌∷◌, ◌++◌, length, map, Option, Some, None, refl, sym, ap, ◌∙◌, subst, ⊎_elim, arith}
+use Rattle.std.proofs.Common.{◌≡◌, ℕ, zero, suc, ◌<◌, Bool, true, false, not, ◌||◌, List, [], ◌∷◌, ◌++◌, length, map, Option, Some, None, refl, sym, ap, ◌∙◌, subst, arith}
 use Rattle.std.specs.Prelude.{Contains, slice_get}
 use Rattle.std.specs.List.{AllByRecursion}
 use Rattle.std.proofs.lemmas.List.Elements.{Contains-append_right}
@@ -175,6 +175,7 @@ module _ (M : Interpretation) (nodes : List Node) (all : IsTermList nodes) (reac
       let own : u ≡ t = cc in
       let there : entry_at log.entries p ≡ Some (step.Encode t) = e ∙ ap (λ x. Some (step.Encode x)) own in
       encode_valued t p there is (args (term_within t p there))
+  given_valued t p (step.Rewrite r) in_it e for_term is args = absurd (reached_step nodes log.entries p (step.Rewrite r) kept.steps e).step
   given_valued t p other in_it e for_term is args = let f : ⊥ = cc in absurd f
 
   valued_below : (n t : ℕ) → t < n → reached t → Valued t

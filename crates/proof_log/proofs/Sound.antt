@@ -307,6 +307,7 @@ module _ (M : Interpretation) (nodes : List Node) (all : IsTermList nodes) where
   step_suits s f (step.Chain c hints) h i =
       let holds = IsChain-follows (clause_at s.clauses) c hints i.1 f (λ k d among e. (clause_each (IsTrueBelow s.next f) s.clauses k d h.clauses e).0) in
       row_suits M nodes s f (c ∷ []) h ((holds, i.0), tt)
+  step_suits s f e h i = absurd i
 
   pub run_suits : (s : LogState) (f : ℕ → Bool) (log : List Entry) → Suits M nodes s f → AreSteps nodes s log → Suits M nodes (state_from nodes s log) (mean_from M nodes s f log)
   run_suits s f [] h i = h

@@ -72,6 +72,9 @@ kind_of (step.Leaf t) = kind.Leaf
 kind_of (step.Encode t) = kind.Encode
 kind_of (step.Selector a t) = kind.Selector
 kind_of (step.Chain c hints) = kind.Chain
+kind_of (step.Rewrite r) = kind.Rewrite
+kind_of (step.Equal t u) = kind.Equal
+kind_of (step.Lemma l) = kind.Lemma
 
 -- ---- what shows that a step is not valid
 
@@ -104,6 +107,9 @@ Shows v s (step.Leaf t) k = ShowsTerm t k
 Shows v s (step.Encode t) k = ShowsTerm t k
 Shows v s (step.Selector a t) k = ShowsSelector s a t k
 Shows v s (step.Chain c hints) k = ShowsChain s.next s.clauses c hints k
+Shows v s (step.Rewrite r) k = k ≡ kept.NoRule
+Shows v s (step.Equal t u) k = k ≡ kept.NoRule
+Shows v s (step.Lemma l) k = k ≡ kept.NoRule
 
 -- the step is not valid, and the fault says of what kind it is and what shows it
 pub record IsFault (v : TermsValue) (s : LogState) (e : Entry) (f : StepFault) : Type 0 where

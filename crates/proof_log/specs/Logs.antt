@@ -100,13 +100,17 @@ pub record IsSelector (nodes : List Node) (s : LogState) (a t : ℕ) : Type 0 wh
   pub bit : Literal
   pub encoded : s.bits t ≡ Some (bit ∷ [])
 
--- The step may stand after what the log has, over these terms, among which the term of a Node step is.
+-- The step may stand after what the log has, over these terms, among which the term of a Node step is. No rule lets a step of
+-- rewriting, an equality or a lemma stand yet.
 abbrev pub IsStep : List Node → LogState → Entry → Type 0
 IsStep nodes s (step.Node n) = Contains nodes n
 IsStep nodes s (step.Leaf t) = IsLeaf nodes s t
 IsStep nodes s (step.Encode t) = IsEncoding nodes s t
 IsStep nodes s (step.Selector a t) = IsSelector nodes s a t
 IsStep nodes s (step.Chain c hints) = AreBelow s.next c × IsChain (clause_at s.clauses) c hints
+IsStep nodes s (step.Rewrite r) = ⊥
+IsStep nodes s (step.Equal t u) = ⊥
+IsStep nodes s (step.Lemma l) = ⊥
 
 -- ---- what a step leaves
 

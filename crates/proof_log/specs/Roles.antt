@@ -10,5 +10,8 @@ abbrev pub role_of : Entry → Role
 role_of (step.Node n) = role.Term
 role_of (step.Leaf t) = role.Bits t
 role_of (step.Encode t) = role.Bits t
+role_of (step.Rewrite r) = role.Bits r.from
 role_of (step.Selector a t) = role.Selector a
 role_of (step.Chain c hints) = role.Search
+role_of (step.Equal t u) = role.Search
+role_of (step.Lemma l) = role.Search

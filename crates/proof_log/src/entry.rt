@@ -6,6 +6,7 @@ ghost use Rattle.proof_log.specs.Roles.{role_of};
 use cnf_base::{Clause, ClauseId};
 use plain_list::List;
 use smt_terms::node::{Node, TermId};
+use theory_terms::lemma::Lemma;
 
 /// The number of an assertion, counted from 0 over a script.
 pub type AssertId = u32;
@@ -13,7 +14,15 @@ pub type AssertId = u32;
 /// The clauses by which a chain's clause follows, by name, in the order in which they are used.
 pub type Hints = List<ClauseId>;
 
-/// A step of a log.
+/// A use of a rewrite rule: which rule, counted from 1, and the terms from which and to which it leads.
+#[derive(Clone, Copy, Debug, PartialEq, Eq)]
+pub struct RuleUse {
+    pub rule: u8,
+    pub from: TermId,
+    pub to: TermId,
+}
+
+/// A step of a log. No rule makes a step of the last three kinds valid yet, so no log has one.
 #[derive(Debug, Drop)]
 pub enum Entry {
     /// A term that no command made.
@@ -26,6 +35,12 @@ pub enum Entry {
     Selector(AssertId, TermId),
     /// A clause that follows from earlier ones.
     Chain(Clause, Hints),
+    /// The bits of the term to which a rewrite rule leads, for the term from which it leads.
+    Rewrite(RuleUse),
+    /// A variable that is true exactly where two terms are equal.
+    Equal(TermId, TermId),
+    /// The clause of a lemma on functions or arrays.
+    Lemma(Lemma),
 }
 
 /// What a step leaves to those behind it.
@@ -50,8 +65,11 @@ impl Entry {
             Entry::Node(_) => Role::Term,
             Entry::Leaf(term) => Role::Bits(*term),
             Entry::Encode(term) => Role::Bits(*term),
+            Entry::Rewrite(used) => Role::Bits(used.from),
             Entry::Selector(assertion, _) => Role::Selector(*assertion),
             Entry::Chain(_, _) => Role::Search,
+            Entry::Equal(_, _) => Role::Search,
+            Entry::Lemma(_) => Role::Search,
         }
     }
 }

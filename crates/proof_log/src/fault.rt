@@ -13,6 +13,9 @@ pub enum StepKind {
     Encode,
     Selector,
     Chain,
+    Rewrite,
+    Equal,
+    Lemma,
 }
 
 /// What shows that a step is not valid.
@@ -28,6 +31,8 @@ pub enum Kept {
     Variable(u64),
     /// The first fault of the hints.
     Chain(ChainFault),
+    /// That no rule makes a step of the kind valid yet.
+    NoRule,
 }
 
 /// Why a step is not valid: of what kind it is, and what shows it.

@@ -1,12 +1,13 @@
 //! The log of the steps of a proof.
 //!
-//! A step makes a term, gives a term bits, gives an assertion a selector, or adds a clause with a chain of hints. The
-//! definitions in `specs/` say which steps are valid, what they leave, and what each variable means under an
-//! interpretation of the declarations. The laws say that every clause of every log is true in every interpretation, that
-//! the bits of a term are those of its value and a selector is the value of its assertion's term, that more steps and
-//! more terms keep all this, and that an assignment under which the clauses of the steps of some terms are true gives each
-//! of them the bits of its value. `Log::push` adds a step that is known to be valid, `Log::try_push` one that may not be. The
-//! crate stands on `bit_blast`, `hint_chain`, `smt_terms` and `cnf_base`.
+//! A step makes a term, gives a term bits, gives an assertion a selector, or adds a clause with a chain of hints; uses
+//! of rewrite rules, equalities and lemmas are known, and refused until a rule makes them valid. The definitions in
+//! `specs/` say which steps are valid, what they leave, and what each variable means under an interpretation of the
+//! declarations. The laws say that every clause of every log is true in every interpretation, that the bits of a term
+//! are those of its value and a selector is the value of its assertion's term, that more steps and more terms keep all
+//! this, and that an assignment under which the clauses of the steps of some terms are true gives each of them the bits
+//! of its value. `Log::push` adds a step that is known to be valid, `Log::try_push` one that may not be. The crate
+//! stands on `bit_blast`, `hint_chain`, `theory_terms`, `smt_terms` and `cnf_base`.
 #![tactic(auto)]
 
 pub mod board;

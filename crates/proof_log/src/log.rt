@@ -163,8 +163,10 @@ impl Log {
             Entry::Chain(clause, hints) => {
                 self.put_plain(alloc, over, Entry::Chain(clause, hints))?;
             }
-            // Excluded by the condition on the kind.
-            Entry::Node(_) => return Err(AllocError),
+            // Excluded: a term by the condition on the kind, the others since no rule makes them valid.
+            Entry::Node(_) | Entry::Rewrite(_) | Entry::Equal(_, _) | Entry::Lemma(_) => {
+                unreachable!()
+            }
         }
         Ok(at)
     }
@@ -218,6 +220,9 @@ impl Log {
                 at,
                 self.chain(alloc, terms, clause, hints)?,
             ),
+            Entry::Rewrite(_) => Err(refused(StepKind::Rewrite, Kept::NoRule)),
+            Entry::Equal(_, _) => Err(refused(StepKind::Equal, Kept::NoRule)),
+            Entry::Lemma(_) => Err(refused(StepKind::Lemma, Kept::NoRule)),
         }
     }
 

@@ -8,7 +8,7 @@ ghost use Rattle.proof_log.specs.declared.entry.Entry.TheVariants as step;
 ghost use Rattle.proof_log.specs.Stored.{Stands};
 ghost use Rattle.proof_log.specs.Faults.{IsDeclared};
 
-use crate::entry::{AssertId, Entry, Hints};
+use crate::entry::{AssertId, Entry, Hints, RuleUse};
 use crate::{Kept, Log, PushError, StepFault, StepKind};
 use cnf_base::{Clause, ClauseId, Lit, Pos};
 use hint_chain::{ChainFault, FaultKind};
@@ -20,6 +20,7 @@ use smt_terms::terms::Terms;
 use std::alloc::{AllocError, Global};
 use std::process::Abort;
 use std::test::Fail;
+use theory_terms::lemma::Lemma;
 
 // A log, and the terms that it stands over.
 #[derive(Drop)]
@@ -70,6 +71,10 @@ enum Given {
     Selector(AssertId, TermId),
     // The clause that variable 2 is false, by these hints.
     Refuted(&'static [ClauseId]),
+    Rewrite(TermId, TermId),
+    Equal(TermId, TermId),
+    // That two applications of a declaration to equal arguments are equal.
+    Congruence(TermId, TermId),
 }
 
 // What is seen of a log. A literal is its variable, and whether it is positive.
@@ -196,6 +201,9 @@ fn entry_of(alloc: Global, given: Given) -> Result<Entry, AllocError>
         Given::Encode(term) => Ok(Entry::Encode(term)),
         Given::Selector(assertion, term) => Ok(Entry::Selector(assertion, term)),
         Given::Refuted(hints) => refuted(alloc, hints),
+        Given::Rewrite(from, to) => Ok(Entry::Rewrite(RuleUse { rule: 1, from, to })),
+        Given::Equal(first, second) => Ok(Entry::Equal(first, second)),
+        Given::Congruence(first, second) => { Ok(Entry::Lemma(Lemma::Congruence(first, second))) }
     }
 }
 
@@ -305,6 +313,28 @@ fn a_refused_step_shows_its_term(rt: HostRuntime) -> Result<(), Fail> {
                 fault(StepKind::Selector, Kept::Term(0)),
             ),
             Step::Try(Given::True, fault(StepKind::Node, Kept::Term(0))),
+        ],
+    )
+}
+
+#[test]
+fn steps_of_a_kind_without_a_rule_are_refused(rt: HostRuntime) -> Result<(), Fail> {
+    walk(
+        &rt,
+        Op::Plain(Operator::True),
+        &[
+            Step::Try(Given::Encode(0), Ok(1)),
+            Step::Try(Given::Rewrite(0, 0), fault(StepKind::Rewrite, Kept::NoRule)),
+            Step::Try(Given::Equal(0, 1), fault(StepKind::Equal, Kept::NoRule)),
+            Step::Try(
+                Given::Congruence(0, 0),
+                fault(StepKind::Lemma, Kept::NoRule),
+            ),
+            Step::See(Seen::Counts(2, 1)),
+            Step::See(Seen::Next(2)),
+            Step::See(Seen::StepOf(0, Some(1))),
+            Step::See(Seen::Bits(0, &[(1, true)])),
+            Step::Try(Given::Selector(0, 0), Ok(2)),
         ],
     )
 }

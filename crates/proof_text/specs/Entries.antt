@@ -35,10 +35,13 @@ written_literal l = record { variable = l.variable; positive = l.positive }
 abbrev pub written_hint : ClauseId → WrittenHint
 written_hint id = record { pos = id.pos; part = id.part }
 
--- the line of a step
+-- the line of a step; of the kinds that no rule makes valid yet none has a line
 abbrev pub entry_line : Entry → Option Line
 entry_line (entry.Node n) = option_map (λ head. Term head n.args) (head_of n.op)
 entry_line (entry.Leaf t) = Some (Leaf t)
 entry_line (entry.Encode t) = Some (Encode t)
 entry_line (entry.Selector a t) = Some (Selector a)
 entry_line (entry.Chain clause hints) = Some (Chain (map written_literal clause) (map written_hint hints))
+entry_line (entry.Rewrite r) = None
+entry_line (entry.Equal t u) = None
+entry_line (entry.Lemma l) = None

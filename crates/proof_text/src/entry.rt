@@ -132,12 +132,14 @@ fn push_entry(entry: &Entry, out: &mut Text) -> Result<(), AllocError>
         Entry::Encode(term) => push_line(out, b"e", *term as u64),
         Entry::Selector(assertion, _) => push_line(out, b"s", *assertion as u64),
         Entry::Chain(clause, hints) => push_chain(clause, hints, out),
+        // Excluded by the condition: these have no line yet.
+        Entry::Rewrite(_) | Entry::Equal(_, _) | Entry::Lemma(_) => unreachable!(),
     }
 }
 
 /// Appends the line of a step.
 pub fn write_entry(entry: &Entry, out: &mut Text) -> Result<(), AllocError>
-    // No line makes a declared constant or a parameter.
+    // No line makes a declared constant or a parameter, and none is of a kind that no rule makes valid yet.
     requires { IsSome (entry_line entry.now) }
     ensures ok { OnOk result (IfSome (entry_line entry.now) (λ line. out.new ≡ out.old ++ line_text line)) }
     ensures err { OnErr result (out.new ≡ out.old) }

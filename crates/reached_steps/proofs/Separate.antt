@@ -25,7 +25,7 @@ use Rattle.reached_steps.specs.Circuits.{IsOfBlock}
 use Rattle.reached_steps.specs.Reached.{IsOfTerms, AreReachedSteps, ReachedStepsAreSeparate, StoredStepsAreSeparate}
 use Rattle.reached_steps.proofs.Inputs.{AreOf}
 use Rattle.reached_steps.proofs.Clauses.{each_if, each_weaker}
-use Rattle.reached_steps.proofs.Steps.{row_has, before_step, IsEncodeStep, each_row, one_before, leaf_step, encode_step, selector_step, plain_row}
+use Rattle.reached_steps.proofs.Steps.{row_has, before_step, IsEncodeStep, made, each_row, one_before, leaf_step, encode_step, selector_step, plain_row}
 
 -- ---- lists
 
@@ -99,6 +99,7 @@ module _ (nodes : List Node) (log : List Entry) (positions : List ℕ) (all : Is
   bits_step : (t p : ℕ) (e : Entry) → slice_get log p ≡ Some e → IsForTerm t e → (slice_get log p ≡ Some (step.Leaf t)) ⊎ (slice_get log p ≡ Some (step.Encode t))
   bits_step t p (step.Leaf u) there is_for = let own : u ≡ t = cc in inl (there ∙ ap (λ x. Some (step.Leaf x)) own)
   bits_step t p (step.Encode u) there is_for = let own : u ≡ t = cc in inr (there ∙ ap (λ x. Some (step.Encode x)) own)
+  bits_step t p (step.Rewrite r) there is_for = absurd (made nodes start log p (step.Rewrite r) is there).step
   bits_step t p e there is_for = let f : ⊥ = cc in absurd f
 
   gives_known : (t q : ℕ) → GivesBits log t q → Contains positions q → AllByRecursion Known (node_at nodes t).args → Known t
@@ -195,6 +196,7 @@ module _ (nodes : List Node) (log : List Entry) (positions : List ℕ) (all : Is
       let first : Contains c (negative_of x) = subst (λ d. Contains d (negative_of x)) is_clause (0, omega arith, refl) in
       (negative_of x, first, (λ o. fresh p x out r.within (omega arith) (omega (arith, r.next)) (occurs_own x o)))
   other_clause p k c (step.Chain d hints) e plain out g = let f : ⊥ = cc in absurd f
+  other_clause p k c x e plain out g = absurd (made nodes start log p x is e).step
 
   separate_at : (q k : ℕ) (c : List Literal) → q ≤ length log → is_chain (entry_at log q) ≡ false → (Contains positions q → ⊥) → clause_in (slice_get (state_of nodes log).clauses q) k ≡ Some c → HasNew c
   separate_at zero k c le plain out g = absurd (out h.first)

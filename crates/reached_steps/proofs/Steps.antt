@@ -94,7 +94,7 @@ made_first nodes s e log h =
       within = omega arith;
     }
 
-made : (nodes : List Node) (s : LogState) (log : List Entry) (p : ℕ) (e : Entry) → AreSteps nodes s log → slice_get log p ≡ Some e → IsMade nodes s log p e
+pub made : (nodes : List Node) (s : LogState) (log : List Entry) (p : ℕ) (e : Entry) → AreSteps nodes s log → slice_get log p ≡ Some e → IsMade nodes s log p e
 made nodes s [] p e h g = let q : ⊥ = cc in absurd q
 made nodes s (d ∷ log) zero e h g = let q : d ≡ e = cc in subst (IsMade nodes s (d ∷ log) zero) q (made_first nodes s d log h)
 made nodes s (d ∷ log) (suc p) e h g =

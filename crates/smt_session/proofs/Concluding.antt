@@ -202,7 +202,7 @@ unknown limits s old new positions variables given d before after prolongs grows
         selectors = have_selectors s.terms.nodes new s.scopes.live now.selectors after now.chosen;
         bits = have_bits s.terms.nodes new (assumptions s) now.bits after now.assumed;
         within = h.own.within;
-        chains = λ p e le q. (let start = h.own.start in grown_chain old.entries new.entries p e prolongs (omega (arith, start, le)) q);
+        chains = λ p e le q. (let start = h.own.start in grown_chain s.terms.nodes old.entries new.entries p e (stands_over s.terms.nodes new after).steps prolongs (omega (arith, start, le)) q);
       };
       spent = subst (λ xs. IsSpent (record { nodes = s.terms.nodes; log = new.entries; given = xs; from = d.start }) limits.budget d.lines) (sym literals) h.own.spent;
     }

@@ -13,7 +13,7 @@ use Rattle.smt_terms.specs.declared.node.Node.{Node}
 use Rattle.proof_log.specs.declared.entry.Entry.{Entry}
 use Rattle.proof_log.specs.declared.entry.Entry.TheVariants as step
 use Rattle.proof_log.specs.declared.diary.Diary.{Diary}
-use Rattle.proof_log.specs.Logs.{clause_at, entry_at, state_of, IsLog}
+use Rattle.proof_log.specs.Logs.{LogState, start, clause_at, entry_at, IsStep, after, state_of, AreSteps, IsLog}
 use Rattle.proof_log.specs.Boards.{Grows, IsOfSearch}
 use Rattle.proof_log.specs.Diaries.{is_chain}
 use Rattle.proof_log.proofs.Growth.{grown_holds, grown_length, clause_stays, clause_place, entry_stays}
@@ -29,21 +29,24 @@ use Rattle.smt_session.specs.Searched.{Problem, look_in, given_in, subject_in, I
 
 -- ---- a log that grew by chains
 
-is_chain_of : (e : Entry) → IsOfSearch e → is_chain (Some e) ≡ true
-is_chain_of (step.Chain c hints) h = refl
-is_chain_of e h = let f : ⊥ = cc in absurd f
+-- of the steps of a search chains alone are valid
+is_chain_of : (nodes : List Node) (s : LogState) (e : Entry) → IsOfSearch e → IsStep nodes s e → is_chain (Some e) ≡ true
+is_chain_of nodes s (step.Chain c hints) h i = refl
+is_chain_of nodes s (step.Equal t u) h i = absurd i
+is_chain_of nodes s (step.Lemma l) h i = absurd i
+is_chain_of nodes s e h i = let f : ⊥ = cc in absurd f
 
-chain_behind : (log more : List Entry) (k : ℕ) (e : Entry) → AllByRecursion IsOfSearch more → length log ≤ k → slice_get (log ++ more) k ≡ Some e → is_chain (Some e) ≡ true
-chain_behind [] [] k e h le q = let f : ⊥ = cc in absurd f
-chain_behind [] (x ∷ more) zero e h le q = let same : x ≡ e = cc in subst (λ y. is_chain (Some y) ≡ true) same (is_chain_of x h.0)
-chain_behind [] (x ∷ more) (suc k) e h le q = chain_behind [] more k e h.1 (omega arith) q
-chain_behind (x ∷ log) more zero e h le q = absurd (omega (arith, le))
-chain_behind (x ∷ log) more (suc k) e h le q = chain_behind log more k e h (omega (arith, le)) q
+chain_behind : (nodes : List Node) (s : LogState) (log more : List Entry) (k : ℕ) (e : Entry) → AllByRecursion IsOfSearch more → AreSteps nodes s (log ++ more) → length log ≤ k → slice_get (log ++ more) k ≡ Some e → is_chain (Some e) ≡ true
+chain_behind nodes s [] [] k e h i le q = let f : ⊥ = cc in absurd f
+chain_behind nodes s [] (x ∷ more) zero e h i le q = let same : x ≡ e = cc in subst (λ y. is_chain (Some y) ≡ true) same (is_chain_of nodes s x h.0 i.0)
+chain_behind nodes s [] (x ∷ more) (suc k) e h i le q = chain_behind nodes (after nodes s x) [] more k e h.1 i.1 (omega arith) q
+chain_behind nodes s (x ∷ log) more zero e h i le q = absurd (omega (arith, le))
+chain_behind nodes s (x ∷ log) more (suc k) e h i le q = chain_behind nodes (after nodes s x) log more k e h i.1 (omega (arith, le)) q
 
 -- what is behind the old log is a chain
-pub grown_chain : (log log' : List Entry) (at : ℕ) (e : Entry) → Grows log log' → suc (length log) ≤ at → entry_at log' at ≡ Some e → is_chain (Some e) ≡ true
-grown_chain log log' zero e g le q = absurd (omega (arith, le))
-grown_chain log log' (suc k) e g le q = chain_behind log g.more k e g.of_search (omega (arith, le)) (ap (λ l. slice_get l k) (sym g.is) ∙ q)
+pub grown_chain : (nodes : List Node) (log log' : List Entry) (at : ℕ) (e : Entry) → IsLog nodes log' → Grows log log' → suc (length log) ≤ at → entry_at log' at ≡ Some e → is_chain (Some e) ≡ true
+grown_chain nodes log log' zero e is g le q = absurd (omega (arith, le))
+grown_chain nodes log log' (suc k) e is g le q = chain_behind nodes start log g.more k e g.of_search (subst (IsLog nodes) g.is is) (omega (arith, le)) (ap (λ l. slice_get l k) (sym g.is) ∙ q)
 
 -- ---- the problem
 
@@ -94,7 +97,7 @@ module _ (p : Problem) (log log' : List Entry) (grows : Grows log log') where
     chains_stay at e le q =
         ⊎_elim
         (λ (within : at < suc (length log)). h.chains at e le (sym (entry_stays log log' at grows (omega (arith, within))) ∙ q))
-        (λ (behind : suc (length log) ≤ at). grown_chain log log' at e grows behind q)
+        (λ (behind : suc (length log) ≤ at). grown_chain p.nodes log log' at e stands grows behind q)
         (cases_lt at (suc (length log)))
 
     pub problem_stays : IsProblem p log'

@@ -7,12 +7,13 @@ use Rattle.cnf_base.specs.Literals.{Literal, negated}
 use Rattle.cnf_base.specs.Clauses.{lit_true}
 use Rattle.cnf_base.proofs.Codes.{negated-negated}
 use Rattle.cnf_base.proofs.Options.{same_found}
+use Rattle.smt_terms.specs.declared.node.Node.{Node}
 use Rattle.smt_terms.specs.Terms.{TermsValue, IsTermList}
 use Rattle.scope_selectors.specs.declared.live.Live.{Live}
 use Rattle.script_state.specs.States.{StateValue, assumptions}
 use Rattle.proof_log.specs.declared.entry.Entry.{Entry}
 use Rattle.proof_log.specs.declared.entry.Entry.TheVariants as step
-use Rattle.proof_log.specs.Logs.{Asserted, LogState, start, clause_at, IsStep, state_of, AreSteps, IsLog}
+use Rattle.proof_log.specs.Logs.{Asserted, LogState, start, clause_at, IsStep, after, state_of, AreSteps, IsLog}
 use Rattle.proof_log.specs.Faults.{IsValid, MakesNoTerm}
 use Rattle.proof_log.specs.Stored.{LogValue, Stands, selector_in}
 use Rattle.proof_log.specs.Boards.{IsOfSearch, Grows as Prolongs}
@@ -30,9 +31,12 @@ use Rattle.smt_session.proofs.Giving.{bit_of}
 
 -- ---- the steps
 
-lined : (e : Entry) → MakesNoTerm e → IsSome (entry_line e)
-lined (step.Node n) h = absurd (h refl)
-lined e h = refl
+lined : (nodes : List Node) (s : LogState) (e : Entry) → MakesNoTerm e → IsStep nodes s e → IsSome (entry_line e)
+lined nodes s (step.Node n) h i = absurd (h refl)
+lined nodes s (step.Rewrite r) h i = absurd i
+lined nodes s (step.Equal t u) h i = absurd i
+lined nodes s (step.Lemma l) h i = absurd i
+lined nodes s e h i = refl
 
 valid : (v : TermsValue) (s : LogState) (e : Entry) → MakesNoTerm e → IsStep v.nodes s e → IsValid v s e
 valid v s (step.Node n) h i = absurd (h refl)
@@ -42,9 +46,13 @@ same_state : (s : StateValue) (e : Entry) → MakesNoTerm e → with_step s e �
 same_state s (step.Node n) h = absurd (h refl)
 same_state s e h = refl
 
-pub all_lined : (s : StateValue) (es : List Entry) → AreStepsFor s es → AreLined es
-all_lined s [] h = tt
-all_lined s (e ∷ es) h = (lined e h.0.0, all_lined s es h.1)
+all_lined : (s : StateValue) (r : LogState) (es : List Entry) → AreStepsFor s es → AreSteps s.terms.nodes r es → AreLined es
+all_lined s r [] h i = tt
+all_lined s r (e ∷ es) h i = (lined s.terms.nodes r e h.0.0 i.0, all_lined s (after s.terms.nodes r e) es h.1 i.1)
+
+-- each step of a log for the script has a line
+pub log_lined : (s : StateValue) (log : LogValue) → AreStepsFor s log.entries → Stands s.terms.nodes log → AreLined log.entries
+log_lined s log h stands = all_lined s start log.entries h (stands_over s.terms.nodes log stands).steps
 
 -- a script's steps make no term
 pub same_after : (s : StateValue) (es : List Entry) → AreStepsFor s es → with_steps s es ≡ s
@@ -55,7 +63,7 @@ steps_of : (s : StateValue) (log es : List Entry) → AreSteps s.terms.nodes (st
 steps_of s log [] i h = tt
 steps_of s log (e ∷ es) i h =
     let rest = steps_of s (log ++ e ∷ []) es (subst (λ r. AreSteps s.terms.nodes r es) (sym (state_from-append s.terms.nodes start log (e ∷ []))) i.1) h.1 in
-    (valid s.terms (state_of s.terms.nodes log) e h.0.0 i.0, h.0.1, lined e h.0.0, subst (λ r. AreStepsOf r (log ++ e ∷ []) es) (sym (same_state s e h.0.0)) rest)
+    (valid s.terms (state_of s.terms.nodes log) e h.0.0 i.0, h.0.1, lined s.terms.nodes (state_of s.terms.nodes log) e h.0.0 i.0, subst (λ r. AreStepsOf r (log ++ e ∷ []) es) (sym (same_state s e h.0.0)) rest)
 
 pub are_steps : (s : StateValue) (old new : LogValue) (g : Grows s old new) → AreStepsOf s old.entries g.added
 are_steps s old new g =

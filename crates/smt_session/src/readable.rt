@@ -113,6 +113,8 @@ pub(crate) fn read_step(entry: &Entry)
             let _number = *assertion;
         }
         Entry::Chain(clause, hints) => read_chain(clause, hints),
+        // These have no line.
+        Entry::Rewrite(_) | Entry::Equal(_, _) | Entry::Lemma(_) => {}
     }
 }
 

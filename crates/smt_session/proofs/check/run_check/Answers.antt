@@ -1,11 +1,11 @@
 use Rattle.check_cubes.specs.Searches.{limits_of}
 use Rattle.smt_session.proofs.Staying.{grown_steps}
-use Rattle.smt_session.proofs.Turning.{all_lined}
+use Rattle.smt_session.proofs.Turning.{log_lined}
 use Rattle.smt_session.proofs.Showing.{shown_digits}
 use Rattle.smt_session.proofs.check.run_check.Goals as goal
 
 pub lines-requires-clause-lined : goal.lines-requires-clause-lined
-lines-requires-clause-lined c = all_lined c.args.state.now c.in_ok-workspace.field-0.workspace.log.entries (grown_steps c.args.state.now c.args.workspace.log c.in_ok-workspace.field-0.workspace.log c.requires.session.each c.in_ok-workspace.ensures.grows)
+lines-requires-clause-lined c = log_lined c.args.state.now c.in_ok-workspace.field-0.workspace.log (grown_steps c.args.state.now c.args.workspace.log c.in_ok-workspace.field-0.workspace.log c.requires.session.each c.in_ok-workspace.ensures.grows) c.in_ok-workspace.ensures.grows.stands
 
 pub lines-requires-clause-digits : goal.lines-requires-clause-digits
 lines-requires-clause-digits c = shown_digits (limits_of c.args.limits) c.args.state.now c.in_ok-workspace.field-0.workspace.log.entries c.in_ok-workspace.field-0.shown c.requires.session.state c.in_ok-workspace.ensures.shown
