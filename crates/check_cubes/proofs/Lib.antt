@@ -1,4 +1,6 @@
 mod Reached
+mod Rising
+mod Drawn
 mod Splitting
 mod Cubed
 pub mod Searched

@@ -1,116 +1,146 @@
 -- The variables that split a check.
-use Rattle.std.proofs.Common.{◌≡◌, ℕ, zero, suc, ◌+◌, ◌-◌, ◌<◌, ◌≤◌, Bool, true, false, List, [], ◌∷◌, ◌++◌, length, map, flat_map, take, Option, Some, None, Result, Ok, Err, IfOk, refl, sym, ap, ap₂, ◌∙◌, subst, arith, append-nil}
-use Rattle.std.specs.Prelude.{◌&&◌, if◌then◌else◌, is_some, slice_get, option_to_list}
-use Rattle.std.proofs.lemmas.Grind.{flat_map-append}
-use Rattle.std.proofs.lemmas.List.{map-append, take-map, take_all}
+use Rattle.std.proofs.Common.{◌≡◌, ℕ, ◌^◌, Bool, true, false, List, [], ◌∷◌, ◌++◌, map, flat_map, take, Option, Some, None, refl, sym, ap, ◌∙◌, subst, append-nil}
+use Rattle.std.specs.Prelude.{◌&&◌, ◌==◌, ◌<◌, if◌then◌else◌, is_some, length, All, Contains}
+use Rattle.std.specs.List.Sorted.{IsPermutation, IsNonDecreasing}
+use Rattle.std.proofs.lemmas.Bool.{and_parts}
+use Rattle.std.specs.List.{IsDistinct}
+use Rattle.std.proofs.lemmas.List.Elements.{All-from_recursion, recursion_from_All, All-take}
+use Rattle.std.proofs.lemmas.List.Sorted.{IsPermutation-sym, Contains-permutation, All-permutation}
+use Rattle.std.proofs.lemmas.Map.Keys.{IsDistinct-IsPermutation}
 use Rattle.cnf_base.specs.Literals.{Literal}
+use Rattle.cnf_base.proofs.Lists.{Contains-nil, Contains-first}
 use Rattle.smt_terms.specs.declared.node.Node.{Node}
 use Rattle.smt_terms.specs.Nodes.{node_at}
+use Rattle.smt_terms.specs.Terms.{TermsValue, IsTermList}
 use Rattle.smt_terms.specs.Bits.{bits_in}
-use Rattle.script_state.specs.States.{StateValue, roots}
+use Rattle.term_reach.specs.Reach.{arguments, IsReach}
+use Rattle.cube_tree.specs.Cubes.{AreVariables}
+use Rattle.script_state.specs.States.{StateValue, IsState, roots}
 use Rattle.proof_log.specs.declared.entry.Entry.{Entry}
 use Rattle.proof_log.specs.declared.entry.Entry.TheVariants as entry
-use Rattle.proof_log.specs.Logs.{LogState, constant_width, entry_at, state_of, start}
+use Rattle.proof_log.specs.Logs.{LogState, constant_width, state_of, start}
 use Rattle.proof_log.specs.Stored.{LogValue, IsKept}
 use Rattle.proof_log.proofs.Staying.{Holds-refl}
-use Rattle.accepted_proof.specs.Searching.{Limits, Rise, is_reached, variables_of, leaf_variables, split_variables, cube_variables, bits_or_none}
+use Rattle.accepted_proof.specs.Searching.{Limits, Rise, is_reached, variables_of, leaf_variables, split_variables, cube_variables}
 use Rattle.accepted_proof.proofs.Splitting.{rise_take, steps_rise}
-use Rattle.check_cubes.specs.Searches.{leaf_bits}
+use Rattle.check_cubes.specs.Searches.{declared_variables}
+use Rattle.check_cubes.proofs.Reached.{way_from_told, told_from_way}
+use Rattle.check_cubes.proofs.Rising.{Rises, AreApart, member_owner, member_given, same_rising, rise_rises, part_rises, one_owner, equal_flips, rises_apart, parts_apart, sorted_rises}
+use Rattle.check_cubes.proofs.Drawn.{drawn}
 
--- a term without a mark splits nothing
-pub not_marked : (a m r : Bool) → r ≡ m → r ≡ false → false ≡ (a && m)
-not_marked true m r e f = sym f ∙ e
-not_marked false m r e f = refl
+-- where none may split, none does
+pub no_variables : (limits : Limits) (s : StateValue) (nodes : List Node) (log : List Entry) → limits.cubes ≡ 0 → cube_variables limits s nodes log ≡ []
+no_variables limits s nodes log none = ap (λ n. take n (split_variables (roots s) nodes log)) none
 
-pub marked_too : (a m r s : Bool) → r ≡ m → r ≡ true → s ≡ a → s ≡ (a && m)
-marked_too true m r s e f is = is ∙ sym f ∙ e
-marked_too false m r s e f is = is
+pub declared_none : (b : Bool) (o : Option (List Literal)) (old : List ℕ) → b ≡ false → old ≡ old ++ (if b then variables_of o else [])
+declared_none b o old e = sym (append-nil old) ∙ ap (λ (x : Bool). old ++ (if x then variables_of o else [])) (sym e)
 
-pub leaf_skipped : (a m r b : Bool) (old bits : List Literal) → b ≡ (a && m) → m ≡ r → b ≡ false → old ≡ old ++ (if a && r then bits else [])
-leaf_skipped a m r b old bits e same none =
-    let f : (a && r) ≡ false = ap (λ x. a && x) (sym same) ∙ sym e ∙ none in
-    sym (append-nil old) ∙ ap (λ (x : Bool). old ++ (if x then bits else [])) (sym f)
+pub declared_bits : (b : Bool) (o : Option (List Literal)) (bits : List Literal) (old new : List ℕ) → b ≡ true → Some bits ≡ o → new ≡ old ++ map (λ (l : Literal). l.variable) bits → new ≡ old ++ (if b then variables_of o else [])
+declared_bits b o bits old new e is more = more ∙ ap (λ x. old ++ variables_of x) is ∙ ap (λ (x : Bool). old ++ (if x then variables_of o else [])) (sym e)
 
-pub leaf_pushed : (a m r b : Bool) (old new bits : List Literal) (o : Option (List Literal)) → b ≡ (a && m) → m ≡ r → b ≡ true → Some bits ≡ o → new ≡ old ++ bits → new ≡ old ++ (if a && r then bits_or_none o else [])
-leaf_pushed a m r b old new bits o e same some is more =
-    let f : (a && r) ≡ true = ap (λ x. a && x) (sym same) ∙ sym e ∙ some in
-    more ∙ ap (λ x. old ++ bits_or_none x) is ∙ ap (λ (x : Bool). old ++ (if x then bits_or_none o else [])) (sym f)
+pub declared_without : (b : Bool) (o : Option (List Literal)) (old : List ℕ) → ◌≡◌ {A = Option (List Literal)} None o → old ≡ old ++ (if b then variables_of o else [])
+declared_without true o old is = sym (append-nil old) ∙ ap (λ x. old ++ variables_of x) is
+declared_without false o old is = sym (append-nil old)
 
-pub leaf_none : (c : Bool) (old : List Literal) (o : Option (List Literal)) → ◌≡◌ {A = Option (List Literal)} None o → old ≡ old ++ (if c then bits_or_none o else [])
-leaf_none true old o is = sym (append-nil old) ∙ ap (λ x. old ++ bits_or_none x) is
-leaf_none false old o is = sym (append-nil old)
+-- what a reached term gives is what its step gives
+same_choice : (b r : Bool) (o q : Option (List Literal)) → r ≡ true → o ≡ q → (if b && r then variables_of q else []) ≡ (if b then variables_of o else [])
+same_choice true r o q e is = ap (λ (x : Bool). if x then variables_of q else []) e ∙ ap variables_of (sym is)
+same_choice false r o q e is = refl
 
-abbrev variable : Literal → ℕ
-variable l = l.variable
+chosen_some : (b : Bool) (o : Option (List Literal)) (x : ℕ) → Contains (if b then variables_of o else []) x → (b ≡ true) × (bits : List Literal) × (o ≡ Some bits)
+chosen_some true (Some bits) x c = (refl, bits, refl)
+chosen_some true None x c = absurd (Contains-nil x c)
+chosen_some false o x c = absurd (Contains-nil x c)
 
-pub step_taken : (log : List Entry) (at : ℕ) → 0 < at → take at log ≡ take (at - 1) log ++ option_to_list (entry_at log at)
-step_taken log zero lt = absurd (omega (arith, lt))
-step_taken log (suc p) lt = taken log p ∙ ap (λ k. take k log ++ option_to_list (slice_get log p)) before where
-  before : p ≡ suc p - 1
-  before = omega arith
-
-  taken : (log : List Entry) (p : ℕ) → take (suc p) log ≡ take p log ++ option_to_list (slice_get log p)
-  taken [] zero = refl
-  taken [] (suc p) = refl
-  taken (e ∷ log) zero = refl
-  taken (e ∷ log) (suc p) = ap (λ x. e ∷ x) (taken log p)
-
-pub bits_more : (f : Entry → List Literal) (log : List Entry) (at : ℕ) (old new : List Literal) → 0 < at → old ≡ flat_map f (take (at - 1) log) → new ≡ old ++ flat_map f (option_to_list (entry_at log at)) → new ≡ flat_map f (take ((at + 1) - 1) log)
-bits_more f log at old new lt h e =
-    let next : (at + 1) - 1 ≡ at = omega arith in
-    e ∙ ap (λ x. x ++ flat_map f (option_to_list (entry_at log at))) h
-    ∙ sym (flat_map-append f (take (at - 1) log) (option_to_list (entry_at log at)))
-    ∙ ap (flat_map f) (sym (step_taken log at lt))
-    ∙ ap (λ k. flat_map f (take k log)) (sym next)
-
-pub bits_all : (f : Entry → List Literal) (log : List Entry) (at : ℕ) (bits : List Literal) → suc (length log) ≤ at → bits ≡ flat_map f (take (at - 1) log) → bits ≡ flat_map f log
-bits_all f log at bits le h = h ∙ ap (flat_map f) (take_all (at - 1) log (omega (arith, le)))
+chosen_so : (b : Bool) (xs : List ℕ) (x : ℕ) → Contains (if b then xs else []) x → b ≡ true
+chosen_so true xs x c = refl
+chosen_so false xs x c = absurd (Contains-nil x c)
 
 module _ (nodes : List Node) (log : LogValue) (kept : IsKept nodes log) where
   abbrev left : LogState
   left = state_of nodes log.entries
 
-  variables_or_none : (o : Option (List Literal)) → map variable (bits_or_none o) ≡ variables_of o
-  variables_or_none None = refl
-  variables_or_none (Some bits) = refl
-
-  chosen : (b : Bool) (t : ℕ) → map variable (if b then bits_or_none (bits_in log.bits t) else []) ≡ (if b then variables_of (left.bits t) else [])
-  chosen true t = variables_or_none (bits_in log.bits t) ∙ ap variables_of (kept.bits t)
-  chosen false t = refl
-
-  leaf_same : (from : List ℕ) (e : Entry) → map variable (leaf_bits from nodes log.bits e) ≡ leaf_variables from nodes left e
-  leaf_same from (entry.Leaf t) = chosen (is_some (constant_width (node_at nodes t).op) && is_reached from nodes t) t
-  leaf_same from e = refl
-
-  leaves_same : (from : List ℕ) (es : List Entry) → map variable (flat_map (leaf_bits from nodes log.bits) es) ≡ flat_map (leaf_variables from nodes left) es
-  leaves_same from [] = refl
-  leaves_same from (e ∷ es) =
-      map-append variable (leaf_bits from nodes log.bits e) (flat_map (leaf_bits from nodes log.bits) es)
-      ∙ ap₂ (λ x y. x ++ y) (leaf_same from e) (leaves_same from es)
-
-  pub cut_variables : (limits : Limits) (s : StateValue) (all bits : List Literal) → all ≡ flat_map (leaf_bits (roots s) nodes log.bits) log.entries → bits ≡ take limits.cubes all
-      → map variable bits ≡ cube_variables limits s nodes log.entries
-  cut_variables limits s all bits e cut =
-      ap (map variable) (cut ∙ ap (take limits.cubes) e)
-      ∙ sym (take-map variable limits.cubes (flat_map (leaf_bits (roots s) nodes log.bits) log.entries))
-      ∙ ap (take limits.cubes) (leaves_same (roots s) log.entries)
+  all_rise : (from : List ℕ) → Rise 2 left.next (split_variables from nodes log.entries)
+  all_rise from = steps_rise from nodes left start log.entries kept.steps (Holds-refl left)
 
   -- they rise, below the next variable of the log
   pub variables_rise : (limits : Limits) (s : StateValue) (variables : List ℕ) → variables ≡ cube_variables limits s nodes log.entries → Rise 2 log.next variables
   variables_rise limits s variables e =
       subst (λ n. Rise 2 n variables) (sym kept.next)
-      (subst (Rise 2 left.next) (sym e) (rise_take 2 left.next limits.cubes (split_variables (roots s) nodes log.entries) (steps_rise (roots s) nodes left start log.entries kept.steps (Holds-refl left))))
+      (subst (Rise 2 left.next) (sym e) (rise_take 2 left.next limits.cubes (split_variables (roots s) nodes log.entries) (all_rise (roots s))))
 
-  pub found_rise : {A E : Type 0} (limits : Limits) (s : StateValue) (r : Result A E) (items : A → List ℕ) → IfOk r (λ v. items v ≡ cube_variables limits s nodes log.entries) → IfOk r (λ v. Rise 2 log.next (items v))
-  found_rise limits s (Ok v) items e = variables_rise limits s (items v) e
-  found_rise limits s (Err x) items e = tt
+  module _ (list : IsTermList nodes) (from reached : List ℕ) (held : All (λ t. t < length nodes) from) (reach : IsReach (arguments nodes) from reached) where
+    abbrev own : ℕ → List ℕ
+    own = declared_variables nodes log.bits
 
--- the bits that were looked at have these variables
-pub found_variables : {A E : Type 0} (bits looked : List Literal) (variables : List ℕ) (r : Result A E) (items : A → List ℕ) → map (λ (l : Literal). l.variable) bits ≡ variables → looked ≡ bits
-    → IfOk r (λ v. items v ≡ map (λ (l : Literal). l.variable) looked) → IfOk r (λ v. items v ≡ variables)
-found_variables bits looked variables (Ok v) items e same h = h ∙ ap (map (λ (l : Literal). l.variable)) same ∙ e
-found_variables bits looked variables (Err x) items e same h = tt
+    abbrev drew : Entry → List ℕ
+    drew = leaf_variables from nodes left
 
--- where none may split, none does
-pub no_variables : (limits : Limits) (s : StateValue) (nodes : List Node) (log : List Entry) → limits.cubes ≡ 0 → cube_variables limits s nodes log ≡ []
-no_variables limits s nodes log none = ap (λ n. take n (split_variables (roots s) nodes log)) none
+    own_drawn : (t : ℕ) → Contains reached t → drew (entry.Leaf t) ≡ own t
+    own_drawn t c = same_choice (is_some (constant_width (node_at nodes t).op)) (is_reached from nodes t) (bits_in log.bits t) (left.bits t) (told_from_way nodes list from t held (reach.only t c)) (kept.bits t)
+
+    -- its step is in the log
+    own_step : (t x : ℕ) → Contains (own t) x → Contains log.entries (entry.Leaf t)
+    own_step t x c =
+        let h = chosen_some (is_some (constant_width (node_at nodes t).op)) (bits_in log.bits t) x c in
+        drawn nodes t h.0 log.entries h.1 (sym (kept.bits t) ∙ h.2)
+
+    step_variable : (t x : ℕ) → Contains reached t → Contains (own t) x → Contains (drew (entry.Leaf t)) x
+    step_variable t x c h = subst (λ xs. Contains xs x) (sym (own_drawn t c)) h
+
+    all_found : (x : ℕ) → Contains (flat_map own reached) x → Contains (split_variables from nodes log.entries) x
+    all_found x c =
+        let h = member_owner own reached x c in
+        member_given drew log.entries (entry.Leaf h.0) x (own_step h.0 x h.2) (step_variable h.0 x h.1 h.2)
+
+    step_found : (e : Entry) (x : ℕ) → Contains (drew e) x → Contains (flat_map own reached) x
+    step_found (entry.Leaf t) x c =
+        let both = chosen_so (is_some (constant_width (node_at nodes t).op) && is_reached from nodes t) (variables_of (left.bits t)) x c in
+        let told = (and_parts (is_some (constant_width (node_at nodes t).op)) (is_reached from nodes t) both).1 in
+        let among : Contains reached t = reach.all t (way_from_told nodes list from t told) in
+        member_given own reached t x among (subst (λ xs. Contains xs x) (own_drawn t among) c)
+    step_found e x c = absurd (Contains-nil x c)
+
+    none_left : (x : ℕ) → Contains (split_variables from nodes log.entries) x → Contains (flat_map own reached) x
+    none_left x c = let h = member_owner drew log.entries x c in step_found h.0 x h.2
+
+    own_apart : (t : ℕ) → Contains reached t → AreApart (own t)
+    unfolding IsDistinct
+    own_apart t c = go (own t) refl where
+      go : (xs : List ℕ) → own t ≡ xs → AreApart xs
+      go [] e = tt
+      go (x ∷ xs) e =
+          let there : Contains log.entries (entry.Leaf t) = own_step t x (subst (λ ys. Contains ys x) (sym e) (Contains-first x xs)) in
+          subst AreApart (own_drawn t c ∙ e) (rises_apart (drew (entry.Leaf t)) (part_rises drew 2 left.next log.entries (entry.Leaf t) (all_rise from) there))
+
+    one_term : (t u x : ℕ) → Contains reached t → Contains reached u → Contains (own t) x → Contains (own u) x → t ≡ u
+    one_term t u x ct cu xt xu =
+        let e : entry.Leaf t ≡ entry.Leaf u = one_owner drew 2 left.next log.entries (entry.Leaf t) (entry.Leaf u) x (all_rise from) (own_step t x xt) (own_step u x xu) (step_variable t x ct xt) (step_variable u x cu xu) in
+        cc
+
+    -- sorted, they are those of the log
+    pub sorted_split : (sorted : List ℕ) → IsPermutation (flat_map own reached) sorted → IsNonDecreasing sorted → sorted ≡ split_variables from nodes log.entries
+    sorted_split sorted moved order =
+        same_rising sorted (split_variables from nodes log.entries)
+        (sorted_rises sorted order (IsDistinct-IsPermutation (λ x y. x == y) equal_flips (flat_map own reached) sorted moved (parts_apart own reached reach.once own_apart one_term)))
+        (rise_rises 2 left.next (split_variables from nodes log.entries) (all_rise from))
+        (λ x c. all_found x (Contains-permutation sorted (flat_map own reached) x (IsPermutation-sym (flat_map own reached) sorted moved) c))
+        (λ x c. Contains-permutation (flat_map own reached) sorted x moved (none_left x c))
+
+  -- what was found, sorted and cut, splits the check
+  pub cut_split : (limits : Limits) (s : StateValue) (terms : TermsValue) (from reached found sorted cut : List ℕ) → IsState s → nodes ≡ s.terms.nodes → terms ≡ s.terms → from ≡ roots s → All (λ t. t < length s.terms.nodes) (roots s)
+      → IsReach (arguments terms.nodes) from reached → found ≡ flat_map (declared_variables terms.nodes log.bits) reached → IsPermutation found sorted → IsNonDecreasing sorted → cut ≡ take limits.cubes sorted
+      → cut ≡ cube_variables limits s nodes log.entries
+  cut_split limits s terms from reached found sorted cut is same e are held reach is_found moved order is_cut =
+      let own : terms.nodes ≡ nodes = ap (λ (v : TermsValue). v.nodes) e ∙ sym same in
+      let list : IsTermList nodes = subst IsTermList (sym same) is.terms in
+      let within : All (λ t. t < length nodes) (roots s) = subst (λ (ns : List Node). All (λ t. t < length ns) (roots s)) (sym same) held in
+      let walk : IsReach (arguments nodes) (roots s) reached = subst (λ (ns : List Node). IsReach (arguments ns) (roots s) reached) own (subst (λ ts. IsReach (arguments terms.nodes) ts reached) are reach) in
+      let all : flat_map (declared_variables nodes log.bits) reached ≡ found = ap (λ (ns : List Node). flat_map (declared_variables ns log.bits) reached) (sym own) ∙ sym is_found in
+      is_cut ∙ ap (take limits.cubes) (sorted_split list (roots s) reached within walk sorted (subst (λ vs. IsPermutation vs sorted) (sym all) moved) order)
+
+-- sorting and cutting keeps them variables
+pub still_variables : (found sorted cut : List ℕ) (n : ℕ) → AreVariables found → IsPermutation found sorted → cut ≡ take n sorted → AreVariables cut
+still_variables found sorted cut n each moved is =
+    let P = λ (x : ℕ). (0 < x) × (x < 2 ^ 63) in
+    subst AreVariables (sym is) (recursion_from_All P (take n sorted) (All-take P n sorted (All-permutation P found sorted moved (All-from_recursion P found each))))

@@ -1,5 +1,5 @@
--- How the search of a cube is looked up: marks of the terms that are reached, and the literals that are taken as true.
-use Rattle.std.specs.Prelude.{◌≡◌, ◌≤◌, ℕ, Bool, true, false, List, ◌∷◌, length, Option, Some, None, slice_index_or, is_some, ◌&&◌, if◌then◌else◌, [], option_to_list}
+-- How the search of a cube is looked up: the variables of declared terms, and the literals that are taken as true.
+use Rattle.std.specs.Prelude.{◌≡◌, ◌≤◌, ℕ, true, List, ◌∷◌, Option, Some, None, is_some, if◌then◌else◌, [], option_to_list}
 use Rattle.cnf_base.specs.Literals.{Literal}
 use Rattle.smt_terms.specs.declared.node.Node.{Node}
 use Rattle.smt_terms.specs.Nodes.{node_at}
@@ -7,35 +7,24 @@ use Rattle.smt_terms.specs.Bits.{TermBits, bits_in}
 use Rattle.scope_selectors.specs.declared.live.Live.{Live}
 use Rattle.script_state.specs.declared.answer.Asked.{Asked}
 use Rattle.proof_log.specs.declared.entry.Entry.{Entry}
-use Rattle.proof_log.specs.declared.entry.Entry.TheVariants as entry
 use Rattle.proof_log.specs.Logs.{constant_width, entry_at}
 use Rattle.proof_log.specs.Diaries.{is_chain}
 use Rattle.proof_log.specs.Stored.{selector_in}
 use Rattle.accepted_proof.specs.Searching as searching
-use Rattle.accepted_proof.specs.Searching.{is_reached, bits_or_none}
+use Rattle.accepted_proof.specs.Searching.{variables_of, bits_or_none}
 use Rattle.check_cubes.specs.declared.limits.Limits.{Limits}
 
 -- the limits of the header
 abbrev pub limits_of : Limits → searching.Limits
 limits_of l = record { cubes = l.cubes; budget = l.budget }
 
--- ---- what is reached
+-- ---- what splits
 
--- a term's mark; a term that has no place has none
-abbrev pub mark_of : List Bool → ℕ → Bool
-mark_of marks t = slice_index_or marks t false
-
--- exactly the terms have marks that some terms reach
-pub record AreReached (from : List ℕ) (nodes : List Node) (marks : List Bool) : Type 0 where
-  pub count : length marks ≡ length nodes
-  pub each : (t : ℕ) → mark_of marks t ≡ is_reached from nodes t
+-- the variables of a term's bits, where it is a declared Bool or word
+abbrev pub declared_variables : List Node → List TermBits → ℕ → List ℕ
+declared_variables nodes bits t = if is_some (constant_width (node_at nodes t).op) then variables_of (bits_in bits t) else []
 
 -- ---- what is taken as true
-
--- the bits of a declared Bool or word that is reached, which the step drew
-abbrev pub leaf_bits : List ℕ → List Node → List TermBits → Entry → List Literal
-leaf_bits from nodes bits (entry.Leaf t) = if is_some (constant_width (node_at nodes t).op) && is_reached from nodes t then bits_or_none (bits_in bits t) else []
-leaf_bits from nodes bits _ = []
 
 -- the selector of an assertion, where it has one
 abbrev pub kept_selector : List (Option Literal) → Live → List Literal

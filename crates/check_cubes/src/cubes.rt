@@ -1,39 +1,28 @@
 // The cubes of a check.
 
-ghost use Rattle.std.specs.Prelude.{◌≡◌, ◌≤◌, ◌<◌, ◌^◌, IfOk, MatchOption, length, map};
-ghost use Rattle.cnf_base.specs.Literals.{Literal};
+ghost use Rattle.std.specs.Prelude.{◌≡◌, ◌≤◌, ◌<◌, ◌^◌, IfOk, MatchOption, length};
 ghost use Rattle.cube_tree.specs.Cubes.{cube_of, AreVariables};
 ghost use Rattle.proof_log.specs.Stored.{Stands};
 ghost use Rattle.accepted_proof.specs.Searching.{Rise, cube_variables};
 ghost use Rattle.check_cubes.specs.Searches.{limits_of};
 
-use crate::leaves::split_bits;
+use crate::leaves::declared_variables;
 use crate::limits::Limits;
-use crate::reach::reached;
 use cnf_base::Lit;
 use proof_log::Log;
 use script_state::state::State;
 use std::alloc::{AllocError, Global};
-
-/// The variables of these literals.
-fn variables_of(alloc: Global, bits: &[Lit]) -> Result<Vec<u64>, AllocError>
-    ensures variables { IfOk result (λ v. v.items ≡ map (λ (l : Literal). l.variable) bits.now) }
-    ensures each { IfOk result (λ v. AreVariables v.items) }
-{
-    let mut variables = Vec::new(alloc);
-    'bits: for bit in bits {
-        variables.push(bit.variable())?;
-    }
-    Ok(variables)
-}
+use term_reach::{Reached, reach_by_arguments};
 
 /// The variables that split a check, in rising order: those of the declared names that it reaches, as many as the limits
-/// allow. Where they allow none, no term and no step is looked at.
+/// allow. Where they allow none, no term is looked at. `reached` is room for the walk, which its owner keeps from check to
+/// check; what it had may be forgotten.
 pub fn cube_variables(
     alloc: Global,
     state: &State,
     log: &Log,
     limits: Limits,
+    reached: &mut Reached,
 ) -> Result<Vec<u64>, AllocError>
     requires { Stands state.now.terms.nodes log.now }
     ensures variables { IfOk result (λ v. v.items ≡ cube_variables (limits_of limits) state.now state.now.terms.nodes log.now.entries) }
@@ -43,10 +32,13 @@ pub fn cube_variables(
     if limits.cubes == 0 {
         return Ok(Vec::new(alloc));
     }
-    let marks = reached(alloc, state)?;
-    let mut bits = split_bits(alloc, state, log, marks.as_slice())?;
-    bits.truncate(limits.cubes as usize);
-    variables_of(alloc, bits.as_slice())
+    let terms = state.terms();
+    let roots = state.roots(alloc)?;
+    reach_by_arguments(alloc, terms, roots.as_slice(), reached)?;
+    let mut variables = declared_variables(alloc, terms, log, reached.terms())?;
+    variables.sort_unstable();
+    variables.truncate(limits.cubes as usize);
+    Ok(variables)
 }
 
 /// The literals of a cube over these variables; nothing where they have none of its number.

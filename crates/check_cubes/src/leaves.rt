@@ -1,17 +1,14 @@
-// The bits by which a check may be split: those of declared names that it reaches.
+// The variables by which a check may be split: those of the declared names that it reaches.
 
-ghost use Rattle.std.specs.Prelude.{◌≡◌, ◌++◌, ◌&&◌, is_some, IfOk, OnOk, length, option_to_list};
+ghost use Rattle.std.specs.Prelude.{◌≡◌, ◌<◌, ◌++◌, is_some, All, IfOk, OnOk, length, map};
 ghost use Rattle.std.specs.List.{flat_map};
-ghost use Rattle.smt_terms.specs.Nodes.{node_at};
-ghost use Rattle.proof_log.specs.declared.entry.Entry.TheVariants as step;
-ghost use Rattle.proof_log.specs.Logs.{constant_width, entry_at};
-ghost use Rattle.script_state.specs.States.{roots};
-ghost use Rattle.check_cubes.specs.Searches.{mark_of, AreReached, leaf_bits};
+ghost use Rattle.cnf_base.specs.Literals.{Literal};
+ghost use Rattle.cube_tree.specs.Cubes.{AreVariables};
+ghost use Rattle.proof_log.specs.Logs.{constant_width};
+ghost use Rattle.check_cubes.specs.Searches.{declared_variables};
 
-use cnf_base::{Lit, Pos};
+use cnf_base::Lit;
 use proof_log::Log;
-use proof_log::entry::Entry;
-use script_state::state::State;
 use smt_terms::node::{Op, TermId};
 use smt_terms::sort::Sort;
 use smt_terms::terms::Terms;
@@ -34,101 +31,53 @@ fn is_split_by(op: &Op) -> bool
     }
 }
 
-/// Whether a term has its mark.
-fn has_mark(marks: &[bool], term: TermId) -> bool
-    ensures { result ≡ mark_of marks.now term }
+/// Appends the variables of literals.
+fn push_variables(literals: &[Lit], to: &mut Vec<u64>) -> Result<(), AllocError>
+    requires each { AreVariables to.old.items }
+    ensures variables { OnOk result (to.new.items ≡ to.old.items ++ map (λ (l : Literal). l.variable) literals.now) }
+    ensures each { OnOk result (AreVariables to.new.items) }
 {
-    match marks.get(term as usize) {
-        Some(mark) => *mark,
-        None => false,
+    'literals: for literal in literals {
+        to.push(literal.variable())?;
     }
+    Ok(())
 }
 
-/// Whether a check may be split by the bits of a term.
-fn splits(terms: &Terms, marks: &[bool], term: TermId) -> bool
-    requires { length marks.now ≡ length terms.now.nodes }
-    ensures { result ≡ (is_some (constant_width (node_at terms.now.nodes term).op) && mark_of marks.now term) }
-{
-    if !has_mark(marks, term) {
-        return false;
-    }
-    is_split_by(&terms.node(term).op)
-}
-
-/// Appends literals.
-fn push_all(literals: &[Lit], to: &mut Vec<Lit>) -> Result<(), AllocError>
-    ensures { OnOk result (to.new.items ≡ to.old.items ++ literals.now) }
-{
-    to.extend_from_slice(literals)
-}
-
-/// Appends the bits of a term that a Leaf step drew, where a check may be split by them.
-fn push_leaf(
-    state: &State,
+/// Appends the variables of the bits of a term, where a check may be split by them.
+fn push_declared(
+    terms: &Terms,
     log: &Log,
-    marks: &[bool],
     term: TermId,
-    to: &mut Vec<Lit>,
+    to: &mut Vec<u64>,
 ) -> Result<(), AllocError>
-    requires { AreReached (roots state.now) state.now.terms.nodes marks.now }
-    ensures { OnOk result (to.new.items ≡ to.old.items ++ leaf_bits (roots state.now) state.now.terms.nodes log.now.bits (step.Leaf term)) }
+    requires held { term < length terms.now.nodes }
+    requires each { AreVariables to.old.items }
+    ensures variables { OnOk result (to.new.items ≡ to.old.items ++ declared_variables terms.now.nodes log.now.bits term) }
+    ensures each { OnOk result (AreVariables to.new.items) }
 {
-    if !splits(state.terms(), marks, term) {
+    if !is_split_by(&terms.node(term).op) {
         return Ok(());
     }
     match log.bits().of(term) {
-        Some(bits) => push_all(bits, to),
+        Some(bits) => push_variables(bits, to),
         None => Ok(()),
     }
 }
 
-/// Appends the bits that a step drew, where a check may be split by them.
-fn push_drawn(
-    state: &State,
-    log: &Log,
-    marks: &[bool],
-    drawn: &Entry,
-    to: &mut Vec<Lit>,
-) -> Result<(), AllocError>
-    requires { AreReached (roots state.now) state.now.terms.nodes marks.now }
-    ensures { OnOk result (to.new.items ≡ to.old.items ++ leaf_bits (roots state.now) state.now.terms.nodes log.now.bits drawn.now) }
-{
-    match drawn {
-        Entry::Leaf(term) => push_leaf(state, log, marks, *term, to),
-        _ => Ok(()),
-    }
-}
-
-/// Appends the bits that the step at a position drew, where a check may be split by them.
-fn push_step(
-    state: &State,
-    log: &Log,
-    marks: &[bool],
-    at: Pos,
-    to: &mut Vec<Lit>,
-) -> Result<(), AllocError>
-    requires { AreReached (roots state.now) state.now.terms.nodes marks.now }
-    ensures { OnOk result (to.new.items ≡ to.old.items ++ flat_map (leaf_bits (roots state.now) state.now.terms.nodes log.now.bits) (option_to_list (entry_at log.now.entries at))) }
-{
-    match log.entry(at) {
-        Some(drawn) => push_drawn(state, log, marks, drawn, to),
-        None => Ok(()),
-    }
-}
-
-/// The bits by which a check may be split, in the order of the log.
-pub(crate) fn split_bits(
+/// The variables of the bits of these terms, where a check may be split by them.
+pub(crate) fn declared_variables(
     alloc: Global,
-    state: &State,
+    terms: &Terms,
     log: &Log,
-    marks: &[bool],
-) -> Result<Vec<Lit>, AllocError>
-    requires { AreReached (roots state.now) state.now.terms.nodes marks.now }
-    ensures { IfOk result (λ b. b.items ≡ flat_map (leaf_bits (roots state.now) state.now.terms.nodes log.now.bits) log.now.entries) }
+    reached: &[TermId],
+) -> Result<Vec<u64>, AllocError>
+    requires held { All (λ t. t < length terms.now.nodes) reached.now }
+    ensures variables { IfOk result (λ v. v.items ≡ flat_map (declared_variables terms.now.nodes log.now.bits) reached.now) }
+    ensures each { IfOk result (λ v. AreVariables v.items) }
 {
-    let mut bits = Vec::new(alloc);
-    'steps: for at in 1..log.len() {
-        push_step(state, log, marks, at, &mut bits)?;
+    let mut variables = Vec::new(alloc);
+    'terms: for term in reached {
+        push_declared(terms, log, *term, &mut variables)?;
     }
-    Ok(bits)
+    Ok(variables)
 }

@@ -12,7 +12,6 @@
 mod cubes;
 mod leaves;
 mod limits;
-mod reach;
 mod searches;
 
 pub use cubes::{cube_literals, cube_variables};

@@ -20,6 +20,7 @@ use script_state::answer::Asked;
 use script_state::state::State;
 use smt_terms::node::TermId;
 use std::alloc::{AllocError, Global};
+use term_reach::Reached;
 
 /// Whether a step is a chain.
 fn is_chain(step: &Entry) -> bool
@@ -97,7 +98,7 @@ fn push_assumed(log: &Log, assumed: &[Asked], given: &mut Vec<Lit>) -> Result<bo
 }
 
 /// What the search of a cube takes as true: the cube's literals, the selectors of the live assertions and the bits of the
-/// assumptions. Nothing where no search of it may start at this position.
+/// assumptions. Nothing where no search of it may start at this position. `reached` serves as for [`cube_variables`].
 pub fn search(
     alloc: Global,
     state: &State,
@@ -105,6 +106,7 @@ pub fn search(
     limits: Limits,
     cube: u64,
     start: Pos,
+    reached: &mut Reached,
 ) -> Result<Option<Vec<Lit>>, AllocError>
     requires { Stands state.now.terms.nodes log.now }
     ensures { IfOk result (λ o. MatchOption o
@@ -118,7 +120,7 @@ pub fn search(
     if !are_chains(log, start) {
         return Ok(None);
     }
-    let variables = cube_variables(alloc, state, log, limits)?;
+    let variables = cube_variables(alloc, state, log, limits, reached)?;
     let Some(mut given) = cube_literals(alloc, variables.as_slice(), cube)? else {
         return Ok(None);
     };

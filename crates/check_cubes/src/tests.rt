@@ -8,6 +8,7 @@ use proof_log::Log;
 use script_state::state::State;
 use std::alloc::{AllocError, Global};
 use std::test::Fail;
+use term_reach::Reached;
 
 // Whether the cube of this number over the variables 5 and 7 has these literals; none where there is no such cube.
 fn has_cube(alloc: Global, cube: u64, expected: Option<[Lit; 2]>) -> Result<bool, AllocError> {
@@ -46,7 +47,8 @@ fn taken(
 ) -> Result<Option<usize>, AllocError>
     requires { Stands state.now.terms.nodes log.now }
 {
-    let given = search(alloc, state, log, TWO, cube, start)?;
+    let mut reached = Reached::new(alloc);
+    let given = search(alloc, state, log, TWO, cube, start, &mut reached)?;
     Ok(given.map(|given| given.len()))
 }
 
@@ -54,7 +56,8 @@ fn taken(
 fn has_one_cube(alloc: Global, state: &State, log: &Log) -> Result<bool, AllocError>
     requires { Stands state.now.terms.nodes log.now }
 {
-    let variables = cube_variables(alloc, state, log, TWO)?;
+    let mut reached = Reached::new(alloc);
+    let variables = cube_variables(alloc, state, log, TWO, &mut reached)?;
     Ok(
         variables.is_empty()
             && taken(alloc, state, log, 0, 1)? == Some(0)

@@ -21,6 +21,7 @@ use proof_log::diary::{DiaryLine, DiaryLines};
 use proof_text::line::Line;
 use script_state::answer::Verdict;
 use std::alloc::{AllocError, Global};
+use term_reach::Reached;
 
 /// A diary without a line, of which one is next and so many are left behind it.
 fn open(
@@ -144,7 +145,9 @@ impl Checker {
         if count == 0 {
             return Ok(self.refuse(RuleName::Diary));
         }
-        let Ok(given) = search(alloc, &self.state, &self.log, self.limits, cube, start) else {
+        let (state, log, limits) = (&self.state, &self.log, self.limits);
+        let mut reached = Reached::new(alloc);
+        let Ok(given) = search(alloc, state, log, limits, cube, start, &mut reached) else {
             return Err(self.release());
         };
         match given {

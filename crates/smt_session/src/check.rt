@@ -36,6 +36,7 @@ use script_state::answer::Verdict;
 use script_state::state::State;
 use smt_text::text::Text;
 use std::alloc::{AllocError, Global};
+use term_reach::Reached;
 
 /// The verdict that a record shows.
 pub(crate) fn verdict_of(shown: &Record) -> Verdict
@@ -55,7 +56,8 @@ fn split(alloc: Global, state: &State, log: &Log, limits: Limits) -> Result<Tree
     ensures variables { IfOk result (λ t. t ≡ cube_variables (limits_of limits) state.now state.now.terms.nodes log.now.entries) }
     ensures rise { IfOk result (λ t. Rise 2 log.now.next t) }
 {
-    let variables = cube_variables(alloc, state, log, limits)?;
+    let mut reached = Reached::new(alloc);
+    let variables = cube_variables(alloc, state, log, limits, &mut reached)?;
     Tree::split(alloc, variables.as_slice(), limits.cubes)
 }
 

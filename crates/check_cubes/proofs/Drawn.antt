@@ -1,0 +1,74 @@
+-- A declared term that has bits got them by a step of its own.
+use Rattle.std.proofs.Common.{◌≡◌, ℕ, Bool, true, false, List, [], ◌∷◌, Option, Some, None, refl, sym, ap, ◌∙◌, subst, inl, inr, ⊎_elim}
+use Rattle.std.specs.Prelude.{◌⊎◌, is_some, Contains}
+use Rattle.cnf_base.specs.Literals.{Literal}
+use Rattle.smt_terms.specs.declared.node.Op.{Op}
+use Rattle.smt_terms.specs.declared.node.Op.TheVariants.{Plain, Word, Extract, ZeroExtend, SignExtend, RotateLeft, RotateRight, Repeat, ConstantArray, Constant, Apply, Param}
+use Rattle.smt_terms.specs.declared.node.Node.{Node}
+use Rattle.smt_terms.specs.Nodes.{node_at}
+use Rattle.bit_blast.specs.Blocks.{Block, all_bits, block_over, block_of}
+use Rattle.proof_log.specs.declared.entry.Entry.{Entry}
+use Rattle.proof_log.specs.declared.entry.Entry.TheVariants as step
+use Rattle.proof_log.specs.Logs.{LogState, start, constant_width, leaf_after, block_after, selector_after, after, state_from, state_of}
+use Rattle.proof_log.proofs.Sound.{with_value_cases}
+use Rattle.cnf_base.proofs.Lists.{Contains-first, Contains-later}
+
+-- the operator is a declared Bool or word
+abbrev pub IsDeclared : Op → Type 0
+IsDeclared op = is_some (constant_width op) ≡ true
+
+not_declared : ◌≡◌ {A = Bool} false true → ⊥
+not_declared e = let f : ⊥ = cc in f
+
+-- such an operator has no circuit
+no_circuit : (op : Op) (g : ℕ) (o : Option (List (List Literal))) → IsDeclared op → block_over op g o ≡ None
+no_circuit (Plain p) g o e = absurd (not_declared e)
+no_circuit (Word n x) g o e = absurd (not_declared e)
+no_circuit (Extract i j) g o e = absurd (not_declared e)
+no_circuit (ZeroExtend i) g o e = absurd (not_declared e)
+no_circuit (SignExtend i) g o e = absurd (not_declared e)
+no_circuit (RotateLeft i) g o e = absurd (not_declared e)
+no_circuit (RotateRight i) g o e = absurd (not_declared e)
+no_circuit (Repeat i) g o e = absurd (not_declared e)
+no_circuit (ConstantArray k) g o e = absurd (not_declared e)
+no_circuit (Constant d s) g None e = refl
+no_circuit (Constant d s) g (Some []) e = refl
+no_circuit (Constant d s) g (Some (b ∷ bs)) e = refl
+no_circuit (Apply d s) g o e = absurd (not_declared e)
+no_circuit (Param k s) g o e = absurd (not_declared e)
+
+module _ (nodes : List Node) (t : ℕ) (declared : IsDeclared (node_at nodes t).op) where
+  -- the term has these bits
+  abbrev HasBits : LogState → List Literal → Type 0
+  HasBits s b = s.bits t ≡ Some b
+
+  leaf_drew : (s : LogState) (u : ℕ) (o : Option ℕ) (b : List Literal) → HasBits (leaf_after s u o) b → (t ≡ u) ⊎ HasBits s b
+  leaf_drew s u None b h = inr h
+  leaf_drew s u (Some n) b h = ⊎_elim (λ p. inl p.0) (λ p. inr p) (with_value_cases s.bits u _ t b h)
+
+  block_drew : (s : LogState) (u : ℕ) (o : Option Block) (b : List Literal) → (t ≡ u → o ≡ None) → HasBits (block_after s u o) b → HasBits s b
+  block_drew s u None b none h = h
+  block_drew s u (Some k) b none h = ⊎_elim (λ p. absurd (let e : ◌≡◌ {A = Option Block} (Some k) None = none p.0 in let f : ⊥ = cc in f)) (λ p. p) (with_value_cases s.bits u _ t b h)
+
+  selector_drew : (s : LogState) (a u : ℕ) (o : Option (List Literal)) (b : List Literal) → HasBits (selector_after s a u o) b → HasBits s b
+  selector_drew s a u None b h = h
+  selector_drew s a u (Some []) b h = h
+  selector_drew s a u (Some (x ∷ xs)) b h = h
+
+  step_drew : (s : LogState) (e : Entry) (b : List Literal) → HasBits (after nodes s e) b → (e ≡ step.Leaf t) ⊎ HasBits s b
+  step_drew s (step.Leaf u) b h = ⊎_elim (λ p. inl (ap step.Leaf (sym p))) (λ p. inr p) (leaf_drew s u (constant_width (node_at nodes u).op) b h)
+  step_drew s (step.Encode u) b h =
+      inr (block_drew s u (block_of s.next s.bits (node_at nodes u)) b
+      (λ p. subst (λ v. block_of s.next s.bits (node_at nodes v) ≡ None) p (no_circuit (node_at nodes t).op s.next (all_bits s.bits (node_at nodes t).args) declared)) h)
+  step_drew s (step.Selector a u) b h = inr (selector_drew s a u (s.bits u) b h)
+  step_drew s e b h = inr h
+
+  steps_drew : (s : LogState) (log : List Entry) (b : List Literal) → HasBits (state_from nodes s log) b → Contains log (step.Leaf t) ⊎ HasBits s b
+  steps_drew s [] b h = inr h
+  steps_drew s (e ∷ log) b h = ⊎_elim
+      (λ later. inl (Contains-later e (step.Leaf t) log later))
+      (λ before. ⊎_elim (λ same. inl (subst (λ x. Contains (x ∷ log) (step.Leaf t)) (sym same) (Contains-first (step.Leaf t) log))) (λ p. inr p) (step_drew s e b before))
+      (steps_drew (after nodes s e) log b h)
+
+  pub drawn : (log : List Entry) (b : List Literal) → (state_of nodes log).bits t ≡ Some b → Contains log (step.Leaf t)
+  drawn log b h = ⊎_elim (λ c. c) (λ (e : ◌≡◌ {A = Option (List Literal)} None (Some b)). absurd (let f : ⊥ = cc in f)) (steps_drew start log b h)
