@@ -1,9 +1,10 @@
 // The checker.
 
-ghost use Rattle.std.specs.Prelude.{◌≡◌, ◌+◌, ◌<◌, ◌^◌, true, not, Some, None, IfOk, MatchResult};
+ghost use Rattle.std.specs.Prelude.{◌≡◌, ◌+◌, ◌<◌, ◌^◌, true, not, Some, None, IfOk, MatchResult, option_to_list};
 ghost use Rattle.proof_text.specs.Lines.{IsLine};
 ghost use Rattle.accepted_proof.specs.Judged.{is_idle, ending, refused, Moves};
 ghost use Rattle.check_cubes.specs.Searches.{limits_of};
+ghost use Rattle.proof_checker.specs.Checked.{shown_at};
 ghost use Rattle.proof_checker.specs.Checkers.{GoesTo, line_in, IsRead, judged_so, answer_by, at_end, closed_with, gone_on, owed_of, IsOpen, IsNoted};
 
 use crate::due::Due;
@@ -63,6 +64,16 @@ impl Checker {
         ensures { result.now ≡ self.now.verdicts }
     {
         self.verdicts.as_slice()
+    }
+
+    /// The verdict of the record that ended the check, where one did and nothing is owed since.
+    pub(crate) fn shown(&self) -> Option<Verdict>
+        ensures { shown_at self.now.judging ≡ option_to_list result }
+    {
+        match &self.due {
+            Due::Nothing => self.state.standing(),
+            _ => None,
+        }
     }
 
     // Lets the checker go for want of memory. It is dropped here, and not part by part wherever a function has to stop.
