@@ -16,8 +16,8 @@ use Rattle.accepted_proof.specs.Searching.{Limits}
 use Rattle.accepted_proof.specs.Judged.{Judging, no_judging, commanded, is_idle, ending, Moves, IsHeader, bad_header, ReadEach}
 use Rattle.accepted_proof.proofs.Following.{reach_here}
 use Rattle.proof_checker.specs.Checkers.{Says, CheckerValue, no_records, judged_so, GoesTo, answer_by, at_end}
-use Rattle.proof_checker.specs.Checked.{shown_at, AreLines, Tells, IsTold}
-use Rattle.proof_checker.specs.Checkings.{MayCome, to_be_done, told_from, IsJudgedFrom, AreToCome, Keeps, verdicts_by, Concludes, held_by, IsSameScript, IsSameProof, TakesLine, TakesChunk, IsProofAtEnd, IsScriptAtEnd, IsLeft, HasNoCommand, IsAtLine, Stops, Advances}
+use Rattle.proof_checker.specs.Checked.{shown_at, AreLines, Tells, IsTold, IsToldSoFar}
+use Rattle.proof_checker.specs.Checkings.{MayCome, to_be_done, told_from, IsJudgedFrom, IsAcceptedFrom, AreToCome, Keeps, verdicts_by, Concludes, AddsVerdicts, GoesOn, held_by, IsSameScript, IsSameProof, TakesLine, TakesChunk, IsProofAtEnd, IsScriptAtEnd, IsLeft, HasNoCommand, IsAtLine, Stops, Advances}
 use Rattle.proof_checker.specs.declared.inputs.Inputs.{Inputs}
 use Rattle.proof_checker.specs.declared.checking.Checking.{Checking}
 use Rattle.proof_checker.specs.declared.checking.Judgement.{Judgement}
@@ -27,16 +27,25 @@ use Rattle.proof_checker.specs.declared.checking.Step.{Step}
 use Rattle.proof_checker.specs.declared.checking.Step.TheVariants as step
 use Rattle.proof_checker.proofs.Splits.{lines_there}
 use Rattle.proof_checker.proofs.Chunking.{more_none, cut_there}
-use Rattle.proof_checker.proofs.Telling.{IsReached, tells_line, tells_end, tells_command, tells_over, over_of, ending_none, shown_behind}
+use Rattle.proof_checker.proofs.Telling.{IsReached, tells_line, tells_end, tells_command, tells_over, over_of, over_shown, ending_none, shown_behind, shown_ending}
 
 -- ---- steps after steps
 
 pub keeps_none : (i : Inputs) (c : Option CheckerValue) (k : Checking) → k.inputs ≡ i → k.checker ≡ c → Keeps i c k
 keeps_none i c k e f = record {
   judged = λ s p vs o t h. subst (λ (x : Option CheckerValue). IsJudgedFrom i x s p vs o) f (subst (λ (x : Inputs). IsJudgedFrom x k.checker s p vs o) e h);
+  accepted = λ s p vs t h. subst (λ (x : Option CheckerValue). IsAcceptedFrom i x s p vs) f (subst (λ (x : Inputs). IsAcceptedFrom x k.checker s p vs) e h);
   script = ap (λ (x : Inputs). x.script_ended) e;
   proof = ap (λ (x : Inputs). x.proof_ended) e;
+  held = subst (λ (x : Inputs). held_by x ≤ held_by i) (sym e) (omega arith);
 }
+
+-- no verdict came
+pub adds_none : (c d : Option CheckerValue) → verdicts_by d ≡ verdicts_by c → AddsVerdicts c d []
+adds_none c d e = e ∙ sym (append-nil (verdicts_by c))
+
+pub adds_more : (c d b : Option CheckerValue) (vs : List Verdict) → AddsVerdicts c d [] → AddsVerdicts d b vs → AddsVerdicts c b vs
+adds_more c d b vs e f = f ∙ ap (λ us. us ++ vs) (e ∙ append-nil (verdicts_by c))
 
 still : (i j : Inputs) (s p : List ℕ) → j.script_ended ≡ i.script_ended → j.proof_ended ≡ i.proof_ended → AreToCome i s p → AreToCome j s p
 still i j s p e f t = record { script = λ h. t.script (sym e ∙ h); proof = λ h. t.proof (sym f ∙ h) }
@@ -45,14 +54,25 @@ module _ (i : Inputs) (c : Option CheckerValue) (k : Checking) (a : Keeps i c k)
   pub keeps_more : (m : Checking) → Keeps k.inputs k.checker m → Keeps i c m
   keeps_more m b = record {
     judged = λ s p vs o t h. a.judged s p vs o t (b.judged s p vs o (still i k.inputs s p a.script a.proof t) h);
+    accepted = λ s p vs t h. a.accepted s p vs t (b.accepted s p vs (still i k.inputs s p a.script a.proof t) h);
     script = b.script ∙ a.script;
     proof = b.proof ∙ a.proof;
+    held = omega (arith, a.held, b.held);
   }
 
-  pub stops_more : (p : Progress) → Stops k.inputs k.checker p → Stops i c p
-  stops_more (progress.Script m) b = (keeps_more m b.0, b.1)
-  stops_more (progress.Proof m) b = (keeps_more m b.0, b.1)
-  stops_more (progress.Done j) b = λ s p t. a.judged s p (verdicts_by j.checker) j.refusal t (b s p (still i k.inputs s p a.script a.proof t))
+  pub stops_more : AddsVerdicts c k.checker [] → (p : Progress) → Stops k.inputs k.checker p → Stops i c p
+  stops_more e (progress.Script m) b = (keeps_more m b.0, adds_more c k.checker m.checker [] e b.1, b.2)
+  stops_more e (progress.Proof m) b = (keeps_more m b.0, adds_more c k.checker m.checker [] e b.1, b.2)
+  stops_more e (progress.Shown m v) b = (
+    keeps_more m b.0,
+    adds_more c k.checker m.checker (v ∷ []) e b.1,
+    (λ s p t. a.accepted s p (verdicts_by m.checker) t (b.2 s p (still i k.inputs s p a.script a.proof t))),
+    omega (arith, a.held, b.3),
+  )
+  stops_more e (progress.Done j) b = (
+    (λ s p t. a.judged s p (verdicts_by j.checker) j.refusal t (b.0 s p (still i k.inputs s p a.script a.proof t))),
+    adds_more c k.checker j.checker [] e b.1,
+  )
 
 -- ---- where a line is read
 
@@ -85,6 +105,14 @@ reached i c (inr (inr e)) s chunks behind says rest t k r n =
     let none : says ++ rest ≡ [] = ap (λ x. x ++ rest) (no_readings chunks says b.0 r) ∙ no_rest rest behind b.1 n in
     subst (λ x. IsReached c.judging (to_be_done i.run_ended x)) (sym none) (none_reached c.judging i.run_ended)
 
+-- the same, where the commands alone count that were done
+reached_alone : (i : Inputs) (c : CheckerValue) → IsAtLine i c → (s : List ℕ) (chunks behind : List Chunk) (says : List Says) → MayCome i.script_ended s → AreCut (and_more i.framer s) (chunks ++ behind) → ReadEach chunks says → IsReached c.judging (to_be_done i.run_ended says)
+reached_alone i c (inl e) s chunks behind says t k r = reach_here c.judging (to_be_done i.run_ended says) e
+reached_alone i c (inr (inl e)) s chunks behind says t k r = subst (λ b. IsReached c.judging (to_be_done b says)) (sym e) refl
+reached_alone i c (inr (inr e)) s chunks behind says t k r =
+    let b = none_behind chunks behind (no_chunks i s (chunks ++ behind) e t k) in
+    subst (λ x. IsReached c.judging (to_be_done i.run_ended x)) (sym (no_readings chunks says b.0 r)) (none_reached c.judging i.run_ended)
+
 -- what is judged where the run ended, or did not
 abbrev ToldBy : Bool → Held → List ℕ → Option CheckerValue → List Verdict → Option Refusal → Type 0
 ToldBy ended script proof c vs o = IsTold (told_from ended c) ended script proof vs o
@@ -105,6 +133,9 @@ module _ (old new : Inputs) (l : Option Line) (same : IsSameScript old new) (tak
   fewer : held_by new < held_by old
   fewer = let e : length new.framer.bytes ≡ length old.framer.bytes = ap (λ (x : Held). length x.bytes) same.framer in let f = takes.less in omega arith
 
+  no_more : (k : Checking) → k.inputs ≡ new → held_by k.inputs ≤ held_by old
+  no_more k ki = subst (λ (x : Inputs). held_by x ≤ held_by old) (sym ki) (omega (arith, fewer))
+
   -- the header
   pub begun : (c : CheckerValue) (limits : Limits) → IsHeader l limits → c ≡ no_records limits → (k : Checking) → k.inputs ≡ new → k.checker ≡ Some c → Advances old None (step.On k)
   begun c limits head e k ki kc = (
@@ -122,15 +153,31 @@ module _ (old new : Inputs) (l : Option Line) (same : IsSameScript old new) (tak
             told = λ rest n. let q = told_back (Some (no_records limits)) (h.says ++ rest) h.lines vs o (h.told rest n) in inl (limits, head, subst (λ x. Tells (no_judging limits) (to_be_done old.run_ended (h.says ++ rest)) h.lines x o) (sym q.1) q.2);
             whole = whole_back h.behind h.says o h.whole;
           };
+      accepted = λ s p vs t h'.
+          let h : IsAcceptedFrom new (Some (no_records limits)) s p vs = subst (λ (x : CheckerValue). IsAcceptedFrom new (Some x) s p vs) e (subst (λ (x : Option CheckerValue). IsAcceptedFrom new x s p vs) kc (subst (λ (x : Inputs). IsAcceptedFrom x k.checker s p vs) ki h')) in
+          let q = told_back (Some (no_records limits)) h.says h.lines vs None h.told in
+          record {
+            chunks = h.chunks;
+            behind = h.behind;
+            says = h.says;
+            lines = l ∷ h.lines;
+            later = h.later;
+            cut = cut_back s (h.chunks ++ h.behind) h.cut;
+            read = h.read;
+            split = takes.lines p (h.lines ++ h.later) t.proof h.split;
+            told = inl (limits, head, subst (λ x. Tells (no_judging limits) (to_be_done old.run_ended h.says) h.lines x None) (sym q.1) q.2);
+          };
       script = ap (λ (x : Inputs). x.script_ended) ki ∙ same.script;
       proof = ap (λ (x : Inputs). x.proof_ended) ki ∙ same.proof;
+      held = no_more k ki;
     },
+    ap verdicts_by kc ∙ ap (λ (x : CheckerValue). x.verdicts) e,
     subst (λ (x : Inputs). held_by x < held_by old) (sym ki) fewer,
   )
 
   -- no header
-  pub unbegun : (f : Refusal) → ((limits : Limits) → IsHeader l limits → ⊥) → f ≡ bad_header → (j : Judgement) → j.checker ≡ None → j.refusal ≡ Some f → Concludes old None j
-  unbegun f head e j jc jr s p t =
+  unbegun_so : (f : Refusal) → ((limits : Limits) → IsHeader l limits → ⊥) → f ≡ bad_header → (j : Judgement) → j.checker ≡ None → j.refusal ≡ Some f → Concludes old None j
+  unbegun_so f head e j jc jr s p t =
       let cs = cut_there (and_more old.framer s) in
       let ls = lines_there (new.reader.bytes ++ p) in
       subst (λ (x : Option CheckerValue). IsJudgedFrom old None s p (verdicts_by x) j.refusal) (sym jc)
@@ -147,35 +194,90 @@ module _ (old new : Inputs) (l : Option Line) (same : IsSameScript old new) (tak
         whole = λ z. absurd (let y : ⊥ = cc in y);
       }))
 
-  module _ (c d : CheckerValue) (at : IsAtLine old c) (goes : GoesTo (Moves c.judging l) c d) where
-    pub lined : (k : Checking) → k.inputs ≡ new → k.checker ≡ Some d → Advances old (Some c) (step.On k)
-    lined k ki kc = (
-      record {
-        judged = λ s p vs o t h'.
-            let h : IsJudgedFrom new (Some d) s p vs o = subst (λ (x : Option CheckerValue). IsJudgedFrom new x s p vs o) kc (subst (λ (x : Inputs). IsJudgedFrom x k.checker s p vs o) ki h') in
-            let k' = cut_back s (h.chunks ++ h.behind) h.cut in
-            record {
-              chunks = h.chunks;
-              behind = h.behind;
-              says = h.says;
-              lines = l ∷ h.lines;
-              cut = k';
-              read = h.read;
-              split = takes.lines p h.lines t.proof h.split;
-              told = λ rest n.
-                  let q = told_back (Some d) (h.says ++ rest) h.lines vs o (h.told rest n) in
-                  let r = reached old c at s h.chunks h.behind h.says rest t.script k' h.read n in
-                  (shown_at d.judging ++ q.0, q.1 ∙ shown_behind (Moves c.judging l) c d q.0 goes, tells_line c.judging d.judging (to_be_done old.run_ended (h.says ++ rest)) l h.lines q.0 o r goes.judged q.2);
-              whole = whole_back h.behind h.says o h.whole;
-            };
-        script = ap (λ (x : Inputs). x.script_ended) ki ∙ same.script;
-        proof = ap (λ (x : Inputs). x.proof_ended) ki ∙ same.proof;
-      },
-      subst (λ (x : Inputs). held_by x < held_by old) (sym ki) fewer,
-    )
+  pub unbegun : (f : Refusal) → ((limits : Limits) → IsHeader l limits → ⊥) → f ≡ bad_header → (j : Judgement) → j.checker ≡ None → j.refusal ≡ Some f → Concludes old None j × AddsVerdicts None j.checker []
+  unbegun f head e j jc jr = (unbegun_so f head e j jc jr, ap verdicts_by jc)
 
-    pub refused : (r : Refusal) → answer_by d.judging.owed ≡ Err r → (j : Judgement) → j.checker ≡ Some d → j.refusal ≡ Some r → Concludes old (Some c) j
-    refused r e j jc jr s p t =
+  module _ (c d : CheckerValue) (at : IsAtLine old c) (goes : GoesTo (Moves c.judging l) c d) where
+    lined_keeps : (k : Checking) → k.inputs ≡ new → k.checker ≡ Some d → Keeps old (Some c) k
+    lined_keeps k ki kc = record {
+      judged = λ s p vs o t h'.
+          let h : IsJudgedFrom new (Some d) s p vs o = subst (λ (x : Option CheckerValue). IsJudgedFrom new x s p vs o) kc (subst (λ (x : Inputs). IsJudgedFrom x k.checker s p vs o) ki h') in
+          let k' = cut_back s (h.chunks ++ h.behind) h.cut in
+          record {
+            chunks = h.chunks;
+            behind = h.behind;
+            says = h.says;
+            lines = l ∷ h.lines;
+            cut = k';
+            read = h.read;
+            split = takes.lines p h.lines t.proof h.split;
+            told = λ rest n.
+                let q = told_back (Some d) (h.says ++ rest) h.lines vs o (h.told rest n) in
+                let r = reached old c at s h.chunks h.behind h.says rest t.script k' h.read n in
+                (shown_at d.judging ++ q.0, q.1 ∙ shown_behind (Moves c.judging l) c d q.0 goes, tells_line c.judging d.judging (to_be_done old.run_ended (h.says ++ rest)) l h.lines q.0 o r goes.judged q.2);
+            whole = whole_back h.behind h.says o h.whole;
+          };
+      accepted = λ s p vs t h'.
+          let h : IsAcceptedFrom new (Some d) s p vs = subst (λ (x : Option CheckerValue). IsAcceptedFrom new x s p vs) kc (subst (λ (x : Inputs). IsAcceptedFrom x k.checker s p vs) ki h') in
+          let k' = cut_back s (h.chunks ++ h.behind) h.cut in
+          let q = told_back (Some d) h.says h.lines vs None h.told in
+          let r = reached_alone old c at s h.chunks h.behind h.says t.script k' h.read in
+          record {
+            chunks = h.chunks;
+            behind = h.behind;
+            says = h.says;
+            lines = l ∷ h.lines;
+            later = h.later;
+            cut = k';
+            read = h.read;
+            split = takes.lines p (h.lines ++ h.later) t.proof h.split;
+            told = (shown_at d.judging ++ q.0, q.1 ∙ shown_behind (Moves c.judging l) c d q.0 goes, tells_line c.judging d.judging (to_be_done old.run_ended h.says) l h.lines q.0 None r goes.judged q.2);
+          };
+      script = ap (λ (x : Inputs). x.script_ended) ki ∙ same.script;
+      proof = ap (λ (x : Inputs). x.proof_ended) ki ∙ same.proof;
+      held = no_more k ki;
+    }
+
+    -- the verdicts are those before and the one that is shown
+    verdicts_are : d.verdicts ≡ c.verdicts ++ shown_at d.judging
+    verdicts_are = sym (append-nil d.verdicts) ∙ shown_behind (Moves c.judging l) c d [] goes ∙ ap (λ x. c.verdicts ++ x) (append-nil (shown_at d.judging))
+
+    -- where the line ended a check, so much is accepted
+    line_shows : (v : Verdict) → shown_at d.judging ≡ v ∷ [] → (s p : List ℕ) → AreToCome old s p → IsAcceptedFrom old (Some c) s p d.verdicts
+    line_shows v e s p t =
+        let cs = cut_there (and_more old.framer s) in
+        let ls = lines_there (new.reader.bytes ++ p) in
+        let none : Tells d.judging (to_be_done old.run_ended []) [] [] None = subst (λ o. Tells d.judging (to_be_done old.run_ended []) [] [] o) (shown_ending d.judging v e) (tells_end d.judging (to_be_done old.run_ended []) (none_reached d.judging old.run_ended)) in
+        record {
+          chunks = [];
+          behind = cs.0;
+          says = [];
+          lines = l ∷ [];
+          later = ls.0;
+          cut = cs.1;
+          read = tt;
+          split = takes.lines p ls.0 t.proof ls.1;
+          told = (shown_at d.judging ++ [], sym (append-nil d.verdicts) ∙ shown_behind (Moves c.judging l) c d [] goes, tells_line c.judging d.judging (to_be_done old.run_ended []) l [] [] None (none_reached c.judging old.run_ended) goes.judged none);
+        }
+
+    pub lined : (r : Step) → GoesOn new d r → Advances old (Some c) r
+    lined (step.On k) h = (
+      lined_keeps k h.0 h.1,
+      adds_none (Some c) k.checker (ap verdicts_by h.1 ∙ verdicts_are ∙ ap (λ x. c.verdicts ++ x) h.2 ∙ append-nil c.verdicts),
+      subst (λ (x : Inputs). held_by x < held_by old) (sym h.0) fewer,
+    )
+    lined (step.Stop (progress.Shown k v)) h = (
+      lined_keeps k h.0 h.1,
+      ap verdicts_by h.1 ∙ verdicts_are ∙ ap (λ x. c.verdicts ++ x) h.2,
+      (λ s p t. subst (λ (x : Option CheckerValue). IsAcceptedFrom old (Some c) s p (verdicts_by x)) (sym h.1) (line_shows v h.2 s p t)),
+      subst (λ (x : Inputs). held_by x < held_by old) (sym h.0) fewer,
+    )
+    lined (step.Stop (progress.Script k)) h = absurd h
+    lined (step.Stop (progress.Proof k)) h = absurd h
+    lined (step.Stop (progress.Done j)) h = absurd h
+
+    refused_so : (r : Refusal) → answer_by d.judging.owed ≡ Err r → (j : Judgement) → j.checker ≡ Some d → j.refusal ≡ Some r → Concludes old (Some c) j
+    refused_so r e j jc jr s p t =
         let cs = cut_there (and_more old.framer s) in
         let ls = lines_there (new.reader.bytes ++ p) in
         subst (λ (x : Option CheckerValue). IsJudgedFrom old (Some c) s p (verdicts_by x) j.refusal) (sym jc)
@@ -194,14 +296,17 @@ module _ (old new : Inputs) (l : Option Line) (same : IsSameScript old new) (tak
           whole = λ z. absurd (let y : ⊥ = cc in y);
         }))
 
+    pub refused : (r : Refusal) → answer_by d.judging.owed ≡ Err r → (j : Judgement) → j.checker ≡ Some d → j.refusal ≡ Some r → Concludes old (Some c) j × AddsVerdicts (Some c) j.checker []
+    refused r e j jc jr = (refused_so r e j jc jr, ap verdicts_by jc ∙ verdicts_are ∙ ap (λ x. c.verdicts ++ x) (over_shown d.judging r (over_of d.judging.owed r e)))
+
 -- ---- the end of the proof
 
 module _ (old : Inputs) (end : IsProofAtEnd old) where
   nothing_left : (p : List ℕ) → MayCome old.proof_ended p → old.reader.bytes ++ p ≡ []
   nothing_left p t = ap (λ x. x ++ p) end.empty ∙ t end.ended
 
-  pub headless : (j : Judgement) → (j.checker ≡ None) × (j.refusal ≡ Some bad_header) → Concludes old None j
-  headless j e s p t =
+  headless_so : (j : Judgement) → (j.checker ≡ None) × (j.refusal ≡ Some bad_header) → Concludes old None j
+  headless_so j e s p t =
       let cs = cut_there (and_more old.framer s) in
       subst (λ (x : Option CheckerValue). IsJudgedFrom old None s p (verdicts_by x) j.refusal) (sym e.0)
       (subst (λ (x : Option Refusal). IsJudgedFrom old None s p [] x) (sym e.1)
@@ -216,6 +321,9 @@ module _ (old : Inputs) (end : IsProofAtEnd old) where
         told = λ rest n. (refl, refl);
         whole = λ z. absurd (let y : ⊥ = cc in y);
       }))
+
+  pub headless : (j : Judgement) → (j.checker ≡ None) × (j.refusal ≡ Some bad_header) → Concludes old None j × AddsVerdicts None j.checker []
+  headless j e = (headless_so j e, ap verdicts_by e.0)
 
   module _ (c : CheckerValue) (o : Option Refusal) (e : ending c.judging.owed c.judging.line ≡ o) where
     told_end : (s p : List ℕ) (behind : List Chunk) → AreToCome old s p → IsAtLine old c → AreCut (and_more old.framer s) behind → (o ≡ None → (behind ≡ []) ⊎ ((old.run_ended || false) ≡ true)) → IsJudgedFrom old (Some c) s p c.verdicts o
@@ -242,11 +350,14 @@ module _ (old : Inputs) (end : IsProofAtEnd old) where
         told_end s p cs.0 t (inr (inl i)) cs.1 (λ z. inr (ap (λ b. b || false) i))
     ends_by s p t (inr (inr i)) = told_end s p [] t (inr (inr i)) (subst (λ (x : Held). AreCut x []) (sym (more_none old.framer s (t.script i.ended))) i.cut) (λ z. inl refl)
 
-    pub ended : IsAtLine old c → (d : CheckerValue) → d.verdicts ≡ c.verdicts → (j : Judgement) → j.checker ≡ Some d → j.refusal ≡ o → Concludes old (Some c) j
-    ended at d same j jc jr s p t =
+    ended_so : IsAtLine old c → (d : CheckerValue) → d.verdicts ≡ c.verdicts → (j : Judgement) → j.checker ≡ Some d → j.refusal ≡ o → Concludes old (Some c) j
+    ended_so at d same j jc jr s p t =
         subst (λ (x : Option CheckerValue). IsJudgedFrom old (Some c) s p (verdicts_by x) j.refusal) (sym jc)
         (subst (λ (x : Option Refusal). IsJudgedFrom old (Some c) s p d.verdicts x) (sym jr)
         (subst (λ (x : List Verdict). IsJudgedFrom old (Some c) s p x o) (sym same) (ends_by s p t at)))
+
+    pub ended : IsAtLine old c → (d : CheckerValue) → d.verdicts ≡ c.verdicts → (j : Judgement) → j.checker ≡ Some d → j.refusal ≡ o → Concludes old (Some c) j × AddsVerdicts (Some c) j.checker []
+    ended at d same j jc jr = (ended_so at d same j jc jr, ap verdicts_by jc ∙ same ∙ sym (append-nil c.verdicts))
 
 -- ---- a command
 
@@ -272,15 +383,34 @@ module _ (old new : Inputs) (same : IsSameProof old new) where
             told = λ rest n. let q = h.told rest n in (q.0, q.1, tells_command c.judging says (h.says ++ rest) h.lines q.0 o idle q.2);
             whole = h.whole;
           });
+      accepted = λ s p vs t h'.
+          let g : IsAcceptedFrom (run_by new ended) (Some (judged_so c (commanded c.judging says))) s p vs = subst (λ (x : CheckerValue). IsAcceptedFrom (run_by new ended) (Some x) s p vs) e (subst (λ (x : Option CheckerValue). IsAcceptedFrom (run_by new ended) x s p vs) kc (subst (λ (x : Inputs). IsAcceptedFrom x k.checker s p vs) ki h')) in
+          let h : IsAcceptedFrom (run_by new (ends says)) (Some (judged_so c (commanded c.judging says))) s p vs = subst (λ b. IsAcceptedFrom (run_by new b) (Some (judged_so c (commanded c.judging says))) s p vs) f g in
+          accepted_before (sym takes.0) s p vs (record {
+            chunks = chunk ∷ h.chunks;
+            behind = h.behind;
+            says = says ∷ h.says;
+            lines = h.lines;
+            later = h.later;
+            cut = takes.1.chunks s (h.chunks ++ h.behind) t.script h.cut;
+            read = (reads, h.read);
+            split = subst (λ x. AreLines (x.bytes ++ p) (h.lines ++ h.later)) same.reader h.split;
+            told = (h.told.0, h.told.1, tells_command c.judging says h.says h.lines h.told.0 None idle h.told.2);
+          });
       script = ap (λ (x : Inputs). x.script_ended) ki ∙ same.script;
       proof = ap (λ (x : Inputs). x.proof_ended) ki ∙ same.proof;
+      held = subst (λ (x : Inputs). held_by x ≤ held_by old) (sym ki) (let f = takes.1.less in let g : length new.reader.bytes ≡ length old.reader.bytes = ap (λ x. length x.bytes) same.reader in omega arith);
     },
+    adds_none (Some c) k.checker (ap verdicts_by kc ∙ ap (λ (x : CheckerValue). x.verdicts) e),
     subst (λ (x : Inputs). held_by x < held_by old) (sym ki) (let f = takes.1.less in let g : length new.reader.bytes ≡ length old.reader.bytes = ap (λ x. length x.bytes) same.reader in omega arith),
   )
     where
       -- the run did not end before
       before : false ≡ old.run_ended → (s p : List ℕ) (vs : List Verdict) (o : Option Refusal) → ToldBy false (and_more old.framer s) (old.reader.bytes ++ p) (Some c) vs o → IsJudgedFrom old (Some c) s p vs o
       before on s p vs o h = subst (λ b. ToldBy b (and_more old.framer s) (old.reader.bytes ++ p) (Some c) vs o) on h
+
+      accepted_before : false ≡ old.run_ended → (s p : List ℕ) (vs : List Verdict) → IsToldSoFar (told_from false (Some c)) (and_more old.framer s) (old.reader.bytes ++ p) vs → IsAcceptedFrom old (Some c) s p vs
+      accepted_before on s p vs h = subst (λ b. IsToldSoFar (told_from b (Some c)) (and_more old.framer s) (old.reader.bytes ++ p) vs) on h
 
   -- at the end of the script
   module _ (was : IsScriptAtEnd old) (is : IsScriptAtEnd new) (le : length new.framer.bytes ≤ length old.framer.bytes) (c : CheckerValue) where
@@ -300,33 +430,60 @@ module _ (old new : Inputs) (same : IsSameProof old new) where
           whole = subst (λ b. o ≡ None → (h.behind ≡ []) ⊎ ((b || list_any ends h.says) ≡ true)) same.run h.whole;
         }
 
+    accepted_back : (s p : List ℕ) (vs : List Verdict) → AreToCome old s p → IsAcceptedFrom new (Some c) s p vs → IsAcceptedFrom old (Some c) s p vs
+    accepted_back s p vs t h =
+        let t' = still old new s p same.script same.proof t in
+        let none = no_chunks new s (h.chunks ++ h.behind) is t'.script h.cut in
+        record {
+          chunks = h.chunks;
+          behind = h.behind;
+          says = h.says;
+          lines = h.lines;
+          later = h.later;
+          cut = subst (λ x. AreCut (and_more old.framer s) x) (sym none) (subst (λ (x : Held). AreCut x []) (sym (more_none old.framer s (t.script was.ended))) was.cut);
+          read = h.read;
+          split = subst (λ x. AreLines (x.bytes ++ p) (h.lines ++ h.later)) same.reader h.split;
+          told = subst (λ b. told_from b (Some c) h.says h.lines vs None) same.run h.told;
+        }
+
+    few : held_by new ≤ held_by old
+    few = let g : length new.reader.bytes ≡ length old.reader.bytes = ap (λ x. length x.bytes) same.reader in omega arith
+
     keeps_back : (k : Checking) → Keeps new (Some c) k → Keeps old (Some c) k
     keeps_back k h = record {
       judged = λ s p vs o t m. judged_back s p vs o t (h.judged s p vs o (still old new s p same.script same.proof t) m);
+      accepted = λ s p vs t m. accepted_back s p vs t (h.accepted s p vs (still old new s p same.script same.proof t) m);
       script = h.script ∙ same.script;
       proof = h.proof ∙ same.proof;
+      held = omega (arith, h.held, few);
     }
 
     pub advances_back : (r : Step) → Advances new (Some c) r → Advances old (Some c) r
-    advances_back (step.On k) h = (keeps_back k h.0, let g : length new.reader.bytes ≡ length old.reader.bytes = ap (λ x. length x.bytes) same.reader in let f = h.1 in omega arith)
-    advances_back (step.Stop (progress.Script k)) h = (keeps_back k h.0, h.1)
-    advances_back (step.Stop (progress.Proof k)) h = (keeps_back k h.0, h.1)
-    advances_back (step.Stop (progress.Done j)) h = λ s p t. judged_back s p (verdicts_by j.checker) j.refusal t (h s p (still old new s p same.script same.proof t))
+    advances_back (step.On k) h = (keeps_back k h.0, h.1, omega (arith, h.2, few))
+    advances_back (step.Stop (progress.Script k)) h = (keeps_back k h.0, h.1, h.2)
+    advances_back (step.Stop (progress.Proof k)) h = (keeps_back k h.0, h.1, h.2)
+    advances_back (step.Stop (progress.Shown k v)) h = (
+      keeps_back k h.0,
+      h.1,
+      (λ s p t. accepted_back s p (verdicts_by k.checker) t (h.2 s p (still old new s p same.script same.proof t))),
+      omega (arith, h.3, few),
+    )
+    advances_back (step.Stop (progress.Done j)) h = ((λ s p t. judged_back s p (verdicts_by j.checker) j.refusal t (h.0 s p (still old new s p same.script same.proof t))), h.1)
 
 -- ---- nothing was taken
 
 same_inputs : (old new : Inputs) → new.framer ≡ old.framer → new.reader ≡ old.reader → new.script_ended ≡ old.script_ended → new.run_ended ≡ old.run_ended → new.proof_ended ≡ old.proof_ended → new ≡ old
 same_inputs old new a b c r d = λ i. record { framer = a i; script_ended = c i; run_ended = r i; reader = b i; proof_ended = d i }
 
-pub proof_asked : (old new : Inputs) → IsSameScript old new → (old.proof_ended ≡ false) × (new.reader ≡ old.reader) → (c : Option CheckerValue) (k : Checking) → k.inputs ≡ new → k.checker ≡ c → Keeps old c k × (k.inputs.proof_ended ≡ false)
+pub proof_asked : (old new : Inputs) → IsSameScript old new → (old.proof_ended ≡ false) × (new.reader ≡ old.reader) → (c : Option CheckerValue) (k : Checking) → k.inputs ≡ new → k.checker ≡ c → Keeps old c k × AddsVerdicts c k.checker [] × (k.inputs.proof_ended ≡ false)
 proof_asked old new same h c k e f =
     let i = same_inputs old new same.framer h.1 same.script same.run same.proof in
-    (keeps_none old c k (e ∙ i) f, ap (λ (x : Inputs). x.proof_ended) (e ∙ i) ∙ h.0)
+    (keeps_none old c k (e ∙ i) f, adds_none c k.checker (ap verdicts_by f), ap (λ (x : Inputs). x.proof_ended) (e ∙ i) ∙ h.0)
 
-pub script_asked : (old new : Inputs) → IsSameProof old new → (old.script_ended ≡ false) × (new.framer ≡ old.framer) → (c : Option CheckerValue) (k : Checking) → k.inputs ≡ new → k.checker ≡ c → Keeps old c k × (k.inputs.script_ended ≡ false)
+pub script_asked : (old new : Inputs) → IsSameProof old new → (old.script_ended ≡ false) × (new.framer ≡ old.framer) → (c : Option CheckerValue) (k : Checking) → k.inputs ≡ new → k.checker ≡ c → Keeps old c k × AddsVerdicts c k.checker [] × (k.inputs.script_ended ≡ false)
 script_asked old new same h c k e f =
     let i = same_inputs old new h.1 same.reader same.script same.run same.proof in
-    (keeps_none old c k (e ∙ i) f, ap (λ (x : Inputs). x.script_ended) (e ∙ i) ∙ h.0)
+    (keeps_none old c k (e ∙ i) f, adds_none c k.checker (ap verdicts_by f), ap (λ (x : Inputs). x.script_ended) (e ∙ i) ∙ h.0)
 
 -- ---- no command follows
 

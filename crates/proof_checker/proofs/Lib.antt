@@ -6,6 +6,7 @@ pub mod Telling
 pub mod Keeping
 pub mod Verdicts
 pub mod Passing
+pub mod Fronts
 pub mod Moving
 pub mod Valued
 pub mod Noting

@@ -47,14 +47,14 @@ read_length (c ∷ cs) [] r = absurd r
 read_length (c ∷ cs) (s ∷ ss) r = let e = read_length cs ss r.1 in omega arith
 
 -- readings of all chunks, however many of the first ones were read in either way
-record AreReadings (ss ts : List Says) (ms ns : List Chunk) : Type 0 where
-  rest : List Says
-  other : List Says
-  same : ss ++ rest ≡ ts ++ other
-  long : length rest ≡ length ms
-  too : length other ≡ length ns
+pub record AreReadings (ss ts : List Says) (ms ns : List Chunk) : Type 0 where
+  pub rest : List Says
+  pub other : List Says
+  pub same : ss ++ rest ≡ ts ++ other
+  pub long : length rest ≡ length ms
+  pub too : length other ≡ length ns
 
-readings : (cs es ms ns : List Chunk) (ss ts : List Says) → cs ++ ms ≡ es ++ ns → ReadEach cs ss → ReadEach es ts → AreReadings ss ts ms ns
+pub readings : (cs es ms ns : List Chunk) (ss ts : List Says) → cs ++ ms ≡ es ++ ns → ReadEach cs ss → ReadEach es ts → AreReadings ss ts ms ns
 readings [] es ms ns [] ts e r q = record {
   rest = ts ++ some_readings ns;
   other = some_readings ns;
@@ -100,7 +100,7 @@ judged_one_way script proof vs us o q a b =
 
 -- ---- what is accepted is right
 
-none_some : (r : Refusal) → ◌≡◌ {A = Option Refusal} None (Some r) → ⊥
+pub none_some : (r : Refusal) → ◌≡◌ {A = Option Refusal} None (Some r) → ⊥
 none_some r e = cc
 
 -- the lines behind the header

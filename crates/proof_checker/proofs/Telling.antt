@@ -104,7 +104,7 @@ tells_less (l ∷ ls) rest o j cs vs a h = tells_from j cs (l ∷ ls) vs o (line
 over_idle : (j : Judging) (r : Refusal) → j.owed ≡ judged.Over r → is_idle j.owed ≡ false
 over_idle j r e = ap is_idle e
 
-over_shown : (j : Judging) (r : Refusal) → j.owed ≡ judged.Over r → shown_at j ≡ []
+pub over_shown : (j : Judging) (r : Refusal) → j.owed ≡ judged.Over r → shown_at j ≡ []
 over_shown j r e = ap (λ (b : Bool). if b then option_to_list j.state.standing else []) (over_idle j r e)
 
 pub tells_over : (j : Judging) (r : Refusal) → j.owed ≡ judged.Over r → (cs : List Says) (ls : List (Option Line)) → Tells j cs ls [] (Some r)
@@ -127,6 +127,23 @@ ending_none judged.Steps n e = absurd (let z : ⊥ = cc in z)
 ending_none (judged.Values next left values) n e = absurd (let z : ⊥ = cc in z)
 ending_none (judged.Noted cube start left lines) n e = absurd (let z : ⊥ = cc in z)
 ending_none (judged.Over q) n e = absurd (let z : ⊥ = cc in z)
+
+-- where a verdict is shown, nothing is owed
+idle_ending : (o : Owed) (n : ℕ) → is_idle o ≡ true → ending o n ≡ None
+idle_ending judged.Nothing n e = refl
+idle_ending judged.Steps n e = absurd (let z : ⊥ = cc in z)
+idle_ending (judged.Values next left values) n e = absurd (let z : ⊥ = cc in z)
+idle_ending (judged.Noted cube start left lines) n e = absurd (let z : ⊥ = cc in z)
+idle_ending (judged.Over q) n e = absurd (let z : ⊥ = cc in z)
+
+pub shown_ending : (j : Judging) (v : Verdict) → shown_at j ≡ v ∷ [] → ending j.owed j.line ≡ None
+shown_ending j v e = by_idle (is_idle j.owed) refl
+  where
+    by_idle : (b : Bool) → is_idle j.owed ≡ b → ending j.owed j.line ≡ None
+    by_idle true f = idle_ending j.owed j.line f
+    by_idle false f =
+        let none : shown_at j ≡ [] = ap (λ (b : Bool). if b then option_to_list j.state.standing else []) f in
+        absurd (let z : ⊥ = cc in z)
 
 -- ---- verdicts
 

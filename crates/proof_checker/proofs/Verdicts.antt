@@ -76,14 +76,14 @@ owing (judged.Values next left values) = verdict.Sat ∷ []
 owing (judged.Noted cube start left lines) = verdict.Unknown ∷ []
 owing _ = []
 
-abbrev IsOver : Owed → Type 0
+abbrev pub IsOver : Owed → Type 0
 IsOver o = (r : Refusal) × (o ≡ judged.Over r)
 
 -- the line brings its verdict, or is refused
 abbrev Brings : List Verdict → List Verdict → Judging → Type 0
 Brings owed brought k = (shown_at k ++ owing k.owed ≡ owed ++ brought) ⊎ IsOver k.owed
 
-at_refused : (j k : Judging) (r : RuleName) → k ≡ refused j r → IsOver k.owed
+pub at_refused : (j k : Judging) (r : RuleName) → k ≡ refused j r → IsOver k.owed
 at_refused j k r e = (record { line = j.line; rule = r }, ap (λ (x : Judging). x.owed) e)
 
 decided : (P : Type 0) (j one k : Judging) (r : RuleName) (owed brought : List Verdict) → shown_at one ++ owing one.owed ≡ owed ++ brought → judged.Decides P one (refused j r) k → Brings owed brought k
@@ -189,7 +189,7 @@ reach_owing [] j = refl
 reach_owing (c ∷ cs) j = reached_by (is_idle j.owed) (ends c) j c cs refl (reach_owing cs (commanded j c))
 
 -- behind a refusal it is refused
-over_told : (ls : List (Option Line)) (j : Judging) (cs : List Says) (vs : List Verdict) (o : Option Refusal) (r : Refusal) → j.owed ≡ judged.Over r → Tells j cs ls vs o → o ≡ None → ⊥
+pub over_told : (ls : List (Option Line)) (j : Judging) (cs : List Says) (vs : List Verdict) (o : Option Refusal) (r : Refusal) → j.owed ≡ judged.Over r → Tells j cs ls vs o → o ≡ None → ⊥
 over_told ls j cs vs o r e h n = some_told ls j cs vs r e (subst (λ x. Tells j cs ls vs x) n h)
   where
     none_some : (r : Refusal) → ◌≡◌ {A = Option Refusal} None (Some r) → ⊥

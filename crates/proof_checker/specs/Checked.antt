@@ -79,6 +79,23 @@ IsJudged script proof verdicts refusal = IsTold TellsProof false (record { line 
 abbrev pub IsAccepted : List ℕ → List ℕ → List Verdict → Type 0
 IsAccepted script proof verdicts = IsJudged script proof verdicts None
 
+-- The first commands of the script read so, and the first lines of the proof are these. With those commands alone these lines
+-- are accepted, and this is told of them, whatever stands behind in either text.
+pub record IsToldSoFar (Told : List Says → List (Option Line) → List Verdict → Option Refusal → Type 0) (script : Held) (proof : List ℕ) (verdicts : List Verdict) : Type 0 where
+  pub chunks : List Chunk
+  pub behind : List Chunk
+  pub says : List Says
+  pub lines : List (Option Line)
+  pub later : List (Option Line)
+  pub cut : AreCut script (chunks ++ behind)
+  pub read : ReadEach chunks says
+  pub split : AreLines proof (lines ++ later)
+  pub told : Told says lines verdicts None
+
+-- a front of the proof is one of a front of the script, and its records show these verdicts
+abbrev pub IsAcceptedSoFar : List ℕ → List ℕ → List Verdict → Type 0
+IsAcceptedSoFar script proof verdicts = IsToldSoFar TellsProof (record { line = 1; bytes = script }) proof verdicts
+
 -- the first bad line and its rule, and the verdicts of the records before it
 abbrev pub IsRefused : List ℕ → List ℕ → List Verdict → Refusal → Type 0
 IsRefused script proof verdicts refusal = IsJudged script proof verdicts (Some refusal)

@@ -8,7 +8,7 @@ use Rattle.proof_text.specs.declared.line.Line.{Line}
 use Rattle.accepted_proof.specs.declared.refusal.Refusal.{Refusal}
 use Rattle.accepted_proof.specs.Judged.{is_idle}
 use Rattle.proof_checker.specs.Checkers.{Says, CheckerValue, IsRead, line_in}
-use Rattle.proof_checker.specs.Checked.{AreLines, Tells, TellsProof, IsTold}
+use Rattle.proof_checker.specs.Checked.{AreLines, Tells, TellsProof, IsTold, IsToldSoFar, shown_at}
 use Rattle.proof_checker.specs.declared.inputs.Inputs.{Inputs}
 use Rattle.proof_checker.specs.declared.inputs.NextLine.{NextLine}
 use Rattle.proof_checker.specs.declared.inputs.NextLine.TheVariants as line
@@ -43,6 +43,13 @@ IsJudgedFrom i c script proof vs o = IsTold (told_from i.run_ended c) i.run_ende
 abbrev pub Judges : Checking → List ℕ → List ℕ → List Verdict → Option Refusal → Type 0
 Judges c script proof vs o = IsJudgedFrom c.inputs c.checker script proof vs o
 
+-- a front of what is still to come is accepted, with these verdicts of the whole
+abbrev pub IsAcceptedFrom : Inputs → Option CheckerValue → List ℕ → List ℕ → List Verdict → Type 0
+IsAcceptedFrom i c script proof vs = IsToldSoFar (told_from i.run_ended c) (and_more i.framer script) (i.reader.bytes ++ proof) vs
+
+abbrev pub Accepts : Checking → List ℕ → List ℕ → List Verdict → Type 0
+Accepts c script proof vs = IsAcceptedFrom c.inputs c.checker script proof vs
+
 -- bytes that may be still to come
 pub record AreToCome (i : Inputs) (s p : List ℕ) : Type 0 where
   pub script : MayCome i.script_ended s
@@ -53,11 +60,22 @@ pub record AreEnded (c : Checking) (s p : Bool) : Type 0 where
   pub script : c.inputs.script_ended ≡ s
   pub proof : c.inputs.proof_ended ≡ p
 
--- whatever comes, what is judged behind is judged before
+-- so many bytes are held
+abbrev pub held_by : Inputs → ℕ
+held_by i = length i.framer.bytes + length i.reader.bytes
+
+-- a piece of so many bytes was fed, and nothing judged
+pub record IsFed (old new : Checking) (n : ℕ) : Type 0 where
+  pub checker : new.checker ≡ old.checker
+  pub held : held_by new.inputs ≤ held_by old.inputs + n
+
+-- whatever comes, what is judged or accepted behind is before, and no more bytes are held
 pub record Keeps (old : Inputs) (before : Option CheckerValue) (new : Checking) : Type 0 where
   pub judged : (script proof : List ℕ) (vs : List Verdict) (o : Option Refusal) → AreToCome old script proof → Judges new script proof vs o → IsJudgedFrom old before script proof vs o
+  pub accepted : (script proof : List ℕ) (vs : List Verdict) → AreToCome old script proof → Accepts new script proof vs → IsAcceptedFrom old before script proof vs
   pub script : new.inputs.script_ended ≡ old.script_ended
   pub proof : new.inputs.proof_ended ≡ old.proof_ended
+  pub held : held_by new.inputs ≤ held_by old
 
 abbrev pub verdicts_by : Option CheckerValue → List Verdict
 verdicts_by None = []
@@ -67,11 +85,11 @@ verdicts_by (Some c) = c.verdicts
 abbrev pub Concludes : Inputs → Option CheckerValue → Judgement → Type 0
 Concludes old before j = (script proof : List ℕ) → AreToCome old script proof → IsJudgedFrom old before script proof (verdicts_by j.checker) j.refusal
 
--- ---- what is taken of the texts
+-- whatever comes, so much is accepted
+abbrev pub IsShowing : Inputs → Option CheckerValue → Checking → Type 0
+IsShowing old before c = (script proof : List ℕ) → AreToCome old script proof → IsAcceptedFrom old before script proof (verdicts_by c.checker)
 
--- so many bytes are held
-abbrev pub held_by : Inputs → ℕ
-held_by i = length i.framer.bytes + length i.reader.bytes
+-- ---- what is taken of the texts
 
 -- all but the proof's text is the same
 pub record IsSameScript (old new : Inputs) : Type 0 where
@@ -131,12 +149,23 @@ IsAtLine i c = (is_idle c.judging.owed ≡ false) ⊎ HasNoCommand i
 
 -- ---- how it goes on
 
--- what is asked for is still to come
+-- so many verdicts came
+abbrev pub AddsVerdicts : Option CheckerValue → Option CheckerValue → List Verdict → Type 0
+AddsVerdicts before after vs = verdicts_by after ≡ verdicts_by before ++ vs
+
+-- what is asked for is still to come, or a record is accepted, or all is judged
 abbrev pub Stops : Inputs → Option CheckerValue → Progress → Type 0
-Stops old before (progress.Script c) = Keeps old before c × (c.inputs.script_ended ≡ false)
-Stops old before (progress.Proof c) = Keeps old before c × (c.inputs.proof_ended ≡ false)
-Stops old before (progress.Done j) = Concludes old before j
+Stops old before (progress.Script c) = Keeps old before c × AddsVerdicts before c.checker [] × (c.inputs.script_ended ≡ false)
+Stops old before (progress.Proof c) = Keeps old before c × AddsVerdicts before c.checker [] × (c.inputs.proof_ended ≡ false)
+Stops old before (progress.Shown c v) = Keeps old before c × AddsVerdicts before c.checker (v ∷ []) × IsShowing old before c × (held_by c.inputs < held_by old)
+Stops old before (progress.Done j) = Concludes old before j × AddsVerdicts before j.checker []
 
 abbrev pub Advances : Inputs → Option CheckerValue → Step → Type 0
-Advances old before (step.On c) = Keeps old before c × (held_by c.inputs < held_by old)
+Advances old before (step.On c) = Keeps old before c × AddsVerdicts before c.checker [] × (held_by c.inputs < held_by old)
 Advances old before (step.Stop p) = Stops old before p
+
+-- it goes on with these parts, and shows the verdict of the record that ended the check, if one did
+abbrev pub GoesOn : Inputs → CheckerValue → Step → Type 0
+GoesOn i c (step.On k) = (k.inputs ≡ i) × (k.checker ≡ Some c) × (shown_at c.judging ≡ [])
+GoesOn i c (step.Stop (progress.Shown k v)) = (k.inputs ≡ i) × (k.checker ≡ Some c) × (shown_at c.judging ≡ v ∷ [])
+GoesOn i c (step.Stop _) = ⊥

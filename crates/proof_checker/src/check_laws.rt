@@ -1,6 +1,6 @@
 //! What is judged of two texts.
 
-ghost use Rattle.std.specs.Prelude.{◌≡◌, ℕ, List, Option};
+ghost use Rattle.std.specs.Prelude.{◌≡◌, ◌++◌, ℕ, List, Option};
 ghost use Rattle.std.specs.List.{flat_map, AllByRecursion};
 ghost use Rattle.script_state.specs.declared.answer.Verdict.{Verdict};
 ghost use Rattle.script_state.specs.States.{no_state};
@@ -11,7 +11,7 @@ ghost use Rattle.accepted_proof.specs.Turns.{Turn};
 ghost use Rattle.accepted_proof.specs.Answers.{turn_lines};
 ghost use Rattle.accepted_proof.specs.Accepted.{Accepted};
 ghost use Rattle.accepted_proof.specs.Right.{AreRight};
-ghost use Rattle.proof_checker.specs.Checked.{IsJudged, IsAccepted, verdicts_of};
+ghost use Rattle.proof_checker.specs.Checked.{IsJudged, IsAccepted, IsAcceptedSoFar, verdicts_of};
 
 use accepted_proof::{
     accepted_proofs_are_judged, accepted_proofs_are_right, judged_proofs_are_accepted,
@@ -20,6 +20,12 @@ use accepted_proof::{
 /// One thing at most is judged of a script and a proof: it is not both accepted and refused, nor refused in two ways.
 pub fn texts_are_judged_one_way()
     ensures { (script proof : List ℕ) (vs us : List Verdict) (o q : Option Refusal) → IsJudged script proof vs o → IsJudged script proof us q → (vs ≡ us) × (o ≡ q) }
+{}
+
+/// What is accepted of fronts of a script and of its proof stays so: whatever is judged of the whole texts, the first verdicts are
+/// these.
+pub fn accepted_fronts_stay()
+    ensures { (script proof : List ℕ) (vs us : List Verdict) (o : Option Refusal) → IsAcceptedSoFar script proof vs → IsJudged script proof us o → (rest : List Verdict) × (us ≡ vs ++ rest) }
 {}
 
 /// What a check accepts is right, whoever wrote it: within some limits it is, byte by byte, the accepted proof of turns with these

@@ -1,9 +1,10 @@
 // The checker.
 
-ghost use Rattle.std.specs.Prelude.{◌≡◌, ◌+◌, ◌<◌, ◌^◌, true, not, Some, None, IfOk, MatchResult};
+ghost use Rattle.std.specs.Prelude.{◌≡◌, ◌+◌, ◌<◌, ◌^◌, true, not, Some, None, IfOk, MatchResult, option_to_list};
 ghost use Rattle.proof_text.specs.Lines.{IsLine};
 ghost use Rattle.accepted_proof.specs.Judged.{is_idle, ending, refused, Moves};
 ghost use Rattle.check_cubes.specs.Searches.{limits_of};
+ghost use Rattle.proof_checker.specs.Checked.{shown_at};
 ghost use Rattle.proof_checker.specs.Checkers.{GoesTo, line_in, IsRead, judged_so, answer_by, at_end, closed_with, gone_on, owed_of, IsOpen, IsNoted};
 
 use crate::due::Due;
@@ -18,6 +19,7 @@ use smt_terms::sort::DeclId;
 use smt_values::Value;
 use std::alloc::{AllocError, Global};
 use std::marker::Model;
+use term_reach::Reached;
 
 /// The limits of a proof's header, the state of a script's commands, the log of its checks, what is owed, and the verdicts
 /// so far.
@@ -32,6 +34,8 @@ pub struct Checker {
     /// The number of the line that is read next.
     pub(crate) line: u64,
     pub(crate) verdicts: Vec<Verdict>,
+    /// A table for what a model is about, kept from record to record.
+    pub(crate) reached: Reached,
 }
 
 impl Model for Checker {
@@ -65,6 +69,16 @@ impl Checker {
         self.verdicts.as_slice()
     }
 
+    /// The verdict of the record that ended the check, where one did and nothing is owed since.
+    pub(crate) fn shown(&self) -> Option<Verdict>
+        ensures { shown_at self.now.judging ≡ option_to_list result }
+    {
+        match &self.due {
+            Due::Nothing => self.state.standing(),
+            _ => None,
+        }
+    }
+
     // Lets the checker go for want of memory. It is dropped here, and not part by part wherever a function has to stop.
     pub(crate) fn release(self) -> AllocError {
         drop(self);
@@ -75,25 +89,10 @@ impl Checker {
     pub(crate) fn refuse(self, rule: RuleName) -> Checker
         ensures { result ≡ judged_so self (refused self.judging rule) }
     {
-        let Checker {
-            limits,
-            state,
-            log,
-            due,
-            values,
-            line,
-            verdicts,
-        } = self;
-        drop(due);
-        Checker {
-            limits,
-            state,
-            log,
-            due: Due::Over(Refusal { line, rule }),
-            values,
-            line,
-            verdicts,
-        }
+        let mut checker = self;
+        let line = checker.line;
+        checker.due = Due::Over(Refusal { line, rule });
+        checker
     }
 
     // The line was one of a proof.
@@ -101,24 +100,9 @@ impl Checker {
         requires more { self.judging.line + 1 < 2 ^ 64 }
         ensures { result ≡ judged_so self (gone_on self.judging) }
     {
-        let Checker {
-            limits,
-            state,
-            log,
-            due,
-            values,
-            line,
-            verdicts,
-        } = self;
-        Checker {
-            limits,
-            state,
-            log,
-            due,
-            values,
-            line: line + 1,
-            verdicts,
-        }
+        let mut checker = self;
+        checker.line += 1;
+        checker
     }
 
     // The check ends with a record of this verdict.
@@ -130,26 +114,10 @@ impl Checker {
         let Ok(()) = checker.verdicts.push(verdict) else {
             return Err(checker.release());
         };
-        let Checker {
-            limits,
-            mut state,
-            log,
-            due,
-            values,
-            line,
-            verdicts,
-        } = checker;
-        drop(due);
-        state.conclude(verdict);
-        Ok(Checker {
-            limits,
-            state,
-            log,
-            due: Due::Nothing,
-            values,
-            line: line + 1,
-            verdicts,
-        })
+        checker.state.conclude(verdict);
+        checker.due = Due::Nothing;
+        checker.line += 1;
+        Ok(checker)
     }
 
     // A whole line of a proof.

@@ -1,11 +1,11 @@
 // A check of a script and a proof that come in pieces.
 
-ghost use Rattle.std.specs.Prelude.{◌≡◌, ◌++◌, ℕ, List, Option, Some, None, OnOk, IfOk, false, true};
+ghost use Rattle.std.specs.Prelude.{◌≡◌, ◌++◌, [], ℕ, List, Option, Some, None, OnOk, IfOk, false, true, length};
 ghost use Rattle.script_state.specs.declared.answer.Verdict.{Verdict};
 ghost use Rattle.accepted_proof.specs.declared.refusal.Refusal.{Refusal};
-ghost use Rattle.proof_checker.specs.Checked.{IsJudged};
+ghost use Rattle.proof_checker.specs.Checked.{IsJudged, IsAcceptedSoFar};
 ghost use Rattle.accepted_proof.specs.Judged.{is_idle, bad_header};
-ghost use Rattle.proof_checker.specs.Checkings.{Judges, AreEnded, verdicts_by, IsAtLine, Stops, Advances};
+ghost use Rattle.proof_checker.specs.Checkings.{Judges, Accepts, AreEnded, IsFed, verdicts_by, IsAtLine, Stops, Advances, GoesOn};
 
 use crate::checker::Checker;
 use crate::inputs::{Inputs, NextChunk, NextLine};
@@ -39,6 +39,8 @@ pub enum Progress {
     Script(Checking),
     /// More of the proof has to come first, or its end.
     Proof(Checking),
+    /// One more record is accepted, which shows this verdict.
+    Shown(Checking, Verdict),
     Done(Judgement),
 }
 
@@ -100,6 +102,21 @@ fn begin(alloc: Global, mut inputs: Inputs) -> Result<Step, AllocError>
     }
 }
 
+/// A line was not refused. Where it ended a check, the verdict of its record is shown.
+fn go_on(inputs: Inputs, checker: Checker) -> Step
+    ensures { GoesOn inputs checker result }
+{
+    let shown = checker.shown();
+    let checking = Checking {
+        inputs,
+        checker: Some(checker),
+    };
+    match shown {
+        Some(verdict) => Step::Stop(Progress::Shown(checking, verdict)),
+        None => Step::On(checking),
+    }
+}
+
 /// The next line of the proof is judged, or its end.
 fn judge_line(alloc: Global, mut inputs: Inputs, checker: Checker) -> Result<Step, AllocError>
     requires { IsAtLine inputs checker }
@@ -113,10 +130,7 @@ fn judge_line(alloc: Global, mut inputs: Inputs, checker: Checker) -> Result<Ste
         NextLine::Line(line) => {
             let (checker, told) = checker.line(alloc, &line)?;
             match told {
-                Ok(()) => Ok(Step::On(Checking {
-                    inputs,
-                    checker: Some(checker),
-                })),
+                Ok(()) => Ok(go_on(inputs, checker)),
                 Err(refusal) => Ok(Step::Stop(Progress::Done(Judgement {
                     checker: Some(checker),
                     refusal: Some(refusal),
@@ -167,6 +181,8 @@ impl Checking {
     /// Nothing was fed yet.
     pub fn new(alloc: Global) -> Checking
         ensures judged { (script proof : List ℕ) (vs : List Verdict) (o : Option Refusal) → Judges result script proof vs o → IsJudged script proof vs o }
+        ensures accepted { (script proof : List ℕ) (vs : List Verdict) → Accepts result script proof vs → IsAcceptedSoFar script proof vs }
+        ensures verdicts { verdicts_by result.checker ≡ [] }
         ensures ended { AreEnded result false false }
     {
         Checking {
@@ -184,6 +200,8 @@ impl Checking {
     /// Takes the next piece of the script. Want of memory is also the answer where its lines could not be counted.
     pub fn feed_script(&mut self, piece: &[u8]) -> Result<(), AllocError>
         ensures judged { OnOk result ((script proof : List ℕ) (vs : List Verdict) (o : Option Refusal) → Judges self.new script proof vs o → Judges self.old (piece.now ++ script) proof vs o) }
+        ensures accepted { OnOk result ((script proof : List ℕ) (vs : List Verdict) → Accepts self.new script proof vs → Accepts self.old (piece.now ++ script) proof vs) }
+        ensures fed { IsFed self.old self.new (length piece.now) }
         ensures ended { AreEnded self.new self.old.inputs.script_ended self.old.inputs.proof_ended }
     {
         self.inputs.framer.feed(piece)
@@ -192,6 +210,8 @@ impl Checking {
     /// Takes the next piece of the proof. Want of memory is also the answer where its lines could not be counted.
     pub fn feed_proof(&mut self, piece: &[u8]) -> Result<(), AllocError>
         ensures judged { OnOk result ((script proof : List ℕ) (vs : List Verdict) (o : Option Refusal) → Judges self.new script proof vs o → Judges self.old script (piece.now ++ proof) vs o) }
+        ensures accepted { OnOk result ((script proof : List ℕ) (vs : List Verdict) → Accepts self.new script proof vs → Accepts self.old script (piece.now ++ proof) vs) }
+        ensures fed { IsFed self.old self.new (length piece.now) }
         ensures ended { AreEnded self.new self.old.inputs.script_ended self.old.inputs.proof_ended }
     {
         self.inputs.reader.feed(piece)
@@ -200,6 +220,8 @@ impl Checking {
     /// No more of the script comes.
     pub fn end_script(&mut self)
         ensures judged { (script proof : List ℕ) (vs : List Verdict) (o : Option Refusal) → Judges self.new script proof vs o → Judges self.old script proof vs o }
+        ensures accepted { (script proof : List ℕ) (vs : List Verdict) → Accepts self.new script proof vs → Accepts self.old script proof vs }
+        ensures fed { IsFed self.old self.new 0 }
         ensures ended { AreEnded self.new true self.old.inputs.proof_ended }
     {
         self.inputs.script_ended = true;
@@ -208,6 +230,8 @@ impl Checking {
     /// No more of the proof comes.
     pub fn end_proof(&mut self)
         ensures judged { (script proof : List ℕ) (vs : List Verdict) (o : Option Refusal) → Judges self.new script proof vs o → Judges self.old script proof vs o }
+        ensures accepted { (script proof : List ℕ) (vs : List Verdict) → Accepts self.new script proof vs → Accepts self.old script proof vs }
+        ensures fed { IsFed self.old self.new 0 }
         ensures ended { AreEnded self.new self.old.inputs.script_ended true }
     {
         self.inputs.proof_ended = true;
@@ -231,8 +255,8 @@ impl Checking {
     }
 
     /// Goes as far as what is held allows: first the header, then the script command by command, and at each check the lines
-    /// of the proof up to its record. Behind a command that ends the run no more of the script is asked for. Where more has to
-    /// come, what is judged from here is judged of all.
+    /// of the proof up to its record, which is shown as soon as it is accepted. Behind a command that ends the run no more of the
+    /// script is asked for. Where it stops before the end, what is judged from here is judged of all.
     pub fn advance(self, alloc: Global) -> Result<Progress, AllocError>
         ensures { IfOk result (λ r. Stops self.inputs self.checker r) }
     {

@@ -65,33 +65,17 @@ impl Checker {
         requires { is_idle self.judging.owed ≡ true }
         ensures { IfOk result (λ r. (says : Says) × ReadsAs chunk.now says × (r.0 ≡ judged_so self (commanded self.judging says)) × (r.1 ≡ ends says)) }
     {
-        if self.state.assertions_made() == u32::MAX {
-            return Err(self.release());
+        let mut checker = self;
+        if checker.state.assertions_made() == u32::MAX {
+            return Err(checker.release());
         }
-        let Checker {
-            limits,
-            state,
-            log,
-            due,
-            values,
-            line,
-            verdicts,
-        } = self;
-        drop(due);
-        let Ok((state, answer)) = obey(alloc, state, chunk) else {
-            drop((log, values, verdicts));
+        let Ok((state, answer)) = obey(alloc, checker.state, chunk) else {
+            drop((checker.log, checker.due, checker.values, checker.reached));
             return Err(AllocError);
         };
         let ended = is_exit(&answer);
-        let checker = Checker {
-            limits,
-            state,
-            log,
-            due: due_by(answer),
-            values,
-            line,
-            verdicts,
-        };
+        checker.state = state;
+        checker.due = due_by(answer);
         Ok((checker, ended))
     }
 

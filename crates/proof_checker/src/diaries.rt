@@ -52,22 +52,9 @@ fn with_line(log: &Log, noting: Noting, line: DiaryLine) -> Result<(Noting, bool
     ensures { IfOk result (λ r. (limits : Limits) (s : StateValue) → Stands s.terms.nodes log.now → IsNoted limits s log.now.entries (Noted noting)
         → MatchBool r.1 (HasLine limits s log.now.entries noting line r.0) (IsNoLine limits s log.now.entries noting line)) }
 {
-    let Noting {
-        cube,
-        start,
-        left,
-        mut lines,
-        mut reader,
-    } = noting;
-    let stands = reader.line(log, line)?;
-    lines.push(line)?;
-    let noting = Noting {
-        cube,
-        start,
-        left,
-        lines,
-        reader,
-    };
+    let mut noting = noting;
+    let stands = noting.reader.line(log, line)?;
+    noting.lines.push(line)?;
     Ok((noting, stands))
 }
 
@@ -77,20 +64,9 @@ fn one_less(noting: Noting) -> Noting
     ensures left { result.left + 1 ≡ noting.left }
     ensures same { (result.cube ≡ noting.cube) × (result.start ≡ noting.start) × (result.lines ≡ noting.lines) × (result.reader ≡ noting.reader) }
 {
-    let Noting {
-        cube,
-        start,
-        left,
-        lines,
-        reader,
-    } = noting;
-    Noting {
-        cube,
-        start,
-        left: left - 1,
-        lines,
-        reader,
-    }
+    let mut noting = noting;
+    noting.left -= 1;
+    noting
 }
 
 /// Whether the lines so far have spent the budget.
@@ -110,25 +86,10 @@ impl Checker {
         requires noted { IsNoted self.judging.limits self.judging.state self.judging.log (Noted noting) }
         ensures { result ≡ judged_so self (noted self.judging noting.cube noting.start noting.left noting.lines) }
     {
-        let Checker {
-            limits,
-            state,
-            log,
-            due,
-            values,
-            line,
-            verdicts,
-        } = self;
-        drop(due);
-        Checker {
-            limits,
-            state,
-            log,
-            due: Due::Noted(noting),
-            values,
-            line: line + 1,
-            verdicts,
-        }
+        let mut checker = self;
+        checker.due = Due::Noted(noting);
+        checker.line += 1;
+        checker
     }
 
     // The line that begins the diary of a cube.
@@ -185,30 +146,14 @@ impl Checker {
         requires more { self.judging.line + 1 < 2 ^ 64 }
         ensures { IfOk result (λ c. GoesTo (NotesBy self.judging.owed self.judging line) self c) }
     {
-        let Checker {
-            limits,
-            state,
-            log,
-            due,
-            values,
-            line: number,
-            verdicts,
-        } = self;
+        let mut checker = self;
+        let due = checker.due;
+        checker.due = Due::Steps;
         let Due::Noted(noting) = due else {
             unreachable!()
         };
-        let Ok((noting, stands)) = with_line(&log, noting, line) else {
-            drop((state, log, values, verdicts));
-            return Err(AllocError);
-        };
-        let checker = Checker {
-            limits,
-            state,
-            log,
-            due: Due::Steps,
-            values,
-            line: number,
-            verdicts,
+        let Ok((noting, stands)) = with_line(&checker.log, noting, line) else {
+            return Err(checker.release());
         };
         checker.judge_line(noting, stands)
     }

@@ -15,6 +15,7 @@ use proof_text::line::Line;
 use proof_text::reader::LineFault;
 use script_state::state::State;
 use std::alloc::{AllocError, Global};
+use term_reach::Reached;
 
 /// The limits of a header; nothing where the line is none, or has a number out of range.
 fn header_limits(first: &Result<Line, LineFault>) -> Option<Limits>
@@ -53,6 +54,7 @@ impl Checker {
             values: Vec::new(alloc),
             line: 2,
             verdicts: Vec::new(alloc),
+            reached: Reached::new(alloc),
         }))
     }
 }

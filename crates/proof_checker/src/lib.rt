@@ -25,4 +25,6 @@ pub mod report;
 mod steps;
 mod values;
 
-pub use check_laws::{accepted_proofs_pass, texts_are_judged_one_way, what_is_accepted_is_right};
+pub use check_laws::{
+    accepted_fronts_stay, accepted_proofs_pass, texts_are_judged_one_way, what_is_accepted_is_right,
+};

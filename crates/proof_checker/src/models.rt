@@ -15,11 +15,12 @@ ghost use Rattle.accepted_proof.specs.Judged.{IsValueOf};
 use accepted_proof::interp_of;
 use proof_text::line::WrittenValue;
 use script_state::state::State;
-use smt_eval::values_of;
+use smt_eval::values_with;
 use smt_terms::sort::{DeclId, Sort};
 use smt_values::Value;
 use smt_words::Word;
 use std::alloc::{AllocError, Global};
+use term_reach::Reached;
 
 /// Whether a value is true.
 fn is_true(value: &Value) -> bool
@@ -45,11 +46,13 @@ fn are_true(values: &[Value]) -> bool
     true
 }
 
-/// Whether each live assertion and each assumption is true under the values. Terms that they do not reach are passed over.
+/// Whether each live assertion and each assumption is true under the values. Terms that they do not reach are passed over;
+/// what they reach stands in `reached` then, and what it had before is forgotten.
 pub fn is_model(
     alloc: Global,
     state: &State,
     values: &[(DeclId, Value)],
+    reached: &mut Reached,
 ) -> Result<bool, AllocError>
     ensures { IfOk result (λ b. MatchBool b
         (IsModel state.now (interpretation_of values.now))
@@ -57,7 +60,7 @@ pub fn is_model(
 {
     let interp = interp_of(alloc, values)?;
     let asked = state.roots(alloc)?;
-    let found = values_of(alloc, state.terms(), &interp, asked.as_slice())?;
+    let found = values_with(alloc, state.terms(), &interp, asked.as_slice(), reached)?;
     let truths = found.as_slice();
     Ok(are_true(truths))
 }

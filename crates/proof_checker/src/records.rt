@@ -42,29 +42,13 @@ impl Checker {
         requires more { self.judging.line + 1 < 2 ^ 64 }
         ensures { IfOk result (λ c. GoesTo (StepsBy self.judging line.now) self c) }
     {
-        let Checker {
-            limits,
-            state,
-            mut log,
-            due,
-            values,
-            line: number,
-            verdicts,
-        } = self;
-        drop(due);
-        let Ok((state, taken)) = take_step(alloc, state, &mut log, line) else {
-            drop((log, values, verdicts));
+        let mut checker = self;
+        let Ok((state, taken)) = take_step(alloc, checker.state, &mut checker.log, line) else {
+            drop((checker.log, checker.due, checker.values, checker.reached));
             return Err(AllocError);
         };
-        let checker = Checker {
-            limits,
-            state,
-            log,
-            due: Due::Steps,
-            values,
-            line: number,
-            verdicts,
-        };
+        checker.state = state;
+        checker.due = Due::Steps;
         if taken {
             Ok(checker.go_on())
         } else {

@@ -1,10 +1,9 @@
 // What the user of a check is told.
 
-ghost use Rattle.std.specs.Prelude.{◌≡◌, IfOk};
-ghost use Rattle.std.specs.List.{flat_map};
+ghost use Rattle.std.specs.Prelude.{◌≡◌, IfOk, length};
 ghost use Rattle.accepted_proof.specs.Answers.{verdict_text};
 ghost use Rattle.proof_checker.specs.Checkings.{verdicts_by};
-ghost use Rattle.proof_checker.specs.Reports.{rule_text, ending_text, report_text};
+ghost use Rattle.proof_checker.specs.Reports.{rule_text, ending_text};
 
 use crate::checking::Judgement;
 use accepted_proof::refusal::{Refusal, RuleName};
@@ -35,8 +34,8 @@ fn rule_name(rule: RuleName) -> &'static [u8]
     }
 }
 
-/// The line of a verdict.
-fn verdict_line(verdict: Verdict) -> &'static [u8]
+/// What the user is told of a record that is accepted: the line of its verdict.
+pub fn verdict_line(verdict: Verdict) -> &'static [u8]
     ensures { result.now ≡ verdict_text verdict }
 {
     match verdict {
@@ -68,25 +67,10 @@ fn ending_line(alloc: Global, accepted: u64, refusal: Option<Refusal>) -> Result
     }
 }
 
-/// The lines of the verdicts.
-fn verdict_lines(alloc: Global, verdicts: &[Verdict]) -> Result<Text, AllocError>
-    ensures { IfOk result (λ t. t ≡ flat_map verdict_text verdicts.now) }
+/// What the user is told at the end of a check, behind the verdicts: `accepted` and how many records are, or `refused` with the
+/// first bad line and its rule.
+pub fn end_line(alloc: Global, judgement: &Judgement) -> Result<Text, AllocError>
+    ensures { IfOk result (λ t. t ≡ ending_text (length (verdicts_by judgement.now.checker)) judgement.now.refusal) }
 {
-    let mut text = Text::new(alloc);
-    for verdict in verdicts {
-        text.push_slice(verdict_line(*verdict))?;
-    }
-    Ok(text)
-}
-
-/// What the user is told of a check: each accepted record's verdict on a line, then `accepted` and their number, or `refused`
-/// with the first bad line and its rule.
-pub fn report_lines(alloc: Global, judgement: &Judgement) -> Result<Text, AllocError>
-    ensures { IfOk result (λ t. t ≡ report_text (verdicts_by judgement.now.checker) judgement.now.refusal) }
-{
-    let verdicts = judgement.verdicts();
-    let mut text = verdict_lines(alloc, verdicts)?;
-    let ending = ending_line(alloc, verdicts.len() as u64, judgement.refusal)?;
-    text.push_slice(ending.as_slice())?;
-    Ok(text)
+    ending_line(alloc, judgement.verdicts().len() as u64, judgement.refusal)
 }

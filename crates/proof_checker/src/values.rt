@@ -1,7 +1,8 @@
 // The values of a model.
 
-ghost use Rattle.std.specs.Prelude.{◌+◌, ◌<◌, ◌^◌, [], drop, length, Some, IfOk};
+ghost use Rattle.std.specs.Prelude.{◌≡◌, ◌+◌, ◌<◌, ◌^◌, [], drop, length, Some, IfOk, MatchBool};
 ghost use Rattle.proof_text.specs.declared.line.Line.TheVariants as line;
+ghost use Rattle.accepted_proof.specs.Models.{interpretation_of, IsModel};
 ghost use Rattle.accepted_proof.specs.Judged.{Goes, AtStep, MovesBy};
 ghost use Rattle.proof_checker.specs.Checkers.{GoesTo, IsOwedValues};
 
@@ -22,25 +23,21 @@ impl Checker {
         requires left { length values.items < length self.judging.state.symbols.live }
         ensures { GoesTo (Goes self.judging (drop (length values.items) self.judging.state.symbols.live) values.items) self result }
     {
-        let Checker {
-            limits,
-            state,
-            log,
-            due,
-            values: _,
-            line,
-            verdicts,
-        } = self;
-        drop(due);
-        Checker {
-            limits,
-            state,
-            log,
-            due: Due::Values,
-            values,
-            line: line + 1,
-            verdicts,
-        }
+        let mut checker = self;
+        checker.values = values;
+        checker.due = Due::Values;
+        checker.line += 1;
+        checker
+    }
+
+    // Whether these values are a model; the table of what is reached serves the next record too.
+    fn holds(&mut self, alloc: Global, values: &[(DeclId, Value)]) -> Result<bool, AllocError>
+        ensures same { self.new ≡ self.old }
+        ensures holds { IfOk result (λ b. MatchBool b
+            (IsModel self.old.judging.state (interpretation_of values.now))
+            (IsModel self.old.judging.state (interpretation_of values.now) → ⊥)) }
+    {
+        is_model(alloc, &self.state, values, &mut self.reached)
     }
 
     // The values of a model are all there, and are judged.
@@ -48,13 +45,14 @@ impl Checker {
         requires more { self.judging.line + 1 < 2 ^ 64 }
         ensures { IfOk result (λ c. GoesTo (Goes self.judging [] values.now) self c) }
     {
-        let Ok(holds) = is_model(alloc, &self.state, values) else {
-            return Err(self.release());
+        let mut checker = self;
+        let Ok(holds) = checker.holds(alloc, values) else {
+            return Err(checker.release());
         };
         if holds {
-            self.close(Verdict::Sat)
+            checker.close(Verdict::Sat)
         } else {
-            Ok(self.refuse(RuleName::Sat))
+            Ok(checker.refuse(RuleName::Sat))
         }
     }
 
@@ -100,25 +98,10 @@ impl Checker {
         let Some(value) = declared_value(&self.state, next, declaration, written) else {
             return Ok(self.refuse(RuleName::Sat))
         };
-        let Checker {
-            limits,
-            state,
-            log,
-            due,
-            mut values,
-            line,
-            verdicts,
-        } = self;
-        drop(due);
-        let checker = Checker {
-            limits,
-            state,
-            log,
-            due: Due::Steps,
-            values: Vec::new(alloc),
-            line,
-            verdicts,
-        };
+        let mut checker = self;
+        let mut values = checker.values;
+        checker.values = Vec::new(alloc);
+        checker.due = Due::Steps;
         let Ok(()) = values.push((next, value)) else {
             return Err(checker.release());
         };

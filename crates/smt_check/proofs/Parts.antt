@@ -24,7 +24,7 @@ later_same a = record { script = omega arith; answers = omega arith; proof = ome
 pub later_more : (a b c : Counts) → IsLater a b → IsLater b c → IsLater a c
 later_more a b c p q = record { script = omega arith; answers = omega arith; proof = omega arith }
 
-rose_after : (a b c : ℕ) → a ≤ b → Rose b c → Rose a c
+pub rose_after : (a b c : ℕ) → a ≤ b → Rose b c → Rose a c
 rose_after a b c p q = omega arith
 
 -- what rose in a part rose in the whole

@@ -1,5 +1,6 @@
 -- What a check of a script and a proof reads, and why it ends.
 use Rattle.std.specs.Prelude.{◌≡◌, ◌⊎◌, ℕ, ◌+◌, ◌<◌, ◌≤◌, Bool, true, false, List, [], ◌++◌, length, Option, Some, None, IfSome, Result, Ok, Err}
+use Rattle.std.specs.List.{flat_map}
 use Rattle.std.specs.Io.KnownBytes.{Consumes, IsAtEnd}
 use Rattle.script_state.specs.declared.answer.Verdict.{Verdict}
 use Rattle.script_state.specs.States.{no_state}
@@ -8,13 +9,14 @@ use Rattle.accepted_proof.specs.Searching.{Limits}
 use Rattle.accepted_proof.specs.Turns.{Turn}
 use Rattle.accepted_proof.specs.Accepted.{Accepted}
 use Rattle.accepted_proof.specs.Right.{AreRight}
-use Rattle.proof_checker.specs.Checkings.{Judges}
+use Rattle.accepted_proof.specs.Answers.{verdict_text}
+use Rattle.proof_checker.specs.Checkings.{Judges, Accepts, IsFed}
 use Rattle.proof_checker.specs.declared.checking.Checking.{Checking}
 use Rattle.proof_checker.specs.declared.checking.Judgement.{Judgement}
 use Rattle.smt_desk.specs.Faults.{Rose}
 use Rattle.smt_check.specs.declared.status.Status.{Status}
 use Rattle.smt_check.specs.declared.status.Status.TheVariants.{Done, Refused, Usage, ReadFault, WriteFault, NoMemory, TooLong}
-use Rattle.proof_checker.specs.Checked.{IsJudged, verdicts_of}
+use Rattle.proof_checker.specs.Checked.{IsJudged, IsAcceptedSoFar, verdicts_of}
 use Rattle.proof_checker.specs.Reports.{report_text}
 use Rattle.smt_check.specs.Runs.{ReadsBytes, ReadsWithin, Counts, input_limit}
 
@@ -45,6 +47,8 @@ pub record TakesScript (old new : Checking) (left rest : ℕ) (s s' : Option (Li
   pub consumed : Consumes s s' bytes
   pub size : length bytes + rest ≡ left
   pub judged : (script proof : List ℕ) (vs : List Verdict) (o : Option Refusal) → Judges new script proof vs o → Judges old (bytes ++ script) proof vs o
+  pub accepted : (script proof : List ℕ) (vs : List Verdict) → Accepts new script proof vs → Accepts old (bytes ++ script) proof vs
+  pub fed : IsFed old new (length bytes)
   pub end : new.inputs.script_ended ≡ true → IsAtEnd s'
   pub other : new.inputs.proof_ended ≡ old.inputs.proof_ended
   pub less : rest + if_open new.inputs.script_ended < left + 1
@@ -55,6 +59,8 @@ pub record TakesProof (old new : Checking) (left rest : ℕ) (p p' : Option (Lis
   pub consumed : Consumes p p' bytes
   pub size : length bytes + rest ≡ left
   pub judged : (script proof : List ℕ) (vs : List Verdict) (o : Option Refusal) → Judges new script proof vs o → Judges old script (bytes ++ proof) vs o
+  pub accepted : (script proof : List ℕ) (vs : List Verdict) → Accepts new script proof vs → Accepts old script (bytes ++ proof) vs
+  pub fed : IsFed old new (length bytes)
   pub end : new.inputs.proof_ended ≡ true → IsAtEnd p'
   pub other : new.inputs.script_ended ≡ old.inputs.script_ended
   pub less : rest + if_open new.inputs.proof_ended < left + 1
@@ -68,14 +74,9 @@ ReadsBoth s s' p p' (Err Done) = ⊥
 ReadsBoth s s' p p' (Err Refused) = ⊥
 ReadsBoth s s' p p' (Err Usage) = ⊥
 ReadsBoth s s' p p' (Err ReadFault) = ReadsWithin s s' × ReadsWithin p p'
-ReadsBoth s s' p p' (Err WriteFault) = ⊥
+ReadsBoth s s' p p' (Err WriteFault) = ReadsWithin s s' × ReadsWithin p p'
 ReadsBoth s s' p p' (Err NoMemory) = ReadsWithin s s' × ReadsWithin p p'
 ReadsBoth s s' p p' (Err TooLong) = (ReadsBytes (input_limit + 1) s s' × ReadsWithin p p') ⊎ (ReadsWithin s s' × ReadsBytes (input_limit + 1) p p')
-
--- a fault is told only where the count of one of the sources rose
-abbrev pub HasReadCause : ℕ → ℕ → ℕ → ℕ → Status → Type 0
-HasReadCause s s' p p' ReadFault = Rose s s' ⊎ Rose p p'
-HasReadCause s s' p p' _ = Unit {0}
 
 -- ---- what is told
 
@@ -114,8 +115,18 @@ pub record IsFrontOfReport (text lines answered : List ℕ) : Type 0 where
   pub judged : IsJudged text lines verdicts refusal
   pub report : report_text verdicts refusal ≡ answered ++ rest
 
-abbrev pub IsFrontOfCheck : List ℕ → List ℕ → List ℕ → Type 0
-IsFrontOfCheck text lines answered = (answered ≡ []) ⊎ IsFrontOfReport text lines answered
+-- a front of the verdicts of records that are accepted, whatever stands behind them in the two texts
+pub record IsFrontOfVerdicts (text lines answered : List ℕ) : Type 0 where
+  pub verdicts : List Verdict
+  pub rest : List ℕ
+  pub accepted : IsAcceptedSoFar text lines verdicts
+  pub report : flat_map verdict_text verdicts ≡ answered ++ rest
+
+-- Nothing is told, or verdicts of accepted records alone, or a front of the whole report. Whatever is judged of the two texts, its
+-- report begins with what is told.
+pub record IsFrontOfCheck (text lines answered : List ℕ) : Type 0 where
+  pub told : (answered ≡ []) ⊎ (IsFrontOfVerdicts text lines answered ⊎ IsFrontOfReport text lines answered)
+  pub begins : (verdicts : List Verdict) (refusal : Option Refusal) → IsJudged text lines verdicts refusal → (rest : List ℕ) × (report_text verdicts refusal ≡ answered ++ rest)
 
 -- how much was read of both inputs, by the status
 abbrev pub ReadsForStatus : Option (List ℕ) → Option (List ℕ) → Option (List ℕ) → Option (List ℕ) → Status → Type 0

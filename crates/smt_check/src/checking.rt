@@ -1,16 +1,21 @@
 // A script and its proof, read in pieces and checked.
 
-ghost use Rattle.std.specs.Prelude.{◌≡◌, ◌≢◌, ◌⊎◌, ◌<◌, ◌≤◌, IfOk, IfErr, IfSome, false, length};
+ghost use Rattle.std.specs.Prelude.{◌≡◌, ◌≢◌, ◌⊎◌, ◌<◌, ◌≤◌, ℕ, IfOk, IfErr, IfSome, MatchResult, OnErr, false, length, take};
+ghost use Rattle.std.specs.Io.KnownBytes.{Appends};
+ghost use Rattle.std.specs.List.{flat_map};
+ghost use Rattle.smt_desk.specs.Faults.{Rose};
+ghost use Rattle.accepted_proof.specs.Answers.{verdict_text};
 ghost use Rattle.proof_checker.specs.Checked.{IsJudged};
 ghost use Rattle.proof_checker.specs.Checkings.{verdicts_by};
 ghost use Rattle.smt_check.specs.Runs.{AddsTo, IsLater, HasCause, counts};
-ghost use Rattle.smt_check.specs.Checks.{StopsReading, TakesScript, TakesProof, ReadsBoth, HasReadCause, ReadsForStatus, HasCheckCause, status_of, ToldOf, IsEndOfCheck, IsFrontOfCheck};
+ghost use Rattle.smt_check.specs.Checks.{StopsReading, TakesScript, TakesProof, ReadsBoth, ReadsForStatus, HasCheckCause, status_of, ToldOf, IsEndOfCheck, IsFrontOfCheck};
 
 use crate::reading::{INPUT_LIMIT, read_piece};
 use crate::status::Status;
 use accepted_proof::refusal::Refusal;
 use proof_checker::checking::{Checking, Judgement, Progress};
-use proof_checker::report::report_lines;
+use proof_checker::report::{end_line, verdict_line};
+use script_state::answer::Verdict;
 use smt_desk::stream::{Sink, Source, write_whole};
 use std::alloc::Global;
 
@@ -60,20 +65,38 @@ fn read_proof<P: Source>(
     Ok(left - size as u64)
 }
 
-/// Checks a script and its proof, which are read into the buffer piece by piece, each no further than the check needs it.
-/// The error is the status of a run that ends before.
-fn check_texts<S: Source, P: Source>(
+/// Tells the verdict of a record that is accepted.
+fn tell<W: Sink>(answers: &mut W, verdict: Verdict) -> Result<(), Status>
+    ensures bytes { MatchResult result
+        (λ _. Appends (W.written answers.old) (W.written answers.new) (verdict_text verdict))
+        (λ _. (n : ℕ) × (n < length (verdict_text verdict)) × Appends (W.written answers.old) (W.written answers.new) (take n (verdict_text verdict))) }
+    ensures status { IfErr result (λ s. s ≡ Status.WriteFault) }
+    ensures later { W.faults answers.old ≤ W.faults answers.new }
+    ensures cause { OnErr result (Rose (W.faults answers.old) (W.faults answers.new)) }
+{
+    match write_whole(answers, verdict_line(verdict)) {
+        Ok(()) => Ok(()),
+        Err(_) => Err(Status::WriteFault),
+    }
+}
+
+/// Checks a script and its proof, which are read into the buffer piece by piece, each no further than the check needs it, and
+/// tells the verdict of each record as soon as it is accepted. The error is the status of a run that ends before.
+fn check_texts<S: Source, P: Source, W: Sink>(
     alloc: Global,
     buffer: &mut [u8],
     script: &mut S,
     proof: &mut P,
+    answers: &mut W,
 ) -> Result<Judgement, Status>
     requires { 0 < length buffer.old }
     ensures judged { IfOk result (λ j. IfSome (S.left script.old) (λ text. IfSome (P.left proof.old) (λ lines. IsJudged text lines (verdicts_by j.checker) j.refusal))) }
+    ensures told { IfOk result (λ j. Appends (W.written answers.old) (W.written answers.new) (flat_map verdict_text (verdicts_by j.checker))) }
+    ensures front { ToldOf (S.left script.old) (P.left proof.old) (W.written answers.old) (W.written answers.new) IsFrontOfCheck }
+    ensures answers { AddsTo (W.written answers.old) (W.written answers.new) }
     ensures read { ReadsBoth (S.left script.old) (S.left script.new) (P.left proof.old) (P.left proof.new) result }
-    ensures script_later { S.faults script.old ≤ S.faults script.new }
-    ensures proof_later { P.faults proof.old ≤ P.faults proof.new }
-    ensures cause { IfErr result (HasReadCause (S.faults script.old) (S.faults script.new) (P.faults proof.old) (P.faults proof.new)) }
+    ensures later { IsLater (counts (S.faults script.old) (W.faults answers.old) (P.faults proof.old)) (counts (S.faults script.new) (W.faults answers.new) (P.faults proof.new)) }
+    ensures cause { IfErr result (HasCheckCause (counts (S.faults script.old) (W.faults answers.old) (P.faults proof.old)) (counts (S.faults script.new) (W.faults answers.new) (P.faults proof.new))) }
 {
     let mut checking = Checking::new(alloc);
     let mut script_left = INPUT_LIMIT;
@@ -81,6 +104,16 @@ fn check_texts<S: Source, P: Source>(
     'texts: loop {
         match checking.advance(alloc)? {
             Progress::Done(judgement) => return Ok(judgement),
+            Progress::Shown(held, verdict) => {
+                checking = held;
+                match tell(answers, verdict) {
+                    Ok(()) => {}
+                    Err(status) => {
+                        drop(checking);
+                        return Err(status);
+                    }
+                }
+            }
             Progress::Script(held) => {
                 checking = held;
                 match read_script(&mut checking, buffer, script, script_left) {
@@ -115,7 +148,8 @@ fn end_status(refusal: Option<Refusal>) -> Status
     }
 }
 
-/// Checks a script and its proof, and tells what was found.
+/// Checks a script and its proof. The verdict of each record is told as soon as it is accepted, before more is read; at the end it
+/// is told that the proof is accepted, or where and why it is refused.
 pub fn check<S: Source, P: Source, W: Sink>(
     alloc: Global,
     buffer: &mut [u8],
@@ -132,12 +166,12 @@ pub fn check<S: Source, P: Source, W: Sink>(
     ensures later { IsLater (counts (S.faults script.old) (W.faults answers.old) (P.faults proof.old)) (counts (S.faults script.new) (W.faults answers.new) (P.faults proof.new)) }
     ensures cause { HasCheckCause (counts (S.faults script.old) (W.faults answers.old) (P.faults proof.old)) (counts (S.faults script.new) (W.faults answers.new) (P.faults proof.new)) result }
 {
-    let judgement = match check_texts(alloc, buffer, script, proof) {
+    let judgement = match check_texts(alloc, buffer, script, proof, answers) {
         Ok(judgement) => judgement,
         Err(status) => return status,
     };
-    let text = match report_lines(alloc, &judgement) {
-        Ok(text) => text,
+    let line = match end_line(alloc, &judgement) {
+        Ok(line) => line,
         Err(_) => {
             drop(judgement);
             return Status::NoMemory;
@@ -145,7 +179,7 @@ pub fn check<S: Source, P: Source, W: Sink>(
     };
     let refusal = judgement.refusal;
     drop(judgement);
-    match write_whole(answers, text.as_slice()) {
+    match write_whole(answers, line.as_slice()) {
         Ok(()) => end_status(refusal),
         Err(_) => Status::WriteFault,
     }

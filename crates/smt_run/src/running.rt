@@ -115,8 +115,8 @@ fn check_proof<S: Source, P: Source, W: Sink>(
 }
 
 /// Does what the words ask for. `solve` answers the script on `answers`, each check within the limits that the words give, and
-/// writes its proof to `proof_out`, each check's lines and record before its answer. `check` reads the script and the proof `proof_in`, and tells on `answers` what is
-/// judged of them.
+/// writes its proof to `proof_out`, each check's lines and record before its answer. `check` reads the script and the proof `proof_in`, and tells on `answers` the
+/// verdict of each record as soon as it is accepted, and then what is judged of them.
 pub fn run<S: Source, P: Source, W: Sink, Q: Sink>(
     alloc: Global,
     words: &[&str],
@@ -155,7 +155,8 @@ pub fn run<S: Source, P: Source, W: Sink, Q: Sink>(
     // What is accepted is right, whoever wrote the proof: within some limits there are turns of the script that make an accepted
     // proof and have the verdicts that are told, each `sat` has a model, and where there is an `unsat` there is none.
     ensures accepted { IsToCheck (map (λ w. w.now) words.now) → result ≡ Status.Done → ToldOf (S.left script.old) (P.left proof_in.old) (W.written answers.old) (W.written answers.new) IsRightlyAccepted }
-    // What a check tells before a stop is a front of what is to be told.
+    // What a check told before a stop are verdicts of records that are accepted, whatever stands behind them, the last line maybe
+    // cut off, or a front of the whole report. Whatever is judged of both texts, its report begins with what is told.
     ensures judged_front { IsToCheck (map (λ w. w.now) words.now) → ToldOf (S.left script.old) (P.left proof_in.old) (W.written answers.old) (W.written answers.new) IsFrontOfCheck }
     // Without a fault two texts that are told and not too long are judged, but for want of memory.
     ensures judged_always { IsToCheck (map (λ w. w.now) words.now) → IsShort (S.left script.old) → IsShort (P.left proof_in.old)

@@ -6,7 +6,7 @@ use Rattle.proof_checker.proofs.checking.judge_line.Goals as goal
 pub returns-in-Ok-told : goal.returns-in-Ok-told
 returns-in-Ok-told c =
     let l = rw c.in-Line.is at c.in-Ok.ensures.line in
-    lined _ _ _ c.in-Ok.ensures.same l.1 c.args.checker c.in_ok-checker-in-Line.checker c.requires c.in_ok-checker-in-Line.ensures.moves _ refl refl
+    lined _ _ _ c.in-Ok.ensures.same l.1 c.args.checker c.in_ok-checker-in-Line.checker c.requires c.in_ok-checker-in-Line.ensures.moves c.go_on.result c.go_on.ensures
 
 pub returns-in-Err : goal.returns-in-Err
 returns-in-Err c =

@@ -6,8 +6,8 @@ use Rattle.accepted_proof.proofs.Valuing.{are_suited}
 use Rattle.proof_checker.proofs.Valued.{judged}
 use Rattle.proof_checker.proofs.models.is_model.Goals as goal
 
-pub values_of-requires : goal.values_of-requires
-values_of-requires c = record {
+pub values_with-requires : goal.values_with-requires
+values_with-requires c = record {
   suited = subst (λ (v : TermsValue). AreSuited v.nodes c.in_ok-interp.interp) (sym c.terms.ensures.terms) (are_suited c.args.state.now c.terms.ensures.state c.in_ok-interp.interp);
   held = rw c.as_slice.ensures.value (subst (λ (v : TermsValue). All (λ t. t < length v.nodes) c.in_ok-asked.asked.items) (sym c.terms.ensures.terms) c.in_ok-asked.ensures.held);
 }

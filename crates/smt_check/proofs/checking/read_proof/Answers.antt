@@ -20,7 +20,7 @@ returns-in_err-size-clause-cause g c =
 pub returns-then-size-eq0-clause-ok : goal.returns-then-size-eq0-clause-ok
 returns-then-size-eq0-clause-ok g c =
     let read = c.in_ok-size.ensures.read in
-    proof_ends _ _ _ _ _ _ c.if-size-eq0.true read.1 read.2 c.end_proof.ensures.judged c.end_proof.ensures.ended
+    proof_ends _ _ _ _ _ _ c.if-size-eq0.true read.1 read.2 c.end_proof.ensures.judged c.end_proof.ensures.ended c.end_proof.ensures.accepted c.end_proof.ensures.fed
 
 pub returns-in_err-feed_proof-clause-ok : goal.returns-in_err-feed_proof-clause-ok
 returns-in_err-feed_proof-clause-ok g c =
@@ -40,4 +40,4 @@ returns-in_err-feed_proof-clause-cause g c =
 pub returns-clause-ok : goal.returns-clause-ok
 returns-clause-ok g c =
     let size = c.in_ok-size.ensures in
-    proof_fed _ _ _ _ _ _ _ c.if-size-eq0.false size.within size.read.0 c.requires.unended size.bytes c.in_ok-feed_proof.ensures.judged c.feed_proof.ensures.ended
+    proof_fed _ _ _ _ _ _ _ c.if-size-eq0.false size.within size.read.0 c.requires.unended size.bytes c.in_ok-feed_proof.ensures.judged c.feed_proof.ensures.ended c.in_ok-feed_proof.ensures.accepted c.feed_proof.ensures.fed

@@ -8,23 +8,23 @@ use Rattle.proof_checker.proofs.checker.Checker.apply.Goals as goal
 pub invariant_of-checker : goal.invariant_of-checker
 invariant_of-checker c =
     let told = c.in-Ok.ensures.does in
-    let before = c.self.inside in
+    let before = c.checker.inside in
     let new = c.in-Ok.state in (
-      still_stands before.state new before.log told.0 c.obey.ensures.state c.self.invariant.0 told.3,
+      still_stands before.state new before.log told.0 c.obey.ensures.state c.checker.invariant.0 told.3,
       c.due_by.ensures.open new.symbols.live before.values.items,
       c.due_by.ensures.noted (limits_of before.limits) new before.log.entries,
-      c.self.invariant.3,
+      c.checker.invariant.3,
     )
 
 pub returns : goal.returns
 returns c =
     let told = c.in-Ok.ensures.does in
-    let before = c.self.inside in
+    let before = c.checker.inside in
     let new = c.in-Ok.state in
     let answer = c.in-Ok.answer in (
       told.0,
       told.1,
-      subst (λ (x : CheckerValue). held (limits_of before.limits) new before.log.entries (owed_of c.due_by.result new.symbols.live before.values.items) before.line before.verdicts.items ≡ judged_so x (commanded x.judging told.0)) c.self.view_is
+      subst (λ (x : CheckerValue). held (limits_of before.limits) new before.log.entries (owed_of c.due_by.result new.symbols.live before.values.items) before.line before.verdicts.items ≡ judged_so x (commanded x.judging told.0)) c.checker.view_is
           (commanded_to (limits_of before.limits) before.state new before.log.entries (owed_of before.due before.state.symbols.live before.values.items) (owed_of c.due_by.result new.symbols.live before.values.items) before.line before.verdicts.items
           answer told.0 told.2 told.3 (c.due_by.ensures.owed new.symbols.live before.values.items)),
       ended_by c.is_exit-ended.result answer before.state told.0 c.is_exit-ended.ensures told.2,

@@ -8,9 +8,9 @@ use Rattle.proof_checker.proofs.checker.Checker.owe_values.Goals as goal
 
 pub returns : goal.returns
 returns c =
-    let before = c.self.inside in
+    let before = c.checker.inside in
     let values = c.args.values.items in
     let less : length values < length before.state.symbols.live =
-    subst (λ (x : CheckerValue). length c.args.values.items < length x.judging.state.symbols.live) (sym c.self.view_is) c.requires.left in
-    subst (λ (x : CheckerValue). GoesTo (Goes x.judging (drop (length c.args.values.items) x.judging.state.symbols.live) c.args.values.items) x (record { judging = record { limits = limits_of c.self.inside.limits; state = c.self.inside.state; log = c.self.inside.log.entries; owed = owed_of Values c.self.inside.state.symbols.live c.args.values.items; line = c.self.inside.line + 1 }; verdicts = c.self.inside.verdicts.items })) c.self.view_is
+    subst (λ (x : CheckerValue). length c.args.values.items < length x.judging.state.symbols.live) (sym c.checker.view_is) c.requires.left in
+    subst (λ (x : CheckerValue). GoesTo (Goes x.judging (drop (length c.args.values.items) x.judging.state.symbols.live) c.args.values.items) x (record { judging = record { limits = limits_of c.checker.inside.limits; state = c.checker.inside.state; log = c.checker.inside.log.entries; owed = owed_of Values c.checker.inside.state.symbols.live c.args.values.items; line = c.checker.inside.line + 1 }; verdicts = c.checker.inside.verdicts.items })) c.checker.view_is
     (owed_values (limits_of before.limits) before.state before.log.entries (owed_of before.due before.state.symbols.live before.values.items) before.line before.verdicts.items values less)
