@@ -1,5 +1,4 @@
 pub mod PlainTerms
-pub mod Reached
 pub mod Staying
 pub mod HeldSteps
 pub mod Validity
@@ -20,5 +19,6 @@ pub mod Showing
 pub mod Responding
 pub mod Listing
 pub mod Valuing
+pub mod Tabling
 pub mod Coring
 pub mod Settling

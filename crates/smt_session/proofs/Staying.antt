@@ -5,12 +5,13 @@ use Rattle.std.specs.Option.{option_map}
 use Rattle.std.proofs.lemmas.Bool.{cases_lt}
 use Rattle.std.proofs.lemmas.List.{take_more, map_push, get_or_default}
 use Rattle.std.proofs.lemmas.List.Elements.{All-contains, Contains-get_or}
+use Rattle.std.proofs.lemmas.Option.{slice_get-get_or, slice_get_within, get_or_from_slice_get}
+use Rattle.std.specs.Prelude.{slice_get}
 use Rattle.cnf_base.specs.Literals.{Literal}
 use Rattle.cnf_base.proofs.Lists.{each_append}
 use Rattle.cnf_base.proofs.Options.{some_value, IsSome-from}
 use Rattle.smt_terms.specs.Bits.{bits_in}
 use Rattle.smt_terms.specs.Nodes.{node_at}
-use Rattle.smt_terms.specs.Terms.{IsTerm}
 use Rattle.scope_selectors.specs.declared.live.Live.{Live}
 use Rattle.script_state.specs.States.{StateValue}
 use Rattle.proof_log.specs.declared.entry.Entry.{Entry}
@@ -21,7 +22,6 @@ use Rattle.proof_log.proofs.Standing.{stands_over, some_literal}
 use Rattle.proof_log.proofs.Staying.{log_stays}
 use Rattle.smt_session.specs.Growing.{IsStepFor, AreStepsFor, Grows, HasBits, AreSelectors}
 use Rattle.smt_session.specs.Reaching.{AreOrdered}
-use Rattle.smt_session.proofs.PlainTerms.{earlier_arguments}
 use Rattle.cube_tree.proofs.Resolving.{members}
 
 pub none_of_not : {A : Type 0} (o : Option A) → (IsSome o → ⊥) → o ≡ None
@@ -110,42 +110,32 @@ pub none_mapped : {A B : Type 0} (f : A → B) (r : Option A) (o : Option B) →
 none_mapped f None o e h = sym e
 none_mapped f (Some x) o e h = let q : ⊥ = cc in absurd q
 
--- the terms of the list from a place on have bits
+-- the first terms of the list have bits
 pub record AreEncoded (s : StateValue) (old new : LogValue) (reached : List ℕ) (at : ℕ) : Type 0 where
   pub grows : Grows s old new
-  pub done : (k d : ℕ) → at ≤ k → k < length reached → HasBits new (get_or reached k d)
+  pub done : (k d : ℕ) → k < at → k < length reached → HasBits new (get_or reached k d)
 
-pub encoded_none : (s : StateValue) (old : LogValue) (reached : List ℕ) (at : ℕ) → Stands s.terms.nodes old → length reached ≤ at → AreEncoded s old old reached at
-encoded_none s old reached at h le = record { grows = grows_none s old h; done = λ k d ge lt. absurd (omega (arith, le, ge, lt)) }
+pub encoded_none : (s : StateValue) (old : LogValue) (reached : List ℕ) → Stands s.terms.nodes old → AreEncoded s old old reached 0
+encoded_none s old reached h = record { grows = grows_none s old h; done = λ k d lt less. absurd (omega (arith, lt)) }
 
-pub encoded_more : (s : StateValue) (old mid new : LogValue) (reached : List ℕ) (at t : ℕ) → AreEncoded s old mid reached (suc at) → Grows s mid new → ((d : ℕ) → t ≡ get_or reached at d) → HasBits new t → AreEncoded s old new reached at
+pub encoded_more : (s : StateValue) (old mid new : LogValue) (reached : List ℕ) (at t : ℕ) → AreEncoded s old mid reached at → Grows s mid new → ((d : ℕ) → t ≡ get_or reached at d) → HasBits new t → AreEncoded s old new reached (at + 1)
 encoded_more s old mid new reached at t h g own here = record {
   grows = grows_more s old mid new h.grows g;
-  done = λ k d ge lt.
+  done = λ k d lt less.
       ⊎_elim
-      (λ same. (let e : at ≡ k = omega (arith, same, ge) in subst (λ i. HasBits new (get_or reached i d)) e (subst (HasBits new) (own d) here)))
-      (λ later. bits_stay s mid new (get_or reached k d) h.grows.stands g (h.done k d later lt))
-      (cases_lt k (suc at));
+      (λ before. bits_stay s mid new (get_or reached k d) h.grows.stands g (h.done k d before less))
+      (λ le. (let e : at ≡ k = omega (arith, le, lt) in subst (λ i. HasBits new (get_or reached i d)) e (subst (HasBits new) (own d) here)))
+      (cases_lt k at);
 }
 
--- arguments of a term of the list stand behind it
-pub encoded_arguments : (s : StateValue) (old new : LogValue) (reached : List ℕ) (at d t : ℕ) → AreOrdered s.terms.nodes reached → AreEncoded s old new reached (suc at) → at < length reached → t ≡ get_or reached at d → IsTerm s.terms.nodes t → All (HasBits new) (node_at s.terms.nodes t).args
-encoded_arguments s old new reached at d t ordered h lt own term =
+-- arguments of a term of the list stand before it
+pub encoded_arguments : (s : StateValue) (old new : LogValue) (reached : List ℕ) (at d t : ℕ) → AreOrdered s.terms.nodes reached → AreEncoded s old new reached at → at < length reached → t ≡ get_or reached at d → All (HasBits new) (node_at s.terms.nodes t).args
+encoded_arguments s old new reached at d t ordered h lt own =
     members (HasBits new) (node_at s.terms.nodes t).args (λ u p.
-    let in_it : Contains reached t = subst (Contains reached) (sym own) (Contains-get_or reached at d lt) in
-    let k = ordered.closed t u in_it p in
-    let less : u < t = All-contains (λ a. a < t) (node_at s.terms.nodes t).args u (earlier_arguments s.terms.nodes t term) p in
-    let here : get_or reached k.0 u ≡ u = k.2 in
-    let place : t ≡ get_or reached at u = own ∙ get_or_default reached at d u lt in
-    let behind : suc at ≤ k.0 =
-    ⊎_elim
-    (λ (before : k.0 < at). (let f : get_or reached at u < get_or reached k.0 u = ordered.falling k.0 at u before lt in absurd (omega arith)))
-    (λ (le : at ≤ k.0). ⊎_elim
-    (λ (same : k.0 < suc at). (let e : k.0 ≡ at = omega (arith, le, same) in let f : get_or reached at u ≡ u = ap (λ i. get_or reached i u) (sym e) ∙ here in absurd (omega arith)))
-    (λ (later : suc at ≤ k.0). later)
-    (cases_lt k.0 (suc at)))
-    (cases_lt k.0 at) in
-    subst (HasBits new) here (h.done k.0 u behind k.1))
+    let here : slice_get reached at ≡ Some t = slice_get-get_or reached at d lt ∙ ap Some (sym own) in
+    let j = ordered.order at t u here p in
+    let less = slice_get_within reached j.0 u j.2 in
+    subst (HasBits new) (get_or_from_slice_get reached j.0 u d j.2) (h.done j.0 d j.1 less))
 
 -- one assertion more has its selector
 pub chosen_more : (s : StateValue) (mid new : LogValue) (live : List Live) (given more : List Literal) (k : ℕ) (a : Live) (x : Literal) → k < length live → a ≡ get_or live k a → Stands s.terms.nodes mid → Grows s mid new → AreSelectors mid (take k live) given → selector_in new.selectors a.assertion ≡ Some x → more ≡ given ++ x ∷ [] → AreSelectors new (take (k + 1) live) more

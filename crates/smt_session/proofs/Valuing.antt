@@ -13,7 +13,6 @@ use Rattle.smt_eval.specs.Asked.{AreValuesOf}
 use Rattle.smt_eval.proofs.Evaluating.{sort_plain}
 use Rattle.script_state.specs.declared.answer.Asked.{Asked}
 use Rattle.accepted_proof.specs.Answers.{asked_text, meaning_text}
-use Rattle.accepted_proof.specs.Models.{interpretation_of}
 use Rattle.smt_session.proofs.Listing.{mapped_more}
 
 -- ---- the texts
@@ -24,8 +23,8 @@ term_asked a = a.term
 pub terms_held : (n : ℕ) (asked : List Asked) (terms slice : List ℕ) → terms ≡ map term_asked asked → slice ≡ terms → All (λ (a : Asked). a.term < n) asked → All (λ t. t < n) slice
 terms_held n asked terms slice e same h = subst (All (λ t. t < n)) (sym (same ∙ e)) (All-map (λ t. t < n) term_asked asked h)
 
-module _ (nodes held : List Node) (M : Interpretation) (values : List (ℕ × Value)) (asked : List Asked) (terms slice : List ℕ) (found : List Value)
-    (same : M ≡ interpretation_of values) (over : held ≡ nodes) (all : terms ≡ map term_asked asked) (given : slice ≡ terms) (are : AreValuesOf M held slice found) where
+module _ (nodes held : List Node) (M : Interpretation) (asked : List Asked) (terms slice : List ℕ) (found : List Value)
+    (over : held ≡ nodes) (all : terms ≡ map term_asked asked) (given : slice ≡ terms) (are : AreValuesOf M held slice found) where
   place : (k : ℕ) → k < length asked → k < length slice
   place k lt = subst (λ m. k < m) (sym (ap length (given ∙ all) ∙ length-map asked term_asked)) lt
 
@@ -37,14 +36,14 @@ module _ (nodes held : List Node) (M : Interpretation) (values : List (ℕ × Va
 
   -- one text more
   pub item_more : (items more : List (List ℕ)) (k : ℕ) (a : Asked) (v : Value) (item : List ℕ) → k < length asked → a ≡ get_or asked k a → v ≡ held_value found k
-      → item ≡ codes "(" ++ a.text ++ codes " " ++ meaning_text (meaning v) ++ codes ")" → items ≡ map (asked_text nodes (interpretation_of values)) (take k asked) → more ≡ items ++ item ∷ []
-      → more ≡ map (asked_text nodes (interpretation_of values)) (take (k + 1) asked)
+      → item ≡ codes "(" ++ a.text ++ codes " " ++ meaning_text (meaning v) ++ codes ")" → items ≡ map (asked_text nodes M) (take k asked) → more ≡ items ++ item ∷ []
+      → more ≡ map (asked_text nodes M) (take (k + 1) asked)
   item_more items more k a v item lt at here text before e =
       let term : get_or slice k 0 ≡ a.term = ap (λ ts. get_or ts k 0) (given ∙ all) ∙ get_or-map term_asked asked k a 0 lt ∙ ap term_asked (sym at) in
-      let means : meaning v ≡ value (interpretation_of values) nodes a.term =
-      ap meaning here ∙ are.means k (place k lt) ∙ ap (value M held) term ∙ ap (λ ns. value M ns a.term) over ∙ ap (λ m. value m nodes a.term) same in
-      let own : item ≡ asked_text nodes (interpretation_of values) a = text ∙ ap (λ x. codes "(" ++ a.text ++ codes " " ++ meaning_text x ++ codes ")") means in
-      mapped_more (asked_text nodes (interpretation_of values)) asked items more k a item lt at before own e
+      let means : meaning v ≡ value M nodes a.term =
+      ap meaning here ∙ are.means k (place k lt) ∙ ap (value M held) term ∙ ap (λ ns. value M ns a.term) over in
+      let own : item ≡ asked_text nodes M a = text ∙ ap (λ x. codes "(" ++ a.text ++ codes " " ++ meaning_text x ++ codes ")") means in
+      mapped_more (asked_text nodes M) asked items more k a item lt at before own e
 
 pub read_held : (values : List Value) (k : ℕ) (v d : Value) → k < length values → v ≡ get_or values k d → v ≡ held_value values k
 read_held [] k v d lt e = absurd (omega (arith, lt))

@@ -4,5 +4,6 @@ pub mod Reaching
 pub mod Searched
 pub mod Reused
 pub mod Modeled
+pub mod Tabled
 pub mod Blaming
 pub mod Sessions

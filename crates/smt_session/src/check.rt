@@ -23,7 +23,7 @@ use crate::model::model;
 use crate::positions::positions;
 use crate::reach::{reach, roots};
 use crate::readable::{read_record, read_step};
-use crate::solve::{Found, Searched, solve};
+use crate::solve::{Found, solve};
 use crate::workspace::Workspace;
 use check_cubes::{Limits, cube_variables};
 use cnf_base::{Lit, Pos};
@@ -81,65 +81,48 @@ fn split_and_reuse(
     split(alloc, state, log, limits)
 }
 
-/// What a check leaves to the next one, and its record.
-#[derive(Drop)]
-struct Concluded {
-    workspace: Workspace,
-    shown: Record,
-}
-
 /// Searches the cubes of a check under the selectors of the live assertions and the bits of the assumptions, over these steps
 /// and what earlier checks learnt of their variables, and gives the record that shows what was found.
 fn conclude(
     alloc: Global,
     state: &State,
-    workspace: Workspace,
+    workspace: &mut Workspace,
     steps: Vec<Pos>,
     given: &[Lit],
     limits: Limits,
-) -> Result<Concluded, AllocError>
-    requires session { IsSession state.now workspace.log }
-    requires steps { AreEnough state.now.terms.nodes workspace.log (roots state.now) state.now.scopes.live steps.items }
-    requires given { AreGiven state.now workspace.log given.now }
+) -> Result<Record, AllocError>
+    requires session { IsSession state.now workspace.old.log }
+    requires steps { AreEnough state.now.terms.nodes workspace.old.log (roots state.now) state.now.scopes.live steps.items }
+    requires given { AreGiven state.now workspace.old.log given.now }
     requires limits { AreLimits (limits_of limits) }
-    ensures { IfOk result (λ c. IsChecked (limits_of limits) state.now workspace.log c.workspace.log c.shown) }
+    ensures { IfOk result (λ r. IsChecked (limits_of limits) state.now workspace.old.log workspace.new.log r) }
 {
-    let Workspace { log, mut names } = workspace;
     let mut positions = steps;
-    let cubes = split_and_reuse(alloc, state, &log, &mut names, &mut positions, limits);
-    let Ok(tree) = cubes else {
-        drop((log, names, positions));
-        return Err(AllocError);
-    };
-    let Searched { workspace, found } = solve(
+    let tree = split_and_reuse(
+        alloc,
+        state,
+        &workspace.log,
+        &mut workspace.names,
+        &mut positions,
+        limits,
+    )?;
+    let found = solve(
         alloc,
         state.terms(),
-        Workspace { log, names },
+        workspace,
         positions.as_slice(),
         &tree,
         given,
         limits.budget,
     )?;
     match found {
-        Found::Refuted(at) => Ok(Concluded {
-            workspace,
-            shown: Record::Unsat(at),
-        }),
+        Found::Refuted(at) => Ok(Record::Unsat(at)),
         Found::Model(values) => {
             let values = values.as_slice();
-            let Ok(values) = model(alloc, state, &workspace.log, &workspace.names, values) else {
-                drop(workspace);
-                return Err(AllocError);
-            };
-            Ok(Concluded {
-                workspace,
-                shown: Record::Sat(values),
-            })
+            let values = model(alloc, state, &workspace.log, &workspace.names, values)?;
+            Ok(Record::Sat(values))
         }
-        Found::Spent(diary) => Ok(Concluded {
-            workspace,
-            shown: Record::Unknown(diary),
-        }),
+        Found::Spent(diary) => Ok(Record::Unknown(diary)),
     }
 }
 
@@ -151,17 +134,22 @@ struct Prepared {
 }
 
 /// Gives what the live assertions and the assumptions reach its bits, and each live assertion a selector.
-fn prepare(alloc: Global, state: &State, log: &mut Log) -> Result<Prepared, AllocError>
+fn prepare(
+    alloc: Global,
+    state: &State,
+    log: &mut Log,
+    reached: &mut Reached,
+) -> Result<Prepared, AllocError>
     requires { IsSession state.now log.old }
     ensures grows { IfOk result (λ _. Grows state.now log.old log.new) }
     ensures steps { IfOk result (λ p. AreEnough state.now.terms.nodes log.new (roots state.now) state.now.scopes.live p.steps.items) }
     ensures given { IfOk result (λ p. AreGiven state.now log.new p.given.items) }
 {
     let roots = roots(alloc, state)?;
-    let reached = reach(alloc, state.terms(), roots.as_slice())?;
-    encode_all(alloc, state, log, reached.as_slice())?;
+    reach(alloc, state.terms(), roots.as_slice(), reached)?;
+    encode_all(alloc, state, log, reached.terms())?;
     let given = give(alloc, state, log)?;
-    let steps = positions(alloc, state.terms(), log, reached.as_slice(), state.live())?;
+    let steps = positions(alloc, state.terms(), log, reached.terms(), state.live())?;
     Ok(Prepared { steps, given })
 }
 
@@ -169,19 +157,15 @@ fn prepare(alloc: Global, state: &State, log: &mut Log) -> Result<Prepared, Allo
 fn check(
     alloc: Global,
     state: &State,
-    workspace: Workspace,
+    workspace: &mut Workspace,
     limits: Limits,
-) -> Result<Concluded, AllocError>
-    requires session { IsSession state.now workspace.log }
+) -> Result<Record, AllocError>
+    requires session { IsSession state.now workspace.old.log }
     requires limits { AreLimits (limits_of limits) }
-    ensures { IfOk result (λ c. IsChecked (limits_of limits) state.now workspace.log c.workspace.log c.shown) }
+    ensures { IfOk result (λ r. IsChecked (limits_of limits) state.now workspace.old.log workspace.new.log r) }
 {
-    let Workspace { mut log, names } = workspace;
-    let Ok(Prepared { steps, given }) = prepare(alloc, state, &mut log) else {
-        drop((log, names));
-        return Err(AllocError);
-    };
-    let workspace = Workspace { log, names };
+    let prepared = prepare(alloc, state, &mut workspace.log, &mut workspace.reached)?;
+    let Prepared { steps, given } = prepared;
     conclude(alloc, state, workspace, steps, given.as_slice(), limits)
 }
 
@@ -220,36 +204,21 @@ fn lines(alloc: Global, log: &Log, from: Pos, shown: &Record) -> Result<Text, Al
     Ok(out)
 }
 
-/// What a check leaves to the next one, its record, and the lines of its steps and the record.
-#[derive(Drop)]
-pub(crate) struct Checked {
-    pub(crate) workspace: Workspace,
-    pub(crate) shown: Record,
-    pub(crate) text: Text,
-}
-
-/// Checks the live assertions under the assumptions within the limits, and prints the lines of the check.
+/// Checks the live assertions under the assumptions within the limits: the record of the check, and its lines.
 pub(crate) fn run_check(
     alloc: Global,
     state: &State,
-    workspace: Workspace,
+    workspace: &mut Workspace,
     limits: Limits,
-) -> Result<Checked, AllocError>
-    requires session { IsSession state.now workspace.log }
+) -> Result<(Record, Text), AllocError>
+    requires session { IsSession state.now workspace.old.log }
     requires limits { AreLimits (limits_of limits) }
-    ensures checked { IfOk result (λ c. IsChecked (limits_of limits) state.now workspace.log c.workspace.log c.shown) }
-    ensures text { IfOk result (λ c. c.text ≡ flat_map line_text (step_lines (drop (length workspace.log.entries) c.workspace.log.entries)) ++ flat_map line_text (record_lines c.shown)) }
-    ensures readable { IfOk result (λ c. AllByRecursion IsLine (step_lines (drop (length workspace.log.entries) c.workspace.log.entries) ++ record_lines c.shown)) }
+    ensures checked { IfOk result (λ r. IsChecked (limits_of limits) state.now workspace.old.log workspace.new.log r.0) }
+    ensures text { IfOk result (λ r. r.1 ≡ flat_map line_text (step_lines (drop (length workspace.old.log.entries) workspace.new.log.entries)) ++ flat_map line_text (record_lines r.0)) }
+    ensures readable { IfOk result (λ r. AllByRecursion IsLine (step_lines (drop (length workspace.old.log.entries) workspace.new.log.entries) ++ record_lines r.0)) }
 {
     let from = workspace.log.len();
-    let Concluded { workspace, shown } = check(alloc, state, workspace, limits)?;
-    let Ok(text) = lines(alloc, &workspace.log, from, &shown) else {
-        drop((workspace, shown));
-        return Err(AllocError);
-    };
-    Ok(Checked {
-        workspace,
-        shown,
-        text,
-    })
+    let shown = check(alloc, state, workspace, limits)?;
+    let text = lines(alloc, &workspace.log, from, &shown)?;
+    Ok((shown, text))
 }

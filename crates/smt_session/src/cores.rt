@@ -11,6 +11,7 @@ ghost use Rattle.accepted_proof.specs.Answers.{core_text, assumptions_text};
 ghost use Rattle.accepted_proof.specs.Cores.{bit_stands, blamed_assumptions, core_names, is_blamed, is_blamed_assumption, refuting_clause};
 ghost use Rattle.smt_session.specs.Blaming.{AreCodes};
 
+use crate::last::Last;
 use crate::lists::list_text;
 use cnf_base::{Clause, ClauseId, Lit};
 use proof_log::Log;
@@ -131,17 +132,17 @@ fn assumption_items(
     Ok(items)
 }
 
-/// The core that the refutation of a record tells, where it has one.
+/// The core that the refutation of the last check tells, where it has one.
 pub(crate) fn core_text(
     alloc: Global,
     state: &State,
     log: &Log,
-    shown: &Option<Record>,
+    last: &Last,
 ) -> Result<Text, AllocError>
     requires { Stands state.now.terms.nodes log.now }
-    ensures { IfOk result (λ t. t ≡ core_text state.now (state_of state.now.terms.nodes log.now.entries) (refuting_clause (state_of state.now.terms.nodes log.now.entries) shown.now)) }
+    ensures { IfOk result (λ t. t ≡ core_text state.now (state_of state.now.terms.nodes log.now.entries) (refuting_clause (state_of state.now.terms.nodes log.now.entries) last.now)) }
 {
-    match refuting_clause(log, shown) {
+    match refuting_clause(log, last.shown()) {
         Some(clause) => {
             let items = core_items(alloc, state, log, clause)?;
             list_text(alloc, items.as_slice())
@@ -150,17 +151,17 @@ pub(crate) fn core_text(
     }
 }
 
-/// The assumptions that the refutation of a record blames, where it has one.
+/// The assumptions that the refutation of the last check blames, where it has one.
 pub(crate) fn assumptions_text(
     alloc: Global,
     state: &State,
     log: &Log,
-    shown: &Option<Record>,
+    last: &Last,
 ) -> Result<Text, AllocError>
     requires { Stands state.now.terms.nodes log.now }
-    ensures { IfOk result (λ t. t ≡ assumptions_text state.now (state_of state.now.terms.nodes log.now.entries) (refuting_clause (state_of state.now.terms.nodes log.now.entries) shown.now)) }
+    ensures { IfOk result (λ t. t ≡ assumptions_text state.now (state_of state.now.terms.nodes log.now.entries) (refuting_clause (state_of state.now.terms.nodes log.now.entries) last.now)) }
 {
-    match refuting_clause(log, shown) {
+    match refuting_clause(log, last.shown()) {
         Some(clause) => {
             let items = assumption_items(alloc, state, log, clause)?;
             list_text(alloc, items.as_slice())

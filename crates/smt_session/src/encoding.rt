@@ -49,7 +49,7 @@ fn encode(alloc: Global, state: &State, log: &mut Log, term: TermId) -> Result<(
     Ok(())
 }
 
-/// Gives each of the terms bits, the last of them first.
+/// Gives each of the terms bits, in their order.
 pub(crate) fn encode_all(
     alloc: Global,
     state: &State,
@@ -62,10 +62,8 @@ pub(crate) fn encode_all(
     ensures grows { IfOk result (λ _. Grows state.now log.old log.new) }
     ensures bits { IfOk result (λ _. All (HasBits log.new) reached.now) }
 {
-    let mut at = reached.len();
-    'terms: while at > 0 {
-        at -= 1;
-        encode(alloc, state, log, reached[at])?;
+    'terms: for term in reached {
+        encode(alloc, state, log, *term)?;
     }
     Ok(())
 }

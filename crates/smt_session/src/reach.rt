@@ -1,14 +1,15 @@
 // Which terms some terms reach, through all arguments.
 
-ghost use Rattle.std.specs.Prelude.{◌≡◌, All, IfOk, Contains};
+ghost use Rattle.std.specs.Prelude.{◌≡◌, All, IfOk, OnOk, Contains};
+ghost use Rattle.term_reach.specs.Reach.{arguments, IsReach};
 ghost use Rattle.script_state.specs.States.{roots};
-ghost use Rattle.smt_session.specs.Reaching.{IsPlainTerm, AreLeast, AreOrdered};
+ghost use Rattle.smt_session.specs.Reaching.{IsPlainTerm, AreOrdered};
 
-use crate::waiting::Waiting;
 use script_state::state::State;
 use smt_terms::node::TermId;
 use smt_terms::terms::Terms;
 use std::alloc::{AllocError, Global};
+use term_reach::{Reached, reach_by_arguments};
 
 /// The terms of the live assertions, and then those of the assumptions.
 pub(crate) fn roots(alloc: Global, state: &State) -> Result<Vec<TermId>, AllocError>
@@ -18,25 +19,18 @@ pub(crate) fn roots(alloc: Global, state: &State) -> Result<Vec<TermId>, AllocEr
     state.roots(alloc)
 }
 
-/// The terms that plain terms reach, themselves among them, and no others: each once, the last made first.
+/// The terms that plain terms reach, themselves among them, and no others: each once, behind its arguments.
 pub(crate) fn reach(
     alloc: Global,
     terms: &Terms,
     from: &[TermId],
-) -> Result<Vec<TermId>, AllocError>
+    reached: &mut Reached,
+) -> Result<(), AllocError>
     requires plain { All (IsPlainTerm terms.now.nodes) from.now }
-    ensures ordered { IfOk result (λ r. AreOrdered terms.now.nodes r.items) }
-    ensures from { IfOk result (λ r. All (Contains r.items) from.now) }
-    ensures only { IfOk result (λ r. AreLeast terms.now.nodes from.now r.items) }
+    ensures ordered { OnOk result (AreOrdered terms.now.nodes reached.new) }
+    ensures from { OnOk result (All (Contains reached.new) from.now) }
+    ensures exactly { OnOk result (IsReach (arguments terms.now.nodes) from.now reached.new) }
 {
-    let mut waiting = Waiting::new(alloc);
-    waiting.push_all(from)?;
-    let mut reached = Vec::new(alloc);
-    let mut bound = terms.len();
-    'terms: while let Some(term) = waiting.pop_below(bound) {
-        waiting.push_all(terms.node(term).args.as_slice())?;
-        reached.push(term)?;
-        bound = term;
-    }
-    Ok(reached)
+    reach_by_arguments(alloc, terms, from, reached)?;
+    Ok(())
 }

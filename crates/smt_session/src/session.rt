@@ -10,8 +10,9 @@ ghost use Rattle.accepted_proof.specs.Searching.{AreLimits, Limits as LimitsValu
 ghost use Rattle.check_cubes.specs.Searches as check_cubes;
 ghost use Rattle.smt_session.specs.Sessions.{AreHeld, IsAnswered, IsSession, Responds, asks_values, limits_of};
 
-use crate::check::{Checked, run_check, verdict_of};
+use crate::check::{run_check, verdict_of};
 use crate::cores::{assumptions_text, core_text};
+use crate::last::Last;
 use crate::response::{Response, Stop};
 use crate::settings::Settings;
 use crate::texts::model_text;
@@ -20,7 +21,6 @@ use crate::workspace::Workspace;
 use check_cubes::Limits;
 use local_names::LocalNames;
 use proof_log::Log;
-use proof_text::record::Record;
 use script_state::answer::Answer;
 use script_state::state::State;
 use smt_desk::stream::{Sink, write_whole};
@@ -28,13 +28,14 @@ use smt_text::chunk::Chunk;
 use smt_text::text::Text;
 use std::alloc::{AllocError, Global};
 use std::marker::Model;
+use term_reach::Reached;
 
 /// The state of a script's commands, the log of its checks, the record of the last one, and the limits of each.
 #[derive(Drop)]
 pub struct Session {
     state: State,
     workspace: Workspace,
-    shown: Option<Record>,
+    last: Last,
     limits: Limits,
 }
 
@@ -45,7 +46,7 @@ impl Model for Session {
 
     ghost Value = { SessionValue };
 
-    ghost view = { λ s. record { state = s.state; log = s.workspace.log; shown = s.shown; limits = limits_of s.limits } };
+    ghost view = { λ s. record { state = s.state; log = s.workspace.log; shown = s.last; limits = limits_of s.limits } };
 
     ghost invariant = { λ s. IsSession s.state s.workspace.log × AreLimits (limits_of s.limits) };
 }
@@ -63,51 +64,31 @@ fn write_lines<Q: Sink>(text: &Text, proof: &mut Q) -> Result<(), Stop>
     }
 }
 
-/// A response, the record of the last check, and what the checks leave to the next one.
-#[derive(Drop)]
-struct Reply {
-    response: Response,
-    shown: Option<Record>,
-    workspace: Workspace,
-}
-
 /// Checks the live assertions under the assumptions, and answers once the lines of the check are written.
 fn answer_check<Q: Sink>(
     alloc: Global,
     line: u64,
     state: &mut State,
-    workspace: Workspace,
+    workspace: &mut Workspace,
+    last: &mut Last,
     limits: Limits,
     proof: &mut Q,
-) -> Result<Reply, Stop>
-    requires session { IsSession state.old workspace.log }
+) -> Result<Response, Stop>
+    requires session { IsSession state.old workspace.old.log }
     requires limits { AreLimits (check_cubes.limits_of limits) }
-    ensures session { IfOk result (λ r. IsSession state.new r.workspace.log) }
-    ensures response { IfOk result (λ r. (last : Option RecordValue) → Responds (check_cubes.limits_of limits) line Answer.Check state.old state.new workspace.log r.workspace.log last r.shown r.response (Q.written proof.old) (Q.written proof.new)) }
+    ensures session { OnOk result (IsSession state.new workspace.new.log) }
+    ensures response { IfOk result (λ r. Responds (check_cubes.limits_of limits) line Answer.Check state.old state.new workspace.old.log workspace.new.log last.old last.new r (Q.written proof.old) (Q.written proof.new)) }
     ensures written { (bytes : List ℕ) × Appends (Q.written proof.old) (Q.written proof.new) bytes }
     ensures failed { result ≡ Err Stop.Failed → Rose (Q.faults proof.old) (Q.faults proof.new) }
     ensures later { Q.faults proof.old ≤ Q.faults proof.new }
 {
-    let Checked {
-        workspace,
-        shown,
-        text,
-    } = run_check(alloc, state, workspace, limits)?;
+    let (shown, text) = run_check(alloc, state, workspace, limits)?;
     let verdict = verdict_of(&shown);
-    let Ok(response) = Response::verdict(alloc, verdict) else {
-        drop((workspace, shown, text));
-        return Err(Stop::NoMemory);
-    };
-    if let Err(stop) = write_lines(&text, proof) {
-        drop((workspace, shown, text, response));
-        return Err(stop);
-    }
+    let response = Response::verdict(alloc, verdict)?;
+    last.put(alloc, shown)?;
+    write_lines(&text, proof)?;
     state.conclude(verdict);
-    Ok(Reply {
-        response,
-        shown: Some(shown),
-        workspace,
-    })
+    Ok(response)
 }
 
 /// Whether the values of terms are asked for.
@@ -139,9 +120,10 @@ fn response_without_check(
     alloc: Global,
     line: u64,
     answer: Answer,
-    last: &Option<Record>,
+    last: &Last,
     state: &State,
     log: &Log,
+    reached: &mut Reached,
 ) -> Result<Response, AllocError>
     requires session { IsSession state.now log.now }
     requires held { AreHeld state.now answer }
@@ -154,7 +136,7 @@ fn response_without_check(
         Answer::Check => unreachable!(),
         Answer::Says(text) => return Response::line(text),
         Answer::Model => model_text(alloc, state, last)?,
-        Answer::Values(asked) => values_text(alloc, state, last, asked.as_slice())?,
+        Answer::Values(asked) => values_text(alloc, state, last, asked.as_slice(), reached)?,
         Answer::Core => core_text(alloc, state, log, last)?,
         Answer::Assumptions => assumptions_text(alloc, state, log, last)?,
         Answer::Exit => return Response::done(alloc, state.options(), true),
@@ -162,41 +144,41 @@ fn response_without_check(
     Ok(Response::told(text))
 }
 
-/// Answers what the state says of the command on a line, where the last check has this record.
+/// Answers what the state says of the command on a line.
 fn respond<Q: Sink>(
     alloc: Global,
     line: u64,
     answer: Answer,
-    last: Option<Record>,
     state: &mut State,
-    workspace: Workspace,
+    workspace: &mut Workspace,
+    last: &mut Last,
     limits: Limits,
     proof: &mut Q,
-) -> Result<Reply, Stop>
-    requires session { IsSession state.old workspace.log }
+) -> Result<Response, Stop>
+    requires session { IsSession state.old workspace.old.log }
     requires held { AreHeld state.old answer }
     requires limits { AreLimits (check_cubes.limits_of limits) }
-    ensures session { IfOk result (λ r. IsSession state.new r.workspace.log) }
-    ensures still { asks_values answer ≡ true → IfOk result (λ r. (state.new ≡ state.old) × (r.workspace.log ≡ workspace.log)) }
-    ensures response { IfOk result (λ r. Responds (check_cubes.limits_of limits) line answer state.old state.new workspace.log r.workspace.log last r.shown r.response (Q.written proof.old) (Q.written proof.new)) }
+    ensures session { OnOk result (IsSession state.new workspace.new.log) }
+    ensures still { asks_values answer ≡ true → OnOk result ((state.new ≡ state.old) × (workspace.new.log ≡ workspace.old.log)) }
+    ensures response { IfOk result (λ r. Responds (check_cubes.limits_of limits) line answer state.old state.new workspace.old.log workspace.new.log last.old last.new r (Q.written proof.old) (Q.written proof.new)) }
     ensures written { (bytes : List ℕ) × Appends (Q.written proof.old) (Q.written proof.new) bytes }
     ensures failed { result ≡ Err Stop.Failed → Rose (Q.faults proof.old) (Q.faults proof.new) }
     ensures later { Q.faults proof.old ≤ Q.faults proof.new }
 {
     if is_check(&answer) {
-        drop((answer, last));
-        return answer_check(alloc, line, state, workspace, limits, proof);
+        drop(answer);
+        return answer_check(alloc, line, state, workspace, last, limits, proof);
     }
-    let told = response_without_check(alloc, line, answer, &last, state, &workspace.log);
-    let Ok(response) = told else {
-        drop((last, workspace));
-        return Err(Stop::NoMemory);
-    };
-    Ok(Reply {
-        response,
-        shown: last,
-        workspace,
-    })
+    let response = response_without_check(
+        alloc,
+        line,
+        answer,
+        last,
+        state,
+        &workspace.log,
+        &mut workspace.reached,
+    )?;
+    Ok(response)
 }
 
 impl Session {
@@ -211,8 +193,12 @@ impl Session {
         let log = Log::new(alloc)?;
         Ok(Session {
             state: State::new(alloc),
-            workspace: Workspace { log, names },
-            shown: None,
+            workspace: Workspace {
+                log,
+                names,
+                reached: Reached::new(alloc),
+            },
+            last: Last::new(alloc),
             limits: settings.limits(),
         })
     }
@@ -237,32 +223,39 @@ impl Session {
         }
         let Session {
             mut state,
-            workspace,
-            shown,
+            mut workspace,
+            mut last,
             limits,
         } = self;
         let len = state.terms().len();
         let Ok(answer) = state.apply(alloc, chunk) else {
-            drop((state, workspace, shown));
+            drop((state, workspace, last));
             return Err(Stop::NoMemory);
         };
         let asked = asks_values(&answer);
-        let reply = match respond(
-            alloc, chunk.line, answer, shown, &mut state, workspace, limits, proof,
+        let response = match respond(
+            alloc,
+            chunk.line,
+            answer,
+            &mut state,
+            &mut workspace,
+            &mut last,
+            limits,
+            proof,
         ) {
-            Ok(reply) => reply,
+            Ok(response) => response,
             Err(stop) => {
-                drop(state);
+                drop((state, workspace, last));
                 return Err(stop);
             }
         };
         settle(&mut state, asked, len);
         let session = Session {
             state,
-            workspace: reply.workspace,
-            shown: reply.shown,
+            workspace,
+            last,
             limits,
         };
-        Ok((session, reply.response))
+        Ok((session, response))
     }
 }

@@ -12,11 +12,13 @@ use crate::workspace::Workspace;
 use cnf_base::{Lit, Pos};
 use cube_search::{End, Search};
 use cube_tree::{Tree, join};
+use local_names::LocalNames;
 use proof_log::Log;
 use proof_log::board::LogBoard;
 use proof_log::diary::Diary;
 use smt_terms::terms::Terms;
 use std::alloc::{AllocError, Global};
+use std::mem;
 
 /// What the search of the cubes found.
 #[derive(Drop)]
@@ -160,33 +162,28 @@ fn search_cubes(
     Ok(None)
 }
 
-/// What was found, and the workspace then.
-#[derive(Drop)]
-pub(crate) struct Searched {
-    pub(crate) workspace: Workspace,
-    pub(crate) found: Found,
-}
-
 /// Searches the cubes of a check over the steps at these positions: finds a model, a clause of opposites of assumed literals,
-/// or that the budget was spent. The log gains chains alone. The one error is want of memory, or of names.
+/// or that the budget was spent. The log gains chains alone. The one error is want of memory, or of names; then log and names
+/// are lost.
 pub(crate) fn solve(
     alloc: Global,
     terms: &Terms,
-    workspace: Workspace,
+    workspace: &mut Workspace,
     positions: &[Pos],
     tree: &Tree,
     assumed: &[Lit],
     budget: u64,
-) -> Result<Searched, AllocError>
+) -> Result<Found, AllocError>
     requires listed { IsTermList terms.now.nodes }
-    requires stands { Stands terms.now.nodes workspace.log }
-    requires problem { IsProblem (problem terms.now.nodes workspace.log.entries positions.now tree.now assumed.now budget) workspace.log.entries }
-    ensures stands { IfOk result (λ s. Stands terms.now.nodes s.workspace.log) }
-    ensures grows { IfOk result (λ s. Grows workspace.log.entries s.workspace.log.entries) }
-    ensures found { IfOk result (λ s. IsFound (problem terms.now.nodes workspace.log.entries positions.now tree.now assumed.now budget) s.workspace.log.entries s.workspace.names s.found) }
+    requires stands { Stands terms.now.nodes workspace.old.log }
+    requires problem { IsProblem (problem terms.now.nodes workspace.old.log.entries positions.now tree.now assumed.now budget) workspace.old.log.entries }
+    ensures stands { OnOk result (Stands terms.now.nodes workspace.new.log) }
+    ensures grows { OnOk result (Grows workspace.old.log.entries workspace.new.log.entries) }
+    ensures found { IfOk result (λ found. IsFound (problem terms.now.nodes workspace.old.log.entries positions.now tree.now assumed.now budget) workspace.new.log.entries workspace.new.names found) }
 {
-    let Workspace { log, names } = workspace;
-    let from = log.len();
+    let from = workspace.log.len();
+    let names = mem::replace(&mut workspace.names, LocalNames::new(alloc)?);
+    let log = mem::replace(&mut workspace.log, Log::new(alloc)?);
     let mut board = LogBoard::new(alloc, log, terms);
     let Ok(mut search) = Search::new(alloc, &board, names, positions, from) else {
         drop(board);
@@ -205,21 +202,12 @@ pub(crate) fn solve(
         drop((board, search, tried));
         return Err(AllocError);
     };
-    let mut log = board.into_log();
-    let names = search.into_names();
+    workspace.log = board.into_log();
+    workspace.names = search.into_names();
     if let Some(values) = model {
         drop(tried);
-        return Ok(Searched {
-            workspace: Workspace { log, names },
-            found: Found::Model(values),
-        });
+        return Ok(Found::Model(values));
     }
-    let Ok(found) = tried.conclude(alloc, terms, &mut log, tree) else {
-        drop((log, names));
-        return Err(AllocError);
-    };
-    Ok(Searched {
-        workspace: Workspace { log, names },
-        found,
-    })
+    let found = tried.conclude(alloc, terms, &mut workspace.log, tree)?;
+    Ok(found)
 }

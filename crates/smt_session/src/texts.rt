@@ -1,17 +1,19 @@
 // The texts of models (SMT-LIB 2.6, section 4.2.6).
 
-ghost use Rattle.std.specs.Prelude.{◌≡◌, ◌++◌, IfOk, OnOk, option_copied, slice_get};
-ghost use Rattle.accepted_proof.specs.Answers.{sort_text, value_text, definition_text, definition_by, definitions_text, model_text};
-ghost use Rattle.accepted_proof.specs.Models.{value_for};
+ghost use Rattle.std.specs.Prelude.{◌≡◌, ◌++◌, ◌∷◌, [], IfOk, OnOk, codes, slice_get};
+ghost use Rattle.smt_values.specs.Held.{set_for};
+ghost use Rattle.accepted_proof.specs.Answers.{sort_text, value_text, definition_text, definition_by, model_text};
+ghost use Rattle.smt_session.specs.Tabled.{definitions_by};
 
+use crate::last::Last;
 use proof_text::record::{Record, push_value};
 use script_state::state::State;
 use smt_build::symbols::LiveName;
-use smt_terms::sort::{DeclId, Sort};
+use smt_terms::sort::Sort;
 use smt_text::number::push_number;
 use smt_text::print::print_symbol;
 use smt_text::text::Text;
-use smt_values::Value;
+use smt_values::{Interp, Value};
 use std::alloc::{AllocError, Global};
 
 /// Appends the sort of words of a width.
@@ -65,43 +67,27 @@ fn push_definition(name: &[u8], sort: Sort, value: &Value, out: &mut Text) -> Re
     out.push_slice(b")\n")
 }
 
-/// The value of a declaration, if there is one.
-fn value_of(values: &[(DeclId, Value)], declaration: DeclId) -> Option<&Value>
-    ensures { option_copied result ≡ value_for values.now declaration }
-{
-    for pair in values {
-        if pair.0 == declaration {
-            return Some(&pair.1);
-        }
-    }
-    None
-}
-
-/// Appends the line of a live name.
+/// Appends the line of a live name, where its declaration has a value.
 fn push_live(
     state: &State,
-    values: &[(DeclId, Value)],
+    values: &Interp,
     live: &LiveName,
     out: &mut Text,
 ) -> Result<(), AllocError>
-    ensures { OnOk result (out.new ≡ out.old ++ definition_by live.now.name (slice_get state.now.symbols.signatures live.now.declaration) (value_for values.now live.now.declaration)) }
+    ensures { OnOk result (out.new ≡ out.old ++ definition_by live.now.name (slice_get state.now.symbols.signatures live.now.declaration) (set_for values.now live.now.declaration)) }
 {
     let Some(signature) = state.signature(live.declaration) else {
         return Ok(())
     };
-    let Some(value) = value_of(values, live.declaration) else {
+    let Some(value) = values.value(live.declaration) else {
         return Ok(())
     };
     push_definition(live.name.as_slice(), signature.value, value, out)
 }
 
 /// Appends the lines of the live names.
-fn push_definitions(
-    state: &State,
-    values: &[(DeclId, Value)],
-    out: &mut Text,
-) -> Result<(), AllocError>
-    ensures { OnOk result (out.new ≡ out.old ++ definitions_text state.now values.now) }
+fn push_definitions(state: &State, values: &Interp, out: &mut Text) -> Result<(), AllocError>
+    ensures { OnOk result (out.new ≡ out.old ++ definitions_by state.now values.now) }
 {
     'live: for live in state.declared() {
         push_live(state, values, live, out)?;
@@ -109,19 +95,26 @@ fn push_definitions(
     Ok(())
 }
 
-/// The model that a record has, where it has one.
-pub(crate) fn model_text(
-    alloc: Global,
-    state: &State,
-    shown: &Option<Record>,
-) -> Result<Text, AllocError>
-    ensures { IfOk result (λ t. t ≡ model_text state.now shown.now) }
+/// The lines of the live names, in parentheses.
+fn definition_lines(alloc: Global, state: &State, values: &Interp) -> Result<Text, AllocError>
+    ensures { IfOk result (λ t. t ≡ codes "(" ++ 10 ∷ [] ++ definitions_by state.now values.now ++ codes ")" ++ 10 ∷ []) }
 {
-    let mut out = Text::new(alloc);
-    if let Some(Record::Sat(values)) = shown {
-        out.push_slice(b"(\n")?;
-        push_definitions(state, values.as_slice(), &mut out)?;
-        out.push_slice(b")\n")?;
-    }
+    let mut out = Text::from_slice(alloc, b"(\n")?;
+    push_definitions(state, values, &mut out)?;
+    out.push_slice(b")\n")?;
     Ok(out)
+}
+
+/// The model that the record of the last check has, where it has one.
+pub(crate) fn model_text(alloc: Global, state: &State, last: &Last) -> Result<Text, AllocError>
+    ensures { IfOk result (λ t. t ≡ model_text state.now last.now) }
+{
+    match last.shown() {
+        Some(shown) => match shown {
+            Record::Sat(_) => definition_lines(alloc, state, last.values()),
+            Record::Unsat(_) => Ok(Text::new(alloc)),
+            Record::Unknown(_) => Ok(Text::new(alloc)),
+        },
+        None => Ok(Text::new(alloc)),
+    }
 }

@@ -1,23 +1,22 @@
 // The values of terms in a model (SMT-LIB 2.6, section 4.2.6).
 
 ghost use Rattle.std.specs.Prelude.{◌≡◌, ◌<◌, ◌++◌, All, IfOk, OnOk, codes, false, length, map};
-ghost use Rattle.smt_values.specs.Held.{meaning};
+ghost use Rattle.smt_values.specs.Held.{interpretation_of, meaning};
 ghost use Rattle.smt_eval.specs.Evaluated.{is_table};
 ghost use Rattle.script_state.specs.declared.answer.Asked.{Asked as AskedValue};
 ghost use Rattle.accepted_proof.specs.Answers.{asked_text, meaning_text, values_text};
-ghost use Rattle.accepted_proof.specs.Models.{interpretation_of};
 
+use crate::last::Last;
 use crate::lists::list_text;
-use accepted_proof::interp_of;
 use proof_text::record::{Record, push_value};
 use script_state::answer::Asked;
 use script_state::state::State;
-use smt_eval::values_of;
+use smt_eval::values_with;
 use smt_terms::node::TermId;
-use smt_terms::sort::DeclId;
 use smt_text::text::Text;
-use smt_values::Value;
+use smt_values::{Interp, Value};
 use std::alloc::{AllocError, Global};
+use term_reach::Reached;
 
 /// The numbers of terms that are asked for.
 fn terms_of(alloc: Global, asked: &[Asked]) -> Result<Vec<TermId>, AllocError>
@@ -60,15 +59,15 @@ fn value_item(alloc: Global, asked: &Asked, value: &Value) -> Result<Text, Alloc
 fn value_items(
     alloc: Global,
     state: &State,
-    values: &[(DeclId, Value)],
+    values: &Interp,
     asked: &[Asked],
+    reached: &mut Reached,
 ) -> Result<Vec<Text>, AllocError>
     requires { All (λ (a : AskedValue). a.term < length state.now.terms.nodes) asked.now }
     ensures { IfOk result (λ items. items.items ≡ map (asked_text state.now.terms.nodes (interpretation_of values.now)) asked.now) }
 {
-    let interp = interp_of(alloc, values)?;
     let terms = terms_of(alloc, asked)?;
-    let found = values_of(alloc, state.terms(), &interp, terms.as_slice())?;
+    let found = values_with(alloc, state.terms(), values, terms.as_slice(), reached)?;
     let mut items = Vec::new(alloc);
     for at in 0..asked.len() {
         let item = value_item(alloc, &asked[at], &found[at])?;
@@ -77,19 +76,26 @@ fn value_items(
     Ok(items)
 }
 
-/// The values of terms in the model that a record has, where it has one.
+/// The values of terms in the model that the record of the last check has, where it has one.
 pub(crate) fn values_text(
     alloc: Global,
     state: &State,
-    shown: &Option<Record>,
+    last: &Last,
     asked: &[Asked],
+    reached: &mut Reached,
 ) -> Result<Text, AllocError>
     requires { All (λ (a : AskedValue). a.term < length state.now.terms.nodes) asked.now }
-    ensures { IfOk result (λ t. t ≡ values_text state.now.terms.nodes asked.now shown.now) }
+    ensures { IfOk result (λ t. t ≡ values_text state.now.terms.nodes asked.now last.now) }
 {
-    if let Some(Record::Sat(values)) = shown {
-        let items = value_items(alloc, state, values.as_slice(), asked)?;
-        return list_text(alloc, items.as_slice());
+    match last.shown() {
+        Some(shown) => match shown {
+            Record::Sat(_) => {
+                let items = value_items(alloc, state, last.values(), asked, reached)?;
+                list_text(alloc, items.as_slice())
+            }
+            Record::Unsat(_) => Ok(Text::new(alloc)),
+            Record::Unknown(_) => Ok(Text::new(alloc)),
+        },
+        None => Ok(Text::new(alloc)),
     }
-    Ok(Text::new(alloc))
 }

@@ -2,10 +2,12 @@
 
 use local_names::LocalNames;
 use proof_log::Log;
+use term_reach::Reached;
 
-/// The log of the checks, and the numbers of the last search, whose table by variable is kept.
+/// The log of the checks, and two tables that are kept: the numbers of the last search, and the terms that were reached last.
 #[derive(Drop)]
 pub(crate) struct Workspace {
     pub(crate) log: Log,
     pub(crate) names: LocalNames,
+    pub(crate) reached: Reached,
 }

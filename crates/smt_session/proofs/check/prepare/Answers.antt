@@ -13,14 +13,14 @@ use Rattle.smt_session.proofs.check.prepare.Goals as goal
 pub give-requires-clause-bits : goal.give-requires-clause-bits
 give-requires-clause-bits c =
     let from : c.as_slice.result.now ≡ roots c.args.state.now = c.as_slice.ensures.value ∙ c.in_ok-roots.ensures.roots in
-    let bits : All (HasBits c.encode_all.new.log) c.in_ok-reached.reached.items = subst (All (HasBits c.encode_all.new.log)) c.as_slice-2.ensures.value c.in_ok-encode_all.ensures.bits in
-    root_bits c.args.state.now c.encode_all.new.log c.as_slice.result.now c.in_ok-reached.reached.items from c.in_ok-reached.ensures.from bits
+    let bits : All (HasBits c.encode_all.new.log) c.reach.new.reached = subst (All (HasBits c.encode_all.new.log)) c.terms-2.ensures.terms c.in_ok-encode_all.ensures.bits in
+    root_bits c.args.state.now c.encode_all.new.log c.as_slice.result.now c.reach.new.reached from c.in_ok-reach.ensures.from bits
 
 pub positions-requires-clause-bits : goal.positions-requires-clause-bits
 positions-requires-clause-bits c =
-    let same : c.as_slice-2.result.now ≡ c.as_slice-3.result.now = c.as_slice-2.ensures.value ∙ sym c.as_slice-3.ensures.value in
+    let same : c.terms-2.result.now ≡ c.terms-4.result.now = c.terms-2.ensures.terms ∙ sym c.terms-4.ensures.terms in
     subst (All (HasBits c.give.new.log)) same
-    (reached_bits c.args.state.now c.encode_all.new.log c.give.new.log c.as_slice-2.result.now c.in_ok-encode_all.ensures.grows.stands c.in_ok-given.ensures.grows c.in_ok-encode_all.ensures.bits)
+    (reached_bits c.args.state.now c.encode_all.new.log c.give.new.log c.terms-2.result.now c.in_ok-encode_all.ensures.grows.stands c.in_ok-given.ensures.grows c.in_ok-encode_all.ensures.bits)
 
 pub positions-requires-clause-selectors : goal.positions-requires-clause-selectors
 positions-requires-clause-selectors c =
@@ -34,7 +34,7 @@ returns-clause-grows c =
 pub returns-clause-steps : goal.returns-clause-steps
 returns-clause-steps c =
     let from : c.as_slice.result.now ≡ roots c.args.state.now = c.as_slice.ensures.value ∙ c.in_ok-roots.ensures.roots in
-    let each : ArePositions c.give.new.log c.in_ok-reached.reached.items c.live.result.now c.in_ok-steps.steps.items =
-    subst (λ l. ArePositions c.give.new.log l c.live.result.now c.in_ok-steps.steps.items) c.as_slice-3.ensures.value c.in_ok-steps.ensures in
-    enough c.args.state.now c.give.new.log c.as_slice.result.now c.in_ok-reached.reached.items c.in_ok-steps.steps.items c.live.result.now from c.live.ensures.live
-    (subst (λ v. AreOrdered v.nodes c.in_ok-reached.reached.items) c.terms.ensures.terms c.in_ok-reached.ensures.ordered) c.in_ok-reached.ensures.from each
+    let each : ArePositions c.give.new.log c.reach.new.reached c.live.result.now c.in_ok-steps.steps.items =
+    subst (λ l. ArePositions c.give.new.log l c.live.result.now c.in_ok-steps.steps.items) c.terms-4.ensures.terms c.in_ok-steps.ensures in
+    enough c.args.state.now c.give.new.log c.as_slice.result.now c.reach.new.reached c.in_ok-steps.steps.items c.live.result.now from c.live.ensures.live
+    (subst (λ v. AreOrdered v.nodes c.reach.new.reached) c.terms.ensures.terms c.in_ok-reach.ensures.ordered) c.in_ok-reach.ensures.from each

@@ -1,22 +1,28 @@
-use Rattle.std.proofs.Common.{ap, ◌∙◌}
-use Rattle.smt_session.proofs.Reached.{reaching_none, reaching_next, reaching_done}
+use Rattle.std.proofs.Common.{◌≡◌, ◌<◌, ℕ, true, List, length, get_or}
+use Rattle.std.specs.Prelude.{All, Contains}
+use Rattle.std.proofs.lemmas.List.Elements.{All-contains}
+use Rattle.cube_tree.proofs.Resolving.{members}
+use Rattle.smt_terms.specs.declared.node.Node.{Node}
+use Rattle.smt_terms.specs.Terms.{IsTermList}
+use Rattle.script_state.specs.Plain.{is_plain}
+use Rattle.term_reach.specs.Reach.{arguments, IsReach}
+use Rattle.term_reach.proofs.Ways.{arguments_below, reached_further, reached_closed, root_reached}
+use Rattle.smt_session.specs.Reaching.{IsPlainTerm, AreOrdered}
+use Rattle.smt_session.proofs.PlainTerms.{plain_arguments}
 use Rattle.smt_session.proofs.reach.reach.Goals as goal
 
-pub terms-init : goal.terms-init
-terms-init c =
-    rw c.new-reached.ensures.items
-    (reaching_none c.args.terms.now.nodes c.args.from.now c.new-waiting.result c.push_all.new.self c.len-bound.result c.requires.plain c.new-waiting.ensures c.in_ok-push_all.ensures c.len-bound.ensures.length)
+plain_further : (nodes : List Node) → IsTermList nodes → (t u : ℕ) → IsPlainTerm nodes t → Contains (arguments nodes t) u → IsPlainTerm nodes u
+plain_further nodes list t u h c = (arguments_below nodes list t u c, All-contains (λ a. is_plain nodes a ≡ true) (arguments nodes t) u (plain_arguments nodes t (list t h.0) h.1) c)
 
-pub node-requires : goal.node-requires
-node-requires c = record { held = (c.terms.invariant.waits c.in-Some.term c.in-Some.ensures.among).0 }
+ordered : (nodes : List Node) (from reached : List ℕ) → IsTermList nodes → All (IsPlainTerm nodes) from → IsReach (arguments nodes) from reached → AreOrdered nodes reached
+ordered nodes from reached list plain r = record {
+  plain = members (IsPlainTerm nodes) reached (λ u p. reached_closed (arguments nodes) (IsPlainTerm nodes) from (plain_further nodes list) (λ t c. All-contains (IsPlainTerm nodes) from t plain c) u (r.only u p));
+  closed = λ t u p c. r.all u (reached_further (arguments nodes) from t u (r.only t p) c);
+  order = r.order;
+}
 
-pub terms-preserved : goal.terms-preserved
-terms-preserved c =
-    rw c.in_ok-push.ensures.items
-    (reaching_next c.args.terms.now.nodes c.args.from.now c.terms.waiting c.pop_below.new.self c.push_all-in-Some.new.self c.terms.reached.items c.as_slice.result.now c.terms.bound c.in-Some.term
-    c.terms.invariant c.in-Some.ensures c.node.ensures.term (c.as_slice.ensures ∙ ap (λ n. n.args) c.node.ensures.node) c.in_ok-push_all-2.ensures)
+pub returns-clause-ordered : goal.returns-clause-ordered
+returns-clause-ordered c = ordered c.args.terms.now.nodes c.args.from.now c.reach_by_arguments.new.reached c.in_ok-reach_by_arguments.ensures.terms.list c.requires.plain c.in_ok-reach_by_arguments.ensures.reach
 
-pub returns : goal.returns
-returns c =
-    let done = reaching_done c.args.terms.now.nodes c.args.from.now c.terms.waiting c.terms.reached.items c.terms.bound c.terms.invariant c.in_default.ensures in
-    record { ordered = done.0; from = done.1; only = done.2 }
+pub returns-clause-from : goal.returns-clause-from
+returns-clause-from c = members (Contains c.reach_by_arguments.new.reached) c.args.from.now (λ u p. c.in_ok-reach_by_arguments.ensures.reach.all u (root_reached (arguments c.args.terms.now.nodes) c.args.from.now u p))

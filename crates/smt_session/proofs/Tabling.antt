@@ -1,0 +1,45 @@
+-- The texts and the values of a table are those of its model.
+use Rattle.std.proofs.Common.{◌≡◌, ℕ, List, [], ◌∷◌, ◌++◌, map, Option, Some, refl, sym, ap, ◌∙◌, subst}
+use Rattle.std.specs.Prelude.{codes, slice_get}
+use Rattle.std.specs.List.{flat_map}
+use Rattle.smt_values.specs.declared.value.Value.{Value}
+use Rattle.smt_values.specs.Held.{set_for}
+use Rattle.smt_values.specs.Held as held
+use Rattle.smt_terms.specs.declared.node.Node.{Node}
+use Rattle.smt_terms.specs.declared.sort.Signature.{Signature}
+use Rattle.smt_build.specs.declared.symbols.LiveName.{LiveName}
+use Rattle.script_state.specs.States.{StateValue}
+use Rattle.script_state.specs.declared.answer.Asked.{Asked}
+use Rattle.proof_text.specs.declared.record.Record.{Record}
+use Rattle.proof_text.specs.declared.record.Record.TheVariants.{Sat}
+use Rattle.accepted_proof.specs.Answers.{asked_text, definition_by, definitions_text, list_text, model_text, values_text}
+use Rattle.accepted_proof.specs.Models.{value_for, interpretation_of}
+use Rattle.accepted_proof.proofs.Valuing.{same_interpretation}
+use Rattle.smt_session.specs.Tabled.{IsTable, IsTableOf, definitions_by}
+
+each_definition : (signatures : List Signature) (values : List (ℕ × Value)) (table : List (Option Value)) → IsTable values table → (live : List LiveName)
+    → flat_map (λ (l : LiveName). definition_by l.name (slice_get signatures l.declaration) (set_for table l.declaration)) live
+    ≡ flat_map (λ (l : LiveName). definition_by l.name (slice_get signatures l.declaration) (value_for values l.declaration)) live
+each_definition signatures values table h [] = refl
+each_definition signatures values table h (l ∷ live) =
+    let here = ap (definition_by l.name (slice_get signatures l.declaration)) (h l.declaration) in
+    let rest = each_definition signatures values table h live in
+    rw (here, rest) refl
+
+pub definitions_same : (s : StateValue) (values : List (ℕ × Value)) (table : List (Option Value)) → IsTable values table → definitions_by s table ≡ definitions_text s values
+definitions_same s values table h = each_definition s.symbols.signatures values table h s.symbols.live
+
+-- where a record has a model, and a table its values
+module _ (o : Option Record) (values : List (ℕ × Value)) (table : List (Option Value)) (has : o ≡ Some (Sat values)) (tabled : IsTableOf o table) where
+  is_table : IsTable values table
+  is_table = subst (λ r. IsTableOf r table) has tabled
+
+  pub model_same : (s : StateValue) → codes "(" ++ 10 ∷ [] ++ definitions_by s table ++ codes ")" ++ 10 ∷ [] ≡ model_text s o
+  model_same s =
+      ap (λ x. codes "(" ++ 10 ∷ [] ++ x ++ codes ")" ++ 10 ∷ []) (definitions_same s values table is_table)
+      ∙ sym (ap (model_text s) has)
+
+  pub values_same : (nodes : List Node) (asked : List Asked) (items : List (List ℕ)) → items ≡ map (asked_text nodes (held.interpretation_of table)) asked → list_text items ≡ values_text nodes asked o
+  values_same nodes asked items e =
+      ap list_text (e ∙ ap (λ M. map (asked_text nodes M) asked) (same_interpretation table values is_table))
+      ∙ sym (ap (values_text nodes asked) has)

@@ -1,0 +1,26 @@
+-- The values of a model by declaration.
+use Rattle.std.specs.Prelude.{◌≡◌, ℕ, List, Option, None, Some, slice_get}
+use Rattle.std.specs.List.{flat_map}
+use Rattle.smt_values.specs.declared.value.Value.{Value}
+use Rattle.smt_values.specs.Held.{set_for}
+use Rattle.smt_build.specs.declared.symbols.LiveName.{LiveName}
+use Rattle.script_state.specs.States.{StateValue}
+use Rattle.proof_text.specs.declared.record.Record.{Record}
+use Rattle.proof_text.specs.declared.record.Record.TheVariants.{Sat, Unsat, Unknown}
+use Rattle.accepted_proof.specs.Answers.{definition_by}
+use Rattle.accepted_proof.specs.Models.{value_for}
+
+-- each declaration has the value in the table that is written for it
+abbrev pub IsTable : List (ℕ × Value) → List (Option Value) → Type 0
+IsTable values table = (d : ℕ) → set_for table d ≡ value_for values d
+
+-- where the record has a model, the table has its values
+abbrev pub IsTableOf : Option Record → List (Option Value) → Type 0
+IsTableOf None table = Unit {0}
+IsTableOf (Some (Sat values)) table = IsTable values table
+IsTableOf (Some (Unsat p)) table = Unit {0}
+IsTableOf (Some (Unknown d)) table = Unit {0}
+
+-- the live names in the order of their declarations, each with its value in the table
+abbrev pub definitions_by : StateValue → List (Option Value) → List ℕ
+definitions_by s table = flat_map (λ (l : LiveName). definition_by l.name (slice_get s.symbols.signatures l.declaration) (set_for table l.declaration)) s.symbols.live
