@@ -1,12 +1,12 @@
 -- Which terms are reached, as definitions tell it, and as a walk does.
-use Rattle.std.proofs.Common.{◌≡◌, ℕ, ◌<◌, ◌≤◌, Bool, true, false, List, length, get_or, sym, subst, ⊎_elim, arith}
+use Rattle.std.proofs.Common.{◌≡◌, ℕ, ◌<◌, ◌≤◌, true, false, List, length, get_or, ⊎_elim, arith}
 use Rattle.std.specs.Prelude.{◌==◌, ◌||◌, ltb, All, Contains}
 use Rattle.std.specs.List.{list_any}
 use Rattle.std.proofs.lemmas.Bool.{cases_lt, ltb-true, and_parts}
 use Rattle.std.proofs.lemmas.List.Elements.{All-contains, Contains-get_or}
 use Rattle.std.proofs.lemmas.List.Folds.{Any-from_list_any, list_any-from_Any}
 use Rattle.smt_terms.specs.declared.node.Node.{Node}
-use Rattle.smt_terms.specs.Nodes.{node_at, at_term}
+use Rattle.smt_terms.specs.Nodes.{at_term}
 use Rattle.smt_terms.specs.Terms.{IsTermList}
 use Rattle.smt_build.specs.Definitions.{reaches}
 use Rattle.smt_build.proofs.Marking.{reach_itself, reach_arguments, reach_closed}

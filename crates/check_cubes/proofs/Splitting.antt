@@ -25,7 +25,7 @@ use Rattle.accepted_proof.specs.Searching.{Limits, Rise, is_reached, variables_o
 use Rattle.accepted_proof.proofs.Splitting.{rise_take, steps_rise}
 use Rattle.check_cubes.specs.Searches.{declared_variables}
 use Rattle.check_cubes.proofs.Reached.{way_from_told, told_from_way}
-use Rattle.check_cubes.proofs.Rising.{Rises, AreApart, member_owner, member_given, same_rising, rise_rises, part_rises, one_owner, equal_flips, rises_apart, parts_apart, sorted_rises}
+use Rattle.check_cubes.proofs.Rising.{AreApart, member_owner, member_given, same_rising, rise_rises, part_rises, one_owner, equal_flips, rises_apart, parts_apart, sorted_rises}
 use Rattle.check_cubes.proofs.Drawn.{drawn}
 
 -- where none may split, none does

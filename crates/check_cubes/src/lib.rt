@@ -6,7 +6,7 @@
 //! cube may start at a position of the log, and what it takes as true then: the literals of the cube, the selectors of the live
 //! assertions and the bits of the assumptions. The contracts say that these are exactly the definitions of
 //! `accepted_proof`, so that a solver and a checker that stand on this crate mean the same cubes. It stands on `accepted_proof`,
-//! `script_state`, `cube_tree` and `proof_log`, and on the crates that these stand on.
+//! `script_state`, `cube_tree`, `term_reach` and `proof_log`, and on the crates that these stand on.
 #![tactic(auto)]
 
 mod cubes;
