@@ -8,6 +8,7 @@ pub mod Verdicts
 pub mod Passing
 pub mod Fronts
 pub mod Moving
+pub mod Blanks
 pub mod Valued
 pub mod Noting
 pub mod Heading

@@ -24,8 +24,10 @@ use Rattle.proof_text.specs.declared.line.WrittenValue.TheVariants as written
 use Rattle.proof_text.specs.Records.{binary, written_value}
 use Rattle.accepted_proof.specs.Models.{value_for, interpretation_of, IsModel}
 use Rattle.accepted_proof.proofs.Once.{no_word_bool}
-use Rattle.accepted_proof.proofs.Valuing.{binary_length, same_interpretation}
+use Rattle.accepted_proof.proofs.Valuing.{binary_length}
 use Rattle.cnf_base.proofs.Lists.{each_slice_get}
+use Rattle.proof_checker.specs.Blanks.{MeansSame}
+use Rattle.proof_checker.proofs.Blanks.{kept_interpretation}
 
 -- ---- models
 
@@ -68,14 +70,14 @@ module _ (s : StateValue) (values : List (ℕ × Value)) where
   judged_roots false false y e l a = λ m. let t = list_all-from_AllPass live_truth s.scopes.live m.asserted in let f : ⊥ = cc in f
 
   -- what is told of the values of those terms
-  pub judged : (interp : List (Option Value)) (found : List Value) (asked : List ℕ) (terms : TermsValue) (b : Bool) → terms ≡ s.terms → asked ≡ roots s → ((d : ℕ) → set_for interp d ≡ value_for values d) → AreValuesOf (set.interpretation_of interp) terms.nodes asked found → b ≡ list_all (λ v. is_true (meaning v)) found → MatchBool b (IsModel s (interpretation_of values)) (IsModel s (interpretation_of values) → ⊥)
+  pub judged : (interp : List (Option Value)) (found : List Value) (asked : List ℕ) (terms : TermsValue) (b : Bool) → terms ≡ s.terms → asked ≡ roots s → ((d : ℕ) → MeansSame (set_for interp d) (value_for values d)) → AreValuesOf (set.interpretation_of interp) terms.nodes asked found → b ≡ list_all (λ v. is_true (meaning v)) found → MatchBool b (IsModel s (interpretation_of values)) (IsModel s (interpretation_of values) → ⊥)
   judged interp found asked terms b held from given are told =
       judged_roots b (list_all live_truth s.scopes.live) (list_all asked_truth (assumptions s)) (told ∙ all_alike (λ v. is_true (meaning v)) truth found asked are.count each ∙ ap (list_all truth) from ∙ all_roots) refl refl
     where
       each : (k : ℕ) → k < length asked → is_true (meaning (held_value found k)) ≡ truth (get_or asked k 0)
       each k lt =
           ap is_true (are.means k lt)
-          ∙ ap (λ M. is_true (value M terms.nodes (get_or asked k 0))) (same_interpretation interp values given)
+          ∙ ap (λ M. is_true (value M terms.nodes (get_or asked k 0))) (kept_interpretation interp values given)
           ∙ ap (λ (v : TermsValue). is_true (value (interpretation_of values) v.nodes (get_or asked k 0))) held
 
 -- ---- digits

@@ -2,3 +2,4 @@ pub mod Checkers
 pub mod Checked
 pub mod Checkings
 pub mod Reports
+pub mod Blanks

@@ -8,6 +8,7 @@ ghost use Rattle.proof_checker.specs.Checked.{shown_at};
 ghost use Rattle.proof_checker.specs.Checkers.{GoesTo, line_in, IsRead, judged_so, answer_by, at_end, closed_with, gone_on, owed_of, IsOpen, IsNoted};
 
 use crate::due::Due;
+use crate::kept::KeptInterp;
 use accepted_proof::refusal::{Refusal, RuleName};
 use check_cubes::Limits;
 use proof_log::Log;
@@ -36,6 +37,8 @@ pub struct Checker {
     pub(crate) verdicts: Vec<Verdict>,
     /// A table for what a model is about, kept from record to record.
     pub(crate) reached: Reached,
+    /// The same for its values.
+    pub(crate) kept: KeptInterp,
 }
 
 impl Model for Checker {

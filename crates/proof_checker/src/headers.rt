@@ -8,6 +8,7 @@ ghost use Rattle.proof_checker.specs.Checkers.{line_in, no_records};
 
 use crate::checker::Checker;
 use crate::due::Due;
+use crate::kept::KeptInterp;
 use accepted_proof::refusal::{Refusal, RuleName};
 use check_cubes::Limits;
 use proof_log::Log;
@@ -55,6 +56,7 @@ impl Checker {
             line: 2,
             verdicts: Vec::new(alloc),
             reached: Reached::new(alloc),
+            kept: KeptInterp::new(alloc),
         }))
     }
 }

@@ -17,6 +17,7 @@ mod diaries;
 mod due;
 mod headers;
 mod inputs;
+mod kept;
 mod lines;
 mod models;
 mod records;

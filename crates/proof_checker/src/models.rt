@@ -12,7 +12,7 @@ ghost use Rattle.smt_build.specs.declared.symbols.LiveName.{LiveName as Name};
 ghost use Rattle.accepted_proof.specs.Models.{interpretation_of, IsModel};
 ghost use Rattle.accepted_proof.specs.Judged.{IsValueOf};
 
-use accepted_proof::interp_of;
+use crate::kept::KeptInterp;
 use proof_text::line::WrittenValue;
 use script_state::state::State;
 use smt_eval::values_with;
@@ -47,22 +47,25 @@ fn are_true(values: &[Value]) -> bool
 }
 
 /// Whether each live assertion and each assumption is true under the values. Terms that they do not reach are passed over;
-/// what they reach stands in `reached` then, and what it had before is forgotten.
+/// what they reach stands in `reached` then, and what it had before is forgotten. The table of values is given back.
 pub fn is_model(
     alloc: Global,
     state: &State,
     values: &[(DeclId, Value)],
     reached: &mut Reached,
-) -> Result<bool, AllocError>
-    ensures { IfOk result (λ b. MatchBool b
+    kept: KeptInterp,
+) -> Result<(bool, KeptInterp), AllocError>
+    ensures { IfOk result (λ r. MatchBool r.0
         (IsModel state.now (interpretation_of values.now))
         (IsModel state.now (interpretation_of values.now) → ⊥)) }
 {
-    let interp = interp_of(alloc, values)?;
+    let interp = kept.filled(values)?;
     let asked = state.roots(alloc)?;
     let found = values_with(alloc, state.terms(), &interp, asked.as_slice(), reached)?;
     let truths = found.as_slice();
-    Ok(are_true(truths))
+    let holds = are_true(truths);
+    let kept = KeptInterp::emptied(interp, values)?;
+    Ok((holds, kept))
 }
 
 /// The number of these binary digits, the highest first.

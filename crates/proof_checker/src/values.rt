@@ -8,6 +8,7 @@ ghost use Rattle.proof_checker.specs.Checkers.{GoesTo, IsOwedValues};
 
 use crate::checker::Checker;
 use crate::due::Due;
+use crate::kept::KeptInterp;
 use crate::models::{declared_value, is_model};
 use accepted_proof::refusal::RuleName;
 use proof_text::line::{Line, WrittenValue};
@@ -15,6 +16,7 @@ use script_state::answer::Verdict;
 use smt_terms::sort::DeclId;
 use smt_values::Value;
 use std::alloc::{AllocError, Global};
+use std::mem;
 
 impl Checker {
     // Further values of a model are owed.
@@ -30,14 +32,17 @@ impl Checker {
         checker
     }
 
-    // Whether these values are a model; the table of what is reached serves the next record too.
+    // Whether these values are a model; the tables serve the next record too.
     fn holds(&mut self, alloc: Global, values: &[(DeclId, Value)]) -> Result<bool, AllocError>
         ensures same { self.new ≡ self.old }
         ensures holds { IfOk result (λ b. MatchBool b
             (IsModel self.old.judging.state (interpretation_of values.now))
             (IsModel self.old.judging.state (interpretation_of values.now) → ⊥)) }
     {
-        is_model(alloc, &self.state, values, &mut self.reached)
+        let kept = mem::replace(&mut self.kept, KeptInterp::new(alloc));
+        let (holds, kept) = is_model(alloc, &self.state, values, &mut self.reached, kept)?;
+        self.kept = kept;
+        Ok(holds)
     }
 
     // The values of a model are all there, and are judged.

@@ -14,5 +14,5 @@ values_with-requires c = record {
 
 pub returns : goal.returns
 returns c =
-    judged c.args.state.now c.args.values.now c.in_ok-interp.interp c.as_slice-truths.result.now c.as_slice.result.now c.terms.result.now c.are_true.result c.terms.ensures.terms
-    (rw c.as_slice.ensures.value c.in_ok-asked.ensures.roots) c.in_ok-interp.ensures (rw c.as_slice-truths.ensures.value c.in_ok-found.ensures) c.are_true.ensures
+    judged c.args.state.now c.args.values.now c.in_ok-interp.interp c.as_slice-truths.result.now c.as_slice.result.now c.terms.result.now c.are_true-holds.result c.terms.ensures.terms
+    (rw c.as_slice.ensures.value c.in_ok-asked.ensures.roots) c.in_ok-interp.ensures (rw c.as_slice-truths.ensures.value c.in_ok-found.ensures) c.are_true-holds.ensures
