@@ -13,7 +13,7 @@ use Rattle.script_state.specs.declared.answer.Asked.{Asked}
 use Rattle.proof_text.specs.declared.record.Record.{Record}
 use Rattle.proof_text.specs.declared.record.Record.TheVariants.{Sat}
 use Rattle.accepted_proof.specs.Answers.{asked_text, definition_by, definitions_text, list_text, model_text, values_text}
-use Rattle.accepted_proof.specs.Models.{value_for, interpretation_of}
+use Rattle.accepted_proof.specs.Models.{value_for}
 use Rattle.accepted_proof.proofs.Valuing.{same_interpretation}
 use Rattle.smt_session.specs.Tabled.{IsTable, IsTableOf, definitions_by}
 

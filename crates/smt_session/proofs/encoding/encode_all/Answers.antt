@@ -1,4 +1,4 @@
-use Rattle.std.proofs.Common.{◌≡◌, ◌<◌, length, get_or, refl, arith}
+use Rattle.std.proofs.Common.{get_or, refl, arith}
 use Rattle.std.proofs.lemmas.List.{get_or_default}
 use Rattle.smt_session.proofs.Staying.{encoded_none, encoded_more, encoded_arguments}
 use Rattle.smt_session.proofs.encoding.encode_all.Goals as goal
