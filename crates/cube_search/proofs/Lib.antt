@@ -1,6 +1,3 @@
-pub mod Courses
-pub mod Trails
-pub mod Values
 pub mod Naming
 pub mod Filling
 pub mod Later
@@ -10,4 +7,4 @@ pub mod Spent
 pub mod Beginning
 pub mod Moving
 pub mod Steps
-pub mod Assuming
+pub mod Models

@@ -18,6 +18,7 @@ use Rattle.proof_log.specs.Diaries.{Subject, is_chain, allowed, IsLine, IsSpent}
 use Rattle.proof_log.proofs.Growth.{later_same, entry_stays, chain_clause, chain_part, put_entry, put_clause, put_is_new}
 use Rattle.proof_log.proofs.Lines.{spent}
 use Rattle.cdcl_core.specs.Levels.{IsTrueBy}
+use Rattle.cdcl_core.specs.declared.watches.Watches.{Watches}
 use Rattle.cdcl_core.specs.Search.{literals_of, level_of, clause_of}
 use Rattle.cdcl_learn.specs.Puts.{IsAgainst}
 use Rattle.cube_search.specs.declared.search.Search.{Search}
@@ -25,14 +26,15 @@ use Rattle.proof_log.specs.declared.diary.Diary.{Diary}
 use Rattle.local_names.specs.Names.{global_clause, global_values}
 use Rattle.cube_search.specs.Numbers.{global_found, global_look, variables_of, AreNumbers, AreNumbered}
 use Rattle.cube_search.specs.Holding.{IsForeign, IsAdmitted}
-use Rattle.cube_search.specs.Courses.{IsCourse}
 use Rattle.cube_search.specs.declared.keeper.Keeper.{Keeper}
 use Rattle.cube_search.specs.Keeping.{HasLine, IsKept, IsTaken, AreImported, state_in}
-use Rattle.cube_search.specs.Running.{look_in, variables_in, given_in, IsSearch, IsTrailOf, IsSearchOf, IsRunning, IsWriting, IsUpToDate, IsSameRun, IsLearnt, IsKeptAt, subject_of}
+use Rattle.cube_search.specs.Running.{look_in, variables_in, given_in, IsSearch, IsSearchOf, IsRunning, IsWriting, IsUpToDate, IsSameRun, IsLearnt, IsKeptAt, subject_of}
 use Rattle.cube_search.specs.Ends.{IsModel, IsClosing, IsSpentDiary, IsEnd}
 use Rattle.cube_search.specs.declared.ends.End.{End}
 use Rattle.cube_search.specs.declared.ends.End.TheVariants.{Closed, Model, Spent, Stopped}
-use Rattle.cube_search.proofs.Courses.{true_later}
+use Rattle.cdcl_loop.specs.declared.engine.Engine.{Engine}
+use Rattle.cdcl_loop.specs.Engines.{IsEngine, IsOnCourse}
+use Rattle.cdcl_loop.proofs.Courses.{true_later}
 use Rattle.cube_search.proofs.Keeping.{kept_put, kept_take, line_still}
 use Rattle.cube_search.proofs.Putting.{good_put}
 use Rattle.cube_search.proofs.Naming.{numbers_among}
@@ -71,8 +73,8 @@ still_search s nodes nodes' log log' known known' later h = (h.0, search_later (
 -- ---- the same run
 
 module _ (s t : Search) (h : IsSameRun s t) where
-  pub same_look : look_in t ≡ global_look s.names (clause_of t.watches)
-  same_look = ap (λ (n : List ℕ). global_look n (clause_of t.watches)) h.names
+  pub same_look : look_in t ≡ global_look s.names (clause_of t.engine.watches)
+  same_look = ap (λ (n : List ℕ). global_look n (clause_of t.engine.watches)) h.names
 
   pub same_variables : variables_in t ≡ variables_in s
   same_variables = λ i. variables_of (h.names i) (h.bound i)
@@ -82,7 +84,7 @@ module _ (s t : Search) (h : IsSameRun s t) where
 
 -- ---- a learnt clause that is kept
 
-module _ (s t : Search) (nodes nodes' : List Node) (log log' : List Entry) (known known' : ℕ → Type 0) (later : IsLater nodes nodes' log log' known known') (clause : List Literal) (level at : ℕ) (run : IsRunning s nodes log) (above : s.base < level_of s.trail) (learnt : IsLearnt s.names (clause_of s.watches) s.trail log log' clause level at) where
+module _ (s t : Search) (nodes nodes' : List Node) (log log' : List Entry) (known known' : ℕ → Type 0) (later : IsLater nodes nodes' log log' known known') (clause : List Literal) (level at : ℕ) (run : IsRunning s nodes log) (above : s.engine.base < level_of s.engine.trail) (learnt : IsLearnt s.names (clause_of s.engine.watches) s.engine.trail log log' clause level at) where
   there : entry_at log' at ≡ Some (step.Chain (global_clause s.names clause) learnt.hints)
   there = put_entry log log' (step.Chain (global_clause s.names clause) learnt.hints) at learnt.put
 
@@ -95,51 +97,51 @@ module _ (s t : Search) (nodes nodes' : List Node) (log log' : List Entry) (know
   after : IsRunning s nodes' log'
   after = running_later s nodes nodes' log log' known known' later run
 
-  true_given : (l : Literal) → Contains s.given.items l → IsTrueBy (literals_of s.trail) (level_of s.trail) l
-  true_given l c = true_later (literals_of s.trail) s.base (level_of s.trail) l (omega (arith, above)) (run.2.all above l c)
+  true_given : (l : Literal) → Contains s.engine.given.items l → IsTrueBy (literals_of s.engine.trail) (level_of s.engine.trail) l
+  true_given l c = true_later (literals_of s.engine.trail) s.engine.base (level_of s.engine.trail) l (omega (arith, above)) (run.2.all above l c)
 
   pub learnt_line : IsWriting s nodes log → IsLine (subject_of s nodes' log') (state_in (subject_of s nodes' log') s.diary) (Put at)
   learnt_line w = (
     global_clause s.names clause,
     learnt.hints,
     there,
-    good_put (subject_of s nodes' log') s.names s.bound s.watches s.given.items s.diary s.seen (literals_of s.trail) (level_of s.trail) clause learnt.hints run.4
+    good_put (subject_of s nodes' log') s.names s.bound s.engine.watches s.engine.given.items s.diary s.seen (literals_of s.engine.trail) (level_of s.engine.trail) clause learnt.hints run.4
         (writing_later s nodes nodes' log log' known known' later run w) after.1.holding.sound true_given refl learnt.good,
   )
 
   numbers : AreNumbers s.bound clause
-  numbers = learnt_numbers s.names s.bound s.watches (variables_in s) s.opening.items s.taken.items s.given.items s.from s.seen nodes log run.4 run.1 clause learnt.hints learnt.good.stands
+  numbers = learnt_numbers s.names s.bound s.engine.watches (variables_in s) s.opening.items s.taken.items s.engine.given.items s.from s.seen nodes log run.4 run.1 clause learnt.hints learnt.good.stands
 
-  others : IsKeptAt s t clause level at → (q : ClauseId) → q ≢ record { pos = at; part = 0 } → global_look s.names (clause_of t.watches) q ≡ look_in s q
+  others : IsKeptAt s t clause level at → (q : ClauseId) → q ≢ record { pos = at; part = 0 } → global_look s.names (clause_of t.engine.watches) q ≡ look_in s q
   others k q ne = ap (global_found s.names) (k.others q ne)
 
   pub kept_search : IsSameRun s t → IsKeptAt s t clause level at → IsSearchOf (look_in t) (variables_in t) t.opening.items t.taken.items t.from t.seen nodes' log'
   kept_search same k =
-      search_moved (global_look s.names (clause_of t.watches)) (look_in t) (variables_in s) (variables_in t) s.opening.items t.opening.items (s.taken.items ++ at ∷ []) t.taken.items s.from t.from s.seen t.seen nodes' log'
+      search_moved (global_look s.names (clause_of t.engine.watches)) (look_in t) (variables_in s) (variables_in t) s.opening.items t.opening.items (s.taken.items ++ at ∷ []) t.taken.items s.from t.from s.seen t.seen nodes' log'
       (same_look s t same) (same_variables s t same) (ap (λ v. v.items) same.opening) k.taken same.from k.seen
-      (search_held (look_in s) (global_look s.names (clause_of t.watches)) (variables_in s) s.opening.items s.taken.items s.from s.seen nodes' log' at own (ap is_chain there) after.1 (others k) (global_clause s.names clause) (ap (global_found s.names) k.held)
+      (search_held (look_in s) (global_look s.names (clause_of t.engine.watches)) (variables_in s) s.opening.items s.taken.items s.from s.seen nodes' log' at own (ap is_chain there) after.1 (others k) (global_clause s.names clause) (ap (global_found s.names) k.held)
       (put_clause nodes' log log' (global_clause s.names clause) learnt.hints at learnt.put)
       (numbers_among s.names s.bound clause run.4.within numbers))
 
-  kept_numbers : IsSameRun s t → IsKeptAt s t clause level at → AreNumbered t.names t.bound t.watches t.given.items
+  kept_numbers : IsSameRun s t → IsKeptAt s t clause level at → AreNumbered t.names t.bound t.engine.watches t.engine.given.items
   kept_numbers same k =
-      numbered_moved s.names t.names s.bound t.bound t.watches s.given.items t.given.items same.names same.bound (ap (λ v. v.items) same.given)
-      (numbered_added s.watches t.watches (record { pos = at; part = 0 }) k.others s.names s.bound s.given.items clause run.4 numbers k.held)
+      numbered_moved s.names t.names s.bound t.bound t.engine.watches s.engine.given.items t.engine.given.items same.names same.bound (ap (λ v. v.items) same.given)
+      (numbered_added s.engine.watches t.engine.watches (record { pos = at; part = 0 }) k.others s.names s.bound s.engine.given.items clause run.4 numbers k.held)
 
-  pub kept_running : IsSameRun s t → IsKeptAt s t clause level at → IsTrailOf t.watches t.trail → IsCourse (literals_of t.trail) (level_of t.trail) t.base s.given.items → IsRunning t nodes' log'
-  kept_running same k trail course = (
-    trail,
+  pub kept_running : IsSameRun s t → IsKeptAt s t clause level at → IsEngine t.engine → IsOnCourse t.engine → IsRunning t nodes' log'
+  kept_running same k engine course = (
+    engine,
     kept_search same k,
-    subst (λ (l : List Literal). IsCourse (literals_of t.trail) (level_of t.trail) t.base l) (sym (ap (λ v. v.items) same.given)) course,
+    course,
     subst (λ (l : List Literal). AreBelow (state_of nodes' log').next l) (sym (same_given s t same)) after.3,
     kept_numbers same k,
   )
 
   pub kept_writing : IsSameRun s t → IsKeptAt s t clause level at → IsWriting s nodes log → IsWriting t nodes' log'
   kept_writing same k w =
-      kept_moved nodes' log' (given_in s) (given_in t) s.from t.from (global_look s.names (clause_of t.watches)) (look_in t) (variables_in s) (variables_in t) t.diary s.seen t.seen
+      kept_moved nodes' log' (given_in s) (given_in t) s.from t.from (global_look s.names (clause_of t.engine.watches)) (look_in t) (variables_in s) (variables_in t) t.diary s.seen t.seen
       (same_given s t same) same.from (same_look s t same) (same_variables s t same) k.seen
-      (kept_put (subject_of s nodes' log') (look_in s) (global_look s.names (clause_of t.watches)) (variables_in s) s.diary t.diary s.seen at (global_clause s.names clause) learnt.hints there (others k) k.start
+      (kept_put (subject_of s nodes' log') (look_in s) (global_look s.names (clause_of t.engine.watches)) (variables_in s) s.diary t.diary s.seen at (global_clause s.names clause) learnt.hints there (others k) k.start
       (writing_later s nodes nodes' log log' known known' later run w) k.lines k.puts k.chains k.left (learnt_line w) (omega (arith, w.begun, unseen)) (ap (global_found s.names) k.held))
 
   -- the last put
@@ -167,7 +169,7 @@ pub on_ok : (r : Result (Unit {0}) AllocError) (X : Type 0) → X → OnOk r X
 on_ok (Ok u) X x = x
 on_ok (Err e) X x = tt
 
-pub kept_at : (old new : Search) (r : Result (Unit {0}) AllocError) (clause : List Literal) (level at : ℕ) → clause_of new.watches (record { pos = at; part = 0 }) ≡ Some clause → ((q : ClauseId) → q ≢ record { pos = at; part = 0 } → clause_of new.watches q ≡ clause_of old.watches q) → new.taken.items ≡ old.taken.items ++ at ∷ [] → new.seen ≡ old.seen → new.diary.start ≡ old.diary.start → OnOk r (new.diary.lines.items ≡ old.diary.lines.items ++ Put at ∷ []) → OnOk r (new.diary.puts ≡ old.diary.puts + 1) → OnOk r (new.diary.chains ≡ old.diary.chains + 1) → OnOk r (new.diary.left ≡ allowed new.diary.puts new.diary.chains) → OnOk r (IsKeptAt old new clause level at)
+pub kept_at : (old new : Search) (r : Result (Unit {0}) AllocError) (clause : List Literal) (level at : ℕ) → clause_of new.engine.watches (record { pos = at; part = 0 }) ≡ Some clause → ((q : ClauseId) → q ≢ record { pos = at; part = 0 } → clause_of new.engine.watches q ≡ clause_of old.engine.watches q) → new.taken.items ≡ old.taken.items ++ at ∷ [] → new.seen ≡ old.seen → new.diary.start ≡ old.diary.start → OnOk r (new.diary.lines.items ≡ old.diary.lines.items ++ Put at ∷ []) → OnOk r (new.diary.puts ≡ old.diary.puts + 1) → OnOk r (new.diary.chains ≡ old.diary.chains + 1) → OnOk r (new.diary.left ≡ allowed new.diary.puts new.diary.chains) → OnOk r (IsKeptAt old new clause level at)
 kept_at old new (Ok u) clause level at held others taken seen start lines puts chains left = record {
   held = held;
   others = others;
@@ -183,19 +185,19 @@ kept_at old new (Err e) clause level at held others taken seen start lines puts 
 
 -- ---- a chain of another that is taken
 
-module _ (s t : Search) (nodes : List Node) (log : List Entry) (at : ℕ) (clause : List Literal) (run : IsRunning s nodes log) (own : s.from ≤ at) (chain : is_chain (entry_at log at) ≡ true) (there : clause_at (state_of nodes log).clauses (record { pos = at; part = 0 }) ≡ Some clause) (came : IsAdmitted (look_in s) (global_look s.names (clause_of t.watches)) (variables_in s) at clause) where
-  pub taken_search : IsSearchOf (global_look s.names (clause_of t.watches)) (variables_in s) s.opening.items (s.taken.items ++ at ∷ []) s.from s.seen nodes log
+module _ (s t : Search) (nodes : List Node) (log : List Entry) (at : ℕ) (clause : List Literal) (run : IsRunning s nodes log) (own : s.from ≤ at) (chain : is_chain (entry_at log at) ≡ true) (there : clause_at (state_of nodes log).clauses (record { pos = at; part = 0 }) ≡ Some clause) (came : IsAdmitted (look_in s) (global_look s.names (clause_of t.engine.watches)) (variables_in s) at clause) where
+  pub taken_search : IsSearchOf (global_look s.names (clause_of t.engine.watches)) (variables_in s) s.opening.items (s.taken.items ++ at ∷ []) s.from s.seen nodes log
   taken_search = ⊎_elim
-      (λ x. search_held (look_in s) (global_look s.names (clause_of t.watches)) (variables_in s) s.opening.items s.taken.items s.from s.seen nodes log at own chain run.1 came.others clause x.0 there x.1)
-      (λ x. search_noted (look_in s) (global_look s.names (clause_of t.watches)) (variables_in s) s.opening.items s.taken.items s.from s.seen nodes log at own chain run.1 x.0)
+      (λ x. search_held (look_in s) (global_look s.names (clause_of t.engine.watches)) (variables_in s) s.opening.items s.taken.items s.from s.seen nodes log at own chain run.1 came.others clause x.0 there x.1)
+      (λ x. search_noted (look_in s) (global_look s.names (clause_of t.engine.watches)) (variables_in s) s.opening.items s.taken.items s.from s.seen nodes log at own chain run.1 x.0)
       came.came
 
-  pub taken_writing : (l : Keeper) → l.lines.items ≡ s.diary.lines.items ++ Take at ∷ [] → l.start ≡ s.diary.start → l.puts ≡ s.diary.puts → l.chains ≡ s.diary.chains → l.left ≡ 0 → IsWriting s nodes log → IsKept (subject_of s nodes log) (global_look s.names (clause_of t.watches)) (variables_in s) l s.seen
+  pub taken_writing : (l : Keeper) → l.lines.items ≡ s.diary.lines.items ++ Take at ∷ [] → l.start ≡ s.diary.start → l.puts ≡ s.diary.puts → l.chains ≡ s.diary.chains → l.left ≡ 0 → IsWriting s nodes log → IsKept (subject_of s nodes log) (global_look s.names (clause_of t.engine.watches)) (variables_in s) l s.seen
   taken_writing l lines start puts chains left w =
       let e = chain_entry (entry_at log at) chain in
       let same = (chain_part nodes log (record { pos = at; part = 0 }) e.0 clause e.1 e.2 there).1 in
-      kept_take (subject_of s nodes log) (look_in s) (global_look s.names (clause_of t.watches)) (variables_in s) s.diary l s.seen at e.0 e.1 e.2 came.others start w lines puts chains left (chain_within log at chain)
-      (subst (λ (c : List Literal). (global_look s.names (clause_of t.watches) (record { pos = at; part = 0 }) ≡ Some c) ⊎ IsForeign (variables_in s) c) same (⊎_elim (λ x. inl x.0) (λ x. inr x.1) came.came))
+      kept_take (subject_of s nodes log) (look_in s) (global_look s.names (clause_of t.engine.watches)) (variables_in s) s.diary l s.seen at e.0 e.1 e.2 came.others start w lines puts chains left (chain_within log at chain)
+      (subst (λ (c : List Literal). (global_look s.names (clause_of t.engine.watches) (record { pos = at; part = 0 }) ≡ Some c) ⊎ IsForeign (variables_in s) c) same (⊎_elim (λ x. inl x.0) (λ x. inr x.1) came.came))
 
 -- the position of a chain has its clause
 pub no_chain : (nodes : List Node) (log : List Entry) (at : ℕ) → is_chain (entry_at log at) ≡ true → clause_at (state_of nodes log).clauses (record { pos = at; part = 0 }) ≡ None → ⊥
@@ -204,9 +206,9 @@ no_chain nodes log at chain none =
     let f : Some (e.0) ≡ None = sym (chain_clause nodes log at e.0 e.1 e.2) ∙ none in
     cc
 
-module _ (s t : Search) (nodes : List Node) (log : List Entry) (at : ℕ) (clause : List Literal) (run : IsRunning s nodes log) (own : s.from ≤ at) (chain : is_chain (entry_at log at) ≡ true) (there : clause_at (state_of nodes log).clauses (record { pos = at; part = 0 }) ≡ Some clause) (names : t.names ≡ s.names) (bound : t.bound ≡ s.bound) (opening : t.opening.items ≡ s.opening.items) (taken : t.taken.items ≡ s.taken.items ++ at ∷ []) (from : t.from ≡ s.from) (seen : t.seen ≡ s.seen) (given : t.given.items ≡ s.given.items) where
-  took_look : look_in t ≡ global_look s.names (clause_of t.watches)
-  took_look = ap (λ (n : List ℕ). global_look n (clause_of t.watches)) names
+module _ (s t : Search) (nodes : List Node) (log : List Entry) (at : ℕ) (clause : List Literal) (run : IsRunning s nodes log) (own : s.from ≤ at) (chain : is_chain (entry_at log at) ≡ true) (there : clause_at (state_of nodes log).clauses (record { pos = at; part = 0 }) ≡ Some clause) (names : t.names ≡ s.names) (bound : t.bound ≡ s.bound) (opening : t.opening.items ≡ s.opening.items) (taken : t.taken.items ≡ s.taken.items ++ at ∷ []) (from : t.from ≡ s.from) (seen : t.seen ≡ s.seen) (given : t.engine.given.items ≡ s.engine.given.items) where
+  took_look : look_in t ≡ global_look s.names (clause_of t.engine.watches)
+  took_look = ap (λ (n : List ℕ). global_look n (clause_of t.engine.watches)) names
 
   took_variables : variables_in t ≡ variables_in s
   took_variables = λ i. variables_of (names i) (bound i)
@@ -214,21 +216,21 @@ module _ (s t : Search) (nodes : List Node) (log : List Entry) (at : ℕ) (claus
   took_given : given_in t ≡ given_in s
   took_given = λ i. global_clause (names i) (given i)
 
-  pub took_running : (r : Result (Unit {0}) AllocError) → OnOk r (IsTrailOf t.watches t.trail) → OnOk r (IsCourse (literals_of s.trail) (level_of s.trail) s.base s.given.items → IsCourse (literals_of t.trail) (level_of t.trail) t.base s.given.items) → OnOk r (AreNumbered s.names s.bound t.watches s.given.items) → OnOk r (IsAdmitted (look_in s) (global_look s.names (clause_of t.watches)) (variables_in s) at clause) → OnOk r (IsRunning t nodes log)
-  took_running (Err e) trail course numbered came = tt
-  took_running (Ok u) trail course numbered came = (
-    trail,
-    search_moved (global_look s.names (clause_of t.watches)) (look_in t) (variables_in s) (variables_in t) s.opening.items t.opening.items (s.taken.items ++ at ∷ []) t.taken.items s.from t.from s.seen t.seen nodes log took_look took_variables opening taken from seen
+  pub took_running : (r : Result (Unit {0}) AllocError) → OnOk r (IsEngine t.engine) → OnOk r (IsOnCourse s.engine → IsOnCourse t.engine) → OnOk r (AreNumbered s.names s.bound t.engine.watches s.engine.given.items) → OnOk r (IsAdmitted (look_in s) (global_look s.names (clause_of t.engine.watches)) (variables_in s) at clause) → OnOk r (IsRunning t nodes log)
+  took_running (Err e) engine course numbered came = tt
+  took_running (Ok u) engine course numbered came = (
+    engine,
+    search_moved (global_look s.names (clause_of t.engine.watches)) (look_in t) (variables_in s) (variables_in t) s.opening.items t.opening.items (s.taken.items ++ at ∷ []) t.taken.items s.from t.from s.seen t.seen nodes log took_look took_variables opening taken from seen
         (taken_search s t nodes log at clause run own chain there came),
-    subst (λ (l : List Literal). IsCourse (literals_of t.trail) (level_of t.trail) t.base l) (sym given) (course run.2),
+    course run.2,
     subst (λ (l : List Literal). AreBelow (state_of nodes log).next l) (sym took_given) run.3,
-    numbered_moved s.names t.names s.bound t.bound t.watches s.given.items t.given.items names bound given numbered,
+    numbered_moved s.names t.names s.bound t.bound t.engine.watches s.engine.given.items t.engine.given.items names bound given numbered,
   )
 
-  pub took_writing : (r : Result (Unit {0}) AllocError) → OnOk r (IsAdmitted (look_in s) (global_look s.names (clause_of t.watches)) (variables_in s) at clause) → IsTaken s.diary t.diary at → OnOk r (IsWriting s nodes log → IsWriting t nodes log)
+  pub took_writing : (r : Result (Unit {0}) AllocError) → OnOk r (IsAdmitted (look_in s) (global_look s.names (clause_of t.engine.watches)) (variables_in s) at clause) → IsTaken s.diary t.diary at → OnOk r (IsWriting s nodes log → IsWriting t nodes log)
   took_writing (Err e) came k = tt
   took_writing (Ok u) came k = λ w.
-      kept_moved nodes log (given_in s) (given_in t) s.from t.from (global_look s.names (clause_of t.watches)) (look_in t) (variables_in s) (variables_in t) t.diary s.seen t.seen took_given from took_look took_variables seen
+      kept_moved nodes log (given_in s) (given_in t) s.from t.from (global_look s.names (clause_of t.engine.watches)) (look_in t) (variables_in s) (variables_in t) t.diary s.seen t.seen took_given from took_look took_variables seen
       (taken_writing s t nodes log at clause run own chain there came t.diary k.lines k.start k.puts k.chains k.left w)
 
 pub took_line : (old new : Keeper) (at : ℕ) → IsTaken old new at → HasLine new.lines.items at
@@ -266,12 +268,12 @@ run_then a b c h k = record { opening = k.opening ∙ h.opening; from = k.from �
 
 -- ---- a search whose choices alone changed
 
-module _ (s t u : Search) (e : t ≡ record s { choices = t.choices }) where
+module _ (s t u : Search) (e : t ≡ record s { engine = record s.engine { choices = t.engine.choices } }) where
   pub learnt_same : IsSameRun t u → IsSameRun s u
   learnt_same h = record {
     opening = h.opening ∙ ap (λ (x : Search). x.opening) e;
     from = h.from ∙ ap (λ (x : Search). x.from) e;
-    given = h.given ∙ ap (λ (x : Search). x.given) e;
+    given = h.given ∙ ap (λ (x : Search). x.engine.given) e;
     names = h.names ∙ ap (λ (x : Search). x.names) e;
     bound = h.bound ∙ ap (λ (x : Search). x.bound) e;
   }
@@ -279,7 +281,7 @@ module _ (s t u : Search) (e : t ≡ record s { choices = t.choices }) where
   pub learnt_kept : (clause : List Literal) (level at : ℕ) → IsKeptAt t u clause level at → IsKeptAt s u clause level at
   learnt_kept clause level at h = record {
     held = h.held;
-    others = λ q ne. h.others q ne ∙ ap (λ (x : Search). clause_of x.watches q) e;
+    others = λ q ne. h.others q ne ∙ ap (λ (x : Search). clause_of x.engine.watches q) e;
     taken = h.taken ∙ ap (λ (x : Search). x.taken.items ++ at ∷ []) e;
     seen = h.seen ∙ ap (λ (x : Search). x.seen) e;
     start = h.start ∙ ap (λ (x : Search). x.diary.start) e;
@@ -292,74 +294,57 @@ module _ (s t u : Search) (e : t ≡ record s { choices = t.choices }) where
   pub learnt_running : (nodes : List Node) (log : List Entry) → IsRunning s nodes log → IsRunning t nodes log
   learnt_running nodes log h = subst (λ (x : Search). IsRunning x nodes log) (sym e) h
 
--- ---- a search that may have gone back
+-- ---- a search whose engine moved
 
-module _ (s t : Search) (e : t ≡ record s { trail = t.trail; choices = t.choices; base = t.base }) where
-  pub restarted : (nodes : List Node) (log : List Entry) → IsTrailOf t.watches t.trail → (IsCourse (literals_of s.trail) (level_of s.trail) s.base s.given.items → IsCourse (literals_of t.trail) (level_of t.trail) t.base s.given.items) → IsRunning s nodes log → IsRunning t nodes log
-  restarted nodes log trail course h = (
-    trail,
-    subst (λ (x : Search). IsSearchOf (look_in x) (variables_in x) x.opening.items x.taken.items x.from x.seen nodes log) (sym e) h.1,
-    subst (λ (x : Search). IsCourse (literals_of t.trail) (level_of t.trail) t.base x.given.items) (sym e) (course h.2),
-    subst (λ (x : Search). AreBelow (state_of nodes log).next (given_in x)) (sym e) h.3,
-    subst (λ (x : Search). AreNumbered x.names x.bound x.watches x.given.items) (sym e) h.4,
-  )
+module _ (s : Search) (n : Engine) (given : n.given ≡ s.engine.given) where
+  pub moved_same : IsSameRun s (record s { engine = n })
+  moved_same = record { opening = refl; from = refl; given = given; names = refl; bound = refl }
 
-  pub restarted_writing : (nodes : List Node) (log : List Entry) → IsWriting s nodes log → IsWriting t nodes log
-  restarted_writing nodes log h = subst (λ (x : Search). IsWriting x nodes log) (sym e) h
+  -- it went back
+  module _ (watches : n.watches ≡ s.engine.watches) (nodes : List Node) (log : List Entry) where
+    pub went_back : IsEngine n → IsOnCourse n → IsRunning s nodes log → IsRunning (record s { engine = n }) nodes log
+    went_back engine course h = (
+      engine,
+      subst (λ (w : Watches). IsSearchOf (global_look s.names (clause_of w)) (variables_in s) s.opening.items s.taken.items s.from s.seen nodes log) (sym watches) h.1,
+      course,
+      subst (λ (l : List Literal). AreBelow (state_of nodes log).next (global_clause s.names l)) (sym (ap (λ v. v.items) given)) h.3,
+      subst (λ (w : Watches). AreNumbered s.names s.bound w n.given.items) (sym watches) (subst (λ (l : List Literal). AreNumbered s.names s.bound s.engine.watches l) (sym (ap (λ v. v.items) given)) h.4),
+    )
 
-  pub restarted_same : IsSameRun s t
-  restarted_same = record {
-    opening = ap (λ (x : Search). x.opening) e;
-    from = ap (λ (x : Search). x.from) e;
-    given = ap (λ (x : Search). x.given) e;
-    names = ap (λ (x : Search). x.names) e;
-    bound = ap (λ (x : Search). x.bound) e;
-  }
+    pub went_writing : IsWriting s nodes log → IsWriting (record s { engine = n }) nodes log
+    went_writing h =
+        subst (λ (w : Watches). IsKept (subject_of (record s { engine = n }) nodes log) (global_look s.names (clause_of w)) (variables_in s) s.diary s.seen) (sym watches)
+        (subst (λ (l : List Literal). IsKept (record { nodes = nodes; log = log; given = global_clause s.names l; from = s.from }) (look_in s) (variables_in s) s.diary s.seen) (sym (ap (λ v. v.items) given)) h)
 
--- ---- given literals that were decided
+  -- it holds the same clauses
+  module _ (held : (id : ClauseId) → clause_of n.watches id ≡ clause_of s.engine.watches id) (nodes : List Node) (log : List Entry) where
+    -- what the clauses stand for that are held is the same
+    same_clauses : (id : ClauseId) → global_look s.names (clause_of n.watches) id ≡ look_in s id
+    same_clauses id = ap (global_found s.names) (held id)
 
-module _ (s t : Search) (e : t ≡ record s { watches = t.watches; trail = t.trail; choices = t.choices; base = t.base }) (held : (id : ClauseId) → clause_of t.watches id ≡ clause_of s.watches id) (nodes : List Node) (log : List Entry) where
-  -- what the clauses stand for that are held is the same
-  same_clauses : (id : ClauseId) → look_in t id ≡ look_in s id
-  same_clauses id = ap (λ (n : List ℕ). global_look n (clause_of t.watches) id) (ap (λ (x : Search). x.names) e) ∙ ap (global_found s.names) (held id)
+    pub assumed_running : IsEngine n → IsOnCourse n → IsRunning s nodes log → IsRunning (record s { engine = n }) nodes log
+    assumed_running engine course h = (
+      engine,
+      search_same (look_in s) (global_look s.names (clause_of n.watches)) (variables_in s) s.opening.items s.taken.items s.from s.seen nodes log same_clauses h.1,
+      course,
+      subst (λ (l : List Literal). AreBelow (state_of nodes log).next (global_clause s.names l)) (sym (ap (λ v. v.items) given)) h.3,
+      subst (λ (l : List Literal). AreNumbered s.names s.bound n.watches l) (sym (ap (λ v. v.items) given)) (numbered_same s.names s.bound s.engine.watches n.watches s.engine.given.items held h.4),
+    )
 
-  pub assumed_running : IsTrailOf t.watches t.trail → IsCourse (literals_of t.trail) (level_of t.trail) t.base s.given.items → IsRunning s nodes log → IsRunning t nodes log
-  assumed_running trail course h = (
-    trail,
-    search_moved (look_in t) (look_in t) (variables_in s) (variables_in t) s.opening.items t.opening.items s.taken.items t.taken.items s.from t.from s.seen t.seen nodes log
-        refl (ap (λ (x : Search). variables_in x) e) (ap (λ (x : Search). x.opening.items) e) (ap (λ (x : Search). x.taken.items) e) (ap (λ (x : Search). x.from) e) (ap (λ (x : Search). x.seen) e)
-        (search_same (look_in s) (look_in t) (variables_in s) s.opening.items s.taken.items s.from s.seen nodes log same_clauses h.1),
-    subst (λ (x : Search). IsCourse (literals_of t.trail) (level_of t.trail) t.base x.given.items) (sym e) course,
-    subst (λ (x : Search). AreBelow (state_of nodes log).next (given_in x)) (sym e) h.3,
-    numbered_moved s.names t.names s.bound t.bound t.watches s.given.items t.given.items (ap (λ (x : Search). x.names) e) (ap (λ (x : Search). x.bound) e) (ap (λ (x : Search). x.given.items) e)
-        (numbered_same s.names s.bound s.watches t.watches s.given.items held h.4),
-  )
-
-  pub assumed_writing : (known : ℕ → Type 0) → IsUpToDate s nodes log known → IsUpToDate t nodes log known
-  assumed_writing known h = (
-    kept_same (subject_of t nodes log) (look_in s) (look_in t) (variables_in t) t.diary t.seen same_clauses
-        (kept_moved nodes log (given_in s) (given_in t) s.from t.from (look_in s) (look_in s) (variables_in s) (variables_in t) t.diary s.seen t.seen
-        (ap (λ (x : Search). given_in x) e) (ap (λ (x : Search). x.from) e) refl (ap (λ (x : Search). variables_in x) e) (ap (λ (x : Search). x.seen) e)
-        (subst (λ (k : Keeper). IsKept (subject_of s nodes log) (look_in s) (variables_in s) k s.seen) (sym (ap (λ (x : Search). x.diary) e)) h.0)),
-    subst (λ (k : Keeper). AreImported k.lines.items log known k.start) (sym (ap (λ (x : Search). x.diary) e)) h.1,
-    h.2,
-  )
-
-  pub assumed_same : IsSameRun s t
-  assumed_same = record {
-    opening = ap (λ (x : Search). x.opening) e;
-    from = ap (λ (x : Search). x.from) e;
-    given = ap (λ (x : Search). x.given) e;
-    names = ap (λ (x : Search). x.names) e;
-    bound = ap (λ (x : Search). x.bound) e;
-  }
+    pub assumed_writing : (known : ℕ → Type 0) → IsUpToDate s nodes log known → IsUpToDate (record s { engine = n }) nodes log known
+    assumed_writing known h = (
+      kept_same (subject_of (record s { engine = n }) nodes log) (look_in s) (global_look s.names (clause_of n.watches)) (variables_in s) s.diary s.seen same_clauses
+          (subst (λ (l : List Literal). IsKept (record { nodes = nodes; log = log; given = global_clause s.names l; from = s.from }) (look_in s) (variables_in s) s.diary s.seen) (sym (ap (λ v. v.items) given)) h.0),
+      h.1,
+      h.2,
+    )
 
 -- ---- a model
 
 -- a model of what a search holds is one of what an earlier state of it holds
-pub model_as : (s t : Search) (rows : List (List (List Literal))) (v : ℕ → Bool) → t.names ≡ s.names → t.opening.items ≡ s.opening.items → t.given.items ≡ s.given.items → IsModel rows t.opening.items (given_in t) (global_values t.names v) → IsModel rows s.opening.items (given_in s) (global_values s.names v)
-model_as s t rows v a b c h = subst (λ (n : List ℕ). IsModel rows s.opening.items (global_clause n s.given.items) (global_values n v)) a
-    (subst (λ (o : List ℕ). IsModel rows o (global_clause t.names s.given.items) (global_values t.names v)) b
+pub model_as : (s t : Search) (rows : List (List (List Literal))) (v : ℕ → Bool) → t.names ≡ s.names → t.opening.items ≡ s.opening.items → t.engine.given.items ≡ s.engine.given.items → IsModel rows t.opening.items (given_in t) (global_values t.names v) → IsModel rows s.opening.items (given_in s) (global_values s.names v)
+model_as s t rows v a b c h = subst (λ (n : List ℕ). IsModel rows s.opening.items (global_clause n s.engine.given.items) (global_values n v)) a
+    (subst (λ (o : List ℕ). IsModel rows o (global_clause t.names s.engine.given.items) (global_values t.names v)) b
     (subst (λ (l : List Literal). IsModel rows t.opening.items (global_clause t.names l) (global_values t.names v)) c h))
 
 -- ---- an end under another condition
@@ -370,31 +355,32 @@ end_where P Q g known found positions names cube budget (Model values) f h = h
 end_where P Q g known found positions names cube budget (Spent d) f h = (h.0, (λ q. h.1 (f q)))
 end_where P Q g known found positions names cube budget Stopped f h = h
 
--- ---- after a conflict: a clause was learnt, it is kept, and the search may have restarted
+-- ---- after a conflict: a clause was learnt, it is kept, and the engine may have restarted
 
-module _ (s t u v : Search) (nodes nodes' : List Node) (log log' : List Entry) (known known' : ℕ → Type 0) (later : IsLater nodes nodes' log log' known known') (clause : List Literal) (level at : ℕ) (run : IsRunning s nodes log) (above : s.base < level_of s.trail) (learnt : IsLearnt s.names (clause_of s.watches) s.trail log log' clause level at) (e : t ≡ record s { choices = t.choices }) (same : IsSameRun t u) (kept : IsKeptAt t u clause level at) (trail : IsTrailOf u.watches u.trail) (course : IsCourse (literals_of t.trail) (level_of t.trail) t.base t.given.items → IsCourse (literals_of u.trail) (level_of u.trail) u.base t.given.items) (f : v ≡ record u { trail = v.trail; choices = v.choices; base = v.base }) where
-  first_running : IsRunning u nodes' log'
-  first_running =
-      kept_running s u nodes nodes' log log' known known' later clause level at run above learnt (learnt_same s t u e same) (learnt_kept s t u e clause level at kept) trail
-      (subst (λ (x : Search). IsCourse (literals_of x.trail) (level_of x.trail) x.base x.given.items → IsCourse (literals_of u.trail) (level_of u.trail) u.base x.given.items) e course run.2)
+module _ (s t u : Search) (n : Engine) (nodes nodes' : List Node) (log log' : List Entry) (known known' : ℕ → Type 0) (later : IsLater nodes nodes' log log' known known') (clause : List Literal) (level at : ℕ) (run : IsRunning s nodes log) (above : s.engine.base < level_of s.engine.trail) (learnt : IsLearnt s.names (clause_of s.engine.watches) s.engine.trail log log' clause level at) (e : t ≡ record s { engine = record s.engine { choices = t.engine.choices } }) (same : IsSameRun t u) (kept : IsKeptAt t u clause level at) (engine : IsEngine u.engine) (course : IsOnCourse t.engine → IsOnCourse u.engine) where
+  pub conflict_course : IsOnCourse u.engine
+  conflict_course = course (subst (λ (x : Search). IsOnCourse x.engine) (sym e) run.2)
 
-  pub conflict_running : IsTrailOf v.watches v.trail → (IsCourse (literals_of u.trail) (level_of u.trail) u.base u.given.items → IsCourse (literals_of v.trail) (level_of v.trail) v.base u.given.items) → IsRunning v nodes' log'
-  conflict_running trail2 course2 = restarted u v f nodes' log' trail2 course2 first_running
+  module _ (watches : n.watches ≡ u.engine.watches) (given : n.given ≡ u.engine.given) where
+    pub conflict_running : IsEngine n → IsOnCourse n → IsRunning (record u { engine = n }) nodes' log'
+    conflict_running engine2 course2 =
+        went_back u n given watches nodes' log' engine2 course2
+        (kept_running s u nodes nodes' log log' known known' later clause level at run above learnt (learnt_same s t u e same) (learnt_kept s t u e clause level at kept) engine conflict_course)
 
-  pub conflict_writing : IsWriting s nodes log → IsWriting v nodes' log'
-  conflict_writing w =
-      restarted_writing u v f nodes' log'
-      (kept_writing s u nodes nodes' log log' known known' later clause level at run above learnt (learnt_same s t u e same) (learnt_kept s t u e clause level at kept) w)
+    pub conflict_writing : IsWriting s nodes log → IsWriting (record u { engine = n }) nodes' log'
+    conflict_writing w =
+        went_writing u n given watches nodes' log'
+        (kept_writing s u nodes nodes' log log' known known' later clause level at run above learnt (learnt_same s t u e same) (learnt_kept s t u e clause level at kept) w)
 
-  pub conflict_same : IsSameRun s v
-  conflict_same = run_then s u v (learnt_same s t u e same) (restarted_same u v f)
+    pub conflict_same : IsSameRun s (record u { engine = n })
+    conflict_same = run_then s u (record u { engine = n }) (learnt_same s t u e same) (moved_same u n given)
 
-pub end_from : (s a new : Search) (e : a ≡ record s { watches = a.watches; trail = a.trail; choices = a.choices; base = a.base }) (nodes nodes' : List Node) (log log' : List Entry) (known known' : ℕ → Type 0) (found : Bool) (cube budget : ℕ) (r : Result (Option End) AllocError) → (IsUpToDate s nodes log known → IsUpToDate a nodes log known) → IfOk r (λ o. MatchOption o (IsUpToDate a nodes log known → IsUpToDate new nodes' log' known') (IsEnd (IsUpToDate a nodes log known) (subject_of a nodes' log') known' found a.opening.items a.names cube budget)) → IfOk r (λ o. MatchOption o (IsUpToDate s nodes log known → IsUpToDate new nodes' log' known') (IsEnd (IsUpToDate s nodes log known) (subject_of s nodes' log') known' found s.opening.items s.names cube budget))
-end_from s a new e nodes nodes' log log' known known' found cube budget (Err x) w h = tt
-end_from s a new e nodes nodes' log log' known known' found cube budget (Ok None) w h = λ u. h (w u)
-end_from s a new e nodes nodes' log log' known known' found cube budget (Ok (Some x)) w h =
-    end_where (IsUpToDate a nodes log known) (IsUpToDate s nodes log known) (subject_of s nodes' log') known' found s.opening.items s.names cube budget x w
-    (subst (λ (y : Search). IsEnd (IsUpToDate a nodes log known) (subject_of y nodes' log') known' found y.opening.items y.names cube budget x) e h)
+pub end_from : (s : Search) (n : Engine) (new : Search) (given : n.given ≡ s.engine.given) (nodes nodes' : List Node) (log log' : List Entry) (known known' : ℕ → Type 0) (found : Bool) (cube budget : ℕ) (r : Result (Option End) AllocError) → (IsUpToDate s nodes log known → IsUpToDate (record s { engine = n }) nodes log known) → IfOk r (λ o. MatchOption o (IsUpToDate (record s { engine = n }) nodes log known → IsUpToDate new nodes' log' known') (IsEnd (IsUpToDate (record s { engine = n }) nodes log known) (subject_of (record s { engine = n }) nodes' log') known' found s.opening.items s.names cube budget)) → IfOk r (λ o. MatchOption o (IsUpToDate s nodes log known → IsUpToDate new nodes' log' known') (IsEnd (IsUpToDate s nodes log known) (subject_of s nodes' log') known' found s.opening.items s.names cube budget))
+end_from s n new given nodes nodes' log log' known known' found cube budget (Err x) w h = tt
+end_from s n new given nodes nodes' log log' known known' found cube budget (Ok None) w h = λ u. h (w u)
+end_from s n new given nodes nodes' log log' known known' found cube budget (Ok (Some x)) w h =
+    end_where (IsUpToDate (record s { engine = n }) nodes log known) (IsUpToDate s nodes log known) (subject_of s nodes' log') known' found s.opening.items s.names cube budget x w
+    (subst (λ (l : List Literal). IsEnd (IsUpToDate (record s { engine = n }) nodes log known) (record { nodes = nodes'; log = log'; given = global_clause s.names l; from = s.from }) known' found s.opening.items s.names cube budget x) (ap (λ v. v.items) given) h)
 
 -- the end of a run says the same of its beginning
 pub run_end : (P Q : Type 0) (s t : Search) (nodes : List Node) (log : List Entry) (known : ℕ → Type 0) (found : Bool) (given : List Literal) (from : ℕ) (opening : List ℕ) (cube budget : ℕ) (x : End) → (Q → P) → given_in s ≡ given → s.from ≡ from → s.opening.items ≡ opening → t.names ≡ s.names → IsEnd P (subject_of s nodes log) known found s.opening.items s.names cube budget x → IsEnd Q (record { nodes = nodes; log = log; given = given; from = from }) known found opening t.names cube budget x

@@ -1,6 +1,6 @@
 -- How a search ends.
-use Rattle.std.specs.Prelude.{◌≡◌, ◌≤◌, ◌⊎◌, ℕ, suc, Bool, true, false, List, length, Some, Contains, slice_index_or}
-use Rattle.cnf_base.specs.Literals.{Literal, positive_of}
+use Rattle.std.specs.Prelude.{◌≡◌, ◌≤◌, ℕ, suc, Bool, true, List, length, Some, Contains}
+use Rattle.cnf_base.specs.Literals.{Literal}
 use Rattle.cnf_base.specs.Clauses.{lit_true, clause_true}
 use Rattle.cnf_base.specs.declared.clause.ClauseId.{ClauseId}
 use Rattle.proof_log.specs.declared.diary.Diary.{Diary}
@@ -12,16 +12,7 @@ use Rattle.cdcl_learn.specs.Puts.{IsAgainst}
 use Rattle.cube_search.specs.declared.ends.End.{End}
 use Rattle.cube_search.specs.declared.ends.End.TheVariants.{Closed, Model, Spent, Stopped}
 use Rattle.cube_search.specs.Keeping.{AreImported}
-
--- the value of each variable; those without one are false
-abbrev pub assignment : List Bool → ℕ → Bool
-assignment values x = slice_index_or values x false
-
--- the literal is made true where it is positive, and nothing else
-pub record IsMadeTrue (old new : ℕ → Bool) (l : Literal) : Type 0 where
-  pub kept : (x : ℕ) → old x ≡ true → new x ≡ true
-  pub only : (x : ℕ) → new x ≡ true → (old x ≡ true) ⊎ (l ≡ positive_of x)
-  pub made : l.positive ≡ true → new l.variable ≡ true
+pub use Rattle.cdcl_loop.specs.Values.{assignment}
 
 -- every clause of these positions is true, and each given literal
 pub record IsModel (rows : List (List (List Literal))) (positions : List ℕ) (given : List Literal) (v : ℕ → Bool) : Type 0 where

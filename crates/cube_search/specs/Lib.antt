@@ -1,6 +1,5 @@
 pub mod Holding
 pub mod Numbers
-pub mod Courses
 pub mod Keeping
 pub mod Running
 pub mod Ends

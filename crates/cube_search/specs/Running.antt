@@ -14,23 +14,13 @@ use Rattle.proof_log.specs.Boards.{IsPutAt}
 use Rattle.proof_log.specs.Diaries.{Subject, allowed}
 use Rattle.local_names.specs.Names.{global_clause}
 use Rattle.cdcl_core.specs.declared.trail.Trail.{Trail}
-use Rattle.cdcl_core.specs.declared.watches.Watches.{Watches}
-use Rattle.cdcl_core.specs.Levels.{IsTrueBy}
-use Rattle.cdcl_core.specs.Search.{literals_of, level_of, clause_of, IsAtRest}
-use Rattle.cdcl_core.specs.State.{IsSettled, IsPropagated}
-use Rattle.cdcl_learn.specs.Rows.{AreDecidedFirst}
+use Rattle.cdcl_core.specs.Search.{literals_of, level_of, clause_of}
 use Rattle.cdcl_learn.specs.Puts.{IsGoodPut, IsUnitAfter}
+use Rattle.cdcl_loop.specs.Engines.{IsEngine, IsOnCourse}
 use Rattle.cube_search.specs.declared.search.Search.{Search}
 use Rattle.cube_search.specs.Holding.{IsHolding, ArePlaced}
 use Rattle.cube_search.specs.Numbers.{global_look, variables_of, AreNumbered}
-use Rattle.cube_search.specs.Courses.{AreRaised, IsCourse}
 use Rattle.cube_search.specs.Keeping.{IsKept, AreImported}
-
--- the trail and the clauses of a search
-pub record IsTrailOf (w : Watches) (t : Trail) : Type 0 where
-  pub settled : IsSettled w t
-  pub decided : AreDecidedFirst (literals_of t)
-  pub raised : AreRaised (literals_of t)
 
 -- what is held of a log over its terms
 pub record IsSearchOf (look : Lookup) (variables opening taken : List ℕ) (from seen : ℕ) (nodes : List Node) (log : List Entry) : Type 0 where
@@ -41,30 +31,30 @@ pub record IsSearchOf (look : Lookup) (variables opening taken : List ℕ) (from
 
 -- the clauses that a search holds, and the variables that they have
 abbrev pub look_in : Search → Lookup
-look_in s = global_look s.names (clause_of s.watches)
+look_in s = global_look s.names (clause_of s.engine.watches)
 
 abbrev pub variables_in : Search → List ℕ
 variables_in s = variables_of s.names s.bound
 
 -- the literals that are given to a search
 abbrev pub given_in : Search → List Literal
-given_in s = global_clause s.names s.given.items
+given_in s = global_clause s.names s.engine.given.items
 
 -- a search of a log
 abbrev pub IsSearch : Search → List Node → List Entry → Type 0
 IsSearch s nodes log =
-    IsTrailOf s.watches s.trail
+    IsEngine s.engine
     × IsSearchOf (look_in s) (variables_in s) s.opening.items s.taken.items s.from s.seen nodes log
-    × AreNumbered s.names s.bound s.watches s.given.items
+    × AreNumbered s.names s.bound s.engine.watches s.engine.given.items
 
 -- it decides its given literals first
 abbrev pub IsRunning : Search → List Node → List Entry → Type 0
 IsRunning s nodes log =
-    IsTrailOf s.watches s.trail
+    IsEngine s.engine
     × IsSearchOf (look_in s) (variables_in s) s.opening.items s.taken.items s.from s.seen nodes log
-    × IsCourse (literals_of s.trail) (level_of s.trail) s.base s.given.items
+    × IsOnCourse s.engine
     × AreBelow (state_of nodes log).next (given_in s)
-    × AreNumbered s.names s.bound s.watches s.given.items
+    × AreNumbered s.names s.bound s.engine.watches s.engine.given.items
 
 abbrev pub subject_of : Search → List Node → List Entry → Subject
 subject_of s nodes log = record { nodes = nodes; log = log; given = given_in s; from = s.from }
@@ -81,7 +71,7 @@ IsUpToDate s nodes log knows = IsWriting s nodes log × AreImported s.diary.line
 pub record IsSameRun (old new : Search) : Type 0 where
   pub opening : new.opening ≡ old.opening
   pub from : new.from ≡ old.from
-  pub given : new.given ≡ old.given
+  pub given : new.engine.given ≡ old.engine.given
   pub names : new.names ≡ old.names
   pub bound : new.bound ≡ old.bound
 
@@ -95,8 +85,8 @@ pub record IsLearnt (names : List ℕ) (look : Lookup) (t : Trail) (old new : Li
 
 -- the clause is held under this name beside the others, the trail went back to the level and the clause came
 pub record IsKeptAt (old new : Search) (clause : List Literal) (level at : ℕ) : Type 0 where
-  pub held : clause_of new.watches (record { pos = at; part = 0 }) ≡ Some clause
-  pub others : (q : ClauseId) → q ≢ record { pos = at; part = 0 } → clause_of new.watches q ≡ clause_of old.watches q
+  pub held : clause_of new.engine.watches (record { pos = at; part = 0 }) ≡ Some clause
+  pub others : (q : ClauseId) → q ≢ record { pos = at; part = 0 } → clause_of new.engine.watches q ≡ clause_of old.engine.watches q
   pub taken : new.taken.items ≡ old.taken.items ++ at ∷ []
   pub seen : new.seen ≡ old.seen
   pub start : new.diary.start ≡ old.diary.start
@@ -104,17 +94,3 @@ pub record IsKeptAt (old new : Search) (clause : List Literal) (level at : ℕ) 
   pub puts : new.diary.puts ≡ old.diary.puts + 1
   pub chains : new.diary.chains ≡ old.diary.chains + 1
   pub left : new.diary.left ≡ allowed new.diary.puts new.diary.chains
-
--- unit propagation has come to rest, and each given literal is true
-pub record IsAssumed (w : Watches) (t : Trail) (given : List Literal) : Type 0 where
-  pub propagated : IsPropagated w t
-  pub rest : IsAtRest w t
-  pub all : (l : Literal) → Contains given l → IsTrueBy (literals_of t) (level_of t) l
-
--- a given literal is true, at the base level, and what was true is
-pub record IsAssuming (old new : Search) (l : Literal) : Type 0 where
-  pub trail : IsTrailOf new.watches new.trail
-  pub course : IsCourse (literals_of new.trail) (level_of new.trail) new.base old.given.items
-  pub at_base : new.base ≡ level_of new.trail
-  pub made : IsTrueBy (literals_of new.trail) (level_of new.trail) l
-  pub kept : (m : Literal) → IsTrueBy (literals_of old.trail) (level_of old.trail) m → IsTrueBy (literals_of new.trail) (level_of new.trail) m

@@ -13,11 +13,9 @@
 //! numbers, and on `proof_log` for boards and diaries.
 #![tactic(auto)]
 
-mod choices;
 mod ends;
 mod keeper;
 mod learning;
-mod model;
 mod news;
 mod numbers;
 mod run;

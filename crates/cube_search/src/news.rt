@@ -3,21 +3,21 @@
 ghost use Rattle.std.specs.Prelude.{ℕ, ◌≡◌, ◌≤◌, ◌⊎◌, ◌++◌, ◌∷◌, [], List, Some, None, true, false, Contains, IfOk, OnOk, MatchBool};
 ghost use Rattle.cnf_base.specs.Literals.{Literal};
 ghost use Rattle.cnf_base.specs.Assignments.{AreBelow};
-ghost use Rattle.cdcl_core.specs.Search.{literals_of, level_of, clause_of};
+ghost use Rattle.cdcl_core.specs.Search.{clause_of};
+ghost use Rattle.cdcl_loop.specs.Engines.{IsEngine, IsOnCourse};
 ghost use Rattle.proof_log.specs.Logs.{state_of, entry_at};
 ghost use Rattle.proof_log.specs.Boards.{IsLater};
 ghost use Rattle.proof_log.specs.Diaries.{is_chain};
 ghost use Rattle.cube_search.specs.Holding.{AreSeparate, IsAdmitted, AreLeft};
 ghost use Rattle.cube_search.specs.Numbers.{global_look, AreNumbered};
-ghost use Rattle.cube_search.specs.Courses.{IsCourse};
 ghost use Rattle.cube_search.specs.Keeping.{HasLine, IsTaken, NotesOpening, NotesTaken};
-ghost use Rattle.cube_search.specs.Running.{look_in, variables_in, given_in, IsTrailOf, IsSearch, IsRunning, IsWriting, IsUpToDate, IsSameRun};
+ghost use Rattle.cube_search.specs.Running.{look_in, variables_in, given_in, IsSearch, IsRunning, IsWriting, IsUpToDate, IsSameRun};
 
 use crate::keeper::Keeper;
 use crate::learning::is_chain;
 use crate::numbers::find_clause;
 use crate::search::Search;
-use cdcl_core::Watches;
+use cdcl_loop::Engine;
 use cnf_base::{Clause, ClauseId, Lit, Pos};
 use proof_log::board::Board;
 use std::alloc::{AllocError, Global};
@@ -52,15 +52,15 @@ fn note_opening<B: Board>(
 
 // Notes a chain of an earlier run in a diary, and its position, where it is still held.
 fn note_held(
-    watches: &Watches,
+    engine: &Engine,
     at: Pos,
     held: &mut Vec<Pos>,
     diary: &mut Keeper,
 ) -> Result<(), AllocError>
-    ensures { OnOk result (((clause_of watches.now (record { pos = at; part = 0 }) ≡ None) × (held.new.items ≡ held.old.items) × (diary.new ≡ diary.old))
-        ⊎ ((c : List Literal) × (clause_of watches.now (record { pos = at; part = 0 }) ≡ Some c) × (held.new.items ≡ held.old.items ++ at ∷ []) × IsTaken diary.old diary.new at)) }
+    ensures { OnOk result (((clause_of engine.now.watches (record { pos = at; part = 0 }) ≡ None) × (held.new.items ≡ held.old.items) × (diary.new ≡ diary.old))
+        ⊎ ((c : List Literal) × (clause_of engine.now.watches (record { pos = at; part = 0 }) ≡ Some c) × (held.new.items ≡ held.old.items ++ at ∷ []) × IsTaken diary.old diary.new at)) }
 {
-    let Some(_) = watches.clause(ClauseId { pos: at, part: 0 }) else {
+    let Some(_) = engine.clause(ClauseId { pos: at, part: 0 }) else {
         return Ok(());
     };
     held.push(at)?;
@@ -71,41 +71,37 @@ fn note_held(
 // Notes the chains of earlier runs that are still held; gives their positions.
 fn note_taken(
     alloc: Global,
-    watches: &Watches,
+    engine: &Engine,
     positions: &[Pos],
     diary: &mut Keeper,
 ) -> Result<Vec<Pos>, AllocError>
-    ensures noted { OnOk result ((names : List ℕ) → NotesTaken (global_look names (clause_of watches.now)) positions.now positions.now diary.old diary.new) }
-    ensures left { IfOk result (λ held. AreLeft (clause_of watches.now) positions.now held.items) }
+    ensures noted { OnOk result ((names : List ℕ) → NotesTaken (global_look names (clause_of engine.now.watches)) positions.now positions.now diary.old diary.new) }
+    ensures left { IfOk result (λ held. AreLeft (clause_of engine.now.watches) positions.now held.items) }
 {
     let mut held = Vec::new(alloc);
     'positions: for at in positions {
-        note_held(watches, *at, &mut held, diary)?;
+        note_held(engine, *at, &mut held, diary)?;
     }
     Ok(held)
 }
 
 impl Search {
-    // Holds the clause of a chain where it has no variable of its own. It goes back no farther than the clause asks.
+    // Holds the clause of a chain where it has no variable of its own.
     fn admit(&mut self, at: Pos, clause: &Clause) -> Result<(), AllocError>
-        requires trail { IsTrailOf self.old.watches self.old.trail }
-        requires fresh { clause_of self.old.watches (record { pos = at; part = 0 }) ≡ None }
-        requires numbered { AreNumbered self.old.names self.old.bound self.old.watches self.old.given.items }
-        ensures same { self.new ≡ record self.old { watches = self.new.watches; trail = self.new.trail; choices = self.new.choices; base = self.new.base } }
-        ensures trail { OnOk result (IsTrailOf self.new.watches self.new.trail) }
-        ensures course { OnOk result (IsCourse (literals_of self.old.trail) (level_of self.old.trail) self.old.base self.old.given.items → IsCourse (literals_of self.new.trail) (level_of self.new.trail) self.new.base self.old.given.items) }
-        ensures numbered { OnOk result (AreNumbered self.old.names self.old.bound self.new.watches self.old.given.items) }
-        ensures admitted { OnOk result (IsAdmitted (look_in self.old) (global_look self.old.names (clause_of self.new.watches)) (variables_in self.old) at clause.now) }
+        requires engine { IsEngine self.old.engine }
+        requires fresh { clause_of self.old.engine.watches (record { pos = at; part = 0 }) ≡ None }
+        requires numbered { AreNumbered self.old.names self.old.bound self.old.engine.watches self.old.engine.given.items }
+        ensures same { self.new ≡ record self.old { engine = self.new.engine } }
+        ensures given { self.new.engine.given ≡ self.old.engine.given }
+        ensures engine { OnOk result (IsEngine self.new.engine) }
+        ensures course { OnOk result (IsOnCourse self.old.engine → IsOnCourse self.new.engine) }
+        ensures numbered { OnOk result (AreNumbered self.old.names self.old.bound self.new.engine.watches self.old.engine.given.items) }
+        ensures admitted { OnOk result (IsAdmitted (look_in self.old) (global_look self.old.names (clause_of self.new.engine.watches)) (variables_in self.old) at clause.now) }
     {
         let Some(near) = find_clause(self.alloc, &self.names, self.bound, clause)? else {
             return Ok(());
         };
-        let level = self.watches.level_for(&self.trail, &near);
-        self.go_back(level);
-        let size = near.literals().len();
-        self.watches
-            .add(&mut self.trail, ClauseId { pos: at, part: 0 }, near)?;
-        self.choices.take(at, size)?;
+        self.engine.admit(near, at)?;
         Ok(())
     }
 
@@ -123,7 +119,7 @@ impl Search {
         ensures kept { OnOk result ((p : ℕ) → HasLine self.old.diary.lines.items p → HasLine self.new.diary.lines.items p) }
     {
         let id = ClauseId { pos: at, part: 0 };
-        if let Some(_) = self.watches.clause(id) {
+        if let Some(_) = self.engine.clause(id) {
             return Ok(());
         }
         if !is_chain(board, at) {
@@ -168,13 +164,12 @@ impl Search {
         ensures running { OnOk result (IsRunning self.new (B.nodes board.now) (B.log board.now)) }
         ensures writing { OnOk result (AreSeparate (state_of (B.nodes board.now) (B.log board.now)).clauses (B.log board.now) self.old.opening.items self.old.from → IsWriting self.new (B.nodes board.now) (B.log board.now)) }
     {
-        self.go_back(0);
-        self.base = 0;
         let given = Clause::from_literals(self.alloc, given)?;
-        self.given = self.names.local_clause(self.alloc, &given)?.into_vec();
+        let near = self.names.local_clause(self.alloc, &given)?;
+        self.engine.begin(near.into_vec());
         let mut diary = Keeper::new(self.alloc, self.seen);
         note_opening(board, self.opening.as_slice(), &mut diary)?;
-        self.taken = note_taken(self.alloc, &self.watches, self.taken.as_slice(), &mut diary)?;
+        self.taken = note_taken(self.alloc, &self.engine, self.taken.as_slice(), &mut diary)?;
         self.diary = diary;
         Ok(())
     }

@@ -1,20 +1,20 @@
 //! A search, and the clauses that it is told.
 
-ghost use Rattle.std.specs.Prelude.{ℕ, ◌≡◌, ◌+◌, ◌≤◌, ◌<◌, ◌++◌, ◌∷◌, [], List, Some, suc, length, drop, filter, nat_le, Contains, OnOk, IfOk};
+ghost use Rattle.std.specs.Prelude.{ℕ, ◌≡◌, ◌+◌, ◌≤◌, ◌<◌, ◌++◌, ◌∷◌, [], List, Some, suc, length, drop, Contains, OnOk, IfOk};
 ghost use Rattle.cnf_base.specs.Literals.{Literal};
 ghost use Rattle.smt_terms.specs.Terms.{IsTermList};
 ghost use Rattle.proof_log.specs.Logs.{clause_at, state_of, IsLog};
 ghost use Rattle.local_names.specs.Names.{AreNames};
-ghost use Rattle.cdcl_core.specs.Search.{literals_of, level_of, clause_of};
+ghost use Rattle.cdcl_core.specs.Search.{level_of, clause_of};
+ghost use Rattle.cdcl_loop.specs.Engines.{IsTrailOf};
 ghost use Rattle.cube_search.specs.Holding.{IsHolding, IsFilling};
 ghost use Rattle.cube_search.specs.Numbers.{global_look, HoldsNumbers};
-ghost use Rattle.cube_search.specs.Courses.{IsCourse};
-ghost use Rattle.cube_search.specs.Running.{IsTrailOf, IsSearch};
+ghost use Rattle.cube_search.specs.Running.{IsSearch};
 
-use crate::choices::Choices;
 use crate::keeper::Keeper;
 use cdcl_core::{Trail, Watches};
-use cnf_base::{Clause, ClauseId, Lit, Pos};
+use cdcl_loop::Engine;
+use cnf_base::{Clause, ClauseId, Pos};
 use local_names::LocalNames;
 use proof_log::board::Board;
 use std::alloc::{AllocError, Global};
@@ -23,13 +23,12 @@ use std::alloc::{AllocError, Global};
 #[derive(Drop)]
 pub struct Search {
     pub(crate) alloc: Global,
-    // the variables by number: the watches, the trail and the choices are under numbers
+    // the variables by number: the engine is under numbers
     pub(crate) names: LocalNames,
     // the numbers below it are those of the opening clauses, the others came with given literals
     pub(crate) bound: u64,
-    pub(crate) watches: Watches,
-    pub(crate) trail: Trail,
-    pub(crate) choices: Choices,
+    // the clauses, the trail and the choices, with the given literals of the run
+    pub(crate) engine: Engine,
     // the positions that it was told, all of whose clauses it holds
     pub(crate) opening: Vec<Pos>,
     // the positions of the chains that it put or took
@@ -38,10 +37,6 @@ pub struct Search {
     pub(crate) from: Pos,
     // it has seen what stands below this position
     pub(crate) seen: Pos,
-    // the decisions up to this level are given literals
-    pub(crate) base: u64,
-    // the given literals of the run, under numbers
-    pub(crate) given: Vec<Lit>,
     pub(crate) diary: Keeper,
 }
 
@@ -133,20 +128,16 @@ impl Search {
             opening.push(*pos)?;
         }
         let bound = names.len();
-        let choices = Choices::new(alloc, bound)?;
+        let engine = Engine::new(alloc, watches, trail, bound)?;
         Ok(Search {
             alloc,
             names,
             bound,
-            watches,
-            trail,
-            choices,
+            engine,
             opening,
             taken: Vec::new(alloc),
             from,
             seen: from,
-            base: 0,
-            given: Vec::new(alloc),
             diary: Keeper::new(alloc, from),
         })
     }
@@ -156,22 +147,5 @@ impl Search {
         ensures { result ≡ self.names }
     {
         self.names
-    }
-
-    /// Takes back every literal above the level.
-    pub(crate) fn go_back(&mut self, level: u64)
-        requires trail { IsTrailOf self.old.watches self.old.trail }
-        requires lower { level ≤ level_of self.old.trail }
-        ensures same { self.new ≡ record self.old { trail = self.new.trail; choices = self.new.choices; base = self.new.base } }
-        ensures trail { IsTrailOf self.new.watches self.new.trail }
-        ensures level { level_of self.new.trail ≡ level }
-        ensures literals { literals_of self.new.trail ≡ filter (λ r. nat_le r.1 level) (literals_of self.old.trail) }
-        ensures course { IsCourse (literals_of self.old.trail) (level_of self.old.trail) self.old.base self.old.given.items → IsCourse (literals_of self.new.trail) (level_of self.new.trail) self.new.base self.old.given.items }
-    {
-        self.choices.take_back(self.trail.literals(), level);
-        self.watches.backjump(&mut self.trail, level);
-        if level < self.base {
-            self.base = level;
-        }
     }
 }

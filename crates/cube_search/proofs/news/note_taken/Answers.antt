@@ -12,14 +12,14 @@ use Rattle.cnf_base.proofs.Lists.{Contains-nil}
 
 pub positions-init : goal.positions-init
 positions-init c = record {
-  noted = λ names nodes log given from variables opening seen holding placed noting. (noted_none _ (global_look names (clause_of c.args.watches.now)) c.args.diary.now noting, λ id d k. absurd (Contains-nil id.pos k));
-  left = subst (AreLeft (clause_of c.args.watches.now) []) (sym c.new-held.ensures.items) (left_none (clause_of c.args.watches.now));
+  noted = λ names nodes log given from variables opening seen holding placed noting. (noted_none _ (global_look names (clause_of c.args.engine.now.watches)) c.args.diary.now noting, λ id d k. absurd (Contains-nil id.pos k));
+  left = subst (AreLeft (clause_of c.args.engine.now.watches) []) (sym c.new-held.ensures.items) (left_none (clause_of c.args.engine.now.watches));
 }
 
 pub positions-preserved : goal.positions-preserved
 positions-preserved c =
     let ps = c.args.positions.now in
-    let look = clause_of c.args.watches.now in
+    let look = clause_of c.args.engine.now.watches in
     let at = slice_index ps c.positions.at-index in
     let is = get_or_default ps c.positions.at-index 0 at c.positions-test.true in
     let diary = c.positions.diary in
@@ -36,10 +36,10 @@ positions-preserved c =
 
 pub returns-clause-noted : goal.returns-clause-noted
 returns-clause-noted c = λ names.
-    subst (λ (ps : List ℕ). NotesTaken (global_look names (clause_of c.args.watches.now)) c.args.positions.now ps c.args.diary.now c.positions.diary)
+    subst (λ (ps : List ℕ). NotesTaken (global_look names (clause_of c.args.engine.now.watches)) c.args.positions.now ps c.args.diary.now c.positions.diary)
     (take_all c.positions.at-index c.args.positions.now c.positions-test.false) (c.positions.invariant.noted names)
 
 pub returns-clause-left : goal.returns-clause-left
 returns-clause-left c =
-    subst (λ (ps : List ℕ). AreLeft (clause_of c.args.watches.now) ps c.positions.held.items)
+    subst (λ (ps : List ℕ). AreLeft (clause_of c.args.engine.now.watches) ps c.positions.held.items)
     (take_all c.positions.at-index c.args.positions.now c.positions-test.false) c.positions.invariant.left

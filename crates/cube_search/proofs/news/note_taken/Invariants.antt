@@ -7,6 +7,6 @@ use Rattle.cube_search.proofs.news.note_taken.Given as goal
 
 abbrev pub invariant-positions : goal.invariant-positions
 invariant-positions l = record {
-  noted : (names : List ℕ) → NotesTaken (global_look names (clause_of l.watches)) l.positions (take l.at-index l.positions) l.fn.diary l.diary;
-  left : AreLeft (clause_of l.watches) (take l.at-index l.positions) l.held.items;
+  noted : (names : List ℕ) → NotesTaken (global_look names (clause_of l.engine.watches)) l.positions (take l.at-index l.positions) l.fn.diary l.diary;
+  left : AreLeft (clause_of l.engine.watches) (take l.at-index l.positions) l.held.items;
 }

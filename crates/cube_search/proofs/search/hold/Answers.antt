@@ -1,7 +1,7 @@
 use Rattle.std.proofs.Common.{length, sym}
 use Rattle.cube_search.proofs.Naming.{numbers_of, named_longer}
 use Rattle.cube_search.proofs.Filling.{filling_named, holds_added}
-use Rattle.cube_search.proofs.Trails.{trail_added}
+use Rattle.cdcl_loop.proofs.Trails.{trail_added}
 use Rattle.cube_search.proofs.search.hold.Goals as goal
 
 pub returns-clause-trail : goal.returns-clause-trail

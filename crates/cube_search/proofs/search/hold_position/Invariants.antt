@@ -4,7 +4,7 @@ use Rattle.local_names.specs.Names.{AreNames}
 use Rattle.cdcl_core.specs.Search.{level_of, clause_of}
 use Rattle.cube_search.specs.Holding.{IsHolding, IsFilling}
 use Rattle.cube_search.specs.Numbers.{global_look, HoldsNumbers}
-use Rattle.cube_search.specs.Running.{IsTrailOf}
+use Rattle.cdcl_loop.specs.Engines.{IsTrailOf}
 use Rattle.cube_search.proofs.search.hold_position.Given as goal
 
 abbrev pub invariant-parts : goal.invariant-parts

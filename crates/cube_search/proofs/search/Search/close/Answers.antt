@@ -20,19 +20,19 @@ returns-in_err-clause-clause-later g c = running_board c.args.self.now (g.B.Boar
 pub global_clause-requires : goal.global_clause-requires
 global_clause-requires g c =
     let s = c.args.self.now in
-    against_below (length s.names) s.given.items c.in_ok-near.near c.requires.running.4.literals (c.in_ok-near.ensures.against s.given.items c.requires.given)
+    against_below (length s.names) s.engine.given.items c.in_ok-near.near c.requires.running.4.literals (c.in_ok-near.ensures.against s.engine.given.items c.requires.given)
 
 pub put-requires-clause-valid : goal.put-requires-clause-valid
 put-requires-clause-valid g c =
     let s = c.args.self.now in
     subst (λ (d : List Literal). IsStep (g.B.Board.nodes c.args.board.now) (state_of (g.B.Board.nodes c.args.board.now) (g.B.Board.log c.args.board.now)) (step.Chain d c.from_vec.result)) (sym c.in_ok-clause.ensures)
     (subst (λ (h : List ClauseId). IsStep (g.B.Board.nodes c.args.board.now) (state_of (g.B.Board.nodes c.args.board.now) (g.B.Board.log c.args.board.now)) (step.Chain (global_clause s.names c.in_ok-near.near) h)) (sym c.from_vec.ensures)
-    (closing_step s.names s.bound s.watches (variables_in s) s.opening.items s.taken.items s.given.items s.from s.seen (g.B.Board.nodes c.args.board.now) (g.B.Board.log c.args.board.now) c.requires.running.4 c.requires.running.1 c.in_ok-near.near c.in_ok-near.hints.items
-    c.requires.running.3 (c.in_ok-near.ensures.against s.given.items c.requires.given) c.in_ok-near.ensures.chain))
+    (closing_step s.names s.bound s.engine.watches (variables_in s) s.opening.items s.taken.items s.engine.given.items s.from s.seen (g.B.Board.nodes c.args.board.now) (g.B.Board.log c.args.board.now) c.requires.running.4 c.requires.running.1 c.in_ok-near.near c.in_ok-near.hints.items
+    c.requires.running.3 (c.in_ok-near.ensures.against s.engine.given.items c.requires.given) c.in_ok-near.ensures.chain))
 
 pub returns-clause-closing : goal.returns-clause-closing
 returns-clause-closing g c =
     let s = c.args.self.now in
     put_closes (g.B.Board.nodes c.args.board.now) (g.B.Board.nodes c.put.new.self) (g.B.Board.log c.args.board.now) (g.B.Board.log c.put.new.self) (g.B.Board.knows c.args.board.now) (g.B.Board.knows c.put.new.self)
     (given_in s) c.in_ok-clause.clause c.from_vec.result c.put.result
-    (subst (IsAgainst (given_in s)) (sym c.in_ok-clause.ensures) (against_global s.names s.given.items c.in_ok-near.near (c.in_ok-near.ensures.against s.given.items c.requires.given))) c.put.ensures.put
+    (subst (IsAgainst (given_in s)) (sym c.in_ok-clause.ensures) (against_global s.names s.engine.given.items c.in_ok-near.near (c.in_ok-near.ensures.against s.engine.given.items c.requires.given))) c.put.ensures.put

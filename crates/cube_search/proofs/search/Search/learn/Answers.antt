@@ -11,7 +11,7 @@ use Rattle.cube_search.proofs.search.Search.learn.Goals as goal
 pub global_clause-requires : goal.global_clause-requires
 global_clause-requires g c =
     let s = c.args.self.now in
-    learnt_below s.names s.bound s.watches (variables_in s) s.opening.items s.taken.items s.given.items s.from s.seen (g.B.Board.nodes c.args.board.now) (g.B.Board.log c.args.board.now) c.requires.running.4 c.requires.running.1 c.in_ok-near.near c.in_ok-near.hints.items
+    learnt_below s.names s.bound s.engine.watches (variables_in s) s.opening.items s.taken.items s.engine.given.items s.from s.seen (g.B.Board.nodes c.args.board.now) (g.B.Board.log c.args.board.now) c.requires.running.4 c.requires.running.1 c.in_ok-near.near c.in_ok-near.hints.items
     c.in_ok-near.ensures.good.stands
 
 pub put-requires-clause-valid : goal.put-requires-clause-valid
@@ -19,5 +19,5 @@ put-requires-clause-valid g c =
     let s = c.args.self.now in
     subst (λ (d : List Literal). IsStep (g.B.Board.nodes c.args.board.now) (state_of (g.B.Board.nodes c.args.board.now) (g.B.Board.log c.args.board.now)) (step.Chain d c.from_vec.result)) (sym c.in_ok-clause.ensures)
     (subst (λ (h : List ClauseId). IsStep (g.B.Board.nodes c.args.board.now) (state_of (g.B.Board.nodes c.args.board.now) (g.B.Board.log c.args.board.now)) (step.Chain (global_clause s.names c.in_ok-near.near) h)) (sym c.from_vec.ensures)
-    (learnt_step s.names s.bound s.watches (variables_in s) s.opening.items s.taken.items s.given.items s.from s.seen (g.B.Board.nodes c.args.board.now) (g.B.Board.log c.args.board.now) c.requires.running.4 c.requires.running.1 c.in_ok-near.near c.in_ok-near.hints.items
+    (learnt_step s.names s.bound s.engine.watches (variables_in s) s.opening.items s.taken.items s.engine.given.items s.from s.seen (g.B.Board.nodes c.args.board.now) (g.B.Board.log c.args.board.now) c.requires.running.4 c.requires.running.1 c.in_ok-near.near c.in_ok-near.hints.items
     c.in_ok-near.ensures.good.stands c.in_ok-near.ensures.chain))

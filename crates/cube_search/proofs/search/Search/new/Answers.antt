@@ -6,7 +6,8 @@ use Rattle.cnf_base.specs.Assignments.{AreBelow}
 use Rattle.proof_log.specs.Logs.{state_of}
 use Rattle.cdcl_core.specs.Search.{clause_of}
 use Rattle.cube_search.specs.Holding.{IsHolding}
-use Rattle.cube_search.specs.Numbers.{global_look, HoldsNumbers}
+use Rattle.cube_search.specs.Numbers.{global_look, variables_of, HoldsNumbers}
+use Rattle.cdcl_core.specs.declared.watches.Watches.{Watches}
 use Rattle.cube_search.proofs.Filling.{placed_start}
 use Rattle.cube_search.proofs.Naming.{variables_all}
 use Rattle.cube_search.proofs.search.Search.new.Goals as goal
@@ -25,12 +26,16 @@ positions-preserved g c = record {
 pub returns-clause-search : goal.returns-clause-search
 returns-clause-search g c =
     let names = c.positions.names in
+    let e = c.in_ok-engine.engine in
     let look = global_look c.positions.names (clause_of c.positions.watches) in
-    let rows = (state_of (g.B.Board.nodes c.args.board.now) (g.B.Board.log c.args.board.now)).clauses in (
-      c.positions.invariant.trail,
+    let rows = (state_of (g.B.Board.nodes c.args.board.now) (g.B.Board.log c.args.board.now)).clauses in
+    let holding : IsHolding look rows (variables_of names c.len-bound.result) c.positions.opening.items c.new-3.result.items =
+    subst (λ (vs : List ℕ). IsHolding look rows vs c.positions.opening.items c.new-3.result.items) (sym (variables_all names c.len-bound.result c.len-bound.ensures.len))
+    (subst (λ (ls : List ℕ). IsHolding look rows (drop 1 c.positions.names) c.positions.opening.items ls) (sym c.new-3.ensures.items) c.positions.invariant.holding) in
+    let numbers : HoldsNumbers c.len-bound.result c.positions.watches = subst (λ (n : ℕ). HoldsNumbers n c.positions.watches) (sym c.len-bound.ensures.len) c.positions.invariant.numbers in (
+      rw (c.in_ok-engine.ensures.watches, c.in_ok-engine.ensures.trail) c.positions.invariant.trail,
       record {
-        holding = subst (λ (vs : List ℕ). IsHolding look rows vs c.positions.opening.items c.new-3.result.items) (sym (variables_all names c.len-bound.result c.len-bound.ensures.len))
-            (subst (λ (ls : List ℕ). IsHolding look rows (drop 1 c.positions.names) c.positions.opening.items ls) (sym c.new-3.ensures.items) c.positions.invariant.holding);
+        holding = subst (λ (w : Watches). IsHolding (global_look names (clause_of w)) rows (variables_of names c.len-bound.result) c.positions.opening.items c.new-3.result.items) (sym c.in_ok-engine.ensures.watches) holding;
         placed = placed_start (g.B.Board.log c.args.board.now) c.positions.opening.items c.new-3.result.items c.args.positions.now c.args.from c.new-3.ensures.items
             (c.positions.invariant.opening ∙ take_all c.positions.pos-index c.args.positions.now c.positions-test.false) c.requires.below c.requires.from;
         listed = c.requires.listed;
@@ -40,7 +45,7 @@ returns-clause-search g c =
         numbers = c.positions.invariant.names;
         within = omega (arith, c.len-bound.ensures.len);
         few = c.len-bound.ensures.bound;
-        clauses = subst (λ (n : ℕ). HoldsNumbers n c.positions.watches) (sym c.len-bound.ensures.len) c.positions.invariant.numbers;
-        literals = subst (λ (ls : List Literal). AreBelow (length c.positions.names) ls) (sym c.new-4.ensures.items) tt;
+        clauses = subst (HoldsNumbers c.len-bound.result) (sym c.in_ok-engine.ensures.watches) numbers;
+        literals = subst (λ (ls : List Literal). AreBelow (length c.positions.names) ls) (sym c.in_ok-engine.ensures.given) tt;
       },
     )

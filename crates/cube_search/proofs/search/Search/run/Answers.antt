@@ -2,7 +2,7 @@ use Rattle.std.proofs.Common.{◌∙◌, ap}
 use Rattle.std.proofs.lemmas.Bool.{MatchBool-at_false}
 use Rattle.std.proofs.lemmas.Option.{MatchOption-at_some}
 use Rattle.proof_log.proofs.Growth.{later_then}
-use Rattle.cube_search.proofs.Assuming.{none_of}
+use Rattle.cdcl_loop.proofs.Assuming.{none_of}
 use Rattle.cube_search.proofs.Steps.{same_given, run_end}
 use Rattle.cube_search.proofs.search.Search.run.Goals as goal
 

@@ -22,8 +22,8 @@ returns-clause-running g c =
     let t = c.admit.new.self in
     took_running s t (g.B.Board.nodes c.args.board.now) (g.B.Board.log c.args.board.now) c.args.at c.in-Some-clause.clause.now c.requires.running c.requires.own (c.if-not-is_chain.ensures.shown refl) c.in-Some-clause.ensures
     (ap (λ (x : Search). x.names) c.admit.ensures.same) (ap (λ (x : Search). x.bound) c.admit.ensures.same) (ap (λ (x : Search). x.opening.items) c.admit.ensures.same) (ap (λ (x : Search). x.taken.items) c.admit.ensures.same ∙ c.in_ok-push.ensures.items)
-    (ap (λ (x : Search). x.from) c.admit.ensures.same) (ap (λ (x : Search). x.seen) c.admit.ensures.same) (ap (λ (x : Search). x.given.items) c.admit.ensures.same)
-    c.admit.result c.admit.ensures.trail c.admit.ensures.course c.admit.ensures.numbered c.admit.ensures.admitted
+    (ap (λ (x : Search). x.from) c.admit.ensures.same) (ap (λ (x : Search). x.seen) c.admit.ensures.same) (ap (λ v. v.items) c.admit.ensures.given)
+    c.admit.result c.admit.ensures.engine c.admit.ensures.course c.admit.ensures.numbered c.admit.ensures.admitted
 
 pub returns-clause-writing : goal.returns-clause-writing
 returns-clause-writing g c =
@@ -31,7 +31,7 @@ returns-clause-writing g c =
     let t = c.admit.new.self in
     took_writing s t (g.B.Board.nodes c.args.board.now) (g.B.Board.log c.args.board.now) c.args.at c.in-Some-clause.clause.now c.requires.running c.requires.own (c.if-not-is_chain.ensures.shown refl) c.in-Some-clause.ensures
     (ap (λ (x : Search). x.names) c.admit.ensures.same) (ap (λ (x : Search). x.bound) c.admit.ensures.same) (ap (λ (x : Search). x.opening.items) c.admit.ensures.same) (ap (λ (x : Search). x.taken.items) c.admit.ensures.same ∙ c.in_ok-push.ensures.items)
-    (ap (λ (x : Search). x.from) c.admit.ensures.same) (ap (λ (x : Search). x.seen) c.admit.ensures.same) (ap (λ (x : Search). x.given.items) c.admit.ensures.same)
+    (ap (λ (x : Search). x.from) c.admit.ensures.same) (ap (λ (x : Search). x.seen) c.admit.ensures.same) (ap (λ v. v.items) c.admit.ensures.given)
     c.admit.result c.admit.ensures.admitted
     (subst (λ (k : Keeper). IsTaken s.diary k c.args.at) (sym (ap (λ (x : Search). x.diary) c.admit.ensures.same))
     (record { lines = c.in_ok-take.ensures.lines; start = c.in_ok-take.ensures.start; puts = c.in_ok-take.ensures.puts; chains = c.in_ok-take.ensures.chains; left = c.in_ok-take.ensures.left }))

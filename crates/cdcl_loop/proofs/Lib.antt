@@ -1,0 +1,5 @@
+pub mod Courses
+pub mod Trails
+pub mod Values
+pub mod Assuming
+pub mod Reasons

@@ -1,0 +1,31 @@
+use Rattle.std.proofs.Common.{◌≡◌, ◌<◌, ap, ◌∙◌, subst, arith}
+use Rattle.cdcl_core.specs.Levels.{RestsBy}
+use Rattle.cdcl_core.specs.Search.{literals_of, level_of, clause_of}
+use Rattle.cdcl_learn.proofs.Orders.{rests_after}
+use Rattle.cdcl_loop.specs.declared.engine.Engine.{Engine}
+use Rattle.cdcl_loop.proofs.Courses.{course_came}
+use Rattle.cdcl_loop.proofs.Trails.{trail_added}
+use Rattle.cdcl_loop.proofs.engine.Engine.admit.Goals as goal
+
+pub add-requires-clause-rests : goal.add-requires-clause-rests
+add-requires-clause-rests c = λ j h.
+    let low : j < c.level_for-level.result = omega (arith, h, c.go_back.ensures.level) in
+    rw c.go_back.ensures.literals (rests_after (literals_of c.args.self.now.trail) c.level_for-level.result j c.args.clause (omega (arith, low)) (c.level_for-level.ensures.rests j low))
+
+pub returns-clause-engine : goal.returns-clause-engine
+returns-clause-engine c =
+    trail_added c.go_back.new.self.watches c.add.new.self c.go_back.new.self.trail c.add.new.trail (record { pos = c.args.at; part = 0 }) c.args.clause
+    c.go_back.ensures.engine c.in_ok-add.ensures.settled c.in_ok-add.ensures.literals
+
+pub returns-clause-course : goal.returns-clause-course
+returns-clause-course c = λ h.
+    course_came (literals_of c.go_back.new.self.trail) (literals_of c.add.new.trail) (level_of c.go_back.new.self.trail) (level_of c.add.new.trail) c.go_back.new.self.base (record { pos = c.args.at; part = 0 }) c.args.clause c.go_back.new.self.given.items
+    c.in_ok-add.ensures.literals c.in_ok-add.ensures.level (c.go_back.ensures.course h)
+
+pub returns-clause-level : goal.returns-clause-level
+returns-clause-level c = λ lower rests.
+    let e : level_of c.add.new.trail ≡ c.level_for-level.result = c.in_ok-add.ensures.level ∙ c.go_back.ensures.level in
+    c.level_for-level.ensures.highest (omega (arith, lower, e)) (subst (λ j. RestsBy (literals_of c.args.self.now.trail) j c.args.clause) e rests)
+
+pub returns-clause-others : goal.returns-clause-others
+returns-clause-others c = λ q ne. c.add.ensures.others q ne ∙ ap (λ (e : Engine). clause_of e.watches q) c.go_back.ensures.same

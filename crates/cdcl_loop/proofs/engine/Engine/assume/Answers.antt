@@ -1,0 +1,43 @@
+use Rattle.std.proofs.Common.{length, get_or, refl, ap, ◌∙◌, arith}
+use Rattle.cdcl_core.specs.Search.{literals_of, level_of}
+use Rattle.cdcl_loop.proofs.Courses.{true_later}
+use Rattle.cdcl_loop.proofs.Assuming.{assumed_more, none_of}
+use Rattle.cdcl_loop.proofs.engine.Engine.assume.Goals as goal
+use Rattle.cnf_base.proofs.Lists.{Contains-nil}
+
+pub returns-then-self-level-clause-clash : goal.returns-then-self-level-clause-clash
+returns-then-self-level-clause-clash c = record {
+  propagated = c.requires.propagated;
+  rest = c.requires.rest;
+  all = λ l k. true_later (literals_of c.args.self.now.trail) c.args.self.now.base (level_of c.args.self.now.trail) l (omega (arith, c.requires.course.lower)) (c.requires.course.all (omega (arith, c.if-self-level.true, c.level.ensures)) l k);
+}
+
+pub literals-init : goal.literals-init
+literals-init c = record {
+  given = refl;
+  held = λ id. refl;
+  engine = c.requires.engine;
+  course = c.requires.course;
+  at_base = omega (arith, c.requires.course.lower, c.if-self-level.false, c.level.ensures);
+  assumed = record { propagated = c.requires.propagated; rest = c.requires.rest; all = λ l k. absurd (Contains-nil l k) };
+}
+
+pub literals-preserved : goal.literals-preserved
+literals-preserved c =
+    let s = c.args.self.now in
+    let b = c.literals.self in
+    let n = c.assume_one.new.self in
+    let given = ap (λ v. v.items) c.literals.invariant.given in
+    let done = none_of _ c.in_ok-clash.field-0 c.in_default.not-Some c.in_ok-clash.ensures.clash in
+    record {
+      given = c.assume_one.ensures.given ∙ c.literals.invariant.given;
+      held = λ id. c.assume_one.ensures.held id ∙ c.literals.invariant.held id;
+      engine = done.0.engine;
+      course = done.0.course;
+      at_base = done.0.at_base;
+      assumed = record {
+        propagated = done.1;
+        rest = done.2;
+        all = assumed_more b.watches b.trail n.trail n.watches s.given.items c.literals.i c.index-literal.result.now (omega (arith, ap length given, c.literals-test.true)) (c.index-literal.ensures ∙ ap (λ ls. get_or ls c.literals.i c.index-literal.result.now) given) c.literals.invariant.assumed done.0.kept done.0.made;
+      };
+    }

@@ -1,0 +1,48 @@
+-- An engine: its trail, the clauses that it holds, and its given literals.
+use Rattle.std.specs.Prelude.{◌≡◌, ◌<◌, ℕ, List, Some, Contains, IsSome, slice_get}
+use Rattle.cnf_base.specs.Literals.{Literal}
+use Rattle.cnf_base.specs.declared.clause.ClauseId.{ClauseId}
+use Rattle.cdcl_core.specs.declared.trail.Trail.{Trail}
+use Rattle.cdcl_core.specs.declared.watches.Watches.{Watches}
+use Rattle.cdcl_core.specs.Levels.{Row, IsTrueBy}
+use Rattle.cdcl_core.specs.Search.{literals_of, level_of, clause_of, IsAtRest}
+use Rattle.cdcl_core.specs.State.{IsSettled, IsPropagated}
+use Rattle.cdcl_learn.specs.Rows.{AreDecidedFirst}
+use Rattle.cdcl_loop.specs.declared.engine.Engine.{Engine}
+use Rattle.cdcl_loop.specs.Courses.{AreRaised, IsCourse}
+
+-- the trail and the clauses between two calls
+pub record IsTrailOf (w : Watches) (t : Trail) : Type 0 where
+  pub settled : IsSettled w t
+  pub decided : AreDecidedFirst (literals_of t)
+  pub raised : AreRaised (literals_of t)
+
+abbrev pub IsEngine : Engine → Type 0
+IsEngine e = IsTrailOf e.watches e.trail
+
+-- it decides its given literals first
+abbrev pub IsOnCourse : Engine → Type 0
+IsOnCourse e = IsCourse (literals_of e.trail) (level_of e.trail) e.base e.given.items
+
+-- the clause of this name forced a literal of these
+abbrev pub IsReason : List Row → ClauseId → Type 0
+IsReason rows id = (i : ℕ) × (l : Literal) × (level : ℕ) × (slice_get rows i ≡ Some (l, level, Some id))
+
+-- the clause of this name is held, and forced no literal of the trail
+pub record IsIdle (e : Engine) (id : ClauseId) : Type 0 where
+  pub held : IsSome (clause_of e.watches id)
+  pub free : IsReason (literals_of e.trail) id → ⊥
+
+-- unit propagation has come to rest, and each given literal is true
+pub record IsAssumed (w : Watches) (t : Trail) (given : List Literal) : Type 0 where
+  pub propagated : IsPropagated w t
+  pub rest : IsAtRest w t
+  pub all : (l : Literal) → Contains given l → IsTrueBy (literals_of t) (level_of t) l
+
+-- a given literal is true, at the base level, and what was true is
+pub record IsAssuming (old new : Engine) (l : Literal) : Type 0 where
+  pub engine : IsEngine new
+  pub course : IsOnCourse new
+  pub at_base : new.base ≡ level_of new.trail
+  pub made : IsTrueBy (literals_of new.trail) (level_of new.trail) l
+  pub kept : (m : Literal) → IsTrueBy (literals_of old.trail) (level_of old.trail) m → IsTrueBy (literals_of new.trail) (level_of new.trail) m

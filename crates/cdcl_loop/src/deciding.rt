@@ -1,0 +1,139 @@
+//! What an engine decides: the given literals first, and then variables of the clauses.
+
+ghost use Rattle.std.specs.Prelude.{ℕ, ◌≡◌, ◌<◌, ◌^◌, false, Contains, IfOk, OnOk, MatchOption};
+ghost use Rattle.cnf_base.specs.declared.clause.ClauseId.{ClauseId};
+ghost use Rattle.cdcl_core.specs.Levels.{IsOpen};
+ghost use Rattle.cdcl_core.specs.Search.{literals_of, level_of, clause_of, IsAtRest};
+ghost use Rattle.cdcl_core.specs.State.{IsPropagated, IsConsistent};
+ghost use Rattle.cdcl_learn.specs.Puts.{IsClash, AreGiven};
+ghost use Rattle.cdcl_loop.specs.Courses.{AreValued};
+ghost use Rattle.cdcl_loop.specs.Engines.{IsEngine, IsOnCourse, IsAssuming, IsAssumed};
+
+use crate::choices::Choices;
+use crate::engine::Engine;
+use cdcl_core::Trail;
+use cdcl_learn::Clash;
+use cnf_base::Lit;
+use std::alloc::AllocError;
+
+// An open literal of one of the variables below the bound.
+fn first_open(trail: &Trail, bound: u64) -> Option<Lit>
+    requires consistent { IsConsistent trail.now }
+    requires few { bound < 2 ^ 63 }
+    ensures { MatchOption result (AreValued bound (literals_of trail.now) (level_of trail.now)) (IsOpen (literals_of trail.now) (level_of trail.now)) }
+{
+    'numbers: for variable in 1..bound {
+        let literal = Lit::new(variable, false);
+        let Some(_) = trail.value(literal) else {
+            return Some(literal);
+        };
+    }
+    None
+}
+
+// An open literal of one of the variables below the bound.
+fn open_literal(choices: &mut Choices, trail: &Trail, bound: u64) -> Option<Lit>
+    requires consistent { IsConsistent trail.now }
+    requires few { bound < 2 ^ 63 }
+    ensures { MatchOption result (AreValued bound (literals_of trail.now) (level_of trail.now)) (IsOpen (literals_of trail.now) (level_of trail.now)) }
+{
+    match choices.pick(trail, bound) {
+        Some(literal) => Some(literal),
+        None => first_open(trail, bound),
+    }
+}
+
+impl Engine {
+    // Decides a given literal that is open; gives the held clause that is false then.
+    fn assume_open(&mut self, literal: Lit) -> Result<Option<Clash>, AllocError>
+        requires engine { IsEngine self.old }
+        requires propagated { IsPropagated self.old.watches self.old.trail }
+        requires course { IsOnCourse self.old }
+        requires at_base { self.old.base ≡ level_of self.old.trail }
+        requires given { Contains self.old.given.items literal }
+        requires unset { IsOpen (literals_of self.old.trail) (level_of self.old.trail) literal }
+        ensures given { self.new.given ≡ self.old.given }
+        ensures held { (id : ClauseId) → clause_of self.new.watches id ≡ clause_of self.old.watches id }
+        ensures assuming { OnOk result (IsAssuming self.old self.new literal) }
+        ensures clash { IfOk result (λ o. MatchOption o (IsPropagated self.new.watches self.new.trail × IsAtRest self.new.watches self.new.trail)
+            (λ clash. IsClash self.new.watches self.new.trail clash × AreGiven self.old.given.items (literals_of self.new.trail) clash)) }
+    {
+        self.watches
+            .reserve(&mut self.trail, literal.variable() + 1)?;
+        self.watches.decide(&mut self.trail, literal);
+        self.base = self.trail.level();
+        let conflict = self.watches.propagate(&mut self.trail);
+        self.choices.see(self.trail.literals());
+        match conflict {
+            Some(id) => Ok(Some(Clash::Held(id))),
+            None => Ok(None),
+        }
+    }
+
+    // Makes a given literal true; gives what contradicts it.
+    fn assume_one(&mut self, literal: Lit) -> Result<Option<Clash>, AllocError>
+        requires engine { IsEngine self.old }
+        requires propagated { IsPropagated self.old.watches self.old.trail }
+        requires rest { IsAtRest self.old.watches self.old.trail }
+        requires course { IsOnCourse self.old }
+        requires at_base { self.old.base ≡ level_of self.old.trail }
+        requires given { Contains self.old.given.items literal }
+        ensures given { self.new.given ≡ self.old.given }
+        ensures held { (id : ClauseId) → clause_of self.new.watches id ≡ clause_of self.old.watches id }
+        ensures clash { IfOk result (λ o. MatchOption o
+            (IsAssuming self.old self.new literal × IsPropagated self.new.watches self.new.trail × IsAtRest self.new.watches self.new.trail)
+            (λ clash. IsEngine self.new × IsOnCourse self.new × IsClash self.new.watches self.new.trail clash × AreGiven self.old.given.items (literals_of self.new.trail) clash)) }
+    {
+        match self.trail.value(literal) {
+            Some(true) => Ok(None),
+            Some(false) => Ok(Some(Clash::Given(literal))),
+            None => self.assume_open(literal),
+        }
+    }
+
+    /// Decides the given literals that are open, in order; gives what contradicts them.
+    pub fn assume(&mut self) -> Result<Option<Clash>, AllocError>
+        requires engine { IsEngine self.old }
+        requires propagated { IsPropagated self.old.watches self.old.trail }
+        requires rest { IsAtRest self.old.watches self.old.trail }
+        requires course { IsOnCourse self.old }
+        ensures given { self.new.given ≡ self.old.given }
+        ensures held { (id : ClauseId) → clause_of self.new.watches id ≡ clause_of self.old.watches id }
+        ensures engine { OnOk result (IsEngine self.new) }
+        ensures course { OnOk result (IsOnCourse self.new) }
+        ensures clash { IfOk result (λ o. MatchOption o (IsAssumed self.new.watches self.new.trail self.old.given.items)
+            (λ clash. IsClash self.new.watches self.new.trail clash × AreGiven self.old.given.items (literals_of self.new.trail) clash)) }
+    {
+        if self.base < self.trail.level() {
+            return Ok(None);
+        }
+        'literals: for i in 0..self.given.len() {
+            let literal = self.given[i];
+            if let Some(clash) = self.assume_one(literal)? {
+                return Ok(Some(clash));
+            }
+        }
+        Ok(None)
+    }
+
+    /// Decides one of the variables from 1 on below the bound; false where each has a value.
+    pub fn decide(&mut self, bound: u64) -> Result<bool, AllocError>
+        requires engine { IsEngine self.old }
+        requires assumed { IsAssumed self.old.watches self.old.trail self.old.given.items }
+        requires course { IsOnCourse self.old }
+        requires few { bound < 2 ^ 63 }
+        ensures given { self.new.given ≡ self.old.given }
+        ensures held { (id : ClauseId) → clause_of self.new.watches id ≡ clause_of self.old.watches id }
+        ensures engine { OnOk result (IsEngine self.new) }
+        ensures course { OnOk result (IsOnCourse self.new) }
+        ensures none { IfOk result (λ more. more ≡ false → (self.new.watches ≡ self.old.watches) × (self.new.trail ≡ self.old.trail) × AreValued bound (literals_of self.old.trail) (level_of self.old.trail)) }
+    {
+        let Some(literal) = open_literal(&mut self.choices, &self.trail, bound) else {
+            return Ok(false);
+        };
+        self.watches
+            .reserve(&mut self.trail, literal.variable() + 1)?;
+        self.watches.decide(&mut self.trail, literal);
+        Ok(true)
+    }
+}

@@ -1,0 +1,20 @@
+//! The loop of a search by conflict-driven clause learning: an engine holds clauses over a trail, decides, propagates, learns from
+//! conflicts, goes back, restarts, and drops clauses that it learnt.
+//!
+//! It searches under given literals, which it decides first, each at a level of its own up to the base level (N. Eén and N. Sörensson,
+//! "Temporal induction by incremental SAT solving", 2003). The contracts say which clauses are held, how the trail moves, and which
+//! literals are decided, so that a caller knows of each conflict whether it refutes the given literals, and of the end of the
+//! decisions that each variable has a value. Nothing is promised of the choices: which variable is decided, when the search
+//! restarts, and which clauses are the worse half.
+//!
+//! It knows of clauses only their names. What a clause is worth outside, as a line of a proof, is its caller's. It stands on
+//! `cdcl_core` for the trail and the watches, on `cdcl_learn` for what is learnt, and on `search_heuristics` for the choices.
+#![tactic(auto)]
+
+mod choices;
+mod deciding;
+mod engine;
+mod learning;
+mod model;
+
+pub use engine::Engine;
