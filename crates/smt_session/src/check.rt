@@ -50,14 +50,19 @@ pub(crate) fn verdict_of(shown: &Record) -> Verdict
 }
 
 /// The cubes of a check: those of the variables by which the limits split it.
-fn split(alloc: Global, state: &State, log: &Log, limits: Limits) -> Result<Tree, AllocError>
+fn split(
+    alloc: Global,
+    state: &State,
+    log: &Log,
+    limits: Limits,
+    reached: &mut Reached,
+) -> Result<Tree, AllocError>
     requires limits { AreLimits (limits_of limits) }
     requires stands { Stands state.now.terms.nodes log.now }
     ensures variables { IfOk result (λ t. t ≡ cube_variables (limits_of limits) state.now state.now.terms.nodes log.now.entries) }
     ensures rise { IfOk result (λ t. Rise 2 log.now.next t) }
 {
-    let mut reached = Reached::new(alloc);
-    let variables = cube_variables(alloc, state, log, limits, &mut reached)?;
+    let variables = cube_variables(alloc, state, log, limits, reached)?;
     Tree::split(alloc, variables.as_slice(), limits.cubes)
 }
 
@@ -69,6 +74,7 @@ fn split_and_reuse(
     names: &mut LocalNames,
     positions: &mut Vec<Pos>,
     limits: Limits,
+    reached: &mut Reached,
 ) -> Result<Tree, AllocError>
     requires limits { AreLimits (limits_of limits) }
     requires stands { Stands state.now.terms.nodes log.now }
@@ -78,7 +84,7 @@ fn split_and_reuse(
     ensures within { IfOk result (λ _. (p : ℕ) → Contains positions.new.items p → Contains positions.old.items p ⊎ (p < suc (length log.now.entries))) }
 {
     add_learnt(alloc, log, names, positions)?;
-    split(alloc, state, log, limits)
+    split(alloc, state, log, limits, reached)
 }
 
 /// Searches the cubes of a check under the selectors of the live assertions and the bits of the assumptions, over these steps
@@ -105,6 +111,7 @@ fn conclude(
         &mut workspace.names,
         &mut positions,
         limits,
+        &mut workspace.reached,
     )?;
     let found = solve(
         alloc,
