@@ -9,7 +9,7 @@
 //! puts, and what its contract speaks of, is under the variables.
 //!
 //! The contract says for each of these ends what caused it. Nothing is promised of the choices: which variable is decided, when the
-//! search restarts, and which clauses it drops. It stands on `cdcl_core` and `cdcl_learn` for the search, on `local_names` for the
+//! search restarts, and which clauses it drops. It stands on `cdcl_loop` for the search, on `local_names` for the
 //! numbers, and on `proof_log` for boards and diaries.
 #![tactic(auto)]
 
