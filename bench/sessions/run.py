@@ -10,37 +10,31 @@ The exponent is that of the seconds between half of a size and the whole. The la
 import argparse
 import collections
 import math
-import os
 import pathlib
-import resource
 import shutil
 import subprocess
 import sys
 import tempfile
 import time
 
-import make
+HERE = pathlib.Path(__file__).resolve().parent
+sys.path.insert(0, str(HERE.parent))
+import make  # noqa: E402
+from measuring import run  # noqa: E402
 
-PROGRAM = pathlib.Path(__file__).resolve().parents[2] / "crates/smt_tool/out/smt_tool"
+PROGRAM = HERE.parents[1] / "crates/smt_tool/out/smt_tool"
 OTHERS = {"z3": ["z3"], "cvc5": ["cvc5", "--incremental"]}
-VERDICTS = (b"sat", b"unsat", b"unknown")
+VERDICTS = ("sat", "unsat", "unknown")
 
 # Verdicts (None where there are not all), processor seconds, and megabytes at most.
 Measured = collections.namedtuple("Measured", "verdicts seconds megabytes")
 
 
-def run(command, limit, folder):
-    """`time` is between, since the memory that is told of a child is at least that of the process that it was split from."""
-    measures, output = folder / "measures", folder / "output"
-    with open(output, "wb") as out:
-        child = subprocess.Popen(
-            ["/usr/bin/time", "-q", "-f", "%M", "-o", measures, *command], stdin=subprocess.DEVNULL, stdout=out, stderr=subprocess.DEVNULL,
-            preexec_fn=lambda: resource.setrlimit(resource.RLIMIT_CPU, (limit, limit)))
-        _, waited, used = os.wait4(child.pid, 0)
-    seconds = used.ru_utime + used.ru_stime
-    ended = os.waitstatus_to_exitcode(waited) == 0 and seconds < 0.98 * limit
-    verdicts = [line for line in output.read_bytes().split(b"\n") if line in VERDICTS] if ended else None
-    return Measured(verdicts, seconds if ended else limit, int(measures.read_text().split()[-1]) / 1024)
+def measured(command, limit, folder):
+    text, status, seconds, megabytes = run(command, limit, folder)
+    ended = status == 0 and seconds < 0.98 * limit
+    verdicts = [line for line in text.split("\n") if line in VERDICTS] if ended else None
+    return Measured(verdicts, seconds if ended else limit, megabytes)
 
 
 class Bench:
@@ -54,14 +48,14 @@ class Bench:
         script = self.folder / "script.smt2"
         script.write_text(make.script(family, self.options.seed, share))
         budget = ["--budget", "1000000000"]
-        ours = run([self.options.program, "solve", str(self.proof), str(script), *budget], self.options.limit, self.folder)
+        ours = measured([self.options.program, "solve", str(self.proof), str(script), *budget], self.options.limit, self.folder)
         return script, ours
 
     def row(self, family):
         _, half = self.solved(family, self.options.share / 2)
         script, ours = self.solved(family, self.options.share)
-        check = run([self.options.program, "check", str(self.proof), str(script)], self.options.limit, self.folder)
-        others = {name: run([*command, str(script)], self.options.limit, self.folder) for name, command in self.others.items()}
+        check = measured([self.options.program, "check", str(self.proof), str(script)], self.options.limit, self.folder)
+        others = {name: measured([*command, str(script)], self.options.limit, self.folder) for name, command in self.others.items()}
         told = [one.verdicts for one in [ours, check, *others.values()] if one.verdicts is not None]
         if any(verdicts != told[0] for verdicts in told):
             self.wrong += 1
@@ -84,7 +78,7 @@ def dialogue(command, text):
         child.stdin.write(part.encode() + b"(check-sat)\n")
         child.stdin.flush()
         began = time.perf_counter()
-        assert child.stdout.readline().strip() in VERDICTS
+        assert child.stdout.readline().decode().strip() in VERDICTS
         waits.append(time.perf_counter() - began)
     child.kill()
     child.wait()

@@ -15,15 +15,16 @@ import math
 import os
 import pathlib
 import platform
-import resource
 import shutil
 import subprocess
 import sys
 import tempfile
 
-import make
-
 HERE = pathlib.Path(__file__).resolve().parent
+sys.path.insert(0, str(HERE.parent))
+import make  # noqa: E402
+from measuring import run  # noqa: E402
+
 PROGRAM = HERE.parents[1] / "crates/smt_tool/out/smt_tool"
 OTHERS = {"z3": ["z3"], "cvc5": ["cvc5", "--incremental"]}
 VERDICTS = ("sat", "unsat", "unknown")
@@ -32,19 +33,6 @@ VERDICTS = ("sat", "unsat", "unknown")
 Measured = collections.namedtuple("Measured", "seconds megabytes fault")
 # One script: how each solver did, how the check did, and the bytes of script and proof.
 Row = collections.namedtuple("Row", "family name checks solvers checking script_bytes proof_bytes")
-
-
-def run(command, limit, folder):
-    """The output, the status, the processor seconds, and the megabytes at most of one run. `time` is between, since the
-    memory that is told of a child is at least that of the process that it was split from."""
-    measures, output = folder / "measures", folder / "output"
-    with open(output, "wb") as out:
-        child = subprocess.Popen(
-            ["/usr/bin/time", "-q", "-f", "%M", "-o", measures, *command], stdin=subprocess.DEVNULL, stdout=out, stderr=subprocess.DEVNULL,
-            preexec_fn=lambda: resource.setrlimit(resource.RLIMIT_CPU, (limit, limit)))
-        _, waited, used = os.wait4(child.pid, 0)
-    kilobytes = int(measures.read_text().split()[-1])
-    return output.read_text(), os.waitstatus_to_exitcode(waited), used.ru_utime + used.ru_stime, kilobytes / 1024
 
 
 def measured(command, limit, folder, wanted):
