@@ -31,7 +31,7 @@ import run as rows_of_answers
 
 NAME = r"[A-Za-z_][A-Za-z0-9_']*"
 # Names of the toolchain and other programs, and of what is to come; and files that a build or a run makes.
-NOT_OURS = set("rt try rattle kit z3 equals Define PutLemma".split())
+NOT_OURS = set("rt ci try rattle kit z3 equals Define PutLemma".split())
 MADE = set("lib.rt main.rt proof.txt crates/smt_tool/out".split())
 # Words that are no options of the program, of which the documents say so.
 REFUSED = ["help", "version"]
