@@ -32,9 +32,12 @@ import run as rows_of_answers
 NAME = r"[A-Za-z_][A-Za-z0-9_']*"
 # Names of the toolchain and other programs, and of what is to come; and files that a build or a run makes.
 NOT_OURS = set("rt ci try rattle kit z3 equals Define PutLemma".split())
-MADE = set("lib.rt main.rt proof.txt crates/smt_tool/out".split())
-# Words that are no options of the program, of which the documents say so.
-REFUSED = ["help", "version"]
+# Names of clients, and what they call things.
+NOT_OURS |= set("yosys rumur boolector ext_rotate_left ext_rotate_right inNewScope getExpr SInt SInteger SReal".split())
+NOT_OURS |= set("proveWith satWith allSatWith runSMTWith settings".split())
+MADE = set("lib.rt main.rt proof.txt question.smt2 crates/smt_tool/out crates/smt_tool/out/smt_tool".split())
+# Words that are no options of the program, of which the documents say so, or are those of the bridge and of clients.
+REFUSED = ["help", "version", "keep", "smt"]
 
 
 def crates_txt():
