@@ -4,7 +4,8 @@ ghost use Rattle.cdcl_core.specs.State.{IsSettled};
 
 use crate::{Trail, Watches};
 use cnf_base::{Clause, ClauseId, Lit};
-use std::alloc::AllocError;
+use std::alloc::{AllocError, Global};
+use std::process::Abort;
 use std::test::Fail;
 
 const fn name(pos: u64) -> ClauseId {
@@ -133,4 +134,67 @@ fn a_dropped_clause_is_gone(rt: HostRuntime) -> Result<(), Fail> {
     assert_eq!(rt; assume(&mut watches, &mut trail, yes(1)), None);
     assert_eq!(rt; trail.literals().len(), 2);
     Ok(())
+}
+
+// The clause of these variables, negated where they are negative.
+fn clause_of(alloc: Global, numbers: &[i64]) -> Result<Clause, AllocError> {
+    let mut literals = Vec::new(alloc);
+    for number in numbers {
+        let variable = number.unsigned_abs().clamp(1, 9);
+        literals.push(Lit::new(variable, *number > 0))?;
+    }
+    Ok(Clause::from_vec(literals))
+}
+
+// A clause, and the level at which it is to come where 9 is true at level 0 and 1, 2 and 3 were decided in turn.
+const LEVELS: [(&[i64], u64); 18] = [
+    // open
+    (&[4, 5], 3),
+    (&[-1, 4, -2, 5], 3),
+    // unit at the end of a level
+    (&[-1, 4], 1),
+    (&[4, -1, -2], 2),
+    (&[-3, 4, -1], 3),
+    // false at level 3: unit at the end of the second highest level of its literals
+    (&[-1, -2, -3], 2),
+    (&[-3, -1], 1),
+    (&[-3, -9], 0),
+    // true at the end of the level at which its other literals are false, or only later
+    (&[-2, 1], 3),
+    (&[-1, 9], 3),
+    (&[-1, 3], 1),
+    (&[2, -1], 1),
+    // of one literal
+    (&[4], 0),
+    (&[4, 4], 0),
+    (&[-2], 0),
+    (&[1], 0),
+    (&[9], 3),
+    // of none
+    (&[], 0),
+];
+
+// Each clause of the table is told its level.
+fn are_told(rt: &(impl Abort + AllocGlobal), watches: &Watches, trail: &Trail) -> Result<(), Fail>
+    requires { IsSettled watches.now trail.now }
+{
+    for (numbers, level) in &LEVELS {
+        let clause = clause_of(rt.alloc(), numbers)?;
+        let told = watches.level_for(trail, &clause);
+        drop(clause);
+        assert!(rt; told == *level, "{told} in place of {level}");
+    }
+    Ok(())
+}
+
+#[test]
+fn a_clause_comes_at_the_level_that_it_needs(rt: HostRuntime) -> Result<(), Fail> {
+    let mut trail = Trail::new(rt.alloc());
+    let mut watches = Watches::new(rt.alloc())?;
+    hold(&mut watches, &mut trail, 1, &[yes(9)])?;
+    watches.reserve(&mut trail, 10)?;
+    assert_eq!(rt; assume(&mut watches, &mut trail, yes(1)), None);
+    assert_eq!(rt; assume(&mut watches, &mut trail, yes(2)), None);
+    assert_eq!(rt; assume(&mut watches, &mut trail, yes(3)), None);
+    are_told(&rt, &watches, &trail)
 }

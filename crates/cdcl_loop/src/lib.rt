@@ -18,3 +18,8 @@ mod learning;
 mod model;
 
 pub use engine::Engine;
+
+#[cfg(test)]
+mod restart_tests;
+#[cfg(test)]
+mod tests;

@@ -1,165 +1,120 @@
-//! A search by conflict-driven clause learning over `cdcl_core` and `cdcl_learn`.
+//! A search by conflict-driven clause learning over `cdcl_loop`, whose chains are logged.
 
-ghost use Rattle.std.specs.Prelude.{ℕ, ◌≡◌, ◌≢◌, ◌+◌, ◌<◌, OnOk, Some, false, slice_get};
-ghost use Rattle.cnf_base.specs.Literals.{Literal};
-ghost use Rattle.cdcl_core.specs.Search.{literals_of, level_of, IsConflict};
-ghost use Rattle.cdcl_core.specs.State.{IsSettled};
-ghost use Rattle.cdcl_learn.specs.Rows.{AreDecidedFirst};
+ghost use Rattle.std.specs.Prelude.{◌≡◌, ◌+◌, ◌<◌, ◌^◌, [], None, IfOk, OnOk, IfSome};
+ghost use Rattle.cnf_base.specs.declared.clause.ClauseId.{ClauseId};
+ghost use Rattle.cdcl_core.specs.Search.{level_of, clause_of, IsConflict};
+ghost use Rattle.cdcl_loop.specs.Engines.{IsEngine, IsOnCourse};
 ghost use Rattle.sat_bench.specs.Names.{AreFresh};
 
-use crate::choices::Choices;
 use crate::log::Log;
 use crate::search::{Answer, Counts};
-use cdcl_core::{Trail, Watches};
-use cdcl_learn::{Clash, final_clause, learn};
-use cnf_base::ClauseId;
-use std::alloc::{AllocError, Global};
+use cdcl_learn::Clash;
+use cdcl_loop::Engine;
+use cnf_base::{ClauseId, Pos};
+use std::alloc::AllocError;
 
 // Learns from a conflict above level 0, and goes back to where the clause is unit.
 fn learn_once(
-    alloc: Global,
-    watches: &mut Watches,
-    trail: &mut Trail,
-    choices: &mut Choices,
+    engine: &mut Engine,
     log: &mut Log,
     conflict: ClauseId,
-    pos: u64,
+    pos: Pos,
 ) -> Result<(), AllocError>
-    requires settled { IsSettled watches.old trail.old }
-    requires decided { AreDecidedFirst (literals_of trail.old) }
-    requires fresh { AreFresh watches.old pos }
-    requires conflict { IsConflict watches.old trail.old conflict }
-    requires above { 0 < level_of trail.old }
-    ensures settled { IsSettled watches.new trail.new }
-    ensures decided { OnOk result (AreDecidedFirst (literals_of trail.new)) }
-    ensures fresh { OnOk result (AreFresh watches.new (pos + 1)) }
+    requires engine { IsEngine engine.old }
+    requires fresh { AreFresh engine.old.watches pos }
+    requires conflict { IsConflict engine.old.watches engine.old.trail conflict }
+    requires above { 0 < level_of engine.old.trail }
+    ensures engine { OnOk result (IsEngine engine.new) }
+    ensures course { OnOk result (IsOnCourse engine.old → IsOnCourse engine.new) }
+    ensures given { OnOk result (engine.new.given ≡ engine.old.given) }
+    ensures fresh { OnOk result (AreFresh engine.new.watches (pos + 1)) }
 {
-    let (clause, hints, level) = learn(alloc, watches, trail, conflict)?;
-    let id = ClauseId { pos, part: 0 };
-    choices.weigh(trail.literals(), &clause, hints.as_slice(), id)?;
+    let (clause, hints, level) = engine.learn(conflict)?;
     log.learn(&clause, hints.as_slice())?;
-    choices.take_back(trail.literals(), level);
-    watches.backjump(trail, level);
-    watches.add(trail, id, clause)?;
+    engine.keep(clause, level, pos)?;
     Ok(())
 }
 
-// Whether the clause forces a literal of the trail.
-fn is_reason(trail: &Trail, id: ClauseId) -> bool
-    ensures { result ≡ false → (i : ℕ) (l : Literal) (level : ℕ) → slice_get (literals_of trail.now) i ≢ Some (record { 0 = l; 1 = level; 2 = Some id }) }
+// Drops clauses where it is time to: as in the program, right after each 2000 conflicts alone.
+fn clean(engine: &mut Engine, conflicts: u64) -> Result<(), AllocError>
+    requires { IsEngine engine.old }
+    ensures engine { OnOk result (IsEngine engine.new) }
+    ensures course { OnOk result (IsOnCourse engine.old → IsOnCourse engine.new) }
+    ensures given { OnOk result (engine.new.given ≡ engine.old.given) }
+    ensures fewer { OnOk result ((id : ClauseId) → clause_of engine.old.watches id ≡ None → clause_of engine.new.watches id ≡ None) }
 {
-    for row in trail.literals() {
-        if row.2 == Some(id) {
-            return true;
-        }
-    }
-    false
-}
-
-// Drops a clause that is held and forces no literal.
-fn drop_idle(watches: &mut Watches, trail: &Trail, id: ClauseId, pos: u64)
-    requires settled { IsSettled watches.old trail.now }
-    requires fresh { AreFresh watches.old pos }
-    ensures settled { IsSettled watches.new trail.now }
-    ensures fresh { AreFresh watches.new pos }
-{
-    if id.pos < pos && watches.clause(id).is_some() && !is_reason(trail, id) {
-        watches.drop_clause(trail, id);
-    }
-}
-
-// Drops those of the clauses that force no literal.
-fn drop_all(watches: &mut Watches, trail: &Trail, names: &[ClauseId], pos: u64)
-    requires settled { IsSettled watches.old trail.now }
-    requires fresh { AreFresh watches.old pos }
-    ensures settled { IsSettled watches.new trail.now }
-    ensures fresh { AreFresh watches.new pos }
-{
-    for name in names {
-        drop_idle(watches, trail, *name, pos);
-    }
-}
-
-// Takes back every decision where it is time to.
-fn restart(watches: &Watches, trail: &mut Trail, choices: &mut Choices)
-    requires settled { IsSettled watches.now trail.old }
-    requires decided { AreDecidedFirst (literals_of trail.old) }
-    ensures settled { IsSettled watches.now trail.new }
-    ensures decided { AreDecidedFirst (literals_of trail.new) }
-{
-    if !choices.restarts_now() {
-        return;
-    }
-    choices.take_back(trail.literals(), 0);
-    watches.backjump(trail, 0);
-}
-
-// Drops clauses where it is time to.
-fn clean(
-    watches: &mut Watches,
-    trail: &Trail,
-    choices: &mut Choices,
-    pos: u64,
-) -> Result<(), AllocError>
-    requires settled { IsSettled watches.old trail.now }
-    requires fresh { AreFresh watches.old pos }
-    ensures settled { IsSettled watches.new trail.now }
-    ensures fresh { AreFresh watches.new pos }
-{
-    if !choices.drops_now() {
+    if conflicts % 2_000 != 0 || !engine.drops_now() {
         return Ok(());
     }
-    let names = choices.worst()?;
-    drop_all(watches, trail, names.as_slice(), pos);
+    let worst = engine.worst()?;
+    'positions: for at in &worst {
+        engine.drop_idle(ClauseId { pos: *at, part: 0 });
+    }
     Ok(())
 }
 
-/// Searches until the answer is known. The clauses are named by positions below `first`, and the learnt ones from there on.
+// Propagates and decides until a held clause is false, or each variable from 1 on below the bound has a value.
+fn next_conflict(
+    engine: &mut Engine,
+    bound: u64,
+    counts: &mut Counts,
+) -> Result<Option<ClauseId>, AllocError>
+    requires engine { IsEngine engine.old }
+    requires course { IsOnCourse engine.old }
+    requires free { engine.old.given.items ≡ [] }
+    requires bound { bound < 2 ^ 63 }
+    ensures engine { OnOk result (IsEngine engine.new) }
+    ensures course { OnOk result (IsOnCourse engine.new) }
+    ensures given { OnOk result (engine.new.given ≡ engine.old.given) }
+    ensures held { OnOk result ((id : ClauseId) → clause_of engine.new.watches id ≡ clause_of engine.old.watches id) }
+    ensures conflict { IfOk result (λ o. IfSome o (IsConflict engine.new.watches engine.new.trail)) }
+{
+    let mut before = engine.trail().literals().len().saturating_sub(1);
+    'decisions: for _ in 0..u64::MAX {
+        let conflict = engine.propagate();
+        let now = engine.trail().literals().len();
+        counts.propagate(before as u64, now as u64);
+        if let Some(id) = conflict {
+            return Ok(Some(id));
+        }
+        if !engine.decide(bound)? {
+            return Ok(None);
+        }
+        counts.decisions = counts.decisions.wrapping_add(1);
+        before = now;
+    }
+    Err(AllocError)
+}
+
+/// Searches for values of the variables from 1 on below the bound until the answer is known. The clauses are named by positions below
+/// `first`, and the learnt ones from there on.
 pub fn solve(
-    alloc: Global,
-    watches: &mut Watches,
-    trail: &mut Trail,
-    choices: &mut Choices,
+    engine: &mut Engine,
     log: &mut Log,
-    first: u64,
+    bound: u64,
+    first: Pos,
 ) -> Result<(Answer, Counts), AllocError>
-    requires settled { IsSettled watches.old trail.old }
-    requires decided { AreDecidedFirst (literals_of trail.old) }
-    requires fresh { AreFresh watches.old first }
-    ensures settled { OnOk result (IsSettled watches.new trail.new) }
+    requires engine { IsEngine engine.old }
+    requires course { IsOnCourse engine.old }
+    requires free { engine.old.given.items ≡ [] }
+    requires bound { bound < 2 ^ 63 }
+    requires fresh { AreFresh engine.old.watches first }
+    ensures { OnOk result (IsEngine engine.new) }
 {
     let mut counts = Counts::new();
-    let mut pos = first;
-    let mut before = 0;
-    for _ in 0..u64::MAX {
-        let conflict = watches.propagate(trail);
-        counts.propagate(before, trail.literals().len() as u64);
-        choices.see(trail.literals());
-        match conflict {
-            Some(id) => {
-                counts.conflicts = counts.conflicts.wrapping_add(1);
-                if trail.level() == 0 {
-                    let (clause, hints) = final_clause(alloc, watches, trail, Clash::Held(id))?;
-                    log.learn(&clause, hints.as_slice())?;
-                    return Ok((Answer::Unsatisfiable, counts));
-                }
-                if pos == u64::MAX {
-                    return Ok((Answer::Unknown, counts));
-                }
-                learn_once(alloc, watches, trail, choices, log, id, pos)?;
-                pos += 1;
-                restart(watches, trail, choices);
-                clean(watches, trail, choices, pos)?;
-            }
-            None => {
-                let Some(literal) = choices.pick(trail) else {
-                    return Ok((Answer::Satisfiable, counts));
-                };
-                counts.decisions = counts.decisions.wrapping_add(1);
-                watches.decide(trail, literal);
-            }
+    'conflicts: for pos in first..u64::MAX {
+        let Some(id) = next_conflict(engine, bound, &mut counts)? else {
+            return Ok((Answer::Satisfiable, counts));
+        };
+        counts.conflicts = counts.conflicts.wrapping_add(1);
+        if engine.level() == engine.base() {
+            let (clause, hints) = engine.final_clause(Clash::Held(id))?;
+            log.learn(&clause, hints.as_slice())?;
+            return Ok((Answer::Unsatisfiable, counts));
         }
-        before = (trail.literals().len() as u64).wrapping_sub(1);
+        learn_once(engine, log, id, pos)?;
+        engine.restart();
+        clean(engine, counts.conflicts)?;
     }
     Ok((Answer::Unknown, counts))
 }

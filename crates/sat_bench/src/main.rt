@@ -5,23 +5,21 @@
 //! holds a clause, and with `--hold` after, so that the memory of the clauses can be told.
 //!
 //! Of the search it is proved that it is safe: each call's condition holds. The answers rest on the checks, and on the
-//! contracts of `cdcl_core`, `cdcl_learn` and `hint_chain`.
+//! contracts of `cdcl_loop`, which the solver of scripts uses too, and of `hint_chain`.
 #![tactic(auto)]
 
 mod cdcl;
-mod choices;
 mod dimacs;
 mod log;
 mod search;
 
-ghost use Rattle.std.specs.Prelude.{◌<◌, ◌^◌};
-ghost use Rattle.cdcl_core.specs.Search.{literals_of};
+ghost use Rattle.std.specs.Prelude.{◌≡◌, ◌<◌, ◌^◌, []};
 ghost use Rattle.cdcl_core.specs.State.{IsConsistent, IsSettled};
-ghost use Rattle.cdcl_learn.specs.Rows.{AreDecidedFirst};
+ghost use Rattle.cdcl_loop.specs.Engines.{IsEngine, IsOnCourse};
 ghost use Rattle.sat_bench.specs.Names.{AreFresh, HasRows};
 
 use cdcl_core::{Trail, Watches};
-use choices::Choices;
+use cdcl_loop::Engine;
 use dimacs::Number;
 use log::Log;
 use search::Answer;
@@ -98,21 +96,20 @@ fn is_verified(
 // Searches with learning, and prints what it counted or whether it verified.
 fn search_learning(
     rt: &HostRuntime,
-    watches: &mut Watches,
-    trail: &mut Trail,
+    engine: &mut Engine,
     log: &mut Log,
     first: u64,
     formula: &[Number],
     variables: u64,
     mode: Mode,
 ) -> io::Result<()>
-    requires settled { IsSettled watches.old trail.old }
-    requires decided { AreDecidedFirst (literals_of trail.old) }
-    requires fresh { AreFresh watches.old first }
+    requires engine { IsEngine engine.old }
+    requires course { IsOnCourse engine.old }
+    requires free { engine.old.given.items ≡ [] }
+    requires fresh { AreFresh engine.old.watches first }
     requires variables { variables < 2 ^ 32 }
 {
-    let mut choices = Choices::new(rt.alloc(), variables as usize + 1)?;
-    let (answer, counts) = cdcl::solve(rt.alloc(), watches, trail, &mut choices, log, first)?;
+    let (answer, counts) = cdcl::solve(engine, log, variables + 1, first)?;
     println!(rt; "{}", answer.text())?;
     if mode == Mode::Measure {
         return println!(rt;
@@ -123,7 +120,7 @@ fn search_learning(
             log.hints()
         );
     }
-    if is_verified(answer, trail, log, formula, variables + 1)? {
+    if is_verified(answer, engine.trail(), log, formula, variables + 1)? {
         println!(rt; "c verified")
     } else {
         println!(rt; "c not verified")
@@ -157,18 +154,10 @@ fn main(rt: HostRuntime) -> io::Result<()> {
     if mode == Mode::Hold {
         return Ok(());
     }
-    watches.reserve(&mut trail, variables + 1)?;
     if mode == Mode::Plain {
+        watches.reserve(&mut trail, variables + 1)?;
         return search_plainly(&rt, &mut watches, &mut trail, variables);
     }
-    search_learning(
-        &rt,
-        &mut watches,
-        &mut trail,
-        &mut log,
-        first,
-        formula,
-        variables,
-        mode,
-    )
+    let mut engine = Engine::new(rt.alloc(), watches, trail, variables + 1)?;
+    search_learning(&rt, &mut engine, &mut log, first, formula, variables, mode)
 }

@@ -6,7 +6,7 @@ ghost use Rattle.cnf_base.specs.Literals.{code_of};
 ghost use Rattle.cdcl_core.specs.Levels.{IsOpen};
 ghost use Rattle.cdcl_core.specs.Search.{literals_of, level_of, rows_of};
 ghost use Rattle.cdcl_core.specs.State.{IsSettled, IsConsistent};
-ghost use Rattle.cdcl_learn.specs.Rows.{AreDecidedFirst};
+ghost use Rattle.cdcl_loop.specs.Engines.{IsTrailOf};
 ghost use Rattle.sat_bench.specs.Names.{AreFresh, HasRows};
 
 use crate::dimacs::Number;
@@ -74,14 +74,11 @@ pub fn load(
     logs: bool,
     numbers: &[Number],
 ) -> Result<u64, AllocError>
-    requires settled { IsSettled watches.old trail.old }
+    requires trail { IsTrailOf watches.old trail.old }
     requires fresh { AreFresh watches.old 1 }
     requires level { level_of trail.old ≡ 0 }
-    requires decided { AreDecidedFirst (literals_of trail.old) }
-    ensures settled { IsSettled watches.new trail.new }
-    ensures rows { rows_of trail.old ≤ rows_of trail.new }
+    ensures trail { OnOk result (IsTrailOf watches.new trail.new) }
     ensures level { level_of trail.new ≡ 0 }
-    ensures decided { OnOk result (AreDecidedFirst (literals_of trail.new)) }
     ensures fresh { IfOk result (λ pos. AreFresh watches.new pos) }
 {
     let mut literals: Vec<Lit> = Vec::new(alloc);
