@@ -25,7 +25,7 @@ use Rattle.proof_text.specs.declared.record.Record.TheVariants as shown
 use Rattle.accepted_proof.specs.Judged as judged
 use Rattle.accepted_proof.specs.Judged.{Owed, Judging, no_judging, refused, noted, closed, Decides, Notes, subject_at}
 use Rattle.accepted_proof.specs.Searching as searching
-use Rattle.accepted_proof.specs.Searching.{AreLimits, subject_of}
+use Rattle.accepted_proof.specs.Searching.{AreLimits, IsSearch, given_literals, subject_of}
 use Rattle.check_cubes.specs.Searches.{only}
 use Rattle.diary_checker.specs.Readers.{HasRead}
 use Rattle.proof_log.specs.declared.diary.DiaryLine.{DiaryLine}
@@ -142,6 +142,14 @@ closed_with c v = record { judging = record { limits = c.judging.limits; state =
 abbrev pub IsOwedValues : Owed → Type 0
 IsOwedValues (judged.Values next left values) = Unit {0}
 IsOwedValues _ = ⊥
+
+-- the search of the cube may start at the position
+abbrev pub MaySearch : Judging → ℕ → ℕ → Type 0
+MaySearch j cube start = IsSearch j.limits j.state j.state.terms.nodes j.log cube start
+
+-- what it takes as true
+abbrev pub given_in : Judging → ℕ → List Literal
+given_in j cube = given_literals j.limits j.state j.state.terms.nodes j.log cube
 
 -- where lines of a diary are owed, those so far were read, over the log as it is
 abbrev pub IsNoted : searching.Limits → StateValue → List Entry → Due → Type 0
