@@ -3,11 +3,14 @@ use Rattle.std.specs.Prelude.{◌≡◌, ◌<◌, ◌==◌, ℕ, zero, suc, Bool
 use Rattle.smt_values.specs.declared.value.Value.{Value}
 use Rattle.cnf_base.specs.Literals.{Literal, negated, code_of}
 use Rattle.smt_terms.specs.Bits.{TermBits, bits_in}
+use Rattle.smt_terms.specs.Terms.{TermsValue}
 use Rattle.scope_selectors.specs.declared.live.Live.{Live}
 use Rattle.script_state.specs.declared.answer.Asked.{Asked}
 use Rattle.script_state.specs.declared.answer.Verdict.{Verdict}
 use Rattle.script_state.specs.Readings.{Reading}
 use Rattle.script_state.specs.States.{StateValue, concluded}
+use Rattle.proof_log.specs.Logs.{state_of}
+use Rattle.proof_log.specs.Faults.{IsValid, terms_after}
 use Rattle.proof_log.specs.Stored.{LogValue, Stands, selector_in}
 use Rattle.accepted_proof.specs.Turns.{with_step}
 use Rattle.smt_build.specs.declared.symbols.LiveName.{LiveName}
@@ -106,6 +109,11 @@ at_end c (Some r) = record { judging = record { limits = c.judging.limits; state
 abbrev pub IsChainOf : List WrittenLiteral → List WrittenHint → Entry → Type 0
 IsChainOf literals hints (step.Chain c names) = (map written_literal c ≡ literals) × (map written_hint names ≡ hints)
 IsChainOf literals hints _ = ⊥
+
+-- the step was tried over these terms: where it is valid it was added, else all is as before
+abbrev pub IsTried : TermsValue → TermsValue → LogValue → LogValue → Entry → Bool → Type 0
+IsTried v w log longer e true = IsValid v (state_of v.nodes log.entries) e × (w ≡ terms_after v e) × (longer.entries ≡ log.entries ++ e ∷ []) × Stands w.nodes longer
+IsTried v w log longer e false = (IsValid v (state_of v.nodes log.entries) e → ⊥) × (w ≡ v) × (longer ≡ log)
 
 -- the step was added
 pub record IsTaken (old : StateValue) (log : LogValue) (e : Entry) (new : StateValue) (longer : LogValue) : Type 0 where

@@ -105,8 +105,15 @@ impl Checker {
             (λ g. MaySearch self.old.judging cube start
             × (g.items ≡ given_in self.old.judging cube))) }
     {
-        let (state, log, limits) = (&self.state, &self.log, self.limits);
-        search(alloc, state, log, limits, cube, start, &mut self.reached)
+        search(
+            alloc,
+            &self.state,
+            &self.log,
+            self.limits,
+            cube,
+            start,
+            &mut self.reached,
+        )
     }
 
     // The line that begins the diary of a cube.
