@@ -1,7 +1,7 @@
 -- Which steps lines say.
 use Rattle.std.proofs.Common.{◌≡◌, ℕ, zero, suc, ◌<◌, ◌≤◌, ◌^◌, List, [], ◌∷◌, ◌++◌, length, map, get_or, slice_get, All, Bool, true, false, MatchBool, MatchOption, Option, Some, None, Result, Ok, Err, position, refl, sym, ap, ◌∙◌, subst, arith, ⊎_elim, length-append}
 use Rattle.std.specs.List.{AllByRecursion}
-use Rattle.std.specs.Prelude.{IfOk}
+use Rattle.std.specs.Prelude.{IfOk, OnErr}
 use Rattle.std.proofs.lemmas.List.{length-map}
 use Rattle.std.proofs.lemmas.List.Elements.{recursion_from_All}
 use Rattle.cnf_base.specs.Literals.{Literal, negated}
@@ -44,7 +44,7 @@ use Rattle.accepted_proof.specs.Turns.{IsOfScript}
 use Rattle.accepted_proof.specs.Judged.{IsStepOf}
 use Rattle.accepted_proof.proofs.Good.{step_grows, step_list}
 use Rattle.accepted_proof.proofs.Once.{same_entry, term_line}
-use Rattle.proof_checker.specs.Checkers.{IsChainOf, IsTaken}
+use Rattle.proof_checker.specs.Checkers.{IsChainOf, IsTaken, IsTried}
 
 -- ---- steps
 
@@ -63,11 +63,34 @@ tried s t l log longer e true w of h = (e, record { written = w; script = of; va
 tried s t l log longer e false w of h = (λ d is. h.0 (subst (IsValid s.terms (state_of s.terms.nodes log.entries)) (same_entry s l d e is.written w is.script of) is.valid), h.1, h.2)
 
 -- the same, where memory may be wanting
-pub tried_in : {E : Type 0} (s : StateValue) (l : Line) (log longer : LogValue) (e : Entry) → entry_line e ≡ Some l → IsOfScript s e → (r : Result (StateValue × Bool) E)
-    → IfOk r (λ x. MatchBool x.1 (IsValid s.terms (state_of s.terms.nodes log.entries) e × IsTaken s log e x.0 longer) ((IsValid s.terms (state_of s.terms.nodes log.entries) e → ⊥) × (x.0 ≡ s) × (longer ≡ log)))
-    → IfOk r (λ x. MatchBool x.1 ((d : Entry) × IsStepOf s log.entries l d × IsTaken s log d x.0 longer) (((d : Entry) → IsStepOf s log.entries l d → ⊥) × (x.0 ≡ s) × (longer ≡ log)))
-tried_in s l log longer e w of (Ok x) h = tried s x.0 l log longer e x.1 w of h
-tried_in s l log longer e w of (Err f) h = tt
+pub tried_in : {E : Type 0} (s t : StateValue) (l : Line) (log longer : LogValue) (e : Entry) → entry_line e ≡ Some l → IsOfScript s e → (r : Result Bool E)
+    → IfOk r (λ b. MatchBool b (IsValid s.terms (state_of s.terms.nodes log.entries) e × IsTaken s log e t longer) ((IsValid s.terms (state_of s.terms.nodes log.entries) e → ⊥) × (t ≡ s) × (longer ≡ log)))
+    → IfOk r (λ b. MatchBool b ((d : Entry) × IsStepOf s log.entries l d × IsTaken s log d t longer) (((d : Entry) → IsStepOf s log.entries l d → ⊥) × (t ≡ s) × (longer ≡ log)))
+tried_in s t l log longer e w of (Ok b) h = tried s t l log longer e b w of h
+tried_in s t l log longer e w of (Err f) h = tt
+
+-- ---- a step over the terms of a state
+
+module _ {E : Type 0} (t w : TermsValue) (r : RestValue) (log longer : LogValue) (e : Entry) where
+  -- the terms behind a step that was tried fit the rest
+  pub fit_tried : (p : Result Bool E) → Fit t r → IsOfScript (with_terms r t) e → IfOk p (IsTried t w log longer e) → OnErr p ((w ≡ t) × (longer ≡ log)) → Fit w r
+  fit_tried (Ok true) fit of h k = fit_step t w r log.entries e fit h.0 of h.1
+  fit_tried (Ok false) fit of h k = subst (λ x. Fit x r) (sym h.1) fit
+  fit_tried (Err f) fit of h k = subst (λ x. Fit x r) (sym k.0) fit
+
+  -- what is told of them is told of the state
+  pub tried_state : (s u : StateValue) (p : Result Bool E) → s ≡ with_terms r t → u ≡ with_terms r w → IfOk p (IsTried t w log longer e)
+      → IfOk p (λ b. MatchBool b (IsValid s.terms (state_of s.terms.nodes log.entries) e × IsTaken s log e u longer) ((IsValid s.terms (state_of s.terms.nodes log.entries) e → ⊥) × (u ≡ s) × (longer ≡ log)))
+  tried_state s u (Ok true) before after h =
+      subst (λ (x : StateValue). IsValid x.terms (state_of x.terms.nodes log.entries) e × IsTaken x log e u longer) (sym before)
+      (h.0, record { state = after ∙ ap (with_terms r) h.1; entries = h.2; stands = subst (λ (x : StateValue). Stands x.terms.nodes longer) (sym after) h.3 })
+  tried_state s u (Ok false) before after h =
+      (subst (λ (x : StateValue). IsValid x.terms (state_of x.terms.nodes log.entries) e → ⊥) (sym before) h.0, after ∙ ap (with_terms r) h.1 ∙ sym before, h.2)
+  tried_state s u (Err f) before after h = tt
+
+  pub kept_state : (s u : StateValue) (p : Result Bool E) → s ≡ with_terms r t → u ≡ with_terms r w → OnErr p ((w ≡ t) × (longer ≡ log)) → OnErr p ((u ≡ s) × (longer ≡ log))
+  kept_state s u (Ok b) before after h = tt
+  kept_state s u (Err f) before after h = (after ∙ ap (with_terms r) h.0 ∙ sym before, h.1)
 
 -- ---- terms
 

@@ -3,11 +3,14 @@ use Rattle.std.specs.Prelude.{◌≡◌, ◌<◌, ◌==◌, ℕ, zero, suc, Bool
 use Rattle.smt_values.specs.declared.value.Value.{Value}
 use Rattle.cnf_base.specs.Literals.{Literal, negated, code_of}
 use Rattle.smt_terms.specs.Bits.{TermBits, bits_in}
+use Rattle.smt_terms.specs.Terms.{TermsValue}
 use Rattle.scope_selectors.specs.declared.live.Live.{Live}
 use Rattle.script_state.specs.declared.answer.Asked.{Asked}
 use Rattle.script_state.specs.declared.answer.Verdict.{Verdict}
 use Rattle.script_state.specs.Readings.{Reading}
 use Rattle.script_state.specs.States.{StateValue, concluded}
+use Rattle.proof_log.specs.Logs.{state_of}
+use Rattle.proof_log.specs.Faults.{IsValid, terms_after}
 use Rattle.proof_log.specs.Stored.{LogValue, Stands, selector_in}
 use Rattle.accepted_proof.specs.Turns.{with_step}
 use Rattle.smt_build.specs.declared.symbols.LiveName.{LiveName}
@@ -25,7 +28,7 @@ use Rattle.proof_text.specs.declared.record.Record.TheVariants as shown
 use Rattle.accepted_proof.specs.Judged as judged
 use Rattle.accepted_proof.specs.Judged.{Owed, Judging, no_judging, refused, noted, closed, Decides, Notes, subject_at}
 use Rattle.accepted_proof.specs.Searching as searching
-use Rattle.accepted_proof.specs.Searching.{AreLimits, subject_of}
+use Rattle.accepted_proof.specs.Searching.{AreLimits, IsSearch, given_literals, subject_of}
 use Rattle.check_cubes.specs.Searches.{only}
 use Rattle.diary_checker.specs.Readers.{HasRead}
 use Rattle.proof_log.specs.declared.diary.DiaryLine.{DiaryLine}
@@ -107,6 +110,11 @@ abbrev pub IsChainOf : List WrittenLiteral → List WrittenHint → Entry → Ty
 IsChainOf literals hints (step.Chain c names) = (map written_literal c ≡ literals) × (map written_hint names ≡ hints)
 IsChainOf literals hints _ = ⊥
 
+-- the step was tried over these terms: where it is valid it was added, else all is as before
+abbrev pub IsTried : TermsValue → TermsValue → LogValue → LogValue → Entry → Bool → Type 0
+IsTried v w log longer e true = IsValid v (state_of v.nodes log.entries) e × (w ≡ terms_after v e) × (longer.entries ≡ log.entries ++ e ∷ []) × Stands w.nodes longer
+IsTried v w log longer e false = (IsValid v (state_of v.nodes log.entries) e → ⊥) × (w ≡ v) × (longer ≡ log)
+
 -- the step was added
 pub record IsTaken (old : StateValue) (log : LogValue) (e : Entry) (new : StateValue) (longer : LogValue) : Type 0 where
   pub state : new ≡ with_step old e
@@ -142,6 +150,14 @@ closed_with c v = record { judging = record { limits = c.judging.limits; state =
 abbrev pub IsOwedValues : Owed → Type 0
 IsOwedValues (judged.Values next left values) = Unit {0}
 IsOwedValues _ = ⊥
+
+-- the search of the cube may start at the position
+abbrev pub MaySearch : Judging → ℕ → ℕ → Type 0
+MaySearch j cube start = IsSearch j.limits j.state j.state.terms.nodes j.log cube start
+
+-- what it takes as true
+abbrev pub given_in : Judging → ℕ → List Literal
+given_in j cube = given_literals j.limits j.state j.state.terms.nodes j.log cube
 
 -- where lines of a diary are owed, those so far were read, over the log as it is
 abbrev pub IsNoted : searching.Limits → StateValue → List Entry → Due → Type 0

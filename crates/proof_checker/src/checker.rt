@@ -23,12 +23,12 @@ use std::marker::Model;
 use term_reach::Reached;
 
 /// The limits of a proof's header, the state of a script's commands, the log of its checks, what is owed, and the verdicts
-/// so far.
+/// so far. State and log are large, and boxed, since each line moves the checker from call to call.
 #[derive(Drop)]
 pub struct Checker {
     pub(crate) limits: Limits,
-    pub(crate) state: State,
-    pub(crate) log: Log,
+    pub(crate) state: Box<State>,
+    pub(crate) log: Box<Log>,
     pub(crate) due: Due,
     /// The values of a model that is not whole yet.
     pub(crate) values: Vec<(DeclId, Value)>,
@@ -49,9 +49,9 @@ impl Model for Checker {
 
     ghost Value = { CheckerValue };
 
-    ghost view = { λ c. record { judging = record { limits = limits_of c.limits; state = c.state; log = c.log.entries; owed = owed_of c.due c.state.symbols.live c.values.items; line = c.line }; verdicts = c.verdicts.items } };
+    ghost view = { λ c. record { judging = record { limits = limits_of c.limits; state = c.state.value; log = c.log.value.entries; owed = owed_of c.due c.state.value.symbols.live c.values.items; line = c.line }; verdicts = c.verdicts.items } };
 
-    ghost invariant = { λ c. Stands c.state.terms.nodes c.log × IsOpen c.due c.state.symbols.live c.values.items × IsNoted (limits_of c.limits) c.state c.log.entries c.due × AreLimits (limits_of c.limits) };
+    ghost invariant = { λ c. Stands c.state.value.terms.nodes c.log.value × IsOpen c.due c.state.value.symbols.live c.values.items × IsNoted (limits_of c.limits) c.state.value c.log.value.entries c.due × AreLimits (limits_of c.limits) };
 }
 
 impl Checker {

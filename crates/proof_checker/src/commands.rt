@@ -1,6 +1,6 @@
 // The commands of a script.
 
-ghost use Rattle.std.specs.Prelude.{◌≡◌, ◌+◌, ◌<◌, ◌^◌, ℕ, List, true, not, IfOk, MatchBool};
+ghost use Rattle.std.specs.Prelude.{◌≡◌, ◌+◌, ◌<◌, ◌^◌, ℕ, List, true, not, IfOk, OnErr, MatchBool};
 ghost use Rattle.smt_values.specs.declared.value.Value.{Value as Held};
 ghost use Rattle.smt_build.specs.declared.symbols.LiveName.{LiveName as Name};
 ghost use Rattle.script_state.specs.Readings.{ReadsAs};
@@ -40,22 +40,23 @@ fn is_exit(answer: &Answer) -> bool
     }
 }
 
-/// Does a command of the script. The terms whose values it asks for are forgotten, since no proof has them.
-fn obey(alloc: Global, mut state: State, chunk: &Chunk) -> Result<(State, Answer), AllocError>
-    requires assertions { state.scopes.made + 1 < 2 ^ 32 }
-    ensures state { IsState state }
-    ensures does { IfOk result (λ r. (says : Says) × ReadsAs chunk.now says × (r.1 ≡ (step state says).0) × (r.0 ≡ settled state (step state says).0 (step state says).1)) }
+/// Does a command of the script. The terms whose values it asks for are forgotten, since no proof has them. For want of
+/// memory the state is as before.
+fn obey(alloc: Global, state: &mut State, chunk: &Chunk) -> Result<Answer, AllocError>
+    requires assertions { state.old.scopes.made + 1 < 2 ^ 32 }
+    ensures state { IsState state.old }
+    ensures does { IfOk result (λ answer. (says : Says) × ReadsAs chunk.now says
+        × (answer ≡ (step state.old says).0)
+        × (state.new ≡ settled state.old (step state.old says).0 (step state.old says).1)) }
+    ensures err { OnErr result (state.new ≡ state.old) }
 {
     let held = state.terms().len();
-    let Ok(answer) = state.apply(alloc, chunk) else {
-        drop(state);
-        return Err(AllocError);
-    };
+    let answer = state.apply(alloc, chunk)?;
     if let Answer::Values(_) = &answer {
         state.forget(held);
-        return Ok((state, answer));
+        return Ok(answer);
     }
-    Ok((state, answer))
+    Ok(answer)
 }
 
 impl Checker {
@@ -69,12 +70,10 @@ impl Checker {
         if checker.state.assertions_made() == u32::MAX {
             return Err(checker.release());
         }
-        let Ok((state, answer)) = obey(alloc, checker.state, chunk) else {
-            drop((checker.log, checker.due, checker.values, checker.reached));
-            return Err(AllocError);
+        let Ok(answer) = obey(alloc, &mut checker.state, chunk) else {
+            return Err(checker.release());
         };
         let ended = is_exit(&answer);
-        checker.state = state;
         checker.due = due_by(answer);
         Ok((checker, ended))
     }

@@ -1,6 +1,6 @@
 // The lines of a diary.
 
-ghost use Rattle.std.specs.Prelude.{◌≡◌, ◌<◌, ◌+◌, ◌^◌, true, Some, List, [], IfOk, MatchBool};
+ghost use Rattle.std.specs.Prelude.{◌≡◌, ◌<◌, ◌+◌, ◌^◌, true, Some, List, [], IfOk, MatchBool, MatchOption};
 ghost use Rattle.proof_log.specs.declared.entry.Entry.{Entry as Step};
 ghost use Rattle.proof_log.specs.Stored.{Stands};
 ghost use Rattle.proof_log.specs.Diaries.{IsSpent};
@@ -8,7 +8,7 @@ ghost use Rattle.script_state.specs.States.{StateValue};
 ghost use Rattle.accepted_proof.specs.Searching.{Limits, subject_of, given_literals};
 ghost use Rattle.accepted_proof.specs.Judged.{noted, Opens, MovesBy};
 ghost use Rattle.proof_checker.specs.declared.due.Due.TheVariants.{Noted};
-ghost use Rattle.proof_checker.specs.Checkers.{GoesTo, HasLine, IsNoLine, IsNoted, IsOwedLines, NotesBy, ReadTo, judged_so};
+ghost use Rattle.proof_checker.specs.Checkers.{GoesTo, HasLine, IsNoLine, IsNoted, IsOwedLines, MaySearch, NotesBy, ReadTo, given_in, judged_so};
 
 use crate::checker::Checker;
 use crate::due::{Due, Noting};
@@ -21,7 +21,6 @@ use proof_log::diary::{DiaryLine, DiaryLines};
 use proof_text::line::Line;
 use script_state::answer::Verdict;
 use std::alloc::{AllocError, Global};
-use term_reach::Reached;
 
 /// A diary without a line, of which one is next and so many are left behind it.
 fn open(
@@ -92,6 +91,31 @@ impl Checker {
         checker
     }
 
+    // What the search of a cube takes as true, where it may start at the position; the table of what is reached serves the
+    // next record too.
+    fn searched(
+        &mut self,
+        alloc: Global,
+        cube: u64,
+        start: Pos,
+    ) -> Result<Option<Vec<Lit>>, AllocError>
+        ensures same { self.new ≡ self.old }
+        ensures search { IfOk result (λ o. MatchOption o
+            (MaySearch self.old.judging cube start → ⊥)
+            (λ g. MaySearch self.old.judging cube start
+            × (g.items ≡ given_in self.old.judging cube))) }
+    {
+        search(
+            alloc,
+            &self.state,
+            &self.log,
+            self.limits,
+            cube,
+            start,
+            &mut self.reached,
+        )
+    }
+
     // The line that begins the diary of a cube.
     pub(crate) fn open_diary(
         self,
@@ -106,17 +130,25 @@ impl Checker {
         if count == 0 {
             return Ok(self.refuse(RuleName::Diary));
         }
-        let (state, log, limits) = (&self.state, &self.log, self.limits);
-        let mut reached = Reached::new(alloc);
-        let Ok(given) = search(alloc, state, log, limits, cube, start, &mut reached) else {
-            return Err(self.release());
+        let mut checker = self;
+        let Ok(given) = checker.searched(alloc, cube, start) else {
+            return Err(checker.release());
         };
         match given {
-            Some(given) => match open(alloc, &self.log, given.as_slice(), cube, start, count - 1) {
-                Ok(noting) => Ok(self.owe_lines(noting)),
-                Err(_) => Err(self.release()),
+            Some(given) => {
+                match open(
+                    alloc,
+                    &checker.log,
+                    given.as_slice(),
+                    cube,
+                    start,
+                    count - 1,
+                ) {
+                    Ok(noting) => Ok(checker.owe_lines(noting)),
+                    Err(_) => Err(checker.release()),
+                }
             }
-            None => Ok(self.refuse(RuleName::Diary)),
+            None => Ok(checker.refuse(RuleName::Diary)),
         }
     }
 

@@ -46,10 +46,11 @@ impl Checker {
                 rule: RuleName::Header,
             }));
         };
-        let log = Log::new(alloc)?;
+        let state = Box::new(alloc, State::new(alloc))?;
+        let log = Box::new(alloc, Log::new(alloc)?)?;
         Ok(Ok(Checker {
             limits,
-            state: State::new(alloc),
+            state,
             log,
             due: Due::Nothing,
             values: Vec::new(alloc),

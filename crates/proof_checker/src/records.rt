@@ -43,11 +43,9 @@ impl Checker {
         ensures { IfOk result (λ c. GoesTo (StepsBy self.judging line.now) self c) }
     {
         let mut checker = self;
-        let Ok((state, taken)) = take_step(alloc, checker.state, &mut checker.log, line) else {
-            drop((checker.log, checker.due, checker.values, checker.reached));
-            return Err(AllocError);
+        let Ok(taken) = take_step(alloc, &mut checker.state, &mut checker.log, line) else {
+            return Err(checker.release());
         };
-        checker.state = state;
         checker.due = Due::Steps;
         if taken {
             Ok(checker.go_on())

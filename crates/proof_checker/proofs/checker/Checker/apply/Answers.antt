@@ -5,27 +5,27 @@ use Rattle.accepted_proof.specs.Judged.{commanded}
 use Rattle.proof_checker.proofs.Moving.{held, still_stands, commanded_to, ended_by}
 use Rattle.proof_checker.proofs.checker.Checker.apply.Goals as goal
 
-pub invariant_of-checker : goal.invariant_of-checker
-invariant_of-checker c =
-    let told = c.in-Ok.ensures.does in
+pub invariant_of-checker-2 : goal.invariant_of-checker-2
+invariant_of-checker-2 c =
+    let told = rw c.deref_mut.ensures.value at c.in-Ok.ensures.does in
     let before = c.checker.inside in
-    let new = c.in-Ok.state in (
-      still_stands before.state new before.log told.0 c.obey.ensures.state c.checker.invariant.0 told.3,
+    let new = c.obey.new.state in (
+      still_stands before.state.value new before.log.value told.0 (rw c.deref_mut.ensures.value at c.obey.ensures.state) c.checker.invariant.0 told.3,
       c.due_by.ensures.open new.symbols.live before.values.items,
-      c.due_by.ensures.noted (limits_of before.limits) new before.log.entries,
+      c.due_by.ensures.noted (limits_of before.limits) new before.log.value.entries,
       c.checker.invariant.3,
     )
 
 pub returns : goal.returns
 returns c =
-    let told = c.in-Ok.ensures.does in
+    let told = rw c.deref_mut.ensures.value at c.in-Ok.ensures.does in
     let before = c.checker.inside in
-    let new = c.in-Ok.state in
+    let new = c.obey.new.state in
     let answer = c.in-Ok.answer in (
       told.0,
       told.1,
-      subst (λ (x : CheckerValue). held (limits_of before.limits) new before.log.entries (owed_of c.due_by.result new.symbols.live before.values.items) before.line before.verdicts.items ≡ judged_so x (commanded x.judging told.0)) c.checker.view_is
-          (commanded_to (limits_of before.limits) before.state new before.log.entries (owed_of before.due before.state.symbols.live before.values.items) (owed_of c.due_by.result new.symbols.live before.values.items) before.line before.verdicts.items
+      subst (λ (x : CheckerValue). held (limits_of before.limits) new before.log.value.entries (owed_of c.due_by.result new.symbols.live before.values.items) before.line before.verdicts.items ≡ judged_so x (commanded x.judging told.0)) c.checker.view_is
+          (commanded_to (limits_of before.limits) before.state.value new before.log.value.entries (owed_of before.due before.state.value.symbols.live before.values.items) (owed_of c.due_by.result new.symbols.live before.values.items) before.line before.verdicts.items
           answer told.0 told.2 told.3 (c.due_by.ensures.owed new.symbols.live before.values.items)),
-      ended_by c.is_exit-ended.result answer before.state told.0 c.is_exit-ended.ensures told.2,
+      ended_by c.is_exit-ended.result answer before.state.value told.0 c.is_exit-ended.ensures told.2,
     )

@@ -18,7 +18,7 @@ returns-then-is_spent c =
     let before = c.self.inside in
     let n = c.args.noting in
     let noted = subst (λ (x : CheckerValue). IsNoted x.judging.limits x.judging.state x.judging.log (Noted n)) (sym c.self.view_is) (c.requires.noted c.if-not-stands.false) in
-    let spent = MatchBool-at_true _ _ c.if-is_spent.true (c.is_spent.ensures (limits_of before.limits) before.state before.log.entries noted) in
+    let spent = MatchBool-at_true _ _ c.if-is_spent.true (c.is_spent.ensures (limits_of before.limits) before.state.value before.log.value.entries noted) in
     let some = c.if-noting-gt0.false in
     let last : n.left ≡ 0 = omega (arith, some) in
     read_spent c.args.self n c.args.stands c.close.result c.if-not-stands.false last
@@ -29,7 +29,7 @@ returns c =
     let before = c.self.inside in
     let n = c.args.noting in
     let noted = subst (λ (x : CheckerValue). IsNoted x.judging.limits x.judging.state x.judging.log (Noted n)) (sym c.self.view_is) (c.requires.noted c.if-not-stands.false) in
-    let unspent = MatchBool-at_false _ _ c.if-is_spent.false (c.is_spent.ensures (limits_of before.limits) before.state before.log.entries noted) in
+    let unspent = MatchBool-at_false _ _ c.if-is_spent.false (c.is_spent.ensures (limits_of before.limits) before.state.value before.log.value.entries noted) in
     let some = c.if-noting-gt0.false in
     let last : n.left ≡ 0 = omega (arith, some) in
     read_unspent c.args.self n c.args.stands c.refuse-else-is_spent.result c.if-not-stands.false last

@@ -1,5 +1,6 @@
 use Rattle.std.proofs.Common.{◌≡◌, ◌∷◌, ◌++◌, [], length, get_or, Some, IfOk, sym, ap, ap₂, ◌∙◌, subst, arith}
 use Rattle.smt_build.specs.declared.symbols.LiveName.{LiveName}
+use Rattle.script_state.specs.States.{StateValue}
 use Rattle.proof_text.specs.declared.line.Line.TheVariants as line
 use Rattle.accepted_proof.specs.Judged.{refused, MovesBy}
 use Rattle.accepted_proof.specs.declared.refusal.RuleName.TheVariants as rule
@@ -12,24 +13,26 @@ pub returns-in_default : goal.returns-in_default
 returns-in_default c =
     let before = c.self.inside in
     let next = c.index-declared-len.result in
+    let live = c.declared.ensures ∙ ap (λ (x : StateValue). x.symbols.live) c.deref.ensures in
     let count : c.len.result ≡ length before.values.items = omega arith in
-    let at : next ≡ get_or before.state.symbols.live (length before.values.items) next = c.index-declared-len.is ∙ ap₂ (λ xs k. get_or xs k next) c.declared.ensures count in
+    let at : next ≡ get_or before.state.value.symbols.live (length before.values.items) next = c.index-declared-len.is ∙ ap₂ (λ xs k. get_or xs k next) live count in
     subst (λ (x : CheckerValue). GoesTo (MovesBy x.judging.owed x.judging (Some (line.Value c.args.declaration c.args.written.now))) x c.refuse.result) c.self.view_is
-    (value_refused (limits_of before.limits) before.state before.log.entries before.due before.line before.verdicts.items before.values.items next c.args.declaration c.args.written.now c.refuse.result
+    (value_refused (limits_of before.limits) before.state.value before.log.value.entries before.due before.line before.verdicts.items before.values.items next c.args.declaration c.args.written.now c.refuse.result
     (subst (λ (x : CheckerValue). IsOwedValues x.judging.owed) (sym c.self.view_is) c.requires.values) at
-    (λ v is. c.in_default.ensures next v (ap (λ (x : LiveName). x.declaration) c.index-declared-len.is) is)
+    (λ v is. (rw c.deref-2.ensures at c.in_default.ensures) next v (ap (λ (x : LiveName). x.declaration) c.index-declared-len.is) is)
     (subst (λ (x : CheckerValue). c.refuse.result ≡ judged_so x (refused x.judging rule.Sat)) (sym c.self.view_is) c.refuse.ensures))
 
 pub returns : goal.returns
 returns c =
     let before = c.self.inside in
     let next = c.index-declared-len.result in
+    let live = c.declared.ensures ∙ ap (λ (x : StateValue). x.symbols.live) c.deref.ensures in
     let count : c.len.result ≡ length before.values.items = omega arith in
-    let at : next ≡ get_or before.state.symbols.live (length before.values.items) next = c.index-declared-len.is ∙ ap₂ (λ xs k. get_or xs k next) c.declared.ensures count in
+    let at : next ≡ get_or before.state.value.symbols.live (length before.values.items) next = c.index-declared-len.is ∙ ap₂ (λ xs k. get_or xs k next) live count in
     let named = ap (λ (x : LiveName). x.declaration) c.index-declared-len.is in
     subst (λ (x : CheckerValue). IfOk c.go_to_values.result (λ to. GoesTo (MovesBy x.judging.owed x.judging (Some (line.Value c.args.declaration c.args.written.now))) x to)) c.self.view_is
-    (value_pushed (limits_of before.limits) before.state before.log.entries before.due before.line before.verdicts.items before.values.items c.push.new.self.items next c.args.declaration c.args.written.now c.in-Some.value c.go_to_values.result
+    (value_pushed (limits_of before.limits) before.state.value before.log.value.entries before.due before.line before.verdicts.items before.values.items c.push.new.self.items next c.args.declaration c.args.written.now c.in-Some.value c.go_to_values.result
     (subst (λ (x : CheckerValue). IsOwedValues x.judging.owed) (sym c.self.view_is) c.requires.values) at
-    (c.in-Some.ensures next named)
+    ((rw c.deref-2.ensures at c.in-Some.ensures) next named)
     (c.in-Ok.ensures.items ∙ ap (λ n. before.values.items ++ (n, c.in-Some.value) ∷ []) (sym named))
     c.go_to_values.ensures)
