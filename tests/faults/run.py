@@ -10,6 +10,7 @@ folder). Each time:
 - the status is the one of the undisturbed run, or 5 under a limit of memory, 4 where nothing can be written, 3 where nothing
   can be read;
 - what was answered is a front of the undisturbed answers;
+- standard error has one line that says what ended the run, and none where nothing did;
 - `check`, which has all the memory it wants, accepts a record for each verdict that was answered whole.
 
 Words that are not taken, bytes that are no text among them, give status 2, also where standard error cannot be written.
@@ -27,6 +28,8 @@ import tempfile
 ROOT = pathlib.Path(__file__).resolve().parents[2]
 VERDICTS = (b"sat", b"unsat", b"unknown")
 MEGABYTE = 1 << 20
+USAGE = b"usage: smt_tool solve PROOF [SCRIPT] "
+CAUSES = {0: b"", 1: b"", 5: b"smt_tool: memory is wanting\n"}
 
 
 def scripts():
@@ -41,14 +44,14 @@ def scripts():
 
 
 def run(program, words, script, limit=None, out=subprocess.PIPE):
-    """The status and the answers of a run, under a limit of memory in bytes."""
+    """The status, the answers and what standard error has of a run, under a limit of memory in bytes."""
 
     def limited():
         if limit is not None:
             resource.setrlimit(resource.RLIMIT_AS, (limit, limit))
 
-    done = subprocess.run([program, *words], input=script, stdout=out, stderr=subprocess.DEVNULL, preexec_fn=limited)
-    return done.returncode, done.stdout or b""
+    done = subprocess.run([program, *words], input=script, stdout=out, stderr=subprocess.PIPE, preexec_fn=limited)
+    return done.returncode, done.stdout or b"", done.stderr
 
 
 def verdicts(text):
@@ -58,9 +61,11 @@ def verdicts(text):
 
 def fault(program, proof, script, whole, allowed, got):
     """What is wrong with a disturbed run, or None."""
-    status, answers = got
+    status, answers, told = got
     if status not in allowed:
         return f"status {status}, not one of {sorted(allowed)}"
+    if told != CAUSES[status]:
+        return f"status {status}, and standard error has {told!r}"
     if not whole.startswith(answers):
         return f"answers are no front of the undisturbed ones: {answers[-60:]!r}"
     accepted = verdicts(run(program, ["check", proof], script)[1])
@@ -91,14 +96,23 @@ def disturbed(program, script, folder, least):
         got = run(program, ["solve", proof], script, least * MEGABYTE + extra * 1024)
         faults.append(fault(program, proof, script, full[1], {full[0], 5}, got))
         runs, wanted = runs + 1, wanted + (got[0] == 5)
+    faults.extend(refused(program, proof, script, folder, full))
+    return [f for f in faults if f], runs + 4, wanted
+
+
+def refused(program, proof, script, folder, full):
+    """The faults of runs where one file cannot be read or written."""
     with open("/dev/full", "wb") as nowhere:
-        status = run(program, ["solve", proof], script, out=nowhere)[0]
-        faults.append(None if status == (4 if full[1] else full[0]) else f"status {status} where no answer can be written")
-    status, answers = run(program, ["solve", "/dev/full"], script)
-    faults.append(None if (status, answers) == (4, b"") else f"status {status} where no proof can be written")
-    status, answers = run(program, ["solve", proof, str(folder)], b"")
-    faults.append(None if (status, answers) == (3, b"") else f"status {status} where the script cannot be read")
-    return [f for f in faults if f], runs + 3, wanted
+        got = run(program, ["solve", proof], script, out=nowhere)
+    cannot = (4, b"", b"smt_tool: the answers cannot be written\n")
+    yield None if got == (cannot if full[1] else full) else f"{got} where no answer can be written"
+    for words, status, cause in (
+        (["solve", "/dev/full"], 4, b"the proof cannot be written"),
+        (["solve", proof, str(folder)], 3, b"the script cannot be read"),
+        (["check", str(folder)], 3, b"the proof cannot be read"),
+    ):
+        got = run(program, words, script)
+        yield None if got == (status, b"", b"smt_tool: " + cause + b"\n") else f"{got} where {cause.decode()}"
 
 
 def not_taken(program):
@@ -110,7 +124,10 @@ def not_taken(program):
                 status = subprocess.run([program, *words], stdin=subprocess.DEVNULL, stderr=nowhere).returncode
             if status != 2:
                 faults.append(f"status {status} for the words {words}, with standard error in {errors}")
-    return faults, 2 * len(tried)
+        told = run(program, words, b"")[2]
+        if not (told.startswith(USAGE) and told.endswith(b"\n") and told.count(b"\n") == 1):
+            faults.append(f"standard error has {told!r} for the words {words}")
+    return faults, 3 * len(tried)
 
 
 def main(words):

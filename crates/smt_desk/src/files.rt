@@ -1,6 +1,6 @@
 // Files, standard input and standard output as sources and sinks. They tell no bytes, and count each failure.
 
-ghost use Rattle.std.specs.Prelude.{◌≤◌};
+ghost use Rattle.std.specs.Prelude.{◌≡◌, ◌≤◌, ltb};
 ghost use Rattle.smt_desk.specs.Faults.{Rose};
 
 use crate::stream::{Failed, Sink, Source};
@@ -23,6 +23,7 @@ pub struct FileSource<'a, R: Files> {
     rt: &'a R,
     path: &'a str,
     file: Option<R::File>,
+    taken: u64,
     faults: u64,
 }
 
@@ -33,8 +34,23 @@ impl<'a, R: Files> FileSource<'a, R> {
             rt,
             path,
             file: None,
+            taken: 0,
             faults: 0,
         }
+    }
+
+    /// How many bytes were read so far.
+    pub fn taken(&self) -> u64
+        ensures { result ≡ self.now.taken }
+    {
+        self.taken
+    }
+
+    /// Whether reading failed so far.
+    pub fn has_failed(&self) -> bool
+        ensures { result ≡ ltb 0 self.now.faults }
+    {
+        self.faults > 0
     }
 }
 
@@ -53,7 +69,10 @@ impl<'a, R: Files> Source for FileSource<'a, R> {
             return Err(count_failure(&mut self.faults));
         };
         match file.read(buf) {
-            Ok(size) => Ok(size),
+            Ok(size) => {
+                self.taken = self.taken.saturating_add(size as u64);
+                Ok(size)
+            }
             Err(_) => Err(count_failure(&mut self.faults)),
         }
     }
@@ -77,6 +96,13 @@ impl<'a, R: Files> FileSink<'a, R> {
             file: None,
             faults: 0,
         }
+    }
+
+    /// Whether writing failed so far.
+    pub fn has_failed(&self) -> bool
+        ensures { result ≡ ltb 0 self.now.faults }
+    {
+        self.faults > 0
     }
 }
 

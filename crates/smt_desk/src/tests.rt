@@ -59,6 +59,7 @@ fn a_file_gives_what_it_was_given(rt: HostRuntime) -> Result<(), Fail> {
     assert_eq!(rt; read_one(&mut source, &mut buf), Ok(5));
     assert!(rt; &buf[..5] == b"hello".as_slice());
     assert_eq!(rt; read_one(&mut source, &mut buf), Ok(0));
+    assert_eq!(rt; (source.taken(), source.has_failed()), (5, false));
     std::fs::remove_file(&rt, path)?;
     Ok(())
 }
@@ -66,9 +67,13 @@ fn a_file_gives_what_it_was_given(rt: HostRuntime) -> Result<(), Fail> {
 #[test]
 fn a_missing_file_fails_at_its_first_use(rt: HostRuntime) {
     let mut source = FileSource::new(&rt, "no/such/file");
+    assert!(rt; !source.has_failed());
     assert_eq!(rt; read_one(&mut source, &mut [0u8; 8]), Err(Failed));
+    assert_eq!(rt; (source.taken(), source.has_failed()), (0, true));
     let mut sink = FileSink::new(&rt, "no/such/file");
+    assert!(rt; !sink.has_failed());
     assert_eq!(rt; write_whole(&mut sink, b"hello"), Err(Failed));
+    assert!(rt; sink.has_failed());
 }
 
 #[test]

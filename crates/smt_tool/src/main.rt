@@ -39,6 +39,7 @@ mod word_tests;
 #[cfg(test)]
 mod worked;
 
+use smt_check::reading::INPUT_LIMIT;
 use smt_check::status::Status;
 use smt_desk::files::{FileSink, FileSource, StandardInput, StandardOutput};
 use smt_desk::stream::Source;
@@ -48,6 +49,12 @@ use smt_run::words::Unplanned;
 use std::env;
 use std::io::ErrorKind;
 use std::process::ExitCode;
+use std::rt::Files;
+
+// What is told where the words are not taken, and where memory is wanting.
+const USAGE: &str =
+    "usage: smt_tool solve PROOF [SCRIPT] [--cubes 0..10] [--budget 0..1000000000] | check PROOF [SCRIPT]";
+const NO_MEMORY: &str = "smt_tool: memory is wanting";
 
 // The number of a status.
 fn exit_code(status: Status) -> ExitCode {
@@ -62,21 +69,56 @@ fn exit_code(status: Status) -> ExitCode {
     })
 }
 
+// How a run ended: its status, and where that is none of an answer, what ended it.
+#[derive(Clone, Copy)]
+struct Ending {
+    status: Status,
+    cause: Option<&'static str>,
+}
+
+// What ended a run: a file that was read or written tells whether it was this one, and else it was the other.
+fn cause<R: Files>(
+    status: Status,
+    proof: &FileSource<'_, R>,
+    written: &FileSink<'_, R>,
+) -> Option<&'static str> {
+    match status {
+        Status::Done | Status::Refused => None,
+        Status::Usage => Some(USAGE),
+        Status::ReadFault if proof.has_failed() => Some("smt_tool: the proof cannot be read"),
+        Status::ReadFault => Some("smt_tool: the script cannot be read"),
+        Status::WriteFault if written.has_failed() => {
+            Some("smt_tool: the proof cannot be written")
+        }
+        Status::WriteFault => Some("smt_tool: the answers cannot be written"),
+        Status::NoMemory => Some(NO_MEMORY),
+        Status::TooLong if proof.taken() > INPUT_LIMIT => {
+            Some("smt_tool: the proof is longer than 2^32 bytes")
+        }
+        Status::TooLong => Some("smt_tool: the script is longer than 2^32 bytes"),
+    }
+}
+
 // Does what the words ask for, with this script and this proof file.
-fn run_with<S: Source>(rt: &HostRuntime, words: &[&str], script: &mut S, proof: &str) -> Status {
-    run(
+fn run_with<S: Source>(rt: &HostRuntime, words: &[&str], script: &mut S, proof: &str) -> Ending {
+    let mut read = FileSource::new(rt, proof);
+    let mut written = FileSink::new(rt, proof);
+    let mut answers = StandardOutput::new(rt);
+    let status = run(
         rt.alloc(),
         words,
         script,
-        &mut FileSource::new(rt, proof),
-        &mut StandardOutput::new(rt),
-        &mut FileSink::new(rt, proof),
-    )
+        &mut read,
+        &mut answers,
+        &mut written,
+    );
+    let cause = cause(status, &read, &written);
+    Ending { status, cause }
 }
 
 // Does what the words ask for: the script is read from its file, or where none is named from standard input. No file is
 // opened before its first use.
-fn run_words(rt: &HostRuntime, words: &[&str]) -> Result<Status, Unplanned> {
+fn run_words(rt: &HostRuntime, words: &[&str]) -> Result<Ending, Unplanned> {
     let plan = plan(rt.alloc(), words)?;
     Ok(match plan.script {
         Some(path) => run_with(rt, words, &mut FileSource::new(rt, path), plan.proof),
@@ -94,22 +136,34 @@ fn given_words(rt: &HostRuntime) -> Result<Vec<String>, Unplanned> {
 }
 
 // Does what the words that the program is given ask for.
-fn run_given(rt: &HostRuntime) -> Result<Status, Unplanned> {
+fn run_given(rt: &HostRuntime) -> Result<Ending, Unplanned> {
     let given = given_words(rt)?;
     let words: Vec<&str> = given.iter().map(|word| word.as_str()).collect(rt.alloc())?;
     run_words(rt, &words)
 }
 
+// The ending of a run that was not begun.
+fn unplanned(why: Unplanned) -> Ending {
+    match why {
+        Unplanned::Usage => Ending {
+            status: Status::Usage,
+            cause: Some(USAGE),
+        },
+        Unplanned::NoMemory => Ending {
+            status: Status::NoMemory,
+            cause: Some(NO_MEMORY),
+        },
+    }
+}
+
 fn main(rt: HostRuntime) -> ExitCode {
-    exit_code(match run_given(&rt) {
-        Ok(status) => status,
-        Err(Unplanned::NoMemory) => Status::NoMemory,
-        Err(Unplanned::Usage) => {
-            // Where standard error cannot be written, the status tells it alone.
-            let _ = eprintln!(&rt;
-                "usage: smt_tool solve PROOF [SCRIPT] [--cubes 0..10] [--budget 0..1000000000] | check PROOF [SCRIPT]"
-            );
-            Status::Usage
-        }
-    })
+    let ending = match run_given(&rt) {
+        Ok(ending) => ending,
+        Err(why) => unplanned(why),
+    };
+    if let Some(cause) = ending.cause {
+        // Where standard error cannot be written, the status tells it alone.
+        let _ = eprintln!(&rt; "{cause}");
+    }
+    exit_code(ending.status)
 }
