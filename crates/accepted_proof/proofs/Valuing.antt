@@ -1,5 +1,5 @@
 -- Values of declarations, as interpretations hold them.
-use Rattle.std.proofs.Common.{◌≡◌, ℕ, zero, suc, ◌+◌, ◌<◌, true, List, ◌∷◌, length, drop, get_or, slice_get, Option, Some, refl, sym, ap, ◌∙◌}
+use Rattle.std.proofs.Common.{◌≡◌, ℕ, ◌+◌, ◌<◌, true, List, ◌∷◌, length, drop, get_or, slice_get, Option, Some, refl, sym, ap, ◌∙◌}
 use Rattle.std.specs.Prelude.{◌==◌, if◌then◌else◌}
 use Rattle.std.proofs.lemmas.List.{at_drop_more}
 use Rattle.std.proofs.lemmas.List.Elements.{recursion_from_All}
@@ -16,7 +16,6 @@ use Rattle.smt_values.specs.Held as set
 use Rattle.smt_eval.specs.Evaluated.{AreSuited, IsSuited}
 use Rattle.smt_terms.specs.Ranks as ranks
 use Rattle.script_state.specs.States.{StateValue, IsState, IsPlainConstant}
-use Rattle.proof_text.specs.Records.{binary}
 use Rattle.accepted_proof.specs.Models.{value_for, interpretation_of}
 
 -- ---- the interpretation
@@ -59,10 +58,3 @@ module _ (s : StateValue) (h : IsState s) where
   -- only plain constants are declared
   pub are_suited : (values : List (Option Value)) → AreSuited s.terms.nodes values
   are_suited values t lt = suited_op values t (node_at s.terms.nodes t).op refl
-
--- ---- digits
-
-pub binary_length : (n x : ℕ) → length (binary n x) ≡ n
-unfolding binary
-binary_length zero x = refl
-binary_length (suc n) x = ap suc (binary_length n x)

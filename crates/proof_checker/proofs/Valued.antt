@@ -22,9 +22,9 @@ use Rattle.script_state.specs.declared.answer.Asked.{Asked}
 use Rattle.script_state.specs.States.{StateValue, IsState, IsPlainConstant, assumptions, roots}
 use Rattle.proof_text.specs.declared.line.WrittenValue.TheVariants as written
 use Rattle.proof_text.specs.Records.{binary, written_value}
+use Rattle.proof_text.proofs.Appending.{binary_length}
 use Rattle.accepted_proof.specs.Models.{value_for, interpretation_of, IsModel}
 use Rattle.accepted_proof.proofs.Once.{no_word_bool}
-use Rattle.accepted_proof.proofs.Valuing.{binary_length}
 use Rattle.cnf_base.proofs.Lists.{each_slice_get}
 use Rattle.proof_checker.specs.Blanks.{MeansSame}
 use Rattle.proof_checker.proofs.Blanks.{kept_interpretation}

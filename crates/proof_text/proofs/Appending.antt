@@ -1,8 +1,8 @@
 -- What several appends make of a text.
-use Rattle.std.proofs.Common.{◌≡◌, ℕ, zero, suc, ◌-◌, ◌/◌, ◌%◌, ◌^◌, ◌<◌, ◌≤◌, List, [], ◌∷◌, ◌++◌, length, take, map, refl, sym, ◌∙◌, arith, append_assoc, eqb, Option, Some, None, IfSome, IsSome, Result, Ok, Err, OnErr, length-append, ◌≢◌, codes}
+use Rattle.std.proofs.Common.{◌≡◌, ℕ, zero, suc, ◌+◌, ◌-◌, ◌/◌, ◌%◌, ◌^◌, ◌<◌, ◌≤◌, List, [], ◌∷◌, ◌++◌, length, get_or, take, map, refl, sym, ap, ◌∙◌, arith, append_assoc, eqb, Option, Some, None, IfSome, IsSome, Result, Ok, Err, OnOk, OnErr, length-append, ◌≢◌, codes}
 use Rattle.std.proofs.lemmas.Bool.Decides.{nat_tests}
 use Rattle.std.proofs.Math.Seq.{take-append_seam}
-use Rattle.std.proofs.lemmas.List.{append-nil, take-take}
+use Rattle.std.proofs.lemmas.List.{append-nil, take-take, take_more}
 use Rattle.std.proofs.lemmas.List.Concat.{flat_map-append}
 use Rattle.std.specs.Option.{option_map}
 use Rattle.std.specs.Fmt.{decimal}
@@ -22,6 +22,11 @@ pub no_digits : (width x : ℕ) → width ≡ 0 → binary width x ≡ []
 unfolding binary
 no_digits zero x h = refl
 no_digits (suc n) x h = absurd (omega arith)
+
+pub binary_length : (n x : ℕ) → length (binary n x) ≡ n
+unfolding binary
+binary_length zero x = refl
+binary_length (suc n) x = ap suc (binary_length n x)
 
 pub digits_more : (out mid new : List ℕ) (width x b : ℕ) → 0 < width → b ≡ digit_of (eqb ((x / 2 ^ (width - 1)) % 2) 1) → mid ≡ out ++ b ∷ [] → new ≡ mid ++ map digit_of (binary (width - 1) x) → new ≡ out ++ map digit_of (binary width x)
 digits_more out mid new width x b h d e f =
@@ -81,3 +86,21 @@ term_front (Some k) out a b new some e f h = kept_front out a new (116 ∷ 32 �
 pub on_err : {T E P : Type 0} (r : Result T E) → P → OnErr r P
 on_err (Ok x) p = tt
 on_err (Err e) p = p
+
+pub on_ok : {T E P : Type 0} (r : Result T E) → P → OnOk r P
+on_ok (Ok x) p = p
+on_ok (Err e) p = tt
+
+-- ---- a text of each element
+
+module _ {A : Type 0} (text : List A → List ℕ) (part : A → List ℕ) (none : text [] ≡ []) (more : (y : A) (ys : List A) → text (y ∷ ys) ≡ part y ++ text ys) where
+  text_push : (xs : List A) (x : A) → text (xs ++ x ∷ []) ≡ text xs ++ part x
+  text_push [] x = more x [] ∙ ap (λ r. part x ++ r) none ∙ append-nil (part x) ∙ sym (ap (λ r. r ++ part x) none)
+  text_push (y ∷ xs) x =
+      more y (xs ++ x ∷ []) ∙ ap (λ r. part y ++ r) (text_push xs x) ∙ sym (append_assoc (part y) (text xs) (part x)) ∙ sym (ap (λ r. r ++ part x) (more y xs))
+
+  -- the part of the next element was appended
+  pub text_more : (xs : List A) (k : ℕ) (d : A) (old out new : List ℕ) → k < length xs → out ≡ old ++ text (take k xs) → new ≡ out ++ part (get_or xs k d) → new ≡ old ++ text (take (k + 1) xs)
+  text_more xs k d old out new lt e n =
+      n ∙ ap (λ r. r ++ part (get_or xs k d)) e ∙ append_assoc old (text (take k xs)) (part (get_or xs k d)) ∙ ap (λ r. old ++ r) (sym (text_push (take k xs) (get_or xs k d)))
+      ∙ ap (λ ys. old ++ text ys) (sym (take_more xs k d lt))

@@ -1,4 +1,5 @@
 pub mod Appending
+pub mod Readable
 pub mod Splitting
 pub mod Numerals
 pub mod Fields

@@ -1,5 +1,5 @@
 -- Which lines a record is: the end of a check.
-use Rattle.std.specs.Prelude.{ℕ, suc, zero, ◌/◌, ◌%◌, ◌^◌, ◌==◌, Bool, List, [], ◌∷◌, map, length, Option, Some, None, IsSome, option_to_list}
+use Rattle.std.specs.Prelude.{ℕ, suc, zero, ◌<◌, ◌/◌, ◌%◌, ◌^◌, ◌==◌, Bool, List, [], ◌∷◌, map, length, Option, Some, None, IsSome, option_to_list}
 use Rattle.std.specs.List.{flat_map, AllByRecursion}
 use Rattle.smt_values.specs.declared.value.Value.{Value}
 use Rattle.smt_values.specs.declared.value.Value.TheVariants as kept
@@ -32,6 +32,19 @@ abbrev pub AreWritten : Record → Type 0
 AreWritten (Sat values) = AllByRecursion (λ (p : ℕ × Value). IsSome (written_value p.1)) values
 AreWritten (Unsat p) = Unit {0}
 AreWritten (Unknown d) = Unit {0}
+
+-- a word has a digit
+abbrev pub HasDigit : Value → Type 0
+HasDigit (kept.Word w) = 0 < w.width
+HasDigit (kept.Bool b) = Unit {0}
+HasDigit (kept.Array a) = Unit {0}
+HasDigit (kept.Fun f) = Unit {0}
+
+-- each word that the record shows has one
+abbrev pub HaveDigits : Record → Type 0
+HaveDigits (Sat values) = AllByRecursion (λ (p : ℕ × Value). HasDigit p.1) values
+HaveDigits (Unsat p) = Unit {0}
+HaveDigits (Unknown d) = Unit {0}
 
 abbrev pub diary_line : DiaryLine → Line
 diary_line (diary.Take p) = line.Take p

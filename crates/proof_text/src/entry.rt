@@ -1,12 +1,13 @@
 // The lines of steps.
 
 ghost use Rattle.std.specs.Prelude.{◌≡◌, ◌++◌, ◌∷◌, length, take, map, IsSome, IfSome, OnOk, OnErr};
+ghost use Rattle.std.specs.List.{AllByRecursion};
 ghost use Rattle.std.specs.Fmt.{decimal};
-ghost use Rattle.proof_text.specs.Lines.{spaced, head_words, joined, literal_text, hint_text, line_text};
+ghost use Rattle.proof_text.specs.Lines.{spaced, head_words, joined, literal_text, hint_text, line_text, IsNumber, IsHead, IsLiteral, IsHint, IsLine};
 ghost use Rattle.proof_text.specs.Entries.{head_of, written_literal, written_hint, entry_line};
 
 use crate::operator::operator_name;
-use crate::write::{push_line, push_spaced, push_spaced_wide, push_with_number};
+use crate::write::{push_line, push_marked, push_spaced, push_spaced_wide, push_with_number};
 use cnf_base::{Clause, ClauseId, Lit};
 use proof_log::entry::{Entry, Hints};
 use smt_terms::node::{Node, Op, TermId};
@@ -19,6 +20,7 @@ use std::alloc::AllocError;
 fn push_head(op: &Op, out: &mut Text) -> Result<(), AllocError>
     requires { IsSome (head_of op.now) }
     ensures ok { OnOk result (IfSome (head_of op.now) (λ head. out.new ≡ out.old ++ joined (head_words head))) }
+    ensures head { OnOk result (IfSome (head_of op.now) IsHead) }
     ensures err { OnErr result (take (length out.old) out.new ≡ out.old) }
 {
     match op {
@@ -51,6 +53,7 @@ fn push_head(op: &Op, out: &mut Text) -> Result<(), AllocError>
 
 fn push_terms(terms: &[TermId], out: &mut Text) -> Result<(), AllocError>
     ensures ok { OnOk result (out.new ≡ out.old ++ spaced (map decimal terms.now)) }
+    ensures numbers { OnOk result (AllByRecursion IsNumber terms.now) }
     ensures err { OnErr result (take (length out.old) out.new ≡ out.old) }
 {
     for term in terms {
@@ -61,6 +64,7 @@ fn push_terms(terms: &[TermId], out: &mut Text) -> Result<(), AllocError>
 
 fn push_literal(literal: Lit, out: &mut Text) -> Result<(), AllocError>
     ensures ok { OnOk result (out.new ≡ out.old ++ 32 ∷ literal_text (written_literal literal)) }
+    ensures literal { OnOk result (IsLiteral (written_literal literal)) }
     ensures err { OnErr result (take (length out.old) out.new ≡ out.old) }
 {
     out.push(b' ')?;
@@ -72,6 +76,7 @@ fn push_literal(literal: Lit, out: &mut Text) -> Result<(), AllocError>
 
 fn push_literals(literals: &[Lit], out: &mut Text) -> Result<(), AllocError>
     ensures ok { OnOk result (out.new ≡ out.old ++ spaced (map literal_text (map written_literal literals.now))) }
+    ensures literals { OnOk result (AllByRecursion IsLiteral (map written_literal literals.now)) }
     ensures err { OnErr result (take (length out.old) out.new ≡ out.old) }
 {
     for literal in literals {
@@ -82,15 +87,16 @@ fn push_literals(literals: &[Lit], out: &mut Text) -> Result<(), AllocError>
 
 fn push_hint(hint: ClauseId, out: &mut Text) -> Result<(), AllocError>
     ensures ok { OnOk result (out.new ≡ out.old ++ 32 ∷ hint_text (written_hint hint)) }
+    ensures hint { OnOk result (IsHint (written_hint hint)) }
     ensures err { OnErr result (take (length out.old) out.new ≡ out.old) }
 {
     push_spaced(out, hint.pos)?;
-    out.push(b'.')?;
-    push_number(out, hint.part as u64)
+    push_marked(out, b'.', hint.part as u64)
 }
 
 fn push_hints(hints: &[ClauseId], out: &mut Text) -> Result<(), AllocError>
     ensures ok { OnOk result (out.new ≡ out.old ++ spaced (map hint_text (map written_hint hints.now))) }
+    ensures hints { OnOk result (AllByRecursion IsHint (map written_hint hints.now)) }
     ensures err { OnErr result (take (length out.old) out.new ≡ out.old) }
 {
     for hint in hints {
@@ -102,6 +108,7 @@ fn push_hints(hints: &[ClauseId], out: &mut Text) -> Result<(), AllocError>
 fn push_node(node: &Node, out: &mut Text) -> Result<(), AllocError>
     requires { IsSome (head_of node.now.op) }
     ensures ok { OnOk result (IfSome (entry_line (Entry.Node node.now)) (λ line. out.new ≡ out.old ++ line_text line)) }
+    ensures line { OnOk result (IfSome (entry_line (Entry.Node node.now)) IsLine) }
     ensures err { OnErr result (take (length out.old) out.new ≡ out.old) }
 {
     out.push_slice(b"t ")?;
@@ -112,6 +119,7 @@ fn push_node(node: &Node, out: &mut Text) -> Result<(), AllocError>
 
 fn push_chain(clause: &Clause, hints: &Hints, out: &mut Text) -> Result<(), AllocError>
     ensures ok { OnOk result (IfSome (entry_line (Entry.Chain clause.now hints.now)) (λ line. out.new ≡ out.old ++ line_text line)) }
+    ensures line { OnOk result (IfSome (entry_line (Entry.Chain clause.now hints.now)) IsLine) }
     ensures err { OnErr result (take (length out.old) out.new ≡ out.old) }
 {
     out.push(b'c')?;
@@ -124,6 +132,7 @@ fn push_chain(clause: &Clause, hints: &Hints, out: &mut Text) -> Result<(), Allo
 fn push_entry(entry: &Entry, out: &mut Text) -> Result<(), AllocError>
     requires { IsSome (entry_line entry.now) }
     ensures ok { OnOk result (IfSome (entry_line entry.now) (λ line. out.new ≡ out.old ++ line_text line)) }
+    ensures line { OnOk result (IfSome (entry_line entry.now) IsLine) }
     ensures err { OnErr result (take (length out.old) out.new ≡ out.old) }
 {
     match entry {
@@ -137,11 +146,12 @@ fn push_entry(entry: &Entry, out: &mut Text) -> Result<(), AllocError>
     }
 }
 
-/// Appends the line of a step.
+/// Appends the line of a step. It can be read: its numbers are in range.
 pub fn write_entry(entry: &Entry, out: &mut Text) -> Result<(), AllocError>
     // No line makes a declared constant or a parameter, and none is of a kind that no rule makes valid yet.
     requires { IsSome (entry_line entry.now) }
     ensures ok { OnOk result (IfSome (entry_line entry.now) (λ line. out.new ≡ out.old ++ line_text line)) }
+    ensures line { OnOk result (IfSome (entry_line entry.now) IsLine) }
     ensures err { OnErr result (out.new ≡ out.old) }
 {
     let before = out.len();

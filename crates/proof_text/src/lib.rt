@@ -3,8 +3,8 @@
 //! A [`line::Line`] is what one line says, with the numbers and values that are written there; `specs/Lines.antt` says
 //! how each is printed, and no two are printed alike. [`header::write_header`], [`entry::write_entry`] and
 //! [`record::write_record`] append the lines of a file's head, of a step and of a check's end, and their contracts say
-//! which bytes. The crate stands on the terms of `smt_terms`, the steps of `proof_log`, the values of `smt_values`, and
-//! the text of `smt_text`.
+//! which bytes, and that the lines of steps and records can be read. The crate stands on the terms of `smt_terms`, the
+//! steps of `proof_log`, the values of `smt_values`, and the text of `smt_text`.
 #![tactic(auto)]
 
 pub mod entry;

@@ -2,9 +2,9 @@
 
 ghost use Rattle.std.specs.Prelude.{◌≡◌, ◌++◌, ◌≤◌, ◌∷◌, length, take, map, IsSome, IfSome, OnOk, OnErr};
 ghost use Rattle.std.specs.List.{flat_map, AllByRecursion};
-ghost use Rattle.proof_text.specs.Lines.{digit_of, value_text, line_text};
+ghost use Rattle.proof_text.specs.Lines.{digit_of, value_text, line_text, IsLine};
 ghost use Rattle.proof_text.specs.declared.line.Line.TheVariants.{Unknown};
-ghost use Rattle.proof_text.specs.Records.{binary, written_value, value_lines, diary_line, AreWritten, record_lines};
+ghost use Rattle.proof_text.specs.Records.{binary, written_value, value_lines, diary_line, AreWritten, HasDigit, HaveDigits, record_lines};
 
 use crate::write::{push_line, push_spaced, push_with_number};
 use cnf_base::Pos;
@@ -73,6 +73,7 @@ pub fn push_value(value: &Value, out: &mut Text) -> Result<(), AllocError>
 fn push_declared(declaration: DeclId, value: &Value, out: &mut Text) -> Result<(), AllocError>
     requires { IsSome (written_value value.now) }
     ensures ok { OnOk result (out.new ≡ out.old ++ flat_map line_text (value_lines (declaration, value.now))) }
+    ensures lines { OnOk result (HasDigit value.now → AllByRecursion IsLine (value_lines (declaration, value.now))) }
     ensures err { OnErr result (take (length out.old) out.new ≡ out.old) }
 {
     push_with_number(out, b"v", declaration as u64)?;
@@ -84,6 +85,7 @@ fn push_declared(declaration: DeclId, value: &Value, out: &mut Text) -> Result<(
 fn push_values(values: &[(DeclId, Value)], out: &mut Text) -> Result<(), AllocError>
     requires { AllByRecursion (λ p. IsSome (written_value p.1)) values.now }
     ensures ok { OnOk result (out.new ≡ out.old ++ flat_map line_text (flat_map value_lines values.now)) }
+    ensures lines { OnOk result (AllByRecursion (λ p. HasDigit p.1) values.now → AllByRecursion IsLine (flat_map value_lines values.now)) }
     ensures err { OnErr result (take (length out.old) out.new ≡ out.old) }
 {
     for pair in values {
@@ -94,6 +96,7 @@ fn push_values(values: &[(DeclId, Value)], out: &mut Text) -> Result<(), AllocEr
 
 fn push_diary_line(line: DiaryLine, out: &mut Text) -> Result<(), AllocError>
     ensures ok { OnOk result (out.new ≡ out.old ++ line_text (diary_line line)) }
+    ensures line { IsLine (diary_line line) }
     ensures err { OnErr result (take (length out.old) out.new ≡ out.old) }
 {
     match line {
@@ -105,6 +108,7 @@ fn push_diary_line(line: DiaryLine, out: &mut Text) -> Result<(), AllocError>
 
 fn push_diary_lines(lines: &[DiaryLine], out: &mut Text) -> Result<(), AllocError>
     ensures ok { OnOk result (out.new ≡ out.old ++ flat_map line_text (map diary_line lines.now)) }
+    ensures lines { OnOk result (AllByRecursion IsLine (map diary_line lines.now)) }
     ensures err { OnErr result (take (length out.old) out.new ≡ out.old) }
 {
     for line in lines {
@@ -116,6 +120,7 @@ fn push_diary_lines(lines: &[DiaryLine], out: &mut Text) -> Result<(), AllocErro
 /// Appends the line that a diary begins with.
 fn push_unknown(cube: u64, start: Pos, count: u64, out: &mut Text) -> Result<(), AllocError>
     ensures ok { OnOk result (out.new ≡ out.old ++ line_text (Unknown cube start count)) }
+    ensures line { IsLine (Unknown cube start count) }
     ensures err { OnErr result (take (length out.old) out.new ≡ out.old) }
 {
     push_with_number(out, b"unknown", cube)?;
@@ -127,6 +132,7 @@ fn push_unknown(cube: u64, start: Pos, count: u64, out: &mut Text) -> Result<(),
 fn push_record(shown: &Record, out: &mut Text) -> Result<(), AllocError>
     requires { AreWritten shown.now }
     ensures ok { OnOk result (out.new ≡ out.old ++ flat_map line_text (record_lines shown.now)) }
+    ensures lines { OnOk result (HaveDigits shown.now → AllByRecursion IsLine (record_lines shown.now)) }
     ensures err { OnErr result (take (length out.old) out.new ≡ out.old) }
 {
     match shown {
@@ -144,11 +150,12 @@ fn push_record(shown: &Record, out: &mut Text) -> Result<(), AllocError>
     }
 }
 
-/// Appends the lines of a record.
+/// Appends the lines of a record. They can be read, where each word has a digit.
 pub fn write_record(shown: &Record, out: &mut Text) -> Result<(), AllocError>
     // Arrays and tables of functions have no written form.
     requires { AreWritten shown.now }
     ensures ok { OnOk result (out.new ≡ out.old ++ flat_map line_text (record_lines shown.now)) }
+    ensures lines { OnOk result (HaveDigits shown.now → AllByRecursion IsLine (record_lines shown.now)) }
     ensures err { OnErr result (out.new ≡ out.old) }
 {
     let before = out.len();

@@ -16,10 +16,10 @@ use Rattle.script_state.specs.States.{StateValue, IsState, IsPlainConstant}
 use Rattle.proof_log.specs.declared.entry.Entry.{Entry}
 use Rattle.proof_text.specs.declared.record.Record.{Record}
 use Rattle.proof_text.specs.declared.record.Record.TheVariants.{Sat, Unsat, Unknown}
+use Rattle.proof_text.specs.Records.{HasDigit, HaveDigits}
 use Rattle.accepted_proof.specs.Models.{IsOfSignature}
 use Rattle.accepted_proof.specs.Searching.{Limits}
 use Rattle.accepted_proof.specs.Turns.{IsShown}
-use Rattle.smt_session.specs.Reads.{HasDigit, HaveDigits}
 
 -- a value of a sort of words has that width
 sorted_digit : (s : Sort) (x : Value) → IsSort s → HasSort s (meaning x) → HasDigit x

@@ -1,5 +1,5 @@
 -- The texts and the values of a table are those of its model.
-use Rattle.std.proofs.Common.{◌≡◌, ℕ, List, [], ◌∷◌, ◌++◌, map, Option, Some, refl, sym, ap, ◌∙◌, subst}
+use Rattle.std.proofs.Common.{◌≡◌, ℕ, true, false, List, [], ◌∷◌, ◌++◌, map, Option, Some, None, refl, sym, ap, ◌∙◌, subst}
 use Rattle.std.specs.Prelude.{codes, slice_get}
 use Rattle.std.specs.List.{flat_map}
 use Rattle.smt_values.specs.declared.value.Value.{Value}
@@ -11,11 +11,11 @@ use Rattle.smt_build.specs.declared.symbols.LiveName.{LiveName}
 use Rattle.script_state.specs.States.{StateValue}
 use Rattle.script_state.specs.declared.answer.Asked.{Asked}
 use Rattle.proof_text.specs.declared.record.Record.{Record}
-use Rattle.proof_text.specs.declared.record.Record.TheVariants.{Sat}
+use Rattle.proof_text.specs.declared.record.Record.TheVariants.{Sat, Unsat, Unknown}
 use Rattle.accepted_proof.specs.Answers.{asked_text, definition_by, definitions_text, list_text, model_text, values_text}
 use Rattle.accepted_proof.specs.Models.{value_for}
 use Rattle.accepted_proof.proofs.Valuing.{same_interpretation}
-use Rattle.smt_session.specs.Tabled.{IsTable, IsTableOf, definitions_by}
+use Rattle.smt_session.specs.Tabled.{IsTable, IsTableOf, has_model, definitions_by}
 
 each_definition : (signatures : List Signature) (values : List (ℕ × Value)) (table : List (Option Value)) → IsTable values table → (live : List LiveName)
     → flat_map (λ (l : LiveName). definition_by l.name (slice_get signatures l.declaration) (set_for table l.declaration)) live
@@ -28,6 +28,25 @@ each_definition signatures values table h (l ∷ live) =
 
 pub definitions_same : (s : StateValue) (values : List (ℕ × Value)) (table : List (Option Value)) → IsTable values table → definitions_by s table ≡ definitions_text s values
 definitions_same s values table h = each_definition s.symbols.signatures values table h s.symbols.live
+
+-- where there is no model, there is no text
+pub no_model : (s : StateValue) (o : Option Record) → has_model o ≡ false → [] ≡ model_text s o
+no_model s None e = refl
+no_model s (Some (Sat values)) e = let f : ⊥ = cc in absurd f
+no_model s (Some (Unsat p)) e = refl
+no_model s (Some (Unknown d)) e = refl
+
+pub no_values : (nodes : List Node) (asked : List Asked) (o : Option Record) → has_model o ≡ false → [] ≡ values_text nodes asked o
+no_values nodes asked None e = refl
+no_values nodes asked (Some (Sat values)) e = let f : ⊥ = cc in absurd f
+no_values nodes asked (Some (Unsat p)) e = refl
+no_values nodes asked (Some (Unknown d)) e = refl
+
+pub model_of : (o : Option Record) → has_model o ≡ true → (values : List (ℕ × Value)) × (o ≡ Some (Sat values))
+model_of None e = let f : ⊥ = cc in absurd f
+model_of (Some (Sat values)) e = (values, refl)
+model_of (Some (Unsat p)) e = let f : ⊥ = cc in absurd f
+model_of (Some (Unknown d)) e = let f : ⊥ = cc in absurd f
 
 -- where a record has a model, and a table its values
 module _ (o : Option Record) (values : List (ℕ × Value)) (table : List (Option Value)) (has : o ≡ Some (Sat values)) (tabled : IsTableOf o table) where

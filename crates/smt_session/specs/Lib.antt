@@ -1,5 +1,4 @@
 pub mod Growing
-pub mod Reads
 pub mod Reaching
 pub mod Searched
 pub mod Reused

@@ -1,5 +1,5 @@
 -- The values of a model by declaration.
-use Rattle.std.specs.Prelude.{◌≡◌, ℕ, List, Option, None, Some, slice_get}
+use Rattle.std.specs.Prelude.{◌≡◌, ℕ, Bool, true, false, List, Option, None, Some, slice_get}
 use Rattle.std.specs.List.{flat_map}
 use Rattle.smt_values.specs.declared.value.Value.{Value}
 use Rattle.smt_values.specs.Held.{set_for}
@@ -20,6 +20,21 @@ IsTableOf None table = Unit {0}
 IsTableOf (Some (Sat values)) table = IsTable values table
 IsTableOf (Some (Unsat p)) table = Unit {0}
 IsTableOf (Some (Unknown d)) table = Unit {0}
+
+-- where a table is made, it is that of the record
+abbrev pub AreTabled : Option Record → Option (List (Option Value)) → Type 0
+AreTabled shown None = Unit {0}
+AreTabled shown (Some table) = IsTableOf shown table
+
+-- whether there is a model
+abbrev pub is_model : Record → Bool
+is_model (Sat values) = true
+is_model (Unsat p) = false
+is_model (Unknown d) = false
+
+abbrev pub has_model : Option Record → Bool
+has_model None = false
+has_model (Some r) = is_model r
 
 -- the live names in the order of their declarations, each with its value in the table
 abbrev pub definitions_by : StateValue → List (Option Value) → List ℕ

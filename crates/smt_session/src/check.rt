@@ -5,14 +5,13 @@ ghost use Rattle.std.specs.List.{flat_map, AllByRecursion};
 ghost use Rattle.proof_log.specs.Stored.{Stands};
 ghost use Rattle.reached_steps.specs.Reached.{AddsNoVariable};
 ghost use Rattle.proof_text.specs.Lines.{line_text, IsLine};
-ghost use Rattle.proof_text.specs.Records.{AreWritten, record_lines};
+ghost use Rattle.proof_text.specs.Records.{AreWritten, HaveDigits, record_lines};
 ghost use Rattle.accepted_proof.specs.Answers.{step_lines};
 ghost use Rattle.script_state.specs.States.{roots};
 ghost use Rattle.accepted_proof.specs.Searching.{AreLimits, Rise, cube_variables};
 ghost use Rattle.accepted_proof.specs.Turns.{verdict_of};
 ghost use Rattle.check_cubes.specs.Searches.{limits_of};
 ghost use Rattle.smt_session.specs.Growing.{AreGiven, AreLined, Grows};
-ghost use Rattle.smt_session.specs.Reads.{HaveDigits};
 ghost use Rattle.smt_session.specs.Searched.{AreEnough};
 ghost use Rattle.smt_session.specs.Sessions.{IsChecked, IsSession};
 
@@ -22,7 +21,6 @@ use crate::learnt::add_learnt;
 use crate::model::model;
 use crate::positions::positions;
 use crate::reach::{reach, roots};
-use crate::readable::{read_record, read_step};
 use crate::solve::{Found, solve};
 use crate::workspace::Workspace;
 use check_cubes::{Limits, cube_variables};
@@ -185,10 +183,7 @@ fn write_steps(log: &Log, from: Pos, out: &mut Text) -> Result<(), AllocError>
 {
     'steps: for at in from..log.len() {
         match log.entry(at) {
-            Some(entry) => {
-                read_step(entry);
-                write_entry(entry, out)?;
-            }
+            Some(entry) => write_entry(entry, out)?,
             None => unreachable!(),
         }
     }
@@ -206,7 +201,6 @@ fn lines(alloc: Global, log: &Log, from: Pos, shown: &Record) -> Result<Text, Al
 {
     let mut out = Text::new(alloc);
     write_steps(log, from, &mut out)?;
-    read_record(shown);
     write_record(shown, &mut out)?;
     Ok(out)
 }

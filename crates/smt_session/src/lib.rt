@@ -21,7 +21,6 @@ mod lists;
 mod model;
 mod positions;
 mod reach;
-mod readable;
 pub mod response;
 pub mod session;
 pub mod settings;

@@ -85,7 +85,7 @@ fn answer_check<Q: Sink>(
     let (shown, text) = run_check(alloc, state, workspace, limits)?;
     let verdict = verdict_of(&shown);
     let response = Response::verdict(alloc, verdict)?;
-    last.put(alloc, shown)?;
+    last.put(shown);
     write_lines(&text, proof)?;
     state.conclude(verdict);
     Ok(response)
@@ -120,7 +120,7 @@ fn response_without_check(
     alloc: Global,
     line: u64,
     answer: Answer,
-    last: &Last,
+    last: &mut Last,
     state: &State,
     log: &Log,
     reached: &mut Reached,
@@ -128,7 +128,8 @@ fn response_without_check(
     requires session { IsSession state.now log.now }
     requires held { AreHeld state.now answer }
     requires unchecked { answer ≢ Answer.Check }
-    ensures { IfOk result (λ r. (limits : LimitsValue) (written : Option (List ℕ)) → Responds limits line answer state.now state.now log.now log.now last.now last.now r written written) }
+    ensures response { IfOk result (λ r. (limits : LimitsValue) (written : Option (List ℕ)) → Responds limits line answer state.now state.now log.now log.now last.old last.old r written written) }
+    ensures same { last.new ≡ last.old }
 {
     let text = match answer {
         Answer::Done => return Response::done(alloc, state.options(), false),
@@ -198,7 +199,7 @@ impl Session {
                 names,
                 reached: Reached::new(alloc),
             },
-            last: Last::new(alloc),
+            last: Last::new(),
             limits: settings.limits(),
         })
     }

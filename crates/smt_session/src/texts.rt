@@ -6,7 +6,7 @@ ghost use Rattle.accepted_proof.specs.Answers.{sort_text, value_text, definition
 ghost use Rattle.smt_session.specs.Tabled.{definitions_by};
 
 use crate::last::Last;
-use proof_text::record::{Record, push_value};
+use proof_text::record::push_value;
 use script_state::state::State;
 use smt_build::symbols::LiveName;
 use smt_terms::sort::Sort;
@@ -106,15 +106,15 @@ fn definition_lines(alloc: Global, state: &State, values: &Interp) -> Result<Tex
 }
 
 /// The model that the record of the last check has, where it has one.
-pub(crate) fn model_text(alloc: Global, state: &State, last: &Last) -> Result<Text, AllocError>
-    ensures { IfOk result (λ t. t ≡ model_text state.now last.now) }
+pub(crate) fn model_text(alloc: Global, state: &State, last: &mut Last) -> Result<Text, AllocError>
+    ensures text { IfOk result (λ t. t ≡ model_text state.now last.old) }
+    ensures same { last.new ≡ last.old }
 {
-    match last.shown() {
-        Some(shown) => match shown {
-            Record::Sat(_) => definition_lines(alloc, state, last.values()),
-            Record::Unsat(_) => Ok(Text::new(alloc)),
-            Record::Unknown(_) => Ok(Text::new(alloc)),
-        },
-        None => Ok(Text::new(alloc)),
+    if !last.has_model() {
+        return Ok(Text::new(alloc));
     }
+    let values = last.take_values(alloc)?;
+    let text = definition_lines(alloc, state, &values)?;
+    last.keep(values);
+    Ok(text)
 }

@@ -8,7 +8,7 @@ ghost use Rattle.accepted_proof.specs.Answers.{asked_text, meaning_text, values_
 
 use crate::last::Last;
 use crate::lists::list_text;
-use proof_text::record::{Record, push_value};
+use proof_text::record::push_value;
 use script_state::answer::Asked;
 use script_state::state::State;
 use smt_eval::values_with;
@@ -80,22 +80,19 @@ fn value_items(
 pub(crate) fn values_text(
     alloc: Global,
     state: &State,
-    last: &Last,
+    last: &mut Last,
     asked: &[Asked],
     reached: &mut Reached,
 ) -> Result<Text, AllocError>
     requires { All (λ (a : AskedValue). a.term < length state.now.terms.nodes) asked.now }
-    ensures { IfOk result (λ t. t ≡ values_text state.now.terms.nodes asked.now last.now) }
+    ensures text { IfOk result (λ t. t ≡ values_text state.now.terms.nodes asked.now last.old) }
+    ensures same { last.new ≡ last.old }
 {
-    match last.shown() {
-        Some(shown) => match shown {
-            Record::Sat(_) => {
-                let items = value_items(alloc, state, last.values(), asked, reached)?;
-                list_text(alloc, items.as_slice())
-            }
-            Record::Unsat(_) => Ok(Text::new(alloc)),
-            Record::Unknown(_) => Ok(Text::new(alloc)),
-        },
-        None => Ok(Text::new(alloc)),
+    if !last.has_model() {
+        return Ok(Text::new(alloc));
     }
+    let values = last.take_values(alloc)?;
+    let items = value_items(alloc, state, &values, asked, reached)?;
+    last.keep(values);
+    list_text(alloc, items.as_slice())
 }

@@ -15,5 +15,5 @@ steps-preserved c = record {
       written_more c.args.log.now.entries c.args.from c.steps.at c.in-Some.entry.now c.args.out.now c.steps.out c.write_entry.new.out
       c.requires.from c.steps.auto.at c.requires.lined c.in-Some.ensures c.in_ok-write_entry-in-Some.ensures.ok c.steps.invariant.text;
   readable =
-      next_readable c.args.log.now.entries c.args.from c.steps.at c.in-Some.entry.now c.requires.from c.steps.auto.at c.in-Some.ensures c.read_step.ensures c.steps.invariant.readable;
+      next_readable c.args.log.now.entries c.args.from c.steps.at c.in-Some.entry.now c.requires.from c.steps.auto.at c.in-Some.ensures c.in_ok-write_entry-in-Some.ensures.line c.steps.invariant.readable;
 }

@@ -1,6 +1,6 @@
 use Rattle.std.specs.Prelude.{take, drop, ◌-◌}
 use Rattle.std.specs.List.{AllByRecursion}
-use Rattle.smt_session.specs.Reads.{IsReadable}
+use Rattle.smt_session.proofs.LineByLine.{IsReadable}
 use Rattle.smt_session.proofs.Printing.{AreWrittenTo}
 use Rattle.smt_session.proofs.check.write_steps.Given as goal
 

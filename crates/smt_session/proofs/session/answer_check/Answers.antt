@@ -16,7 +16,7 @@ pub returns-clause-response : goal.returns-clause-response
 returns-clause-response g c =
     subst
     (λ now. Responds (limits_of c.args.limits) c.args.line answer.Check c.args.state.now c.conclude.new.self c.args.workspace.now.log c.run_check.new.workspace.log c.args.last.now now c.in_ok-response.response (g.Q.Sink.written c.args.proof.now) (g.Q.Sink.written c.write_lines.new.proof))
-    (sym c.in_ok-put.ensures)
+    (sym c.put.ensures)
     (check_responds (limits_of c.args.limits) c.args.line c.args.state.now c.conclude.new.self c.args.workspace.now.log c.run_check.new.workspace.log c.in_ok-shown.shown c.in_ok-shown.text c.in_ok-response.response
     (g.Q.Sink.written c.args.proof.now) (g.Q.Sink.written c.write_lines.new.proof) c.args.last.now
     c.in_ok-shown.ensures.checked c.in_ok-shown.ensures.text c.in_ok-shown.ensures.readable c.in_ok-write_lines.ensures.ok
