@@ -42,6 +42,14 @@ def hiding(n):
     return WORD + "(assert (= x %sx%s))\n" % ("(let ((x (bvnot x))) " * n, ")" * n)
 
 
+def uses(n):
+    """A function whose body reaches the first of so many constants, which is used as often."""
+    constants = ["p%d" % k for k in range(n)]
+    declared = "".join("(declare-const %s Bool)\n" % name for name in constants)
+    defined = "(assert (and %s))\n(define-fun f ((u Bool) (v Bool)) Bool (or (and u v) p0))\n" % " ".join(constants)
+    return declared + defined + "".join("(assert (f p%d p%d))\n" % (k, (k + 1) % n) for k in range(n))
+
+
 def distinct(n):
     return WORD + "(assert (distinct%s))\n" % "".join(" (_ bv%d 32)" % k for k in range(n))
 
@@ -54,6 +62,7 @@ SCRIPTS = [
     ("let in let, each of a name of its own", lets, 100000),
     ("let in let, each hiding the last", hiding, 100000),
     ("open parentheses", opened, 500000),
+    ("uses of a function whose body reaches an early constant", uses, 10000),
     ("arguments of one distinct (quadratic by its definition)", distinct, 500),
 ]
 

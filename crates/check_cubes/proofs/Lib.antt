@@ -1,4 +1,3 @@
-mod Reached
 mod Rising
 mod Drawn
 mod Splitting

@@ -1,15 +1,14 @@
 -- Numbers that rise: a list of them is known by its members.
-use Rattle.std.proofs.Common.{◌≡◌, ℕ, suc, ◌<◌, ◌≤◌, List, [], ◌∷◌, ◌++◌, flat_map, get_or, Some, refl, sym, ap₂, ◌∙◌, subst, inl, inr, ⊎_elim, arith}
-use Rattle.std.specs.Prelude.{◌⊎◌, ◌==◌, false, AllPairs, Contains, slice_get}
+use Rattle.std.proofs.Common.{◌≡◌, ℕ, suc, ◌<◌, ◌≤◌, List, [], ◌∷◌, ◌++◌, flat_map, get_or, refl, sym, ap₂, subst, inl, inr, ⊎_elim, arith}
+use Rattle.std.specs.Prelude.{◌⊎◌, ◌==◌, false, Contains}
 use Rattle.std.specs.List.{IsDistinct}
-use Rattle.std.specs.List.Sorted.{IsNonDecreasing}
-use Rattle.std.proofs.lemmas.Bool.{cases_eq, eq-eqb, ne_eqb}
-use Rattle.std.proofs.lemmas.Option.{slice_get-get_or}
+use Rattle.std.proofs.lemmas.Bool.{ne_eqb}
 use Rattle.std.proofs.lemmas.List.Elements.{recursion_from_All, Contains-get_or, Contains-append_left, Contains-append_right, Contains-append_cases}
-use Rattle.std.proofs.lemmas.List.Kept.{AllPairs-cons, AllPairs-from_increasing}
-use Rattle.std.proofs.lemmas.Map.Keys.{IsDistinct-head, IsDistinct-tail, IsDistinct-cons, IsDistinct-from_apart, IsStrictlyIncreasing-from_distinct}
+use Rattle.std.proofs.lemmas.List.Kept.{AllPairs-cons}
+use Rattle.std.proofs.lemmas.Map.Keys.{IsDistinct-head, IsDistinct-tail, IsDistinct-cons, IsDistinct-from_apart}
 use Rattle.cnf_base.proofs.Lists.{Contains-nil, Contains-first, Contains-later, Contains-one, each_append}
 use Rattle.term_reach.specs.Reach.{IsOnce}
+use Rattle.term_reach.proofs.Rising.{Rises, AreApart, once_rest, once_apart}
 use Rattle.accepted_proof.specs.Searching.{Rise}
 use Rattle.accepted_proof.proofs.Splitting.{rise_ends}
 
@@ -35,9 +34,6 @@ member_given {A = A} f (b ∷ xs) a x c h = ⊎_elim
     (first_or_later b xs a c)
 
 -- ---- lists that rise
-
-abbrev pub Rises : List ℕ → Type 0
-Rises = AllPairs (λ x y. x < y)
 
 rises_first : (x : ℕ) (xs : List ℕ) (y : ℕ) → Rises (x ∷ xs) → Contains xs y → x < y
 rises_first x xs y h c = subst (λ z. x < z) c.2 (h 0 (suc c.0) y (omega arith) (let lt = c.1 in omega (arith, lt)))
@@ -112,12 +108,6 @@ module _ {A : Type 0} (f : A → List ℕ) where
 
 -- ---- members that stand once
 
-abbrev pub AreApart : List ℕ → Type 0
-AreApart = IsDistinct (λ x y. x == y)
-
-pub equal_flips : (x y : ℕ) → (x == y) ≡ (y == x)
-equal_flips x y = ⊎_elim (λ e. eq-eqb x y e ∙ sym (eq-eqb y x (sym e))) (λ ne. ne_eqb x y ne ∙ sym (ne_eqb y x (λ e. ne (sym e)))) (cases_eq x y)
-
 pub rises_apart : (xs : List ℕ) → Rises xs → AreApart xs
 rises_apart xs h = IsDistinct-from_apart (λ x y. x == y) xs (λ i j d less lt. ne_eqb (get_or xs i d) (get_or xs j d) (λ e. (let m = h i j d less lt in omega (arith, m, e))))
 
@@ -128,12 +118,6 @@ both_apart (x ∷ xs) ys h k none =
     (each_append (λ y. (x == y) ≡ false) xs ys (IsDistinct-head (λ a b. a == b) x xs h)
     (recursion_from_All (λ y. (x == y) ≡ false) ys (λ i d lt. ne_eqb x (get_or ys i d) (λ e. none x (Contains-first x xs) (subst (Contains ys) (sym e) (Contains-get_or ys i d lt))))))
     (both_apart xs ys (IsDistinct-tail (λ a b. a == b) x xs h) k (λ y c. none y (Contains-later x y xs c)))
-
-once_rest : (t : ℕ) (ts : List ℕ) → IsOnce (t ∷ ts) → IsOnce ts
-once_rest t ts h j k u e f = let s : suc j ≡ suc k = h (suc j) (suc k) u e f in omega (arith, s)
-
-once_apart : (t : ℕ) (ts : List ℕ) → IsOnce (t ∷ ts) → Contains ts t → ⊥
-once_apart t ts h c = let s : 0 ≡ suc c.0 = h 0 (suc c.0) t refl (subst (λ u. slice_get ts c.0 ≡ Some u) c.2 (slice_get-get_or ts c.0 t c.1)) in omega (arith, s)
 
 -- the members of all parts, where each part's do and no two have one in common
 pub parts_apart : (f : ℕ → List ℕ) (ts : List ℕ) → IsOnce ts → ((t : ℕ) → Contains ts t → AreApart (f t)) → ((t u x : ℕ) → Contains ts t → Contains ts u → Contains (f t) x → Contains (f u) x → t ≡ u) → AreApart (flat_map f ts)
@@ -146,6 +130,3 @@ parts_apart f (t ∷ ts) once each one =
     let r = member_owner f ts x there in
     let same : t ≡ r.0 = one t r.0 x (Contains-first t ts) (Contains-later t r.0 ts r.1) here r.2 in
     once_apart t ts once (subst (Contains ts) (sym same) r.1))
-
-pub sorted_rises : (xs : List ℕ) → IsNonDecreasing xs → AreApart xs → Rises xs
-sorted_rises xs h k = AllPairs-from_increasing xs (IsStrictlyIncreasing-from_distinct xs h k)

@@ -14,6 +14,8 @@ use Rattle.smt_terms.specs.Nodes.{node_at}
 use Rattle.smt_terms.specs.Terms.{TermsValue, IsTermList}
 use Rattle.smt_terms.specs.Bits.{bits_in}
 use Rattle.term_reach.specs.Reach.{arguments, IsReach}
+use Rattle.term_reach.proofs.Rising.{AreApart, equal_flips, sorted_rises}
+use Rattle.smt_build.proofs.Ways.{way_from_told, told_from_way}
 use Rattle.cube_tree.specs.Cubes.{AreVariables}
 use Rattle.script_state.specs.States.{StateValue, IsState, roots}
 use Rattle.proof_log.specs.declared.entry.Entry.{Entry}
@@ -24,8 +26,7 @@ use Rattle.proof_log.proofs.Staying.{Holds-refl}
 use Rattle.accepted_proof.specs.Searching.{Limits, Rise, is_reached, variables_of, leaf_variables, split_variables, cube_variables}
 use Rattle.accepted_proof.proofs.Splitting.{rise_take, steps_rise}
 use Rattle.check_cubes.specs.Searches.{declared_variables}
-use Rattle.check_cubes.proofs.Reached.{way_from_told, told_from_way}
-use Rattle.check_cubes.proofs.Rising.{AreApart, member_owner, member_given, same_rising, rise_rises, part_rises, one_owner, equal_flips, rises_apart, parts_apart, sorted_rises}
+use Rattle.check_cubes.proofs.Rising.{member_owner, member_given, same_rising, rise_rises, part_rises, one_owner, rises_apart, parts_apart}
 use Rattle.check_cubes.proofs.Drawn.{drawn}
 
 -- where none may split, none does

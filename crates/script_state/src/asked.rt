@@ -25,6 +25,7 @@ use smt_terms::node::TermId;
 use smt_terms::terms::Terms;
 use smt_text::token::{Token, Tokens};
 use std::alloc::{AllocError, Global};
+use term_reach::Reached;
 
 /// What terms are asked for.
 #[derive(Clone, Copy)]
@@ -65,6 +66,7 @@ fn ask_one(
     alloc: Global,
     symbols: &Symbols,
     terms: &mut Terms,
+    reached: &mut Reached,
     marks: &mut Vec<bool>,
     tokens: &Tokens<'_>,
     span: Span,
@@ -79,7 +81,7 @@ fn ask_one(
     ensures grows { Grows symbols.now.signatures terms.old terms.new }
     ensures marks { HavePlain terms.new.nodes marks.new.items }
 {
-    let term = match symbols.elaborate(alloc, terms, tokens, span) {
+    let term = match symbols.elaborate(alloc, terms, reached, tokens, span) {
         Ok(term) => term,
         Err(BuildError::NoMemory) => return Err(AskError::NoMemory),
         Err(BuildError::Fault(fault)) => return Err(AskError::Refused(build_error(fault))),
@@ -96,6 +98,7 @@ fn ask_all(
     alloc: Global,
     symbols: &Symbols,
     terms: &mut Terms,
+    reached: &mut Reached,
     marks: &mut Vec<bool>,
     tokens: &Tokens<'_>,
     spans: &[Span],
@@ -116,7 +119,9 @@ fn ask_all(
     let mut asked = Vec::new(alloc);
     let mut place = first;
     for span in spans {
-        let term = match ask_one(alloc, symbols, terms, marks, tokens, *span, purpose) {
+        let term = match ask_one(
+            alloc, symbols, terms, reached, marks, tokens, *span, purpose,
+        ) {
             Ok(term) => term,
             Err(error) => return Err(error),
         };
@@ -140,6 +145,7 @@ pub(crate) fn ask(
     alloc: Global,
     symbols: &Symbols,
     terms: &mut Terms,
+    reached: &mut Reached,
     marks: &mut Vec<bool>,
     tokens: &Tokens<'_>,
     list: Span,
@@ -168,6 +174,7 @@ pub(crate) fn ask(
         alloc,
         symbols,
         terms,
+        reached,
         marks,
         tokens,
         spans.as_slice(),

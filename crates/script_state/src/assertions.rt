@@ -92,7 +92,10 @@ impl State {
         ensures { (es : Sexps) → AllStand (signs_of tokens.now) (spans_of command.now) es
             → Answers (defining self.old (define self.old.symbols self.old.terms (name_of command.now) es)) result self.old self.new }
     {
-        match self.symbols.define(alloc, &mut self.terms, tokens, command) {
+        match self
+            .symbols
+            .define(alloc, &mut self.terms, &mut self.reached, tokens, command)
+        {
             Ok(()) => {
                 self.standing = None;
                 self.assumed = None;
@@ -120,7 +123,7 @@ impl State {
         let name = name_at(alloc, tokens, span)?;
         let term = match self
             .symbols
-            .assert_term(alloc, &mut self.terms, tokens, span)
+            .assert_term(alloc, &mut self.terms, &mut self.reached, tokens, span)
         {
             Ok(term) => term,
             Err(BuildError::NoMemory) => return Err(AllocError),
@@ -180,6 +183,7 @@ impl State {
             alloc,
             &self.symbols,
             &mut self.terms,
+            &mut self.reached,
             &mut self.plain,
             tokens,
             list,

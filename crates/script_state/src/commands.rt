@@ -57,6 +57,7 @@ impl State {
             alloc,
             &self.symbols,
             &mut self.terms,
+            &mut self.reached,
             &mut self.plain,
             tokens,
             list,

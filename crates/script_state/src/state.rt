@@ -18,6 +18,7 @@ use smt_terms::terms::Terms;
 use smt_text::chunk::{Chunk, ChunkKind};
 use std::alloc::{AllocError, Global};
 use std::marker::Model;
+use term_reach::Reached;
 
 /// The declarations, the terms, the levels with their assertions, the options, and the check that stands.
 #[derive(Drop)]
@@ -31,6 +32,8 @@ pub struct State {
     pub(crate) assumed: Option<AskedTerms>,
     /// For each of the first terms whether it is plain.
     pub(crate) plain: Vec<bool>,
+    /// Room for the walks of uses of definitions, which is kept from command to command.
+    pub(crate) reached: Reached,
 }
 
 impl Model for State {
@@ -53,6 +56,7 @@ pub struct Rest {
     standing: Option<Verdict>,
     assumed: Option<AskedTerms>,
     plain: Vec<bool>,
+    reached: Reached,
 }
 
 impl Model for Rest {
@@ -76,6 +80,7 @@ impl State {
             standing: None,
             assumed: None,
             plain: Vec::new(alloc),
+            reached: Reached::new(alloc),
         }
     }
 
@@ -121,6 +126,7 @@ impl State {
             standing,
             assumed,
             plain,
+            reached,
         } = self;
         let rest = Rest {
             symbols,
@@ -129,6 +135,7 @@ impl State {
             standing,
             assumed,
             plain,
+            reached,
         };
         (terms, rest)
     }
@@ -145,6 +152,7 @@ impl State {
             standing,
             assumed,
             plain,
+            reached,
         } = rest;
         State {
             symbols,
@@ -154,6 +162,7 @@ impl State {
             standing,
             assumed,
             plain,
+            reached,
         }
     }
 

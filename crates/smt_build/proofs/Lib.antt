@@ -10,7 +10,7 @@ pub mod Declarations
 pub mod Levels
 pub mod Folds
 pub mod Uses
-pub mod Marking
+pub mod Ways
 pub mod Images
 pub mod ParameterLists
 pub mod Definings

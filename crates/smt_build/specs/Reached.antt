@@ -1,54 +1,35 @@
--- How the terms that a body reaches, and what stands for them, are kept while a use is made.
-use Rattle.std.specs.Prelude.{◌≡◌, ℕ, zero, suc, ◌+◌, ◌-◌, ◌<◌, ◌≤◌, Bool, true, false, List, [], ◌∷◌, ◌++◌, All, length, slice_index_or, Ok}
+-- How what stands for the terms that a body reaches is kept while a use is made.
+use Rattle.std.specs.Prelude.{◌≡◌, ℕ, ◌<◌, ◌==◌, true, List, [], ◌∷◌, AllPairs, Contains, length, map, Option, Some, None, Ok, if◌then◌else◌}
 use Rattle.smt_terms.specs.declared.node.Node.{Node}
-use Rattle.smt_terms.specs.Nodes.{node_at}
-use Rattle.smt_terms.specs.Terms.{TermsValue}
-use Rattle.smt_build.specs.Building.{Built}
-use Rattle.smt_build.specs.Definitions.{reaches, argument, made_again}
+use Rattle.smt_terms.specs.Nodes.{node_of, node_at}
+use Rattle.smt_terms.specs.Terms.{TermsValue, IsTermList}
+use Rattle.term_reach.specs.Reach.{IsOnce}
+use Rattle.smt_build.specs.Building.{Built, made}
+use Rattle.smt_build.specs.Definitions.{reaches, argument}
 
--- a term's mark; the body has the first, and the terms before it have theirs behind
-abbrev pub mark_of : ℕ → List Bool → ℕ → Bool
-mark_of body marks t = slice_index_or marks (body - t) false
+-- what stands for a term: the number that has the term's place; 0 where there is none
+abbrev pub placed : List ℕ → List ℕ → ℕ → ℕ
+placed [] images t = 0
+placed (u ∷ us) [] t = 0
+placed (u ∷ us) (x ∷ xs) t = if u == t then x else placed us xs t
 
-abbrev pub IsMarked : ℕ → List Bool → ℕ → Type 0
-IsMarked body marks t = (t ≤ body) × (mark_of body marks t ≡ true)
+-- a parameter is its argument; all else is made over what stands for its arguments
+abbrev pub made_over : (ℕ → ℕ) → TermsValue → Node → Option ℕ → Built
+made_over stands terms n (Some a) = Ok (a, terms)
+made_over stands terms n None = made terms (node_of n.op (map stands n.args))
 
--- only what the body reaches has a mark
-pub record AreMarks (nodes : List Node) (body : ℕ) (marks : List Bool) : Type 0 where
-  pub within : length marks ≤ body + 1
-  pub reached : (t : ℕ) → IsMarked body marks t → reaches nodes body t ≡ true
+-- what stands for a term, by what stands for others
+abbrev pub again : (ℕ → ℕ) → List ℕ → TermsValue → ℕ → Built
+again stands args terms t = made_over stands terms (node_at terms.nodes t) (argument args (node_at terms.nodes t).op)
 
--- these terms got marks, and only terms before a bound
-pub record Marks (nodes : List Node) (body bound : ℕ) (old new : List Bool) (args : List ℕ) : Type 0 where
-  pub marks : AreMarks nodes body new
-  pub longer : length old ≤ length new
-  pub kept : (t : ℕ) → IsMarked body old t → IsMarked body new t
-  pub same : (t : ℕ) → bound ≤ t → IsMarked body new t → IsMarked body old t
-  pub given : All (IsMarked body new) args
-
--- terms with marks from the body down have arguments with marks
-abbrev pub AreClosed : List Node → ℕ → List Bool → ℕ → Type 0
-AreClosed nodes body marks depth = (t : ℕ) → body < t + depth → IsMarked body marks t → All (IsMarked body marks) (node_at nodes t).args
-
--- one term more is done
-pub record Closes (nodes : List Node) (body depth : ℕ) (old new : List Bool) : Type 0 where
-  pub marks : AreMarks nodes body new
-  pub longer : length old ≤ length new
-  pub kept : (t : ℕ) → IsMarked body old t → IsMarked body new t
-  pub closed : AreClosed nodes body old depth → AreClosed nodes body new (depth + 1)
-
--- the body has a mark, and exactly what it reaches
-pub record AreReached (nodes : List Node) (body : ℕ) (marks : List Bool) : Type 0 where
-  pub some : 1 ≤ length marks
-  pub within : length marks ≤ body + 1
-  pub each : (t : ℕ) → t ≤ body → reaches nodes body t ≡ mark_of body marks t
-
--- the terms below a number, each for itself
-abbrev pub themselves : ℕ → List ℕ
-themselves zero = []
-themselves (suc n) = themselves n ++ n ∷ []
-
--- what stands for a term, by whether it is reached
-abbrev pub again : Bool → List ℕ → List ℕ → TermsValue → ℕ → Built
-again true args images terms t = made_again images terms (node_at terms.nodes t) (argument args (node_at terms.nodes t).op)
-again false args images terms t = Ok (t, terms)
+-- exactly the terms below a body that it reaches, each once, and the same in rising order
+pub record AreRising (nodes : List Node) (body : ℕ) (reached order : List ℕ) : Type 0 where
+  pub list : IsTermList nodes
+  pub once : IsOnce reached
+  pub below : (t : ℕ) → Contains reached t → t < body
+  pub only : (t : ℕ) → Contains reached t → reaches nodes body t ≡ true
+  pub all : (t : ℕ) → t < body → reaches nodes body t ≡ true → Contains reached t
+  pub rises : AllPairs (λ (x y : ℕ). x < y) order
+  pub size : length order ≡ length reached
+  pub listed : (t : ℕ) → Contains reached t → Contains order t
+  pub held : (t : ℕ) → Contains order t → Contains reached t

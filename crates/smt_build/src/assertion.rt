@@ -20,6 +20,7 @@ use smt_terms::node::TermId;
 use smt_terms::terms::Terms;
 use smt_text::token::Tokens;
 use std::alloc::{AllocError, Global};
+use term_reach::Reached;
 
 /// Makes a name the definition of its term.
 fn add_name(symbols: &mut Symbols, alloc: Global, variable: &Variable<'_>) -> Result<(), AllocError>
@@ -57,11 +58,12 @@ fn add_names(symbols: &mut Symbols, alloc: Global, names: &[Variable<'_>]) -> Re
 impl Symbols {
     /// The number of the asserted term that the S-expression at a span means over the live names. Names that terms are
     /// given within it are definitions from then on. A fault is its first, and then, as for want of memory, all is as
-    /// before.
+    /// before. `reached` is room as for `elaborate`.
     pub fn assert_term(
         &mut self,
         alloc: Global,
         terms: &mut Terms,
+        reached: &mut Reached,
         tokens: &Tokens<'_>,
         span: Span,
     ) -> Result<TermId, BuildError>
@@ -73,7 +75,7 @@ impl Symbols {
         let len = terms.len();
         let items = tokens_at(tokens.as_slice(), span);
         let mut scope = scope_over(alloc, Parameters::none(alloc));
-        let term = match read_term(alloc, self, terms, &mut scope, true, items) {
+        let term = match read_term(alloc, self, terms, reached, &mut scope, true, items) {
             Ok(term) => term,
             Err(error) => {
                 terms.cut(len);

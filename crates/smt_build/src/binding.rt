@@ -24,6 +24,7 @@ use smt_terms::node::{Node, Op, TermId};
 use smt_terms::terms::Terms;
 use smt_text::token::TokenKind;
 use std::alloc::Global;
+use term_reach::Reached;
 
 /// The fault of the name of a variable that is bound beside those from a place on.
 #[tactic(auto, unfolding(crate::specs::Binding::new_variable))]
@@ -83,6 +84,7 @@ fn symbol_in(
     alloc: Global,
     symbols: &Symbols,
     terms: &mut Terms,
+    reached: &mut Reached,
     scope: &Scope<'_>,
     name: &[u8],
 ) -> Result<TermId, BuildError>
@@ -95,7 +97,7 @@ fn symbol_in(
     }
     match scope.parameters.get(name) {
         Some(parameter) => parameter_term(alloc, terms, parameter),
-        None => word_term(alloc, symbols, terms, TokenKind::Symbol, name),
+        None => word_term(alloc, symbols, terms, reached, TokenKind::Symbol, name),
     }
 }
 
@@ -105,6 +107,7 @@ pub(crate) fn word_in(
     alloc: Global,
     symbols: &Symbols,
     terms: &mut Terms,
+    reached: &mut Reached,
     scope: &Scope<'_>,
     kind: TokenKind,
     text: &[u8],
@@ -114,8 +117,8 @@ pub(crate) fn word_in(
     ensures grows { Grows symbols.now.signatures terms.old terms.new }
 {
     match kind {
-        TokenKind::Symbol => symbol_in(alloc, symbols, terms, scope, text),
-        _ => word_term(alloc, symbols, terms, kind, text),
+        TokenKind::Symbol => symbol_in(alloc, symbols, terms, reached, scope, text),
+        _ => word_term(alloc, symbols, terms, reached, kind, text),
     }
 }
 
@@ -137,6 +140,7 @@ pub(crate) fn application_in(
     alloc: Global,
     symbols: &Symbols,
     terms: &mut Terms,
+    reached: &mut Reached,
     scope: &Scope<'_>,
     head: Head<'_>,
     args: Vec<TermId>,
@@ -149,11 +153,11 @@ pub(crate) fn application_in(
             if is_local(terms, scope, name) {
                 return Err(BuildError::Fault(BuildFault::WrongSort));
             }
-            application(alloc, symbols, terms, head, args)
+            application(alloc, symbols, terms, reached, head, args)
         }
         Head::Indexed(name, _) => {
             let is_local = is_local(terms, scope, name);
-            match application(alloc, symbols, terms, head, args) {
+            match application(alloc, symbols, terms, reached, head, args) {
                 Ok(term) => Ok(term),
                 Err(error) => Err(misused(is_local, error)),
             }

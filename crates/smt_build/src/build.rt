@@ -23,6 +23,7 @@ use smt_terms::sort::{DeclId, Signature};
 use smt_terms::terms::Terms;
 use smt_text::token::TokenKind;
 use std::alloc::Global;
+use term_reach::Reached;
 
 /// The term of a literal.
 fn literal(
@@ -127,6 +128,7 @@ fn symbol_term(
     alloc: Global,
     symbols: &Symbols,
     terms: &mut Terms,
+    reached: &mut Reached,
     name: &[u8],
 ) -> Result<TermId, BuildError>
     requires { AreDeclared symbols.now.signatures terms.old.nodes }
@@ -137,7 +139,7 @@ fn symbol_term(
         return applied(alloc, terms, named, Vec::new(alloc));
     }
     match symbols.definition(name) {
-        Some(definition) => used(alloc, terms, definition, &[]),
+        Some(definition) => used(alloc, terms, reached, definition, &[]),
         None => declared(alloc, symbols, terms, name),
     }
 }
@@ -148,6 +150,7 @@ pub fn word_term(
     alloc: Global,
     symbols: &Symbols,
     terms: &mut Terms,
+    reached: &mut Reached,
     kind: TokenKind,
     text: &[u8],
 ) -> Result<TermId, BuildError>
@@ -156,7 +159,7 @@ pub fn word_term(
     ensures grows { Grows symbols.now.signatures terms.old terms.new }
 {
     match (kind, text) {
-        (TokenKind::Symbol, _) => symbol_term(alloc, symbols, terms, text),
+        (TokenKind::Symbol, _) => symbol_term(alloc, symbols, terms, reached, text),
         (TokenKind::Binary, [_, _, digits @ ..]) => binary(alloc, terms, digits),
         (TokenKind::Hexadecimal, [_, _, digits @ ..]) => hexadecimal(alloc, terms, digits),
         _ => Err(BuildError::Fault(BuildFault::NotSupported)),
@@ -168,6 +171,7 @@ fn plain_application(
     alloc: Global,
     symbols: &Symbols,
     terms: &mut Terms,
+    reached: &mut Reached,
     name: &[u8],
     args: Vec<TermId>,
 ) -> Result<TermId, BuildError>
@@ -178,7 +182,7 @@ fn plain_application(
         return applied(alloc, terms, named, args);
     }
     if let Some(definition) = symbols.definition(name) {
-        return used(alloc, terms, definition, args.as_slice());
+        return used(alloc, terms, reached, definition, args.as_slice());
     }
     if symbols.declaration(name).is_some() {
         Err(BuildError::Fault(BuildFault::WrongSort))
@@ -193,6 +197,7 @@ pub fn application(
     alloc: Global,
     symbols: &Symbols,
     terms: &mut Terms,
+    reached: &mut Reached,
     head: Head<'_>,
     args: Vec<TermId>,
 ) -> Result<TermId, BuildError>
@@ -200,7 +205,7 @@ pub fn application(
     ensures grows { (signatures : List SignatureValue) → Grows signatures terms.old terms.new }
 {
     match head {
-        Head::Plain(name) => plain_application(alloc, symbols, terms, name, args),
+        Head::Plain(name) => plain_application(alloc, symbols, terms, reached, name, args),
         Head::Indexed(name, indices) => indexed_application(symbols, terms, name, indices, args),
     }
 }

@@ -24,6 +24,7 @@ use smt_terms::sort::Sort;
 use smt_terms::terms::Terms;
 use smt_text::token::{Token, Tokens};
 use std::alloc::Global;
+use term_reach::Reached;
 
 /// Whether no sort is defined with the name.
 fn is_sort_reserved(name: &[u8]) -> bool
@@ -67,6 +68,7 @@ fn body_of(
     symbols: &Symbols,
     alloc: Global,
     terms: &mut Terms,
+    reached: &mut Reached,
     tokens: &Tokens<'_>,
     parameters: Parameters,
     sort: Sort,
@@ -78,7 +80,7 @@ fn body_of(
     ensures grows { Grows symbols.now.signatures terms.old terms.new }
 {
     let len = terms.len();
-    let term = term_over(symbols, alloc, terms, tokens, parameters, body)?;
+    let term = term_over(symbols, alloc, terms, reached, tokens, parameters, body)?;
     if !has_sort(sort, held_sort(terms, term)) {
         terms.cut(len);
         return Err(BuildError::Fault(BuildFault::WrongSort));
@@ -119,6 +121,7 @@ fn define_name(
     symbols: &mut Symbols,
     alloc: Global,
     terms: &mut Terms,
+    reached: &mut Reached,
     tokens: &Tokens<'_>,
     name: &[u8],
     parameters: Parameters,
@@ -133,7 +136,9 @@ fn define_name(
 {
     let sorts = parameters.sorts(alloc)?;
     let before = terms.len();
-    let body = body_of(symbols, alloc, terms, tokens, parameters, value, body)?;
+    let body = body_of(
+        symbols, alloc, terms, reached, tokens, parameters, value, body,
+    )?;
     let definition = Definition {
         parameters: sorts,
         body,
@@ -152,6 +157,7 @@ fn define_function(
     symbols: &mut Symbols,
     alloc: Global,
     terms: &mut Terms,
+    reached: &mut Reached,
     tokens: &Tokens<'_>,
     name: &[Token<'_>],
     list: &[Token<'_>],
@@ -175,7 +181,7 @@ fn define_function(
     let mut parameters = Parameters::none(alloc);
     let value = read_head(symbols, alloc, &mut parameters, list, value)?;
     define_name(
-        symbols, alloc, terms, tokens, name.text, parameters, value, body,
+        symbols, alloc, terms, reached, tokens, name.text, parameters, value, body,
     )
 }
 
@@ -204,11 +210,12 @@ impl Symbols {
         }
     }
 
-    /// Makes the definition that a command asks for.
+    /// Makes the definition that a command asks for. `reached` is room as for `elaborate`.
     pub fn define(
         &mut self,
         alloc: Global,
         terms: &mut Terms,
+        reached: &mut Reached,
         tokens: &Tokens<'_>,
         command: &Command,
     ) -> Result<(), BuildError>
@@ -229,6 +236,7 @@ impl Symbols {
                     self,
                     alloc,
                     terms,
+                    reached,
                     tokens,
                     tokens_at(items, *name),
                     tokens_at(items, *parameters),

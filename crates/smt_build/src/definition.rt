@@ -1,12 +1,11 @@
 // Definitions of functions, and the terms of their uses.
 
-ghost use Rattle.std.specs.Prelude.{◌≡◌, ◌<◌, ◌≤◌, ◌-◌, ◌∷◌, ◌++◌, ℕ, List, [], true, false, map, replicate, length, IfOk, OnOk};
+ghost use Rattle.std.specs.Prelude.{◌≡◌, ◌≢◌, ◌<◌, ℕ, List, [], Contains, map, length, IfOk};
 ghost use Rattle.smt_terms.specs.declared.sort.Signature.{Signature as SignatureValue};
 ghost use Rattle.smt_terms.specs.Nodes.{node_of, node_at};
-ghost use Rattle.smt_terms.specs.Terms.{IsTermList};
 ghost use Rattle.smt_build.specs.Building.{made, Builds, Means, Grows};
-ghost use Rattle.smt_build.specs.Definitions.{have_sorts, reaches, image, argument, instance, used};
-ghost use Rattle.smt_build.specs.Reached.{IsMarked, AreMarks, Marks, Closes, AreReached, themselves, again};
+ghost use Rattle.smt_build.specs.Definitions.{have_sorts, image, argument, instance, used};
+ghost use Rattle.smt_build.specs.Reached.{placed, again, AreRising};
 
 use crate::fault::{BuildError, BuildFault};
 use crate::grouping::{has_sort, held_sort};
@@ -16,6 +15,7 @@ use smt_terms::node::{Node, Op, TermId};
 use smt_terms::sort::Sort;
 use smt_terms::terms::Terms;
 use std::alloc::{AllocError, Global};
+use term_reach::{Reached, reach_by_arguments};
 
 /// What a defined name stands for: a term over parameters of these sorts.
 #[derive(Debug, Drop)]
@@ -51,81 +51,21 @@ fn have_sorts(terms: &Terms, sorts: &[Sort], args: &[TermId]) -> bool
     true
 }
 
-/// Puts places without a mark at the end, up to this length.
-fn extend(marks: &mut Vec<bool>, len: usize) -> Result<(), AllocError>
-    ensures { OnOk result (marks.new.items ≡ marks.old.items ++ replicate (len - length marks.old.items) false) }
-{
-    if len > marks.len() {
-        marks.resize(len, false)?;
-    }
-    Ok(())
-}
-
-/// Marks a term that a body reaches.
-fn mark(terms: &Terms, body: TermId, marks: &mut Vec<bool>, term: TermId) -> Result<(), AllocError>
-    requires within { term ≤ body }
-    requires here { reaches terms.now.nodes body term ≡ true }
-    requires marks { AreMarks terms.now.nodes body marks.old.items }
-    ensures { OnOk result ((bound : ℕ) → term < bound → Marks terms.now.nodes body bound marks.old.items marks.new.items (term ∷ [])) }
-{
-    let place = (body - term) as usize;
-    extend(marks, place + 1)?;
-    marks[place] = true;
-    Ok(())
-}
-
-/// Marks the arguments of a term that a body reaches.
-fn mark_arguments(
+/// The terms below a body that it reaches, in rising order; `reached` has them with their places.
+fn rising(
+    alloc: Global,
     terms: &Terms,
     body: TermId,
-    marks: &mut Vec<bool>,
-    term: TermId,
-) -> Result<(), AllocError>
-    requires held { body < length terms.now.nodes }
-    requires here { IsMarked body marks.old.items term }
-    requires marks { AreMarks terms.now.nodes body marks.old.items }
-    ensures { OnOk result (Marks terms.now.nodes body term marks.old.items marks.new.items (node_at terms.now.nodes term).args) }
+    reached: &mut Reached,
+) -> Result<Vec<TermId>, AllocError>
+    requires { body < length terms.now.nodes }
+    ensures { IfOk result (λ order. AreRising terms.now.nodes body reached.new order.items) }
 {
-    let arguments = terms.node(term).args.as_slice();
-    'arguments: for argument in arguments {
-        mark(terms, body, marks, *argument)?;
-    }
-    Ok(())
-}
-
-/// Marks the arguments of the term so far below a body, if it has a mark.
-fn mark_below(
-    terms: &Terms,
-    body: TermId,
-    marks: &mut Vec<bool>,
-    depth: usize,
-) -> Result<(), AllocError>
-    requires held { body < length terms.now.nodes }
-    requires here { depth < length marks.old.items }
-    requires marks { AreMarks terms.now.nodes body marks.old.items }
-    ensures { OnOk result (Closes terms.now.nodes body depth marks.old.items marks.new.items) }
-{
-    if !marks[depth] {
-        return Ok(());
-    }
-    mark_arguments(terms, body, marks, body - depth as u32)?;
-    Ok(())
-}
-
-/// A mark for each term that a body reaches, from the body down.
-fn reached(alloc: Global, terms: &Terms, body: TermId) -> Result<Vec<bool>, AllocError>
-    requires list { IsTermList terms.now.nodes }
-    requires held { body < length terms.now.nodes }
-    ensures { IfOk result (λ marks. AreReached terms.now.nodes body marks.items) }
-{
-    let mut marks = Vec::new(alloc);
-    mark(terms, body, &mut marks, body)?;
-    let mut depth = 0usize;
-    'terms: while depth < marks.len() {
-        mark_below(terms, body, &mut marks, depth)?;
-        depth += 1;
-    }
-    Ok(marks)
+    let arguments = terms.node(body).args.as_slice();
+    reach_by_arguments(alloc, terms, arguments, reached)?;
+    let mut order = Vec::from_slice(alloc, reached.terms())?;
+    order.sort_unstable();
+    Ok(order)
 }
 
 /// The number at a place, 0 past the end.
@@ -138,28 +78,28 @@ fn number_at(numbers: &[TermId], place: usize) -> TermId
     }
 }
 
-/// What stands for a term; terms before the first stand for themselves.
-fn image(first: TermId, images: &[TermId], term: TermId) -> TermId
-    ensures { result ≡ image (themselves first ++ images.now) term }
+/// What stands for a term: the image at its place.
+fn image(reached: &Reached, images: &[TermId], term: TermId) -> TermId
+    ensures { result ≡ placed reached.now images.now term }
 {
-    if term < first {
-        return term;
+    match reached.place_of(term) {
+        Some(place) => number_at(images, place),
+        None => 0,
     }
-    number_at(images, (term - first) as usize)
 }
 
 /// What stands for these terms.
 fn images_of(
     alloc: Global,
-    first: TermId,
+    reached: &Reached,
     images: &[TermId],
     terms: &[TermId],
 ) -> Result<Vec<TermId>, AllocError>
-    ensures { IfOk result (λ v. v.items ≡ map (image (themselves first ++ images.now)) terms.now) }
+    ensures { IfOk result (λ v. v.items ≡ map (placed reached.now images.now) terms.now) }
 {
     let mut found = Vec::new(alloc);
     for term in terms {
-        found.push(image(first, images, *term))?;
+        found.push(image(reached, images, *term))?;
     }
     Ok(found)
 }
@@ -168,17 +108,17 @@ fn images_of(
 fn remade(
     alloc: Global,
     terms: &mut Terms,
-    first: TermId,
+    reached: &Reached,
     images: &[TermId],
     term: TermId,
 ) -> Result<TermId, BuildError>
     requires { term < length terms.old.nodes }
-    ensures builds { Builds (made terms.old (node_of (node_at terms.old.nodes term).op (map (image (themselves first ++ images.now)) (node_at terms.old.nodes term).args))) result terms.old terms.new }
+    ensures builds { Builds (made terms.old (node_of (node_at terms.old.nodes term).op (map (placed reached.now images.now) (node_at terms.old.nodes term).args))) result terms.old terms.new }
     ensures grows { (signatures : List SignatureValue) → Grows signatures terms.old terms.new }
 {
     let node = terms.node(term);
     let op = node.op.copy()?;
-    let args = images_of(alloc, first, images, node.args.as_slice())?;
+    let args = images_of(alloc, reached, images, node.args.as_slice())?;
     let args = Arguments::from_vec(args);
     made(terms, Node { op, args })
 }
@@ -198,30 +138,64 @@ fn argument(terms: &Terms, args: &[TermId], term: TermId) -> Option<TermId>
 fn again(
     alloc: Global,
     terms: &mut Terms,
-    is_reached: bool,
-    first: TermId,
+    reached: &Reached,
     images: &[TermId],
     args: &[TermId],
     term: TermId,
 ) -> Result<TermId, BuildError>
     requires { term < length terms.old.nodes }
-    ensures means { Means (again is_reached args.now (themselves first ++ images.now) terms.old term) result terms.new }
+    ensures means { Means (again (placed reached.now images.now) args.now terms.old term) result terms.new }
     ensures grows { (signatures : List SignatureValue) → Grows signatures terms.old terms.new }
 {
-    if !is_reached {
-        return Ok(term);
-    }
     match argument(terms, args, term) {
         Some(argument) => Ok(argument),
-        None => remade(alloc, terms, first, images, term),
+        None => remade(alloc, terms, reached, images, term),
     }
 }
 
-/// A body with these arguments in place of its parameters. Looks at the terms from the body down to the first that it
-/// reaches, and no others.
+/// Puts what stands for a term at the term's place.
+fn put(reached: &Reached, images: &mut Vec<TermId>, term: TermId, number: TermId)
+    requires there { Contains reached.now term }
+    requires size { length images.old.items ≡ length reached.now }
+    ensures size { length images.new.items ≡ length reached.now }
+    ensures here { placed reached.now images.new.items term ≡ number }
+    ensures others { (t : ℕ) → Contains reached.now t → t ≢ term → placed reached.now images.new.items t ≡ placed reached.now images.old.items t }
+{
+    let Some(place) = reached.place_of(term) else {
+        return;
+    };
+    images[place] = number;
+}
+
+/// A body with these arguments in place of its parameters. Looks at the terms that it reaches in rising order, and at no
+/// others.
+fn made_in_order(
+    alloc: Global,
+    terms: &mut Terms,
+    body: TermId,
+    reached: &Reached,
+    order: &[TermId],
+    args: &[TermId],
+) -> Result<TermId, BuildError>
+    requires held { body < length terms.old.nodes }
+    requires rising { AreRising terms.old.nodes body reached.now order.now }
+    ensures means { Means (instance terms.old body args.now) result terms.new }
+    ensures grows { (signatures : List SignatureValue) → Grows signatures terms.old terms.new }
+{
+    let mut images: Vec<TermId> = vec![in alloc; 0; order.len()]?;
+    'order: for term in order {
+        let image = again(alloc, terms, reached, images.as_slice(), args, *term)?;
+        put(reached, &mut images, *term, image);
+    }
+    again(alloc, terms, reached, images.as_slice(), args, body)
+}
+
+/// A body with these arguments in place of its parameters. `reached` is room for the walk, which its owner keeps from use to
+/// use; what it had may be forgotten.
 fn instance(
     alloc: Global,
     terms: &mut Terms,
+    reached: &mut Reached,
     body: TermId,
     args: &[TermId],
 ) -> Result<TermId, BuildError>
@@ -231,31 +205,15 @@ fn instance(
     if body >= terms.len() {
         return Ok(body);
     }
-    let marks = reached(alloc, terms, body)?;
-    let first = body - (marks.len() - 1) as u32;
-    let mut images = Vec::new(alloc);
-    let mut term = first;
-    'terms: while term < body {
-        let is_reached = marks[(body - term) as usize];
-        let image = again(
-            alloc,
-            terms,
-            is_reached,
-            first,
-            images.as_slice(),
-            args,
-            term,
-        )?;
-        images.push(image)?;
-        term += 1;
-    }
-    again(alloc, terms, true, first, images.as_slice(), args, body)
+    let order = rising(alloc, terms, body, reached)?;
+    made_in_order(alloc, terms, body, reached, order.as_slice(), args)
 }
 
 /// The term of a defined name and its arguments.
 pub(crate) fn used(
     alloc: Global,
     terms: &mut Terms,
+    reached: &mut Reached,
     definition: &Definition,
     args: &[TermId],
 ) -> Result<TermId, BuildError>
@@ -268,5 +226,5 @@ pub(crate) fn used(
     if args.is_empty() {
         return Ok(definition.body);
     }
-    instance(alloc, terms, definition.body, args)
+    instance(alloc, terms, reached, definition.body, args)
 }

@@ -17,12 +17,14 @@ use smt_text::tokens::tokens;
 use std::alloc::Global;
 use std::process::Abort;
 use std::test::Fail;
+use term_reach::Reached;
 
 /// What a command that defines gives.
 fn define(
     alloc: Global,
     symbols: &mut Symbols,
     terms: &mut Terms,
+    reached: &mut Reached,
     tokens: &Tokens<'_>,
     command: &Command,
 ) -> Result<(), BuildError>
@@ -31,7 +33,7 @@ fn define(
 {
     match command {
         Command::DefineSort { .. } => symbols.define_sort(alloc, tokens, command),
-        _ => symbols.define(alloc, terms, tokens, command),
+        _ => symbols.define(alloc, terms, reached, tokens, command),
     }
 }
 
@@ -46,21 +48,25 @@ fn obey(
     requires { AreDeclared symbols.old.signatures terms.old.nodes }
     ensures { AreDeclared symbols.new.signatures terms.new.nodes }
 {
+    let mut reached = Reached::new(alloc);
     let command = match read_command(alloc, tokens) {
         Ok(command) => command,
         Err(SyntaxError::Fault(_)) => {
             let end = tokens.as_slice().len();
-            return Ok(symbols.elaborate(alloc, terms, tokens, Span { start: 0, end }));
+            let span = Span { start: 0, end };
+            return Ok(symbols.elaborate(alloc, terms, &mut reached, tokens, span));
         }
         Err(error) => return Err(error),
     };
     if let Command::Assert { term } = &command {
-        return Ok(symbols.assert_term(alloc, terms, tokens, *term));
+        return Ok(symbols.assert_term(alloc, terms, &mut reached, tokens, *term));
     }
-    Ok(match define(alloc, symbols, terms, tokens, &command) {
-        Ok(()) => Ok(terms.len()),
-        Err(error) => Err(error),
-    })
+    Ok(
+        match define(alloc, symbols, terms, &mut reached, tokens, &command) {
+            Ok(()) => Ok(terms.len()),
+            Err(error) => Err(error),
+        },
+    )
 }
 
 /// What a command's text gives.
@@ -139,7 +145,7 @@ fn give(
 const INC: &[u8] = b"(define-fun inc ((v (_ BitVec 8))) (_ BitVec 8) (bvadd v #x01))";
 
 /// A definition and a term that uses it, with the term's number and how many terms are then held.
-const USED: [(&[u8], &[u8], u32, u32); 8] = [
+const USED: [(&[u8], &[u8], u32, u32); 10] = [
     (INC, b"(assert (= (inc #x04) #x05))", 6, 7),
     (INC, b"(assert (= (inc x) (inc x)))", 5, 6),
     (INC, b"(assert (= (inc (inc x)) x))", 6, 7),
@@ -172,6 +178,20 @@ const USED: [(&[u8], &[u8], u32, u32); 8] = [
         b"(assert (less p true))",
         7,
         8,
+    ),
+    // The body reaches x alone of the three terms before its parameter.
+    (
+        b"(define-fun f ((v (_ BitVec 8))) (_ BitVec 8) (let ((w (bvneg (bvnot x)))) (bvadd x v)))",
+        b"(assert (= (f #x04) (f x)))",
+        8,
+        9,
+    ),
+    // What is made again is made in the order of its numbers, and not in that of the walk.
+    (
+        b"(define-fun crossed ((v Bool) (w Bool)) Bool (let ((a (not v)) (b (not w))) (and b a)))",
+        b"(assert (let ((c (crossed p true))) (not p)))",
+        7,
+        10,
     ),
 ];
 

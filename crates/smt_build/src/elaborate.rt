@@ -23,6 +23,7 @@ use smt_terms::node::TermId;
 use smt_terms::terms::Terms;
 use smt_text::token::{Token, TokenKind, Tokens};
 use std::alloc::Global;
+use term_reach::Reached;
 
 /// What is wanted next, under these open lists.
 fn wanted(stack: &[Open<'_>]) -> Want
@@ -73,6 +74,7 @@ fn step<'a>(
     alloc: Global,
     symbols: &Symbols,
     terms: &mut Terms,
+    reached: &mut Reached,
     scope: &mut Scope<'a>,
     may_name: bool,
     stack: &mut Vec<Open<'a>>,
@@ -87,7 +89,7 @@ fn step<'a>(
         TokenKind::Close => match stack.pop() {
             None => Err(BuildError::Fault(BuildFault::NotSupported)),
             Some(list) => {
-                let part = closes(alloc, symbols, terms, scope, list)?;
+                let part = closes(alloc, symbols, terms, reached, scope, list)?;
                 hand(alloc, scope, stack, part)
             }
         },
@@ -96,6 +98,7 @@ fn step<'a>(
                 alloc,
                 symbols,
                 terms,
+                reached,
                 scope,
                 may_name,
                 wanted(stack),
@@ -112,6 +115,7 @@ fn read_part<'a>(
     alloc: Global,
     symbols: &Symbols,
     terms: &mut Terms,
+    reached: &mut Reached,
     scope: &mut Scope<'a>,
     may_name: bool,
     tokens: &[Token<'a>],
@@ -122,7 +126,9 @@ fn read_part<'a>(
 {
     let mut stack: Vec<Open<'a>> = Vec::new(alloc);
     for token in tokens {
-        match step(alloc, symbols, terms, scope, may_name, &mut stack, token)? {
+        match step(
+            alloc, symbols, terms, reached, scope, may_name, &mut stack, token,
+        )? {
             Some(part) => return Ok(part),
             None => {}
         }
@@ -147,6 +153,7 @@ pub(crate) fn read_term<'a>(
     alloc: Global,
     symbols: &Symbols,
     terms: &mut Terms,
+    reached: &mut Reached,
     scope: &mut Scope<'a>,
     may_name: bool,
     tokens: &[Token<'a>],
@@ -156,7 +163,8 @@ pub(crate) fn read_term<'a>(
     ensures reads { (e : Sexp) → signs_in tokens.now ≡ spelling e → ReadsTerm (term_in symbols.now may_name [] (progress (state_of terms.old (scope_over scope.old.parameters))) e) result (progress (state_of terms.new scope.new)) }
     ensures grows { Grows symbols.now.signatures terms.old terms.new }
 {
-    let Part::Term(term) = read_part(alloc, symbols, terms, scope, may_name, tokens)? else {
+    let Part::Term(term) = read_part(alloc, symbols, terms, reached, scope, may_name, tokens)?
+    else {
         return Err(BuildError::Fault(BuildFault::NotSupported));
     };
     Ok(term)
@@ -169,6 +177,7 @@ pub(crate) fn term_over(
     symbols: &Symbols,
     alloc: Global,
     terms: &mut Terms,
+    reached: &mut Reached,
     tokens: &Tokens<'_>,
     parameters: Parameters,
     span: Span,
@@ -181,7 +190,7 @@ pub(crate) fn term_over(
     let len = terms.len();
     let items = tokens_at(tokens.as_slice(), span);
     let mut scope = scope_over(alloc, parameters);
-    match read_term(alloc, symbols, terms, &mut scope, false, items) {
+    match read_term(alloc, symbols, terms, reached, &mut scope, false, items) {
         Ok(term) => Ok(term),
         Err(error) => {
             terms.cut(len);
@@ -192,11 +201,13 @@ pub(crate) fn term_over(
 
 impl Symbols {
     /// The number of the term that the S-expression at a span means over the live names. A fault is its first, and then,
-    /// as for want of memory, the terms are as before.
+    /// as for want of memory, the terms are as before. `reached` is room for the walks of uses of definitions, which its
+    /// owner keeps from call to call; what it had may be forgotten.
     pub fn elaborate(
         &self,
         alloc: Global,
         terms: &mut Terms,
+        reached: &mut Reached,
         tokens: &Tokens<'_>,
         span: Span,
     ) -> Result<TermId, BuildError>
@@ -205,6 +216,14 @@ impl Symbols {
         ensures err { OnErr result (terms.new ≡ terms.old) }
         ensures grows { Grows self.now.signatures terms.old terms.new }
     {
-        term_over(self, alloc, terms, tokens, Parameters::none(alloc), span)
+        term_over(
+            self,
+            alloc,
+            terms,
+            reached,
+            tokens,
+            Parameters::none(alloc),
+            span,
+        )
     }
 }

@@ -19,6 +19,7 @@ use smt_terms::node::TermId;
 use smt_terms::terms::Terms;
 use smt_text::token::TokenKind;
 use std::alloc::Global;
+use term_reach::Reached;
 
 /// What is wanted next.
 #[derive(Clone, Copy, Debug)]
@@ -189,6 +190,7 @@ pub fn closes<'a>(
     alloc: Global,
     symbols: &Symbols,
     terms: &mut Terms,
+    reached: &mut Reached,
     scope: &mut Scope<'a>,
     list: Open<'a>,
 ) -> Result<Part<'a>, BuildError>
@@ -197,7 +199,7 @@ pub fn closes<'a>(
 {
     match list {
         Open::Application(head, args) => {
-            let term = application_in(alloc, symbols, terms, scope, head, args)?;
+            let term = application_in(alloc, symbols, terms, reached, scope, head, args)?;
             Ok(Part::Term(term))
         }
         Open::WithIndices(Role::Term, name, indices) => {
@@ -229,6 +231,7 @@ pub fn at_word<'a>(
     alloc: Global,
     symbols: &Symbols,
     terms: &mut Terms,
+    reached: &mut Reached,
     scope: &mut Scope<'a>,
     may_name: bool,
     want: Want,
@@ -241,7 +244,7 @@ pub fn at_word<'a>(
 {
     match (want, kind) {
         (Want::Term, _) => {
-            let term = word_in(alloc, symbols, terms, scope, kind, text)?;
+            let term = word_in(alloc, symbols, terms, reached, scope, kind, text)?;
             Ok(Part::Term(term))
         }
         (Want::Head, TokenKind::Symbol) => Ok(Part::Head(Head::Plain(text))),

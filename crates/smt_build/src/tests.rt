@@ -14,6 +14,7 @@ use smt_text::tokens::tokens;
 use std::alloc::{AllocError, Global};
 use std::process::Abort;
 use std::test::Fail;
+use term_reach::Reached;
 
 pub(crate) const X: &[u8] = b"(declare-const x (_ BitVec 8))";
 
@@ -44,8 +45,11 @@ fn obey(
     requires { AreDeclared symbols.old.signatures terms.old.nodes }
 {
     let command = read_command(alloc, tokens)?;
+    let mut reached = Reached::new(alloc);
     Ok(match &command {
-        Command::Assert { term } => symbols.assert_term(alloc, terms, tokens, *term),
+        Command::Assert { term } => {
+            symbols.assert_term(alloc, terms, &mut reached, tokens, *term)
+        }
         _ => symbols.declare(alloc, tokens, &command),
     })
 }

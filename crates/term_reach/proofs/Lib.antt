@@ -1,3 +1,4 @@
 pub mod Tables
 pub mod Ways
+pub mod Rising
 pub mod Walking
