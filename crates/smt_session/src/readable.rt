@@ -11,7 +11,7 @@ ghost use Rattle.proof_text.specs.Records.{value_lines, diary_line, record_lines
 ghost use Rattle.proof_text.specs.declared.record.Record.TheVariants.{Unknown};
 ghost use Rattle.smt_session.specs.Reads.{IsReadable, HasDigit, HaveDigits};
 
-use cnf_base::{Clause, ClauseId, Lit, Pos};
+use cnf_base::{Clause, Lit, Pos};
 use proof_log::diary::{Diary, DiaryLine};
 use proof_log::entry::{Entry, Hints};
 use proof_text::record::Record;
@@ -81,10 +81,11 @@ fn read_hint(pos: Pos, part: u32)
 }
 
 /// The names of clauses.
-fn read_hints(hints: &[ClauseId])
+fn read_hints(hints: &Hints)
     ensures { AllByRecursion IsHint (map written_hint hints.now) }
 {
-    for hint in hints {
+    for k in 0..hints.len() {
+        let hint = hints.hint(k);
         read_hint(hint.pos, hint.part);
     }
 }
@@ -94,7 +95,7 @@ fn read_chain(clause: &Clause, hints: &Hints)
     ensures { IsReadable (Entry.Chain clause.now hints.now) }
 {
     read_literals(clause.literals());
-    read_hints(hints.as_slice());
+    read_hints(hints);
 }
 
 /// The line of a step.

@@ -5,5 +5,5 @@ use Rattle.proof_text.specs.Lines.{IsHint}
 use Rattle.proof_text.specs.Entries.{written_hint}
 use Rattle.smt_session.proofs.readable.read_hints.Given as goal
 
-abbrev pub invariant-loop-hint : goal.invariant-loop-hint
-invariant-loop-hint l = AllByRecursion (λ (h : ClauseId). IsHint (written_hint h)) (take l.hint-index l.hints)
+abbrev pub invariant-loop-k : goal.invariant-loop-k
+invariant-loop-k l = AllByRecursion (λ (h : ClauseId). IsHint (written_hint h)) (take l.k l.hints)
