@@ -58,7 +58,7 @@ fn explain_all(
     let mut walk = Walk::start(alloc, watches, rows, conflict)?;
     walk.explain(watches, trail, rows, rows.len(), true)?;
     let clause = walk.clause(alloc, rows)?;
-    let hints = walk.into_hints(alloc)?;
+    let hints = walk.into_hints();
     Ok((clause, hints))
 }
 

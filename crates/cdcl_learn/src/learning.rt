@@ -75,6 +75,6 @@ pub fn learn(
     let rest = walk.top(place);
     let level = if rest == 0 { 0 } else { rows[rest - 1].1 };
     let clause = walk.clause(alloc, rows)?;
-    let hints = walk.into_hints(alloc)?;
+    let hints = walk.into_hints();
     Ok((clause, hints, level))
 }

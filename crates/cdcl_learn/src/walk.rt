@@ -272,12 +272,12 @@ impl Walk {
         Ok(Clause::from_vec(literals))
     }
 
-    /// The hints, in the order of a chain, in a vector that has room for no more: logs keep it as it is.
-    pub(crate) fn into_hints(self, alloc: Global) -> Result<Vec<ClauseId>, AllocError>
-        ensures { IfOk result (λ hints. hints.items ≡ reverse self.hints.items) }
+    /// The hints, in the order of a chain.
+    pub(crate) fn into_hints(self) -> Vec<ClauseId>
+        ensures { result.items ≡ reverse self.hints.items }
     {
-        let mut hints = Vec::from_slice(alloc, self.hints.as_slice())?;
+        let mut hints = self.hints;
         hints.reverse();
-        Ok(hints)
+        hints
     }
 }

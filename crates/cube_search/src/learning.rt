@@ -36,7 +36,8 @@ impl Search {
     {
         let (near, hints) = self.engine.final_clause(clash)?;
         let clause = self.names.global_clause(self.alloc, &near)?;
-        board.put(Entry::Chain(clause, Hints::from_vec(hints)))
+        let chain = Hints::of(self.alloc, hints.as_slice())?;
+        board.put(Entry::Chain(clause, chain))
     }
 
     /// Learns from a conflict above the given literals: the clause under numbers for which it puts the clause itself, the level to which
@@ -56,7 +57,8 @@ impl Search {
     {
         let (near, hints, level) = self.engine.learn(conflict)?;
         let clause = self.names.global_clause(self.alloc, &near)?;
-        let at = board.put(Entry::Chain(clause, Hints::from_vec(hints)))?;
+        let chain = Hints::of(self.alloc, hints.as_slice())?;
+        let at = board.put(Entry::Chain(clause, chain))?;
         Ok((near, level, at))
     }
 

@@ -55,7 +55,8 @@ fn resolve(
         return Ok(right);
     }
     let clause = resolvent(alloc, first.literals(), second.literals(), literal)?;
-    let hints = Hints::from_vec(hints_of(alloc, clause.literals(), literal, at_left, at_right)?);
+    let names = hints_of(alloc, clause.literals(), literal, at_left, at_right)?;
+    let hints = Hints::of(alloc, names.as_slice())?;
     let place = log.push(alloc, terms, Entry::Chain(clause, hints))?;
     Ok(place)
 }

@@ -13,6 +13,7 @@ use crate::table::LiteralNumbers;
 use crate::watches::Watches;
 use cnf_base::{ClauseId, Lit};
 use proof_log::Log;
+use proof_log::entry::Hints;
 use std::alloc::AllocError;
 
 // Makes the table the set of a clause's literals, and tells whether none of them stands beside its opposite.
@@ -81,13 +82,13 @@ pub(crate) fn is_none_in(table: &LiteralNumbers, clause: &[Lit]) -> bool
 }
 
 // Whether each hint is held.
-pub(crate) fn are_held(held: &Positions, hints: &[ClauseId]) -> bool
+pub(crate) fn are_held(held: &Positions, hints: &Hints) -> bool
     ensures { MatchBool result
         ((id : ClauseId) → Contains hints.now id → bit_in held.now id.pos ≡ true)
         ((id : ClauseId) × Contains hints.now id × (bit_in held.now id.pos ≢ true)) }
 {
-    for id in hints {
-        if !held.has(id.pos) {
+    for k in 0..hints.len() {
+        if !held.has(hints.hint(k).pos) {
             return false;
         }
     }

@@ -12,8 +12,9 @@ use crate::positions::Positions;
 use crate::table::LiteralNumbers;
 use crate::uses::{are_used, find_lasts};
 use crate::watches::Watches;
-use cnf_base::{ClauseId, Lit};
+use cnf_base::Lit;
 use proof_log::Log;
+use proof_log::entry::Hints;
 use std::alloc::{AllocError, Global};
 
 /// Tables that are filled anew for each clause: its literals, those that are true while the hints are read, and the last
@@ -42,7 +43,7 @@ fn is_derived(
     trues: &mut LiteralNumbers,
     lasts: &mut LiteralNumbers,
     clause: &[Lit],
-    hints: &[ClauseId],
+    hints: &Hints,
 ) -> Result<bool, AllocError>
     ensures { IfOk result (λ b. MatchBool b
         (IsDerived (clause_at log.now.clauses) (bit_in held.now) clause.now hints.now)
@@ -90,7 +91,7 @@ pub(crate) fn is_good_put(
     watches: &Watches,
     scratch: &mut Scratch,
     clause: &[Lit],
-    hints: &[ClauseId],
+    hints: &Hints,
 ) -> Result<bool, AllocError>
     ensures { IfOk result (λ b. (g : Subject) → look_of g ≡ clause_at log.now.clauses → IsSetOf given.now g.given →
         AreFiled (clause_at log.now.clauses) (bit_in held.now) watches.now →

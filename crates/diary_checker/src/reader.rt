@@ -128,7 +128,7 @@ impl DiaryReader {
             &self.watches,
             &mut self.scratch,
             clause.literals(),
-            hints.as_slice(),
+            hints,
         )? {
             return Ok(false);
         }

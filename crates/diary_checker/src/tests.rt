@@ -48,7 +48,7 @@ fn chain(
     requires { Stands proof.old.terms.nodes proof.old.log }
     ensures { Stands proof.new.terms.nodes proof.new.log }
 {
-    let hints = Hints::from_vec(Vec::from_slice(alloc, hints)?);
+    let hints = Hints::of(alloc, hints)?;
     step(proof, alloc, Entry::Chain(clause, hints))
 }
 

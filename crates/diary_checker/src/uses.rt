@@ -11,6 +11,7 @@ ghost use Rattle.diary_checker.specs.Uses.{HasIn, IsGiven, AreLasts};
 use crate::table::LiteralNumbers;
 use cnf_base::{ClauseId, Lit};
 use proof_log::Log;
+use proof_log::entry::Hints;
 use std::alloc::AllocError;
 
 // Gives each literal of a clause a number.
@@ -42,13 +43,13 @@ fn mark_hint(
 pub(crate) fn find_lasts(
     log: &Log,
     lasts: &mut LiteralNumbers,
-    hints: &[ClauseId],
+    hints: &Hints,
 ) -> Result<(), AllocError>
     ensures { OnOk result (AreLasts (clause_at log.now.clauses) lasts.new hints.now) }
 {
     lasts.clear();
     for k in 0..hints.len() {
-        mark_hint(log, lasts, hints[k], k as u64 + 1)?;
+        mark_hint(log, lasts, hints.hint(k), k as u64 + 1)?;
     }
     Ok(())
 }
@@ -121,7 +122,7 @@ pub(crate) fn are_used(
     log: &Log,
     trues: &mut LiteralNumbers,
     lasts: &LiteralNumbers,
-    hints: &[ClauseId],
+    hints: &Hints,
 ) -> Result<bool, AllocError>
     requires { AreLasts (clause_at log.now.clauses) lasts.now hints.now }
     ensures { IfOk result (λ b. (known : List Literal) → IsSetOf trues.old known →
@@ -132,7 +133,7 @@ pub(crate) fn are_used(
         if k + 1 == count {
             return Ok(true);
         }
-        let Some(l) = open_at(log, trues, hints[k]) else {
+        let Some(l) = open_at(log, trues, hints.hint(k)) else {
             return Ok(false);
         };
         if lasts.get(l.negated()) <= k as u64 + 1 {

@@ -1,6 +1,7 @@
 mod Shapes
 pub mod Marking
-mod Hints
+mod Stepping
+pub mod Packing
 pub mod Sound
 pub mod Exact
 pub mod Growing

@@ -12,7 +12,7 @@ ghost use Rattle.hint_chain.specs.Marks.{Agrees, HasPlace, HasRoom};
 
 use crate::marks::{Marks, Rounds};
 use crate::shape::{Shape, shape_of};
-use crate::{ChainFault, FaultKind};
+use crate::{ChainFault, FaultKind, Hints};
 use cnf_base::{Clause, ClauseId, Lit};
 
 /// A holder of clauses, each under a name.
@@ -31,7 +31,7 @@ pub trait Clauses {
 pub fn follows<C: Clauses>(
     clauses: &C,
     clause: &Clause,
-    hints: &[ClauseId],
+    hints: &Hints,
     marks: &mut Marks,
 ) -> Result<(), ChainFault>
     requires room { AreBelow marks.old clause.now }
@@ -71,7 +71,7 @@ fn negate(trues: &mut Rounds, clause: &[Lit]) -> bool
 }
 
 // Reads the hints in order, from the marked literals.
-fn read<C: Clauses>(clauses: &C, trues: &mut Rounds, hints: &[ClauseId]) -> Result<(), ChainFault>
+fn read<C: Clauses>(clauses: &C, trues: &mut Rounds, hints: &Hints) -> Result<(), ChainFault>
     requires { (id : ClauseId) (h : List Literal) → C.look clauses.now id ≡ Some h → HasRoom trues.old h }
     ensures room { length trues.new.stamps ≡ length trues.old.stamps }
     ensures exactly { (known : List Literal) → Agrees trues.old known → MatchResult result
@@ -80,7 +80,7 @@ fn read<C: Clauses>(clauses: &C, trues: &mut Rounds, hints: &[ClauseId]) -> Resu
 {
     let count = hints.len();
     for k in 0..count {
-        let Some(shape) = shape_at(clauses, trues, hints[k]) else {
+        let Some(shape) = shape_at(clauses, trues, hints.hint(k)) else {
             return Err(ChainFault::at(k, FaultKind::Missing));
         };
         if k + 1 == count {

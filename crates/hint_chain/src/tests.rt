@@ -1,10 +1,10 @@
-//! Worked chains, with ample memory.
+//! Worked chains and lists of hints, with ample memory.
 
 ghost use Rattle.std.specs.Prelude.{◌≡◌, [], ◌∷◌, ◌==◌, if◌then◌else◌, Some, None, IfOk};
 ghost use Rattle.cnf_base.specs.Literals.{negative_of, true_literal, false_literal};
 ghost use Rattle.cnf_base.specs.Assignments.{AreBelow};
 
-use crate::{ChainFault, Clauses, FaultKind, Marks, follows};
+use crate::{ChainFault, Clauses, FaultKind, Hints, Marks, follows};
 use cnf_base::{Clause, ClauseId, Lit};
 use std::alloc::{AllocError, Global};
 use std::test::Fail;
@@ -49,10 +49,11 @@ fn answer(
 ) -> Result<Result<(), ChainFault>, AllocError>
     requires { AreBelow 3 clause.now }
 {
+    let hints = Hints::of(alloc, hints)?;
     let pair = make_pair(alloc)?;
     let mut marks = Marks::new(alloc);
     marks.reserve(3)?;
-    Ok(follows(&pair, clause, hints, &mut marks))
+    Ok(follows(&pair, clause, &hints, &mut marks))
 }
 
 fn fault(hint: u64, kind: FaultKind) -> Result<(), ChainFault> {
@@ -109,15 +110,63 @@ fn the_first_fault_is_told(rt: HostRuntime) -> Result<(), Fail> {
 fn marks_of_one_chain_are_gone_in_the_next(rt: HostRuntime) -> Result<(), Fail> {
     let pair = make_pair(rt.alloc())?;
     let clause = Clause::of_one(rt.alloc(), Lit::new(2, false))?;
+    let both = Hints::of(rt.alloc(), &[TRUE, NOT_BOTH])?;
+    let second = Hints::of(rt.alloc(), &[NOT_BOTH])?;
     let mut marks = Marks::new(rt.alloc());
     marks.reserve(3)?;
+    assert_eq!(rt; follows(&pair, &clause, &both, &mut marks), Ok(()));
     assert_eq!(rt;
-        follows(&pair, &clause, &[TRUE, NOT_BOTH], &mut marks),
-        Ok(())
-    );
-    assert_eq!(rt;
-        follows(&pair, &clause, &[NOT_BOTH], &mut marks),
+        follows(&pair, &clause, &second, &mut marks),
         fault(0, FaultKind::Loose)
     );
+    Ok(())
+}
+
+// Whether the hints are these names, in order.
+fn are(hints: &Hints, ids: &[ClauseId]) -> bool {
+    if hints.len() != ids.len() {
+        return false;
+    }
+    for k in 0..ids.len() {
+        if hints.hint(k) != ids[k] {
+            return false;
+        }
+    }
+    hints.is_empty() == ids.is_empty()
+}
+
+const LAST_SHORT: ClauseId = ClauseId {
+    pos: u32::MAX as u64,
+    part: u32::MAX,
+};
+
+const FIRST_WHOLE: ClauseId = ClauseId {
+    pos: 1 << 32,
+    part: 0,
+};
+
+const LAST: ClauseId = ClauseId {
+    pos: u64::MAX,
+    part: u32::MAX,
+};
+
+// Names that are all short, and names of which one has to be whole, in each place.
+const ROWS: [&[ClauseId]; 7] = [
+    &[],
+    &[TRUE],
+    &[NOT_BOTH, TRUE, LAST_SHORT, NOT_BOTH],
+    &[FIRST_WHOLE],
+    &[FIRST_WHOLE, LAST_SHORT],
+    &[LAST_SHORT, LAST, TRUE],
+    &[TRUE, LAST_SHORT, FIRST_WHOLE],
+];
+
+#[test]
+fn hints_are_the_names_of_which_they_were_made(rt: HostRuntime) -> Result<(), Fail> {
+    for ids in ROWS {
+        let hints = Hints::of(rt.alloc(), ids)?;
+        assert!(rt; are(&hints, ids));
+        assert!(rt; are(&hints.copy(rt.alloc())?, ids));
+    }
     Ok(())
 }

@@ -90,7 +90,8 @@ fn hints_of(alloc: Global, log: &Log, hints: &[WrittenHint]) -> Result<Option<Hi
             part: hint.part as u32,
         })?;
     }
-    Ok(Some(Hints::from_vec(made)))
+    let named = Hints::of(alloc, made.as_slice())?;
+    Ok(Some(named))
 }
 
 /// The operator that is written, but for the application of a declared function.

@@ -3,16 +3,13 @@
 ghost use Rattle.std.specs.Prelude.{◌≡◌};
 ghost use Rattle.proof_log.specs.Roles.{role_of};
 
-use cnf_base::{Clause, ClauseId};
-use plain_list::List;
+use cnf_base::Clause;
+pub use hint_chain::Hints;
 use smt_terms::node::{Node, TermId};
 use theory_terms::lemma::Lemma;
 
 /// The number of an assertion, counted from 0 over a script.
 pub type AssertId = u32;
-
-/// The clauses by which a chain's clause follows, by name, in the order in which they are used.
-pub type Hints = List<ClauseId>;
 
 /// A use of a rewrite rule: which rule, counted from 1, and the terms from which and to which it leads.
 #[derive(Clone, Copy, Debug, PartialEq, Eq)]

@@ -187,7 +187,7 @@ fn is_seen(proof: &Proof, seen: Seen) -> bool {
 fn refuted(alloc: Global, hints: &[ClauseId]) -> Result<Entry, AllocError>
     ensures { IfOk result (λ e. (v : TermsValue) → IsDeclared v e) }
 {
-    let hints = Hints::from_vec(Vec::from_slice(alloc, hints)?);
+    let hints = Hints::of(alloc, hints)?;
     let clause = Clause::of_one(alloc, Lit::new(2, false))?;
     Ok(Entry::Chain(clause, hints))
 }

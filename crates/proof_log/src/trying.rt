@@ -183,7 +183,7 @@ impl Log {
             return Ok(Some(Kept::Variable(variable)));
         }
         self.marks.reserve(self.next)?;
-        match follows(&self.steps, clause, hints.as_slice(), &mut self.marks) {
+        match follows(&self.steps, clause, hints, &mut self.marks) {
             Err(fault) => Ok(Some(Kept::Chain(fault))),
             Ok(()) => Ok(None),
         }

@@ -94,13 +94,13 @@ fn push_hint(hint: ClauseId, out: &mut Text) -> Result<(), AllocError>
     push_marked(out, b'.', hint.part as u64)
 }
 
-fn push_hints(hints: &[ClauseId], out: &mut Text) -> Result<(), AllocError>
+fn push_hints(hints: &Hints, out: &mut Text) -> Result<(), AllocError>
     ensures ok { OnOk result (out.new ≡ out.old ++ spaced (map hint_text (map written_hint hints.now))) }
     ensures hints { OnOk result (AllByRecursion IsHint (map written_hint hints.now)) }
     ensures err { OnErr result (take (length out.old) out.new ≡ out.old) }
 {
-    for hint in hints {
-        push_hint(*hint, out)?;
+    for k in 0..hints.len() {
+        push_hint(hints.hint(k), out)?;
     }
     Ok(())
 }
@@ -125,7 +125,7 @@ fn push_chain(clause: &Clause, hints: &Hints, out: &mut Text) -> Result<(), Allo
     out.push(b'c')?;
     push_literals(clause.literals(), out)?;
     out.push_slice(b" 0")?;
-    push_hints(hints.as_slice(), out)?;
+    push_hints(hints, out)?;
     out.push(b'\n')
 }
 

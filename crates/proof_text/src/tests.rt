@@ -45,8 +45,8 @@ fn print_record(shown: Record, out: &mut Text) -> Result<(), AllocError>
 fn chain(alloc: Global) -> Result<Entry, AllocError>
     ensures { IfOk result (λ e. IsSome (entry_line e)) }
 {
-    let hints = [ClauseId { pos: 0, part: 0 }, ClauseId { pos: 2, part: 0 }];
-    let hints = Hints::from_vec(Vec::from_slice(alloc, &hints)?);
+    let names = [ClauseId { pos: 0, part: 0 }, ClauseId { pos: 2, part: 0 }];
+    let hints = Hints::of(alloc, &names)?;
     let clause = Clause::of_one(alloc, Lit::new(2, false))?;
     Ok(Entry::Chain(clause, hints))
 }

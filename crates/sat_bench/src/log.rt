@@ -4,7 +4,7 @@ ghost use Rattle.std.specs.Prelude.{◌≡◌, ◌↔◌, All, IsTrue};
 ghost use Rattle.cnf_base.specs.Assignments.{AreBelow};
 
 use cnf_base::{Clause, ClauseId, Lit};
-use hint_chain::{Clauses, Marks, follows};
+use hint_chain::{Clauses, Hints, Marks, follows};
 use std::alloc::{AllocError, Global};
 
 /// Where the numbers of a clause end, and whether it was learnt.
@@ -162,7 +162,8 @@ impl Log {
                 let Some(hints) = self.chain(start, entry.hints, position)? else {
                     return Ok(None);
                 };
-                if !book.accepts(position, hints.as_slice(), &mut marks) {
+                let hints = Hints::of(self.alloc, hints.as_slice())?;
+                if !book.accepts(position, &hints, &mut marks) {
                     return Ok(None);
                 }
                 accepted = accepted.wrapping_add(1);
@@ -175,7 +176,7 @@ impl Log {
 
 impl Book {
     // Whether the hints are a chain for the clause of the position.
-    fn accepts(&self, position: usize, hints: &[ClauseId], marks: &mut Marks) -> bool
+    fn accepts(&self, position: usize, hints: &Hints, marks: &mut Marks) -> bool
         requires { All (AreBelow marks.old) self.now.clauses.items }
         ensures { marks.new ≡ marks.old }
     {

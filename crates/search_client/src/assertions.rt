@@ -199,7 +199,7 @@ fn is_chain(
     alloc: Global,
     proof: &Proof,
     clause: &Clause,
-    hints: &[ClauseId],
+    hints: &Hints,
 ) -> Result<bool, AllocError>
     requires { Stands proof.now.terms.nodes proof.now.log }
     ensures { IfOk result (λ b. IsTrue b → MayBePut proof.now.terms.nodes proof.now.log.entries (Chain clause.now hints.now)) }
@@ -223,16 +223,16 @@ fn first_chain(alloc: Global, proof: &Proof) -> Result<Entry, AllocError>
         Lit::new(5, false),
         Lit::new(7, false),
     )?;
-    let hints = [
+    let names = [
         ClauseId { pos: 6, part: 0 },
         ClauseId { pos: 5, part: 2 },
         ClauseId { pos: 8, part: 0 },
         ClauseId { pos: 7, part: 2 },
     ];
+    let hints = Hints::of(alloc, &names)?;
     if !is_chain(alloc, proof, &clause, &hints)? {
         return Err(AllocError);
     }
-    let hints = Hints::from_vec(Vec::from_slice(alloc, &hints)?);
     Ok(Entry::Chain(clause, hints))
 }
 

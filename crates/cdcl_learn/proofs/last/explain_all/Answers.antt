@@ -9,7 +9,7 @@ use Rattle.cdcl_learn.proofs.last.explain_all.Goals as goal
 pub returns-clause-chain : goal.returns-clause-chain
 returns-clause-chain c =
     let k : IsClauseOf c.args.rows.now c.explain.new.self.marks.items c.in_ok-clause.clause = record { each = c.in_ok-clause.ensures.each; only = c.in_ok-clause.ensures.only } in
-    rw c.in_ok-hints.ensures (clause_chain (clause_of c.args.watches.now) c.args.rows.now c.explain.new.self.marks.items (reverse c.explain.new.self.hints.items) c.in_ok-clause.clause c.requires.history c.in_ok-explain.ensures.walk.derived k)
+    rw c.into_hints-hints.ensures (clause_chain (clause_of c.args.watches.now) c.args.rows.now c.explain.new.self.marks.items (reverse c.explain.new.self.hints.items) c.in_ok-clause.clause c.requires.history c.in_ok-explain.ensures.walk.derived k)
 
 pub returns-clause-against : goal.returns-clause-against
 returns-clause-against c = λ given only l h.

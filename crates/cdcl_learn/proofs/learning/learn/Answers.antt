@@ -30,7 +30,7 @@ find_unique-requires-clause-present c = λ low. conflict_now c.args.watches.now 
 pub explain-requires-clause-history : goal.explain-requires-clause-history
 explain-requires-clause-history c = rw c.literals-rows.ensures (history_of c.args.watches.now c.args.trail.now c.requires.settled)
 
-judge : (c : goal.In_ok-hints) → IsJudged c.args.watches.now c.args.trail.now c.if-rest-eq0.level c.in_ok-clause.clause (reverse c.explain.new.self.hints.items)
+judge : (c : goal.After-into_hints-hints) → IsJudged c.args.watches.now c.args.trail.now c.if-rest-eq0.level c.in_ok-clause.clause (reverse c.explain.new.self.hints.items)
 judge c =
     let within : c.in_ok-place.place < length c.literals-rows.result.now = c.in_ok-place.ensures.unique.within in
     let last : IsLast c.literals-rows.result.now c.top-rest.result c.if-rest-eq0.level = elim c.if-rest-eq0.branch [
@@ -41,10 +41,10 @@ judge c =
     c.requires.settled c.requires.above c.literals-rows.ensures c.level.ensures c.in_ok-place.ensures.unique c.in_ok-explain.ensures.explained c.top-rest.ensures last c.in_ok-explain.ensures.walk.derived (record { each = c.in_ok-clause.ensures.each; only = c.in_ok-clause.ensures.only })
 
 pub returns-clause-chain : goal.returns-clause-chain
-returns-clause-chain c = rw c.in_ok-hints.ensures (judge c).chain
+returns-clause-chain c = rw c.into_hints-hints.ensures (judge c).chain
 
 pub returns-clause-good : goal.returns-clause-good
-returns-clause-good c = rw c.in_ok-hints.ensures (judge c).good
+returns-clause-good c = rw c.into_hints-hints.ensures (judge c).good
 
 pub returns-clause-lower : goal.returns-clause-lower
 returns-clause-lower c = (judge c).lower

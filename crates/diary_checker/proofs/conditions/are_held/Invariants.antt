@@ -4,5 +4,5 @@ use Rattle.cnf_base.specs.declared.clause.ClauseId.{ClauseId}
 use Rattle.diary_checker.specs.Tables.{bit_in}
 use Rattle.diary_checker.proofs.conditions.are_held.Given as goal
 
-abbrev pub invariant-loop-id : goal.invariant-loop-id
-invariant-loop-id l = (id : ClauseId) → Contains (take l.id-index l.hints) id → bit_in l.held id.pos ≡ true
+abbrev pub invariant-loop-k : goal.invariant-loop-k
+invariant-loop-k l = (id : ClauseId) → Contains (take l.k l.hints) id → bit_in l.held id.pos ≡ true

@@ -3,7 +3,7 @@ use Rattle.std.proofs.lemmas.Bool.{eqb-true}
 use Rattle.std.proofs.lemmas.List.{nil_from_length}
 use Rattle.hint_chain.proofs.Marking.{room_same, room_below}
 use Rattle.hint_chain.proofs.Sound.{IsChain-follows}
-use Rattle.hint_chain.proofs.Hints.{read_whole, read_sound}
+use Rattle.hint_chain.proofs.Stepping.{read_whole, read_sound}
 use Rattle.hint_chain.proofs.reading.follows.Goals as goal
 
 pub read-requires : goal.read-requires

@@ -1,4 +1,4 @@
-use Rattle.std.proofs.Common.{List, length, sym, subst}
+use Rattle.std.proofs.Common.{List, length, ◌∙◌, sym, subst}
 use Rattle.cnf_base.specs.Literals.{Literal}
 use Rattle.cnf_base.specs.declared.clause.ClauseId.{ClauseId}
 use Rattle.proof_log.specs.declared.entry.Entry.TheVariants as step
@@ -17,6 +17,9 @@ returns-in_err-near-clause-later g c = running_board c.args.self.now (g.B.Board.
 pub returns-in_err-clause-clause-later : goal.returns-in_err-clause-clause-later
 returns-in_err-clause-clause-later g c = running_board c.args.self.now (g.B.Board.nodes c.args.board.now) (g.B.Board.log c.args.board.now) (g.B.Board.knows c.args.board.now) c.requires.running
 
+pub returns-in_err-chain-clause-later : goal.returns-in_err-chain-clause-later
+returns-in_err-chain-clause-later g c = running_board c.args.self.now (g.B.Board.nodes c.args.board.now) (g.B.Board.log c.args.board.now) (g.B.Board.knows c.args.board.now) c.requires.running
+
 pub global_clause-requires : goal.global_clause-requires
 global_clause-requires g c =
     let s = c.args.self.now in
@@ -25,8 +28,8 @@ global_clause-requires g c =
 pub put-requires-clause-valid : goal.put-requires-clause-valid
 put-requires-clause-valid g c =
     let s = c.args.self.now in
-    subst (λ (d : List Literal). IsStep (g.B.Board.nodes c.args.board.now) (state_of (g.B.Board.nodes c.args.board.now) (g.B.Board.log c.args.board.now)) (step.Chain d c.from_vec.result)) (sym c.in_ok-clause.ensures)
-    (subst (λ (h : List ClauseId). IsStep (g.B.Board.nodes c.args.board.now) (state_of (g.B.Board.nodes c.args.board.now) (g.B.Board.log c.args.board.now)) (step.Chain (global_clause s.names c.in_ok-near.near) h)) (sym c.from_vec.ensures)
+    subst (λ (d : List Literal). IsStep (g.B.Board.nodes c.args.board.now) (state_of (g.B.Board.nodes c.args.board.now) (g.B.Board.log c.args.board.now)) (step.Chain d c.in_ok-chain.chain)) (sym c.in_ok-clause.ensures)
+    (subst (λ (h : List ClauseId). IsStep (g.B.Board.nodes c.args.board.now) (state_of (g.B.Board.nodes c.args.board.now) (g.B.Board.log c.args.board.now)) (step.Chain (global_clause s.names c.in_ok-near.near) h)) (sym (c.in_ok-chain.ensures ∙ c.as_slice.ensures.value))
     (closing_step s.names s.bound s.engine.watches (variables_in s) s.opening.items s.taken.items s.engine.given.items s.from s.seen (g.B.Board.nodes c.args.board.now) (g.B.Board.log c.args.board.now) c.requires.running.4 c.requires.running.1 c.in_ok-near.near c.in_ok-near.hints.items
     c.requires.running.3 (c.in_ok-near.ensures.against s.engine.given.items c.requires.given) c.in_ok-near.ensures.chain))
 
@@ -34,5 +37,5 @@ pub returns-clause-closing : goal.returns-clause-closing
 returns-clause-closing g c =
     let s = c.args.self.now in
     put_closes (g.B.Board.nodes c.args.board.now) (g.B.Board.nodes c.put.new.self) (g.B.Board.log c.args.board.now) (g.B.Board.log c.put.new.self) (g.B.Board.knows c.args.board.now) (g.B.Board.knows c.put.new.self)
-    (given_in s) c.in_ok-clause.clause c.from_vec.result c.put.result
+    (given_in s) c.in_ok-clause.clause c.in_ok-chain.chain c.put.result
     (subst (IsAgainst (given_in s)) (sym c.in_ok-clause.ensures) (against_global s.names s.engine.given.items c.in_ok-near.near (c.in_ok-near.ensures.against s.engine.given.items c.requires.given))) c.put.ensures.put

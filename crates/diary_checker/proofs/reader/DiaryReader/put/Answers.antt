@@ -8,7 +8,7 @@ pub returns-then-not-branch : goal.returns-then-not-branch
 returns-then-not-branch c = λ g about set_up.
     let set_up' = subst (IsSetUp g) (sym c.self.view_is) set_up in
     let bad = rw c.if-not-branch.true at c.in_ok-is_good_put.ensures in
-    let not_good = rw (c.literals.ensures, c.as_slice.ensures) at (bad g (sym (look_is g c.args.log.now about)) set_up'.given (filed_here g c.args.log.now _ about set_up')) in
+    let not_good = rw c.literals.ensures at (bad g (sym (look_is g c.args.log.now about)) set_up'.given (filed_here g c.args.log.now _ about set_up')) in
     record {
       invalid = put_not_good g c.args.log.now c.args.at _ _ c.in-Some.clause.now c.in-Some.hints.now c.self.view_is about c.in-Some.ensures not_good;
       same = c.self.view_is;
@@ -18,7 +18,7 @@ pub returns : goal.returns
 returns c = λ g about set_up.
     let set_up' = subst (IsSetUp g) (sym c.self.view_is) set_up in
     let ok = rw c.if-not-branch.false at c.in_ok-is_good_put.ensures in
-    let good = rw (c.literals.ensures, c.as_slice.ensures) at (ok g (sym (look_is g c.args.log.now about)) set_up'.given (filed_here g c.args.log.now _ about set_up')) in
+    let good = rw c.literals.ensures at (ok g (sym (look_is g c.args.log.now about)) set_up'.given (filed_here g c.args.log.now _ about set_up')) in
     let chains : c.in-Some-checked_add.chains ≡ c.self.inside.chains + 1 = omega (arith, c.in-Some-checked_add.ensures) in
     let puts : c.in-Some-checked_add-2.puts ≡ c.self.inside.puts + 1 = omega (arith, c.in-Some-checked_add-2.ensures) in
     let drops = rw (chains, puts) at c.droppable-self-inside.ensures in
