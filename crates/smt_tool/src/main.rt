@@ -54,6 +54,7 @@ use std::rt::Files;
 // What is told where the words are not taken, and where memory is wanting.
 const USAGE: &str =
     "usage: smt_tool solve PROOF [SCRIPT] [--cubes 0..10] [--budget 0..1000000000] | check PROOF [SCRIPT]";
+
 const NO_MEMORY: &str = "smt_tool: memory is wanting";
 
 // The number of a status.
