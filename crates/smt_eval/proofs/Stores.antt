@@ -7,11 +7,11 @@ use Rattle.std.proofs.lemmas.List.{length-map, get_or_default}
 use Rattle.smt_words.specs.Words.{WordValue, word}
 use Rattle.smt_terms.specs.declared.operator.Operator.{Operator}
 use Rattle.smt_terms.specs.declared.node.Op.TheVariants.{Plain}
-use Rattle.smt_terms.specs.Values.{VArray, all_below, first_below, changed}
+use Rattle.smt_terms.specs.Values.{VWord, all_below, first_below, store_of}
 use Rattle.smt_terms.proofs.Arrays.{all_below_each, each_all_below}
 use Rattle.smt_values.specs.Arrays.{ArrayFields, element_at, array_value, with_element}
 use Rattle.smt_values.specs.Differences.{agree, first_difference}
-use Rattle.smt_values.proofs.Entries.{entered_changes}
+use Rattle.smt_values.proofs.Changing.{element_stored}
 use Rattle.smt_values.specs.declared.value.Value.{Value}
 use Rattle.smt_values.specs.declared.value.Value.TheVariants as held
 use Rattle.smt_eval.specs.Evaluated.{held_value, holds_array, kind_of, given, AreTaken}
@@ -20,10 +20,8 @@ use Rattle.smt_eval.proofs.Evaluating.{kinds_array}
 
 -- ---- arrays
 
-pub stored_is : (a b c : ArrayFields) (i x : WordValue) → c ≡ a → b ≡ with_element c i x → array_value b ≡ VArray a.index a.default.width (changed (element_at a) i.value x.value)
-stored_is a b c i x p q =
-    ap array_value (q ∙ ap (λ e. with_element e i x) p)
-    ∙ (λ j. VArray a.index a.default.width (λ k. entered_changes (i, x) a.default.value a.entries k j))
+pub stored_is : (a b c : ArrayFields) (i x : WordValue) → c ≡ a → b ≡ with_element c i x → array_value b ≡ store_of (array_value a) (VWord i.width i.value) (VWord x.width x.value)
+stored_is a b c i x p q = ap array_value (q ∙ ap (λ e. with_element e i x) p) ∙ element_stored a i x
 
 first_below_none : (p : ℕ → Bool) (n : ℕ) → ((i : ℕ) → i < n → p i ≡ false) → first_below p n ≡ 0
 unfolding first_below

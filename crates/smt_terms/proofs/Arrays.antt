@@ -1,9 +1,10 @@
--- Arrays that differ differ at their witness, and what a store leaves.
-use Rattle.std.proofs.Common.{◌≡◌, ℕ, zero, suc, ◌<◌, Bool, true, false, not, ◌&&◌, refl, sym, ap, ◌∙◌, subst, ⊎_elim, arith}
-use Rattle.std.specs.Prelude.{◌==◌, if◌then◌else◌}
+-- Arrays that differ differ at their witness, what a store leaves, and elements that are read at a width.
+use Rattle.std.proofs.Common.{◌≡◌, ℕ, zero, suc, ◌%◌, ◌<◌, Bool, true, false, not, ◌&&◌, List, [], ◌∷◌, map, refl, sym, ap, ◌∙◌, subst, ⊎_elim, arith}
+use Rattle.std.specs.Prelude.{◌==◌, nat_lt, if◌then◌else◌}
 use Rattle.std.proofs.lemmas.Bool.{and_parts, cases_lt, eq-eqb, ne_eqb, not-false, not-true, eqb-true, and_from}
-use Rattle.smt_terms.specs.Values.{all_below, first_below, changed}
+use Rattle.smt_terms.specs.Values.{Elements, element_in, held_at, placed, with_entry, reduced, elements_below, all_below, first_below}
 use Rattle.std.proofs.Math.Bool.{not-not}
+use Rattle.std.proofs.Math.Nat.{mod-lt}
 
 pub all_below_each : (p : ℕ → Bool) (n : ℕ) → all_below p n ≡ true → (i : ℕ) → i < n → p i ≡ true
 unfolding all_below
@@ -60,11 +61,58 @@ unfolding all_below
 all_below_same p q zero h = refl
 all_below_same p q (suc n) h = rw (all_below_same p q n h, h n) refl
 
-pub changed_same : (f : ℕ → ℕ) (i x j : ℕ) → j ≡ i → changed f i x j ≡ x
-changed_same f i x j e = ap (λ b. if b then x else f j) (eq-eqb j i e)
+-- ---- one element changed
 
-pub changed_other : (f : ℕ → ℕ) (i x j : ℕ) → (j ≡ i → ⊥) → changed f i x j ≡ f j
-changed_other f i x j ne = ap (λ b. if b then x else f j) (ne_eqb j i ne)
+met_case : (d : ℕ) (es : List (ℕ × ℕ)) (e f : ℕ × ℕ) (j : ℕ) → e.0 ≡ f.0 → (if f.0 == j then f.1 else element_in d es j) ≡ (if f.0 == j then f.1 else element_in d (e ∷ es) j)
+met_case d es e f j same = go (f.0 == j) (e.0 == j) (ap (λ k. k == j) same) where
+  go : (b c : Bool) → c ≡ b → (if b then f.1 else element_in d es j) ≡ (if b then f.1 else (if c then e.1 else element_in d es j))
+  go true c h = refl
+  go false true h = let z : ⊥ = cc in absurd z
+  go false false h = refl
+
+after_case : (d : ℕ) (es : List (ℕ × ℕ)) (e f : ℕ × ℕ) (j : ℕ) → (e.0 == f.0) ≡ false → (if e.0 == j then e.1 else (if f.0 == j then f.1 else element_in d es j)) ≡ (if f.0 == j then f.1 else element_in d (e ∷ es) j)
+after_case d es e f j ne = go (e.0 == j) refl (f.0 == j) refl where
+  go : (b : Bool) → (e.0 == j) ≡ b → (c : Bool) → (f.0 == j) ≡ c → (if b then e.1 else (if c then f.1 else element_in d es j)) ≡ (if c then f.1 else (if b then e.1 else element_in d es j))
+  go true p true q =
+      let same : e.0 ≡ f.0 = eqb-true e.0 j p ∙ sym (eqb-true f.0 j q) in
+      let z : true ≡ false = sym (eq-eqb e.0 f.0 same) ∙ ne in
+      let y : ⊥ = cc in absurd y
+  go true p false q = refl
+  go false p true q = refl
+  go false p false q = refl
+
+-- the elements with one entry more
+pub at_placed : (d : ℕ) (es : List (ℕ × ℕ)) (f : ℕ × ℕ) (j : ℕ) → element_in d (placed es f) j ≡ (if f.0 == j then f.1 else element_in d es j)
+at_placed d [] f j = refl
+at_placed d (e ∷ es) f j = go (e.0 == f.0) refl (nat_lt f.0 e.0) (at_placed d es f j) where
+  go : (b : Bool) → (e.0 == f.0) ≡ b → (c : Bool) → element_in d (placed es f) j ≡ (if f.0 == j then f.1 else element_in d es j) → element_in d (if b then f ∷ es else if c then f ∷ e ∷ es else e ∷ placed es f) j ≡ (if f.0 == j then f.1 else element_in d (e ∷ es) j)
+  go true p c ih = met_case d es e f j (eqb-true e.0 f.0 p)
+  go false p true ih = refl
+  go false p false ih = ap (λ x. if e.0 == j then e.1 else x) ih ∙ after_case d es e f j p
+
+pub stored_same : (a : Elements) (i x j : ℕ) → j ≡ i → held_at (with_entry a i x) j ≡ x
+stored_same a i x j e = at_placed a.default a.entries (i, x) j ∙ ap (λ b. if b then x else held_at a j) (eq-eqb i j (sym e))
+
+pub stored_other : (a : Elements) (i x j : ℕ) → (j ≡ i → ⊥) → held_at (with_entry a i x) j ≡ held_at a j
+stored_other a i x j ne = at_placed a.default a.entries (i, x) j ∙ ap (λ b. if b then x else held_at a j) (ne_eqb i j (λ e. ne (sym e)))
+
+pub stored_lt : (m : ℕ) (a : Elements) (i x : ℕ) → ((j : ℕ) → held_at a j < m) → x < m → (j : ℕ) → held_at (with_entry a i x) j < m
+stored_lt m a i x h lt j = subst (λ k. k < m) (sym (at_placed a.default a.entries (i, x) j)) (go (i == j)) where
+  go : (b : Bool) → (if b then x else held_at a j) < m
+  go true = lt
+  go false = h j
+
+-- ---- elements that are read at a width
+
+entries_lt : (m : ℕ) → 0 < m → (d : ℕ) → d < m → (es : List (ℕ × ℕ)) (i : ℕ) → element_in d (map (reduced m) es) i < m
+entries_lt m pos d lt [] i = lt
+entries_lt m pos d lt (e ∷ es) i = go (e.0 == i) (entries_lt m pos d lt es i) where
+  go : (b : Bool) → element_in d (map (reduced m) es) i < m → (if b then e.1 % m else element_in d (map (reduced m) es) i) < m
+  go true ih = mod-lt e.1 pos
+  go false ih = ih
+
+pub below_lt : (m : ℕ) → 0 < m → (a : Elements) (i : ℕ) → held_at (elements_below m a) i < m
+below_lt m pos a i = entries_lt m pos (a.default % m) (mod-lt a.default pos) a.entries i
 
 -- arrays that are not the same differ at the least such index
 pub first_differs : (n : ℕ) (f g : ℕ → ℕ) → all_below (λ i. f i == g i) n ≡ false → (let w = first_below (λ i. not (f i == g i)) n in (w < n) × (f w ≡ g w → ⊥))

@@ -19,10 +19,10 @@ use Rattle.smt_terms.specs.Same.{same_sort, sort_same}
 use Rattle.smt_terms.specs.Nodes.{node_at}
 use Rattle.smt_terms.specs.Ranks.{and_then, is_word, is_array, width_of, index_sort, element_sort, allows, Rank, Gives, Takes, ranked, word_sort, constant_sort, plain_sort, literal_sort, extract_sort, one_word, two_words, equality, choice, each_of, application, operator_rank, rank_of}
 use Rattle.smt_terms.specs.Terms.{op_rank, op_sort, sort_of, IsTerm, IsTermList}
-use Rattle.smt_terms.specs.Values.{Value, VBool, VWord, VArray, HasSort, no_value, is_true, number_of, width_in, default_of, read_at, Interpretation, first_below, same_value, select_of, changed, store_of, witness_of, Meaning, Is, Of, applied, word_of, words_of, one, two, collected, operator_meaning, meaning_of, op_value, value}
+use Rattle.smt_terms.specs.Values.{Value, VBool, VWord, VArray, HasSort, no_value, is_true, number_of, width_in, filled, with_entry, elements_below, held_at, default_of, read_at, Interpretation, first_below, same_value, select_of, store_of, witness_of, Meaning, Is, Of, applied, word_of, words_of, one, two, collected, operator_meaning, meaning_of, op_value, value}
 use Rattle.smt_terms.proofs.Growing.{takes_ok}
 use Rattle.smt_terms.proofs.Recursion.{at_term_is}
-use Rattle.smt_terms.proofs.Arrays.{first_below_in}
+use Rattle.smt_terms.proofs.Arrays.{first_below_in, stored_lt, below_lt}
 
 -- a meaning gives a value of the sort that a rank gives, for arguments that the rank takes
 abbrev pub Suited : Rank → Meaning → Type 0
@@ -72,18 +72,18 @@ plain_sort_ok (sort.Array n m) s e = let f : ⊥ = cc in absurd f
 pub read_has_sort : (s : Sort) (v : Value) → HasSort s (read_at s v)
 read_has_sort sort.Bool (VBool b) = (b, refl)
 read_has_sort sort.Bool (VWord n x) = (false, refl)
-read_has_sort sort.Bool (VArray n m f) = (false, refl)
+read_has_sort sort.Bool (VArray n m a) = (false, refl)
 read_has_sort (sort.Word n) (VWord m x) = (x % 2 ^ n, refl, mod-lt x (pow_pos n))
 read_has_sort (sort.Word n) (VBool b) = (0, refl, pow_pos n)
-read_has_sort (sort.Word n) (VArray k m f) = (0, refl, pow_pos n)
-read_has_sort (sort.Array n m) (VArray k l f) = ((λ i. f i % 2 ^ m), refl, (λ i. mod-lt (f i) (pow_pos m)))
-read_has_sort (sort.Array n m) (VBool b) = ((λ i. 0), refl, (λ i. pow_pos m))
-read_has_sort (sort.Array n m) (VWord k x) = ((λ i. 0), refl, (λ i. pow_pos m))
+read_has_sort (sort.Word n) (VArray k m a) = (0, refl, pow_pos n)
+read_has_sort (sort.Array n m) (VArray k l a) = (elements_below (2 ^ m) a, refl, below_lt (2 ^ m) (pow_pos m) a)
+read_has_sort (sort.Array n m) (VBool b) = (filled 0, refl, (λ i. pow_pos m))
+read_has_sort (sort.Array n m) (VWord k x) = (filled 0, refl, (λ i. pow_pos m))
 
 pub default_has_sort : (s : Sort) → HasSort s (default_of s)
 default_has_sort sort.Bool = (false, refl)
 default_has_sort (sort.Word n) = (0, refl, pow_pos n)
-default_has_sort (sort.Array n m) = ((λ i. 0), refl, (λ i. pow_pos m))
+default_has_sort (sort.Array n m) = (filled 0, refl, (λ i. pow_pos m))
 
 -- ---- the shapes
 
@@ -132,22 +132,16 @@ concat_case (sort.Word n) v al hv (sort.Array k l) w bl hw s e = let q : ⊥ = c
 concat_case (sort.Word n) v al hv (sort.Word m) w bl hw s e =
     rw (hv.1, hw.1) (word_given (n + m) (concat_of m hv.0 hw.0) s e (fits.concat_fits n m hv.0 hw.0 hv.2 hw.2))
 
-changed_lt : (m : ℕ) (f : ℕ → ℕ) (i x : ℕ) → ((j : ℕ) → f j < m) → x < m → (j : ℕ) → changed f i x j < m
-changed_lt m f i x h lt j = go (j == i) where
-  go : (b : Bool) → (if b then x else f j) < m
-  go true = lt
-  go false = h j
-
 pub select_sort : (n m : ℕ) (A I : Value) → HasSort (sort.Array n m) A → HasSort (sort.Word m) (select_of A I)
-select_sort n m A I h = rw h.1 (h.0 (number_of I), refl, h.2 (number_of I))
+select_sort n m A I h = rw h.1 (held_at h.0 (number_of I), refl, h.2 (number_of I))
 
 pub store_sort : (n m : ℕ) (A I X : Value) → HasSort (sort.Array n m) A → HasSort (sort.Word m) X → HasSort (sort.Array n m) (store_of A I X)
 store_sort n m A I X h l =
     let lt : number_of X < 2 ^ m = rw l.1 l.2 in
-    rw h.1 (changed h.0 (number_of I) (number_of X), refl, changed_lt (2 ^ m) h.0 (number_of I) (number_of X) h.2 lt)
+    rw h.1 (with_entry h.0 (number_of I) (number_of X), refl, stored_lt (2 ^ m) h.0 (number_of I) (number_of X) h.2 lt)
 
 pub witness_sort : (n m : ℕ) (A B : Value) → HasSort (sort.Array n m) A → HasSort (sort.Array n m) B → HasSort (sort.Word n) (witness_of A B)
-witness_sort n m A B h k = rw (h.1, k.1) (first_below (λ i. not (h.0 i == k.0 i)) (2 ^ n), refl, first_below_in (λ i. not (h.0 i == k.0 i)) (2 ^ n) (pow_pos n))
+witness_sort n m A B h k = rw (h.1, k.1) (first_below (λ i. not (held_at h.0 i == held_at k.0 i)) (2 ^ n), refl, first_below_in (λ i. not (held_at h.0 i == held_at k.0 i)) (2 ^ n) (pow_pos n))
 
 as_sort : (a b : Sort) (w : Value) → same_sort a b ≡ true → HasSort b w → HasSort a w
 as_sort a b w e h = subst (λ r. HasSort r w) (sym (sort_same a b e)) h
@@ -235,7 +229,7 @@ suited M (SignExtend i) = word_suited (λ n. word_sort (n + i)) (λ n x. VWord (
 suited M (RotateLeft i) = one_suited (λ n x. rotate_left_of n i x) (λ n x p lt. fits.rotate_left_fits n i x p lt)
 suited M (RotateRight i) = one_suited (λ n x. rotate_right_of n i x) (λ n x p lt. fits.rotate_right_fits n i x p lt)
 suited M (Repeat i) = word_suited (λ n. word_sort (n * i)) (λ n x. VWord (n * i) (repeat_of n i x)) λ n x s lt e. word_given (n * i) (repeat_of n i x) s e (fits.repeat_fits n i x lt)
-suited M (ConstantArray k) = word_suited (λ n. constant_sort (sort.Array k n)) (λ n x. VArray k n (λ i. x)) λ n x s lt e. subst (λ r. HasSort r (VArray k n (λ i. x))) (constant_sort_ok (sort.Array k n) s e) ((λ i. x), refl, (λ i. lt))
+suited M (ConstantArray k) = word_suited (λ n. constant_sort (sort.Array k n)) (λ n x. VArray k n (filled x)) λ n x s lt e. subst (λ r. HasSort r (VArray k n (filled x))) (constant_sort_ok (sort.Array k n) s e) (filled x, refl, (λ i. lt))
 suited M (Constant d t) = λ s e. subst (λ k. HasSort k (read_at t (M.constants d))) (constant_sort_ok t s e) (read_has_sort t (M.constants d))
 suited M (Apply d g) = application_suited g.args g.value (M.functions d)
 suited M (Param k t) = λ s e. subst (λ k. HasSort k (default_of t)) (plain_sort_ok t s e) (default_has_sort t)

@@ -1,5 +1,5 @@
 -- The value of a term under an interpretation, by the theories Core, FixedSizeBitVectors and ArraysEx of SMT-LIB 2.6.
-use Rattle.std.specs.Prelude.{◌≡◌, ℕ, zero, suc, ◌+◌, ◌-◌, ◌*◌, ◌%◌, ◌^◌, ◌<◌, ◌==◌, Bool, true, false, not, if◌then◌else◌, ◌&&◌, ◌||◌, List, [], ◌∷◌}
+use Rattle.std.specs.Prelude.{◌≡◌, ℕ, zero, suc, ◌+◌, ◌-◌, ◌*◌, ◌%◌, ◌^◌, ◌<◌, ◌==◌, Bool, true, false, not, if◌then◌else◌, ◌&&◌, ◌||◌, nat_lt, List, [], ◌∷◌, map}
 use Rattle.smt_words.specs.Words.{not_of, neg_of, and_of, or_of, xor_of, nand_of, nor_of, xnor_of, add_of, sub_of, mul_of, udiv_of, urem_of, sdiv_of, srem_of, smod_of, shl_of, lshr_of, ashr_of, ult_of, ule_of, slt_of, sle_of, comp_of, concat_of, extract_of, sign_extend_of, rotate_left_of, rotate_right_of, repeat_of}
 use Rattle.smt_terms.specs.declared.sort.Sort.{Sort}
 use Rattle.smt_terms.specs.declared.sort.Sort.TheVariants as sort
@@ -10,19 +10,54 @@ use Rattle.smt_terms.specs.declared.node.Op.TheVariants.{Plain, Word, Extract, Z
 use Rattle.smt_terms.specs.declared.node.Node.{Node}
 use Rattle.smt_terms.specs.Nodes.{at_term}
 
+-- ---- the elements of arrays
+
+-- the element at every index that is not held, and the indexes that are held with their elements
+pub record Elements : Type 0 where
+  pub default : ℕ
+  pub entries : List (ℕ × ℕ)
+
+-- the element at an index; of an index that stands twice the first counts
+abbrev pub element_in : ℕ → List (ℕ × ℕ) → ℕ → ℕ
+element_in d [] i = d
+element_in d (e ∷ es) i = if e.0 == i then e.1 else element_in d es i
+
+abbrev pub held_at : Elements → ℕ → ℕ
+held_at a i = element_in a.default a.entries i
+
+-- this element at every index
+abbrev pub filled : ℕ → Elements
+filled x = record { default = x; entries = [] }
+
+-- the entries with one more, in the place of the one that held its index, or where its index stands in the order
+abbrev pub placed : List (ℕ × ℕ) → ℕ × ℕ → List (ℕ × ℕ)
+placed [] f = f ∷ []
+placed (e ∷ es) f = if e.0 == f.0 then f ∷ es else if nat_lt f.0 e.0 then f ∷ e ∷ es else e ∷ placed es f
+
+-- one element changed
+abbrev pub with_entry : Elements → ℕ → ℕ → Elements
+with_entry a i x = record { default = a.default; entries = placed a.entries (i, x) }
+
+-- each element modulo a number
+abbrev pub reduced : ℕ → ℕ × ℕ → ℕ × ℕ
+reduced m e = (e.0, e.1 % m)
+
+abbrev pub elements_below : ℕ → Elements → Elements
+elements_below m a = record { default = a.default % m; entries = map (reduced m) a.entries }
+
 -- ---- values
 
--- a truth value, a word of some width, or an array by its widths and its element at each index
+-- a truth value, a word of some width, or an array by its widths and its elements
 pub data Value : Type 0 where
   VBool : (b : Bool) → Value
   VWord : (width number : ℕ) → Value
-  VArray : (index element : ℕ) (at : ℕ → ℕ) → Value
+  VArray : (index element : ℕ) (held : Elements) → Value
 
 -- a value is of a sort
 abbrev pub HasSort : Sort → Value → Type 0
 HasSort sort.Bool v = (b : Bool) × (v ≡ VBool b)
 HasSort (sort.Word n) v = (x : ℕ) × (v ≡ VWord n x) × (x < 2 ^ n)
-HasSort (sort.Array n m) v = (f : ℕ → ℕ) × (v ≡ VArray n m f) × ((i : ℕ) → f i < 2 ^ m)
+HasSort (sort.Array n m) v = (a : Elements) × (v ≡ VArray n m a) × ((i : ℕ) → held_at a i < 2 ^ m)
 
 abbrev pub no_value : Value
 no_value = VBool false
@@ -30,35 +65,35 @@ no_value = VBool false
 abbrev pub is_true : Value → Bool
 is_true (VBool b) = b
 is_true (VWord n x) = false
-is_true (VArray n m f) = false
+is_true (VArray n m a) = false
 
 abbrev pub number_of : Value → ℕ
 number_of (VBool b) = 0
 number_of (VWord n x) = x
-number_of (VArray n m f) = 0
+number_of (VArray n m a) = 0
 
 abbrev pub width_in : Value → ℕ
 width_in (VBool b) = 0
 width_in (VWord n x) = n
-width_in (VArray n m f) = 0
+width_in (VArray n m a) = 0
 
 -- false, zero, or the array of zeros
 abbrev pub default_of : Sort → Value
 default_of sort.Bool = VBool false
 default_of (sort.Word n) = VWord n 0
-default_of (sort.Array n m) = VArray n m (λ i. 0)
+default_of (sort.Array n m) = VArray n m (filled 0)
 
 -- a value read at a sort: one that is not of the sort is read as one that is
 abbrev pub read_at : Sort → Value → Value
 read_at sort.Bool (VBool b) = VBool b
 read_at sort.Bool (VWord n x) = VBool false
-read_at sort.Bool (VArray n m f) = VBool false
+read_at sort.Bool (VArray n m a) = VBool false
 read_at (sort.Word n) (VWord m x) = VWord n (x % 2 ^ n)
 read_at (sort.Word n) (VBool b) = VWord n 0
-read_at (sort.Word n) (VArray k m f) = VWord n 0
-read_at (sort.Array n m) (VArray k l f) = VArray n m (λ i. f i % 2 ^ m)
-read_at (sort.Array n m) (VBool b) = VArray n m (λ i. 0)
-read_at (sort.Array n m) (VWord k x) = VArray n m (λ i. 0)
+read_at (sort.Word n) (VArray k m a) = VWord n 0
+read_at (sort.Array n m) (VArray k l a) = VArray n m (elements_below (2 ^ m) a)
+read_at (sort.Array n m) (VBool b) = VArray n m (filled 0)
+read_at (sort.Array n m) (VWord k x) = VArray n m (filled 0)
 
 -- A value for each declared constant, and a function for each declared function, by the numbers of the declarations.
 -- They are read at the sorts of the declarations.
@@ -82,35 +117,31 @@ first_below p (suc n) = if all_below (λ i. not (p i)) n then (if p n then n els
 abbrev pub same_value : Value → Value → Bool
 same_value (VBool a) (VBool b) = if a then b else not b
 same_value (VBool a) (VWord n x) = false
-same_value (VBool a) (VArray n m f) = false
+same_value (VBool a) (VArray n m c) = false
 same_value (VWord n x) (VBool b) = false
 same_value (VWord n x) (VWord m y) = (n == m) && (x == y)
-same_value (VWord n x) (VArray k m f) = false
-same_value (VArray n m f) (VBool b) = false
-same_value (VArray n m f) (VWord k x) = false
-same_value (VArray n m f) (VArray k l g) = all_below (λ i. f i == g i) (2 ^ n)
+same_value (VWord n x) (VArray k m a) = false
+same_value (VArray n m a) (VBool b) = false
+same_value (VArray n m a) (VWord k x) = false
+same_value (VArray n m a) (VArray k l b) = all_below (λ i. held_at a i == held_at b i) (2 ^ n)
 
 abbrev pub select_of : Value → Value → Value
 select_of (VBool b) i = no_value
 select_of (VWord n x) i = no_value
-select_of (VArray n m f) i = VWord m (f (number_of i))
-
--- an array with one element changed
-abbrev pub changed : (ℕ → ℕ) → ℕ → ℕ → ℕ → ℕ
-changed f i x j = if j == i then x else f j
+select_of (VArray n m a) i = VWord m (held_at a (number_of i))
 
 abbrev pub store_of : Value → Value → Value → Value
 store_of (VBool b) i v = no_value
 store_of (VWord n x) i v = no_value
-store_of (VArray n m f) i v = VArray n m (changed f (number_of i) (number_of v))
+store_of (VArray n m a) i v = VArray n m (with_entry a (number_of i) (number_of v))
 
 -- the least index at which two arrays differ, or 0
 abbrev pub witness_of : Value → Value → Value
 witness_of (VBool b) w = no_value
 witness_of (VWord n x) w = no_value
-witness_of (VArray n m f) (VBool b) = no_value
-witness_of (VArray n m f) (VWord k x) = no_value
-witness_of (VArray n m f) (VArray k l g) = VWord n (first_below (λ i. not (f i == g i)) (2 ^ n))
+witness_of (VArray n m a) (VBool b) = no_value
+witness_of (VArray n m a) (VWord k x) = no_value
+witness_of (VArray n m a) (VArray k l b) = VWord n (first_below (λ i. not (held_at a i == held_at b i)) (2 ^ n))
 
 -- ---- meanings
 
@@ -209,7 +240,7 @@ meaning_of M (SignExtend i) = word_of λ n x. VWord (n + i) (sign_extend_of n i 
 meaning_of M (RotateLeft i) = one λ n x. rotate_left_of n i x
 meaning_of M (RotateRight i) = one λ n x. rotate_right_of n i x
 meaning_of M (Repeat i) = word_of λ n x. VWord (n * i) (repeat_of n i x)
-meaning_of M (ConstantArray k) = word_of λ n x. VArray k n (λ i. x)
+meaning_of M (ConstantArray k) = word_of λ n x. VArray k n (filled x)
 meaning_of M (Constant d s) = Is (read_at s (M.constants d))
 meaning_of M (Apply d s) = collected s.args λ vs. read_at s.value (M.functions d vs)
 meaning_of M (Param k s) = Is (default_of s)

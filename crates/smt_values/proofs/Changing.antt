@@ -1,5 +1,5 @@
 -- What one more entry and one more row change.
-use Rattle.std.proofs.Common.{◌≡◌, Bool, true, false, List, [], ◌∷◌, map, refl, ap, sym, ◌∙◌, Option, Some}
+use Rattle.std.proofs.Common.{◌≡◌, ℕ, ◌<◌, ◌^◌, Bool, true, false, List, [], ◌∷◌, map, refl, ap, sym, ◌∙◌, subst, Option, Some}
 use Rattle.std.specs.Prelude.{if◌then◌else◌}
 use Rattle.std.specs.Ordering.{is_eq, is_lt, ordering_reverse}
 use Rattle.std.specs.declared.cmp.Ordering.{Ordering}
@@ -9,18 +9,24 @@ use Rattle.smt_terms.specs.declared.sort.Sort.TheVariants as sort
 use Rattle.smt_terms.specs.declared.scalar.Scalar.{Scalar}
 use Rattle.smt_terms.specs.Scalars.{scalar_value}
 use Rattle.smt_terms.specs.Values.{VArray, VWord, HasSort, store_of}
-use Rattle.smt_values.specs.Arrays.{ArrayFields, IsArray, element_at, array_value, with_element}
+use Rattle.smt_values.specs.Arrays.{ArrayFields, IsArray, elements_of, array_value, with_element}
 use Rattle.smt_values.specs.declared.table.Row.{Row}
 use Rattle.smt_values.specs.Tables.{TableFields, args_cmp, row_at, value_in, entered_row, table_value, with_row}
-use Rattle.smt_values.proofs.Entries.{entered_changes}
+use Rattle.smt_values.proofs.Entries.{element_by_entry, entered_pairs}
 use Rattle.smt_values.proofs.Reading.{element_below}
 use Rattle.smt_values.proofs.Rows.{order, row_met, row_after, row_before, row_passed, value_at}
 
 pub array_sort : (a : ArrayFields) → IsArray a → HasSort (sort.Array a.index a.default.width) (array_value a)
-array_sort a h = (element_at a, refl, λ i. element_below a.default.width a.default.value h.default.fits a.index a.entries h.entries i)
+array_sort a h = (
+  elements_of a,
+  refl,
+  λ i. subst (λ (x : ℕ). x < 2 ^ a.default.width) (sym (element_by_entry a.default.value a.entries i)) (element_below a.default.width a.default.value h.default.fits a.index a.entries h.entries i),
+)
 
 pub element_stored : (a : ArrayFields) (i x : WordValue) → array_value (with_element a i x) ≡ store_of (array_value a) (VWord i.width i.value) (VWord x.width x.value)
-element_stored a i x = (λ j. VArray a.index a.default.width (λ k. entered_changes (i, x) a.default.value a.entries k j))
+element_stored a i x =
+    let entries = entered_pairs a.entries (i, x) in
+    (λ j. VArray a.index a.default.width (record { default = a.default.value; entries = entries j }))
 
 -- ---- rows
 

@@ -8,7 +8,7 @@ use Rattle.smt_terms.specs.Values.{all_below, first_below}
 use Rattle.smt_terms.proofs.Arrays.{each_all_below, all_below_each, differ_not_all}
 use Rattle.smt_values.specs.Arrays.{Entry, ArrayFields, entry_at, element_of, element_at, AreRising}
 use Rattle.smt_values.specs.Differences.{agree, first_difference, holds, either_holds, IsFirstAmong, lesser, IsGap}
-use Rattle.smt_values.proofs.Entries.{above, absent, passed, met, at_own}
+use Rattle.smt_values.proofs.Entries.{above, absent, passed, met, at_own, element_by_entry}
 
 -- ---- the least number that passes a test
 
@@ -67,12 +67,16 @@ before_agrees (e ∷ es) g (suc k) f r s h i d lt held = ⊎_elim
 
 -- all entries of the first array agree with the second
 pub none_among : (a b : ArrayFields) → AllByRecursion (λ e. element_at b e.0.value ≡ e.1.value) a.entries → IsFirstAmong (holds a.entries) a b None
-none_among a b h = λ i lt held. held_agrees a.entries (element_at b) h i a.default.value held
+none_among a b h = λ i lt held. element_by_entry a.default.value a.entries i ∙ held_agrees a.entries (element_at b) h i a.default.value held
 
 -- an entry that does not, where those before it do
 pub some_among : (a b : ArrayFields) (k : ℕ) (f : Entry) → AreRising a.entries → slice_get a.entries k ≡ Some f → f.0.width ≡ a.index → f.0.value < 2 ^ a.index → ((j : ℕ) (d : Entry) → j < k → element_at b (get_or a.entries j d).0.value ≡ (get_or a.entries j d).1.value) → (element_at b f.0.value ≡ f.1.value → ⊥) → IsFirstAmong (holds a.entries) a b (Some f.0)
-some_among a b k f r s width fits before ne =
-    (width, fits, (λ q. ne (sym q ∙ ap (element_of a.default.value) (at_own a.entries k f r s))), λ i lt held. before_agrees a.entries (element_at b) k f r s before i a.default.value lt held)
+some_among a b k f r s width fits before ne = (
+  width,
+  fits,
+  (λ q. ne (sym q ∙ element_by_entry a.default.value a.entries f.0.value ∙ ap (element_of a.default.value) (at_own a.entries k f r s))),
+  λ i lt held. element_by_entry a.default.value a.entries i ∙ before_agrees a.entries (element_at b) k f r s before i a.default.value lt held,
+)
 
 -- ---- two arrays
 
@@ -94,13 +98,16 @@ unheld : (d : ℕ) (o : Option Entry) → is_some o ≡ false → element_of d o
 unheld d None e = refl
 unheld d (Some f) e = let q : ⊥ = cc in absurd q
 
+default_there : (a : ArrayFields) (i : ℕ) → holds a.entries i ≡ false → element_at a i ≡ a.default.value
+default_there a i none = element_by_entry a.default.value a.entries i ∙ unheld a.default.value (entry_at a.entries i) none
+
 -- where the defaults are the same, only held indexes count
 pub same_defaults : (a b : ArrayFields) (r : Option WordValue) → a.default.value ≡ b.default.value → IsFirstAmong (either_holds a b) a b r → IsFirstAmong (λ i. true) a b r
 same_defaults a b r e h = go r h where
   apart : (i : ℕ) → either_holds a b i ≡ false → element_at a i ≡ element_at b i
   apart i none =
       let p = or_parts (holds a.entries i) (holds b.entries i) none in
-      unheld a.default.value (entry_at a.entries i) p.0 ∙ e ∙ sym (unheld b.default.value (entry_at b.entries i) p.1)
+      default_there a i p.0 ∙ e ∙ sym (default_there b i p.1)
 
   go : (o : Option WordValue) → IsFirstAmong (either_holds a b) a b o → IsFirstAmong (λ i. true) a b o
   go None k = λ i lt t. ⊎_elim (k i lt) (apart i) (cases_Bool (either_holds a b i))
@@ -116,7 +123,7 @@ other_defaults a b x y ne h k = all (lesser x y) (joined (either_holds a b) (λ 
   gap None g = λ i lt t. both i (g i lt) t
   gap (Some w) g =
       let p = or_parts (holds a.entries w.value) (holds b.entries w.value) g.2 in
-      (g.0, g.1, (λ e. ne (sym (unheld a.default.value (entry_at a.entries w.value) p.0) ∙ e ∙ unheld b.default.value (entry_at b.entries w.value) p.1)), λ i lt t. both i (g.3 i lt) t)
+      (g.0, g.1, (λ e. ne (sym (default_there a w.value p.0) ∙ e ∙ default_there b w.value p.1)), λ i lt t. both i (g.3 i lt) t)
 
   covered : (c : Bool) → (c || not c) ≡ true
   covered true = refl

@@ -1,11 +1,11 @@
--- Rising entries: where an index stands, and what one more entry leaves.
-use Rattle.std.proofs.Common.{◌≡◌, ℕ, zero, suc, ◌<◌, ◌≤◌, Bool, true, false, List, [], ◌∷◌, length, get_or, set, refl, ap, sym, ◌∙◌, subst, arith, ⊎_elim, Option, Some, None}
+-- Rising entries: where an index stands, and what one more entry leaves; entries as numbers.
+use Rattle.std.proofs.Common.{◌≡◌, ℕ, zero, suc, ◌<◌, ◌≤◌, Bool, true, false, List, [], ◌∷◌, length, map, get_or, set, refl, ap, sym, ◌∙◌, subst, arith, ⊎_elim, Some, None}
 use Rattle.std.specs.Prelude.{◌==◌, nat_lt, if◌then◌else◌, slice_get, is_some, ltb}
 use Rattle.std.specs.List.{AllByRecursion, insert}
 use Rattle.std.specs.List.Sorted.{IsNonDecreasingBy, IsPartitionPoint}
 use Rattle.std.proofs.lemmas.Bool.{eq-eqb, ne_eqb, ltb-true, ltb-false, lt-ltb, le-ltb, cases_lt, cond-true, cond-false, cases_eq}
-use Rattle.smt_terms.specs.Values.{changed}
-use Rattle.smt_values.specs.Arrays.{Entry, entry_at, element_of, AreRising, entered, matching, Splits}
+use Rattle.smt_terms.specs.Values.{element_in, placed}
+use Rattle.smt_values.specs.Arrays.{Entry, entry_at, element_of, pair_of, AreRising, entered, matching, Splits}
 use Rattle.cnf_base.proofs.Lists.{each_get_or, each_slice_get}
 
 -- ---- each entry
@@ -143,37 +143,21 @@ module _ (f : Entry) where
       (cases_lt f.0.value e.0.value))
       (cases_eq e.0.value f.0.value)
 
-  met_case : (e : Entry) (es : List Entry) (j : ℕ) → e.0.value ≡ f.0.value → (if f.0.value == j then Some f else entry_at es j) ≡ (if f.0.value == j then Some f else entry_at (e ∷ es) j)
-  met_case e es j same = ⊎_elim
-      (λ here. cond-true (f.0.value == j) (Some f) (entry_at es j) (eq-eqb f.0.value j here) ∙ sym (cond-true (f.0.value == j) (Some f) (entry_at (e ∷ es) j) (eq-eqb f.0.value j here)))
-      (λ there. let ne : e.0.value ≡ j → ⊥ = λ q. there (sym same ∙ q) in ap (λ z. if f.0.value == j then Some f else z) (sym (passed e es j ne)))
-      (cases_eq f.0.value j)
+-- ---- entries as numbers
 
-  after_case : (e : Entry) (es : List Entry) (j : ℕ) → e.0.value < f.0.value → entry_at (entered es f) j ≡ (if f.0.value == j then Some f else entry_at es j) → entry_at (e ∷ entered es f) j ≡ (if f.0.value == j then Some f else entry_at (e ∷ es) j)
-  after_case e es j gt ih = ⊎_elim
-      (λ here.
-      let other : f.0.value ≡ j → ⊥ = omega arith in
-      met e (entered es f) j here ∙ sym (cond-false (f.0.value == j) (Some f) (entry_at (e ∷ es) j) (ne_eqb f.0.value j other) ∙ met e es j here))
-      (λ there. passed e (entered es f) j there ∙ ih ∙ ap (λ z. if f.0.value == j then Some f else z) (sym (passed e es j there)))
-      (cases_eq e.0.value j)
+-- the element at an index is that of its entry, or the default
+pub element_by_entry : (d : ℕ) (es : List Entry) (i : ℕ) → element_in d (map pair_of es) i ≡ element_of d (entry_at es i)
+element_by_entry d [] i = refl
+element_by_entry d (e ∷ es) i = go (e.0.value == i) (element_by_entry d es i) where
+  go : (b : Bool) → element_in d (map pair_of es) i ≡ element_of d (entry_at es i) → (if b then e.1.value else element_in d (map pair_of es) i) ≡ element_of d (if b then Some e else entry_at es i)
+  go true ih = refl
+  go false ih = ih
 
-  -- what is found then
-  pub entered_at : (es : List Entry) (j : ℕ) → entry_at (entered es f) j ≡ (if f.0.value == j then Some f else entry_at es j)
-  entered_at [] j = refl
-  entered_at (e ∷ es) j = ⊎_elim
-      (λ same. ap (λ x. entry_at x j) (entered_met e es same) ∙ met_case e es j same)
-      (λ ne. ⊎_elim
-      (λ lt. ap (λ x. entry_at x j) (entered_before e es lt))
-      (λ le. let gt : e.0.value < f.0.value = omega arith in ap (λ x. entry_at x j) (entered_after e es gt) ∙ after_case e es j gt (entered_at es j))
-      (cases_lt f.0.value e.0.value))
-      (cases_eq e.0.value f.0.value)
-
-  changed_case : (d j : ℕ) (o : Option Entry) → element_of d (if f.0.value == j then Some f else o) ≡ (if j == f.0.value then f.1.value else element_of d o)
-  changed_case d j o = ⊎_elim
-      (λ same. ap (element_of d) (cond-true (f.0.value == j) (Some f) o (eq-eqb f.0.value j same)) ∙ sym (cond-true (j == f.0.value) f.1.value (element_of d o) (eq-eqb j f.0.value (sym same))))
-      (λ ne. ap (element_of d) (cond-false (f.0.value == j) (Some f) o (ne_eqb f.0.value j ne)) ∙ sym (cond-false (j == f.0.value) f.1.value (element_of d o) (ne_eqb j f.0.value (λ q. ne (sym q)))))
-      (cases_eq f.0.value j)
-
-  -- one element is changed
-  pub entered_changes : (d : ℕ) (es : List Entry) (j : ℕ) → element_of d (entry_at (entered es f) j) ≡ changed (λ i. element_of d (entry_at es i)) f.0.value f.1.value j
-  entered_changes d es j = ap (element_of d) (entered_at es j) ∙ changed_case d j (entry_at es j)
+-- one more entry is one more pair of numbers
+pub entered_pairs : (es : List Entry) (f : Entry) → map pair_of (entered es f) ≡ placed (map pair_of es) (pair_of f)
+entered_pairs [] f = refl
+entered_pairs (e ∷ es) f = go (e.0.value == f.0.value) (nat_lt f.0.value e.0.value) (entered_pairs es f) where
+  go : (b c : Bool) → map pair_of (entered es f) ≡ placed (map pair_of es) (pair_of f) → map pair_of (if b then f ∷ es else if c then f ∷ e ∷ es else e ∷ entered es f) ≡ (if b then pair_of f ∷ map pair_of es else if c then pair_of f ∷ pair_of e ∷ map pair_of es else pair_of e ∷ placed (map pair_of es) (pair_of f))
+  go true c ih = refl
+  go false true ih = refl
+  go false false ih = ap (λ l. pair_of e ∷ l) ih

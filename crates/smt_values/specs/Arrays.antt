@@ -1,8 +1,8 @@
 -- Array values: a default, and an element for each of finitely many indexes (SMT-LIB 2.6, theory ArraysEx).
-use Rattle.std.specs.Prelude.{◌≡◌, ℕ, zero, suc, ◌<◌, ◌≤◌, ◌^◌, ◌==◌, nat_lt, if◌then◌else◌, List, [], ◌∷◌, Option, Some, None}
+use Rattle.std.specs.Prelude.{◌≡◌, ℕ, zero, suc, ◌<◌, ◌≤◌, ◌^◌, ◌==◌, nat_lt, if◌then◌else◌, List, [], ◌∷◌, map, Option, Some, None}
 use Rattle.std.specs.List.{AllByRecursion}
 use Rattle.smt_words.specs.Words.{WordValue, IsWidth}
-use Rattle.smt_terms.specs.Values.{Value, VArray}
+use Rattle.smt_terms.specs.Values.{Elements, held_at, Value, VArray}
 
 -- an index and its element
 abbrev pub Entry : Type 0
@@ -24,12 +24,19 @@ abbrev pub element_of : ℕ → Option Entry → ℕ
 element_of d None = d
 element_of d (Some e) = e.1.value
 
+abbrev pub pair_of : Entry → ℕ × ℕ
+pair_of e = (e.0.value, e.1.value)
+
+-- the elements as numbers
+abbrev pub elements_of : ArrayFields → Elements
+elements_of a = record { default = a.default.value; entries = map pair_of a.entries }
+
 abbrev pub element_at : ArrayFields → ℕ → ℕ
-element_at a i = element_of a.default.value (entry_at a.entries i)
+element_at a i = held_at (elements_of a) i
 
 -- the array of the theory
 abbrev pub array_value : ArrayFields → Value
-array_value a = VArray a.index a.default.width (element_at a)
+array_value a = VArray a.index a.default.width (elements_of a)
 
 -- ---- arrays that code holds
 

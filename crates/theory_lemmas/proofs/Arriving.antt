@@ -1,6 +1,6 @@
 -- A trip, one move after the other.
-use Rattle.std.proofs.Common.{◌≡◌, ℕ, zero, suc, ◌+◌, ◌<◌, ◌≤◌, List, [], ◌∷◌, ◌++◌, length, Option, Some, None, refl, sym, ap, ◌∙◌, subst, arith, length-append}
-use Rattle.std.specs.Prelude.{drop, slice_get, slice_index_or}
+use Rattle.std.proofs.Common.{◌≡◌, ℕ, suc, ◌≤◌, List, [], ◌∷◌, ◌++◌, length, Option, Some, None, refl, sym, ap, ◌∙◌}
+use Rattle.std.specs.Prelude.{drop, slice_get}
 use Rattle.std.proofs.lemmas.List.{append_assoc, append-nil}
 use Rattle.smt_terms.specs.declared.node.Node.{Node}
 use Rattle.theory_terms.specs.declared.lemma.Move.{Move}
@@ -8,7 +8,7 @@ use Rattle.theory_terms.specs.declared.lemma.Access.{Access}
 use Rattle.theory_terms.specs.declared.atom.Atom.{Atom}
 use Rattle.theory_terms.specs.declared.atom.Landing.{Landing}
 use Rattle.theory_terms.specs.declared.atom.Turn.{Turn}
-use Rattle.theory_terms.specs.Lemmas.{turn_of, Trip, longer, then_trip, trip_of, Arrival, arrive, from_landing, landing_of, arrival_of}
+use Rattle.theory_terms.specs.Lemmas.{turn_of, Trip, longer, then_trip, trip_of, arrive, from_landing, landing_of, arrival_of}
 use Rattle.theory_lemmas.specs.Arriving.{HasArrived}
 use Rattle.theory_lemmas.proofs.Each.{drop_next, drop_all}
 

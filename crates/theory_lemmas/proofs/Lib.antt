@@ -1,3 +1,6 @@
 mod Each
 mod Arriving
-mod Literals
+pub mod Parts
+pub mod Literals
+pub mod Keeping
+pub mod Below

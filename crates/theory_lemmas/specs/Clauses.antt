@@ -2,8 +2,9 @@
 use Rattle.std.specs.Prelude.{◌≡◌, ℕ, ◌==◌, ltb, Bool, true, false, ◌&&◌, if◌then◌else◌, List, [], ◌∷◌, Option, Some, None, Result, Ok, Err}
 use Rattle.cnf_base.specs.Literals.{Literal, positive_of, negated}
 use Rattle.cnf_base.specs.Clauses.{lit_true}
+use Rattle.smt_terms.specs.declared.sort.Sort.{Sort}
+use Rattle.smt_terms.specs.declared.sort.Sort.TheVariants as sort
 use Rattle.smt_terms.specs.declared.node.Node.{Node}
-use Rattle.smt_terms.specs.Ranks.{and_then}
 use Rattle.smt_terms.specs.Values.{Value, is_true, same_value}
 use Rattle.theory_terms.specs.declared.lemma.Lemma.{Lemma}
 use Rattle.theory_terms.specs.declared.atom.Atom.{Atom}
@@ -78,11 +79,11 @@ of_atoms bits equals (Some atoms) = if are_shown bits atoms then lits_of bits eq
 abbrev pub clause_of : List Node → (ℕ → Option (List Literal)) → (ℕ → ℕ → Option Literal) → Lemma → Result (List Literal) LemmaFault
 clause_of nodes bits equals lemma = of_atoms bits equals (atoms_of nodes lemma)
 
--- The variables mean what the terms are: 1 is true, a term's bit is its truth value, and an equality's literal tells
+-- The variables mean what the terms are: 1 is true, a Bool's bit is its truth value, and an equality's literal tells
 -- whether two terms have one value, whichever is named first.
-pub record Means (f : ℕ → Bool) (v : ℕ → Value) (bits : ℕ → Option (List Literal)) (equals : ℕ → ℕ → Option Literal) : Type 0 where
+pub record Means (f : ℕ → Bool) (sorts : ℕ → Sort) (v : ℕ → Value) (bits : ℕ → Option (List Literal)) (equals : ℕ → ℕ → Option Literal) : Type 0 where
   pub top : f 1 ≡ true
-  pub bit : (t : ℕ) (l : Literal) → bits t ≡ Some (l ∷ []) → lit_true f l ≡ is_true (v t)
+  pub bit : (t : ℕ) (l : Literal) → sorts t ≡ sort.Bool → bits t ≡ Some (l ∷ []) → lit_true f l ≡ is_true (v t)
   pub equal : (t u : ℕ) (l : Literal) → equals t u ≡ Some l → lit_true f l ≡ same_value (v t) (v u)
   pub back : (t u : ℕ) (l : Literal) → equals t u ≡ Some l → lit_true f l ≡ same_value (v u) (v t)
 

@@ -4,7 +4,7 @@ use smt_terms::node::TermId;
 use std::alloc::{AllocError, AllocFailed};
 
 /// The first fault of a lemma.
-#[derive(Clone, Copy, Debug)]
+#[derive(Clone, Copy, Debug, PartialEq, Eq)]
 pub enum LemmaFault {
     /// Its terms, paths or bits are not those of a lemma.
     Shape,

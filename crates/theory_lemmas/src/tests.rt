@@ -8,10 +8,10 @@ use crate::clauses::{Equalities, clause_of};
 use crate::fault::{LemmaError, LemmaFault};
 use cnf_base::{Clause, Lit};
 use smt_terms::bits::Bits;
-use smt_terms::list::Arguments;
+use smt_terms::list::{Arguments, Sorts};
 use smt_terms::node::{Node, Op, TermId};
 use smt_terms::operator::Operator;
-use smt_terms::sort::Sort;
+use smt_terms::sort::{Signature, Sort};
 use smt_terms::terms::Terms;
 use std::alloc::{AllocError, Global};
 use std::test::Fail;
@@ -298,6 +298,82 @@ fn a_shape_is_told_before_an_equality(rt: HostRuntime) -> Result<(), Fail> {
         let lemma = lemma_of(alloc, case)?;
         let given = clause_of(alloc, &terms, &bits, &Named { bound: 0 }, &lemma);
         assert!(rt; is_expected(&given, Expected::Shape));
+    }
+    Ok(())
+}
+
+const WORD: Sort = Sort::Word(4);
+
+/// A parameter, which is term 0, and as term 1 the application of a declared function to it twice; none where one gets
+/// another number.
+fn one_application(alloc: Global) -> Result<Option<Terms>, AllocError> {
+    let mut terms = Terms::new(alloc);
+    let parameter = Op::Param {
+        place: 0,
+        sort: WORD,
+    };
+    if terms.make(Node::leaf(alloc, parameter)) != Ok(0) {
+        return Ok(None);
+    }
+    let signature = Signature {
+        args: Sorts::from_vec(Vec::from_array(alloc, [WORD, WORD])?),
+        value: WORD,
+    };
+    let op = Op::Apply {
+        declaration: 0,
+        signature,
+    };
+    let args = Arguments::of(alloc, &[0, 0])?;
+    if terms.make(Node { op, args }) == Ok(1) {
+        Ok(Some(terms))
+    } else {
+        Ok(None)
+    }
+}
+
+/// Whether the operator of term 1 over these arguments gets the next number.
+fn is_applied_next(alloc: Global, terms: &mut Terms, args: &[TermId]) -> Result<bool, AllocError> {
+    let number = terms.len();
+    if number < 2 {
+        return Ok(false);
+    }
+    let op = terms.node(1).op.copy()?;
+    let args = Arguments::of(alloc, args)?;
+    Ok(terms.make(Node { op, args }) == Ok(number))
+}
+
+/// The arguments of terms 2 to 4, which are applications of the function of term 1.
+const APPLIED: [&[TermId]; 3] = [&[0, 1], &[1, 0], &[2, 3]];
+
+/// Two terms, the bound below which equalities have variables, and what the congruence of the terms gives.
+const CONGRUENT: [(TermId, TermId, TermId, Expected); 10] = [
+    (1, 2, 5, Expected::Clause(&[-1, -101, 202])),
+    (3, 4, 5, Expected::Clause(&[-202, -103, 404])),
+    (4, 3, 5, Expected::Clause(&[-202, -103, 404])),
+    (2, 2, 5, Expected::Clause(&[-1, -1, 1])),
+    (3, 4, 4, Expected::NoEqual(3, 4)),
+    (3, 4, 3, Expected::NoEqual(0, 3)),
+    (4, 3, 0, Expected::NoEqual(1, 2)),
+    (1, 0, 5, Expected::Shape),
+    (0, 1, 5, Expected::Shape),
+    (1, 5, 5, Expected::Shape),
+];
+
+#[test]
+fn applications_have_their_congruences(rt: HostRuntime) -> Result<(), Fail> {
+    let alloc = rt.alloc();
+    let Some(mut terms) = one_application(alloc)? else {
+        return Err("a term has another number".into());
+    };
+    for args in APPLIED {
+        let is_next = is_applied_next(alloc, &mut terms, args)?;
+        assert!(rt; is_next);
+    }
+    let bits = Bits::new(alloc);
+    for (t, u, bound, expected) in CONGRUENT {
+        let lemma = Lemma::Congruence(t, u);
+        let given = clause_of(alloc, &terms, &bits, &Named { bound }, &lemma);
+        assert!(rt; is_expected(&given, expected));
     }
     Ok(())
 }

@@ -13,7 +13,7 @@ use Rattle.smt_terms.specs.declared.node.Node.{Node}
 use Rattle.smt_terms.specs.declared.sort.Signature.{Signature}
 use Rattle.smt_terms.specs.Nodes.{no_node, node_at}
 use Rattle.smt_terms.specs.Terms.{op_rank, sort_of, IsTermList}
-use Rattle.smt_terms.specs.Values.{Value, VBool, VArray, read_at, Interpretation, is_true, number_of, width_in, same_value, select_of, store_of, witness_of, op_value, value}
+use Rattle.smt_terms.specs.Values.{Value, VBool, VArray, filled, read_at, Interpretation, is_true, number_of, width_in, same_value, select_of, store_of, witness_of, op_value, value}
 use Rattle.smt_terms.specs.Evaluations.{is_witness, IsEvaluation}
 use Rattle.smt_terms.proofs.Typing.{value_is}
 use Rattle.theory_terms.specs.declared.shape.Shape.{Shape}
@@ -48,7 +48,7 @@ pub record FillingFacts (s : ℕ → Sort) (v : ℕ → Value) (t x : ℕ) : Typ
   pub element : ℕ
   pub element_sort : s x ≡ sort.Word element
   pub sort : s t ≡ sort.Array index element
-  pub is : v t ≡ VArray index (width_in (v x)) (λ i. number_of (v x))
+  pub is : v t ≡ VArray index (width_in (v x)) (filled (number_of (v x)))
   pub element_lt : x < t
 
 pub record ChoiceFacts (s : ℕ → Sort) (v : ℕ → Value) (t c a b : ℕ) : Type 0 where

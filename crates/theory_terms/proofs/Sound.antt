@@ -28,7 +28,7 @@ use Rattle.theory_terms.specs.Lemmas.{landing_of, is_applying, witness_node, sel
 use Rattle.theory_terms.specs.declared.lemma.Lemma.TheVariants as lemma
 use Rattle.smt_terms.specs.Terms.{sort_of, IsTermList}
 use Rattle.theory_terms.specs.Shapes.{IsPlain}
-use Rattle.smt_terms.specs.Values.{Value, VBool, VWord, VArray, HasSort, Interpretation, all_below, first_below, is_true, number_of, width_in, same_value, select_of, store_of, witness_of, value}
+use Rattle.smt_terms.specs.Values.{Value, VBool, VWord, VArray, held_at, filled, HasSort, Interpretation, all_below, first_below, is_true, number_of, width_in, same_value, select_of, store_of, witness_of, value}
 use Rattle.smt_terms.specs.Evaluations.{IsEvaluation}
 use Rattle.theory_terms.specs.declared.shape.Shape.{Shape}
 use Rattle.theory_terms.specs.declared.shape.Shape.TheVariants.{Selecting, Storing, Filling, Choosing, Equating, Witnessing, Applying, Other}
@@ -39,7 +39,7 @@ use Rattle.theory_terms.specs.declared.atom.Landing.{Landing}
 use Rattle.theory_terms.specs.declared.atom.Turn.{Turn}
 use Rattle.theory_terms.specs.declared.atom.Watch.{Watch}
 use Rattle.theory_terms.specs.Lemmas.{atom_true, some_true, start_of, is_index, constant_start, between, store_turn, then_turn, else_turn, sides_turn, turn_of, Trip, longer, then_trip, trip_of, Arrival, arrive, from_landing, arrival_of, arrays_atoms, put_front, pairs_atoms, congruence_atoms, watch_of, watch_at, watch, watch_atoms, witness_atoms, atoms_of}
-use Rattle.smt_terms.proofs.Arrays.{changed_same, changed_other, all_below_each, each_all_below, first_differs}
+use Rattle.smt_terms.proofs.Arrays.{stored_same, stored_other, all_below_each, each_all_below, first_differs}
 use Rattle.theory_terms.proofs.Shapes.{StoreFacts, ChoiceFacts, EqualFacts, ApplyFacts, FactsOf, facts, shape_within, witness_value}
 
 -- ---- equal values
@@ -51,7 +51,7 @@ bool_same false = refl
 pub same_refl : (x : Value) → same_value x x ≡ true
 same_refl (VBool b) = bool_same b
 same_refl (VWord n x) = rw (eq-eqb n n refl, eq-eqb x x refl) refl
-same_refl (VArray n m f) = each_all_below (λ i. f i == f i) (2 ^ n) (λ i lt. eq-eqb (f i) (f i) refl)
+same_refl (VArray n m a) = each_all_below (λ i. held_at a i == held_at a i) (2 ^ n) (λ i lt. eq-eqb (held_at a i) (held_at a i) refl)
 
 bool_equal : (a b : Bool) → (if a then b else not b) ≡ true → a ≡ b
 bool_equal true true h = refl
@@ -103,8 +103,8 @@ and_false false b h = refl
 
 pub same_arrays : (n m : ℕ) (A B I : Value) → HasSort (SArray n m) A → HasSort (SArray n m) B → HasSort (SWord n) I → same_value A B ≡ true → select_of A I ≡ select_of B I
 same_arrays n m A B I h k l e =
-    let q : all_below (λ i. h.0 i == k.0 i) (2 ^ n) ≡ true = rw (h.1, k.1) at e in
-    let w : h.0 l.0 ≡ k.0 l.0 = eqb-true (h.0 l.0) (k.0 l.0) (all_below_each (λ i. h.0 i == k.0 i) (2 ^ n) q l.0 l.2) in
+    let q : all_below (λ i. held_at h.0 i == held_at k.0 i) (2 ^ n) ≡ true = rw (h.1, k.1) at e in
+    let w : held_at h.0 l.0 ≡ held_at k.0 l.0 = eqb-true (held_at h.0 l.0) (held_at k.0 l.0) (all_below_each (λ i. held_at h.0 i == held_at k.0 i) (2 ^ n) q l.0 l.2) in
     rw (h.1, k.1, l.1) (ap (VWord m) w)
 
 -- ---- atoms
@@ -129,7 +129,7 @@ true_of v h = not-false (is_true v) h
 
 -- ---- moves
 
-between_is : (here a b : ℕ) (atom : Atom) (w : Turn) → between here a b atom ≡ Some w → ((here ≡ a) × (w ≡ record { to = b; unless = atom })) ⊎ ((here ≡ b) × (w ≡ record { to = a; unless = atom }))
+pub between_is : (here a b : ℕ) (atom : Atom) (w : Turn) → between here a b atom ≡ Some w → ((here ≡ a) × (w ≡ record { to = b; unless = atom })) ⊎ ((here ≡ b) × (w ≡ record { to = a; unless = atom }))
 between_is here a b atom w e = go (here == a) refl (here == b) refl where
   go : (p : Bool) → (here == a) ≡ p → (q : Bool) → (here == b) ≡ q → ((here ≡ a) × (w ≡ record { to = b; unless = atom })) ⊎ ((here ≡ b) × (w ≡ record { to = a; unless = atom }))
   go true p q r =
@@ -193,7 +193,7 @@ module _ (M : Interpretation) (nodes : List Node) (v : ℕ → Value) (terms : I
       let I : HasSort (SWord f.index) (v i) = subst (λ m. HasSort (SWord m) (v i)) n k.word in
       let ne = differ_numbers f.index (v i) (v j) I J h in
       let start : select_of (v t) (v i) ≡ select_of (store_of (v b) (v j) (v x)) (v i) = ap (λ y. select_of y (v i)) f.is in
-      start ∙ rw A.1 (ap (VWord f.element) (changed_other A.0 (number_of (v j)) (number_of (v x)) (number_of (v i)) ne))
+      start ∙ rw A.1 (ap (VWord f.element) (stored_other A.0 (number_of (v j)) (number_of (v x)) (number_of (v i)) ne))
 
   then_agree : (i t c a b : ℕ) → ChoiceFacts (sort_of nodes) v t c a b → is_true (v c) ≡ true → Agree i t a
   then_agree i t c a b f h = ap (λ y. select_of y (v i)) (f.is ∙ ap (λ z. if z then v a else v b) h)
@@ -314,7 +314,7 @@ module _ (M : Interpretation) (nodes : List Node) (v : ℕ → Value) (terms : I
       let X = sorted_at x _ f.value_sort (omega (arith, f.value_lt)) in
       let stands : Stands j t = record { index = f.index; element = f.element; sort = f.sort; array = T; word = J } in
       let is : select_of (v t) (v j) ≡ select_of (store_of (v b) (v j) (v x)) (v j) = ap (λ y. select_of y (v j)) f.is in
-      let put : select_of (store_of (v b) (v j) (v x)) (v j) ≡ v x = rw (B.1, J.1, X.1) (ap (VWord f.element) (changed_same B.0 J.0 X.0 J.0 refl)) in
+      let put : select_of (store_of (v b) (v j) (v x)) (v j) ≡ v x = rw (B.1, J.1, X.1) (ap (VWord f.element) (stored_same B.0 J.0 X.0 J.0 refl)) in
       let all : Lies (record { array = t; index = j; value = x }) = record { stands = stands; there = is ∙ put; value = X } in
       subst Lies same all
   start_lies t l k e q = let f : ⊥ = cc in absurd f
@@ -333,7 +333,7 @@ module _ (M : Interpretation) (nodes : List Node) (v : ℕ → Value) (terms : I
       let T = sorted_at t _ f.sort lt in
       let J = sorted_at j _ i.1 i.0 in
       let X = sorted_at x _ f.element_sort (omega (arith, f.element_lt)) in
-      let is : select_of (v t) (v j) ≡ select_of (VArray f.index (width_in (v x)) (λ k. number_of (v x))) (v j) = ap (λ y. select_of y (v j)) f.is in
+      let is : select_of (v t) (v j) ≡ select_of (VArray f.index (width_in (v x)) (filled (number_of (v x)))) (v j) = ap (λ y. select_of y (v j)) f.is in
       let put : VWord (width_in (v x)) (number_of (v x)) ≡ v x = rw X.1 refl in
       record { stands = record { index = f.index; element = f.element; sort = f.sort; array = T; word = J }; there = is ∙ put; value = X }
 
@@ -356,7 +356,7 @@ module _ (M : Interpretation) (nodes : List Node) (v : ℕ → Value) (terms : I
       let all : Lies (record l { array = r.to }) = record { stands = stands; there = there; value = word } in
       subst (λ q. Lies q.landing) same all where
         ends : (n m : ℕ) (A I X : Value) → HasSort (SArray n m) A → select_of A I ≡ X → HasSort (SWord m) X
-        ends n m A I X a e = (a.0 (number_of I), sym e ∙ rw a.1 refl, a.2 (number_of I))
+        ends n m A I X a e = (held_at a.0 (number_of I), sym e ∙ rw a.1 refl, a.2 (number_of I))
 
   landing_lies : (o : Option Landing) (ms : List Move) (p : Arrival) → ((l : Landing) → o ≡ Some l → Lies l) → from_landing nodes o ms ≡ Some p → some_true v p.unless ≡ false → Lies p.landing
   landing_lies None ms p f e n = let z : ⊥ = cc in absurd z
@@ -495,17 +495,17 @@ module _ (M : Interpretation) (nodes : List Node) (terms : IsTermList nodes) whe
 
   differ_there : (n m : ℕ) (A B W L R : Value) → HasSort (SArray n m) A → HasSort (SArray n m) B → W ≡ witness_of A B → L ≡ select_of A W → R ≡ select_of B W → same_value A B ≡ false → same_value L R ≡ false
   differ_there n m A B W L R h k w l r e =
-      let q : all_below (λ i. h.0 i == k.0 i) (2 ^ n) ≡ false = go at_forms in
-      let d = first_differs (2 ^ n) h.0 k.0 q in
-      let i : ℕ = first_below (λ x. not (h.0 x == k.0 x)) (2 ^ n) in
+      let q : all_below (λ i. held_at h.0 i == held_at k.0 i) (2 ^ n) ≡ false = go at_forms in
+      let d = first_differs (2 ^ n) (held_at h.0) (held_at k.0) q in
+      let i : ℕ = first_below (λ x. not (held_at h.0 x == held_at k.0 x)) (2 ^ n) in
       let ww : W ≡ VWord n i = w ∙ rw (h.1, k.1) refl in
-      let ll : L ≡ VWord m (h.0 i) = l ∙ rw (h.1, ww) refl in
-      let rr : R ≡ VWord m (k.0 i) = r ∙ rw (k.1, ww) refl in
-      rw (ll, rr) (and_false (m == m) (h.0 i == k.0 i) (ne_eqb (h.0 i) (k.0 i) d.1)) where
+      let ll : L ≡ VWord m (held_at h.0 i) = l ∙ rw (h.1, ww) refl in
+      let rr : R ≡ VWord m (held_at k.0 i) = r ∙ rw (k.1, ww) refl in
+      rw (ll, rr) (and_false (m == m) (held_at h.0 i == held_at k.0 i) (ne_eqb (held_at h.0 i) (held_at k.0 i) d.1)) where
         at_forms : same_value (VArray n m h.0) (VArray n m k.0) ≡ false
         at_forms = rw (h.1, k.1) at e
 
-        go : same_value (VArray n m h.0) (VArray n m k.0) ≡ false → all_below (λ i. h.0 i == k.0 i) (2 ^ n) ≡ false
+        go : same_value (VArray n m h.0) (VArray n m k.0) ≡ false → all_below (λ i. held_at h.0 i == held_at k.0 i) (2 ^ n) ≡ false
         go x = x
 
   watch_sound : (t a b : ℕ) (o : Option Watch) (atoms : List Atom) → shape_at nodes t ≡ Equating a b → ((w : Watch) → o ≡ Some w → IsWatch nodes a b w) → watch_atoms t o ≡ Some atoms → some_true (value M nodes) atoms ≡ false → ⊥

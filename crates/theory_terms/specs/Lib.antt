@@ -1,2 +1,3 @@
 pub mod Shapes
 pub mod Lemmas
+pub mod Named

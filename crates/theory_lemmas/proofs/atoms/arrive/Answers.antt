@@ -1,8 +1,8 @@
-use Rattle.std.proofs.Common.{◌≡◌, Some, None, length, slice_get, slice_index_or, refl, sym, ap, ◌∙◌, subst, arith, add-one}
+use Rattle.std.proofs.Common.{◌≡◌, Some, slice_get, slice_index_or, sym, arith, add-one}
 use Rattle.std.proofs.lemmas.Option.{slice_get-get_or}
 use Rattle.theory_terms.specs.declared.lemma.Move.{Move}
 use Rattle.theory_terms.specs.declared.lemma.Move.TheVariants as by
-use Rattle.theory_lemmas.proofs.Arriving.{IsUnderway, begins, goes_on, stops, ends, none_arrives}
+use Rattle.theory_lemmas.proofs.Arriving.{goes_on}
 use Rattle.theory_lemmas.proofs.atoms.arrive.Goals as goal
 
 pub loop-by-preserved : goal.loop-by-preserved
