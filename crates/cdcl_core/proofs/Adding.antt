@@ -98,7 +98,7 @@ false_added t id c k f = inl (refl, inr (refuted_rows t c k.0 k.1 f))
 
 pub false_placed : (w w2 : Watches) (t : Trail) (head s a b : ℕ) (c : List Literal) → IsComing w w2 t s a b c → get_or t.stamps.items (neg b) 0 ≢ 0 → get_or t.stamps.items (neg a) 0 ≢ 0 → head ≤ t.head →
     ((i : ℕ) → i < head → get_or t.stamps.items (get_or t.codes.items i 0) 0 ≤ t.level) → ((i : ℕ) → head ≤ i → i < t.head → t.level < get_or t.stamps.items (get_or t.codes.items i 0) 0) →
-    IsPlaced w2 (record { stamps = t.stamps; codes = t.codes; reasons = t.reasons; rows = t.rows; len = t.len; head = head; level = t.level })
+    IsPlaced w2 (record { stamps = t.stamps; codes = t.codes; reasons = t.reasons; rows = t.rows; spots = t.spots; len = t.len; head = head; level = t.level })
 false_placed w w2 t head s a b c k set_b set_a le before after =
     let late : (get_or t.stamps.items (neg a) 0 ≡ t.level + 1) × (get_or t.stamps.items (neg b) 0 ≡ t.level + 1) = false_at_level t (codes c) a b k.placed.trail k.may k.ranked set_b set_a in
     let size : head ≤ length t.codes.items = omega (arith, le, k.placed.trail.reached, trail_len t.stamps.items t.codes.items t.len t.head t.level k.placed.trail) in

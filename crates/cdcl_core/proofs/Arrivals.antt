@@ -16,10 +16,12 @@ use Rattle.cdcl_core.specs.Stamps.{neg, codes, Has, IsTrueAt, IsTrail, rank}
 use Rattle.cdcl_core.specs.Watched.{kind_at, Kept, IsWatched}
 use Rattle.cnf_base.specs.Clauses.{no_id}
 use Rattle.cdcl_core.specs.State.{all_codes, IsReasoned, IsFixed, IsPlaced, MayCome, Holds}
-use Rattle.cdcl_core.proofs.Apart.{watched_not_free, watched_not_fixed}
+use Rattle.cdcl_core.proofs.Apart.{watched_not_fixed}
+use Rattle.cdcl_core.proofs.Held.{held_if}
 use Rattle.cdcl_core.proofs.Trails.{found_at, entry_on, on_trail, trail_len, pushed_trail, has_room, true_on_trail}
 use Rattle.cdcl_core.proofs.Watching.{decided_watched}
 use Rattle.cdcl_core.proofs.Reasons.{pushed_reasoned, pushed_shown, pushed_fixed, has_row}
+use Rattle.cdcl_core.proofs.Spots.{pushed_spots}
 use Rattle.cdcl_core.proofs.Visits.{IsPushed}
 use Rattle.cdcl_core.proofs.Ranks.{rank_open, rank_set}
 use Rattle.cdcl_core.proofs.Slots.{slot_changed, fewer_propagated, reasoned_changed, free_apart, fixed_changed}
@@ -134,10 +136,11 @@ held_rows w w2 s k c le h = rw (h.kinds, h.ids, length-set) le
 -- the clause comes and the trail stays, but for where propagation begins
 pub hung_placed : (w w2 : Watches) (t : Trail) (head s a b : ℕ) (c : List Literal) → IsPlaced w t → IsRoom w.lists.lists w.lists.literals w.kinds.items (all_codes w.clauses.items) s → MayCome t (codes c) → Has (codes c) a → Has (codes c) b → b ≢ a → IsHung w w2 s a b c → head ≤ t.head → IsTrail t.stamps.items t.codes.items t.len head t.level →
     (0 < times (neg a) (take head t.codes.items) → Kept t.stamps.items a b) → (0 < times (neg b) (take head t.codes.items) → Kept t.stamps.items b a) → get_or w2.lists.lists 0 [] ≡ [] →
-    IsPlaced w2 (record { stamps = t.stamps; codes = t.codes; reasons = t.reasons; rows = t.rows; len = t.len; head = head; level = t.level })
+    IsPlaced w2 (record { stamps = t.stamps; codes = t.codes; reasons = t.reasons; rows = t.rows; spots = t.spots; len = t.len; head = head; level = t.level })
 hung_placed w w2 t head s a b c p r may has_a has_b differ h le tr kept_a kept_b idle = record {
   trail = tr;
   shown = p.shown;
+  spots = p.spots;
   watched = hung_watched w w2 t.stamps.items t.codes.items head s a b c (fewer_propagated w.lists.lists w.lists.literals w.kinds.items (all_codes w.clauses.items) t.stamps.items t.codes.items t.head head le p.watched) r may.named may.within has_a has_b differ kept_a kept_b h;
   idle = idle;
   reasoned = held_reasoned w w2 s Watched c t.rows.items t.codes.items t.reasons.items t.len p.reasoned r.free h.holds;
@@ -211,6 +214,7 @@ hung_unit w w2 t t2 s a b c id p r may has_a has_b differ h idle name free free2
     record {
       trail = rw (pu.stamps, pu.codes, pu.len, pu.head, same) (pushed_trail ss t.codes.items t.len t.head t.level a p.trail two ha free free2);
       shown = rw (pu.rows, pu.stamps, pu.codes, pu.len) (pushed_shown t.rows.items ss t.codes.items t.len t.head t.level a (t.level + 1) x p.trail p.shown ha free room wide refl refl);
+      spots = rw (pu.spots, pu.stamps, pu.codes, pu.len) (pushed_spots t.spots.items ss t.codes.items t.len t.head t.level a (t.level + 1) p.trail p.spots ha free free2 room);
       watched = rw (pu.stamps, pu.codes, pu.head) (hung_watched w w2 ss2 es2 t.head s a b c (decided_watched w.lists.lists w.lists.literals w.kinds.items (all_codes w.clauses.items) ss t.codes.items t.len t.head t.level (t.level + 1) a p.watched p.trail ha free) r may.named (λ l hl. rw size (may.within l hl)) has_a has_b differ kept_a
           (λ d. (rw at_a2 (omega arith), rw (at_a2, at_b2) (omega arith))) h);
       idle = idle;
@@ -218,7 +222,7 @@ hung_unit w w2 t t2 s a b c id p r may has_a has_b differ h idle name free free2
           (held_reasoned w w2 s Watched c t.rows.items t.codes.items t.reasons.items t.len p.reasoned r.free h.holds) room wide (λ z. absurd (omega (arith, z, lo)))
           (λ _. record {
             forced = rw (h.holds.kinds, length-set) r.high;
-            live = λ f. watched_not_free (sym kind_now ∙ f);
+            held = held_if (kind_at w2.kinds.items s) Watched kind_now refl;
             name = rw (h.holds.ids, name) refl;
             has = rw clause_now has_a;
             others = λ m hm ne. true_on_trail ss t.codes.items t.len t.head t.level (neg m) p.trail (others m (rw clause_now at hm) ne);

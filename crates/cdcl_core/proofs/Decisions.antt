@@ -17,6 +17,7 @@ use Rattle.cdcl_core.proofs.Watching.{decided_watched}
 use Rattle.cdcl_core.proofs.Cutting.{IsCut, cut_entry, cut_top, cut_trail, cut_watched, cut_gone}
 use Rattle.cdcl_core.proofs.Reasons.{pushed_reasoned, pushed_shown, pushed_fixed, shorter_reasoned, shorter_shown, has_row}
 use Rattle.cdcl_core.proofs.Visits.{IsPushed}
+use Rattle.cdcl_core.proofs.Spots.{pushed_spots, shorter_spots}
 use Rattle.cdcl_core.proofs.Bridge.{true_rows, false_rows}
 
 -- an open literal has no stamp, and neither has its negation
@@ -37,6 +38,7 @@ decide_settles w t t2 l s rest two hl free free2 pu =
     record {
       trail = rw (pu.stamps, pu.codes, pu.len, pu.head, level) (decided_trail t.stamps.items t.codes.items t.len t.head t.level l s.trail rest.0 two hl free free2);
       shown = rw (pu.rows, pu.stamps, pu.codes, pu.len) (pushed_shown t.rows.items t.stamps.items t.codes.items t.len t.head t.level l (t.level + 2) x s.trail s.shown hl free room wide refl (omega arith));
+      spots = rw (pu.spots, pu.stamps, pu.codes, pu.len) (pushed_spots t.spots.items t.stamps.items t.codes.items t.len t.head t.level l (t.level + 2) s.trail s.spots hl free free2 room);
       watched = rw (pu.stamps, pu.codes, pu.head) (decided_watched w.lists.lists w.lists.literals w.kinds.items cs t.stamps.items t.codes.items t.len t.head t.level (t.level + 2) l s.watched s.trail hl free);
       idle = s.idle;
       reasoned = rw (pu.rows, pu.codes, pu.reasons, pu.len) (pushed_reasoned cs w.kinds.items w.ids.items t.rows.items t.codes.items t.reasons.items t.len l 0 x s.reasoned room wide (λ _. refl) (λ z. absurd (omega (arith, z))));
@@ -63,11 +65,12 @@ pub record IsCutTrail (t t2 : Trail) (j : ℕ) : Type 0 where
   pub codes : t2.codes.items ≡ t.codes.items
   pub reasons : t2.reasons.items ≡ t.reasons.items
   pub rows : t2.rows.items ≡ t.rows.items
+  pub spots : t2.spots.items ≡ t.spots.items
 
 stops : (t t2 : Trail) (j : ℕ) → IsCutTrail t t2 j → (0 < t2.len → get_or t2.stamps.items (get_or t2.codes.items (t2.len - 1) 0) 0 ≤ j + 1) → 0 < t2.len → get_or t2.stamps.items (get_or t.codes.items (t2.len - 1) 0) 0 ≤ j + 1
 stops t t2 j c stop h = rw c.codes at (stop h)
 
-pub cut_settles : (w : Watches) (t t2 : Trail) (j : ℕ) → IsSettled w t → j < t.level → IsCutTrail t t2 j → (0 < t2.len → get_or t2.stamps.items (get_or t2.codes.items (t2.len - 1) 0) 0 ≤ j + 1) → IsSettled w (record { stamps = t2.stamps; codes = t2.codes; reasons = t2.reasons; rows = t2.rows; len = t2.len; head = t2.len; level = j })
+pub cut_settles : (w : Watches) (t t2 : Trail) (j : ℕ) → IsSettled w t → j < t.level → IsCutTrail t t2 j → (0 < t2.len → get_or t2.stamps.items (get_or t2.codes.items (t2.len - 1) 0) 0 ≤ j + 1) → IsSettled w (record { stamps = t2.stamps; codes = t2.codes; reasons = t2.reasons; rows = t2.rows; spots = t2.spots; len = t2.len; head = t2.len; level = j })
 cut_settles w t t2 j s lower c stop =
     let stop2 = stops t t2 j c stop in
     let top : (l : ℕ) → get_or t2.stamps.items l 0 ≤ j + 1 = cut_top t.stamps.items t.codes.items t.len t.head t.level j t2.stamps.items t2.len s.trail c.cut stop2 in
@@ -75,6 +78,7 @@ cut_settles w t t2 j s lower c stop =
     record {
       trail = rw c.codes (cut_trail t.stamps.items t.codes.items t.len t.head t.level j t2.stamps.items t2.len s.trail lower c.cut stop2);
       shown = rw (c.rows, c.codes) (shorter_shown t.rows.items t.stamps.items t.codes.items t.len t2.stamps.items t2.len s.shown c.cut.fewer c.cut.size (λ i h. (cut_entry t.stamps.items t.codes.items t.len t.head t.level j t2.stamps.items t2.len i s.trail c.cut h).1));
+      spots = rw (c.spots, c.codes) (shorter_spots t.spots.items t.stamps.items t.codes.items t.len t2.stamps.items t2.len s.spots c.cut.fewer c.cut.size);
       watched = rw c.codes (cut_watched w.lists.lists w.lists.literals w.kinds.items (all_codes w.clauses.items) t.stamps.items t.codes.items t.len t.head t.level j t2.stamps.items t2.len s.watched s.trail lower c.cut top);
       idle = s.idle;
       reasoned = rw (c.rows, c.codes, c.reasons) (shorter_reasoned (all_codes w.clauses.items) w.kinds.items w.ids.items t.rows.items t.codes.items t.reasons.items t.len t2.len c.cut.fewer s.reasoned);

@@ -12,21 +12,23 @@ use Rattle.cnf_base.specs.declared.clause.ClauseId.{ClauseId}
 use Rattle.cdcl_core.specs.declared.trail.Trail.{Trail}
 use Rattle.cdcl_core.specs.declared.watches.Watches.{Watches}
 use Rattle.cdcl_core.specs.declared.watches.Kind.{Kind}
-use Rattle.cdcl_core.specs.declared.watches.Kind.TheVariants.{Free, Fixed, Watched}
+use Rattle.cdcl_core.specs.declared.watches.Kind.TheVariants.{Free, Watched}
 use Rattle.cdcl_core.specs.Chains.{times}
 use Rattle.cdcl_core.specs.Lists.{Lists}
 use Rattle.cdcl_core.specs.Levels.{Row}
-use Rattle.cdcl_core.specs.Search.{id_cmp, clause_of, literals_of}
+use Rattle.cdcl_core.specs.Search.{id_cmp, clause_of, held_of, literals_of}
 use Rattle.cdcl_core.specs.Stamps.{codes, Has}
 use Rattle.cdcl_core.specs.Watched.{kind_at, IsPlace, IsWatching}
 use Rattle.cnf_base.specs.Clauses.{no_id}
 use Rattle.cdcl_core.specs.State.{no_row, all_codes, IsSettled, IsPlaced, IsCleared}
+use Rattle.cdcl_core.proofs.Apart.{free_not_fixed}
+use Rattle.cdcl_core.proofs.Held.{held_same}
 use Rattle.cdcl_core.proofs.Counting.{times_nil}
 use Rattle.cdcl_core.proofs.Bridge.{row_is}
 use Rattle.cdcl_core.proofs.Slots.{slot_changed, reasoned_changed, fixed_changed, sum_zero}
 use Rattle.cdcl_core.proofs.Hanging.{freed_change, two_places}
 use Rattle.cdcl_core.proofs.Freeing.{with_first, first_counts}
-use Rattle.cdcl_core.proofs.Naming.{same_id, other_slot, read_other}
+use Rattle.cdcl_core.proofs.Naming.{same_id, other_slot, read_other, settled_of}
 use Rattle.std.proofs.lemmas.Option.{same_Some}
 
 -- a place of a watched slot stands in the list of its literal alone
@@ -79,6 +81,56 @@ both_cleared old mid new s l1 l2 n1 n2 idle gone1 others1 gone2 others2 = record
 pub cleared_counts : (old new : Lists) (s : ℕ) → IsCleared old new s → sum_by (times (2 * s)) new.lists ≡ 0
 cleared_counts old new s c = sum_zero (times (2 * s)) new.lists (λ i. c.gone i (2 * s) (omega arith))
 
+-- the clause of a slot that is no reason is taken out: V has its places in no list, and w3 the slot in front of the free ones
+pub record IsGivenUp (w w3 : Watches) (V : Lists) (t : Trail) (s : ℕ) : Type 0 where
+  pub settled : IsSettled w t
+  pub low : 1 ≤ s
+  pub high : s < length w.kinds.items
+  pub apart : (i : ℕ) → i < t.len → 0 < get_or t.reasons.items i 0 → get_or t.reasons.items i 0 ≢ s
+  pub cleared : IsCleared w.lists V s
+  pub kinds : w3.kinds.items ≡ set w.kinds.items s Free
+  pub clauses : w3.clauses.items ≡ set w.clauses.items s []
+  pub ids : w3.ids ≡ w.ids
+  pub calm : w3.refuted ≡ w.refuted
+  pub literals : w3.lists.literals ≡ set V.literals (2 * s) 0
+  pub lists : w3.lists.lists ≡ with_first V.lists (2 * s)
+
+pub given_up_placed : (w w3 : Watches) (V : Lists) (t : Trail) (s : ℕ) → IsGivenUp w w3 V t s → IsPlaced w3 t
+given_up_placed w w3 V t s g =
+    let st : IsSettled w t = g.settled in
+    let ks : List Kind = w.kinds.items in
+    let ks2 : List Kind = set ks s Free in
+    let cs : List (List ℕ) = all_codes w.clauses.items in
+    let cs2 : List (List ℕ) = set cs s [] in
+    let lo : 1 ≤ s = g.low in
+    let hi : s < length ks = g.high in
+    let is_cs : all_codes w3.clauses.items ≡ cs2 = ap all_codes g.clauses ∙ map-set codes w.clauses.items s [] in
+    let free : kind_at ks2 s ≡ Free = get_or-set_same ks s Free Free hi in
+    let kind : (q : ℕ) → q ≢ s → kind_at ks2 q ≡ kind_at ks q = λ q ne. get_or-set_other ks s q Free Free ne in
+    let clause : (q : ℕ) → q ≢ s → get_or cs2 q [] ≡ get_or cs q [] = λ q ne. get_or-set_other cs s q [] [] ne in
+    let nothing : get_or cs2 s [] ≡ [] = get_or-set_same cs s [] [] (omega (arith, hi, st.watched.clauses)) in
+    let one : 1 < length V.lists = rw g.cleared.size (omega (arith, st.watched.lists)) in
+    let row : 2 * s < length w.lists.literals = omega (arith, hi, st.watched.slots) in
+    let L2 : List (List ℕ) = with_first V.lists (2 * s) in
+    record {
+      trail = st.trail;
+      shown = st.shown;
+      spots = st.spots;
+      watched = rw (g.lists, g.literals, g.cleared.literals, g.kinds, is_cs) (slot_changed w.lists.lists w.lists.literals ks cs L2 (set w.lists.literals (2 * s) 0) ks2 cs2 t.stamps.items t.codes.items t.head s st.watched
+          (freed_change w.lists.lists w.lists.literals ks cs L2 ks2 cs2 t.stamps.items t.codes.items t.head s lo hi row (rw length-set g.cleared.size) (rw length-set refl) (rw length-set refl)
+          (λ i k ne. elim (first_counts V.lists (2 * s) i k one) [ inl a ↦ a ∙ g.cleared.others i k ne | inr a ↦ absurd (ne (omega (arith, a.1.0))) ])
+          (λ i k e h. elim (first_counts V.lists (2 * s) i k one) [
+            | inl a ↦ absurd (omega (arith, h, a, g.cleared.gone i k e))
+            | inr a ↦ (a.0, a.1.0)
+          ])
+          free kind clause (λ l h. absurd (let h2 : Has [] l = rw nothing at h in omega (arith, h2, times_nil l))) (λ l h. absurd (let h2 : Has [] l = rw nothing at h in omega (arith, h2, times_nil l)))));
+      idle = rw g.lists (get_or-set_other V.lists 1 0 (2 * s ∷ get_or V.lists 1 []) [] (λ u. omega (arith, u)) ∙ g.cleared.idle);
+      reasoned = rw (g.ids, g.kinds, is_cs) (reasoned_changed cs ks w.ids.items t.rows.items t.codes.items t.reasons.items t.len cs2 ks2 s st.reasoned g.apart (rw length-set refl) kind clause);
+      rows = rw (g.kinds, g.ids, length-set) st.named.rows;
+      fixed = rw (g.kinds, is_cs, g.calm) (fixed_changed ks cs t.stamps.items w.refuted w.refuted ks2 cs2 s st.fixed (rw length-set refl) kind clause (λ e. e) (λ k. absurd (free_not_fixed (sym free ∙ k))));
+      calm = λ u. g.calm ∙ st.calm u;
+    }
+
 -- the steps of a clause that goes: the map forgets it, w2 has its places in no list, and w3 its slot free
 pub record IsGoing (w w2 w3 : Watches) (t : Trail) (s : ℕ) (id : ClauseId) : Type 0 where
   pub settled : IsSettled w t
@@ -127,60 +179,47 @@ pub gone_settled : (w w2 w3 : Watches) (t : Trail) (s : ℕ) (id : ClauseId) →
 gone_settled w w2 w3 t s id g =
     let st : IsSettled w t = g.settled in
     let ks : List Kind = w.kinds.items in
-    let ks2 : List Kind = set ks s Free in
-    let cs : List (List ℕ) = all_codes w.clauses.items in
-    let cs2 : List (List ℕ) = set cs s [] in
-    let lo : 1 ≤ s = st.named.low id s g.found in
     let hi : s < length ks = st.named.high id s g.found in
-    let is_cs : all_codes w3.clauses.items ≡ cs2 = ap all_codes g.clauses ∙ map-set codes w.clauses.items s [] in
-    let free : kind_at ks2 s ≡ Free = get_or-set_same ks s Free Free hi in
-    let kind : (q : ℕ) → q ≢ s → kind_at ks2 q ≡ kind_at ks q = λ q ne. get_or-set_other ks s q Free Free ne in
-    let clause : (q : ℕ) → q ≢ s → get_or cs2 q [] ≡ get_or cs q [] = λ q ne. get_or-set_other cs s q [] [] ne in
-    let nothing : get_or cs2 s [] ≡ [] = get_or-set_same cs s [] [] (omega (arith, hi, st.watched.clauses)) in
-    let one : 1 < length w2.lists.lists = rw g.cleared.size (omega (arith, st.watched.lists)) in
-    let row : 2 * s < length w.lists.literals = omega (arith, hi, st.watched.slots) in
-    let L2 : List (List ℕ) = with_first w2.lists.lists (2 * s) in
-    record {
-      trail = st.trail;
-      shown = st.shown;
-      watched = rw (g.lists, g.literals, g.cleared.literals, g.kinds, is_cs) (slot_changed w.lists.lists w.lists.literals ks cs L2 (set w.lists.literals (2 * s) 0) ks2 cs2 t.stamps.items t.codes.items t.head s st.watched
-          (freed_change w.lists.lists w.lists.literals ks cs L2 ks2 cs2 t.stamps.items t.codes.items t.head s lo hi row (rw length-set g.cleared.size) (rw length-set refl) (rw length-set refl)
-          (λ i k ne. elim (first_counts w2.lists.lists (2 * s) i k one) [ inl a ↦ a ∙ g.cleared.others i k ne | inr a ↦ absurd (ne (omega (arith, a.1.0))) ])
-          (λ i k e h. elim (first_counts w2.lists.lists (2 * s) i k one) [
-            | inl a ↦ absurd (omega (arith, h, a, g.cleared.gone i k e))
-            | inr a ↦ (a.0, a.1.0)
-          ])
-          free kind clause (λ l h. absurd (let h2 : Has [] l = rw nothing at h in omega (arith, h2, times_nil l))) (λ l h. absurd (let h2 : Has [] l = rw nothing at h in omega (arith, h2, times_nil l)))));
-      idle = rw g.lists (get_or-set_other w2.lists.lists 1 0 (2 * s ∷ get_or w2.lists.lists 1 []) [] (λ u. omega (arith, u)) ∙ g.cleared.idle);
-      reasoned = rw (g.ids, g.kinds, is_cs) (reasoned_changed cs ks w.ids.items t.rows.items t.codes.items t.reasons.items t.len cs2 ks2 s st.reasoned (unused_apart w w2 w3 t s id g) (rw length-set refl) kind clause);
-      named = rw (g.kinds, g.ids) (record {
-        low = λ q r f. st.named.low q r (other_name w w2 w3 t s id q r g f).0;
-        high = λ q r f. rw length-set (st.named.high q r (other_name w w2 w3 t s id q r g f).0);
-        name = λ q r f. st.named.name q r (other_name w w2 w3 t s id q r g f).0;
-        live = λ q r f e. st.named.live q r (other_name w w2 w3 t s id q r g f).0 (sym (kind r (other_name w w2 w3 t s id q r g f).1) ∙ e);
-        held = λ r a b live.
-            let ne : r ≢ s = λ e. live (rw e free) in
-            let old : get id_cmp w.slots (get_or w.ids.items r no_id) ≡ Some r = st.named.held r a (rw length-set at b) (λ e. live (kind r ne ∙ e)) in
-            elim (gone_cases w w2 w3 t s id (get_or w.ids.items r no_id) g) [
-              | inl x ↦ absurd (ne (same_Some r s (sym old ∙ (ap (get id_cmp w.slots) (sym x.0) ∙ g.found))))
-              | inr x ↦ x.1 ∙ old
-            ];
-        rows = rw length-set st.named.rows;
-        some = rw length-set st.named.some;
-      });
-      fixed = rw (g.kinds, is_cs, g.calm) (fixed_changed ks cs t.stamps.items w.refuted w.refuted ks2 cs2 s st.fixed (rw length-set refl) kind clause (λ e. e) (λ k. free_is_not_fixed (sym free ∙ k)));
-      calm = λ u. g.calm ∙ st.calm u;
-    }
-  where
-    free_is_not_fixed : {A : Type 0} → Free ≡ Fixed → A
-    free_is_not_fixed e = absurd cc
+    let free : kind_at (set ks s Free) s ≡ Free = get_or-set_same ks s Free Free hi in
+    let kind : (q : ℕ) → q ≢ s → kind_at (set ks s Free) q ≡ kind_at ks q = λ q ne. get_or-set_other ks s q Free Free ne in
+    let placed : IsPlaced w3 t = given_up_placed w w3 w2.lists t s (record {
+      settled = st;
+      low = st.named.low id s g.found;
+      high = hi;
+      apart = unused_apart w w2 w3 t s id g;
+      cleared = g.cleared;
+      kinds = g.kinds;
+      clauses = g.clauses;
+      ids = g.ids;
+      calm = g.calm;
+      literals = g.literals;
+      lists = g.lists;
+    }) in
+    settled_of w3 t placed (rw (g.kinds, g.ids) (record {
+      low = λ q r f. st.named.low q r (other_name w w2 w3 t s id q r g f).0;
+      high = λ q r f. rw length-set (st.named.high q r (other_name w w2 w3 t s id q r g f).0);
+      name = λ q r f. st.named.name q r (other_name w w2 w3 t s id q r g f).0;
+      live = λ q r f e. st.named.live q r (other_name w w2 w3 t s id q r g f).0 (sym (kind r (other_name w w2 w3 t s id q r g f).1) ∙ e);
+      held = λ r a b live.
+          let ne : r ≢ s = λ e. live (rw e free) in
+          let old : get id_cmp w.slots (get_or w.ids.items r no_id) ≡ Some r = st.named.held r a (rw length-set at b) (λ e. live (kind r ne ∙ e)) in
+          elim (gone_cases w w2 w3 t s id (get_or w.ids.items r no_id) g) [
+            | inl x ↦ absurd (ne (same_Some r s (sym old ∙ (ap (get id_cmp w.slots) (sym x.0) ∙ g.found))))
+            | inr x ↦ x.1 ∙ old
+          ];
+      rows = rw length-set st.named.rows;
+      some = rw length-set st.named.some;
+    }))
 
 pub gone_clause : (w w2 w3 : Watches) (t : Trail) (s : ℕ) (id : ClauseId) → IsGoing w w2 w3 t s id → clause_of w3 id ≡ None
 gone_clause w w2 w3 t s id g = let mine : get id_cmp w3.slots id ≡ None = g.updates.1 in ap (option_and_then (λ i. slice_get w3.clauses.items i)) mine
 
-pub gone_others : (w w2 w3 : Watches) (t : Trail) (s : ℕ) (id q : ClauseId) → IsGoing w w2 w3 t s id → q ≢ id → clause_of w3 q ≡ clause_of w q
+pub gone_others : (w w2 w3 : Watches) (t : Trail) (s : ℕ) (id q : ClauseId) → IsGoing w w2 w3 t s id → q ≢ id → (clause_of w3 q ≡ clause_of w q) × (held_of w3 q ≡ held_of w q)
 gone_others w w2 w3 t s id q g ne = elim (gone_cases w w2 w3 t s id q g) [
   | inl a ↦ absurd (ne (sym a.0))
-  | inr a ↦ ap (option_and_then (λ i. slice_get w3.clauses.items i)) a.1 ∙ read_other w3.clauses.items w.clauses.items (get id_cmp w.slots q)
-      (λ i f. ap (λ xs. slice_get xs i) g.clauses ∙ other_slot w.clauses.items s i [] (other_name w w2 w3 t s id q i g (a.1 ∙ f)).1)
+  | inr a ↦
+      let apart : (i : ℕ) → get id_cmp w.slots q ≡ Some i → i ≢ s = λ i f. (other_name w w2 w3 t s id q i g (a.1 ∙ f)).1 in
+      let kept : clause_of w3 q ≡ clause_of w q = ap (option_and_then (λ i. slice_get w3.clauses.items i)) a.1 ∙ read_other w3.clauses.items w.clauses.items (get id_cmp w.slots q)
+      (λ i f. ap (λ xs. slice_get xs i) g.clauses ∙ other_slot w.clauses.items s i [] (apart i f)) in
+      (kept, held_same w w3 q a.1 (λ i f. rw g.kinds (get_or-set_other w.kinds.items s i Free Free (apart i f))) kept)
 ]

@@ -1,5 +1,6 @@
--- A clause of at most one literal that comes: its value is settled at level 0.
+-- A clause that comes and is not watched: it is parked, or its value is settled at level 0.
 use Rattle.std.proofs.Common.{ℕ, ◌≡◌, ◌≢◌, ◌+◌, ◌<◌, ◌≤◌, ◌⊎◌, true, false, List, [], Some, length, refl, sym, ◌∙◌, inl, inr, arith}
+use Rattle.std.specs.List.{sum_by}
 use Rattle.std.proofs.Math.ListN.{get_or, set, length-set}
 use Rattle.std.proofs.lemmas.List.{get_or-set_other, get_or-set_same}
 use Rattle.std.proofs.lemmas.Bool.{cases_lt}
@@ -7,23 +8,47 @@ use Rattle.cnf_base.specs.Literals.{Literal, literal_of}
 use Rattle.cnf_base.specs.declared.clause.ClauseId.{ClauseId}
 use Rattle.cdcl_core.specs.declared.trail.Trail.{Trail}
 use Rattle.cdcl_core.specs.declared.watches.Watches.{Watches}
-use Rattle.cdcl_core.specs.declared.watches.Kind.TheVariants.{Free, Fixed}
-use Rattle.cdcl_core.specs.Chains.{rest_of}
+use Rattle.cdcl_core.specs.declared.watches.Kind.{Kind}
+use Rattle.cdcl_core.specs.declared.watches.Kind.TheVariants.{Free, Fixed, Watched}
+use Rattle.cdcl_core.specs.Chains.{times, rest_of}
 use Rattle.cdcl_core.specs.Levels.{Row, IsAdded}
 use Rattle.cdcl_core.specs.Search.{literals_of, level_of}
 use Rattle.cdcl_core.specs.Stamps.{neg, codes, Has, IsFalse}
 use Rattle.cdcl_core.specs.Watched.{kind_at, IsWatched}
 use Rattle.cnf_base.specs.Clauses.{no_id}
-use Rattle.cdcl_core.specs.State.{all_codes, IsFixed, IsPlaced, MayCome, Holds}
-use Rattle.cdcl_core.proofs.Apart.{fixed_not_free}
+use Rattle.cdcl_core.specs.State.{all_codes, IsFixed, IsPlaced, IsWaiting, MayCome, Holds}
+use Rattle.cdcl_core.proofs.Apart.{fixed_not_watched}
+use Rattle.cdcl_core.proofs.Held.{held_if}
 use Rattle.cdcl_core.proofs.Trails.{has_room, pushed_trail}
 use Rattle.cdcl_core.proofs.Watching.{decided_watched}
 use Rattle.cdcl_core.proofs.Reasons.{pushed_reasoned, pushed_shown, pushed_fixed, has_row}
+use Rattle.cdcl_core.proofs.Spots.{pushed_spots}
 use Rattle.cdcl_core.proofs.Visits.{IsPushed}
 use Rattle.cdcl_core.proofs.Slots.{slot_changed, fixed_changed}
-use Rattle.cdcl_core.proofs.Hanging.{IsRoom, fixed_change}
+use Rattle.cdcl_core.proofs.Hanging.{IsRoom, seated_change}
 use Rattle.cdcl_core.proofs.Arrivals.{codes_after, kind_other, clause_other, held_reasoned, held_rows}
-use Rattle.cdcl_core.proofs.Adding.{rested}
+use Rattle.cdcl_core.proofs.Adding.{rested, room_of}
+
+-- it is parked, or true at level 0
+pub seated_placed : (w v : Watches) (t : Trail) (s : ℕ) (k : Kind) (c : List Literal) → k ≢ Watched → (k ≡ Fixed → (l : ℕ) × (Has (codes c) l × (get_or t.stamps.items l 0 ≡ 1))) → IsPlaced w t → IsWaiting w s → 1 < length w.lists.lists → ((q : ℕ) → sum_by (times q) w.lists.lists ≤ 1) → ((l : ℕ) → Has (codes c) l → 2 ≤ l) → ((l : ℕ) → Has (codes c) l → l < length t.stamps.items) → Holds w v s k c → v.refuted ≡ w.refuted → v.lists.literals ≡ w.lists.literals → v.lists.lists ≡ set w.lists.lists 1 (rest_of (get_or w.lists.lists 1 [])) → IsPlaced v t
+seated_placed w v t s k c unwatched value p wait one once named within h calm literals lists =
+    let room : IsRoom w.lists.lists w.lists.literals w.kinds.items (all_codes w.clauses.items) s = room_of w t s p wait one once in
+    let now : kind_at v.kinds.items s ≡ k = rw h.kinds (get_or-set_same w.kinds.items s k Free wait.high) in
+    let here : get_or (all_codes v.clauses.items) s [] ≡ codes c = rw (codes_after w v s k c h) (get_or-set_same (all_codes w.clauses.items) s (codes c) [] (omega (arith, wait.high, p.watched.clauses))) in
+    record {
+      trail = p.trail;
+      shown = p.shown;
+      spots = p.spots;
+      watched = rw (lists, literals, h.kinds, codes_after w v s k c h)
+          (slot_changed w.lists.lists w.lists.literals w.kinds.items (all_codes w.clauses.items) (set w.lists.lists 1 (rest_of (get_or w.lists.lists 1 []))) w.lists.literals (set w.kinds.items s k) (set (all_codes w.clauses.items) s (codes c)) t.stamps.items t.codes.items t.head s p.watched
+          (seated_change w.lists.lists w.lists.literals w.kinds.items (all_codes w.clauses.items) t.stamps.items t.codes.items t.head s (codes c) k unwatched p.watched room one named within));
+      idle = rw lists (get_or-set_other w.lists.lists 1 0 (rest_of (get_or w.lists.lists 1 [])) [] (λ u. omega (arith, u)) ∙ p.idle);
+      reasoned = held_reasoned w v s k c t.rows.items t.codes.items t.reasons.items t.len p.reasoned wait.free h;
+      rows = held_rows w v s k c p.rows h;
+      fixed = fixed_changed w.kinds.items (all_codes w.clauses.items) t.stamps.items w.refuted v.refuted v.kinds.items (all_codes v.clauses.items) s p.fixed (rw (h.kinds, length-set) refl) (λ q ne. kind_other w v s k c q h ne) (λ q ne. clause_other w v s k c q h ne) (λ x. calm ∙ x)
+          (λ e. inl (rw here (value (sym now ∙ e))));
+      calm = λ u. calm ∙ p.calm u;
+    }
 
 -- what `add` knows of a clause of at most one literal
 pub record IsFixing (w w2 : Watches) (t : Trail) (s a : ℕ) (c : List Literal) : Type 0 where
@@ -48,7 +73,7 @@ fixed_watched : (w w2 : Watches) (t : Trail) (s a : ℕ) (c : List Literal) (ss 
 fixed_watched w w2 t s a c ss es head k size wd =
     rw (k.lists, k.literals, k.holds.kinds, codes_after w w2 s Fixed c k.holds)
     (slot_changed w.lists.lists w.lists.literals w.kinds.items (all_codes w.clauses.items) (set w.lists.lists 1 (rest_of (get_or w.lists.lists 1 []))) w.lists.literals (set w.kinds.items s Fixed) (set (all_codes w.clauses.items) s (codes c)) ss es head s wd
-    (fixed_change w.lists.lists w.lists.literals w.kinds.items (all_codes w.clauses.items) ss es head s (codes c) wd k.room k.one k.may.named (λ l h. rw size (k.may.within l h))))
+    (seated_change w.lists.lists w.lists.literals w.kinds.items (all_codes w.clauses.items) ss es head s (codes c) Fixed fixed_not_watched wd k.room k.one k.may.named (λ l h. rw size (k.may.within l h))))
 
 clause_now : (w w2 : Watches) (t : Trail) (s a : ℕ) (c : List Literal) → IsFixing w w2 t s a c → get_or (all_codes w2.clauses.items) s [] ≡ codes c
 clause_now w w2 t s a c k = rw (codes_after w w2 s Fixed c k.holds) (get_or-set_same (all_codes w.clauses.items) s (codes c) [] (let hi : s < length w.kinds.items = k.room.high in omega (arith, hi, k.placed.watched.clauses)))
@@ -68,6 +93,7 @@ stays : (w w2 : Watches) (t : Trail) (s a : ℕ) (c : List Literal) → IsFixing
 stays w w2 t s a c k more calm value = record {
   trail = k.placed.trail;
   shown = k.placed.shown;
+  spots = k.placed.spots;
   watched = fixed_watched w w2 t s a c t.stamps.items t.codes.items t.head k refl k.placed.watched;
   idle = idle_after w w2 t s a c k;
   reasoned = held_reasoned w w2 s Fixed c t.rows.items t.codes.items t.reasons.items t.len k.placed.reasoned k.room.free k.holds;
@@ -134,13 +160,14 @@ open_fixed w w2 t t2 s a c id k ne open_a free_a name e pu =
     record {
       trail = rw (pu.stamps, pu.codes, pu.len, pu.head, same) (pushed_trail ss t.codes.items t.len t.head t.level a p.trail two ha open_a free_a);
       shown = rw (pu.rows, pu.stamps, pu.codes, pu.len) (pushed_shown t.rows.items ss t.codes.items t.len t.head t.level a (t.level + 1) x p.trail p.shown ha open_a room wide refl refl);
+      spots = rw (pu.spots, pu.stamps, pu.codes, pu.len) (pushed_spots t.spots.items ss t.codes.items t.len t.head t.level a (t.level + 1) p.trail p.spots ha open_a free_a room);
       watched = rw (pu.stamps, pu.codes, pu.head) (fixed_watched w w2 t s a c ss2 es2 t.head k (rw length-set refl) (decided_watched w.lists.lists w.lists.literals w.kinds.items (all_codes w.clauses.items) ss t.codes.items t.len t.head t.level (t.level + 1) a p.watched p.trail ha open_a));
       idle = idle_after w w2 t s a c k;
       reasoned = rw (pu.rows, pu.codes, pu.reasons, pu.len) (pushed_reasoned (all_codes w2.clauses.items) w2.kinds.items w2.ids.items t.rows.items t.codes.items t.reasons.items t.len a s x
           (held_reasoned w w2 s Fixed c t.rows.items t.codes.items t.reasons.items t.len p.reasoned k.room.free k.holds) room wide (λ z. absurd (omega (arith, z, lo)))
           (λ _. record {
             forced = rw (k.holds.kinds, length-set) k.room.high;
-            live = λ f. fixed_not_free (sym kind_now ∙ f);
+            held = held_if (kind_at w2.kinds.items s) Fixed kind_now refl;
             name = rw (k.holds.ids, name) refl;
             has = rw (clause_now w w2 t s a c k) has_a;
             others = λ m hm nm. absurd (nm (k.only m (rw (clause_now w w2 t s a c k) at hm)));

@@ -11,14 +11,16 @@ use Rattle.cdcl_core.specs.declared.trail.Trail.{Trail}
 use Rattle.cdcl_core.specs.declared.watches.Watches.{Watches}
 use Rattle.cdcl_core.specs.Chains.{times}
 use Rattle.cdcl_core.specs.Levels.{Row, IsFalseBy}
-use Rattle.cdcl_core.specs.Search.{literals_of, level_of, AreForced}
+use Rattle.cdcl_core.specs.Search.{literals_of, level_of, clause_of, held_of, AreForced}
 use Rattle.cdcl_core.specs.Stamps.{neg, codes, Has, IsTrail}
+use Rattle.cdcl_core.specs.Watched.{kind_at, IsHeld}
+use Rattle.cnf_base.specs.declared.clause.ClauseId.{ClauseId}
 use Rattle.cnf_base.specs.Clauses.{no_id}
 use Rattle.cdcl_core.specs.State.{no_row, all_codes, IsShown, IsSettled}
 use Rattle.cdcl_core.proofs.Trails.{found_at, trail_len}
 use Rattle.cdcl_core.proofs.Clauses.{clause_codes, codes_length}
 use Rattle.cdcl_core.proofs.Bridge.{has_from, has_to, literals_length, code_of-negated}
-use Rattle.cdcl_core.proofs.Public.{held_at}
+use Rattle.cdcl_core.proofs.Public.{kept_at, held_at}
 
 -- a literal whose negation stands before i is false there
 front_false : (t : Trail) (i : ℕ) (m : Literal) → IsTrail t.stamps.items t.codes.items t.len t.head t.level → IsShown t.rows.items t.stamps.items t.codes.items t.len → i < t.len → 0 < times (neg (code_of m)) (take i t.codes.items) → IsFalseBy (take i (literals_of t)) (level_of t) m
@@ -63,7 +65,7 @@ settled_forced w t st i l level id e =
     let contains : Contains c l = (let a : Contains c own.0 = own.1.0 in rw (code_of-injective own.0 l own.1.1) at a) in (
       c,
       (
-        rw name (held_at w t s st low high (st.reasoned.live i within low)),
+        rw name (kept_at w t s st low high (st.reasoned.live i within low)),
         (
           contains,
           (λ m mem ne.
@@ -72,3 +74,17 @@ settled_forced w t st i l level id e =
         ),
       ),
     )
+
+-- above level 0 it is held
+pub reason_held : (w : Watches) (t : Trail) → IsSettled w t → (i : ℕ) (l : Literal) (level : ℕ) (id : ClauseId) → slice_get (literals_of t) i ≡ Some (l, level, Some id) → 0 < level → held_of w id ≡ clause_of w id
+reason_held w t st i l level id e pos =
+    let s : ℕ = get_or t.reasons.items i 0 in
+    let within : i < t.len = (let a : i < length (literals_of t) = slice_get_within (literals_of t) i (l, level, Some id) e in rw (literals_length t st.trail st.shown) at a) in
+    let row : get_or t.rows.items i no_row ≡ (l, level, Some id) = sym (get_or-take t.len t.rows.items i no_row within) ∙ get_or_from_slice_get (literals_of t) i (l, level, Some id) no_row e in
+    let third : (get_or t.rows.items i no_row).2 ≡ Some id = ap (λ (r : Row). r.2) row in
+    let second : (get_or t.rows.items i no_row).1 ≡ level = ap (λ (r : Row). r.1) row in
+    let low : 1 ≤ s = elim (cases_lt 0 s) [ inl h ↦ h | inr h ↦ nothing id (sym third ∙ st.reasoned.decided i within (omega (arith, h))) ] in
+    let name : id ≡ get_or w.ids.items s no_id = same_Some id (get_or w.ids.items s no_id) (sym third ∙ st.reasoned.name i within low) in
+    let high : s < length w.kinds.items = st.reasoned.forced i within low in
+    let held : IsHeld (kind_at w.kinds.items s) = st.reasoned.held i within low (omega (arith, second, pos)) in
+    rw name (held_at w t s st low high held ∙ sym (kept_at w t s st low high (st.reasoned.live i within low)))

@@ -13,13 +13,14 @@ use Rattle.cdcl_core.specs.Chains.{times, first_of}
 use Rattle.cdcl_core.specs.Watched.{kind_at, IsWatching, IsPlace, IsWatched}
 use Rattle.cdcl_core.specs.State.{all_codes, IsSettled, IsWaiting}
 use Rattle.cdcl_core.proofs.Apart.{watched_not_free, fixed_not_free}
+use Rattle.cdcl_core.proofs.Held.{held_if}
 use Rattle.cdcl_core.proofs.Counting.{same_or_not, times_cons}
 use Rattle.cdcl_core.proofs.Growing.{padded}
 use Rattle.cdcl_core.proofs.Slots.{slot_changed, sum_zero}
 use Rattle.cdcl_core.proofs.Hanging.{freed_change}
 
 -- one more row of the kinds, which is free
-more_kinds : (ks : List Kind) (q : ℕ) → kind_at (ks ++ Free ∷ []) q ≡ kind_at ks q
+pub more_kinds : (ks : List Kind) (q : ℕ) → kind_at (ks ++ Free ∷ []) q ≡ kind_at ks q
 more_kinds ks q = padded ks 1 q Free
 
 more_size : (ks : List Kind) → length (ks ++ Free ∷ []) ≡ length ks + 1
@@ -106,6 +107,7 @@ grown_slot w w2 t s one rows ids places e1 e2 e3 e4 e5 e6 e7 =
     record {
       trail = s.trail;
       shown = s.shown;
+      spots = s.spots;
       watched = rw (e1, e2, e6, e7) (slot_changed L w.lists.literals ks2 cs (with_first L (2 * n)) (set w.lists.literals (2 * n) 0) ks2 cs t.stamps.items t.codes.items t.head n mid
           (freed_change L w.lists.literals ks2 cs (with_first L (2 * n)) ks2 cs t.stamps.items t.codes.items t.head n lo (omega (arith, size)) (omega arith) (rw length-set refl) refl refl
           (λ i k ne. elim (first_counts L (2 * n) i k one) [ inl a ↦ a | inr a ↦ absurd (ne (omega (arith, a.1.0))) ])
@@ -119,6 +121,7 @@ grown_slot w w2 t s one rows ids places e1 e2 e3 e4 e5 e6 e7 =
         decided = s.reasoned.decided;
         forced = λ i a b. omega (arith, size, s.reasoned.forced i a b);
         live = λ i a b e. s.reasoned.live i a b (sym (kind (get_or t.reasons.items i 0)) ∙ e);
+        held = λ i a b c. held_if (kind_at ks2 (get_or t.reasons.items i 0)) (kind_at ks (get_or t.reasons.items i 0)) (kind (get_or t.reasons.items i 0)) (s.reasoned.held i a b c);
         name = s.reasoned.name;
         has = s.reasoned.has;
         others = s.reasoned.others;
@@ -144,6 +147,7 @@ pub same_settled : (w w2 : Watches) (t : Trail) → IsSettled w t → w2.lists �
 same_settled w w2 t s e1 e2 e3 e4 e5 e6 = record {
   trail = s.trail;
   shown = s.shown;
+  spots = s.spots;
   watched = rw (e1, e2, e3) s.watched;
   idle = rw e1 s.idle;
   reasoned = rw (e2, e3, e4) s.reasoned;

@@ -13,16 +13,18 @@ use Rattle.cnf_base.specs.declared.clause.ClauseId.{ClauseId}
 use Rattle.cdcl_core.specs.declared.trail.Trail.{Trail}
 use Rattle.cdcl_core.specs.declared.watches.Watches.{Watches}
 use Rattle.cdcl_core.specs.declared.watches.Kind.{Kind}
-use Rattle.cdcl_core.specs.Search.{id_cmp, literals_of, clause_of}
+use Rattle.cdcl_core.specs.Search.{id_cmp, literals_of, clause_of, held_of}
 use Rattle.cdcl_core.specs.Stamps.{neg, is_set, codes, IsTrail}
-use Rattle.cdcl_core.specs.Watched.{Kept, IsWatching, IsPlace, IsWatched}
+use Rattle.cdcl_core.specs.Watched.{kind_at, Kept, IsWatching, IsPlace, IsWatched}
 use Rattle.cnf_base.specs.Clauses.{no_id}
 use Rattle.cdcl_core.specs.State.{no_row, all_codes, IsSettled, IsLonger, IsWider}
+use Rattle.cdcl_core.proofs.Held.{held_same}
 use Rattle.cdcl_core.proofs.Clauses.{codes_length}
 use Rattle.cdcl_core.proofs.Trails.{trail_len}
 use Rattle.cdcl_core.proofs.Resting.{watching_mate}
 use Rattle.cdcl_core.proofs.Bridge.{rows_len}
 use Rattle.cdcl_core.proofs.Visits.{with_lists}
+use Rattle.cdcl_core.proofs.Spots.{longer_spot}
 
 -- a read of a list with defaults at its end
 pub padded : {X : Type 0} (xs : List X) (n i : ℕ) (d : X) → get_or (xs ++ replicate n d) i d ≡ get_or xs i d
@@ -99,9 +101,9 @@ longer_watched L ws ks cs ss es ys len head level n m t w room =
       here = λ k on e st out. absurd (omega (arith, e, total, below k on));
     }
 
-pub longer_settled : (w : Watches) (t t2 : Trail) (n m : ℕ) → IsSettled w t → IsLonger t t2 m → length t.stamps.items + m ≤ length t2.codes.items → length t2.codes.items ≤ length t2.reasons.items → length t.stamps.items + m ≤ length t2.rows.items → (length t.stamps.items + m) % 2 ≡ 0 → length t.stamps.items + m + 2 ≤ length w.lists.lists + n →
+pub longer_settled : (w : Watches) (t t2 : Trail) (n m : ℕ) → IsSettled w t → IsLonger t t2 m → length t.stamps.items + m ≤ length t2.codes.items → length t2.codes.items ≤ length t2.reasons.items → length t.stamps.items + m ≤ length t2.rows.items → length t.stamps.items + m ≤ 2 * length t2.spots.items → (length t.stamps.items + m) % 2 ≡ 0 → length t.stamps.items + m + 2 ≤ length w.lists.lists + n →
     IsSettled (with_lists w (record { lists = w.lists.lists ++ replicate n []; literals = w.lists.literals })) t2
-longer_settled w t t2 n m s l codes reasons rows even room =
+longer_settled w t t2 n m s l codes reasons rows spots even room =
     let ss : List ℕ = t.stamps.items in
     let es : List ℕ = t.codes.items in
     let len_es : t.len ≤ length es = trail_len ss es t.len t.head t.level s.trail in
@@ -120,12 +122,17 @@ longer_settled w t t2 n m s l codes reasons rows even room =
         level = λ i h. let h2 : i < t.len = rw l.len at h in rw (row i h2, code i h2, l.stamps, stamp) (s.shown.level i h2);
         width = rw (l.stamps, total) rows;
       };
+      spots = record {
+        place = λ i h. let h2 : i < t.len = rw l.len at h in rw (code i h2, l.spots.1) (longer_spot t.spots.items l.spots.0 ss es t.len t.head t.level i s.trail s.spots h2);
+        width = rw (l.stamps, total) spots;
+      };
       watched = rw (l.stamps, l.codes.1, l.head) (longer_watched w.lists.lists w.lists.literals w.kinds.items (all_codes w.clauses.items) ss es l.codes.0 t.len t.head t.level n m s.trail s.watched room);
       idle = padded w.lists.lists n 0 [] ∙ s.idle;
       reasoned = record {
         decided = λ i h a. let h2 : i < t.len = rw l.len at h in rw (row i h2) (s.reasoned.decided i h2 (rw (reason i h2) at a));
         forced = λ i h a. let h2 : i < t.len = rw l.len at h in rw (reason i h2) (s.reasoned.forced i h2 (rw (reason i h2) at a));
         live = λ i h a. let h2 : i < t.len = rw l.len at h in rw (reason i h2) (s.reasoned.live i h2 (rw (reason i h2) at a));
+        held = λ i h a b. let h2 : i < t.len = rw l.len at h in rw (reason i h2) (s.reasoned.held i h2 (rw (reason i h2) at a) (rw (row i h2) at b));
         name = λ i h a. let h2 : i < t.len = rw l.len at h in rw (reason i h2, row i h2) (s.reasoned.name i h2 (rw (reason i h2) at a));
         has = λ i h a. let h2 : i < t.len = rw l.len at h in rw (reason i h2, code i h2) (s.reasoned.has i h2 (rw (reason i h2) at a));
         others = λ i q h a b c. let h2 : i < t.len = rw l.len at h in rw (front i (omega arith)) (s.reasoned.others i q h2 (rw (reason i h2) at a) (rw (reason i h2) at b) (rw (code i h2) at c));
@@ -144,8 +151,8 @@ longer_settled w t t2 n m s l codes reasons rows even room =
 pub longer_literals : (w : Watches) (t t2 : Trail) (m : ℕ) → IsSettled w t → IsLonger t t2 m → literals_of t2 ≡ literals_of t
 longer_literals w t t2 m s l = rw (l.len, l.rows.1) (take-append-le t.len t.rows.items l.rows.0 (rows_len t s.trail s.shown))
 
-pub longer_sizes : (w : Watches) (t t2 : Trail) (m : ℕ) → IsSettled w t → IsLonger t t2 m → (length t.stamps.items ≤ length t2.codes.items) × (length t.stamps.items ≤ length t2.rows.items)
-longer_sizes w t t2 m s l = (rw (l.codes.1, length-append) (omega (arith, s.trail.size)), rw (l.rows.1, length-append) (omega (arith, s.shown.width)))
+pub longer_sizes : (w : Watches) (t t2 : Trail) (m : ℕ) → IsSettled w t → IsLonger t t2 m → (length t.stamps.items ≤ length t2.codes.items) × (length t.stamps.items ≤ length t2.rows.items) × (length t.stamps.items ≤ 2 * length t2.spots.items)
+longer_sizes w t t2 m s l = (rw (l.codes.1, length-append) (omega (arith, s.trail.size)), rw (l.rows.1, length-append) (omega (arith, s.shown.width)), rw (l.spots.1, length-append) (omega (arith, s.spots.width)))
 
 -- the tables by slot have more rows
 named_front : (w w2 : Watches) (q : ℕ) → IsWider w w2 → q < length w.ids.items → get_or w2.ids.items q no_id ≡ get_or w.ids.items q no_id
@@ -175,6 +182,7 @@ wider_settled w w2 t s l =
     record {
       trail = s.trail;
       shown = s.shown;
+      spots = s.spots;
       watched = record {
         lists = rw l.lists s.watched.lists;
         slots = rw (same, l.literals.1, length-append) (omega (arith, s.watched.slots));
@@ -203,6 +211,7 @@ wider_settled w w2 t s l =
         decided = s.reasoned.decided;
         forced = λ i a b. rw same (s.reasoned.forced i a b);
         live = λ i a b. rw same (s.reasoned.live i a b);
+        held = λ i a b c. rw same (s.reasoned.held i a b c);
         name = λ i a b. rw (named_front w w2 (get_or t.reasons.items i 0) l (omega (arith, s.reasoned.forced i a b, s.named.rows))) (s.reasoned.name i a b);
         has = λ i a b. rw (codes_front w w2 (get_or t.reasons.items i 0) l) (s.reasoned.has i a b);
         others = λ i m a b c d. s.reasoned.others i m a b (rw (codes_front w w2 (get_or t.reasons.items i 0) l) at c) d;
@@ -221,7 +230,7 @@ wider_settled w w2 t s l =
       calm = λ u. rw l.refuted (s.calm u);
     }
 
--- the held clauses are read in the front of the table
+-- the clauses are read in the front of the table
 pub clause_front : (w w2 : Watches) (t : Trail) (cs : List (List Literal)) (id : ClauseId) → IsSettled w t → w2.slots ≡ w.slots → w2.clauses.items ≡ w.clauses.items ++ cs → clause_of w2 id ≡ clause_of w id
 clause_front w w2 t cs id s e c =
     ap (λ m. option_and_then (λ q. slice_get w2.clauses.items q) (get id_cmp m id)) e
@@ -233,3 +242,7 @@ clause_front w w2 t cs id s e c =
         let a : q < length xs = h q refl in
         let b : q < length (xs ++ ys) = rw length-append (omega arith) in
         slice_get-get_or (xs ++ ys) q [] b ∙ (ap Some (get_or_append_left xs ys [] q a) ∙ sym (slice_get-get_or xs q [] a))
+
+-- and each is held or parked as before
+pub held_front : (w w2 : Watches) (t : Trail) (cs : List (List Literal)) (id : ClauseId) → IsSettled w t → w2.slots ≡ w.slots → w2.clauses.items ≡ w.clauses.items ++ cs → ((q : ℕ) → kind_at w2.kinds.items q ≡ kind_at w.kinds.items q) → held_of w2 id ≡ held_of w id
+held_front w w2 t cs id s e c kind = held_same w w2 id (ap (λ m. get id_cmp m id) e) (λ q f. kind q) (clause_front w w2 t cs id s e c)

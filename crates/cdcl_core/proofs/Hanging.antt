@@ -1,10 +1,10 @@
--- A clause that goes into a free slot and is watched at two literals, or is fixed, and one that goes.
+-- A clause that goes into a free slot and is watched at two literals, or is not watched, and one that goes.
 use Rattle.std.proofs.Common.{ℕ, ◌≡◌, ◌≢◌, ◌+◌, ◌*◌, ◌/◌, ◌%◌, ◌<◌, ◌≤◌, ◌⊎◌, List, [], ◌∷◌, length, take, eqb, refl, sym, ◌∙◌, inl, inr, arith}
 use Rattle.std.proofs.Math.ListN.{get_or, set, length-set}
 use Rattle.std.proofs.lemmas.List.{get_or-set_other, get_or-set_same}
 use Rattle.std.proofs.lemmas.Bool.Decides.{eqb_tells}
 use Rattle.cdcl_core.specs.declared.watches.Kind.{Kind}
-use Rattle.cdcl_core.specs.declared.watches.Kind.TheVariants.{Free, Fixed, Watched}
+use Rattle.cdcl_core.specs.declared.watches.Kind.TheVariants.{Free, Watched}
 use Rattle.cdcl_core.specs.Chains.{times, first_of, rest_of}
 use Rattle.cdcl_core.specs.Stamps.{neg, Has}
 use Rattle.cdcl_core.specs.Watched.{kind_at, Kept, IsPlace, IsWatched}
@@ -229,18 +229,15 @@ hung_change L ws ks cs ss es head s a b c w r low within has_a has_b differ kept
       ];
     }
 
-fixed_is_not_watched : {A : Type 0} → Fixed ≡ Watched → A
-fixed_is_not_watched e = absurd cc
-
--- the free place is taken out of list 1
-pub fixed_change : (L : List (List ℕ)) (ws : List ℕ) (ks : List Kind) (cs : List (List ℕ)) (ss es : List ℕ) (head s : ℕ) (c : List ℕ) → IsWatched L ws ks cs ss es head (length ss) 0 → IsRoom L ws ks cs s → 1 < length L → ((l : ℕ) → Has c l → 2 ≤ l) → ((l : ℕ) → Has c l → l < length ss) →
-    IsSlotChange L ws ks cs (set L 1 (rest_of (get_or L 1 []))) ws (set ks s Fixed) (set cs s c) ss es head s
-fixed_change L ws ks cs ss es head s c w r one low within =
+-- the free place is taken out of list 1: the clause is not watched
+pub seated_change : (L : List (List ℕ)) (ws : List ℕ) (ks : List Kind) (cs : List (List ℕ)) (ss es : List ℕ) (head s : ℕ) (c : List ℕ) (kind : Kind) → kind ≢ Watched → IsWatched L ws ks cs ss es head (length ss) 0 → IsRoom L ws ks cs s → 1 < length L → ((l : ℕ) → Has c l → 2 ≤ l) → ((l : ℕ) → Has c l → l < length ss) →
+    IsSlotChange L ws ks cs (set L 1 (rest_of (get_or L 1 []))) ws (set ks s kind) (set cs s c) ss es head s
+seated_change L ws ks cs ss es head s c kind unwatched w r one low within =
     let lo : 1 ≤ s = r.low in
     let hi : s < length ks = r.high in
     let pos : 0 < first_of (get_or L 1 []) = omega (arith, r.first) in
     let clause_at : get_or (set cs s c) s [] ≡ c = get_or-set_same cs s c [] (omega (arith, w.clauses, hi)) in
-    let kind_now : kind_at (set ks s Fixed) s ≡ Fixed = get_or-set_same ks s Fixed Free hi in
+    let kind_now : kind_at (set ks s kind) s ≡ kind = get_or-set_same ks s kind Free hi in
     let at_list : (i : ℕ) → ((i ≡ 1) × (get_or (set L 1 (rest_of (get_or L 1 []))) i [] ≡ rest_of (get_or L 1 []))) ⊎ ((i ≢ 1) × (get_or (set L 1 (rest_of (get_or L 1 []))) i [] ≡ get_or L i [])) = λ i. elim (eqb_tells i 1) [
       | inl e ↦ inl (e.1, rw e.1 (get_or-set_same L 1 (rest_of (get_or L 1 [])) [] one))
       | inr e ↦ inr (e.1, get_or-set_other L 1 i (rest_of (get_or L 1 [])) [] e.1)
@@ -261,7 +258,7 @@ fixed_change L ws ks cs ss es head s c w r one low within =
       gone = λ i k ne h. omega (arith, h, same i k (λ e. ne (omega (arith, e))));
       stay = λ i k ne h. omega (arith, h, same i k (λ e. ne (omega (arith, e))));
       literal = λ k ne. refl;
-      kind = λ q ne. get_or-set_other ks s q Fixed Free ne;
+      kind = λ q ne. get_or-set_other ks s q kind Free ne;
       clause = λ q ne. get_or-set_other cs s q c [] ne;
       placed = λ i k e h. absurd (elim (at_list i) [
         | inl x ↦
@@ -275,10 +272,10 @@ fixed_change L ws ks cs ss es head s c w r one low within =
       ]);
       named = λ l h. low l (rw clause_at at h);
       within = λ l h. within l (rw clause_at at h);
-      known = λ k e on. absurd (fixed_is_not_watched (sym kind_now ∙ rw e at on.kind));
-      inside = λ k e on. absurd (fixed_is_not_watched (sym kind_now ∙ rw e at on.kind));
-      differ = λ k e on. absurd (fixed_is_not_watched (sym kind_now ∙ rw e at on.kind));
-      kept = λ k e on. absurd (fixed_is_not_watched (sym kind_now ∙ rw e at on.kind));
+      known = λ k e on. absurd (unwatched (sym kind_now ∙ rw e at on.kind));
+      inside = λ k e on. absurd (unwatched (sym kind_now ∙ rw e at on.kind));
+      differ = λ k e on. absurd (unwatched (sym kind_now ∙ rw e at on.kind));
+      kept = λ k e on. absurd (unwatched (sym kind_now ∙ rw e at on.kind));
     }
 
 -- the slot becomes free: its first place alone stands in a list, and that in front of list 1

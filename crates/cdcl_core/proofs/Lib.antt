@@ -1,10 +1,12 @@
 pub mod Clauses
 pub mod Counting
 pub mod Apart
+pub mod Held
 pub mod Moves
 pub mod Places
 pub mod Reasons
 pub mod Trails
+pub mod Spots
 pub mod Watching
 pub mod Resting
 pub mod Cutting
@@ -13,6 +15,7 @@ pub mod Bridge
 pub mod Decisions
 pub mod Public
 pub mod Forced
+pub mod Placing
 pub mod Slots
 pub mod Ranks
 pub mod Hanging
@@ -26,3 +29,4 @@ pub mod Naming
 pub mod Taking
 pub mod Dropping
 pub mod Leveling
+pub mod Parking

@@ -342,6 +342,20 @@ popped ns rs i l hi pos =
     let b : times q (get_or L i []) ≡ cond (eqb k q) 1 0 + times q R = ap (times q) m.whole ∙ times_cons q k R in
     omega (arith, a, b, l.once q))
 
+-- list i is emptied
+pub emptied : (ns rs : List ℕ) (i : ℕ) → IsLinked ns rs → i < length rs → (lists_of ns (set rs i 0) ≡ set (lists_of ns rs) i []) × IsLinked ns (set rs i 0)
+unfolding IsChain
+emptied ns rs i l hi =
+    let L : List (List ℕ) = lists_of ns rs in
+    let hli : i < length L = rw length-map hi in
+    linked_from_chains ns (set rs i 0) (set L i []) (rw (length-set, length-set, length-map) refl)
+    (λ q hq. let hq2 : q < length rs = rw length-set at hq in elim (eqb_tells q i) [
+      | inl p ↦ rw (p.1, get_or-set_same rs i 0 0 hi, get_or-set_same L i [] [] hli) refl
+      | inr p ↦ rw (get_or-set_other rs i q 0 0 p.1, get_or-set_other L i q [] [] p.1) (chain_at ns rs q l hq2)
+    ])
+    (λ q. let a : sum_by (times q) (set L i []) + times q (get_or L i []) ≡ sum_by (times q) L + times q [] = sum_by-set (times q) L i [] [] hli in
+    omega (arith, a, times_nil q, l.once q))
+
 -- a place that stands in no list goes to the front of list j
 pub pushed : (ns rs : List ℕ) (j k : ℕ) → IsLinked ns rs → j < length rs → 0 < k → k < length ns → sum_by (times k) (lists_of ns rs) ≡ 0 →
     (lists_of (set ns k (get_or rs j 0)) (set rs j k) ≡ set (lists_of ns rs) j (k ∷ get_or (lists_of ns rs) j [])) × IsLinked (set ns k (get_or rs j 0)) (set rs j k)

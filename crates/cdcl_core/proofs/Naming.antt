@@ -1,5 +1,5 @@
--- The names of the held clauses, as slots are taken and given up.
-use Rattle.std.proofs.Common.{ℕ, zero, suc, ◌≡◌, ◌≢◌, ◌<◌, ◌≤◌, ◌⊎◌, true, false, List, [], ◌∷◌, Option, Some, None, length, refl, sym, ap, ◌∙◌, inl, inr, arith}
+-- The names of the clauses, as slots are taken and given up.
+use Rattle.std.proofs.Common.{ℕ, zero, suc, ◌≡◌, ◌≢◌, ◌<◌, ◌≤◌, ◌⊎◌, Bool, true, false, List, [], ◌∷◌, Option, Some, None, cond, length, refl, sym, ap, ◌∙◌, inl, inr, arith}
 use Rattle.std.specs.Prelude.{slice_get, option_and_then}
 use Rattle.std.specs.Ordering.{nat_cmp, ordering_then, is_eq, MatchOrdering}
 use Rattle.std.specs.declared.cmp.Ordering.{Ordering}
@@ -16,10 +16,11 @@ use Rattle.cdcl_core.specs.declared.trail.Trail.{Trail}
 use Rattle.cdcl_core.specs.declared.watches.Watches.{Watches}
 use Rattle.cdcl_core.specs.declared.watches.Kind.{Kind}
 use Rattle.cdcl_core.specs.declared.watches.Kind.TheVariants.{Free}
-use Rattle.cdcl_core.specs.Search.{id_cmp, clause_of}
-use Rattle.cdcl_core.specs.Watched.{kind_at}
+use Rattle.cdcl_core.specs.Search.{id_cmp, clause_of, held_of, is_held_slot}
+use Rattle.cdcl_core.specs.Watched.{kind_at, is_held}
 use Rattle.cnf_base.specs.Clauses.{no_id}
-use Rattle.cdcl_core.specs.State.{all_codes, IsNamed, IsSettled, IsPlaced, IsWaiting, HoldsSome}
+use Rattle.cdcl_core.specs.State.{all_codes, IsNamed, IsSettled, IsPlaced, IsWaiting, Holds}
+use Rattle.cdcl_core.proofs.Held.{held_by, held_same}
 use Rattle.cdcl_core.proofs.Clauses.{codes_length}
 use Rattle.cdcl_core.proofs.Slots.{free_apart}
 use Rattle.std.proofs.lemmas.Bool.{cases_Bool}
@@ -62,12 +63,14 @@ pub named_placed : (w w2 : Watches) (t : Trail) (s : ℕ) (id : ClauseId) → Is
 named_placed w w2 t s id st free e1 e2 e3 e4 e5 = record {
   trail = st.trail;
   shown = st.shown;
+  spots = st.spots;
   watched = rw (e1, e2, e3) st.watched;
   idle = rw e1 st.idle;
   reasoned = rw (e2, e3, e5) (record {
     decided = st.reasoned.decided;
     forced = st.reasoned.forced;
     live = st.reasoned.live;
+    held = st.reasoned.held;
     name = λ i a b. rw (get_or-set_other w.ids.items s (get_or t.reasons.items i 0) id no_id (apart w t s st free i a b)) (st.reasoned.name i a b);
     has = st.reasoned.has;
     others = st.reasoned.others;
@@ -140,10 +143,13 @@ taken_named w w2 t s id k st u =
     some_inj a b e = cc
 
 pub settled_of : (w : Watches) (t : Trail) → IsPlaced w t → IsNamed w.slots w.ids.items w.kinds.items → IsSettled w t
-settled_of w t p n = record { trail = p.trail; shown = p.shown; watched = p.watched; idle = p.idle; reasoned = p.reasoned; named = n; fixed = p.fixed; calm = p.calm }
+settled_of w t p n = record { trail = p.trail; shown = p.shown; spots = p.spots; watched = p.watched; idle = p.idle; reasoned = p.reasoned; named = n; fixed = p.fixed; calm = p.calm }
 
--- the steps of a clause that comes: w has a slot for it, w2 the name, and w3 the clause
-pub record IsStored (w w2 w3 : Watches) (t : Trail) (s : ℕ) (id : ClauseId) (c : List Literal) : Type 0 where
+pub placed_of : (w : Watches) (t : Trail) → IsSettled w t → IsPlaced w t
+placed_of w t s = record { trail = s.trail; shown = s.shown; spots = s.spots; watched = s.watched; idle = s.idle; reasoned = s.reasoned; rows = s.named.rows; fixed = s.fixed; calm = s.calm }
+
+-- the steps of a clause that comes: w has a slot for it, w2 the name, and w3 the clause, in a slot of this kind
+pub record IsStored (w w2 w3 : Watches) (t : Trail) (s : ℕ) (id : ClauseId) (c : List Literal) (k : Kind) : Type 0 where
   pub settled : IsSettled w t
   pub waiting : IsWaiting w s
   pub fresh : clause_of w id ≡ None
@@ -151,22 +157,23 @@ pub record IsStored (w w2 w3 : Watches) (t : Trail) (s : ℕ) (id : ClauseId) (c
   pub ids : w2.ids.items ≡ set w.ids.items s id
   pub kinds : w2.kinds ≡ w.kinds
   pub clauses : w2.clauses ≡ w.clauses
-  pub holds : HoldsSome w2 w3 s c
+  pub live : k ≢ Free
+  pub holds : Holds w2 w3 s k c
 
-stored_taken : (w w2 w3 : Watches) (t : Trail) (s : ℕ) (id : ClauseId) (c : List Literal) → (u : IsStored w w2 w3 t s id c) → IsTaken w w3 s id u.holds.0
-stored_taken w w2 w3 t s id c u = record {
-  updates = rw u.holds.1.1.slots u.updates;
-  ids = rw u.holds.1.1.ids u.ids;
-  kinds = u.holds.1.1.kinds ∙ ap (λ v. set v.items s u.holds.0) u.kinds;
-  live = u.holds.1.0;
+stored_taken : (w w2 w3 : Watches) (t : Trail) (s : ℕ) (id : ClauseId) (c : List Literal) (k : Kind) → IsStored w w2 w3 t s id c k → IsTaken w w3 s id k
+stored_taken w w2 w3 t s id c k u = record {
+  updates = rw u.holds.slots u.updates;
+  ids = rw u.holds.ids u.ids;
+  kinds = u.holds.kinds ∙ ap (λ v. set v.items s k) u.kinds;
+  live = u.live;
   low = u.waiting.low;
   high = u.waiting.high;
   free = u.waiting.free;
   fresh = not_named w t id u.settled u.fresh;
 }
 
-pub stored_settled : (w w2 w3 : Watches) (t t3 : Trail) (s : ℕ) (id : ClauseId) (c : List Literal) → IsStored w w2 w3 t s id c → IsPlaced w3 t3 → IsSettled w3 t3
-stored_settled w w2 w3 t t3 s id c u p = settled_of w3 t3 p (taken_named w w3 t s id u.holds.0 u.settled (stored_taken w w2 w3 t s id c u))
+pub stored_settled : (w w2 w3 : Watches) (t t3 : Trail) (s : ℕ) (id : ClauseId) (c : List Literal) (k : Kind) → IsStored w w2 w3 t s id c k → IsPlaced w3 t3 → IsSettled w3 t3
+stored_settled w w2 w3 t t3 s id c k u p = settled_of w3 t3 p (taken_named w w3 t s id k u.settled (stored_taken w w2 w3 t s id c k u))
 
 pub other_slot : {X : Type 0} (xs : List X) (i j : ℕ) (x : X) → j ≢ i → slice_get (set xs i x) j ≡ slice_get xs j
 other_slot [] i j x ne = refl
@@ -175,29 +182,41 @@ other_slot (y ∷ ys) zero (suc j) x ne = refl
 other_slot (y ∷ ys) (suc i) zero x ne = refl
 other_slot (y ∷ ys) (suc i) (suc j) x ne = other_slot ys i j x (λ e. ne (ap suc e))
 
-same_slot : {X : Type 0} (xs : List X) (i : ℕ) (x : X) → i < length xs → slice_get (set xs i x) i ≡ Some x
+pub same_slot : {X : Type 0} (xs : List X) (i : ℕ) (x : X) → i < length xs → slice_get (set xs i x) i ≡ Some x
 same_slot xs i x h = let h2 : i < length (set xs i x) = rw length-set h in slice_get-get_or (set xs i x) i x h2 ∙ ap Some (get_or-set_same xs i x x h)
 
-clauses_now : (w w2 w3 : Watches) (t : Trail) (s : ℕ) (id : ClauseId) (c : List Literal) → IsStored w w2 w3 t s id c → w3.clauses.items ≡ set w.clauses.items s c
-clauses_now w w2 w3 t s id c u = u.holds.1.1.clauses ∙ ap (λ v. set v.items s c) u.clauses
+clauses_now : (w w2 w3 : Watches) (t : Trail) (s : ℕ) (id : ClauseId) (c : List Literal) (k : Kind) → IsStored w w2 w3 t s id c k → w3.clauses.items ≡ set w.clauses.items s c
+clauses_now w w2 w3 t s id c k u = u.holds.clauses ∙ ap (λ v. set v.items s c) u.clauses
 
-pub stored_held : (w w2 w3 : Watches) (t : Trail) (s : ℕ) (id : ClauseId) (c : List Literal) → IsStored w w2 w3 t s id c → clause_of w3 id ≡ Some c
-stored_held w w2 w3 t s id c u =
-    let m : IsTaken w w3 s id u.holds.0 = stored_taken w w2 w3 t s id c u in
+pub stored_kept : (w w2 w3 : Watches) (t : Trail) (s : ℕ) (id : ClauseId) (c : List Literal) (k : Kind) → IsStored w w2 w3 t s id c k → clause_of w3 id ≡ Some c
+stored_kept w w2 w3 t s id c k u =
+    let m : IsTaken w w3 s id k = stored_taken w w2 w3 t s id c k u in
     let within : s < length w.clauses.items = (let h : s < length w.kinds.items = u.waiting.high in omega (arith, h, u.settled.watched.clauses, codes_length w.clauses.items)) in
-    ap (option_and_then (λ i. slice_get w3.clauses.items i)) m.updates.1 ∙ (ap (λ xs. slice_get xs s) (clauses_now w w2 w3 t s id c u) ∙ same_slot w.clauses.items s c within)
+    ap (option_and_then (λ i. slice_get w3.clauses.items i)) m.updates.1 ∙ (ap (λ xs. slice_get xs s) (clauses_now w w2 w3 t s id c k u) ∙ same_slot w.clauses.items s c within)
+
+-- it is held or parked, as the kind of its slot says
+pub stored_held : (w w2 w3 : Watches) (t : Trail) (s : ℕ) (id : ClauseId) (c : List Literal) (k : Kind) (b : Bool) → IsStored w w2 w3 t s id c k → is_held k ≡ b → held_of w3 id ≡ cond b (Some c) None
+stored_held w w2 w3 t s id c k b u is =
+    let m : IsTaken w w3 s id k = stored_taken w w2 w3 t s id c k u in
+    let kind : kind_at w3.kinds.items s ≡ k = rw m.kinds (get_or-set_same w.kinds.items s k Free u.waiting.high) in
+    held_by w3 id b (Some c) (ap (is_held_slot w3.kinds.items) m.updates.1 ∙ (ap is_held kind ∙ is)) (stored_kept w w2 w3 t s id c k u)
 
 -- a look-up that finds no changed slot
 pub read_other : (xs ys : List (List Literal)) (o : Option ℕ) → ((q : ℕ) → o ≡ Some q → slice_get xs q ≡ slice_get ys q) → option_and_then (λ i. slice_get xs i) o ≡ option_and_then (λ i. slice_get ys i) o
 read_other xs ys None h = refl
 read_other xs ys (Some q) h = h q refl
 
-pub stored_others : (w w2 w3 : Watches) (t : Trail) (s : ℕ) (id : ClauseId) (c : List Literal) (q : ClauseId) → IsStored w w2 w3 t s id c → q ≢ id → clause_of w3 q ≡ clause_of w q
-stored_others w w2 w3 t s id c q u ne = elim (found_cases w w3 s id u.holds.0 q (stored_taken w w2 w3 t s id c u)) [
-  | inl a ↦ absurd (ne (sym a.0))
-  | inr a ↦ ap (option_and_then (λ i. slice_get w3.clauses.items i)) a.1 ∙ read_other w3.clauses.items w.clauses.items (get id_cmp w.slots q)
-      (λ i f. ap (λ xs. slice_get xs i) (clauses_now w w2 w3 t s id c u) ∙ other_slot w.clauses.items s i c (λ e. u.settled.named.live q i f (rw e u.waiting.free)))
-]
+pub stored_others : (w w2 w3 : Watches) (t : Trail) (s : ℕ) (id : ClauseId) (c : List Literal) (k : Kind) (q : ClauseId) → IsStored w w2 w3 t s id c k → q ≢ id → (clause_of w3 q ≡ clause_of w q) × (held_of w3 q ≡ held_of w q)
+stored_others w w2 w3 t s id c k q u ne =
+    let m : IsTaken w w3 s id k = stored_taken w w2 w3 t s id c k u in
+    let apart_of : (i : ℕ) → get id_cmp w.slots q ≡ Some i → i ≢ s = λ i f e. u.settled.named.live q i f (rw e u.waiting.free) in
+    elim (found_cases w w3 s id k q m) [
+      | inl a ↦ absurd (ne (sym a.0))
+      | inr a ↦
+          let kept : clause_of w3 q ≡ clause_of w q = ap (option_and_then (λ i. slice_get w3.clauses.items i)) a.1 ∙ read_other w3.clauses.items w.clauses.items (get id_cmp w.slots q)
+          (λ i f. ap (λ xs. slice_get xs i) (clauses_now w w2 w3 t s id c k u) ∙ other_slot w.clauses.items s i c (apart_of i f)) in
+          (kept, held_same w w3 q a.1 (λ i f. rw m.kinds (get_or-set_other w.kinds.items s i k Free (apart_of i f))) kept)
+    ]
 
 -- the map was asked for memory in vain
 pub unnamed_settled : (w w2 : Watches) (t : Trail) → IsSettled w t → w2.lists ≡ w.lists → w2.kinds ≡ w.kinds → w2.clauses ≡ w.clauses → w2.ids ≡ w.ids → w2.refuted ≡ w.refuted → w2.slots.entries ≡ w.slots.entries → IsSettled w2 t
@@ -206,6 +225,7 @@ unnamed_settled w w2 t st e1 e2 e3 e4 e5 e6 =
     record {
       trail = st.trail;
       shown = st.shown;
+      spots = st.spots;
       watched = rw (e1, e2, e3) st.watched;
       idle = rw e1 st.idle;
       reasoned = rw (e2, e3, e4) st.reasoned;
@@ -221,3 +241,6 @@ unnamed_settled w w2 t st e1 e2 e3 e4 e5 e6 =
       fixed = rw (e2, e3, e5) st.fixed;
       calm = λ u. e5 ∙ st.calm u;
     }
+
+pub unnamed_held : (w w2 : Watches) (id : ClauseId) → w2.kinds ≡ w.kinds → w2.clauses ≡ w.clauses → w2.slots.entries ≡ w.slots.entries → held_of w2 id ≡ held_of w id
+unnamed_held w w2 id e1 e2 e3 = rw (e1, e2, e3) refl

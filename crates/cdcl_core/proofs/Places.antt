@@ -8,7 +8,7 @@ use Rattle.cdcl_core.specs.declared.lists.Place.{Place}
 use Rattle.cdcl_core.specs.Lists.{Lists}
 use Rattle.cdcl_core.specs.Tables.{nexts, literals, shown, IsWell, AreFew, HaveStarts}
 use Rattle.cdcl_core.specs.Chains.{follow, IsChain, lists_of, times, IsLinked, first_of, rest_of}
-use Rattle.cdcl_core.proofs.Moves.{moved_by, exchanged_by, first_by, place_within, popped, pushed, grown, chain_at}
+use Rattle.cdcl_core.proofs.Moves.{moved_by, exchanged_by, first_by, place_within, popped, emptied, pushed, grown, chain_at}
 
 same_lists : (a b : List (List ℕ)) (x y : List ℕ) → a ≡ b → x ≡ y → (let r : Lists = record { lists = a; literals = x } in r) ≡ (let r : Lists = record { lists = b; literals = y } in r)
 same_lists a b x y e f = cc
@@ -78,6 +78,16 @@ popped_first ps rs V i p x e w hi pos rp rx =
     let m = seen ns rs V.lists ns (set rs i (get_or ns (get_or rs i 0) 0)) (λ U. set U i (rest_of (get_or U i []))) el (popped ns rs i w hir pos2) in
     let m2 = subst (λ (u : ℕ). (lists_of ns (set rs i u) ≡ set V.lists i (rest_of (get_or V.lists i []))) × IsLinked ns (set rs i u)) (sym nx) m in
     (same_lists _ _ _ _ m2.0 (ap (λ v. v.literals) e), m2.1)
+
+pub emptied_list : (ps : List Place) (rs : List ℕ) (V : Lists) (i : ℕ) → shown ps rs ≡ V → IsWell ps rs → i < length V.lists →
+    (shown ps (set rs i 0) ≡ record { lists = set V.lists i []; literals = V.literals }) × IsWell ps (set rs i 0)
+emptied_list ps rs V i e w hi =
+    let ns : List ℕ = nexts ps in
+    let el : lists_of ns rs ≡ V.lists = ap (λ v. v.lists) e in
+    let len : length V.lists ≡ length rs = rw (← el, length-map) refl in
+    let hir : i < length rs = rw len at hi in
+    let m = seen ns rs V.lists ns (set rs i 0) (λ U. set U i []) el (emptied ns rs i w hir) in
+    (same_lists _ _ _ _ m.0 (ap (λ v. v.literals) e), m.1)
 
 pub pushed_first : (ps : List Place) (rs : List ℕ) (V : Lists) (j k t : ℕ) (y : Place) → shown ps rs ≡ V → IsWell ps rs → j < length V.lists → k < length V.literals → 0 < k → sum_by (times k) V.lists ≡ 0 → t ≡ get_or rs j t → y ≡ get_or ps k y →
     (shown (set ps k (record { literal = y.literal; next = t })) (set rs j k) ≡ record { lists = set V.lists j (k ∷ get_or V.lists j []); literals = V.literals }) × IsWell (set ps k (record { literal = y.literal; next = t })) (set rs j k)

@@ -1,5 +1,5 @@
 -- What the public calls promise, from the invariant.
-use Rattle.std.proofs.Common.{ℕ, ◌≡◌, ◌≢◌, ◌+◌, ◌-◌, ◌*◌, ◌<◌, ◌≤◌, ◌⊎◌, ◌++◌, zero, suc, true, false, List, [], ◌∷◌, Option, Some, None, length, take, drop, filter, refl, sym, ap, ◌∙◌, inl, inr, arith}
+use Rattle.std.proofs.Common.{ℕ, ◌≡◌, ◌≢◌, ◌+◌, ◌-◌, ◌*◌, ◌<◌, ◌≤◌, ◌++◌, zero, suc, true, false, List, [], ◌∷◌, Option, Some, None, length, take, drop, filter, refl, sym, ap, ◌∙◌, inl, inr, arith}
 use Rattle.std.specs.Prelude.{slice_get, nat_le}
 use Rattle.std.specs.BTreeMap.{BTreeMap, get}
 use Rattle.std.specs.Option.{option_and_then}
@@ -11,13 +11,13 @@ use Rattle.cnf_base.specs.Literals.{Literal}
 use Rattle.cnf_base.specs.declared.clause.ClauseId.{ClauseId}
 use Rattle.cdcl_core.specs.declared.trail.Trail.{Trail}
 use Rattle.cdcl_core.specs.declared.watches.Watches.{Watches}
-use Rattle.cdcl_core.specs.declared.watches.Kind.{Kind}
-use Rattle.cdcl_core.specs.declared.watches.Kind.TheVariants.{Free, Fixed, Watched}
+use Rattle.cdcl_core.specs.declared.watches.Kind.TheVariants.{Free}
 use Rattle.cdcl_core.specs.Levels.{Row, IsExtended}
-use Rattle.cdcl_core.specs.Search.{id_cmp, literals_of, level_of, clause_of, IsAtRest, IsConflict}
+use Rattle.cdcl_core.specs.Search.{id_cmp, literals_of, level_of, clause_of, held_of, is_held_slot, IsAtRest, IsConflict}
 use Rattle.cdcl_core.specs.Stamps.{codes, Has, IsFalse, RestsAt, IsTrail}
-use Rattle.cdcl_core.specs.Watched.{kind_at, IsWatching}
+use Rattle.cdcl_core.specs.Watched.{kind_at, IsHeld, IsWatching}
 use Rattle.cdcl_core.proofs.Counting.{times_nil}
+use Rattle.cdcl_core.proofs.Held.{held_live, held_kinds, picked, held_by}
 use Rattle.cnf_base.specs.Clauses.{no_id}
 use Rattle.cdcl_core.specs.State.{no_row, all_codes, IsShown, IsFixed, IsSettled, IsPropagated, IsGrown, IsNew}
 use Rattle.cdcl_core.proofs.Resting.{rests}
@@ -34,14 +34,15 @@ pub record IsSlot (w : Watches) (id : ClauseId) (c : List Literal) (s : ℕ) : T
   pub found : get id_cmp w.slots id ≡ Some s
   pub low : 1 ≤ s
   pub high : s < length w.kinds.items
-  pub live : kind_at w.kinds.items s ≢ Free
+  pub held : IsHeld (kind_at w.kinds.items s)
   pub within : s < length w.clauses.items
   pub clause : slice_get w.clauses.items s ≡ Some c
   pub read : codes c ≡ get_or (all_codes w.clauses.items) s []
 
-pub slot_of : (w : Watches) (t : Trail) (id : ClauseId) (c : List Literal) → IsSettled w t → clause_of w id ≡ Some c → (s : ℕ) × IsSlot w id c s
+pub slot_of : (w : Watches) (t : Trail) (id : ClauseId) (c : List Literal) → IsSettled w t → held_of w id ≡ Some c → (s : ℕ) × IsSlot w id c s
 slot_of w t id c st e =
-    let p : (s : ℕ) × ((get id_cmp w.slots id ≡ Some s) × (slice_get w.clauses.items s ≡ Some c)) = taken (λ s. slice_get w.clauses.items s) (get id_cmp w.slots id) c e in
+    let both : (is_held_slot w.kinds.items (get id_cmp w.slots id) ≡ true) × (clause_of w id ≡ Some c) = picked (is_held_slot w.kinds.items (get id_cmp w.slots id)) (clause_of w id) c e in
+    let p : (s : ℕ) × ((get id_cmp w.slots id ≡ Some s) × (slice_get w.clauses.items s ≡ Some c)) = taken (λ s. slice_get w.clauses.items s) (get id_cmp w.slots id) c both.1 in
     let s : ℕ = p.0 in
     let within : s < length w.clauses.items = slice_get_within w.clauses.items s c p.1.1 in (
       s,
@@ -49,23 +50,24 @@ slot_of w t id c st e =
         found = p.1.0;
         low = st.named.low id s p.1.0;
         high = st.named.high id s p.1.0;
-        live = st.named.live id s p.1.0;
+        held = sym (ap (is_held_slot w.kinds.items) p.1.0) ∙ both.0;
         within = within;
         clause = p.1.1;
         read = clause_codes w.clauses.items s c within (sym (get_or_from_slice_get w.clauses.items s c c p.1.1));
       },
     )
 
--- a slot that is not free has a held clause
-pub held_at : (w : Watches) (t : Trail) (s : ℕ) → IsSettled w t → 1 ≤ s → s < length w.kinds.items → kind_at w.kinds.items s ≢ Free → clause_of w (get_or w.ids.items s no_id) ≡ Some (get_or w.clauses.items s [])
-held_at w t s st lo hi live =
+-- a slot that is not free has a clause that is kept
+pub kept_at : (w : Watches) (t : Trail) (s : ℕ) → IsSettled w t → 1 ≤ s → s < length w.kinds.items → kind_at w.kinds.items s ≢ Free → clause_of w (get_or w.ids.items s no_id) ≡ Some (get_or w.clauses.items s [])
+kept_at w t s st lo hi live =
     let within : s < length w.clauses.items = omega (arith, hi, st.watched.clauses, codes_length w.clauses.items) in
     ap (option_and_then (λ s. slice_get w.clauses.items s)) (st.named.held s lo hi live) ∙ slice_get-get_or w.clauses.items s [] within
 
-pub kinds : (k : Kind) → (k ≡ Free) ⊎ ((k ≡ Fixed) ⊎ (k ≡ Watched))
-kinds Free = inl refl
-kinds Fixed = inr (inl refl)
-kinds Watched = inr (inr refl)
+-- and one that is held, where its kind says so
+pub held_at : (w : Watches) (t : Trail) (s : ℕ) → IsSettled w t → 1 ≤ s → s < length w.kinds.items → IsHeld (kind_at w.kinds.items s) → held_of w (get_or w.ids.items s no_id) ≡ Some (get_or w.clauses.items s [])
+held_at w t s st lo hi held =
+    let live : kind_at w.kinds.items s ≢ Free = held_live (kind_at w.kinds.items s) held in
+    held_by w (get_or w.ids.items s no_id) true (Some (get_or w.clauses.items s [])) (ap (is_held_slot w.kinds.items) (st.named.held s lo hi live) ∙ held) (kept_at w t s st lo hi live)
 
 pub false_is_not : {A : Type 0} → false ≡ true → A
 false_is_not e = absurd cc
@@ -75,25 +77,22 @@ settled_rest w t st p id c j e le =
     let q : (s : ℕ) × IsSlot w id c s = slot_of w t id c st e in
     let s : ℕ = q.0 in
     let cs : List (List ℕ) = all_codes w.clauses.items in
-    let r : RestsAt t.stamps.items j (get_or cs s []) = elim (kinds (kind_at w.kinds.items s)) [
-      | inl k ↦ absurd (q.1.live k)
-      | inr k ↦ elim k [
-        | inl f ↦ elim (st.fixed.value s q.1.low q.1.high f) [
-          | inl a ↦ inl (a.0, (a.1.0, (omega (arith, a.1.1), omega (arith, a.1.1))))
-          | inr a ↦ false_is_not (sym p.1 ∙ a.0)
-        ]
-        | inr v ↦ rests w.lists.lists w.lists.literals w.kinds.items cs t.stamps.items t.codes.items t.len t.head t.level st.trail st.watched p.0 s j q.1.low q.1.high v
+    let r : RestsAt t.stamps.items j (get_or cs s []) = elim (held_kinds (kind_at w.kinds.items s) q.1.held) [
+      | inl f ↦ elim (st.fixed.value s q.1.low q.1.high f) [
+        | inl a ↦ inl (a.0, (a.1.0, (omega (arith, a.1.1), omega (arith, a.1.1))))
+        | inr a ↦ false_is_not (sym p.1 ∙ a.0)
       ]
+      | inr v ↦ rests w.lists.lists w.lists.literals w.kinds.items cs t.stamps.items t.codes.items t.len t.head t.level st.trail st.watched p.0 s j q.1.low q.1.high v
     ] in
     rests_rows t j c st.trail st.shown (rw q.1.read r)
 
-pub conflict_at : (w : Watches) (t : Trail) (s : ℕ) (id : ClauseId) → IsSettled w t → s ≢ 0 → s < length w.kinds.items → (kind_at w.kinds.items s ≡ Free → ⊥) → IsFalse t.stamps.items (get_or (all_codes w.clauses.items) s []) → id ≡ get_or w.ids.items s no_id → IsConflict w t id
-conflict_at w t s id st pos hi live f e =
+pub conflict_at : (w : Watches) (t : Trail) (s : ℕ) (id : ClauseId) → IsSettled w t → s ≢ 0 → s < length w.kinds.items → IsHeld (kind_at w.kinds.items s) → IsFalse t.stamps.items (get_or (all_codes w.clauses.items) s []) → id ≡ get_or w.ids.items s no_id → IsConflict w t id
+conflict_at w t s id st pos hi held f e =
     let c : List Literal = get_or w.clauses.items s [] in
     let within : s < length w.clauses.items = omega (arith, hi, st.watched.clauses, codes_length w.clauses.items) in
     let read : codes c ≡ get_or (all_codes w.clauses.items) s [] = clause_codes w.clauses.items s c within (get_or_default w.clauses.items s [] c within) in
     let lo : 1 ≤ s = omega (arith, pos) in
-    (c, (rw e (held_at w t s st lo hi live), refuted_rows t c st.trail st.shown (rw read f)))
+    (c, (rw e (held_at w t s st lo hi held), refuted_rows t c st.trail st.shown (rw read f)))
 
 -- what came to the trail was forced at the same level
 pub extended : (w : Watches) (t t2 : Trail) → IsShown t.rows.items t.stamps.items t.codes.items t.len → IsTrail t.stamps.items t.codes.items t.len t.head t.level → IsSettled w t2 → IsGrown t t2 → IsExtended (literals_of t) (level_of t) (literals_of t2)
@@ -132,6 +131,7 @@ pub unrefuted : (w : Watches) (t : Trail) → IsSettled w t → IsFixed w.kinds.
 unrefuted w t s f = record {
   trail = s.trail;
   shown = s.shown;
+  spots = s.spots;
   watched = s.watched;
   idle = s.idle;
   reasoned = s.reasoned;
@@ -196,6 +196,7 @@ new_settled w t n lists literals ks cs ids slots calm =
         };
       };
       shown = record { literal = λ i h. absurd (omega (arith, h, n.len)); level = λ i h. absurd (omega (arith, h, n.len)); width = omega (arith, size) };
+      spots = record { place = λ i h. absurd (omega (arith, h, n.len)); width = omega (arith, size) };
       watched = record {
         lists = rw lists (omega (arith, size));
         slots = omega (arith, ks, literals);
@@ -214,6 +215,7 @@ new_settled w t n lists literals ks cs ids slots calm =
         decided = λ i h. absurd (omega (arith, h, n.len));
         forced = λ i h. absurd (omega (arith, h, n.len));
         live = λ i h. absurd (omega (arith, h, n.len));
+        held = λ i h. absurd (omega (arith, h, n.len));
         name = λ i h. absurd (omega (arith, h, n.len));
         has = λ i h. absurd (omega (arith, h, n.len));
         others = λ i m h. absurd (omega (arith, h, n.len));

@@ -7,13 +7,13 @@ use Rattle.cnf_base.specs.Literals.{literal_of}
 use Rattle.cnf_base.specs.declared.clause.ClauseId.{ClauseId}
 use Rattle.cdcl_core.specs.declared.trail.Trail.{Trail}
 use Rattle.cdcl_core.specs.declared.watches.Kind.{Kind}
-use Rattle.cdcl_core.specs.declared.watches.Kind.TheVariants.{Free}
 use Rattle.cdcl_core.specs.Chains.{times}
 use Rattle.cdcl_core.specs.Levels.{Row}
 use Rattle.cdcl_core.specs.Stamps.{neg, Has, IsTrail}
-use Rattle.cdcl_core.specs.Watched.{kind_at}
+use Rattle.cdcl_core.specs.Watched.{kind_at, IsHeld}
 use Rattle.cnf_base.specs.Clauses.{no_id}
 use Rattle.cdcl_core.specs.State.{no_row, IsShown, IsReasoned, IsFixed, IsGrown}
+use Rattle.cdcl_core.proofs.Held.{held_live}
 use Rattle.cdcl_core.proofs.Trails.{fewer, same_stamp}
 use Rattle.cdcl_core.proofs.Counting.{set_cases}
 
@@ -22,6 +22,7 @@ shorter_reasoned cs ks ids rows es rs len n h r = record {
   decided = λ i a b. r.decided i (omega arith) b;
   forced = λ i a b. r.forced i (omega arith) b;
   live = λ i a b. r.live i (omega arith) b;
+  held = λ i a b c. r.held i (omega arith) b c;
   name = λ i a b. r.name i (omega arith) b;
   has = λ i a b. r.has i (omega arith) b;
   others = λ i m a b c d. r.others i m (omega arith) b c d;
@@ -31,7 +32,7 @@ shorter_reasoned cs ks ids rows es rs len n h r = record {
 -- the clause of a slot forces a literal that goes to the end of the trail
 pub record IsReason (cs : List (List ℕ)) (ks : List Kind) (ids : List ClauseId) (es : List ℕ) (len l slot : ℕ) (reason : Option ClauseId) : Type 0 where
   pub forced : slot < length ks
-  pub live : kind_at ks slot ≢ Free
+  pub held : IsHeld (kind_at ks slot)
   pub name : reason ≡ Some (get_or ids slot no_id)
   pub has : Has (get_or cs slot []) l
   pub others : (m : ℕ) → Has (get_or cs slot []) m → m ≢ l → 0 < times (neg m) (take len es)
@@ -58,7 +59,11 @@ pushed_reasoned cs ks ids rows es rs len l slot x r room wide none f =
       ];
       live = λ i a b. elim (cases_lt i len) [
         | inl h ↦ rw (old_r i h) (r.live i h (rw (old_r i h) at b))
-        | inr h ↦ let e : i ≡ len = omega arith in rw (e, new_r) (f (rw (e, new_r) at b)).live
+        | inr h ↦ let e : i ≡ len = omega arith in rw (e, new_r) (held_live (kind_at ks slot) (f (rw (e, new_r) at b)).held)
+      ];
+      held = λ i a b c. elim (cases_lt i len) [
+        | inl h ↦ rw (old_r i h) (r.held i h (rw (old_r i h) at b) (rw (old_x i h) at c))
+        | inr h ↦ let e : i ≡ len = omega arith in rw (e, new_r) (f (rw (e, new_r) at b)).held
       ];
       name = λ i a b. elim (cases_lt i len) [
         | inl h ↦ rw (old_r i h, old_x i h) (r.name i h (rw (old_r i h) at b))
@@ -157,5 +162,5 @@ grown_more a b c lev x y = record {
   ];
 }
 
-pub moved_grown : (a b : Trail) → IsGrown a b → IsGrown a (record { stamps = b.stamps; codes = b.codes; reasons = b.reasons; rows = b.rows; len = b.len; head = b.head + 1; level = b.level })
+pub moved_grown : (a b : Trail) → IsGrown a b → IsGrown a (record { stamps = b.stamps; codes = b.codes; reasons = b.reasons; rows = b.rows; spots = b.spots; len = b.len; head = b.head + 1; level = b.level })
 moved_grown a b x = record { longer = x.longer; codes = x.codes; reasons = x.reasons; rows = x.rows; forced = x.forced; level = x.level }

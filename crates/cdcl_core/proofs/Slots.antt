@@ -121,6 +121,7 @@ reasoned_changed cs ks ids rows es rs len cs2 ks2 s r apart size kind clause = r
   decided = r.decided;
   forced = λ i a b. rw size (r.forced i a b);
   live = λ i a b. rw (kind (get_or rs i 0) (apart i a b)) (r.live i a b);
+  held = λ i a b c. rw (kind (get_or rs i 0) (apart i a b)) (r.held i a b c);
   name = r.name;
   has = λ i a b. rw (clause (get_or rs i 0) (apart i a b)) (r.has i a b);
   others = λ i m a b c d. r.others i m a b (rw (clause (get_or rs i 0) (apart i a b)) at c) d;

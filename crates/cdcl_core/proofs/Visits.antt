@@ -15,15 +15,16 @@ use Rattle.cdcl_core.proofs.Moves.{two_of_sum}
 use Rattle.cdcl_core.specs.declared.trail.Trail.{Trail}
 use Rattle.cdcl_core.specs.declared.watches.Watches.{Watches}
 use Rattle.cdcl_core.specs.declared.watches.Kind.{Kind}
-use Rattle.cdcl_core.specs.declared.watches.Kind.TheVariants.{Free, Watched}
+use Rattle.cdcl_core.specs.declared.watches.Kind.TheVariants.{Watched}
 use Rattle.cdcl_core.specs.Stamps.{neg, Has}
-use Rattle.cdcl_core.specs.Watched.{kind_at, Kept, IsWatching, IsPlace, IsWatched}
+use Rattle.cdcl_core.specs.Watched.{kind_at, IsHeld, Kept, IsWatching, IsPlace, IsWatched}
 use Rattle.cnf_base.specs.Clauses.{no_id}
 use Rattle.cdcl_core.specs.State.{all_codes, IsVisiting, IsSettled}
-use Rattle.cdcl_core.proofs.Apart.{watched_not_free}
+use Rattle.cdcl_core.proofs.Held.{held_if}
 use Rattle.cdcl_core.proofs.Clauses.{codes_length}
 use Rattle.cdcl_core.proofs.Counting.{times_nil, neg_below, neg_low, neg_neg, neg_slot}
 use Rattle.cdcl_core.proofs.Reasons.{pushed_reasoned, pushed_shown, pushed_fixed}
+use Rattle.cdcl_core.proofs.Spots.{pushed_spots}
 use Rattle.cdcl_core.proofs.Trails.{next_level, pushed_trail, first_there, next_not_before, next_trail, trail_size, true_on_trail, has_room}
 use Rattle.cdcl_core.proofs.Watching.{move_to, step_keep, step_move, step_true, IsVisited, first_in}
 use Rattle.cdcl_core.proofs.Resting.{step_start, finish_none, finish_stop, watching_mate}
@@ -88,6 +89,7 @@ unfolding move_to
 visit_kept w t p stop v pos keep = record {
   trail = v.trail;
   shown = v.shown;
+  spots = v.spots;
   watched = step_keep w.lists.lists w.lists.literals w.kinds.items (all_codes w.clauses.items) t.stamps.items t.codes.items t.head p stop v.watched v.within pos (λ s. kept_now w t p stop (get_or w.lists.literals (neg (first_of (get_or w.lists.lists 0 []))) 0) v (keep s));
   within = v.within;
   next = v.next;
@@ -97,7 +99,7 @@ visit_kept w t p stop v pos keep = record {
   fixed = v.fixed;
   calm = v.calm;
   slot = v.slot;
-  live = v.live;
+  held = v.held;
   refuted = v.refuted;
 }
 
@@ -116,8 +118,8 @@ stops L ws ks cs ss es head p stop stop2 w ne = record {
   here = λ q on e s out. absurd (ne s);
 }
 
-pub watched_live : (ks : List Kind) (s : ℕ) → kind_at ks s ≡ Watched → kind_at ks s ≢ Free
-watched_live ks s e f = watched_not_free (sym e ∙ f)
+pub watched_held : (ks : List Kind) (s : ℕ) → kind_at ks s ≡ Watched → IsHeld (kind_at ks s)
+watched_held ks s e = held_if (kind_at ks s) Watched e refl
 
 pub visit_false : (w : Watches) (t : Trail) (p stop k o : ℕ) → IsVisiting w t p stop → AtPlace w t p k o → 0 < first_of (get_or w.lists.lists 0 []) →
     ((l : ℕ) → Has (get_or (all_codes w.clauses.items) (k / 2) []) l → l ≢ o → 0 < get_or t.stamps.items (neg l) 0) → 0 < get_or t.stamps.items (neg o) 0 → IsVisiting (with_lists w (moved_lists w.lists (p + 1))) t p (k / 2)
@@ -127,6 +129,7 @@ visit_false w t p stop k o v a pos rest last =
     record {
       trail = v.trail;
       shown = v.shown;
+      spots = v.spots;
       watched = step_keep w.lists.lists w.lists.literals w.kinds.items (all_codes w.clauses.items) t.stamps.items t.codes.items t.head p (k / 2) (stops w.lists.lists w.lists.literals w.kinds.items (all_codes w.clauses.items) t.stamps.items t.codes.items t.head p stop (k / 2) v.watched ne) v.within pos (λ s. absurd (ne s));
       within = v.within;
       next = v.next;
@@ -136,7 +139,7 @@ visit_false w t p stop k o v a pos rest last =
       fixed = v.fixed;
       calm = v.calm;
       slot = λ s. a.slot;
-      live = λ s. watched_live w.kinds.items (k / 2) a.on.kind;
+      held = λ s. watched_held w.kinds.items (k / 2) a.on.kind;
       refuted = λ s l h. elim (eqb_tells l o) [ inl z ↦ rw z.1 last | inr z ↦ rest l h z.1 ];
     }
 
@@ -165,6 +168,7 @@ visit_moved w t p stop k o f v z a pos ek once has ne free =
     record {
       trail = v.trail;
       shown = v.shown;
+      spots = v.spots;
       watched = step_move w.lists.lists w.lists.literals w.kinds.items (all_codes w.clauses.items) t.stamps.items t.codes.items t.len t.head t.level p 0 k f (rw z at v.watched) vis has (λ e. ne (e ∙ sym a.other)) free;
       within = v.within;
       next = v.next;
@@ -174,7 +178,7 @@ visit_moved w t p stop k o f v z a pos ek once has ne free =
       fixed = v.fixed;
       calm = v.calm;
       slot = λ s. absurd (s refl);
-      live = λ s. absurd (s refl);
+      held = λ s. absurd (s refl);
       refuted = λ s. absurd (s refl);
     }
 
@@ -184,6 +188,7 @@ pub record IsPushed (t t2 : Trail) (l v slot : ℕ) (x : Row) : Type 0 where
   pub codes : t2.codes.items ≡ set t.codes.items t.len l
   pub reasons : t2.reasons.items ≡ set t.reasons.items t.len slot
   pub rows : t2.rows.items ≡ set t.rows.items t.len x
+  pub spots : t2.spots.items ≡ set t.spots.items (l / 2) t.len
   pub len : t2.len ≡ t.len + 1
   pub head : t2.head ≡ t.head
   pub level : t2.level + 1 ≡ v
@@ -216,17 +221,18 @@ visit_unit w t t2 p stop k o reason v z a pos ek free free2 pu en wide rest =
     record {
       trail = rw (pu.stamps, pu.codes, pu.len, pu.head, same) (pushed_trail t.stamps.items t.codes.items t.len t.head t.level o v.trail a.two a.within free free2);
       shown = rw (pu.rows, pu.stamps, pu.codes, pu.len) (pushed_shown t.rows.items t.stamps.items t.codes.items t.len t.head t.level o (t.level + 1) x v.trail v.shown a.within free room wide refl refl);
+      spots = rw (pu.spots, pu.stamps, pu.codes, pu.len) (pushed_spots t.spots.items t.stamps.items t.codes.items t.len t.head t.level o (t.level + 1) v.trail v.spots a.within free free2 room);
       watched = rw (pu.stamps, pu.codes, pu.head) moved;
       within = rw pu.stamps more;
       next = rw (pu.codes, pu.head) next;
       more = rw (pu.head, pu.len) (let m : t.head < t.len = v.more in omega arith);
       reasoned = rw (pu.rows, pu.codes, pu.reasons, pu.len) (pushed_reasoned cs w.kinds.items w.ids.items t.rows.items t.codes.items t.reasons.items t.len o (k / 2) x v.reasoned room wide (λ u. absurd (omega (arith, u, lo)))
-          (λ u. record { forced = a.slot; live = watched_live w.kinds.items (k / 2) a.on.kind; name = en; has = a.has_other; others = λ m h ne. true_on_trail t.stamps.items t.codes.items t.len t.head t.level (neg m) v.trail (rest m h ne) }));
+          (λ u. record { forced = a.slot; held = watched_held w.kinds.items (k / 2) a.on.kind; name = en; has = a.has_other; others = λ m h ne. true_on_trail t.stamps.items t.codes.items t.len t.head t.level (neg m) v.trail (rest m h ne) }));
       named = v.named;
       fixed = rw pu.stamps (pushed_fixed w.kinds.items cs t.stamps.items w.refuted o (t.level + 1) v.fixed a.within free);
       calm = λ u. v.calm (rw same at u);
       slot = λ s. absurd (s refl);
-      live = λ s. absurd (s refl);
+      held = λ s. absurd (s refl);
       refuted = λ s. absurd (s refl);
     }
 
@@ -245,6 +251,7 @@ visit_starts w t p s hp next more =
     record {
       trail = s.trail;
       shown = s.shown;
+      spots = s.spots;
       watched = step_start w.lists.lists w.lists.literals w.kinds.items (all_codes w.clauses.items) t.stamps.items t.codes.items t.head p s.watched hp two s.idle;
       within = hp;
       next = next;
@@ -254,7 +261,7 @@ visit_starts w t p s hp next more =
       fixed = s.fixed;
       calm = s.calm;
       slot = λ z. absurd (z refl);
-      live = λ z. absurd (z refl);
+      held = λ z. absurd (z refl);
       refuted = λ z. absurd (z refl);
     }
 
@@ -273,6 +280,7 @@ pub stopped_settles : (w : Watches) (t : Trail) (p stop : ℕ) → IsVisiting w 
 stopped_settles w t p stop v idle = record {
   trail = v.trail;
   shown = v.shown;
+  spots = v.spots;
   watched = finish_stop w.lists.lists w.lists.literals w.kinds.items (all_codes w.clauses.items) t.stamps.items t.codes.items t.head p stop v.watched idle (rw (← v.next) (next_not_before t.stamps.items t.codes.items t.len t.head t.level v.trail v.more));
   idle = idle;
   reasoned = v.reasoned;
@@ -281,10 +289,11 @@ stopped_settles w t p stop v idle = record {
   calm = v.calm;
 }
 
-pub visit_settles : (w : Watches) (t : Trail) (p stop : ℕ) → IsVisiting w t p stop → stop ≡ 0 → get_or w.lists.lists 0 [] ≡ [] → IsSettled w (record { stamps = t.stamps; codes = t.codes; reasons = t.reasons; rows = t.rows; len = t.len; head = t.head + 1; level = t.level })
+pub visit_settles : (w : Watches) (t : Trail) (p stop : ℕ) → IsVisiting w t p stop → stop ≡ 0 → get_or w.lists.lists 0 [] ≡ [] → IsSettled w (record { stamps = t.stamps; codes = t.codes; reasons = t.reasons; rows = t.rows; spots = t.spots; len = t.len; head = t.head + 1; level = t.level })
 visit_settles w t p stop v z idle = record {
   trail = next_trail t.stamps.items t.codes.items t.len t.head t.level v.trail v.more;
   shown = v.shown;
+  spots = v.spots;
   watched = finish_none w.lists.lists w.lists.literals w.kinds.items (all_codes w.clauses.items) t.stamps.items t.codes.items t.head p (rw z at v.watched) idle (trail_size t.stamps.items t.codes.items t.len t.head t.level v.trail v.more) v.next;
   idle = idle;
   reasoned = v.reasoned;

@@ -7,6 +7,14 @@ use Rattle.cnf_base.specs.declared.clause.ClauseId.{ClauseId}
 abbrev pub Row : Type 0
 Row = Literal × ℕ × Option ClauseId
 
+-- the literal stands at this place
+abbrev pub StandsAt : List Row → ℕ → Literal → Type 0
+StandsAt rows i l = (level : ℕ) × ((reason : Option ClauseId) × (slice_get rows i ≡ Some (l, level, reason)))
+
+-- the clause of this name forced a literal of these
+abbrev pub IsReason : List Row → ClauseId → Type 0
+IsReason rows id = (i : ℕ) × (l : Literal) × (level : ℕ) × (slice_get rows i ≡ Some (l, level, Some id))
+
 -- at the end of level j the literal is true
 abbrev pub IsTrueBy : List Row → ℕ → Literal → Type 0
 IsTrueBy rows j l = (i : ℕ) × ((level : ℕ) × ((reason : Option ClauseId) × ((slice_get rows i ≡ Some (l, level, reason)) × (level ≤ j))))

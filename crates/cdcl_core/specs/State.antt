@@ -7,13 +7,13 @@ use Rattle.cnf_base.specs.declared.clause.ClauseId.{ClauseId}
 use Rattle.cdcl_core.specs.declared.trail.Trail.{Trail}
 use Rattle.cdcl_core.specs.declared.watches.Watches.{Watches}
 use Rattle.cdcl_core.specs.declared.watches.Kind.{Kind}
-use Rattle.cdcl_core.specs.declared.watches.Kind.TheVariants.{Free, Fixed}
+use Rattle.cdcl_core.specs.declared.watches.Kind.TheVariants.{Free, Fixed, Parked}
 use Rattle.cdcl_core.specs.Chains.{times, first_of}
 use Rattle.cdcl_core.specs.Lists.{Lists}
-use Rattle.cdcl_core.specs.Levels.{Row}
+use Rattle.cdcl_core.specs.Levels.{Row, StandsAt}
 use Rattle.cdcl_core.specs.Stamps.{neg, codes, Has, IsFalse, RestsAt, IsTrail}
-use Rattle.cdcl_core.specs.Watched.{kind_at, IsWatched}
-use Rattle.cdcl_core.specs.Search.{id_cmp}
+use Rattle.cdcl_core.specs.Watched.{kind_at, IsHeld, IsWatched}
+use Rattle.cdcl_core.specs.Search.{id_cmp, literals_of}
 
 abbrev pub no_row : Row
 no_row = (literal_of 0, 0, None)
@@ -27,11 +27,22 @@ pub record IsShown (rows : List Row) (ss es : List ℕ) (len : ℕ) : Type 0 whe
   pub level : (i : ℕ) → i < len → (slice_index_or rows i no_row).1 + 1 ≡ slice_index ss (slice_index es i)
   pub width : length ss ≤ length rows
 
--- each literal that was not decided is forced: its clause is held and has it, and the clause's other literals became false before it
+-- by variable the place of its literal, and room for each variable
+pub record IsSpotted (ks ss es : List ℕ) (len : ℕ) : Type 0 where
+  pub place : (i : ℕ) → i < len → slice_index ks (slice_index es i / 2) ≡ i
+  pub width : length ss ≤ 2 * length ks
+
+-- of a trail alone: its table of places
+abbrev pub KeepsPlaces : Trail → Type 0
+KeepsPlaces t = IsSpotted t.spots.items t.stamps.items t.codes.items t.len
+
+-- each literal that was not decided is forced: its clause is kept, above level 0 held, and has it, and the clause's other
+-- literals became false before it
 pub record IsReasoned (cs : List (List ℕ)) (ks : List Kind) (ids : List ClauseId) (rows : List Row) (es rs : List ℕ) (len : ℕ) : Type 0 where
   pub decided : (i : ℕ) → i < len → slice_index rs i ≡ 0 → (slice_index_or rows i no_row).2 ≡ None
   pub forced : (i : ℕ) → i < len → 0 < slice_index rs i → slice_index rs i < length ks
   pub live : (i : ℕ) → i < len → 0 < slice_index rs i → kind_at ks (slice_index rs i) ≢ Free
+  pub held : (i : ℕ) → i < len → 0 < slice_index rs i → 0 < (slice_index_or rows i no_row).1 → IsHeld (kind_at ks (slice_index rs i))
   pub name : (i : ℕ) → i < len → 0 < slice_index rs i → (slice_index_or rows i no_row).2 ≡ Some (slice_index_or ids (slice_index rs i) no_id)
   pub has : (i : ℕ) → i < len → 0 < slice_index rs i → Has (slice_index_or cs (slice_index rs i) []) (slice_index es i)
   pub others : (i m : ℕ) → i < len → 0 < slice_index rs i → Has (slice_index_or cs (slice_index rs i) []) m → m ≢ slice_index es i → 0 < times (neg m) (take i es)
@@ -47,7 +58,7 @@ pub record IsNamed (slots : BTreeMap ClauseId ℕ) (ids : List ClauseId) (ks : L
   pub rows : length ks ≤ length ids
   pub some : 1 ≤ length ks
 
--- a clause that is not watched is true at level 0, or all its literals are false there, and then this is remembered
+-- a clause that is held and not watched is true at level 0, or all its literals are false there, and then this is remembered
 pub record IsFixed (ks : List Kind) (cs : List (List ℕ)) (ss : List ℕ) (refuted : Bool) : Type 0 where
   pub value : (s : ℕ) → 1 ≤ s → s < length ks → kind_at ks s ≡ Fixed →
       ((l : ℕ) × (Has (slice_index_or cs s []) l × (slice_index ss l ≡ 1)))
@@ -70,6 +81,7 @@ pub record IsNew (t : Trail) : Type 0 where
 pub record IsSettled (w : Watches) (t : Trail) : Type 0 where
   pub trail : IsTrail t.stamps.items t.codes.items t.len t.head t.level
   pub shown : IsShown t.rows.items t.stamps.items t.codes.items t.len
+  pub spots : IsSpotted t.spots.items t.stamps.items t.codes.items t.len
   pub watched : IsWatched w.lists.lists w.lists.literals w.kinds.items (all_codes w.clauses.items) t.stamps.items t.codes.items t.head (length t.stamps.items) 0
   pub idle : slice_index_or w.lists.lists 0 [] ≡ []
   pub reasoned : IsReasoned (all_codes w.clauses.items) w.kinds.items w.ids.items t.rows.items t.codes.items t.reasons.items t.len
@@ -81,6 +93,7 @@ pub record IsSettled (w : Watches) (t : Trail) : Type 0 where
 pub record IsPlaced (w : Watches) (t : Trail) : Type 0 where
   pub trail : IsTrail t.stamps.items t.codes.items t.len t.head t.level
   pub shown : IsShown t.rows.items t.stamps.items t.codes.items t.len
+  pub spots : IsSpotted t.spots.items t.stamps.items t.codes.items t.len
   pub watched : IsWatched w.lists.lists w.lists.literals w.kinds.items (all_codes w.clauses.items) t.stamps.items t.codes.items t.head (length t.stamps.items) 0
   pub idle : slice_index_or w.lists.lists 0 [] ≡ []
   pub reasoned : IsReasoned (all_codes w.clauses.items) w.kinds.items w.ids.items t.rows.items t.codes.items t.reasons.items t.len
@@ -109,7 +122,7 @@ pub record Holds (old new : Watches) (slot : ℕ) (k : Kind) (c : List Literal) 
   pub slots : new.slots ≡ old.slots
 
 abbrev pub HoldsSome : Watches → Watches → ℕ → List Literal → Type 0
-HoldsSome old new slot c = (k : Kind) × ((k ≢ Free) × Holds old new slot k c)
+HoldsSome old new slot c = (k : Kind) × (IsHeld k × Holds old new slot k c)
 
 -- the places of the slot stand in no list, and the others where they stood
 pub record IsCleared (old new : Lists) (slot : ℕ) : Type 0 where
@@ -118,6 +131,18 @@ pub record IsCleared (old new : Lists) (slot : ℕ) : Type 0 where
   pub idle : slice_index_or new.lists 0 [] ≡ []
   pub gone : (i k : ℕ) → k / 2 ≡ slot → times k (slice_index_or new.lists i []) ≡ 0
   pub others : (i k : ℕ) → k / 2 ≢ slot → times k (slice_index_or new.lists i []) ≡ times k (slice_index_or old.lists i [])
+
+-- the lists of the literals below this code are empty, and the others as before, or empty
+pub record IsEmptied (old new : Lists) (count : ℕ) : Type 0 where
+  pub literals : new.literals ≡ old.literals
+  pub size : length new.lists ≡ length old.lists
+  pub front : (i : ℕ) → i < 2 → slice_index_or new.lists i [] ≡ slice_index_or old.lists i []
+  pub fewer : (i : ℕ) → (slice_index_or new.lists i [] ≡ slice_index_or old.lists i []) ⊎ (slice_index_or new.lists i [] ≡ [])
+  pub done : (l : ℕ) → 2 ≤ l → l < count → slice_index_or new.lists (l + 1) [] ≡ []
+
+-- the kind of a slot once nothing is held
+abbrev pub IsParkedFrom : Kind → Kind → Type 0
+IsParkedFrom old new = ((old ≡ Free) × (new ≡ Free)) ⊎ ((old ≢ Free) × (new ≡ Parked))
 
 -- the tables of the slots have more rows, which are of no use yet
 pub record IsWider (old new : Watches) : Type 0 where
@@ -135,6 +160,7 @@ pub record IsLonger (old new : Trail) (m : ℕ) : Type 0 where
   pub codes : (ys : List ℕ) × (new.codes.items ≡ old.codes.items ++ ys)
   pub reasons : (ys : List ℕ) × (new.reasons.items ≡ old.reasons.items ++ ys)
   pub rows : (ys : List Row) × (new.rows.items ≡ old.rows.items ++ ys)
+  pub spots : (ys : List ℕ) × (new.spots.items ≡ old.spots.items ++ ys)
   pub len : new.len ≡ old.len
   pub head : new.head ≡ old.head
   pub level : new.level ≡ old.level
@@ -143,6 +169,7 @@ pub record IsLonger (old new : Trail) (m : ℕ) : Type 0 where
 pub record IsVisiting (w : Watches) (t : Trail) (p stop : ℕ) : Type 0 where
   pub trail : IsTrail t.stamps.items t.codes.items t.len t.head t.level
   pub shown : IsShown t.rows.items t.stamps.items t.codes.items t.len
+  pub spots : IsSpotted t.spots.items t.stamps.items t.codes.items t.len
   pub watched : IsWatched w.lists.lists w.lists.literals w.kinds.items (all_codes w.clauses.items) t.stamps.items t.codes.items t.head p stop
   pub within : p < length t.stamps.items
   pub next : slice_index t.codes.items t.head ≡ neg p
@@ -152,7 +179,7 @@ pub record IsVisiting (w : Watches) (t : Trail) (p stop : ℕ) : Type 0 where
   pub fixed : IsFixed w.kinds.items (all_codes w.clauses.items) t.stamps.items w.refuted
   pub calm : 0 < t.level → w.refuted ≡ false
   pub slot : stop ≢ 0 → stop < length w.kinds.items
-  pub live : stop ≢ 0 → kind_at w.kinds.items stop ≢ Free
+  pub held : stop ≢ 0 → IsHeld (kind_at w.kinds.items stop)
   pub refuted : stop ≢ 0 → IsFalse t.stamps.items (slice_index_or (all_codes w.clauses.items) stop [])
 
 -- what the held clauses force at the present level is on the trail
@@ -171,3 +198,7 @@ pub record IsGrown (old new : Trail) : Type 0 where
 -- the literals above the level are open again, and the others keep their stamps
 abbrev pub IsCutBack : List ℕ → ℕ → List ℕ → Type 0
 IsCutBack old level new = (l : ℕ) → ((slice_index old l ≤ level + 1) × (slice_index new l ≡ slice_index old l)) ⊎ ((level + 1 < slice_index old l) × (slice_index new l ≡ 0))
+
+-- the clause of this slot forced the literal
+abbrev pub HasForced : Trail → ℕ → Literal → Type 0
+HasForced t s l = (i : ℕ) × ((StandsAt (literals_of t) i l) × (slice_index t.reasons.items i ≡ s))

@@ -1,16 +1,23 @@
 -- What is true of the watches. List 0 has the places that are still to be visited, list 1 one place of each free slot, and
 -- list 1 + l the places that watch the literal of code l.
-use Rattle.std.specs.Prelude.{ℕ, ◌≡◌, ◌≢◌, ◌+◌, ◌*◌, ◌/◌, ◌%◌, ◌<◌, ◌≤◌, ◌⊎◌, List, [], length, take, slice_index, slice_index_or}
+use Rattle.std.specs.Prelude.{ℕ, ◌≡◌, ◌≢◌, ◌+◌, ◌*◌, ◌/◌, ◌%◌, ◌<◌, ◌≤◌, ◌⊎◌, Bool, true, false, List, [], length, take, slice_index, slice_index_or}
 use Rattle.cdcl_core.specs.declared.watches.Kind.{Kind}
-use Rattle.cdcl_core.specs.declared.watches.Kind.TheVariants.{Free, Watched}
+use Rattle.cdcl_core.specs.declared.watches.Kind.TheVariants.{Free, Fixed, Watched, Parked}
 use Rattle.cdcl_core.specs.Chains.{times}
 use Rattle.cdcl_core.specs.Stamps.{neg, Has}
 
 abbrev pub kind_at : List Kind → ℕ → Kind
 kind_at ks s = slice_index_or ks s Free
 
-abbrev pub IsFree : Kind → Type 0
-IsFree k = k ≡ Free
+-- whether a slot of this kind has a clause that is held
+abbrev pub is_held : Kind → Bool
+is_held Free = false
+is_held Fixed = true
+is_held Watched = true
+is_held Parked = false
+
+abbrev pub IsHeld : Kind → Type 0
+IsHeld k = is_held k ≡ true
 
 -- the literal b was true when a became false, or at the same level
 abbrev pub Kept : List ℕ → ℕ → ℕ → Type 0

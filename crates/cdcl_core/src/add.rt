@@ -1,29 +1,23 @@
 //! Clauses that come, at any moment of a search.
 
-ghost use Rattle.std.specs.Prelude.{ℕ, ◌≡◌, ◌≢◌, ◌+◌, ◌-◌, ◌*◌, ◌%◌, ◌^◌, ◌<◌, ◌≤◌, ◌++◌, List, [], ◌∷◌, length, vec_len, slice_set, slice_index, slice_index_or, sum_by, Some, None, IfOk, OnOk, OnErr, Contains};
+ghost use Rattle.std.specs.Prelude.{ℕ, ◌≡◌, ◌≢◌, ◌+◌, ◌-◌, ◌*◌, ◌%◌, ◌^◌, ◌<◌, ◌≤◌, [], ◌∷◌, length, slice_set, slice_index, slice_index_or, sum_by, Some, None, OnOk, OnErr, Contains};
 ghost use Rattle.cnf_base.specs.Literals.{Literal};
 ghost use Rattle.cnf_base.specs.declared.clause.ClauseId.{ClauseId};
 ghost use Rattle.cdcl_core.specs.declared.watches.Kind.TheVariants.{Fixed, Watched};
 ghost use Rattle.cdcl_core.specs.Chains.{first_of, rest_of, times};
 ghost use Rattle.cdcl_core.specs.Levels.{RestsBy, IsAdded};
 ghost use Rattle.std.specs.BTreeMap.{Updates};
-ghost use Rattle.cdcl_core.specs.Search.{literals_of, level_of, rows_of, clause_of, id_cmp, IsKnown};
+ghost use Rattle.cdcl_core.specs.Search.{literals_of, level_of, rows_of, clause_of, held_of, id_cmp, IsKnown};
 ghost use Rattle.cdcl_core.specs.Stamps.{neg as neg_of, codes, Has, rank};
 ghost use Rattle.cnf_base.specs.Clauses.{no_id};
-ghost use Rattle.cdcl_core.specs.State.{IsConsistent, IsSettled, IsPlaced, IsPropagated, IsWaiting, MayCome, Holds, HoldsSome, IsLonger, IsWider};
+ghost use Rattle.cdcl_core.specs.State.{IsConsistent, IsSettled, IsPlaced, IsPropagated, IsWaiting, MayCome, Holds, HoldsSome};
 
-use crate::trail::{Trail, enqueue, neg};
+use crate::grow::free_slot;
+use crate::propagate::is_satisfied;
+use crate::trail::{Trail, enqueue, neg, stamp_of};
 use crate::watches::{Kind, Watches};
 use cnf_base::{Clause, ClauseId, Lit};
 use std::alloc::AllocError;
-
-// The stamp of a code, 0 where it has no row.
-#[inline(always)]
-pub(crate) fn stamp_of(stamps: &[u64], code: usize) -> u64
-    ensures { result ≡ slice_index stamps.now code }
-{
-    if code < stamps.len() { stamps[code] } else { 0 }
-}
 
 // How late the literal became false: the greatest number where it is not false.
 #[inline(always)]
@@ -98,19 +92,19 @@ fn hang(w: &mut Watches, slot: usize, clause: Clause, a: usize, b: usize)
     w.kinds[slot] = Kind::Watched;
 }
 
-// Puts a clause into a slot, which does not watch it.
-fn seat(w: &mut Watches, slot: usize, clause: Clause)
+// Puts a clause into a slot of this kind, which does not watch it.
+pub(crate) fn seat(w: &mut Watches, slot: usize, clause: Clause, kind: Kind)
     requires waiting { IsWaiting w.old slot }
     requires lists { 1 < length w.old.lists.lists }
     requires rows { slot < length w.old.clauses.items }
-    ensures holds { Holds w.old w.new slot Fixed clause }
+    ensures holds { Holds w.old w.new slot kind clause }
     ensures calm { w.new.refuted ≡ w.old.refuted }
     ensures literals { w.new.lists.literals ≡ w.old.lists.literals }
     ensures lists { w.new.lists.lists ≡ slice_set w.old.lists.lists 1 (rest_of (slice_index_or w.old.lists.lists 1 [])) }
 {
     w.lists.pop_first(1);
     w.clauses[slot] = clause;
-    w.kinds[slot] = Kind::Fixed;
+    w.kinds[slot] = kind;
 }
 
 // Holds a clause of two or more different literals, of which `a` became false last, and `b` last but for it.
@@ -170,7 +164,7 @@ fn fix(w: &mut Watches, t: &mut Trail, slot: usize, clause: Clause, a: usize, id
     ensures literals { IsAdded (literals_of t.old) (level_of t.old) id clause (literals_of t.new) }
     ensures propagated { RestsBy (literals_of t.old) (level_of t.old) clause → IsPropagated w.old t.old → IsPropagated w.new t.new }
 {
-    seat(w, slot, clause);
+    seat(w, slot, clause, Kind::Fixed);
     if a == 0 {
         w.refuted = true;
         return;
@@ -184,95 +178,8 @@ fn fix(w: &mut Watches, t: &mut Trail, slot: usize, clause: Clause, a: usize, id
     }
 }
 
-// Has at least `count` elements.
-fn lengthen<T: Copy>(table: &mut Vec<T>, count: usize, filler: T) -> Result<(), AllocError>
-    ensures longer { (more : List T) × (table.new.items ≡ table.old.items ++ more) }
-    ensures enough { OnOk result (count ≤ vec_len table.new) }
-    ensures exact { vec_len table.old ≤ count → vec_len table.new ≤ count }
-    ensures same { count ≤ vec_len table.old → vec_len table.new ≡ vec_len table.old }
-{
-    if table.len() < count {
-        table.resize(count, filler)?;
-    }
-    Ok(())
-}
-
-// Gives the trail tables for as many literals.
-fn lengthen_trail(t: &mut Trail, count: usize) -> Result<(), AllocError>
-    requires { length t.old.stamps.items < count }
-    ensures ok { OnOk result (IsLonger t.old t.new (count - length t.old.stamps.items)) }
-    ensures err { OnErr result (IsLonger t.old t.new 0) }
-    ensures codes { OnOk result (count ≤ length t.new.codes.items) }
-    ensures reasons { length t.old.codes.items ≤ length t.old.reasons.items → length t.new.codes.items ≤ length t.new.reasons.items }
-    ensures rows { OnOk result (count ≤ length t.new.rows.items) }
-{
-    lengthen(&mut t.rows, count, (Lit::TRUE, 0, None))?;
-    lengthen(&mut t.reasons, count, 0)?;
-    lengthen(&mut t.codes, count, 0)?;
-    t.stamps.resize(count, 0)?;
-    Ok(())
-}
-
-impl Watches {
-    /// Has rows for the literals of the variables below the bound.
-    pub fn reserve(&mut self, trail: &mut Trail, variables: u64) -> Result<(), AllocError>
-        requires { IsSettled self.old trail.old }
-        ensures settled { IsSettled self.new trail.new }
-        ensures rows { OnOk result (2 * variables ≤ rows_of trail.new) }
-        ensures more { rows_of trail.old ≤ rows_of trail.new }
-        ensures held { (id : ClauseId) → clause_of self.new id ≡ clause_of self.old id }
-        ensures literals { literals_of trail.new ≡ literals_of trail.old }
-        ensures level { level_of trail.new ≡ level_of trail.old }
-        ensures propagated { IsPropagated self.old trail.old → IsPropagated self.new trail.new }
-    {
-        if variables > 0x1000_0000_0000_0000 {
-            return Err(AllocError);
-        }
-        let count = 2 * variables as usize;
-        if trail.stamps.len() < count {
-            self.lists.grow_lists(count + 2)?;
-            lengthen_trail(trail, count)?;
-        }
-        Ok(())
-    }
-}
-
-// Gives the tables by slot one more row.
-fn widen(w: &mut Watches) -> Result<(), AllocError>
-    requires rows { length w.old.kinds.items ≤ length w.old.ids.items }
-    requires clauses { length w.old.kinds.items ≤ length w.old.clauses.items }
-    ensures wider { IsWider w.old w.new }
-    ensures clauses { OnOk result (length w.new.kinds.items < length w.new.clauses.items) }
-    ensures ids { OnOk result (length w.new.kinds.items < length w.new.ids.items) }
-    ensures places { OnOk result (2 * length w.new.kinds.items + 2 ≤ length w.new.lists.literals) }
-{
-    let slot = w.kinds.len();
-    w.clauses.push(Clause::empty(w.alloc))?;
-    w.ids.push(ClauseId { pos: 0, part: 0 })?;
-    w.lists.grow_places(2 * slot + 2)?;
-    Ok(())
-}
-
-// Puts a new slot into the list of free ones.
-fn grow_slot(w: &mut Watches, t: &Trail) -> Result<(), AllocError>
-    requires settled { IsSettled w.old t.now }
-    requires lists { 1 < length w.old.lists.lists }
-    ensures settled { IsSettled w.new t.now }
-    ensures held { (id : ClauseId) → clause_of w.new id ≡ clause_of w.old id }
-    ensures pending { OnOk result (0 < first_of (slice_index_or w.new.lists.lists 1 [])) }
-    ensures lists { 1 < length w.new.lists.lists }
-    ensures calm { w.new.refuted ≡ w.old.refuted }
-{
-    widen(w)?;
-    let slot = w.kinds.len();
-    w.kinds.push(Kind::Free)?;
-    w.lists.set_literal(2 * slot, 0);
-    w.lists.push_first(1, 2 * slot);
-    Ok(())
-}
-
 // A bound of the variables of the clause.
-fn bound_of(clause: &[Lit]) -> u64
+pub(crate) fn bound_of(clause: &[Lit]) -> u64
     ensures some { 1 ≤ result }
     ensures named { (m : ℕ) → Has (codes clause.now) m → 2 ≤ m }
     ensures below { (m : ℕ) → Has (codes clause.now) m → m < 2 * result }
@@ -287,8 +194,8 @@ fn bound_of(clause: &[Lit]) -> u64
     bound
 }
 
-// Puts a clause into the slot that waits for it.
-fn hold(w: &mut Watches, t: &mut Trail, slot: usize, clause: Clause, id: ClauseId)
+// Puts a clause into the slot that waits for it, and watches it where it has two literals.
+pub(crate) fn hold(w: &mut Watches, t: &mut Trail, slot: usize, clause: Clause, id: ClauseId)
     requires placed { IsPlaced w.old t.old }
     requires waiting { IsWaiting w.old slot }
     requires may_come { MayCome t.old (codes clause) }
@@ -311,28 +218,35 @@ fn hold(w: &mut Watches, t: &mut Trail, slot: usize, clause: Clause, id: ClauseI
     }
 }
 
-// A slot that waits for a clause.
-fn free_slot(w: &mut Watches, t: &Trail) -> Result<usize, AllocError>
-    requires settled { IsSettled w.old t.now }
+// Puts a clause into the slot that waits for it: one that is true at level 0 stays true, and is not watched.
+fn admit(w: &mut Watches, t: &mut Trail, slot: usize, clause: Clause, id: ClauseId)
+    requires placed { IsPlaced w.old t.old }
+    requires waiting { IsWaiting w.old slot }
+    requires may_come { MayCome t.old (codes clause) }
+    requires name { slice_index_or w.old.ids.items slot no_id ≡ id }
     requires lists { 1 < length w.old.lists.lists }
-    ensures settled { IsSettled w.new t.now }
-    ensures held { (id : ClauseId) → clause_of w.new id ≡ clause_of w.old id }
-    ensures waiting { IfOk result (λ slot. IsWaiting w.new slot) }
-    ensures once { OnOk result ((q : ℕ) → sum_by (times q) w.new.lists.lists ≤ 1) }
-    ensures lists { 1 < length w.new.lists.lists }
-    ensures calm { w.new.refuted ≡ w.old.refuted }
+    requires once { (q : ℕ) → sum_by (times q) w.old.lists.lists ≤ 1 }
+    ensures placed { IsPlaced w.new t.new }
+    ensures holds { HoldsSome w.old w.new slot clause }
+    ensures level { t.new.level ≡ t.old.level }
+    ensures rows { length t.new.stamps.items ≡ length t.old.stamps.items }
+    ensures literals { IsAdded (literals_of t.old) (level_of t.old) id clause (literals_of t.new) }
+    ensures propagated { RestsBy (literals_of t.old) (level_of t.old) clause → IsPropagated w.old t.old → IsPropagated w.new t.new }
 {
-    let place = w.lists.first(1);
-    if place != 0 {
-        return Ok(place / 2);
+    if is_satisfied(clause.literals(), t.stamps.as_slice()) {
+        seat(w, slot, clause, Kind::Fixed);
+    } else {
+        hold(w, t, slot, clause, id);
     }
-    grow_slot(w, t)?;
-    let place = w.lists.first(1);
-    Ok(place / 2)
 }
 
 // Gives the slot its name.
-fn name_slot(w: &mut Watches, t: &Trail, slot: usize, id: ClauseId) -> Result<(), AllocError>
+pub(crate) fn name_slot(
+    w: &mut Watches,
+    t: &Trail,
+    slot: usize,
+    id: ClauseId,
+) -> Result<(), AllocError>
     requires settled { IsSettled w.old t.now }
     requires waiting { IsWaiting w.old slot }
     requires fresh { clause_of w.old id ≡ None }
@@ -361,9 +275,11 @@ impl Watches {
         requires fresh { clause_of self.old id ≡ None }
         requires rests { (j : ℕ) → j < level_of trail.old → RestsBy (literals_of trail.old) j clause }
         ensures settled { IsSettled self.new trail.new }
-        ensures held { OnOk result (clause_of self.new id ≡ Some clause) }
+        ensures kept { OnOk result (clause_of self.new id ≡ Some clause) }
+        ensures held { OnOk result (held_of self.new id ≡ Some clause) }
         ensures others { (q : ClauseId) → q ≢ id → clause_of self.new q ≡ clause_of self.old q }
-        ensures not_held { OnErr result (clause_of self.new id ≡ None) }
+        ensures others_held { (q : ClauseId) → q ≢ id → held_of self.new q ≡ held_of self.old q }
+        ensures not_kept { OnErr result (clause_of self.new id ≡ None) }
         ensures literals { OnOk result (IsAdded (literals_of trail.old) (level_of trail.old) id clause (literals_of trail.new)) }
         ensures same_literals { OnErr result (literals_of trail.new ≡ literals_of trail.old) }
         ensures level { level_of trail.new ≡ level_of trail.old }
@@ -376,7 +292,7 @@ impl Watches {
         self.reserve(trail, bound)?;
         let slot = free_slot(self, trail)?;
         name_slot(self, trail, slot, id)?;
-        hold(self, trail, slot, clause, id);
+        admit(self, trail, slot, clause, id);
         Ok(())
     }
 }

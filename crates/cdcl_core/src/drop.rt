@@ -1,18 +1,20 @@
 //! Clauses that go.
 
-ghost use Rattle.std.specs.Prelude.{ℕ, ◌≡◌, ◌≢◌, ◌+◌, ◌*◌, ◌<◌, ◌≤◌, [], ◌∷◌, length, slice_get, slice_set, slice_index_or, sum_by, Some, None, IsSome};
+ghost use Rattle.std.specs.Prelude.{ℕ, ◌≡◌, ◌≢◌, ◌+◌, ◌*◌, ◌<◌, ◌≤◌, [], ◌∷◌, length, slice_get, slice_set, slice_index_or, sum_by, Some, None, IsSome, MatchBool};
 ghost use Rattle.cnf_base.specs.Literals.{Literal};
 ghost use Rattle.cnf_base.specs.declared.clause.ClauseId.{ClauseId};
 ghost use Rattle.cdcl_core.specs.Chains.{times};
-ghost use Rattle.cdcl_core.specs.Search.{literals_of, clause_of};
+ghost use Rattle.cdcl_core.specs.Levels.{IsReason};
+ghost use Rattle.cdcl_core.specs.Search.{literals_of, clause_of, held_of};
 ghost use Rattle.cdcl_core.specs.declared.watches.Kind.TheVariants.{Free, Watched};
 ghost use Rattle.cdcl_core.specs.Watched.{kind_at};
-ghost use Rattle.cdcl_core.specs.State.{IsSettled, IsPropagated, IsPlaced, IsCleared};
+ghost use Rattle.cdcl_core.specs.State.{IsConsistent, KeepsPlaces, IsSettled, IsPropagated, IsPlaced, IsCleared, HasForced};
 
 use crate::lists::WatchLists;
 use crate::trail::Trail;
 use crate::watches::{Kind, Watches};
-use cnf_base::{Clause, ClauseId};
+use cnf_base::{Clause, ClauseId, Lit};
+use std::mem;
 
 // Takes a place out of a list; list 0 is empty before and after.
 fn take_out(lists: &mut WatchLists, list: usize, place: usize)
@@ -53,7 +55,7 @@ fn unwatch(w: &mut Watches, t: &Trail, slot: usize)
 }
 
 // Takes the places of a slot that is not free out of all lists.
-fn clear(w: &mut Watches, t: &Trail, slot: usize)
+pub(crate) fn clear(w: &mut Watches, t: &Trail, slot: usize)
     requires placed { IsPlaced w.old t.now }
     requires low { 1 ≤ slot }
     requires high { slot < length w.old.kinds.items }
@@ -67,14 +69,16 @@ fn clear(w: &mut Watches, t: &Trail, slot: usize)
     }
 }
 
-// Puts a slot that is in no list into the list of free ones.
-fn give_up(w: &mut Watches, slot: usize)
+// Takes the clause of a slot that is in no list out of it, and puts the slot in front of the free ones.
+pub(crate) fn give_up(w: &mut Watches, slot: usize) -> Clause
     requires lists { 1 < length w.old.lists.lists }
     requires low { 1 ≤ slot }
     requires places { 2 * slot < length w.old.lists.literals }
     requires kinds { slot < length w.old.kinds.items }
     requires clauses { slot < length w.old.clauses.items }
     requires idle { sum_by (times (2 * slot)) w.old.lists.lists ≡ 0 }
+    ensures clause { result ≡ slice_index_or w.old.clauses.items slot [] }
+    ensures once { (q : ℕ) → sum_by (times q) w.new.lists.lists ≤ 1 }
     ensures kinds { w.new.kinds.items ≡ slice_set w.old.kinds.items slot Free }
     ensures clauses { w.new.clauses.items ≡ slice_set w.old.clauses.items slot [] }
     ensures ids { w.new.ids ≡ w.old.ids }
@@ -86,24 +90,56 @@ fn give_up(w: &mut Watches, slot: usize)
     w.lists.set_literal(2 * slot, 0);
     w.lists.push_first(1, 2 * slot);
     w.kinds[slot] = Kind::Free;
-    w.clauses[slot] = Clause::empty(w.alloc);
+    let empty = Clause::empty(w.alloc);
+    mem::replace(&mut w.clauses[slot], empty)
+}
+
+// Whether the clause of this slot forced the literal.
+fn has_forced(trail: &Trail, l: Lit, slot: usize) -> bool
+    requires trail { IsConsistent trail.now }
+    requires places { KeepsPlaces trail.now }
+    requires reasons { trail.now.len ≤ length trail.now.reasons.items }
+    ensures { MatchBool result (HasForced trail.now slot l) (HasForced trail.now slot l → ⊥) }
+{
+    match trail.place(l) {
+        Some(place) => trail.reasons[place] == slot,
+        None => false,
+    }
 }
 
 impl Watches {
-    /// Holds the clause no longer.
+    /// Whether the clause of this name forced a literal of the trail.
+    pub fn is_reason(&self, trail: &Trail, id: ClauseId) -> bool
+        requires { IsSettled self.now trail.now }
+        ensures { MatchBool result (IsReason (literals_of trail.now) id) (IsReason (literals_of trail.now) id → ⊥) }
+    {
+        let Some(slot) = self.slot(id) else {
+            return false;
+        };
+        let clause = self.clauses[slot].literals();
+        for l in clause {
+            if has_forced(trail, *l, slot) {
+                return true;
+            }
+        }
+        false
+    }
+
+    /// Keeps the clause no longer.
     pub fn drop_clause(&mut self, trail: &Trail, id: ClauseId)
         requires settled { IsSettled self.old trail.now }
-        requires held { IsSome (clause_of self.old id) }
+        requires kept { IsSome (clause_of self.old id) }
         requires free { (i : ℕ) (l : Literal) (level : ℕ) → slice_get (literals_of trail.now) i ≢ Some (record { 0 = l; 1 = level; 2 = Some id }) }
         ensures settled { IsSettled self.new trail.now }
         ensures gone { clause_of self.new id ≡ None }
         ensures others { (q : ClauseId) → q ≢ id → clause_of self.new q ≡ clause_of self.old q }
+        ensures others_held { (q : ClauseId) → q ≢ id → held_of self.new q ≡ held_of self.old q }
         ensures propagated { IsPropagated self.old trail.now → IsPropagated self.new trail.now }
     {
         let Some(slot) = self.slots.remove(&id) else {
             return;
         };
         clear(self, trail, slot);
-        give_up(self, slot);
+        drop(give_up(self, slot));
     }
 }

@@ -6,8 +6,8 @@ ghost use Rattle.cdcl_core.specs.Search.{literals_of, level_of};
 ghost use Rattle.cdcl_core.specs.Stamps.{IsTrueAt};
 ghost use Rattle.cdcl_core.specs.State.{IsSettled};
 
-use crate::add::{latest, rank_of, stamp_of};
-use crate::trail::Trail;
+use crate::add::{latest, rank_of};
+use crate::trail::{Trail, stamp_of};
 use crate::watches::Watches;
 use cnf_base::Clause;
 

@@ -187,10 +187,19 @@ impl WatchLists {
         requires place { place < length self.old.literals }
         requires named { 0 < place }
         requires idle { sum_by (times place) self.old.lists ≡ 0 }
-        ensures { self.new ≡ record { lists = slice_set self.old.lists list (place ∷ slice_index_or self.old.lists list []); literals = self.old.literals } }
+        ensures pushed { self.new ≡ record { lists = slice_set self.old.lists list (place ∷ slice_index_or self.old.lists list []); literals = self.old.literals } }
+        ensures once { (q : ℕ) → sum_by (times q) self.new.lists ≤ 1 }
     {
         self.places[place].next = self.heads[list];
         self.heads[list] = place as u32;
+    }
+
+    /// Empties a list: its places stand in none.
+    pub(crate) fn empty(&mut self, list: usize)
+        requires { list < length self.old.lists }
+        ensures { self.new ≡ record { lists = slice_set self.old.lists list []; literals = self.old.literals } }
+    {
+        self.heads[list] = 0;
     }
 
     /// Has at least `count` lists: the new ones are empty.

@@ -3,10 +3,10 @@
 ghost use Rattle.std.specs.Prelude.{ℕ, ◌≡◌, ◌≢◌, ◌+◌, ◌%◌, ◌<◌, ◌≤◌, length, slice_index, slice_index_or, [], false, IsTrue, IfNone, IfSome, MatchOption};
 ghost use Rattle.cnf_base.specs.declared.clause.ClauseId.{ClauseId};
 ghost use Rattle.cdcl_core.specs.Levels.{IsExtended};
-ghost use Rattle.cdcl_core.specs.Search.{literals_of, level_of, rows_of, clause_of, IsAtRest, IsConflict};
+ghost use Rattle.cdcl_core.specs.Search.{literals_of, level_of, rows_of, clause_of, held_of, IsAtRest, IsConflict};
 ghost use Rattle.cdcl_core.specs.Chains.{first_of, rest_of};
 ghost use Rattle.cdcl_core.specs.Stamps.{neg as neg_of, codes, Has, IsFalse, IsFalseBut, IsFreeIn};
-ghost use Rattle.cdcl_core.specs.Watched.{kind_at, IsFree};
+ghost use Rattle.cdcl_core.specs.Watched.{kind_at, IsHeld};
 ghost use Rattle.cdcl_core.specs.State.{IsSettled, IsVisiting, IsPropagated, IsFixed, IsGrown, all_codes};
 
 use crate::trail::{Trail, enqueue, neg};
@@ -166,7 +166,7 @@ fn empty_queue(w: &mut Watches, t: &mut Trail) -> usize
     ensures settled { IsSettled w.new t.new }
     ensures done { result ≡ 0 → t.new.head ≡ t.new.len }
     ensures slot { result ≢ 0 → result < length w.new.kinds.items }
-    ensures live { result ≢ 0 → IsFree (kind_at w.new.kinds.items result) → ⊥ }
+    ensures held { result ≢ 0 → IsHeld (kind_at w.new.kinds.items result) }
     ensures refuted { result ≢ 0 → IsFalse t.new.stamps.items (slice_index_or (all_codes w.new.clauses.items) result []) }
     ensures same { w.new ≡ record w.old { lists = w.new.lists } }
     ensures level { t.new.level ≡ t.old.level }
@@ -185,7 +185,7 @@ fn empty_queue(w: &mut Watches, t: &mut Trail) -> usize
 }
 
 // Whether a literal of the clause is true at level 0.
-fn is_satisfied(clause: &[Lit], stamps: &[u64]) -> bool
+pub(crate) fn is_satisfied(clause: &[Lit], stamps: &[u64]) -> bool
     requires within { (l : ℕ) → Has (codes clause.now) l → l < length stamps.now }
     ensures satisfied { IsTrue result → (l : ℕ) × (Has (codes clause.now) l × slice_index stamps.now l ≡ 1) }
     ensures not_satisfied { result ≡ false → (l : ℕ) → Has (codes clause.now) l → slice_index stamps.now l ≢ 1 }
@@ -199,12 +199,12 @@ fn is_satisfied(clause: &[Lit], stamps: &[u64]) -> bool
     false
 }
 
-// The slot of a false clause among those that are not watched, or 0.
+// The slot of a false clause among those that are held and not watched, or 0.
 #[cold]
 fn refuted_slot(w: &Watches, t: &Trail) -> usize
     requires { IsSettled w.now t.now }
     ensures slot { result ≢ 0 → result < length w.now.kinds.items }
-    ensures live { result ≢ 0 → IsFree (kind_at w.now.kinds.items result) → ⊥ }
+    ensures held { result ≢ 0 → IsHeld (kind_at w.now.kinds.items result) }
     ensures refuted { result ≢ 0 → IsFalse t.now.stamps.items (slice_index_or (all_codes w.now.clauses.items) result []) }
     ensures none { result ≡ 0 → IsFixed w.now.kinds.items (all_codes w.now.clauses.items) t.now.stamps.items false }
 {
@@ -227,7 +227,8 @@ impl Watches {
         ensures propagated { IfNone result (IsPropagated self.new trail.new) }
         ensures rest { IfNone result (IsAtRest self.new trail.new) }
         ensures conflict { IfSome result (λ id. IsConflict self.new trail.new id) }
-        ensures held { (id : ClauseId) → clause_of self.new id ≡ clause_of self.old id }
+        ensures kept { (id : ClauseId) → clause_of self.new id ≡ clause_of self.old id }
+        ensures held { (id : ClauseId) → held_of self.new id ≡ held_of self.old id }
         ensures level { level_of trail.new ≡ level_of trail.old }
         ensures literals { IsExtended (literals_of trail.old) (level_of trail.old) (literals_of trail.new) }
         ensures rows { rows_of trail.new ≡ rows_of trail.old }

@@ -54,6 +54,28 @@ fn assume(watches: &mut Watches, trail: &mut Trail, l: Lit) -> Option<ClauseId>
     watches.propagate(trail)
 }
 
+// Parks the clause at level 0, or wakes it.
+fn turn(watches: &mut Watches, trail: &mut Trail, id: ClauseId, wakes: bool)
+    requires { IsSettled watches.old trail.old }
+    ensures { IsSettled watches.new trail.new }
+{
+    watches.backjump(trail, 0);
+    if wakes {
+        watches.wake(trail, id);
+    } else {
+        watches.park(trail, id);
+    }
+}
+
+// Parks every clause, at level 0.
+fn turn_off(watches: &mut Watches, trail: &mut Trail)
+    requires { IsSettled watches.old trail.old }
+    ensures { IsSettled watches.new trail.new }
+{
+    watches.backjump(trail, 0);
+    watches.park_all(trail);
+}
+
 // Drops the clause where no literal is true; whether it did.
 fn give_back(watches: &mut Watches, trail: &Trail, id: ClauseId) -> bool
     requires { IsSettled watches.old trail.now }
@@ -79,6 +101,10 @@ fn a_decision_forces_a_chain_of_literals(rt: HostRuntime) -> Result<(), Fail> {
     assert!(rt; watches.clause_at(&trail, 1, name(9)).is_none());
     assert_eq!(rt; trail.value(yes(3)), Some(true));
     assert_eq!(rt; trail.value(no(4)), Some(false));
+    assert_eq!(rt; trail.place(yes(1)), Some(0));
+    assert_eq!(rt; trail.place(no(1)), None);
+    assert!(rt; trail.is_true(yes(4)) && watches.is_reason(&trail, name(3)));
+    assert!(rt; !watches.is_reason(&trail, name(9)));
     watches.backjump(&mut trail, 0);
     assert_eq!(rt; trail.literals().len(), 0);
     assert_eq!(rt; trail.value(yes(3)), None);
@@ -133,6 +159,40 @@ fn a_dropped_clause_is_gone(rt: HostRuntime) -> Result<(), Fail> {
     assert!(rt; watches.clause(name(1)).is_none());
     assert_eq!(rt; assume(&mut watches, &mut trail, yes(1)), None);
     assert_eq!(rt; trail.literals().len(), 2);
+    Ok(())
+}
+
+#[test]
+fn a_parked_clause_forces_nothing_until_it_is_woken(rt: HostRuntime) -> Result<(), Fail> {
+    let mut trail = Trail::new(rt.alloc());
+    let mut watches = Watches::new(rt.alloc())?;
+    hold(&mut watches, &mut trail, 1, &[no(1), yes(2)])?;
+    hold(&mut watches, &mut trail, 2, &[no(1), yes(3)])?;
+    turn(&mut watches, &mut trail, name(1), false);
+    assert!(rt; watches.clause(name(1)).is_some() && !watches.holds(name(1)));
+    assert_eq!(rt; assume(&mut watches, &mut trail, yes(1)), None);
+    assert_eq!(rt; trail.literals().len(), 2);
+    turn(&mut watches, &mut trail, name(1), true);
+    assert!(rt; watches.holds(name(1)));
+    assert_eq!(rt; assume(&mut watches, &mut trail, yes(1)), None);
+    assert_eq!(rt; trail.literals().len(), 3);
+    Ok(())
+}
+
+#[test]
+fn a_parked_unit_clause_stays_the_reason_at_level_0(rt: HostRuntime) -> Result<(), Fail> {
+    let mut trail = Trail::new(rt.alloc());
+    let mut watches = Watches::new(rt.alloc())?;
+    hold(&mut watches, &mut trail, 1, &[yes(5)])?;
+    hold(&mut watches, &mut trail, 2, &[no(5), yes(6)])?;
+    assert_eq!(rt; watches.propagate(&mut trail), None);
+    turn_off(&mut watches, &mut trail);
+    assert!(rt; !watches.holds(name(1)) && !watches.holds(name(2)));
+    assert_eq!(rt; trail.value(yes(6)), Some(true));
+    assert!(rt; watches.clause_at(&trail, 1, name(2)).is_some());
+    turn(&mut watches, &mut trail, name(2), true);
+    assert!(rt; watches.holds(name(2)));
+    assert_eq!(rt; watches.propagate(&mut trail), None);
     Ok(())
 }
 

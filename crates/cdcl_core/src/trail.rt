@@ -1,10 +1,10 @@
 //! The trail: the literals that are true, in the order in which they became so.
 
-ghost use Rattle.std.specs.Prelude.{◌≡◌, ◌+◌, ◌^◌, ◌<◌, ◌≤◌, [], length, slice_set, IsTrue, ◌↔◌, MatchOption, MatchBool};
-ghost use Rattle.cdcl_core.specs.Levels.{IsOpen, IsTrueBy, IsFalseBy};
+ghost use Rattle.std.specs.Prelude.{ℕ, ◌≡◌, ◌+◌, ◌/◌, ◌^◌, ◌<◌, ◌≤◌, [], length, slice_set, slice_index, ltb, IsTrue, ◌↔◌, MatchOption, MatchBool};
+ghost use Rattle.cdcl_core.specs.Levels.{IsOpen, IsTrueBy, IsFalseBy, StandsAt};
 ghost use Rattle.cdcl_core.specs.Search.{literals_of, level_of, IsKnown};
-ghost use Rattle.cdcl_core.specs.State.{IsNew, IsConsistent};
-ghost use Rattle.cnf_base.specs.Literals.{literal_of};
+ghost use Rattle.cdcl_core.specs.State.{IsNew, IsConsistent, KeepsPlaces};
+ghost use Rattle.cnf_base.specs.Literals.{literal_of, code_of};
 ghost use Rattle.cdcl_core.specs.Stamps.{neg as neg_of};
 
 use cnf_base::{ClauseId, Lit};
@@ -20,6 +20,8 @@ pub struct Trail {
     // the slot of the clause that forced each, 0 for a decided one
     pub(crate) reasons: Vec<usize>,
     pub(crate) rows: Vec<(Lit, u64, Option<ClauseId>)>,
+    // by variable: the place of its literal while that is true
+    pub(crate) spots: Vec<usize>,
     pub(crate) len: usize,
     pub(crate) head: usize,
     pub(crate) level: u64,
@@ -36,6 +38,7 @@ impl Trail {
             codes: Vec::new(alloc),
             reasons: Vec::new(alloc),
             rows: Vec::new(alloc),
+            spots: Vec::new(alloc),
             len: 0,
             head: 0,
             level: 0,
@@ -69,6 +72,26 @@ impl Trail {
         (l.code() as usize) < self.stamps.len()
     }
 
+    /// Whether the literal has a stamp, which it has while it is true.
+    pub fn is_true(&self, l: Lit) -> bool
+        ensures { result ≡ ltb 0 (slice_index self.now.stamps.items (code_of l)) }
+    {
+        0 < stamp_of(self.stamps.as_slice(), l.code() as usize)
+    }
+
+    /// The place of a literal that is true, None where it is not.
+    pub fn place(&self, l: Lit) -> Option<usize>
+        requires trail { IsConsistent self.now }
+        requires places { KeepsPlaces self.now }
+        ensures { MatchOption result ((i : ℕ) → StandsAt (literals_of self.now) i l → ⊥) (λ i. StandsAt (literals_of self.now) i l) }
+    {
+        let code = l.code() as usize;
+        if stamp_of(self.stamps.as_slice(), code) == 0 {
+            return None;
+        }
+        Some(self.spots[code / 2])
+    }
+
     /// Whether the literal is true, false (where its negation is true), or neither.
     pub fn value(&self, l: Lit) -> Option<bool>
         requires { IsConsistent self.now }
@@ -95,12 +118,21 @@ pub(crate) fn neg(code: usize) -> usize
     if code % 2 == 0 { code + 1 } else { code - 1 }
 }
 
+// The stamp of a code, 0 where it has no row.
+#[inline(always)]
+pub(crate) fn stamp_of(stamps: &[u64], code: usize) -> u64
+    ensures { result ≡ slice_index stamps.now code }
+{
+    if code < stamps.len() { stamps[code] } else { 0 }
+}
+
 // Makes the literal of this code true at the present level.
 #[inline(always)]
 pub(crate) fn enqueue(t: &mut Trail, code: usize, slot: usize, reason: Option<ClauseId>)
     requires codes { t.old.len < length t.old.codes.items }
     requires reasons { t.old.len < length t.old.reasons.items }
     requires rows { t.old.len < length t.old.rows.items }
+    requires spots { code / 2 < length t.old.spots.items }
     requires within { code < length t.old.stamps.items }
     requires named { 2 ≤ code }
     requires level { t.old.level + 1 < 2 ^ 64 }
@@ -108,6 +140,7 @@ pub(crate) fn enqueue(t: &mut Trail, code: usize, slot: usize, reason: Option<Cl
     ensures codes { t.new.codes.items ≡ slice_set t.old.codes.items t.old.len code }
     ensures reasons { t.new.reasons.items ≡ slice_set t.old.reasons.items t.old.len slot }
     ensures rows { t.new.rows.items ≡ slice_set t.old.rows.items t.old.len (record { 0 = literal_of code; 1 = t.old.level; 2 = reason }) }
+    ensures spots { t.new.spots.items ≡ slice_set t.old.spots.items (code / 2) t.old.len }
     ensures len { t.new.len ≡ t.old.len + 1 }
     ensures head { t.new.head ≡ t.old.head }
     ensures same_level { t.new.level ≡ t.old.level }
@@ -116,5 +149,6 @@ pub(crate) fn enqueue(t: &mut Trail, code: usize, slot: usize, reason: Option<Cl
     t.codes[t.len] = code;
     t.reasons[t.len] = slot;
     t.rows[t.len] = (Lit::from_code(code as u64), t.level, reason);
+    t.spots[code / 2] = t.len;
     t.len += 1;
 }

@@ -1,10 +1,11 @@
-//! The held clauses and their watches.
+//! The clauses and their watches.
 
 ghost use Rattle.std.specs.Prelude.{◌≡◌, None, IfOk};
+ghost use Rattle.std.specs.BTreeMap.{get};
 ghost use Rattle.std.specs.Option.{option_copied};
 ghost use Rattle.cnf_base.specs.declared.clause.ClauseId.{ClauseId};
 ghost use Rattle.cdcl_core.specs.declared.trail.Trail.{Trail};
-ghost use Rattle.cdcl_core.specs.Search.{clause_of};
+ghost use Rattle.cdcl_core.specs.Search.{id_cmp, clause_of, held_of};
 ghost use Rattle.cdcl_core.specs.State.{IsNew, IsSettled};
 
 use crate::lists::WatchLists;
@@ -22,9 +23,12 @@ pub(crate) enum Kind {
     Fixed,
     /// A clause that is watched at two different literals.
     Watched,
+    /// A clause that is kept, and not held.
+    Parked,
 }
 
-/// The held clauses, each of two or more literals watched at two of them.
+/// The clauses that are kept. Those of them that are held take part in the search: each of two or more literals is watched at
+/// two of them.
 #[derive(Drop)]
 pub struct Watches {
     pub(crate) alloc: Global,
@@ -42,7 +46,8 @@ impl Watches {
     /// No clause. With a new trail it is settled.
     pub fn new(alloc: Global) -> Result<Watches, AllocError>
         ensures settled { IfOk result (λ w. (t : Trail) → IsNew t → IsSettled w t) }
-        ensures held { IfOk result (λ w. (id : ClauseId) → clause_of w id ≡ None) }
+        ensures kept { IfOk result (λ w. (id : ClauseId) → clause_of w id ≡ None) }
+        ensures held { IfOk result (λ w. (id : ClauseId) → held_of w id ≡ None) }
     {
         let mut lists = WatchLists::new(alloc)?;
         lists.grow_lists(2)?;
@@ -60,7 +65,14 @@ impl Watches {
         })
     }
 
-    /// The held clause of this name.
+    // The slot of the clause that is kept under this name.
+    pub(crate) fn slot(&self, id: ClauseId) -> Option<usize>
+        ensures { result ≡ get id_cmp self.now.slots id }
+    {
+        self.slots.get(&id).copied()
+    }
+
+    /// The clause that is kept under this name, held or not.
     pub fn clause(&self, id: ClauseId) -> Option<&Clause>
         ensures { option_copied result ≡ clause_of self.now id }
     {
@@ -70,7 +82,8 @@ impl Watches {
         }
     }
 
-    /// The held clause of this name: where it forced the literal at this place of the trail, it is found without a search.
+    /// The clause that is kept under this name: where it forced the literal at this place of the trail, it is found without a
+    /// search.
     pub fn clause_at(&self, trail: &Trail, place: usize, id: ClauseId) -> Option<&Clause>
         requires { IsSettled self.now trail.now }
         ensures { option_copied result ≡ clause_of self.now id }

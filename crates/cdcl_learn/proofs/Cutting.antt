@@ -9,7 +9,7 @@ use Rattle.cnf_base.proofs.Codes.{negated-negated, same_literal_or_not}
 use Rattle.hint_chain.specs.Chains.{Lookup, IsChain}
 use Rattle.cdcl_core.specs.Levels.{Row}
 use Rattle.cdcl_core.specs.State.{no_row}
-use Rattle.cdcl_learn.specs.Rows.{row_at, literal_at, reason_at, IsFalseBefore, IsHistory, IsRefutedIn}
+use Rattle.cdcl_learn.specs.Rows.{row_at, literal_at, reason_at, IsFalseBefore, IsFrontOf, IsHistory, IsRefutedIn}
 use Rattle.cdcl_learn.specs.Puts.{DecidesOnly, IsAgainst}
 use Rattle.cdcl_learn.proofs.Lists.{member_cases}
 use Rattle.cdcl_learn.proofs.Derivations.{nothing}
@@ -33,6 +33,9 @@ module _ (look : Lookup) (rows cut : List Row) (place level : ℕ) (l : Literal)
 
   literal_end : literal_at cut place ≡ l
   literal_end = ap (λ (r : Row). r.0) at_end
+
+  pub cut_front : IsFrontOf rows cut
+  cut_front i h = (omega (arith, h, size, within), literal_before i (omega (arith, h, size)))
 
   -- the literal and its opposite do not stand before the place
   not_opposite : (i : ℕ) → i < place → literal_at rows i ≢ negated l

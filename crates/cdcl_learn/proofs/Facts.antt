@@ -13,7 +13,7 @@ use Rattle.cdcl_core.specs.declared.watches.Kind.{Kind}
 use Rattle.cdcl_core.specs.declared.watches.Kind.TheVariants.{Watched}
 use Rattle.cdcl_core.specs.Chains.{times}
 use Rattle.cdcl_core.specs.Levels.{Row, IsTrueBy, IsFalseBy, RestsBy}
-use Rattle.cdcl_core.specs.Search.{literals_of, level_of, clause_of, IsConflict}
+use Rattle.cdcl_core.specs.Search.{literals_of, level_of, clause_of, held_of, IsConflict}
 use Rattle.cdcl_core.specs.Stamps.{neg, is_set, Has, IsTrueAt, RestsAt, IsTrail}
 use Rattle.cdcl_core.specs.Watched.{kind_at, IsWatched, IsWatching, Kept}
 use Rattle.cdcl_core.specs.State.{no_row, all_codes, IsSettled}
@@ -21,7 +21,8 @@ use Rattle.cdcl_core.proofs.Counting.{neg_neg}
 use Rattle.cdcl_core.proofs.Trails.{entry_true, trail_len, rises}
 use Rattle.cdcl_core.proofs.Resting.{places_of, watching_mate, true_or_not}
 use Rattle.cdcl_core.proofs.Bridge.{literals_length, code_of-negated, rests_rows}
-use Rattle.cdcl_core.proofs.Public.{slot_of, IsSlot, kinds, false_is_not}
+use Rattle.cdcl_core.proofs.Held.{held_kinds, held_kept}
+use Rattle.cdcl_core.proofs.Public.{slot_of, IsSlot, false_is_not}
 use Rattle.cdcl_core.proofs.Forced.{settled_forced}
 use Rattle.cdcl_learn.specs.Rows.{row_at, literal_at, level_at, reason_at, IsFalseBefore, IsHistory, IsRefutedIn, AreRising}
 use Rattle.cdcl_learn.specs.Walks.{IsSet}
@@ -116,7 +117,7 @@ module _ (w : Watches) (t : Trail) (st : IsSettled w t) where
   refuted_of id f = (
     f.0,
     (
-      f.1.0,
+      held_kept w id f.0 f.1.0,
       λ m c.
           let p : (k : ℕ) × ((k < length (literals_of t)) × ((literal_at (literals_of t) k ≡ negated m) × (level_at (literals_of t) k ≤ level_of t))) = place_of_true (literals_of t) (level_of t) (negated m) (f.1.1 m c) in
           (p.0, (p.1.0, p.1.1.0)),
@@ -147,20 +148,17 @@ rests_below L ws ks cs ss es len head level t w s j under lo hi kind =
     ]
 
 -- at the end of a lower level every held clause rests
-pub lower_rest : (w : Watches) (t : Trail) → IsSettled w t → (id : ClauseId) (c : List Literal) (j : ℕ) → clause_of w id ≡ Some c → j < level_of t → RestsBy (literals_of t) j c
+pub lower_rest : (w : Watches) (t : Trail) → IsSettled w t → (id : ClauseId) (c : List Literal) (j : ℕ) → held_of w id ≡ Some c → j < level_of t → RestsBy (literals_of t) j c
 lower_rest w t st id c j e below =
     let q : (s : ℕ) × IsSlot w id c s = slot_of w t id c st e in
     let s : ℕ = q.0 in
     let cs : List (List ℕ) = all_codes w.clauses.items in
-    let r : RestsAt t.stamps.items j (get_or cs s []) = elim (kinds (kind_at w.kinds.items s)) [
-      | inl k ↦ absurd (q.1.live k)
-      | inr k ↦ elim k [
-        | inl f ↦ elim (st.fixed.value s q.1.low q.1.high f) [
-          | inl a ↦ inl (a.0, (a.1.0, (omega (arith, a.1.1), omega (arith, a.1.1))))
-          | inr a ↦ let calm : w.refuted ≡ false = st.calm (omega (arith, below)) in false_is_not (sym calm ∙ a.0)
-        ]
-        | inr v ↦ rests_below w.lists.lists w.lists.literals w.kinds.items cs t.stamps.items t.codes.items t.len t.head t.level st.trail st.watched s j below q.1.low q.1.high v
+    let r : RestsAt t.stamps.items j (get_or cs s []) = elim (held_kinds (kind_at w.kinds.items s) q.1.held) [
+      | inl f ↦ elim (st.fixed.value s q.1.low q.1.high f) [
+        | inl a ↦ inl (a.0, (a.1.0, (omega (arith, a.1.1), omega (arith, a.1.1))))
+        | inr a ↦ let calm : w.refuted ≡ false = st.calm (omega (arith, below)) in false_is_not (sym calm ∙ a.0)
       ]
+      | inr v ↦ rests_below w.lists.lists w.lists.literals w.kinds.items cs t.stamps.items t.codes.items t.len t.head t.level st.trail st.watched s j below q.1.low q.1.high v
     ] in
     rests_rows t j c st.trail st.shown (rw q.1.read r)
 
@@ -187,5 +185,5 @@ conflict_now w t id marks st above f marked low =
     let p : (k : ℕ) × ((k < length (literals_of t)) × ((literal_at (literals_of t) k ≡ negated m) × (level_at (literals_of t) k ≤ level_of t))) = place_of_true rows (level_of t) (negated m) (f.1.1 m h) in
     let back : negated (literal_at rows p.0) ≡ m = ap negated p.1.1.0 ∙ negated-negated m in
     let in_clause : Contains c (negated (literal_at rows p.0)) = rw back h in
-    let under : level_at rows p.0 < level_of t = low p.0 p.1.0 (marked c f.1.0 p.0 p.1.0 in_clause) in
+    let under : level_at rows p.0 < level_of t = low p.0 p.1.0 (marked c (held_kept w id c f.1.0) p.0 p.1.0 in_clause) in
     true_at_place rows (level_of t - 1) p.0 (negated m) p.1.0 p.1.1.0 (omega (arith, under)))

@@ -10,7 +10,7 @@ use Rattle.hint_chain.specs.Chains.{IsChain}
 use Rattle.cdcl_core.specs.declared.trail.Trail.{Trail}
 use Rattle.cdcl_core.specs.declared.watches.Watches.{Watches}
 use Rattle.cdcl_core.specs.Levels.{Row, IsTrueBy, IsFalseBy, RestsBy}
-use Rattle.cdcl_core.specs.Search.{literals_of, level_of, clause_of}
+use Rattle.cdcl_core.specs.Search.{literals_of, level_of, clause_of, held_of}
 use Rattle.cdcl_core.specs.State.{IsSettled}
 use Rattle.cdcl_learn.specs.Rows.{literal_at, level_at, AreRising, IsHistory}
 use Rattle.cdcl_learn.specs.Puts.{IsGoodPut, IsUnitAfter}
@@ -124,7 +124,7 @@ module _ (w : Watches) (t : Trail) (marks : List Bool) (place rest b : ℕ) (c :
       let p : (p : ℕ) × ((p < length (literals_of t)) × (IsSet marks p × (l ≡ negated (literal_at (literals_of t) p)))) = clause.only l h in
       not_true_by j p.0 p.1.0 (rw p.1.1.1 at f)
 
-  not_held : (id : ClauseId) (d : List Literal) → clause_of w id ≡ Some d → ((l : Literal) → Contains d l → Contains c l) → ⊥
+  not_held : (id : ClauseId) (d : List Literal) → held_of w id ≡ Some d → ((l : Literal) → Contains d l → Contains c l) → ⊥
   not_held id d at within = elim (lower_rest w t st id d b at lower_level) [
     | inl a ↦ none_true b a.0 (within a.0 a.1.0) a.1.1
     | inr a ↦
@@ -139,12 +139,12 @@ module _ (w : Watches) (t : Trail) (marks : List Bool) (place rest b : ℕ) (c :
         ]
   ]
 
-  pub good_put : IsGoodPut (clause_of w) (literals_of t) (level_of t) c hints
+  pub good_put : IsGoodPut (clause_of w) (held_of w) (literals_of t) (level_of t) c hints
   good_put =
       let uses = clause_uses (clause_of w) (literals_of t) marks hints c derived clause in
       record {
         no_pair = no_pair (clause_of w) (literals_of t) marks c history clause;
-        held = λ id h. uses_held (clause_of w) (map negated c) hints id uses h;
+        kept = λ id h. uses_held (clause_of w) (map negated c) hints id uses h;
         stands = λ l h. let p : (p : ℕ) × ((p < length (literals_of t)) × (IsSet marks p × (l ≡ negated (literal_at (literals_of t) p)))) = clause.only l h in rw p.1.1.1 (derived.stands p.0 p.1.0 p.1.1.0);
         uses = uses;
         is_new = not_held;
@@ -154,7 +154,7 @@ module _ (w : Watches) (t : Trail) (marks : List Bool) (place rest b : ℕ) (c :
 -- what the caller of `learn` is told
 pub record IsJudged (w : Watches) (t : Trail) (b : ℕ) (c : List Literal) (hints : List ClauseId) : Type 0 where
   pub chain : IsChain (clause_of w) c hints
-  pub good : IsGoodPut (clause_of w) (literals_of t) (level_of t) c hints
+  pub good : IsGoodPut (clause_of w) (held_of w) (literals_of t) (level_of t) c hints
   pub lower : b < level_of t
   pub unit : IsUnitAfter (literals_of t) b c
 

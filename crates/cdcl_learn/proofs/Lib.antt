@@ -1,8 +1,10 @@
 pub mod Lists
 pub mod Facts
+pub mod Fronts
 pub mod Derivations
 pub mod Marking
 pub mod Tops
 pub mod Judging
+pub mod Standing
 pub mod Cutting
 pub mod Orders

@@ -1,4 +1,4 @@
--- Places and marks, one write after the other.
+-- Marks, one write after the other.
 use Rattle.std.proofs.Common.{ℕ, ◌≡◌, ◌≢◌, ◌+◌, ◌-◌, ◌<◌, ◌≤◌, ◌++◌, Bool, true, List, [], ◌∷◌, length, take, refl, sym, ap, ◌∙◌, inl, inr, arith}
 use Rattle.std.specs.Prelude.{Contains}
 use Rattle.std.proofs.Math.ListN.{get_or, set, length-set}
@@ -6,52 +6,25 @@ use Rattle.std.proofs.lemmas.Bool.{cases_lt}
 use Rattle.std.proofs.lemmas.Bool.Decides.{eqb_tells}
 use Rattle.std.proofs.lemmas.List.{take_more}
 use Rattle.std.proofs.lemmas.List.Elements.{Contains-push, Contains-push_cases, Contains-append_left}
-use Rattle.cnf_base.specs.Literals.{Literal, code_of, negated}
-use Rattle.cnf_base.proofs.Codes.{code_of-injective, negated-negated}
+use Rattle.cnf_base.specs.Literals.{Literal, negated}
+use Rattle.cnf_base.proofs.Codes.{negated-negated}
 use Rattle.cdcl_core.specs.Levels.{Row}
-use Rattle.cdcl_core.proofs.Counting.{set_cases}
 use Rattle.cdcl_learn.specs.Rows.{literal_at}
-use Rattle.cdcl_learn.specs.Walks.{IsSet, HasPlaces, IsMarked, IsResolved, IsExplained}
+use Rattle.cdcl_learn.specs.Walks.{IsSet, IsMarked, IsResolved, IsExplained, IsTop}
 use Rattle.cdcl_learn.proofs.Lists.{front_cases, put_cases}
 use Rattle.cnf_base.proofs.Lists.{Contains-nil}
-
-pub no_places : (rows : List Row) → HasPlaces [] rows 0
-no_places rows = record { each = λ i h. absurd (omega arith); only = λ x h. absurd (omega arith) }
-
--- the place of one literal more
-pub more_places : (old new : List ℕ) (rows : List Row) (i code : ℕ) → HasPlaces old rows i → ((x : ℕ) → get_or new x 0 ≡ get_or old x 0) → code < length new → code_of (literal_at rows i) ≡ code →
-    ((k : ℕ) → k < i → literal_at rows k ≢ literal_at rows i) → HasPlaces (set new code (i + 1)) rows (i + 1)
-more_places old new rows i code h same room is apart = record {
-  each = λ k hk. elim (cases_lt k i) [
-    | inl a ↦ elim (set_cases new code (i + 1) (code_of (literal_at rows k)) room) [
-      | inl p ↦ absurd (apart k a (code_of-injective (literal_at rows k) (literal_at rows i) (p.0 ∙ sym is)))
-      | inr p ↦ p.1 ∙ (same (code_of (literal_at rows k)) ∙ h.each k a)
-    ]
-    | inr a ↦ let e : k ≡ i = omega arith in rw (e, is) (elim (set_cases new code (i + 1) code room) [ inl p ↦ p.1 | inr p ↦ absurd (p.0 refl) ])
-  ];
-  only = λ x pos. elim (set_cases new code (i + 1) x room) [
-    | inl p ↦ rw p.1 (omega arith, let e : i + 1 - 1 ≡ i = omega arith in rw e (is ∙ sym p.0))
-    | inr p ↦
-        let q : get_or (set new code (i + 1)) x 0 ≡ get_or old x 0 = p.1 ∙ same x in
-        let o : (get_or old x 0 ≤ i) × (code_of (literal_at rows (get_or old x 0 - 1)) ≡ x) = h.only x (rw q at pos) in
-        rw q (omega (arith, o.0), o.1)
-  ];
-}
 
 pub none_marked : (rows : List Row) (c : List Literal) (ms : List Bool) → IsMarked rows (take 0 c) ms ms
 none_marked rows c ms = record { size = refl; kept = λ p h. h; joined = λ p h m. absurd (Contains-nil (negated (literal_at rows p)) m); from = λ p h. inl h }
 
 -- a literal that is not false has no place
-pub skip_marked : (rows : List Row) (places : List ℕ) (c : List Literal) (old ms : List Bool) (i : ℕ) (l : Literal) → HasPlaces places rows (length rows) → i < length c → l ≡ get_or c i l → get_or places (code_of (negated l)) 0 ≡ 0 → IsMarked rows (take i c) old ms → IsMarked rows (take (i + 1) c) old ms
-skip_marked rows places c old ms i l h hi at none k = record {
+pub skip_marked : (rows : List Row) (c : List Literal) (old ms : List Bool) (i : ℕ) (l : Literal) → i < length c → l ≡ get_or c i l → ((k : ℕ) → k < length rows → literal_at rows k ≢ negated l) → IsMarked rows (take i c) old ms → IsMarked rows (take (i + 1) c) old ms
+skip_marked rows c old ms i l hi at none k = record {
   size = k.size;
   kept = k.kept;
   joined = λ p hp m. elim (front_cases c i l (negated (literal_at rows p)) hi m) [
     | inl a ↦ k.joined p hp a
-    | inr a ↦
-        let same : negated l ≡ literal_at rows p = ap negated (at ∙ a) ∙ negated-negated (literal_at rows p) in
-        let e : get_or places (code_of (negated l)) 0 ≡ p + 1 = ap (λ x. get_or places (code_of x) 0) same ∙ h.each p hp in
-        absurd (omega (arith, e, none))
+    | inr a ↦ absurd (none p hp (sym (ap negated (at ∙ a) ∙ negated-negated (literal_at rows p))))
   ];
   from = λ p s. elim (k.from p s) [
     | inl a ↦ inl a
@@ -59,26 +32,23 @@ skip_marked rows places c old ms i l h hi at none k = record {
   ];
 }
 
-pub more_marked : (rows : List Row) (places : List ℕ) (c : List Literal) (old ms : List Bool) (i : ℕ) (l : Literal) (place : ℕ) → HasPlaces places rows (length rows) → length ms ≡ length rows → i < length c → l ≡ get_or c i l →
-    get_or places (code_of (negated l)) 0 ≡ place → 0 < place → IsMarked rows (take i c) old ms → IsMarked rows (take (i + 1) c) old (set ms (place - 1) true)
-more_marked rows places c old ms i l place h wide hi at is pos k =
-    let o : (place ≤ length rows) × (code_of (literal_at rows (place - 1)) ≡ code_of (negated l)) = (let a : (get_or places (code_of (negated l)) 0 ≤ length rows) × (code_of (literal_at rows (get_or places (code_of (negated l)) 0 - 1)) ≡ code_of (negated l)) = h.only (code_of (negated l)) (rw is pos) in rw is at a) in
-    let room : place - 1 < length ms = omega (arith, o.0, wide, pos) in
-    let there : literal_at rows (place - 1) ≡ negated l = code_of-injective (literal_at rows (place - 1)) (negated l) o.1 in
+pub more_marked : (rows : List Row) (c : List Literal) (old ms : List Bool) (i : ℕ) (l : Literal) (place : ℕ) → ((j k : ℕ) → j < length rows → k < length rows → literal_at rows j ≡ literal_at rows k → j ≡ k) → length ms ≡ length rows → i < length c → l ≡ get_or c i l →
+    place < length rows → literal_at rows place ≡ negated l → IsMarked rows (take i c) old ms → IsMarked rows (take (i + 1) c) old (set ms place true)
+more_marked rows c old ms i l place once wide hi at within there k =
+    let room : place < length ms = omega (arith, within, wide) in
     record {
       size = rw length-set k.size;
-      kept = λ p s. elim (put_cases ms (place - 1) true p room) [ inl q ↦ q.1 | inr q ↦ q.1 ∙ k.kept p s ];
-      joined = λ p hp m. elim (put_cases ms (place - 1) true p room) [
+      kept = λ p s. elim (put_cases ms place true p room) [ inl q ↦ q.1 | inr q ↦ q.1 ∙ k.kept p s ];
+      joined = λ p hp m. elim (put_cases ms place true p room) [
         | inl q ↦ q.1
         | inr q ↦ elim (front_cases c i l (negated (literal_at rows p)) hi m) [
           | inl a ↦ q.1 ∙ k.joined p hp a
           | inr a ↦
               let same : negated l ≡ literal_at rows p = ap negated (at ∙ a) ∙ negated-negated (literal_at rows p) in
-              let e : get_or places (code_of (negated l)) 0 ≡ p + 1 = ap (λ x. get_or places (code_of x) 0) same ∙ h.each p hp in
-              absurd (q.0 (omega (arith, e, is)))
+              absurd (q.0 (once p place hp within (sym same ∙ sym there)))
         ]
       ];
-      from = λ p s. elim (put_cases ms (place - 1) true p room) [
+      from = λ p s. elim (put_cases ms place true p room) [
         | inl q ↦
             let back : get_or c i l ≡ negated (literal_at rows p) = sym at ∙ (sym (negated-negated l) ∙ ap negated (sym there ∙ ap (literal_at rows) (sym q.0))) in
             inr (rw (take_more c i l hi, back) (Contains-push (take i c) (negated (literal_at rows p))))
@@ -89,35 +59,27 @@ more_marked rows places c old ms i l place h wide hi at is pos k =
       ];
     }
 
--- the place is within the marks
-pub place_room : (rows : List Row) (places : List ℕ) (ms : List Bool) (l : Literal) (place : ℕ) → HasPlaces places rows (length rows) → length ms ≡ length rows → get_or places (code_of (negated l)) 0 ≡ place → 0 < place → place - 1 < length ms
-place_room rows places ms l place h wide is pos =
-    let o : (get_or places (code_of (negated l)) 0 ≤ length rows) × (code_of (literal_at rows (get_or places (code_of (negated l)) 0 - 1)) ≡ code_of (negated l)) = h.only (code_of (negated l)) (rw is pos) in
-    omega (arith, o.0, wide, pos, is)
+-- the opposites of the marked literals from a place on
+pub record IsCollected (rows : List Row) (marks : List Bool) (c : List Literal) (from : ℕ) : Type 0 where
+  pub each : (p : ℕ) → from ≤ p → p < length rows → IsSet marks p → Contains c (negated (literal_at rows p))
+  pub only : (l : Literal) → Contains c l → (p : ℕ) × ((p < length rows) × (IsSet marks p × (l ≡ negated (literal_at rows p))))
 
--- the opposites of the marked literals of the first n rows
-pub record IsCollected (rows : List Row) (marks : List Bool) (c : List Literal) (n : ℕ) : Type 0 where
-  pub each : (p : ℕ) → p < n → IsSet marks p → Contains c (negated (literal_at rows p))
-  pub only : (l : Literal) → Contains c l → (p : ℕ) × ((p < n) × (IsSet marks p × (l ≡ negated (literal_at rows p))))
+pub none_collected : (rows : List Row) (marks : List Bool) (top : ℕ) → IsTop marks (length rows) top → IsCollected rows marks [] top
+none_collected rows marks top t = record { each = λ p a b s. absurd (t.above p a b s); only = λ l m. absurd (Contains-nil l m) }
 
-pub none_collected : (rows : List Row) (marks : List Bool) → IsCollected rows marks [] 0
-none_collected rows marks = record { each = λ p h s. absurd (omega arith); only = λ l m. absurd (Contains-nil l m) }
-
-pub skip_collected : (rows : List Row) (marks : List Bool) (c : List Literal) (n : ℕ) → (IsSet marks n → ⊥) → IsCollected rows marks c n → IsCollected rows marks c (n + 1)
-skip_collected rows marks c n off k = record {
-  each = λ p h s. elim (eqb_tells p n) [ inl e ↦ absurd (off (rw e.1 at s)) | inr e ↦ k.each p (omega (arith, h, e.1)) s ];
-  only = λ l m. let o : (p : ℕ) × ((p < n) × (IsSet marks p × (l ≡ negated (literal_at rows p)))) = k.only l m in (o.0, (omega (arith, o.1.0), (o.1.1.0, o.1.1.1)));
-}
-
-pub more_collected : (rows : List Row) (marks : List Bool) (c : List Literal) (n : ℕ) (l : Literal) → IsSet marks n → l ≡ negated (literal_at rows n) → IsCollected rows marks c n → IsCollected rows marks (c ++ l ∷ []) (n + 1)
-more_collected rows marks c n l on is k = record {
-  each = λ p h s. elim (eqb_tells p n) [
-    | inl e ↦ rw (e.1, ← is) (Contains-push c l)
-    | inr e ↦ Contains-append_left c (l ∷ []) (negated (literal_at rows p)) (k.each p (omega (arith, h, e.1)) s)
+-- one literal more, and the marked place before its
+pub more_collected : (rows : List Row) (marks : List Bool) (c : List Literal) (i next : ℕ) (l : Literal) → 0 < i → i ≤ length rows → IsSet marks (i - 1) → l ≡ negated (literal_at rows (i - 1)) → IsTop marks (i - 1) next → IsCollected rows marks c i → IsCollected rows marks (c ++ l ∷ []) next
+more_collected rows marks c i next l pos within on is t k = record {
+  each = λ p a b s. elim (cases_lt p (i - 1)) [
+    | inl u ↦ absurd (t.above p a u s)
+    | inr u ↦ elim (eqb_tells p (i - 1)) [
+      | inl e ↦ rw (e.1, ← is) (Contains-push c l)
+      | inr e ↦ Contains-append_left c (l ∷ []) (negated (literal_at rows p)) (k.each p (omega (arith, u, e.1)) b s)
+    ]
   ];
   only = λ x m. elim (Contains-push_cases c l x m) [
-    | inl a ↦ let o : (p : ℕ) × ((p < n) × (IsSet marks p × (x ≡ negated (literal_at rows p)))) = k.only x a in (o.0, (omega (arith, o.1.0), (o.1.1.0, o.1.1.1)))
-    | inr a ↦ (n, (omega arith, (on, sym a ∙ is)))
+    | inl a ↦ k.only x a
+    | inr a ↦ (i - 1, (omega arith, (on, sym a ∙ is)))
   ];
 }
 

@@ -22,13 +22,13 @@ UsesEach look trues (i ∷ []) = (h : List Literal) × ((look i ≡ Some h) × I
 UsesEach look trues (i ∷ j ∷ is) =
     (h : List Literal) × ((l : Literal) × ((look i ≡ Some h) × (IsUnit trues h l × (StandsIn look (j ∷ is) (negated l) × UsesEach look (trues ++ l ∷ []) (j ∷ is)))))
 
--- a clause with its hints that is not held yet, and that says more than the held ones in any order
-pub record IsGoodPut (look : Lookup) (rows : List Row) (level : ℕ) (clause : List Literal) (hints : List ClauseId) : Type 0 where
+-- a clause with its hints, which are kept, that is not held yet, and that says more than the held ones in any order
+pub record IsGoodPut (look held : Lookup) (rows : List Row) (level : ℕ) (clause : List Literal) (hints : List ClauseId) : Type 0 where
   pub no_pair : HasPair clause → ⊥
-  pub held : (id : ClauseId) → Contains hints id → IsSome (look id)
+  pub kept : (id : ClauseId) → Contains hints id → IsSome (look id)
   pub stands : (l : Literal) → Contains clause l → StandsIn look hints l
   pub uses : UsesEach look (map negated clause) hints
-  pub is_new : (id : ClauseId) (c : List Literal) → look id ≡ Some c → ((l : Literal) → Contains c l → Contains clause l) → ⊥
+  pub is_new : (id : ClauseId) (c : List Literal) → held id ≡ Some c → ((l : Literal) → Contains c l → Contains clause l) → ⊥
   pub not_true : (l : Literal) → Contains clause l → IsTrueBy rows level l → ⊥
 
 -- at the end of this level the clause is unit, with this literal open, and of no lower level is it unit or false

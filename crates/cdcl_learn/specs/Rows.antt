@@ -1,5 +1,5 @@
 -- A trail by places, and what is true of the trails of a search.
-use Rattle.std.specs.Prelude.{ℕ, ◌≡◌, ◌≢◌, ◌<◌, ◌≤◌, List, Option, Some, None, Contains, length, slice_index_or}
+use Rattle.std.specs.Prelude.{ℕ, ◌≡◌, ◌≢◌, ◌+◌, ◌<◌, ◌≤◌, List, Option, Some, None, Contains, length, slice_index_or}
 use Rattle.cnf_base.specs.Literals.{Literal, negated}
 use Rattle.cnf_base.specs.declared.clause.ClauseId.{ClauseId}
 use Rattle.hint_chain.specs.Chains.{Lookup}
@@ -22,6 +22,18 @@ reason_at rows i = (row_at rows i).2
 -- the opposite of the literal stands at a place before the end
 abbrev pub IsFalseBefore : List Row → ℕ → Literal → Type 0
 IsFalseBefore rows end l = (k : ℕ) × ((k < end) × (literal_at rows k ≡ negated l))
+
+-- the literals before the last one are a front of these
+abbrev pub IsFrontOf : List Row → List Row → Type 0
+IsFrontOf base rows = (i : ℕ) → i + 1 < length rows → (i < length base) × (literal_at rows i ≡ literal_at base i)
+
+-- the clause of this name forced a literal of the trail
+abbrev pub IsReasonOf : List Row → ClauseId → Type 0
+IsReasonOf rows id = (i : ℕ) × ((i < length rows) × (reason_at rows i ≡ Some id))
+
+-- no literal is decided at level 0
+abbrev pub AreRaised : List Row → Type 0
+AreRaised rows = (i : ℕ) → i < length rows → reason_at rows i ≡ None → 0 < level_at rows i
 
 -- a decided literal is the first of its level
 abbrev pub AreDecidedFirst : List Row → Type 0

@@ -1,20 +1,15 @@
 -- A walk back over the trail: the marked places are what the conflict rests on.
-use Rattle.std.specs.Prelude.{ℕ, ◌≡◌, ◌≢◌, ◌+◌, ◌-◌, ◌<◌, ◌≤◌, ◌⊎◌, Bool, true, false, List, Contains, length, reverse, slice_index, slice_index_or}
-use Rattle.cnf_base.specs.Literals.{Literal, negated, code_of}
+use Rattle.std.specs.Prelude.{ℕ, ◌≡◌, ◌≢◌, ◌-◌, ◌<◌, ◌≤◌, ◌⊎◌, Bool, true, false, List, Contains, length, reverse, slice_index_or}
+use Rattle.cnf_base.specs.Literals.{Literal, negated}
 use Rattle.cnf_base.specs.declared.clause.ClauseId.{ClauseId}
 use Rattle.hint_chain.specs.Chains.{Lookup}
 use Rattle.cdcl_core.specs.Levels.{Row}
 use Rattle.cdcl_learn.specs.declared.walk.Walk.{Walk}
-use Rattle.cdcl_learn.specs.Rows.{literal_at, level_at}
+use Rattle.cdcl_learn.specs.Rows.{literal_at, level_at, IsReasonOf}
 use Rattle.cdcl_learn.specs.Puts.{StandsIn, UsesEach}
 
 abbrev pub IsSet : List Bool → ℕ → Type 0
 IsSet marks p = slice_index_or marks p false ≡ true
-
--- by the code of a literal of the first n rows one more than its place, by every other code 0
-pub record HasPlaces (places : List ℕ) (rows : List Row) (n : ℕ) : Type 0 where
-  pub each : (i : ℕ) → i < n → slice_index places (code_of (literal_at rows i)) ≡ i + 1
-  pub only : (x : ℕ) → 0 < slice_index places x → (slice_index places x ≤ n) × (code_of (literal_at rows (slice_index places x - 1)) ≡ x)
 
 -- the places of the false literals of a clause are marked too
 pub record IsMarked (rows : List Row) (c : List Literal) (old new : List Bool) : Type 0 where
@@ -30,9 +25,12 @@ pub record IsDerived (look : Lookup) (rows : List Row) (marks : List Bool) (hint
   pub stands : (p : ℕ) → p < length rows → IsSet marks p → StandsIn look hints (negated (literal_at rows p))
 
 pub record IsWalk (look : Lookup) (rows : List Row) (walk : Walk) : Type 0 where
-  pub places : HasPlaces walk.places.items rows (length rows)
-  pub size : length walk.marks.items ≡ length rows
-  pub derived : IsDerived look rows walk.marks.items (reverse walk.hints.items)
+  pub size : length walk.marks ≡ length rows
+  pub derived : IsDerived look rows walk.marks (reverse walk.hints.items)
+
+-- the hints that came forced literals of the trail
+abbrev pub MeetsReasons : List Row → List ClauseId → List ClauseId → Type 0
+MeetsReasons rows old new = (id : ClauseId) → Contains new id → (Contains old id) ⊎ (IsReasonOf rows id)
 
 -- the mark of a place is gone, and those that came are before it
 pub record IsResolved (i : ℕ) (old new : List Bool) : Type 0 where

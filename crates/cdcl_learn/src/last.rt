@@ -1,12 +1,12 @@
 //! The clause that ends a search.
 
-ghost use Rattle.std.specs.Prelude.{ℕ, ◌≡◌, ◌<◌, List, None, IfOk, Contains, length};
+ghost use Rattle.std.specs.Prelude.{◌≡◌, ◌<◌, List, IfOk, Contains, length};
 ghost use Rattle.cnf_base.specs.Literals.{Literal, negated};
 ghost use Rattle.hint_chain.specs.Chains.{IsChain};
 ghost use Rattle.cdcl_core.specs.Levels.{IsFalseBy};
 ghost use Rattle.cdcl_core.specs.Search.{literals_of, level_of, clause_of};
 ghost use Rattle.cdcl_core.specs.State.{IsSettled};
-ghost use Rattle.cdcl_learn.specs.Rows.{literal_at, reason_at, IsHistory, IsRefutedIn, IsFalseBefore};
+ghost use Rattle.cdcl_learn.specs.Rows.{literal_at, IsFrontOf, IsHistory, IsRefutedIn};
 ghost use Rattle.cdcl_learn.specs.Puts.{IsClash, AreGiven, IsAgainst, DecidesOnly};
 
 use crate::walk::{Row, Walk};
@@ -50,32 +50,42 @@ fn explain_all(
     conflict: ClauseId,
 ) -> Result<(Clause, Vec<ClauseId>), AllocError>
     requires settled { IsSettled watches.now trail.now }
+    requires front { IsFrontOf (literals_of trail.now) rows.now }
     requires history { IsHistory (clause_of watches.now) rows.now }
     requires conflict { IsRefutedIn (clause_of watches.now) rows.now conflict }
     ensures chain { IfOk result (λ r. IsChain (clause_of watches.now) r.0 r.1.items) }
     ensures against { IfOk result (λ r. (given : List Literal) → DecidesOnly given rows.now → IsAgainst given r.0) }
 {
-    let mut walk = Walk::start(alloc, watches, rows, conflict)?;
+    let mut walk = Walk::start(alloc, watches, trail, rows, conflict)?;
     walk.explain(watches, trail, rows, rows.len(), true)?;
     let clause = walk.clause(alloc, rows)?;
     let hints = walk.into_hints();
     Ok((clause, hints))
 }
 
-// The place of the opposite of a false literal.
-fn place_of(rows: &[Row], l: Lit) -> usize
-    requires { IsFalseBefore rows.now (length rows.now) l }
-    ensures within { result < length rows.now }
-    ensures opposite { literal_at rows.now result ≡ negated l }
+// The clause of the opposites of given literals that refute a given one, whose opposite stands at this place.
+fn refute_at(
+    alloc: Global,
+    watches: &Watches,
+    trail: &Trail,
+    place: usize,
+    l: Lit,
+) -> Result<(Clause, Vec<ClauseId>), AllocError>
+    requires settled { IsSettled watches.now trail.now }
+    requires within { place < length (literals_of trail.now) }
+    requires opposite { literal_at (literals_of trail.now) place ≡ negated l }
+    ensures chain { IfOk result (λ r. IsChain (clause_of watches.now) r.0 r.1.items) }
+    ensures against { IfOk result (λ r. (given : List Literal) → DecidesOnly given (literals_of trail.now) → Contains given l → IsAgainst given r.0) }
 {
-    let mut place = 0;
-    'places: while place + 1 < rows.len() {
-        if rows[place].0 == l.negated() {
-            break;
+    let rows = trail.literals();
+    match rows[place].2 {
+        None => Ok((Clause::of_two(alloc, l, l.negated())?, Vec::new(alloc))),
+        Some(id) => {
+            let mut before: Vec<Row> = Vec::from_slice(alloc, &rows[..place])?;
+            before.push((l, trail.level(), None))?;
+            explain_all(alloc, watches, trail, before.as_slice(), id)
         }
-        place += 1;
     }
-    place
 }
 
 // The clause of the opposites of given literals that refute a given one.
@@ -90,14 +100,8 @@ fn refute(
     ensures chain { IfOk result (λ r. IsChain (clause_of watches.now) r.0 r.1.items) }
     ensures against { IfOk result (λ r. (given : List Literal) → DecidesOnly given (literals_of trail.now) → Contains given l → IsAgainst given r.0) }
 {
-    let rows = trail.literals();
-    let place = place_of(rows, l);
-    match rows[place].2 {
-        None => Ok((Clause::of_two(alloc, l, l.negated())?, Vec::new(alloc))),
-        Some(id) => {
-            let mut before: Vec<Row> = Vec::from_slice(alloc, &rows[..place])?;
-            before.push((l, trail.level(), None))?;
-            explain_all(alloc, watches, trail, before.as_slice(), id)
-        }
+    match trail.place(l.negated()) {
+        Some(place) => refute_at(alloc, watches, trail, place, l),
+        None => Err(AllocError),
     }
 }

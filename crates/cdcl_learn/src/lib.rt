@@ -16,6 +16,7 @@
 
 mod last;
 mod learning;
+mod marks;
 mod minimizer;
 mod walk;
 

@@ -1,10 +1,11 @@
 //! Which literals of a clause rest on its others: a choice without a promise.
 
+ghost use Rattle.std.specs.Prelude.{◌≤◌, length};
 ghost use Rattle.cdcl_core.specs.State.{IsSettled};
 
+use crate::marks::Marks;
 use crate::walk::Row;
 use cdcl_core::{Trail, Watches};
-use cnf_base::Lit;
 use std::alloc::{AllocError, Global};
 
 // What is known of a place of the trail.
@@ -23,32 +24,11 @@ enum Finding {
     Below(usize, usize),
 }
 
-/// The marked places of a walk, and where their literals stand.
+/// The marked places of a walk.
 #[derive(Clone, Copy)]
 pub(crate) struct Marked<'a> {
     pub rows: &'a [Row],
-    // by literal: one more than its place, 0 where it is not true
-    pub places: &'a [usize],
-    // by place
-    pub marks: &'a [bool],
-}
-
-impl<'a> Marked<'a> {
-    fn is_marked(self, place: usize) -> bool {
-        place < self.marks.len() && self.marks[place]
-    }
-
-    // The place of the opposite of a false literal.
-    fn place_against(self, l: Lit) -> Option<usize> {
-        let code = l.negated().code() as usize;
-        if code < self.places.len() {
-            let end = self.places[code];
-            if end != 0 {
-                return Some(end - 1);
-            }
-        }
-        None
-    }
+    pub marks: &'a Marks,
 }
 
 /// Looks below a literal for what it rests on, each place once (N. Sörensson and A. Biere, "Minimizing learned clauses",
@@ -78,13 +58,17 @@ impl Minimizer {
         })
     }
 
-    /// Looks at no level but those of the marked literals.
-    pub(crate) fn keep_levels(&mut self, marked: Marked<'_>) {
+    /// Looks at no level but those of the marked literals before `end`.
+    pub(crate) fn keep_levels(&mut self, marked: Marked<'_>, end: usize)
+        requires { end ≤ length marked.marks.now }
+    {
         self.levels = 0;
-        for place in 0..marked.rows.len() {
-            if marked.is_marked(place) {
-                self.levels |= level_bit(marked.rows[place].1);
+        let mut i = marked.marks.top(end);
+        'marked: while i > 0 {
+            if let Some(row) = marked.rows.get(i - 1) {
+                self.levels |= level_bit(row.1);
             }
+            i = marked.marks.top(i - 1);
         }
     }
 
@@ -107,7 +91,7 @@ impl Minimizer {
         let Some(row) = marked.rows.get(place) else {
             return Verdict::Stands;
         };
-        if row.1 == 0 || marked.is_marked(place) {
+        if row.1 == 0 || marked.marks.has(place) {
             return Verdict::Rests;
         }
         if row.2.is_none() || self.levels & level_bit(row.1) == 0 {
@@ -135,7 +119,7 @@ impl Minimizer {
         };
         let literals = clause.literals();
         for k in from..literals.len() {
-            if let Some(below) = marked.place_against(literals[k]) {
+            if let Some(below) = trail.place(literals[k].negated()) {
                 match self.judge(marked, below) {
                     Verdict::Rests => {}
                     Verdict::Stands => return Finding::Known(Verdict::Stands),

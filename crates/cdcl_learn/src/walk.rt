@@ -1,12 +1,13 @@
 //! The walk back over a trail that explains a conflict.
 
-ghost use Rattle.std.specs.Prelude.{ℕ, ◌≡◌, ◌≢◌, ◌+◌, ◌<◌, ◌≤◌, List, Some, None, IfOk, OnOk, Contains, length, reverse, slice_index, IsTrue};
+ghost use Rattle.std.specs.Prelude.{ℕ, ◌≡◌, ◌≢◌, ◌+◌, ◌<◌, ◌≤◌, ◌⊎◌, List, [], ◌∷◌, Some, None, IfOk, OnOk, MatchBool, MatchOption, Contains, length, reverse, IsTrue};
 ghost use Rattle.cnf_base.specs.Literals.{Literal, negated};
-ghost use Rattle.cdcl_core.specs.Search.{clause_of};
-ghost use Rattle.cdcl_core.specs.State.{IsSettled};
-ghost use Rattle.cdcl_learn.specs.Rows.{literal_at, reason_at, IsHistory, IsRefutedIn};
-ghost use Rattle.cdcl_learn.specs.Walks.{IsSet, HasPlaces, IsMarked, IsWalk, IsResolved, IsExplained, IsTop};
+ghost use Rattle.cdcl_core.specs.Search.{literals_of, clause_of};
+ghost use Rattle.cdcl_core.specs.State.{IsConsistent, KeepsPlaces, IsSettled};
+ghost use Rattle.cdcl_learn.specs.Rows.{literal_at, level_at, reason_at, IsFrontOf, IsHistory, IsRefutedIn};
+ghost use Rattle.cdcl_learn.specs.Walks.{IsSet, IsMarked, IsWalk, IsResolved, IsExplained, IsTop, MeetsReasons};
 
+use crate::marks::Marks;
 use crate::minimizer::{Marked, Minimizer};
 use cdcl_core::{Trail, Watches};
 use cnf_base::{Clause, ClauseId, Lit};
@@ -18,80 +19,75 @@ pub(crate) type Row = (Lit, u64, Option<ClauseId>);
 /// What a conflict rests on, and the clauses that say so.
 #[derive(Drop)]
 pub(crate) struct Walk {
-    // by literal: one more than its place on the trail, 0 where it is not true
-    places: Vec<usize>,
     // by place: whether the conflict rests on the literal
-    marks: Vec<bool>,
+    marks: Marks,
     // the clauses that were met, the conflict first
     hints: Vec<ClauseId>,
     minimizer: Minimizer,
 }
 
-// The places of the literals of the trail.
-fn places_of(alloc: Global, rows: &[Row]) -> Result<Vec<usize>, AllocError>
-    requires once { (i k : ℕ) → i < length rows.now → k < length rows.now → literal_at rows.now i ≡ literal_at rows.now k → i ≡ k }
-    ensures { IfOk result (λ v. HasPlaces v.items rows.now (length rows.now)) }
+// Whether the literal stands at a place.
+fn stands_at(rows: &[Row], place: usize, l: Lit) -> bool
+    ensures { MatchBool result ((place < length rows.now) × (literal_at rows.now place ≡ l)) (place < length rows.now → literal_at rows.now place ≢ l) }
 {
-    let mut places: Vec<usize> = Vec::with_capacity(alloc, rows.len().saturating_mul(4))?;
-    for i in 0..rows.len() {
-        let code = rows[i].0.code() as usize;
-        lengthen(&mut places, code)?;
-        places[code] = i + 1;
+    if place >= rows.len() {
+        return false;
     }
-    Ok(places)
+    rows[place].0 == l
 }
 
-// Has a row for the code.
-fn lengthen(table: &mut Vec<usize>, code: usize) -> Result<(), AllocError>
-    ensures row { OnOk result (code < length table.new.items) }
-    ensures same { OnOk result ((x : ℕ) → slice_index table.new.items x ≡ slice_index table.old.items x) }
+// The last place, if the literal stands there.
+fn last_place(rows: &[Row], l: Lit) -> Option<usize>
+    ensures { MatchOption result ((k : ℕ) → k + 1 ≡ length rows.now → literal_at rows.now k ≢ l) (λ k. (k < length rows.now) × (literal_at rows.now k ≡ l)) }
 {
-    if code >= table.len() {
-        let Some(count) = code.checked_add(1) else {
-            return Err(AllocError);
-        };
-        table.resize(count, 0)?;
+    let last = rows.len().saturating_sub(1);
+    if stands_at(rows, last, l) {
+        return Some(last);
     }
-    Ok(())
+    None
+}
+
+// The place of a literal among rows that are the trail's but for the last one.
+fn place_of(trail: &Trail, rows: &[Row], l: Lit) -> Option<usize>
+    requires trail { IsConsistent trail.now }
+    requires places { KeepsPlaces trail.now }
+    requires front { IsFrontOf (literals_of trail.now) rows.now }
+    ensures { MatchOption result ((k : ℕ) → k < length rows.now → literal_at rows.now k ≢ l) (λ k. (k < length rows.now) × (literal_at rows.now k ≡ l)) }
+{
+    let Some(place) = trail.place(l) else {
+        return last_place(rows, l);
+    };
+    if stands_at(rows, place, l) {
+        return Some(place);
+    }
+    last_place(rows, l)
 }
 
 // Marks the places of the false literals of the clause.
-fn mark(places: &[usize], marks: &mut Vec<bool>, clause: &[Lit], rows: &[Row])
-    requires places { HasPlaces places.now rows.now (length rows.now) }
-    requires size { length marks.old.items ≡ length rows.now }
-    ensures { IsMarked rows.now clause.now marks.old.items marks.new.items }
+fn mark(trail: &Trail, marks: &mut Marks, clause: &[Lit], rows: &[Row])
+    requires trail { IsConsistent trail.now }
+    requires places { KeepsPlaces trail.now }
+    requires front { IsFrontOf (literals_of trail.now) rows.now }
+    requires once { (i k : ℕ) → i < length rows.now → k < length rows.now → literal_at rows.now i ≡ literal_at rows.now k → i ≡ k }
+    requires size { length marks.old ≡ length rows.now }
+    ensures { IsMarked rows.now clause.now marks.old marks.new }
 {
     for l in clause {
-        let code = l.negated().code() as usize;
-        if code < places.len() {
-            let place = places[code];
-            if place != 0 {
-                marks[place - 1] = true;
-            }
+        if let Some(place) = place_of(trail, rows, l.negated()) {
+            marks.set(place);
         }
     }
-}
-
-// The end of the last marked place before `end`, 0 where there is none.
-pub(crate) fn top_of(marks: &[bool], end: usize) -> usize
-    requires { end ≤ length marks.now }
-    ensures { IsTop marks.now end result }
-{
-    let mut top = end;
-    'places: while top > 0 {
-        if marks[top - 1] {
-            break;
-        }
-        top -= 1;
-    }
-    top
 }
 
 // How many places are marked.
-fn count(marks: &[bool]) -> usize {
+fn count(marks: &Marks, places: usize) -> usize
+    requires { places ≤ length marks.now }
+{
     let mut count = 0usize;
-    for mark in marks {
-        count = count.wrapping_add(usize::from(*mark));
+    let mut end = marks.top(places);
+    'marked: while end > 0 {
+        count = count.wrapping_add(1);
+        end = marks.top(end - 1);
     }
     count
 }
@@ -101,24 +97,26 @@ impl Walk {
     pub(crate) fn start(
         alloc: Global,
         watches: &Watches,
+        trail: &Trail,
         rows: &[Row],
         conflict: ClauseId,
     ) -> Result<Walk, AllocError>
+        requires settled { IsSettled watches.now trail.now }
+        requires front { IsFrontOf (literals_of trail.now) rows.now }
         requires history { IsHistory (clause_of watches.now) rows.now }
         requires conflict { IsRefutedIn (clause_of watches.now) rows.now conflict }
         ensures walk { IfOk result (λ w. IsWalk (clause_of watches.now) rows.now w) }
-        ensures marked { IfOk result (λ w. (c : List Literal) → clause_of watches.now conflict ≡ Some c → (p : ℕ) → p < length rows.now → Contains c (negated (literal_at rows.now p)) → IsSet w.marks.items p) }
+        ensures first { IfOk result (λ w. w.hints.items ≡ conflict ∷ []) }
+        ensures marked { IfOk result (λ w. (c : List Literal) → clause_of watches.now conflict ≡ Some c → (p : ℕ) → p < length rows.now → Contains c (negated (literal_at rows.now p)) → IsSet w.marks p) }
     {
-        let places = places_of(alloc, rows)?;
-        let mut marks = vec![in alloc; false; rows.len()]?;
-        let mut hints = Vec::with_capacity(alloc, rows.len().saturating_add(1))?;
+        let mut marks = Marks::new(alloc, rows.len())?;
+        let mut hints = Vec::with_capacity(alloc, 64)?;
         hints.push(conflict)?;
         let Some(clause) = watches.clause(conflict) else {
             return Err(AllocError);
         };
-        mark(places.as_slice(), &mut marks, clause.literals(), rows);
+        mark(trail, &mut marks, clause.literals(), rows);
         Ok(Walk {
-            places,
             marks,
             hints,
             minimizer: Minimizer::new(alloc, rows.len())?,
@@ -134,13 +132,15 @@ impl Walk {
         i: usize,
     ) -> Result<(), AllocError>
         requires settled { IsSettled watches.now trail.now }
+        requires front { IsFrontOf (literals_of trail.now) rows.now }
         requires history { IsHistory (clause_of watches.now) rows.now }
         requires walk { IsWalk (clause_of watches.now) rows.now self.old }
         requires within { i < length rows.now }
-        requires marked { IsSet self.old.marks.items i }
+        requires marked { IsSet self.old.marks i }
         requires forced { reason_at rows.now i ≢ None }
         ensures walk { OnOk result (IsWalk (clause_of watches.now) rows.now self.new) }
-        ensures resolved { OnOk result (IsResolved i self.old.marks.items self.new.marks.items) }
+        ensures resolved { OnOk result (IsResolved i self.old.marks self.new.marks) }
+        ensures met { OnOk result (MeetsReasons rows.now self.old.hints.items self.new.hints.items) }
     {
         let Some(id) = rows[i].2 else {
             return Ok(());
@@ -148,23 +148,18 @@ impl Walk {
         let Some(clause) = watches.clause_at(trail, i, id) else {
             return Ok(());
         };
-        self.marks[i] = false;
-        mark(
-            self.places.as_slice(),
-            &mut self.marks,
-            clause.literals(),
-            rows,
-        );
+        self.marks.unset(i);
+        mark(trail, &mut self.marks, clause.literals(), rows);
         self.hints.push(id)?;
         Ok(())
     }
 
     /// The end of the last marked place before `end`, 0 where there is none.
     pub(crate) fn top(&self, end: usize) -> usize
-        requires { end ≤ length self.now.marks.items }
-        ensures { IsTop self.now.marks.items end result }
+        requires { end ≤ length self.now.marks }
+        ensures { IsTop self.now.marks end result }
     {
-        top_of(self.marks.as_slice(), end)
+        self.marks.top(end)
     }
 
     // Whether the literal of a place is to be resolved: each one where `whole` is true, else one that is true at level 0, or
@@ -179,18 +174,16 @@ impl Walk {
     ) -> Result<bool, AllocError>
         requires settled { IsSettled watches.now trail.now }
         requires within { i < length rows.now }
-        ensures places { self.new.places ≡ self.old.places }
         ensures marks { self.new.marks ≡ self.old.marks }
         ensures hints { self.new.hints ≡ self.old.hints }
-        ensures whole { IfOk result (λ b. IsTrue whole → IsTrue b) }
+        ensures whole { IfOk result (λ b. ((IsTrue whole) ⊎ (level_at rows.now i ≡ 0)) → IsTrue b) }
     {
         if whole || rows[i].1 == 0 {
             return Ok(true);
         }
         let marked = Marked {
             rows,
-            places: self.places.as_slice(),
-            marks: self.marks.as_slice(),
+            marks: &self.marks,
         };
         self.minimizer.rests(watches, trail, marked, i)
     }
@@ -205,14 +198,16 @@ impl Walk {
         whole: bool,
     ) -> Result<(), AllocError>
         requires settled { IsSettled watches.now trail.now }
+        requires front { IsFrontOf (literals_of trail.now) rows.now }
         requires history { IsHistory (clause_of watches.now) rows.now }
         requires walk { IsWalk (clause_of watches.now) rows.now self.old }
         requires within { i < length rows.now }
         ensures walk { OnOk result (IsWalk (clause_of watches.now) rows.now self.new) }
-        ensures explained { OnOk result (IsExplained (i + 1) self.old.marks.items self.new.marks.items) }
-        ensures whole { OnOk result (IsTrue whole → IsSet self.new.marks.items i → reason_at rows.now i ≡ None) }
+        ensures explained { OnOk result (IsExplained (i + 1) self.old.marks self.new.marks) }
+        ensures met { OnOk result (MeetsReasons rows.now self.old.hints.items self.new.hints.items) }
+        ensures whole { OnOk result (((IsTrue whole) ⊎ (level_at rows.now i ≡ 0)) → IsSet self.new.marks i → reason_at rows.now i ≡ None) }
     {
-        if !self.marks[i] {
+        if !self.marks.has(i) {
             return Ok(());
         }
         if rows[i].2.is_none() {
@@ -225,7 +220,7 @@ impl Walk {
     }
 
     /// Goes back from the place before `end`, and resolves every marked literal that has a reason where `whole` is true,
-    /// else those that make the clause shorter.
+    /// else those of level 0 and those that make the clause shorter.
     pub(crate) fn explain(
         &mut self,
         watches: &Watches,
@@ -235,22 +230,26 @@ impl Walk {
         whole: bool,
     ) -> Result<(), AllocError>
         requires settled { IsSettled watches.now trail.now }
+        requires front { IsFrontOf (literals_of trail.now) rows.now }
         requires history { IsHistory (clause_of watches.now) rows.now }
         requires walk { IsWalk (clause_of watches.now) rows.now self.old }
         requires within { end ≤ length rows.now }
         ensures walk { OnOk result (IsWalk (clause_of watches.now) rows.now self.new) }
-        ensures explained { OnOk result (IsExplained end self.old.marks.items self.new.marks.items) }
-        ensures whole { OnOk result (IsTrue whole → (p : ℕ) → p < end → IsSet self.new.marks.items p → reason_at rows.now p ≡ None) }
+        ensures explained { OnOk result (IsExplained end self.old.marks self.new.marks) }
+        ensures met { OnOk result (MeetsReasons rows.now self.old.hints.items self.new.hints.items) }
+        ensures whole { OnOk result ((p : ℕ) → p < end → ((IsTrue whole) ⊎ (level_at rows.now p ≡ 0)) → IsSet self.new.marks p → reason_at rows.now p ≡ None) }
     {
-        self.minimizer.keep_levels(Marked {
-            rows,
-            places: self.places.as_slice(),
-            marks: self.marks.as_slice(),
-        });
-        let mut i = end;
+        self.minimizer.keep_levels(
+            Marked {
+                rows,
+                marks: &self.marks,
+            },
+            rows.len(),
+        );
+        let mut i = self.top(end);
         'back: while i > 0 {
-            i -= 1;
-            self.visit(watches, trail, rows, i, whole)?;
+            self.visit(watches, trail, rows, i - 1, whole)?;
+            i = self.top(i - 1);
         }
         Ok(())
     }
@@ -258,17 +257,16 @@ impl Walk {
     /// The opposites of the marked literals, those that became true last first: they are open first after the search went back,
     /// and the scan for a literal to watch begins with them.
     pub(crate) fn clause(&self, alloc: Global, rows: &[Row]) -> Result<Clause, AllocError>
-        requires { length self.now.marks.items ≡ length rows.now }
-        ensures each { IfOk result (λ c. (p : ℕ) → p < length rows.now → IsSet self.now.marks.items p → Contains c (negated (literal_at rows.now p))) }
-        ensures only { IfOk result (λ c. (l : Literal) → Contains c l → (p : ℕ) × ((p < length rows.now) × (IsSet self.now.marks.items p × (l ≡ negated (literal_at rows.now p))))) }
+        requires { length self.now.marks ≡ length rows.now }
+        ensures each { IfOk result (λ c. (p : ℕ) → p < length rows.now → IsSet self.now.marks p → Contains c (negated (literal_at rows.now p))) }
+        ensures only { IfOk result (λ c. (l : Literal) → Contains c l → (p : ℕ) × ((p < length rows.now) × (IsSet self.now.marks p × (l ≡ negated (literal_at rows.now p))))) }
     {
-        let mut literals: Vec<Lit> = Vec::with_capacity(alloc, count(self.marks.as_slice()))?;
-        for i in 0..rows.len() {
-            if self.marks[i] {
-                literals.push(rows[i].0.negated())?;
-            }
+        let mut literals: Vec<Lit> = Vec::with_capacity(alloc, count(&self.marks, rows.len()))?;
+        let mut i = self.top(rows.len());
+        'back: while i > 0 {
+            literals.push(rows[i - 1].0.negated())?;
+            i = self.top(i - 1);
         }
-        literals.reverse();
         Ok(Clause::from_vec(literals))
     }
 

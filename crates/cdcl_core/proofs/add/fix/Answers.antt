@@ -178,7 +178,7 @@ returns-then-index-eq0-clause-placed c =
     let open_a : get_or c.args.t.now.stamps.items c.args.a 0 ≡ 0 = omega (arith, read_o, c.if-index-eq0.true) in
     let level : c.enqueue.new.t.level + 1 ≡ c.args.t.now.level + 1 = omega (arith, c.enqueue.ensures.same_level) in
     let pu : IsPushed c.args.t.now c.enqueue.new.t c.args.a (c.args.t.now.level + 1) c.args.slot (literal_of c.args.a, c.args.t.now.level, Some c.args.id) =
-    record { stamps = c.enqueue.ensures.stamps; codes = c.enqueue.ensures.codes; reasons = c.enqueue.ensures.reasons; rows = c.enqueue.ensures.rows; len = c.enqueue.ensures.len; head = c.enqueue.ensures.head; level = level } in
+    record { stamps = c.enqueue.ensures.stamps; codes = c.enqueue.ensures.codes; reasons = c.enqueue.ensures.reasons; rows = c.enqueue.ensures.rows; spots = c.enqueue.ensures.spots; len = c.enqueue.ensures.len; head = c.enqueue.ensures.head; level = level } in
     let w2 : Watches = c.seat.new.w in
     let k : IsFixing c.args.w.now w2 c.args.t.now c.args.slot c.args.a c.args.clause = record {
       placed = c.requires.placed;
@@ -203,7 +203,7 @@ returns-then-index-eq0-clause-literals c =
     let open_a : get_or c.args.t.now.stamps.items c.args.a 0 ≡ 0 = omega (arith, read_o, c.if-index-eq0.true) in
     let level : c.enqueue.new.t.level + 1 ≡ c.args.t.now.level + 1 = omega (arith, c.enqueue.ensures.same_level) in
     let pu : IsPushed c.args.t.now c.enqueue.new.t c.args.a (c.args.t.now.level + 1) c.args.slot (literal_of c.args.a, c.args.t.now.level, Some c.args.id) =
-    record { stamps = c.enqueue.ensures.stamps; codes = c.enqueue.ensures.codes; reasons = c.enqueue.ensures.reasons; rows = c.enqueue.ensures.rows; len = c.enqueue.ensures.len; head = c.enqueue.ensures.head; level = level } in
+    record { stamps = c.enqueue.ensures.stamps; codes = c.enqueue.ensures.codes; reasons = c.enqueue.ensures.reasons; rows = c.enqueue.ensures.rows; spots = c.enqueue.ensures.spots; len = c.enqueue.ensures.len; head = c.enqueue.ensures.head; level = level } in
     let w2 : Watches = c.seat.new.w in
     let k : IsFixing c.args.w.now w2 c.args.t.now c.args.slot c.args.a c.args.clause = record {
       placed = c.requires.placed;

@@ -216,7 +216,7 @@ returns-then-index-eq0-2-clause-placed c =
     let open_a : get_or c.args.t.now.stamps.items c.args.a 0 ≡ 0 = omega (arith, read_o, c.if-index-eq0-2.true) in
     let level : c.enqueue.new.t.level + 1 ≡ c.args.t.now.level + 1 = omega (arith, c.enqueue.ensures.same_level) in
     let pu : IsPushed c.args.t.now c.enqueue.new.t c.args.a (c.args.t.now.level + 1) c.args.slot (literal_of c.args.a, c.args.t.now.level, Some c.args.id) =
-    record { stamps = c.enqueue.ensures.stamps; codes = c.enqueue.ensures.codes; reasons = c.enqueue.ensures.reasons; rows = c.enqueue.ensures.rows; len = c.enqueue.ensures.len; head = c.enqueue.ensures.head; level = level } in
+    record { stamps = c.enqueue.ensures.stamps; codes = c.enqueue.ensures.codes; reasons = c.enqueue.ensures.reasons; rows = c.enqueue.ensures.rows; spots = c.enqueue.ensures.spots; len = c.enqueue.ensures.len; head = c.enqueue.ensures.head; level = level } in
     unit_placed c.args.w.now c.hang.new.w c.args.t.now c.enqueue.new.t c.args.slot c.args.a c.args.b c.args.clause c.args.id k c.requires.name set_b free_a open_a pu
 
 pub returns-then-index-eq0-2-clause-literals : goal.returns-then-index-eq0-2-clause-literals
@@ -244,7 +244,7 @@ returns-then-index-eq0-2-clause-literals c =
     let open_a : get_or c.args.t.now.stamps.items c.args.a 0 ≡ 0 = omega (arith, read_o, c.if-index-eq0-2.true) in
     let level : c.enqueue.new.t.level + 1 ≡ c.args.t.now.level + 1 = omega (arith, c.enqueue.ensures.same_level) in
     let pu : IsPushed c.args.t.now c.enqueue.new.t c.args.a (c.args.t.now.level + 1) c.args.slot (literal_of c.args.a, c.args.t.now.level, Some c.args.id) =
-    record { stamps = c.enqueue.ensures.stamps; codes = c.enqueue.ensures.codes; reasons = c.enqueue.ensures.reasons; rows = c.enqueue.ensures.rows; len = c.enqueue.ensures.len; head = c.enqueue.ensures.head; level = level } in
+    record { stamps = c.enqueue.ensures.stamps; codes = c.enqueue.ensures.codes; reasons = c.enqueue.ensures.reasons; rows = c.enqueue.ensures.rows; spots = c.enqueue.ensures.spots; len = c.enqueue.ensures.len; head = c.enqueue.ensures.head; level = level } in
     forced_added c.args.t.now c.enqueue.new.t c.args.a c.args.slot c.args.clause c.args.id (c.requires.placed.trail, c.requires.placed.shown) c.requires.has_a in_a open_a free_a (others_false c.args.w.now c.hang.new.w c.args.t.now c.args.slot c.args.a c.args.b c.args.clause k set_b) pu
 
 pub returns-then-index-eq0-2-clause-propagated : goal.returns-then-index-eq0-2-clause-propagated

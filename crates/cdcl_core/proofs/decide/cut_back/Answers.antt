@@ -6,7 +6,7 @@ use Rattle.cdcl_core.proofs.decide.cut_back.Goals as goal
 use Rattle.cdcl_core.proofs.decide.cut_back.Goals.{else-entries-test, then-entries-test+then-index-level}
 
 pub entries-init : goal.entries-init
-entries-init c = record { cut = cut_start c.args.t.now.stamps.items c.args.t.now.codes.items c.args.t.now.len c.args.t.now.head c.args.t.now.level c.args.level c.requires.settled.trail; codes = refl; reasons = refl; rows = refl }
+entries-init c = record { cut = cut_start c.args.t.now.stamps.items c.args.t.now.codes.items c.args.t.now.len c.args.t.now.head c.args.t.now.level c.args.level c.requires.settled.trail; codes = refl; reasons = refl; rows = refl; spots = refl }
 
 pub index-requires : goal.index-requires
 index-requires c =
@@ -32,6 +32,7 @@ entries-preserved c =
       codes = c.entries.invariant.codes;
       reasons = c.entries.invariant.reasons;
       rows = c.entries.invariant.rows;
+      spots = c.entries.invariant.spots;
     }
 
 pub returns-clause-settled : goal.returns-clause-settled

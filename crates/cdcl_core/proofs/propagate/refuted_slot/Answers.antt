@@ -1,10 +1,11 @@
-use Rattle.std.proofs.Common.{rules, ℕ, ◌≡◌, ◌<◌, length, get_or, [], vec_len, sym, ap, ◌∙◌, inl, inr, arith}
+use Rattle.std.proofs.Common.{rules, ℕ, ◌≡◌, ◌<◌, length, get_or, [], vec_len, refl, sym, ap, ◌∙◌, inl, inr, arith}
 use Rattle.std.proofs.lemmas.List.{get_or_read}
 use Rattle.std.proofs.lemmas.Bool.{cases_lt}
 use Rattle.cdcl_core.specs.declared.watches.Kind.TheVariants.{Free, Fixed}
 use Rattle.cdcl_core.specs.Stamps.{codes, Has}
 use Rattle.cdcl_core.specs.Watched.{kind_at}
 use Rattle.cdcl_core.specs.State.{all_codes}
+use Rattle.cdcl_core.proofs.Held.{held_if}
 use Rattle.cdcl_core.proofs.Clauses.{clause_codes, codes_length}
 use Rattle.cdcl_core.proofs.propagate.refuted_slot.Goals as goal
 use Rattle.cdcl_core.proofs.propagate.refuted_slot.Goals.{in-Fixed+else-not-is_satisfied, in_default}
@@ -27,6 +28,13 @@ returns-then-not-is_satisfied-clause-refuted c = λ _ l h.
       | inl a ↦ absurd (c.is_satisfied.ensures.not_satisfied c.if-not-is_satisfied.true a.0 (rw read a.1.0) (rw c.as_slice.ensures.value a.1.1))
       | inr a ↦ omega (arith, a.1 l h)
     ]
+
+pub returns-then-not-is_satisfied-clause-held : goal.returns-then-not-is_satisfied-clause-held
+returns-then-not-is_satisfied-clause-held c = λ _.
+    let size : vec_len c.args.w.now.kinds ≡ length c.args.w.now.kinds.items = search rules in
+    let high : c.loop-slot.slot < length c.args.w.now.kinds.items = omega (arith, c.loop-slot-test.true, c.len-slot-end.ensures, size) in
+    let kind : kind_at c.args.w.now.kinds.items c.loop-slot.slot ≡ Fixed = sym (get_or_read c.args.w.now.kinds.items c.loop-slot.slot c.index.result.now high c.index.ensures Free) ∙ c.in-Fixed.is in
+    held_if (kind_at c.args.w.now.kinds.items c.loop-slot.slot) Fixed kind refl
 
 pub loop-slot-preserved : goal.loop-slot-preserved
 loop-slot-preserved c = λ s lo hi kind. elim (cases_lt s c.loop-slot.slot) [

@@ -114,6 +114,11 @@ enqueue-requires-clause-rows c =
     let wide : c.args.t.now.len < length c.args.t.now.rows.items = has_row c.args.t.now c.literal-other.result c.requires.visiting.trail c.requires.visiting.shown a.within free in
     wide
 
+pub enqueue-requires-clause-spots : goal.enqueue-requires-clause-spots
+enqueue-requires-clause-spots c =
+    let a : AtPlace c.args.w.now c.args.t.now c.args.p c.args.place c.literal-other.result = at_place c.args.w.now c.args.t.now c.args.p 0 c.args.place c.neg-mate.result c.literal-other.result c.requires.visiting c.requires.pending c.requires.first c.neg-mate.ensures c.literal-other.ensures in
+    omega (arith, a.within, c.requires.visiting.spots.width)
+
 pub enqueue-requires-clause-within : goal.enqueue-requires-clause-within
 enqueue-requires-clause-within c =
     let a : AtPlace c.args.w.now c.args.t.now c.args.p c.args.place c.literal-other.result = at_place c.args.w.now c.args.t.now c.args.p 0 c.args.place c.neg-mate.result c.literal-other.result c.requires.visiting c.requires.pending c.requires.first c.neg-mate.ensures c.literal-other.ensures in
@@ -155,7 +160,7 @@ returns-else-index-ne0-2-clause-visiting c =
     let name : Some c.index-name.result.now ≡ Some (get_or c.args.w.now.ids.items (c.args.place / 2) no_id) = ap Some (get_or_read c.args.w.now.ids.items (c.args.place / 2) c.index-name.result.now a.name c.index-name.ensures no_id) in
     let level : c.enqueue.new.t.level + 1 ≡ c.args.t.now.level + 1 = omega (arith, c.enqueue.ensures.same_level) in
     let pu : IsPushed c.args.t.now c.enqueue.new.t c.literal-other.result (c.args.t.now.level + 1) (c.args.place / 2) (literal_of c.literal-other.result, c.args.t.now.level, Some c.index-name.result.now) =
-    record { stamps = c.enqueue.ensures.stamps; codes = c.enqueue.ensures.codes; reasons = c.enqueue.ensures.reasons; rows = c.enqueue.ensures.rows; len = c.enqueue.ensures.len; head = c.enqueue.ensures.head; level = level } in
+    record { stamps = c.enqueue.ensures.stamps; codes = c.enqueue.ensures.codes; reasons = c.enqueue.ensures.reasons; rows = c.enqueue.ensures.rows; spots = c.enqueue.ensures.spots; len = c.enqueue.ensures.len; head = c.enqueue.ensures.head; level = level } in
     rw c.pass-next.ensures.moved (visit_unit c.args.w.now c.args.t.now c.enqueue.new.t c.args.p 0 c.args.place c.literal-other.result (Some c.index-name.result.now) c.requires.visiting refl a c.requires.pending c.requires.first
     free free2 pu name wide (λ m h ne. rw (← c.as_slice.ensures.value) (c.in-None.ensures m (rw read h) ne)))
 

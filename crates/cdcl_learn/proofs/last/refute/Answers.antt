@@ -1,43 +1,10 @@
-use Rattle.std.proofs.Common.{◌≡◌, ◌++◌, [], ◌∷◌, Some, None, take, ap, ◌∙◌}
-use Rattle.std.specs.Prelude.{Contains}
-use Rattle.std.proofs.lemmas.List.{get_or_default}
-use Rattle.std.proofs.lemmas.Result.{IfOk-weaker}
-use Rattle.cnf_base.specs.Literals.{negated}
-use Rattle.cdcl_core.specs.Levels.{Row}
-use Rattle.cdcl_core.specs.State.{no_row}
-use Rattle.cdcl_core.specs.Search.{clause_of}
-use Rattle.cdcl_learn.specs.Rows.{literal_at, reason_at, IsHistory}
-use Rattle.cdcl_learn.specs.Puts.{DecidesOnly}
-use Rattle.cdcl_learn.proofs.Facts.{history_of}
-use Rattle.cdcl_learn.proofs.Cutting.{cut_history, cut_refuted, cut_given, pair_chain, pair_against}
+use Rattle.std.proofs.Common.{◌∙◌}
+use Rattle.cdcl_core.specs.Search.{literals_of}
+use Rattle.cdcl_learn.proofs.Fronts.{stands_row}
 use Rattle.cdcl_learn.proofs.last.refute.Goals as goal
 
-pub explain_all-requires-clause-history : goal.explain_all-requires-clause-history
-explain_all-requires-clause-history c =
-    let history : IsHistory (clause_of c.args.watches.now) c.literals-rows.result.now = rw c.literals-rows.ensures (history_of c.args.watches.now c.args.trail.now c.requires.settled) in
-    let is : c.as_slice.result.now ≡ take c.place_of-place.result c.literals-rows.result.now ++ (c.args.l, c.level.result, None) ∷ [] = c.as_slice.ensures.value ∙ (c.in_ok-push-in-Some.ensures.items ∙ ap (λ xs. xs ++ (c.args.l, c.level.result, None) ∷ []) c.in_ok-before-in-Some.ensures.items) in
-    cut_history (clause_of c.args.watches.now) c.literals-rows.result.now c.as_slice.result.now c.place_of-place.result c.level.result c.args.l history c.place_of-place.ensures.within c.place_of-place.ensures.opposite is
+pub refute_at-requires-clause-within : goal.refute_at-requires-clause-within
+refute_at-requires-clause-within c = (stands_row (literals_of c.args.trail.now) c.in-Some.place c.negated.result c.in-Some.ensures).0
 
-pub explain_all-requires-clause-conflict : goal.explain_all-requires-clause-conflict
-explain_all-requires-clause-conflict c =
-    let history : IsHistory (clause_of c.args.watches.now) c.literals-rows.result.now = rw c.literals-rows.ensures (history_of c.args.watches.now c.args.trail.now c.requires.settled) in
-    let is : c.as_slice.result.now ≡ take c.place_of-place.result c.literals-rows.result.now ++ (c.args.l, c.level.result, None) ∷ [] = c.as_slice.ensures.value ∙ (c.in_ok-push-in-Some.ensures.items ∙ ap (λ xs. xs ++ (c.args.l, c.level.result, None) ∷ []) c.in_ok-before-in-Some.ensures.items) in
-    let reason : reason_at c.literals-rows.result.now c.place_of-place.result ≡ Some c.in-Some.id = ap (λ (r : Row). r.2) (get_or_default c.literals-rows.result.now c.place_of-place.result no_row _ c.place_of-place.ensures.within) ∙ c.in-Some.is in
-    cut_refuted (clause_of c.args.watches.now) c.literals-rows.result.now c.as_slice.result.now c.place_of-place.result c.level.result c.args.l history c.place_of-place.ensures.within c.place_of-place.ensures.opposite is c.in-Some.id reason
-
-pub returns-in_ok-of_two-in-None-clause-chain : goal.returns-in_ok-of_two-in-None-clause-chain
-returns-in_ok-of_two-in-None-clause-chain c = rw (c.new.ensures.items, c.in_ok-of_two-in-None.ensures, c.negated.ensures) (pair_chain (clause_of c.args.watches.now) c.args.l)
-
-pub returns-in_ok-of_two-in-None-clause-against : goal.returns-in_ok-of_two-in-None-clause-against
-returns-in_ok-of_two-in-None-clause-against c = λ given only own l h.
-    let none : reason_at c.literals-rows.result.now c.place_of-place.result ≡ None = ap (λ (r : Row). r.2) (get_or_default c.literals-rows.result.now c.place_of-place.result no_row _ c.place_of-place.ensures.within) ∙ c.in-None.is in
-    let only2 : DecidesOnly given c.literals-rows.result.now = rw c.literals-rows.ensures only in
-    let there : Contains given (literal_at c.literals-rows.result.now c.place_of-place.result) = only2 c.place_of-place.result c.place_of-place.ensures.within none in
-    let other : Contains given (negated c.args.l) = rw c.place_of-place.ensures.opposite at there in
-    pair_against given c.args.l own other l (rw (c.in_ok-of_two-in-None.ensures, c.negated.ensures) at h)
-
-pub returns-in_ok-push-in-Some-clause-against : goal.returns-in_ok-push-in-Some-clause-against
-returns-in_ok-push-in-Some-clause-against c =
-    let history : IsHistory (clause_of c.args.watches.now) c.literals-rows.result.now = rw c.literals-rows.ensures (history_of c.args.watches.now c.args.trail.now c.requires.settled) in
-    let is : c.as_slice.result.now ≡ take c.place_of-place.result c.literals-rows.result.now ++ (c.args.l, c.level.result, None) ∷ [] = c.as_slice.ensures.value ∙ (c.in_ok-push-in-Some.ensures.items ∙ ap (λ xs. xs ++ (c.args.l, c.level.result, None) ∷ []) c.in_ok-before-in-Some.ensures.items) in
-    IfOk-weaker c.explain_all.result _ _ (λ r f given only own. f given (cut_given (clause_of c.args.watches.now) c.literals-rows.result.now c.as_slice.result.now c.place_of-place.result c.level.result c.args.l history c.place_of-place.ensures.within c.place_of-place.ensures.opposite is given (rw c.literals-rows.ensures only) own)) c.explain_all.ensures.against
+pub refute_at-requires-clause-opposite : goal.refute_at-requires-clause-opposite
+refute_at-requires-clause-opposite c = (stands_row (literals_of c.args.trail.now) c.in-Some.place c.negated.result c.in-Some.ensures).1 ∙ c.negated.ensures

@@ -10,5 +10,8 @@ invariant_of-self c = (
   ),
 )
 
-pub returns : goal.returns
-returns c = (pushed_first c.self.inside.places.items c.self.inside.heads.items c.args.self.now c.args.list c.args.place c.index.result.now c.index_mut.result.now c.self.view_is c.self.invariant.0 c.requires.list c.requires.place c.requires.named c.requires.idle c.index.ensures c.index_mut.ensures.value).0
+pub returns-clause-pushed : goal.returns-clause-pushed
+returns-clause-pushed c = (pushed_first c.self.inside.places.items c.self.inside.heads.items c.args.self.now c.args.list c.args.place c.index.result.now c.index_mut.result.now c.self.view_is c.self.invariant.0 c.requires.list c.requires.place c.requires.named c.requires.idle c.index.ensures c.index_mut.ensures.value).0
+
+pub returns-clause-once : goal.returns-clause-once
+returns-clause-once c = λ q. (pushed_first c.self.inside.places.items c.self.inside.heads.items c.args.self.now c.args.list c.args.place c.index.result.now c.index_mut.result.now c.self.view_is c.self.invariant.0 c.requires.list c.requires.place c.requires.named c.requires.idle c.index.ensures c.index_mut.ensures.value).1.once q

@@ -49,7 +49,7 @@ returns-clause-settled c =
     let level : c.enqueue.new.t.level + 1 ≡ c.args.trail.now.level + 2 = omega (arith, c.enqueue.ensures.same_level) in
     let stamp : c.args.trail.now.level + 1 + 1 ≡ c.args.trail.now.level + 2 = omega arith in
     let pu : IsPushed c.args.trail.now c.enqueue.new.t c.code.result (c.args.trail.now.level + 2) 0 (literal_of c.code.result, c.args.trail.now.level + 1, None) =
-    record { stamps = rw stamp at c.enqueue.ensures.stamps; codes = c.enqueue.ensures.codes; reasons = c.enqueue.ensures.reasons; rows = c.enqueue.ensures.rows; len = c.enqueue.ensures.len; head = c.enqueue.ensures.head; level = level } in
+    record { stamps = rw stamp at c.enqueue.ensures.stamps; codes = c.enqueue.ensures.codes; reasons = c.enqueue.ensures.reasons; rows = c.enqueue.ensures.rows; spots = c.enqueue.ensures.spots; len = c.enqueue.ensures.len; head = c.enqueue.ensures.head; level = level } in
     let e : c.code.result ≡ code_of c.args.l = c.code.ensures.code in
     decide_settles c.args.self.now c.args.trail.now c.enqueue.new.t c.code.result c.requires.settled c.requires.propagated c.code.ensures.from_two (rw e c.requires.known) (rw e free.0) (rw e free.1) pu
 
@@ -61,5 +61,5 @@ returns-clause-literals c =
     let level : c.enqueue.new.t.level + 1 ≡ c.args.trail.now.level + 2 = omega (arith, c.enqueue.ensures.same_level) in
     let stamp : c.args.trail.now.level + 1 + 1 ≡ c.args.trail.now.level + 2 = omega arith in
     let pu : IsPushed c.args.trail.now c.enqueue.new.t c.code.result (c.args.trail.now.level + 2) 0 (literal_of c.code.result, c.args.trail.now.level + 1, None) =
-    record { stamps = rw stamp at c.enqueue.ensures.stamps; codes = c.enqueue.ensures.codes; reasons = c.enqueue.ensures.reasons; rows = c.enqueue.ensures.rows; len = c.enqueue.ensures.len; head = c.enqueue.ensures.head; level = level } in
+    record { stamps = rw stamp at c.enqueue.ensures.stamps; codes = c.enqueue.ensures.codes; reasons = c.enqueue.ensures.reasons; rows = c.enqueue.ensures.rows; spots = c.enqueue.ensures.spots; len = c.enqueue.ensures.len; head = c.enqueue.ensures.head; level = level } in
     pushed_rows c.args.trail.now c.enqueue.new.t c.args.l c.code.result (c.args.trail.now.level + 2) 0 (c.args.trail.now.level + 1) None pu c.code.ensures.code wide

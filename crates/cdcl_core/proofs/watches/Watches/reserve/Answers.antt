@@ -6,9 +6,9 @@ pub returns-in_err-lengthen_trail-clause-settled : goal.returns-in_err-lengthen_
 returns-in_err-lengthen_trail-clause-settled c =
     let size : vec_len c.args.trail.now.stamps ≡ length c.args.trail.now.stamps.items = search rules in
     let less : length c.args.trail.now.stamps.items < 2 * c.args.variables = omega (arith, c.if-len-count.true, c.len.ensures, size) in
-    let sizes : (length c.args.trail.now.stamps.items ≤ length c.lengthen_trail.new.t.codes.items) × (length c.args.trail.now.stamps.items ≤ length c.lengthen_trail.new.t.rows.items) = longer_sizes c.args.self.now c.args.trail.now c.lengthen_trail.new.t 0 c.requires c.in_err-lengthen_trail.ensures.err in
+    let sizes : (length c.args.trail.now.stamps.items ≤ length c.lengthen_trail.new.t.codes.items) × (length c.args.trail.now.stamps.items ≤ length c.lengthen_trail.new.t.rows.items) × (length c.args.trail.now.stamps.items ≤ 2 * length c.lengthen_trail.new.t.spots.items) = longer_sizes c.args.self.now c.args.trail.now c.lengthen_trail.new.t 0 c.requires c.in_err-lengthen_trail.ensures.err in
     rw c.in_ok-grow_lists.ensures.ok (longer_settled c.args.self.now c.args.trail.now c.lengthen_trail.new.t (2 * c.args.variables + 2 - length c.args.self.now.lists.lists) 0 c.requires c.in_err-lengthen_trail.ensures.err
-    (omega (arith, sizes.0)) (c.lengthen_trail.ensures.reasons c.requires.reasoned.width) (omega (arith, sizes.1)) (omega (arith, c.requires.trail.even)) (omega (arith, c.requires.watched.lists)))
+    (omega (arith, sizes.0)) (c.lengthen_trail.ensures.reasons c.requires.reasoned.width) (omega (arith, sizes.1)) (omega (arith, sizes.2)) (omega (arith, c.requires.trail.even)) (omega (arith, c.requires.watched.lists)))
 
 pub returns-in_ok-lengthen_trail-clause-settled : goal.returns-in_ok-lengthen_trail-clause-settled
 returns-in_ok-lengthen_trail-clause-settled c =
@@ -16,4 +16,4 @@ returns-in_ok-lengthen_trail-clause-settled c =
     let less : length c.args.trail.now.stamps.items < 2 * c.args.variables = omega (arith, c.if-len-count.true, c.len.ensures, size) in
     let up : length c.args.trail.now.stamps.items + (2 * c.args.variables - length c.args.trail.now.stamps.items) ≡ 2 * c.args.variables = omega arith in
     rw c.in_ok-grow_lists.ensures.ok (longer_settled c.args.self.now c.args.trail.now c.lengthen_trail.new.t (2 * c.args.variables + 2 - length c.args.self.now.lists.lists) (2 * c.args.variables - length c.args.trail.now.stamps.items) c.requires c.in_ok-lengthen_trail.ensures.ok
-    (rw up c.in_ok-lengthen_trail.ensures.codes) (c.lengthen_trail.ensures.reasons c.requires.reasoned.width) (rw up c.in_ok-lengthen_trail.ensures.rows) (rw up (omega arith)) (rw up (omega arith)))
+    (rw up c.in_ok-lengthen_trail.ensures.codes) (c.lengthen_trail.ensures.reasons c.requires.reasoned.width) (rw up c.in_ok-lengthen_trail.ensures.rows) (rw up c.in_ok-lengthen_trail.ensures.spots) (rw up (omega arith)) (rw up (omega arith)))

@@ -1,6 +1,6 @@
 use Rattle.std.proofs.Common.{◌<◌, arith}
 use Rattle.cdcl_core.proofs.Freeing.{waiting}
-use Rattle.cdcl_core.proofs.add.free_slot.Goals as goal
+use Rattle.cdcl_core.proofs.grow.free_slot.Goals as goal
 
 pub returns-then-place-ne0-clause-waiting : goal.returns-then-place-ne0-clause-waiting
 returns-then-place-ne0-clause-waiting c =

@@ -1,0 +1,8 @@
+use Rattle.std.proofs.Common.{◌≤◌, length}
+use Rattle.cdcl_learn.proofs.minimizer.Minimizer.keep_levels.Given as goal
+
+abbrev pub invariant-marked : goal.invariant-marked
+invariant-marked l = l.i ≤ length l.marked.marks.now
+
+abbrev pub decreases-marked : goal.decreases-marked
+decreases-marked l = l.i
