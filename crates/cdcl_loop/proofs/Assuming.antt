@@ -1,18 +1,20 @@
 -- Literals that are decided.
-use Rattle.std.proofs.Common.{◌≡◌, ℕ, ◌+◌, ◌<◌, ◌≤◌, Bool, true, false, not, List, [], ◌∷◌, ◌++◌, length, take, Option, Some, None, refl, sym, ap, ◌∙◌, subst, inl, inr, ⊎_elim, arith, get_or}
-use Rattle.std.specs.Prelude.{Contains, MatchBool, MatchOption, slice_get}
-use Rattle.std.proofs.lemmas.Bool.{cases_lt}
-use Rattle.cnf_base.specs.Literals.{Literal, negated}
+use Rattle.std.proofs.Common.{◌≡◌, ℕ, ◌+◌, ◌<◌, List, [], ◌∷◌, ◌++◌, length, take, Option, Some, None, refl, ap, ◌∙◌, subst, ⊎_elim, arith, get_or}
+use Rattle.std.specs.Prelude.{Contains, MatchOption, slice_get}
+use Rattle.cnf_base.specs.Literals.{Literal}
 use Rattle.cdcl_core.specs.declared.trail.Trail.{Trail}
 use Rattle.cdcl_core.specs.declared.watches.Watches.{Watches}
-use Rattle.cdcl_core.specs.Levels.{Row, IsTrueBy, IsFalseBy, RestsBy, IsOpen, IsExtended}
-use Rattle.cdcl_core.specs.Search.{literals_of, level_of, clause_of}
+use Rattle.cdcl_core.specs.Levels.{Row, IsTrueBy, IsOpen, IsExtended}
+use Rattle.cdcl_core.specs.Search.{literals_of, level_of}
 use Rattle.cdcl_core.specs.State.{IsSettled}
 use Rattle.cdcl_learn.specs.Puts.{DecidesOnly}
 use Rattle.cdcl_learn.proofs.Lists.{front_cases}
+use Rattle.cdcl_loop.specs.declared.agenda.Agenda.{Agenda}
 use Rattle.cdcl_loop.specs.declared.engine.Engine.{Engine}
-use Rattle.cdcl_loop.specs.Courses.{IsCourse, AreValued}
+use Rattle.cdcl_loop.specs.Agendas.{IsScanned}
+use Rattle.cdcl_loop.specs.Courses.{IsCourse}
 use Rattle.cdcl_loop.specs.Engines.{IsTrailOf, IsAssumed}
+use Rattle.cdcl_loop.proofs.Agendas.{scanned_grown, scanned_extended}
 use Rattle.cdcl_loop.proofs.Courses.{true_more, true_later, true_extended, course_given, course_free, course_grew, decides_given}
 use Rattle.cdcl_loop.proofs.Trails.{trail_same, trail_decided, trail_extended, levels_below}
 
@@ -40,6 +42,12 @@ module _ (s : Engine) (w1 w2 : Watches) (t1 t2 t3 : Trail) (l : Literal) (h : Is
   pub decided_free : ((m : Literal) → Contains s.given.items m → IsTrueBy (literals_of s.trail) (level_of s.trail) m) → IsCourse (literals_of s.trail) (level_of s.trail) s.base s.given.items → IsCourse (literals_of t2) (level_of t2) s.base s.given.items
   decided_free all course = rw higher (course_free (literals_of s.trail) (literals_of t2) (level_of s.trail) s.base l s.given.items all from_start course)
 
+  -- the agenda, which kept its place of the level before
+  pub decided_scanned : (a : Agenda) → IsScanned a (literals_of s.trail) (level_of s.trail + 1) → IsScanned a (literals_of t2) (level_of t2)
+  decided_scanned a =
+      scanned_grown a (literals_of s.trail) (literals_of t2) (level_of s.trail + 1) (level_of t2) higher
+      (λ j m k. rw from_start (true_more (literals_of s.trail) ((l, level_of s.trail + 1, None) ∷ []) j m k))
+
   module _ (b : ℕ) (based : b ≡ level_of t2) (settled3 : IsSettled w2 t3) (grown : IsExtended (literals_of t2) (level_of t2) (literals_of t3)) (level3 : level_of t3 ≡ level_of t2) (has : Contains s.given.items l) (at_base : s.base ≡ level_of s.trail) (course : IsCourse (literals_of s.trail) (level_of s.trail) s.base s.given.items) where
     given_course : IsCourse (literals_of t2) (level_of t2) b s.given.items
     given_course =
@@ -48,6 +56,9 @@ module _ (s : Engine) (w1 w2 : Watches) (t1 t2 t3 : Trail) (l : Literal) (h : Is
 
     pub assumed_course : IsCourse (literals_of t3) (level_of t3) b s.given.items
     assumed_course = course_grew (literals_of t2) (literals_of t3) (level_of t2) (level_of t3) b s.given.items grown level3 given_course
+
+    pub assumed_scanned : (a : Agenda) → IsScanned a (literals_of s.trail) (level_of s.trail + 1) → IsScanned a (literals_of t3) (level_of t3)
+    assumed_scanned a k = scanned_extended a (literals_of t2) (literals_of t3) (level_of t2) (level_of t3) grown level3 (decided_scanned a k)
 
     pub assumed_trail : IsTrailOf w2 t3
     assumed_trail = trail_extended w1 w2 t2 t3 decided_trail settled3 grown
@@ -79,40 +90,3 @@ assumed_more w t u x given i l lt is h kept made m k = ⊎_elim (λ old. kept m 
 pub none_of : {A B : Type 0} (C : B → Type 0) (o : Option B) → ((x : B) → o ≡ Some x → ⊥) → MatchOption o A C → A
 none_of C None not_some m = m
 none_of C (Some x) not_some m = absurd (not_some x refl)
-
--- ---- variables with a value
-
-open_either : (rows : List Row) (level : ℕ) (l m : Literal) → l.variable ≡ m.variable → IsOpen rows level l → IsOpen rows level m
-open_either rows level l m e h = go l.positive m.positive refl refl
-  where
-    same : l.positive ≡ m.positive → IsOpen rows level m
-    same p = let q : l ≡ m = λ i. record { variable = e i; positive = p i } in subst (IsOpen rows level) q h
-
-    differ : not l.positive ≡ m.positive → l.positive ≡ not m.positive → IsOpen rows level m
-    differ p q =
-        let a : negated l ≡ m = λ i. record { variable = e i; positive = p i } in
-        let b : l ≡ negated m = λ i. record { variable = e i; positive = q i } in
-        ((λ t. h.1 (subst (IsTrueBy rows level) (sym a) t)), (λ t. h.0 (subst (IsTrueBy rows level) (sym b) t)))
-
-    go : (b c : Bool) → l.positive ≡ b → m.positive ≡ c → IsOpen rows level m
-    go true true p q = same (p ∙ sym q)
-    go false false p q = same (p ∙ sym q)
-    go true false p q = differ (ap not p ∙ sym q) (p ∙ sym (ap not q))
-    go false true p q = differ (ap not p ∙ sym q) (p ∙ sym (ap not q))
-
-pub value_not_open : (rows : List Row) (level : ℕ) (l : Literal) (b : Bool) → MatchBool b (IsTrueBy rows level l) (IsFalseBy rows level l) → IsOpen rows level l → ⊥
-value_not_open rows level l true m h = h.0 m
-value_not_open rows level l false m h = h.1 m
-
--- the variables below a number, and one more
-pub valued_none : (rows : List Row) (level : ℕ) → AreValued 1 rows level
-valued_none rows level m one lt = absurd (omega (arith, one, lt))
-
-pub valued_more : (n : ℕ) (l : Literal) (rows : List Row) (level : ℕ) → l.variable ≡ n → (IsOpen rows level l → ⊥) → AreValued n rows level → AreValued (n + 1) rows level
-valued_more n l rows level is closed h m one lt = elim (cases_lt m.variable n) [
-  | inl a ↦ h m one a
-  | inr a ↦ (λ o. closed (open_either rows level m l (omega (arith, is, a, lt)) o))
-]
-
-pub valued_less : (n bound : ℕ) (rows : List Row) (level : ℕ) → bound ≤ n → AreValued n rows level → AreValued bound rows level
-valued_less n bound rows level le h m one lt = h m one (omega (arith, le, lt))

@@ -1,4 +1,5 @@
 pub mod Courses
+pub mod Agendas
 pub mod Trails
 pub mod Values
 pub mod Assuming

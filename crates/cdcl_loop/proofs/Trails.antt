@@ -1,5 +1,5 @@
 -- The trail of a search.
-use Rattle.std.proofs.Common.{◌≡◌, ℕ, ◌+◌, ◌<◌, ◌≤◌, List, [], ◌∷◌, ◌++◌, length, filter, None}
+use Rattle.std.proofs.Common.{◌≡◌, ℕ, ◌+◌, ◌<◌, ◌≤◌, List, [], ◌∷◌, ◌++◌, length, filter, None, ◌∙◌}
 use Rattle.std.specs.Prelude.{nat_le}
 use Rattle.cnf_base.specs.Literals.{Literal}
 use Rattle.cnf_base.specs.declared.clause.ClauseId.{ClauseId}
@@ -11,7 +11,7 @@ use Rattle.cdcl_core.specs.State.{IsSettled}
 use Rattle.cdcl_learn.specs.Rows.{level_at}
 use Rattle.cdcl_learn.proofs.Facts.{rising_of}
 use Rattle.cdcl_learn.proofs.Orders.{first_extended, first_added, first_kept, first_decided}
-use Rattle.cdcl_loop.specs.Engines.{IsTrailOf}
+use Rattle.cdcl_loop.specs.Engines.{IsTrailOf, IsSameStore}
 use Rattle.cdcl_loop.proofs.Courses.{raised_extended, raised_added, raised_kept, raised_decided}
 
 pub trail_extended : (w v : Watches) (t u : Trail) → IsTrailOf w t → IsSettled v u → IsExtended (literals_of t) (level_of t) (literals_of u) → IsTrailOf v u
@@ -47,3 +47,8 @@ trail_decided w v t u l h s e = record {
   decided = first_decided (literals_of t) (literals_of u) l (level_of t) h.decided (levels_below w t h.settled) e;
   raised = raised_decided (literals_of t) (literals_of u) l (level_of t) e h.raised;
 }
+
+-- ---- what is kept and held
+
+pub store_then : (u v w : Watches) → IsSameStore u v → IsSameStore v w → IsSameStore u w
+store_then u v w h k = record { kept = λ id. k.kept id ∙ h.kept id; held = λ id. k.held id ∙ h.held id }

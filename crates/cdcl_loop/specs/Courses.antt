@@ -3,10 +3,7 @@ use Rattle.std.specs.Prelude.{◌≡◌, ◌≤◌, ◌<◌, ℕ, List, None, Co
 use Rattle.cnf_base.specs.Literals.{Literal}
 use Rattle.cdcl_core.specs.Levels.{Row, IsTrueBy, IsOpen}
 use Rattle.cdcl_learn.specs.Rows.{literal_at, level_at, reason_at}
-
--- no literal is decided at level 0
-abbrev pub AreRaised : List Row → Type 0
-AreRaised rows = (i : ℕ) → i < length rows → reason_at rows i ≡ None → 0 < level_at rows i
+pub use Rattle.cdcl_learn.specs.Rows.{AreRaised}
 
 -- what is decided up to the base level is given, and above it all given literals are true
 pub record IsCourse (rows : List Row) (level base : ℕ) (given : List Literal) : Type 0 where
@@ -14,6 +11,6 @@ pub record IsCourse (rows : List Row) (level base : ℕ) (given : List Literal) 
   pub assumed : (i : ℕ) → i < length rows → reason_at rows i ≡ None → level_at rows i ≤ base → Contains given (literal_at rows i)
   pub all : base < level → (l : Literal) → Contains given l → IsTrueBy rows base l
 
--- each of the variables with numbers below the bound has a value
-abbrev pub AreValued : ℕ → List Row → ℕ → Type 0
-AreValued bound rows level = (l : Literal) → 0 < l.variable → l.variable < bound → IsOpen rows level l → ⊥
+-- each of these variables has a value
+abbrev pub AreValued : List ℕ → List Row → ℕ → Type 0
+AreValued listed rows level = (l : Literal) → Contains listed l.variable → IsOpen rows level l → ⊥

@@ -1,17 +1,20 @@
 //! What a search chooses: variables, signs, restarts, and the clauses that it drops.
 
-ghost use Rattle.std.specs.Prelude.{◌<◌, ◌^◌, IfSome};
+ghost use Rattle.std.specs.Prelude.{IfSome, Contains};
 ghost use Rattle.cdcl_core.specs.Levels.{IsOpen};
 ghost use Rattle.cdcl_core.specs.Search.{literals_of, level_of};
 ghost use Rattle.cdcl_core.specs.State.{IsConsistent};
 
-use crate::model::Row;
 use cdcl_core::{Trail, Watches};
 use cnf_base::{ClauseId, Lit, Pos};
 use search_heuristics::{
     GlueCounter, Learnt, Phases, Restarts, VariableOrder, drops_are_due, worse_half,
 };
 use std::alloc::{AllocError, Global};
+use variable_list::VariableList;
+
+/// A row of the trail.
+pub(crate) type Row = (Lit, u64, Option<ClauseId>);
 
 /// The state of the choices.
 #[derive(Drop)]
@@ -34,28 +37,42 @@ pub struct Choices {
 }
 
 impl Choices {
-    /// For the variables below the bound.
-    pub(crate) fn new(alloc: Global, bound: u64) -> Result<Choices, AllocError> {
-        let bound = bound as usize;
-        let mut order = VariableOrder::new(alloc);
-        order.reserve(bound)?;
-        let mut phases = Phases::new(alloc);
-        phases.reserve(bound)?;
-        let mut counter = GlueCounter::new(alloc);
-        counter.reserve(bound)?;
-        Ok(Choices {
+    /// For no variable.
+    pub(crate) fn new(alloc: Global) -> Choices {
+        Choices {
             alloc,
-            order,
-            phases,
+            order: VariableOrder::new(alloc),
+            phases: Phases::new(alloc),
             restarts: Restarts::new(),
-            counter,
-            levels: vec![in alloc; 0; bound]?,
-            met: vec![in alloc; 0; bound]?,
+            counter: GlueCounter::new(alloc),
+            levels: Vec::new(alloc),
+            met: Vec::new(alloc),
             seen: 0,
             conflicts: 0,
             chains: Vec::new(alloc),
             learnt: Vec::new(alloc),
-        })
+        }
+    }
+
+    /// Has a row for the variable in each table. Where one comes, more come with it, so that this is seldom.
+    pub(crate) fn reserve(&mut self, variable: u64) -> Result<(), AllocError> {
+        if variable < self.levels.len() as u64 {
+            return Ok(());
+        }
+        let more = variable / 4;
+        let rows = variable.saturating_add(more).saturating_add(64) as usize;
+        self.order.reserve(rows)?;
+        self.phases.reserve(rows)?;
+        self.counter.reserve(rows)?;
+        self.met.resize(rows, 0)?;
+        self.levels.resize(rows, 0)?;
+        Ok(())
+    }
+
+    /// Forgets what late conflicts had, as another check begins; the signs of the variables stay, and the worth of chains.
+    pub(crate) fn renew(&mut self) {
+        self.order.forget();
+        self.restarts = Restarts::new();
     }
 
     /// Sees the new rows of the trail.
@@ -208,19 +225,23 @@ impl Choices {
         Ok(worst)
     }
 
-    /// An open literal of one of the variables below the bound, None where the order has none.
-    pub(crate) fn pick(&mut self, trail: &Trail, bound: u64) -> Option<Lit>
+    /// The sign that the variable had last.
+    pub(crate) fn is_positive(&self, variable: u64) -> bool {
+        self.phases.is_positive(variable)
+    }
+
+    /// An open literal of a listed variable that was bumped, None where there is none.
+    pub(crate) fn pick(&mut self, list: &VariableList, trail: &Trail) -> Option<Lit>
         requires consistent { IsConsistent trail.now }
-        requires bound { bound < 2 ^ 63 }
-        ensures { IfSome result (λ l. IsOpen (literals_of trail.now) (level_of trail.now) l) }
+        ensures { IfSome result (λ l. Contains list.now l.variable × IsOpen (literals_of trail.now) (level_of trail.now) l) }
     {
         for _ in 0..u64::MAX {
             let Some(variable) = self.order.pop() else {
                 return None;
             };
-            if variable > 0 && variable < bound {
+            if variable > 0 && variable < 1 << 63 {
                 let literal = Lit::new(variable, self.phases.is_positive(variable));
-                if trail.value(literal).is_none() {
+                if trail.value(literal).is_none() && list.has(variable) {
                     return Some(literal);
                 }
             }

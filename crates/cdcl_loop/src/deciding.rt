@@ -1,14 +1,15 @@
-//! What an engine decides: the given literals first, and then variables of the clauses.
+//! What an engine decides: the given literals first, and then the listed variables.
 
-ghost use Rattle.std.specs.Prelude.{ℕ, ◌≡◌, ◌<◌, ◌^◌, false, Contains, IfOk, OnOk, MatchOption};
-ghost use Rattle.cnf_base.specs.declared.clause.ClauseId.{ClauseId};
+ghost use Rattle.std.specs.Prelude.{◌≡◌, true, false, Contains, IfOk, OnOk, MatchOption};
 ghost use Rattle.cdcl_core.specs.Levels.{IsOpen};
-ghost use Rattle.cdcl_core.specs.Search.{literals_of, level_of, clause_of, IsAtRest};
+ghost use Rattle.cdcl_core.specs.Search.{literals_of, level_of, IsAtRest};
 ghost use Rattle.cdcl_core.specs.State.{IsPropagated, IsConsistent};
 ghost use Rattle.cdcl_learn.specs.Puts.{IsClash, AreGiven};
+ghost use Rattle.cdcl_loop.specs.Agendas.{IsScanned};
 ghost use Rattle.cdcl_loop.specs.Courses.{AreValued};
-ghost use Rattle.cdcl_loop.specs.Engines.{IsEngine, IsOnCourse, IsAssuming, IsAssumed};
+ghost use Rattle.cdcl_loop.specs.Engines.{IsEngine, IsOnCourse, IsSameTask, IsSameStore, IsAssuming, IsAssumed, HasDecided};
 
+use crate::agenda::Agenda;
 use crate::choices::Choices;
 use crate::engine::Engine;
 use cdcl_core::Trail;
@@ -16,30 +17,18 @@ use cdcl_learn::Clash;
 use cnf_base::Lit;
 use std::alloc::AllocError;
 
-// An open literal of one of the variables below the bound.
-fn first_open(trail: &Trail, bound: u64) -> Option<Lit>
+// An open literal of a listed variable that was bumped, else the next of the agenda.
+fn open_literal(choices: &mut Choices, agenda: &mut Agenda, trail: &Trail) -> Option<Lit>
     requires consistent { IsConsistent trail.now }
-    requires few { bound < 2 ^ 63 }
-    ensures { MatchOption result (AreValued bound (literals_of trail.now) (level_of trail.now)) (IsOpen (literals_of trail.now) (level_of trail.now)) }
+    requires scanned { IsScanned agenda.old (literals_of trail.now) (level_of trail.now) }
+    ensures list { agenda.new.list ≡ agenda.old.list }
+    ensures scanned { IsScanned agenda.new (literals_of trail.now) (level_of trail.now) }
+    ensures next { MatchOption result (AreValued agenda.old.list (literals_of trail.now) (level_of trail.now))
+        (λ l. Contains agenda.old.list l.variable × IsOpen (literals_of trail.now) (level_of trail.now) l) }
 {
-    'numbers: for variable in 1..bound {
-        let literal = Lit::new(variable, false);
-        let Some(_) = trail.value(literal) else {
-            return Some(literal);
-        };
-    }
-    None
-}
-
-// An open literal of one of the variables below the bound.
-fn open_literal(choices: &mut Choices, trail: &Trail, bound: u64) -> Option<Lit>
-    requires consistent { IsConsistent trail.now }
-    requires few { bound < 2 ^ 63 }
-    ensures { MatchOption result (AreValued bound (literals_of trail.now) (level_of trail.now)) (IsOpen (literals_of trail.now) (level_of trail.now)) }
-{
-    match choices.pick(trail, bound) {
+    match choices.pick(&agenda.list, trail) {
         Some(literal) => Some(literal),
-        None => first_open(trail, bound),
+        None => agenda.next_open(choices, trail),
     }
 }
 
@@ -52,12 +41,13 @@ impl Engine {
         requires at_base { self.old.base ≡ level_of self.old.trail }
         requires given { Contains self.old.given.items literal }
         requires unset { IsOpen (literals_of self.old.trail) (level_of self.old.trail) literal }
-        ensures given { self.new.given ≡ self.old.given }
-        ensures held { (id : ClauseId) → clause_of self.new.watches id ≡ clause_of self.old.watches id }
+        ensures task { IsSameTask self.old self.new }
+        ensures store { IsSameStore self.old.watches self.new.watches }
         ensures assuming { OnOk result (IsAssuming self.old self.new literal) }
         ensures clash { IfOk result (λ o. MatchOption o (IsPropagated self.new.watches self.new.trail × IsAtRest self.new.watches self.new.trail)
             (λ clash. IsClash self.new.watches self.new.trail clash × AreGiven self.old.given.items (literals_of self.new.trail) clash)) }
     {
+        self.agenda.mark()?;
         self.watches
             .reserve(&mut self.trail, literal.variable() + 1)?;
         self.watches.decide(&mut self.trail, literal);
@@ -78,8 +68,8 @@ impl Engine {
         requires course { IsOnCourse self.old }
         requires at_base { self.old.base ≡ level_of self.old.trail }
         requires given { Contains self.old.given.items literal }
-        ensures given { self.new.given ≡ self.old.given }
-        ensures held { (id : ClauseId) → clause_of self.new.watches id ≡ clause_of self.old.watches id }
+        ensures task { IsSameTask self.old self.new }
+        ensures store { IsSameStore self.old.watches self.new.watches }
         ensures clash { IfOk result (λ o. MatchOption o
             (IsAssuming self.old self.new literal × IsPropagated self.new.watches self.new.trail × IsAtRest self.new.watches self.new.trail)
             (λ clash. IsEngine self.new × IsOnCourse self.new × IsClash self.new.watches self.new.trail clash × AreGiven self.old.given.items (literals_of self.new.trail) clash)) }
@@ -97,8 +87,8 @@ impl Engine {
         requires propagated { IsPropagated self.old.watches self.old.trail }
         requires rest { IsAtRest self.old.watches self.old.trail }
         requires course { IsOnCourse self.old }
-        ensures given { self.new.given ≡ self.old.given }
-        ensures held { (id : ClauseId) → clause_of self.new.watches id ≡ clause_of self.old.watches id }
+        ensures task { IsSameTask self.old self.new }
+        ensures store { IsSameStore self.old.watches self.new.watches }
         ensures engine { OnOk result (IsEngine self.new) }
         ensures course { OnOk result (IsOnCourse self.new) }
         ensures clash { IfOk result (λ o. MatchOption o (IsAssumed self.new.watches self.new.trail self.old.given.items)
@@ -116,21 +106,22 @@ impl Engine {
         Ok(None)
     }
 
-    /// Decides one of the variables from 1 on below the bound; false where each has a value.
-    pub fn decide(&mut self, bound: u64) -> Result<bool, AllocError>
+    /// Decides a listed variable: one that was bumped, else the next of the list; false where each listed variable has a value.
+    pub fn decide(&mut self) -> Result<bool, AllocError>
         requires engine { IsEngine self.old }
         requires assumed { IsAssumed self.old.watches self.old.trail self.old.given.items }
         requires course { IsOnCourse self.old }
-        requires few { bound < 2 ^ 63 }
-        ensures given { self.new.given ≡ self.old.given }
-        ensures held { (id : ClauseId) → clause_of self.new.watches id ≡ clause_of self.old.watches id }
+        ensures task { IsSameTask self.old self.new }
+        ensures store { IsSameStore self.old.watches self.new.watches }
         ensures engine { OnOk result (IsEngine self.new) }
         ensures course { OnOk result (IsOnCourse self.new) }
-        ensures none { IfOk result (λ more. more ≡ false → (self.new.watches ≡ self.old.watches) × (self.new.trail ≡ self.old.trail) × AreValued bound (literals_of self.old.trail) (level_of self.old.trail)) }
+        ensures decided { IfOk result (λ more. more ≡ true → HasDecided self.old self.new) }
+        ensures none { IfOk result (λ more. more ≡ false → (self.new.watches ≡ self.old.watches) × (self.new.trail ≡ self.old.trail) × AreValued self.old.agenda.list (literals_of self.old.trail) (level_of self.old.trail)) }
     {
-        let Some(literal) = open_literal(&mut self.choices, &self.trail, bound) else {
+        let Some(literal) = open_literal(&mut self.choices, &mut self.agenda, &self.trail) else {
             return Ok(false);
         };
+        self.agenda.mark()?;
         self.watches
             .reserve(&mut self.trail, literal.variable() + 1)?;
         self.watches.decide(&mut self.trail, literal);

@@ -1,12 +1,16 @@
 //! An engine, and how it begins, propagates and goes back.
 
-ghost use Rattle.std.specs.Prelude.{ℕ, ◌≡◌, ◌⊎◌, ◌<◌, ◌≤◌, [], filter, nat_le, IfOk, MatchOption};
+ghost use Rattle.std.specs.Prelude.{◌≡◌, ◌⊎◌, ◌≤◌, [], filter, nat_le, Contains, OnOk, MatchBool, MatchOption};
 ghost use Rattle.std.specs.Option.{option_copied};
-ghost use Rattle.cnf_base.specs.declared.clause.ClauseId.{ClauseId};
+ghost use Rattle.cnf_base.specs.Clauses.{lit_true};
+ghost use Rattle.variable_list.specs.Variables.{IsVariable, IsListed};
+ghost use Rattle.cdcl_core.specs.Levels.{IsExtended};
 ghost use Rattle.cdcl_core.specs.Search.{literals_of, level_of, clause_of, IsAtRest, IsConflict};
 ghost use Rattle.cdcl_core.specs.State.{IsPropagated};
-ghost use Rattle.cdcl_loop.specs.Engines.{IsTrailOf, IsEngine, IsOnCourse};
+ghost use Rattle.cdcl_loop.specs.Values.{valuation};
+ghost use Rattle.cdcl_loop.specs.Engines.{IsTrailOf, IsEngine, IsOnCourse, IsSameTask, IsSameStore};
 
+use crate::agenda::Agenda;
 use crate::choices::Choices;
 use cdcl_core::{Trail, Watches};
 use cnf_base::{Clause, ClauseId, Lit};
@@ -19,34 +23,51 @@ pub struct Engine {
     pub(crate) watches: Watches,
     pub(crate) trail: Trail,
     pub(crate) choices: Choices,
+    pub(crate) agenda: Agenda,
     // the decisions up to this level are given literals
     pub(crate) base: u64,
     pub(crate) given: Vec<Lit>,
 }
 
 impl Engine {
-    /// An engine over these clauses and their trail at level 0, with no given literal. It weighs the variables below the bound.
-    pub fn new(
-        alloc: Global,
-        watches: Watches,
-        trail: Trail,
-        bound: u64,
-    ) -> Result<Engine, AllocError>
+    /// An engine over these clauses and their trail at level 0, with no given literal and no listed variable.
+    pub fn new(alloc: Global, watches: Watches, trail: Trail) -> Engine
         requires trail { IsTrailOf watches trail }
         requires level { level_of trail ≡ 0 }
-        ensures watches { IfOk result (λ e. e.watches ≡ watches) }
-        ensures trail { IfOk result (λ e. e.trail ≡ trail) }
-        ensures given { IfOk result (λ e. e.given.items ≡ []) }
-        ensures course { IfOk result (λ e. IsOnCourse e) }
+        ensures watches { result.watches ≡ watches }
+        ensures trail { result.trail ≡ trail }
+        ensures given { result.given.items ≡ [] }
+        ensures listed { result.agenda.list ≡ [] }
+        ensures course { IsOnCourse result }
     {
-        Ok(Engine {
+        Engine {
             alloc,
             watches,
             trail,
-            choices: Choices::new(alloc, bound)?,
+            choices: Choices::new(alloc),
+            agenda: Agenda::new(alloc),
             base: 0,
             given: Vec::new(alloc),
-        })
+        }
+    }
+
+    /// A variable is listed, behind those that are, where it is not among them.
+    pub fn list(&mut self, variable: u64) -> Result<(), AllocError>
+        requires { IsVariable variable }
+        ensures same { self.new ≡ record self.old { choices = self.new.choices; agenda = self.new.agenda } }
+        ensures listed { OnOk result (IsListed self.old.agenda.list variable self.new.agenda.list) }
+        ensures course { IsOnCourse self.old → IsOnCourse self.new }
+    {
+        self.choices.reserve(variable)?;
+        self.agenda.add(variable)?;
+        Ok(())
+    }
+
+    /// Whether the variable is listed.
+    pub fn lists(&self, variable: u64) -> bool
+        ensures { MatchBool result (Contains self.now.agenda.list variable) (Contains self.now.agenda.list variable → ⊥) }
+    {
+        self.agenda.has(variable)
     }
 
     /// The trail.
@@ -70,24 +91,34 @@ impl Engine {
         self.base
     }
 
-    /// The held clause of this name.
+    /// The clause that is kept under this name.
     pub fn clause(&self, id: ClauseId) -> Option<&Clause>
         ensures { option_copied result ≡ clause_of self.now.watches id }
     {
         self.watches.clause(id)
     }
 
+    /// Whether the literal is true where each variable without a value is false.
+    pub fn is_true(&self, l: Lit) -> bool
+        ensures { result ≡ lit_true (valuation self.now.trail) l }
+    {
+        let value = self.trail.is_true(Lit::new(l.variable(), true));
+        if l.is_positive() { value } else { !value }
+    }
+
     /// Takes back every literal above the level.
     pub fn go_back(&mut self, level: u64)
         requires engine { IsEngine self.old }
         requires lower { level ≤ level_of self.old.trail }
-        ensures same { self.new ≡ record self.old { trail = self.new.trail; choices = self.new.choices; base = self.new.base } }
+        ensures same { self.new ≡ record self.old { trail = self.new.trail; choices = self.new.choices; agenda = self.new.agenda; base = self.new.base } }
+        ensures task { IsSameTask self.old self.new }
         ensures engine { IsEngine self.new }
         ensures level { level_of self.new.trail ≡ level }
         ensures literals { literals_of self.new.trail ≡ filter (λ r. nat_le r.1 level) (literals_of self.old.trail) }
         ensures course { IsOnCourse self.old → IsOnCourse self.new }
     {
         self.choices.take_back(self.trail.literals(), level);
+        self.agenda.go_back(level);
         self.watches.backjump(&mut self.trail, level);
         if level < self.base {
             self.base = level;
@@ -99,20 +130,41 @@ impl Engine {
         requires engine { IsEngine self.old }
         ensures watches { self.new.watches ≡ self.old.watches }
         ensures given { self.new.given ≡ given }
+        ensures listed { self.new.agenda.list ≡ self.old.agenda.list }
         ensures engine { IsEngine self.new }
         ensures level { level_of self.new.trail ≡ 0 }
         ensures course { IsOnCourse self.new }
     {
         self.go_back(0);
+        self.agenda.rewind();
         self.base = 0;
         self.given = given;
+    }
+
+    /// Begins another check: every decision is taken back, no literal is given, no variable is listed, and what late conflicts had is
+    /// forgotten. The variables keep their signs.
+    pub fn renew(&mut self)
+        requires engine { IsEngine self.old }
+        ensures watches { self.new.watches ≡ self.old.watches }
+        ensures given { self.new.given.items ≡ [] }
+        ensures listed { self.new.agenda.list ≡ [] }
+        ensures engine { IsEngine self.new }
+        ensures level { level_of self.new.trail ≡ 0 }
+        ensures course { IsOnCourse self.new }
+    {
+        self.go_back(0);
+        self.agenda.clear();
+        self.choices.renew();
+        self.base = 0;
+        self.given.clear();
     }
 
     /// Takes back every decision but those of given literals where it is time to.
     pub fn restart(&mut self)
         requires engine { IsEngine self.old }
         requires course { IsOnCourse self.old }
-        ensures same { self.new ≡ record self.old { trail = self.new.trail; choices = self.new.choices; base = self.new.base } }
+        ensures same { self.new ≡ record self.old { trail = self.new.trail; choices = self.new.choices; agenda = self.new.agenda; base = self.new.base } }
+        ensures task { IsSameTask self.old self.new }
         ensures engine { IsEngine self.new }
         ensures course { IsOnCourse self.new }
         ensures back { (self.new.trail ≡ self.old.trail) ⊎ (literals_of self.new.trail ≡ filter (λ r. nat_le r.1 self.old.base) (literals_of self.old.trail)) }
@@ -123,13 +175,15 @@ impl Engine {
         }
     }
 
-    /// Brings unit propagation to rest, or to a held clause that is false.
+    /// Brings unit propagation to rest, or to a held clause that is false, at the present level.
     pub fn propagate(&mut self) -> Option<ClauseId>
         requires { IsEngine self.old }
-        ensures given { self.new.given ≡ self.old.given }
-        ensures held { (id : ClauseId) → clause_of self.new.watches id ≡ clause_of self.old.watches id }
+        ensures task { IsSameTask self.old self.new }
+        ensures store { IsSameStore self.old.watches self.new.watches }
         ensures engine { IsEngine self.new }
         ensures course { IsOnCourse self.old → IsOnCourse self.new }
+        ensures literals { IsExtended (literals_of self.old.trail) (level_of self.old.trail) (literals_of self.new.trail) }
+        ensures level { level_of self.new.trail ≡ level_of self.old.trail }
         ensures rest { MatchOption result (IsPropagated self.new.watches self.new.trail × IsAtRest self.new.watches self.new.trail) (IsConflict self.new.watches self.new.trail) }
     {
         let conflict = self.watches.propagate(&mut self.trail);

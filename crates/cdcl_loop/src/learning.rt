@@ -1,18 +1,15 @@
 //! The clauses that an engine learns, takes and drops.
 
-ghost use Rattle.std.specs.Prelude.{ℕ, ◌≡◌, ◌≢◌, ◌<◌, List, Some, None, true, IfOk, OnOk, MatchBool};
+ghost use Rattle.std.specs.Prelude.{◌≡◌, ◌<◌, List, Some, None, true, Contains, filter, nat_le, IfOk, OnOk, MatchBool};
 ghost use Rattle.cnf_base.specs.Literals.{Literal};
-ghost use Rattle.cnf_base.specs.Clauses.{lit_true};
-ghost use Rattle.cnf_base.specs.declared.clause.ClauseId.{ClauseId};
 ghost use Rattle.hint_chain.specs.Chains.{IsChain};
-ghost use Rattle.cdcl_core.specs.Levels.{IsTrueBy, RestsBy};
-ghost use Rattle.cdcl_core.specs.Search.{literals_of, level_of, clause_of, IsConflict};
-ghost use Rattle.cdcl_learn.specs.Puts.{IsClash, AreGiven, IsAgainst, IsGoodPut, IsUnitAfter};
-ghost use Rattle.cdcl_loop.specs.Engines.{IsEngine, IsOnCourse, IsReason, IsIdle};
-ghost use Rattle.cdcl_loop.specs.Values.{assignment};
+ghost use Rattle.cdcl_core.specs.Levels.{RestsBy, IsAdded};
+ghost use Rattle.cdcl_core.specs.Search.{literals_of, level_of, clause_of, held_of, IsConflict};
+ghost use Rattle.cdcl_learn.specs.Puts.{IsClash, AreGiven, IsAgainst, IsGoodPut, IsUnitAfter, StandsIn};
+ghost use Rattle.cdcl_loop.specs.Engines.{IsEngine, IsOnCourse, IsSameTask, IsSameBut, IsReason, IsIdle};
 
+use crate::choices::Row;
 use crate::engine::Engine;
-use crate::model::{Row, values};
 use cdcl_learn::{Clash, final_clause, learn};
 use cnf_base::{Clause, ClauseId, Pos};
 use std::alloc::AllocError;
@@ -48,7 +45,8 @@ impl Engine {
         requires above { 0 < level_of self.old.trail }
         ensures same { self.new ≡ record self.old { choices = self.new.choices } }
         ensures chain { IfOk result (λ r. IsChain (clause_of self.old.watches) r.0 r.1.items) }
-        ensures good { IfOk result (λ r. IsGoodPut (clause_of self.old.watches) (literals_of self.old.trail) (level_of self.old.trail) r.0 r.1.items) }
+        ensures good { IfOk result (λ r. IsGoodPut (clause_of self.old.watches) (held_of self.old.watches) (literals_of self.old.trail) (level_of self.old.trail) r.0 r.1.items) }
+        ensures among { IfOk result (λ r. (l : Literal) → Contains r.0 l → StandsIn (held_of self.old.watches) r.1.items l) }
         ensures lower { IfOk result (λ r. r.2 < level_of self.old.trail) }
         ensures unit { IfOk result (λ r. IsUnitAfter (literals_of self.old.trail) r.2 r.0) }
     {
@@ -62,18 +60,20 @@ impl Engine {
         Ok((clause, hints, level))
     }
 
-    /// Holds a learnt clause as part 0 of this position, at the level where it is unit.
+    /// Holds a learnt clause as part 0 of this position, at the level where it is unit: its last open literal is forced.
     pub fn keep(&mut self, clause: Clause, level: u64, at: Pos) -> Result<(), AllocError>
         requires engine { IsEngine self.old }
         requires lower { level < level_of self.old.trail }
         requires unit { IsUnitAfter (literals_of self.old.trail) level clause }
         requires fresh { clause_of self.old.watches (record { pos = at; part = 0 }) ≡ None }
-        ensures given { self.new.given ≡ self.old.given }
+        ensures task { IsSameTask self.old self.new }
         ensures engine { OnOk result (IsEngine self.new) }
         ensures course { OnOk result (IsOnCourse self.old → IsOnCourse self.new) }
         ensures level { OnOk result (level_of self.new.trail ≡ level) }
-        ensures held { OnOk result (clause_of self.new.watches (record { pos = at; part = 0 }) ≡ Some clause) }
-        ensures others { (q : ClauseId) → q ≢ record { pos = at; part = 0 } → clause_of self.new.watches q ≡ clause_of self.old.watches q }
+        ensures literals { OnOk result (IsAdded (filter (λ r. nat_le r.1 level) (literals_of self.old.trail)) level (record { pos = at; part = 0 }) clause (literals_of self.new.trail)) }
+        ensures kept { OnOk result (clause_of self.new.watches (record { pos = at; part = 0 }) ≡ Some clause) }
+        ensures held { OnOk result (held_of self.new.watches (record { pos = at; part = 0 }) ≡ Some clause) }
+        ensures others { IsSameBut (record { pos = at; part = 0 }) self.old.watches self.new.watches }
     {
         self.choices.name(at)?;
         self.go_back(level);
@@ -82,16 +82,19 @@ impl Engine {
         Ok(())
     }
 
-    /// Holds a clause that comes from elsewhere as part 0 of this position. It goes back only where the clause asks for it.
+    /// Holds a clause that comes from elsewhere as part 0 of this position. It goes back only where the clause asks for it; where
+    /// the clause is unit then, its last open literal is forced.
     pub fn admit(&mut self, clause: Clause, at: Pos) -> Result<(), AllocError>
         requires engine { IsEngine self.old }
         requires fresh { clause_of self.old.watches (record { pos = at; part = 0 }) ≡ None }
-        ensures given { self.new.given ≡ self.old.given }
+        ensures task { IsSameTask self.old self.new }
         ensures engine { OnOk result (IsEngine self.new) }
         ensures course { OnOk result (IsOnCourse self.old → IsOnCourse self.new) }
+        ensures literals { OnOk result (IsAdded (filter (λ r. nat_le r.1 (level_of self.new.trail)) (literals_of self.old.trail)) (level_of self.new.trail) (record { pos = at; part = 0 }) clause (literals_of self.new.trail)) }
         ensures level { OnOk result (level_of self.new.trail < level_of self.old.trail → RestsBy (literals_of self.old.trail) (level_of self.new.trail) clause → ⊥) }
-        ensures held { OnOk result (clause_of self.new.watches (record { pos = at; part = 0 }) ≡ Some clause) }
-        ensures others { (q : ClauseId) → q ≢ record { pos = at; part = 0 } → clause_of self.new.watches q ≡ clause_of self.old.watches q }
+        ensures kept { OnOk result (clause_of self.new.watches (record { pos = at; part = 0 }) ≡ Some clause) }
+        ensures held { OnOk result (held_of self.new.watches (record { pos = at; part = 0 }) ≡ Some clause) }
+        ensures others { IsSameBut (record { pos = at; part = 0 }) self.old.watches self.new.watches }
     {
         let level = self.watches.level_for(&self.trail, &clause);
         self.choices.take(at, clause.literals().len())?;
@@ -101,13 +104,13 @@ impl Engine {
         Ok(())
     }
 
-    /// Drops the clause of this name where it is held and forced no literal of the trail, and tells whether it did.
+    /// Drops the clause of this name where it is kept and forced no literal of the trail, and tells whether it did.
     pub fn drop_idle(&mut self, id: ClauseId) -> bool
         requires engine { IsEngine self.old }
         ensures same { self.new ≡ record self.old { watches = self.new.watches } }
         ensures engine { IsEngine self.new }
         ensures dropped { MatchBool result (IsIdle self.old id × (clause_of self.new.watches id ≡ None)) ((IsIdle self.old id → ⊥) × (self.new ≡ self.old)) }
-        ensures others { (q : ClauseId) → q ≢ id → clause_of self.new.watches q ≡ clause_of self.old.watches q }
+        ensures others { IsSameBut id self.old.watches self.new.watches }
     {
         let Some(_) = self.watches.clause(id) else {
             return false;
@@ -129,20 +132,12 @@ impl Engine {
     pub fn worst(&mut self) -> Result<Vec<Pos>, AllocError>
         requires engine { IsEngine self.old }
         ensures watches { self.new.watches ≡ self.old.watches }
-        ensures given { self.new.given ≡ self.old.given }
+        ensures task { IsSameTask self.old self.new }
         ensures engine { IsEngine self.new }
         ensures level { level_of self.new.trail ≡ 0 }
         ensures course { IsOnCourse self.old → IsOnCourse self.new }
     {
         self.go_back(0);
         self.choices.worst()
-    }
-
-    /// The values of the variables of the true literals.
-    pub fn values(&self) -> Result<Vec<bool>, AllocError>
-        requires { IsEngine self.now }
-        ensures { IfOk result (λ values. (l : Literal) → IsTrueBy (literals_of self.now.trail) (level_of self.now.trail) l → lit_true (assignment values.items) l ≡ true) }
-    {
-        values(self.alloc, &self.watches, &self.trail)
     }
 }

@@ -5,7 +5,7 @@ ghost use Rattle.cdcl_core.specs.Search.{IsConflict};
 ghost use Rattle.cdcl_loop.specs.Engines.{IsEngine, IsOnCourse};
 
 use crate::Engine;
-use crate::tests::{assume, begun, literals};
+use crate::tests::{assume, begun, list_below, literals};
 use cdcl_learn::Clash;
 use cnf_base::{ClauseId, Pos};
 use std::alloc::{AllocError, Global};
@@ -71,12 +71,13 @@ fn learn_under(engine: &mut Engine, given: &[i64], times: u64) -> Result<(), All
 fn restarted(engine: &mut Engine, low: u64, high: u64) -> Result<u64, AllocError>
     requires { IsEngine engine.old }
 {
+    list_below(engine, 9)?;
     learn_under(engine, &[1], low)?;
     learn_under(engine, &[3, 4, 5, 6], high)?;
     let none = Vec::new(engine.alloc);
     engine.begin(none);
     assume(engine)?;
-    if !engine.decide(9)? {
+    if !engine.decide()? {
         return Err(AllocError);
     }
     engine.restart();

@@ -68,8 +68,7 @@ fn empty(alloc: Global) -> Result<Engine, AllocError>
 {
     let watches = Watches::new(alloc)?;
     let trail = Trail::new(alloc);
-    let engine = Engine::new(alloc, watches, trail, 10)?;
-    Ok(engine)
+    Ok(Engine::new(alloc, watches, trail))
 }
 
 // An engine over the clauses, where a search under the given literals begins.
@@ -104,6 +103,18 @@ pub(crate) fn assume(engine: &mut Engine) -> Result<(), AllocError>
     }
     if let Some(_clash) = engine.assume()? {
         return Err(AllocError);
+    }
+    Ok(())
+}
+
+// Lists the variables from 1 on below the bound.
+pub(crate) fn list_below(engine: &mut Engine, bound: u64) -> Result<(), AllocError>
+    requires bound { bound < 2 ^ 63 }
+    ensures engine { IsEngine engine.old → IsEngine engine.new }
+    ensures course { IsOnCourse engine.old → IsOnCourse engine.new }
+{
+    'variables: for variable in 1..bound {
+        engine.list(variable)?;
     }
     Ok(())
 }
@@ -167,46 +178,86 @@ fn a_search_is_closed_where_its_given_literals_are_refuted(rt: HostRuntime) -> R
 
 // ---- the end of a search
 
-// The values where each variable below the bound has one as soon as the given literals are true; None where one is decided.
-fn values(engine: &mut Engine, bound: u64) -> Result<Option<Vec<bool>>, AllocError>
+// The values of the variables 1, 2 and 3 where each variable below the bound has one as soon as the given literals are true; None
+// where one is decided.
+fn values(engine: &mut Engine, bound: u64) -> Result<Option<[bool; 3]>, AllocError>
     requires engine { IsEngine engine.old }
     requires course { IsOnCourse engine.old }
     requires few { bound < 2 ^ 63 }
 {
+    list_below(engine, bound)?;
     assume(engine)?;
-    if engine.decide(bound)? {
+    if engine.decide()? {
         return Ok(None);
     }
-    Ok(Some(engine.values()?))
+    Ok(Some([
+        engine.is_true(Lit::new(1, true)),
+        engine.is_true(Lit::new(2, true)),
+        !engine.is_true(Lit::new(3, false)),
+    ]))
 }
 
-// Whether these are the values under the given literals of a search over two clauses.
-fn are_values(
-    alloc: Global,
-    given: &[i64],
-    bound: u64,
-    wanted: Option<&[bool]>,
-) -> Result<bool, AllocError>
+// The same under the given literals of a search over two clauses.
+fn values_under(alloc: Global, given: &[i64], bound: u64) -> Result<Option<[bool; 3]>, AllocError>
     requires { bound < 2 ^ 63 }
 {
     let mut engine = begun(alloc, &[&[-1, 2], &[-2, -3]], given)?;
     let found = values(&mut engine, bound);
     drop(engine);
-    let found = found?;
-    match (&found, wanted) {
-        (Some(values), Some(expected)) => Ok(values.as_slice() == expected),
-        (None, None) => Ok(true),
-        _ => Ok(false),
-    }
+    found
 }
 
 #[test]
 fn a_search_ends_where_each_variable_has_a_value(rt: HostRuntime) -> Result<(), Fail> {
     let alloc = rt.alloc();
-    assert!(rt; are_values(alloc, &[1], 4, Some(&[false, true, true]))?);
-    assert!(rt; are_values(alloc, &[3], 4, Some(&[false, false, false, true]))?);
-    assert!(rt; are_values(alloc, &[1], 5, None)?);
-    assert!(rt; are_values(alloc, &[2], 4, None)?);
+    assert_eq!(rt; values_under(alloc, &[1], 4)?, Some([true, true, false]));
+    assert_eq!(rt; values_under(alloc, &[3], 4)?, Some([false, false, true]));
+    assert_eq!(rt; values_under(alloc, &[1], 5)?, None);
+    assert_eq!(rt; values_under(alloc, &[2], 4)?, None);
+    Ok(())
+}
+
+// Decides once, and tells the variable; 0 where each listed variable has a value.
+fn next_variable(engine: &mut Engine) -> Result<u64, AllocError>
+    requires engine { IsEngine engine.old }
+    requires course { IsOnCourse engine.old }
+    ensures engine { OnOk result (IsEngine engine.new) }
+    ensures course { OnOk result (IsOnCourse engine.new) }
+{
+    assume(engine)?;
+    if !engine.decide()? {
+        return Ok(0);
+    }
+    match engine.trail().literals().last() {
+        Some(row) => Ok(row.0.variable()),
+        None => Ok(0),
+    }
+}
+
+// The variables of two decisions, and of those behind the first until each listed variable has a value.
+fn in_order(engine: &mut Engine) -> Result<[u64; 5], AllocError>
+    requires engine { IsEngine engine.old }
+    requires course { IsOnCourse engine.old }
+{
+    engine.list(5)?;
+    engine.list(2)?;
+    engine.list(7)?;
+    engine.list(1)?;
+    let first = next_variable(engine)?;
+    let second = next_variable(engine)?;
+    lower(engine, 1);
+    let again = next_variable(engine)?;
+    let third = next_variable(engine)?;
+    let end = next_variable(engine)?;
+    Ok([first, second, again, third, end])
+}
+
+#[test]
+fn variables_are_decided_in_their_order(rt: HostRuntime) -> Result<(), Fail> {
+    let mut engine = begun(rt.alloc(), &[&[5, 7]], &[])?;
+    let told = in_order(&mut engine);
+    drop(engine);
+    assert_eq!(rt; told?, [5, 2, 2, 1, 0]);
     Ok(())
 }
 
@@ -246,15 +297,16 @@ fn a_clause_from_elsewhere_goes_back_where_it_asks(rt: HostRuntime) -> Result<()
     Ok(())
 }
 
-// The length and the level of what is learnt from the conflict of the next decision below 4. It is held at position 9.
+// The length and the level of what is learnt from the conflict of the next decision. It is held at position 9.
 fn learn_next(engine: &mut Engine) -> Result<(usize, u64), AllocError>
     requires engine { IsEngine engine.old }
     requires course { IsOnCourse engine.old }
     ensures engine { OnOk result (IsEngine engine.new) }
     ensures course { OnOk result (IsOnCourse engine.new) }
 {
+    list_below(engine, 4)?;
     assume(engine)?;
-    if !engine.decide(4)? {
+    if !engine.decide()? {
         return Err(AllocError);
     }
     let Some(id) = engine.propagate() else {
@@ -307,7 +359,8 @@ fn a_learnt_clause_is_held_where_it_is_unit(rt: HostRuntime) -> Result<(), Fail>
 // Goes back to a lower level.
 fn lower(engine: &mut Engine, level: u64)
     requires { IsEngine engine.old }
-    ensures { IsEngine engine.new }
+    ensures engine { IsEngine engine.new }
+    ensures course { IsOnCourse engine.old → IsOnCourse engine.new }
 {
     if level < engine.level() {
         engine.go_back(level);

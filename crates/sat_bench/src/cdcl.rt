@@ -53,16 +53,11 @@ fn clean(engine: &mut Engine, conflicts: u64) -> Result<(), AllocError>
     Ok(())
 }
 
-// Propagates and decides until a held clause is false, or each variable from 1 on below the bound has a value.
-fn next_conflict(
-    engine: &mut Engine,
-    bound: u64,
-    counts: &mut Counts,
-) -> Result<Option<ClauseId>, AllocError>
+// Propagates and decides until a held clause is false, or each listed variable has a value.
+fn next_conflict(engine: &mut Engine, counts: &mut Counts) -> Result<Option<ClauseId>, AllocError>
     requires engine { IsEngine engine.old }
     requires course { IsOnCourse engine.old }
     requires free { engine.old.given.items ≡ [] }
-    requires bound { bound < 2 ^ 63 }
     ensures engine { OnOk result (IsEngine engine.new) }
     ensures course { OnOk result (IsOnCourse engine.new) }
     ensures given { OnOk result (engine.new.given ≡ engine.old.given) }
@@ -77,7 +72,7 @@ fn next_conflict(
         if let Some(id) = conflict {
             return Ok(Some(id));
         }
-        if !engine.decide(bound)? {
+        if !engine.decide()? {
             return Ok(None);
         }
         counts.decisions = counts.decisions.wrapping_add(1);
@@ -86,24 +81,32 @@ fn next_conflict(
     Err(AllocError)
 }
 
-/// Searches for values of the variables from 1 on below the bound until the answer is known. The clauses are named by positions below
-/// `first`, and the learnt ones from there on.
-pub fn solve(
-    engine: &mut Engine,
-    log: &mut Log,
-    bound: u64,
-    first: Pos,
-) -> Result<(Answer, Counts), AllocError>
+/// Lists the variables from 1 on below the bound, to be decided in that order.
+pub fn list_below(engine: &mut Engine, bound: u64) -> Result<(), AllocError>
+    requires bound { bound < 2 ^ 63 }
+    ensures engine { IsEngine engine.old → IsEngine engine.new }
+    ensures course { IsOnCourse engine.old → IsOnCourse engine.new }
+    ensures watches { engine.new.watches ≡ engine.old.watches }
+    ensures given { engine.new.given ≡ engine.old.given }
+{
+    'variables: for variable in 1..bound {
+        engine.list(variable)?;
+    }
+    Ok(())
+}
+
+/// Searches for values of the listed variables until the answer is known. The clauses are named by positions below `first`, and the
+/// learnt ones from there on.
+pub fn solve(engine: &mut Engine, log: &mut Log, first: Pos) -> Result<(Answer, Counts), AllocError>
     requires engine { IsEngine engine.old }
     requires course { IsOnCourse engine.old }
     requires free { engine.old.given.items ≡ [] }
-    requires bound { bound < 2 ^ 63 }
     requires fresh { AreFresh engine.old.watches first }
     ensures { OnOk result (IsEngine engine.new) }
 {
     let mut counts = Counts::new();
     'conflicts: for pos in first..u64::MAX {
-        let Some(id) = next_conflict(engine, bound, &mut counts)? else {
+        let Some(id) = next_conflict(engine, &mut counts)? else {
             return Ok((Answer::Satisfiable, counts));
         };
         counts.conflicts = counts.conflicts.wrapping_add(1);

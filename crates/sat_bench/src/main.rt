@@ -109,7 +109,7 @@ fn search_learning(
     requires fresh { AreFresh engine.old.watches first }
     requires variables { variables < 2 ^ 32 }
 {
-    let (answer, counts) = cdcl::solve(engine, log, variables + 1, first)?;
+    let (answer, counts) = cdcl::solve(engine, log, first)?;
     println!(rt; "{}", answer.text())?;
     if mode == Mode::Measure {
         return println!(rt;
@@ -158,6 +158,7 @@ fn main(rt: HostRuntime) -> io::Result<()> {
         watches.reserve(&mut trail, variables + 1)?;
         return search_plainly(&rt, &mut watches, &mut trail, variables);
     }
-    let mut engine = Engine::new(rt.alloc(), watches, trail, variables + 1)?;
+    let mut engine = Engine::new(rt.alloc(), watches, trail);
+    cdcl::list_below(&mut engine, variables + 1)?;
     search_learning(&rt, &mut engine, &mut log, first, formula, variables, mode)
 }

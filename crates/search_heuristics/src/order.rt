@@ -5,18 +5,23 @@ use std::alloc::{AllocError, Global};
 
 // At this activity, all are made smaller.
 const HIGHEST: u64 = 1 << 62;
+// What a conflict weighs at the start.
+const FIRST: u64 = 1 << 16;
 // A heap has no longer way down than this.
 const DEEPEST: u64 = 64;
 
-/// The variables that may be open, those first that stood in many late conflicts.
+/// The variables that were bumped and may be open, those first that stood in many late conflicts.
 #[derive(Drop)]
 pub struct VariableOrder {
-    // by variable
+    // by variable, 0 where it was not bumped
     activities: Vec<u64>,
     // the heap, and by variable one more than its place there, 0 where it has none
     heap: Vec<u64>,
     places: Vec<u64>,
     len: u64,
+    // the variables that were bumped, each once
+    bumped: Vec<u64>,
+    count: u64,
     increment: u64,
 }
 
@@ -28,28 +33,38 @@ impl VariableOrder {
             heap: Vec::new(alloc),
             places: Vec::new(alloc),
             len: 0,
-            increment: 1 << 16,
+            bumped: Vec::new(alloc),
+            count: 0,
+            increment: FIRST,
         }
     }
 
     /// Has the variables below the bound, the new ones with no activity.
     pub fn reserve(&mut self, bound: usize) -> Result<(), AllocError> {
-        let known = self.places.len();
-        if bound <= known {
-            return Ok(());
-        }
-        self.activities.resize(bound, 0)?;
-        self.heap.resize(bound, 0)?;
-        self.places.resize(bound, 0)?;
-        for variable in known..bound {
-            self.insert(variable as u64);
+        if self.places.len() < bound {
+            self.activities.resize(bound, 0)?;
+            self.heap.resize(bound, 0)?;
+            self.bumped.resize(bound, 0)?;
+            self.places.resize(bound, 0)?;
         }
         Ok(())
     }
 
-    /// Puts a variable back that is open again.
+    /// Forgets all activities. It visits the variables that were bumped alone.
+    pub fn forget(&mut self) {
+        for i in 0..self.count {
+            let variable = at(&self.bumped, i);
+            put(&mut self.activities, variable, 0);
+            put(&mut self.places, variable, 0);
+        }
+        self.len = 0;
+        self.count = 0;
+        self.increment = FIRST;
+    }
+
+    /// Puts a variable back that is open again, where it was bumped.
     pub fn insert(&mut self, variable: u64) {
-        if variable as usize >= self.places.len() || at(&self.places, variable) != 0 {
+        if at(&self.activities, variable) == 0 || at(&self.places, variable) != 0 {
             return;
         }
         let place = self.len;
@@ -76,7 +91,15 @@ impl VariableOrder {
 
     /// Raises the activity of a variable that stands in a conflict.
     pub fn bump(&mut self, variable: u64) {
-        let activity = at(&self.activities, variable).wrapping_add(self.increment);
+        if variable as usize >= self.places.len() {
+            return;
+        }
+        let before = at(&self.activities, variable);
+        if before == 0 {
+            put(&mut self.bumped, self.count, variable);
+            self.count = self.count.wrapping_add(1);
+        }
+        let activity = before.wrapping_add(self.increment);
         put(&mut self.activities, variable, activity);
         let place = at(&self.places, variable);
         if place != 0 {
@@ -95,10 +118,12 @@ impl VariableOrder {
         }
     }
 
-    // Makes all activities smaller in the same measure.
+    // Makes all activities smaller in the same measure; none becomes 0.
     fn shrink(&mut self) {
-        for activity in &mut self.activities {
-            *activity >>= 40;
+        for i in 0..self.count {
+            let variable = at(&self.bumped, i);
+            let activity = at(&self.activities, variable);
+            put(&mut self.activities, variable, (activity >> 40) | 1);
         }
         self.increment = (self.increment >> 40) | 1;
     }

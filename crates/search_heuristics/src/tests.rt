@@ -11,6 +11,9 @@ fn variables_come_by_activity(rt: HostRuntime) -> Result<(), Fail> {
         order.bump(variable);
     }
     order.decay();
+    for variable in [0, 1, 2, 3, 4] {
+        order.insert(variable);
+    }
     assert_eq!(rt; order.pop(), Some(3));
     assert_eq!(rt; order.pop(), Some(1));
     order.insert(3);
@@ -19,6 +22,23 @@ fn variables_come_by_activity(rt: HostRuntime) -> Result<(), Fail> {
     order.bump(4);
     assert_eq!(rt; order.pop(), Some(4));
     assert_eq!(rt; order.pop(), Some(3));
+    assert!(rt; order.pop().is_none());
+    Ok(())
+}
+
+#[test]
+fn forgotten_variables_do_not_come(rt: HostRuntime) -> Result<(), Fail> {
+    let mut order = VariableOrder::new(rt.alloc());
+    order.reserve(3)?;
+    order.bump(1);
+    order.bump(2);
+    order.insert(2);
+    order.forget();
+    order.insert(1);
+    assert!(rt; order.pop().is_none());
+    order.bump(1);
+    order.insert(1);
+    assert_eq!(rt; order.pop(), Some(1));
     Ok(())
 }
 

@@ -15,5 +15,5 @@ empty_trail w t s e = record {
 
 pub returns-clause-engine : goal.returns-clause-engine
 returns-clause-engine c =
-    rw (c.in_ok-engine.ensures.watches, c.in_ok-engine.ensures.trail)
+    rw (c.new-2.ensures.watches, c.new-2.ensures.trail)
     (empty_trail c.in_ok-watches.watches c.new-trail.result (c.in_ok-watches.ensures.settled c.new-trail.result c.new-trail.ensures.new) c.new-trail.ensures.literals)

@@ -11,5 +11,8 @@ keep-requires-clause-fresh c =
 
 pub returns-clause-fresh : goal.returns-clause-fresh
 returns-clause-fresh c = λ id h.
-    c.keep.ensures.others id (λ e. let p : id.pos ≡ c.args.pos = ap (λ (q : ClauseId). q.pos) e in omega (arith, h, p))
+    c.keep.ensures.others.kept id (λ e. let p : id.pos ≡ c.args.pos = ap (λ (q : ClauseId). q.pos) e in omega (arith, h, p))
     ∙ ap (λ (e : Engine). clause_of e.watches id) c.in_ok-clause.ensures.same ∙ c.requires.fresh id (omega (arith, h))
+
+pub returns-clause-given : goal.returns-clause-given
+returns-clause-given c = c.keep.ensures.task.given ∙ ap (λ (e : Engine). e.given) c.in_ok-clause.ensures.same

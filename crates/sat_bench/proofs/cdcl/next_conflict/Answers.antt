@@ -21,19 +21,19 @@ none_given w t given none h = record {
 pub decide-requires-clause-assumed : goal.decide-requires-clause-assumed
 decide-requires-clause-assumed c =
     none_given c.propagate-conflict.new.self.watches c.propagate-conflict.new.self.trail c.propagate-conflict.new.self.given.items
-    (ap (λ v. v.items) (c.propagate-conflict.ensures.given ∙ c.decisions.invariant.given) ∙ c.requires.free)
+    (ap (λ v. v.items) (c.propagate-conflict.ensures.task.given ∙ c.decisions.invariant.given) ∙ c.requires.free)
     (none_of _ c.propagate-conflict.result c.in_default.not-Some c.propagate-conflict.ensures.rest)
 
 pub decisions-preserved : goal.decisions-preserved
 decisions-preserved c = record {
   engine = c.in_ok-decide.ensures.engine;
   course = c.in_ok-decide.ensures.course;
-  given = c.decide.ensures.given ∙ c.propagate-conflict.ensures.given ∙ c.decisions.invariant.given;
-  held = λ id. c.decide.ensures.held id ∙ c.propagate-conflict.ensures.held id ∙ c.decisions.invariant.held id;
+  given = c.decide.ensures.task.given ∙ c.propagate-conflict.ensures.task.given ∙ c.decisions.invariant.given;
+  held = λ id. c.decide.ensures.store.kept id ∙ c.propagate-conflict.ensures.store.kept id ∙ c.decisions.invariant.held id;
 }
 
 pub returns-in-Some-clause-held : goal.returns-in-Some-clause-held
-returns-in-Some-clause-held c = λ id. c.propagate-conflict.ensures.held id ∙ c.decisions.invariant.held id
+returns-in-Some-clause-held c = λ id. c.propagate-conflict.ensures.store.kept id ∙ c.decisions.invariant.held id
 
 pub returns-then-not-branch-clause-held : goal.returns-then-not-branch-clause-held
-returns-then-not-branch-clause-held c = λ id. c.decide.ensures.held id ∙ c.propagate-conflict.ensures.held id ∙ c.decisions.invariant.held id
+returns-then-not-branch-clause-held c = λ id. c.decide.ensures.store.kept id ∙ c.propagate-conflict.ensures.store.kept id ∙ c.decisions.invariant.held id

@@ -2,6 +2,7 @@ use Rattle.std.proofs.Common.{length, get_or, refl, ap, ◌∙◌, arith}
 use Rattle.cdcl_core.specs.Search.{literals_of, level_of}
 use Rattle.cdcl_loop.proofs.Courses.{true_later}
 use Rattle.cdcl_loop.proofs.Assuming.{assumed_more, none_of}
+use Rattle.cdcl_loop.proofs.Trails.{store_then}
 use Rattle.cdcl_loop.proofs.engine.Engine.assume.Goals as goal
 use Rattle.cnf_base.proofs.Lists.{Contains-nil}
 
@@ -9,16 +10,17 @@ pub returns-then-self-level-clause-clash : goal.returns-then-self-level-clause-c
 returns-then-self-level-clause-clash c = record {
   propagated = c.requires.propagated;
   rest = c.requires.rest;
-  all = λ l k. true_later (literals_of c.args.self.now.trail) c.args.self.now.base (level_of c.args.self.now.trail) l (omega (arith, c.requires.course.lower)) (c.requires.course.all (omega (arith, c.if-self-level.true, c.level.ensures)) l k);
+  all = λ l k. true_later (literals_of c.args.self.now.trail) c.args.self.now.base (level_of c.args.self.now.trail) l (omega (arith, c.requires.course.0.lower)) (c.requires.course.0.all (omega (arith, c.if-self-level.true, c.level.ensures)) l k);
 }
 
 pub literals-init : goal.literals-init
 literals-init c = record {
   given = refl;
-  held = λ id. refl;
+  listed = refl;
+  store = record { kept = λ id. refl; held = λ id. refl };
   engine = c.requires.engine;
   course = c.requires.course;
-  at_base = omega (arith, c.requires.course.lower, c.if-self-level.false, c.level.ensures);
+  at_base = omega (arith, c.requires.course.0.lower, c.if-self-level.false, c.level.ensures);
   assumed = record { propagated = c.requires.propagated; rest = c.requires.rest; all = λ l k. absurd (Contains-nil l k) };
 }
 
@@ -30,8 +32,9 @@ literals-preserved c =
     let given = ap (λ v. v.items) c.literals.invariant.given in
     let done = none_of _ c.in_ok-clash.field-0 c.in_default.not-Some c.in_ok-clash.ensures.clash in
     record {
-      given = c.assume_one.ensures.given ∙ c.literals.invariant.given;
-      held = λ id. c.assume_one.ensures.held id ∙ c.literals.invariant.held id;
+      given = c.assume_one.ensures.task.given ∙ c.literals.invariant.given;
+      listed = c.assume_one.ensures.task.listed ∙ c.literals.invariant.listed;
+      store = store_then s.watches b.watches n.watches c.literals.invariant.store c.assume_one.ensures.store;
       engine = done.0.engine;
       course = done.0.course;
       at_base = done.0.at_base;
@@ -41,3 +44,9 @@ literals-preserved c =
         all = assumed_more b.watches b.trail n.trail n.watches s.given.items c.literals.i c.index-literal.result.now (omega (arith, ap length given, c.literals-test.true)) (c.index-literal.ensures ∙ ap (λ ls. get_or ls c.literals.i c.index-literal.result.now) given) c.literals.invariant.assumed done.0.kept done.0.made;
       };
     }
+
+pub returns-in_err-clash-clause-store : goal.returns-in_err-clash-clause-store
+returns-in_err-clash-clause-store c = store_then c.args.self.now.watches c.literals.self.watches c.assume_one.new.self.watches c.literals.invariant.store c.assume_one.ensures.store
+
+pub returns-in-Some-clause-store : goal.returns-in-Some-clause-store
+returns-in-Some-clause-store c = store_then c.args.self.now.watches c.literals.self.watches c.assume_one.new.self.watches c.literals.invariant.store c.assume_one.ensures.store

@@ -11,5 +11,5 @@ returns-in-Some-false-clause-clash c = (
   c.requires.engine,
   c.requires.course,
   subst (λ b. MatchBool b (IsTrueBy (literals_of c.args.self.now.trail) (level_of c.args.self.now.trail) c.args.literal) (IsFalseBy (literals_of c.args.self.now.trail) (level_of c.args.self.now.trail) c.args.literal)) c.in-Some-false.field-0-test c.in-Some-false.ensures,
-  (decides_given (literals_of c.args.self.now.trail) (level_of c.args.self.now.trail) c.args.self.now.base c.args.self.now.given.items c.requires.at_base (levels_below c.args.self.now.watches c.args.self.now.trail c.requires.engine.settled) c.requires.course, c.requires.given),
+  (decides_given (literals_of c.args.self.now.trail) (level_of c.args.self.now.trail) c.args.self.now.base c.args.self.now.given.items c.requires.at_base (levels_below c.args.self.now.watches c.args.self.now.trail c.requires.engine.settled) c.requires.course.0, c.requires.given),
 )

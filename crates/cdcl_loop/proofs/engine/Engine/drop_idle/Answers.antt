@@ -6,10 +6,17 @@ use Rattle.cdcl_loop.proofs.engine.Engine.drop_idle.Goals as goal
 pub drop_clause-requires-clause-free : goal.drop_clause-requires-clause-free
 drop_clause-requires-clause-free c = λ i l level e. c.if-is_reason.ensures (i, l, level, ap (λ (rows : List Row). slice_get rows i) c.literals.ensures ∙ e)
 
+pub returns-clause-engine : goal.returns-clause-engine
+returns-clause-engine c = record {
+  settled = c.drop_clause.ensures.settled;
+  decided = c.requires.engine.decided;
+  raised = c.requires.engine.raised;
+}
+
 pub returns-clause-dropped : goal.returns-clause-dropped
 returns-clause-dropped c = (
   record {
-    held = ap is_some (sym c.in-Some.ensures);
+    kept = ap is_some (sym c.in-Some.ensures);
     free = λ k. c.if-is_reason.ensures (k.0, k.1, k.2, ap (λ (rows : List Row). slice_get rows k.0) c.literals.ensures ∙ k.3);
   },
   c.drop_clause.ensures.gone,

@@ -1,0 +1,26 @@
+use Rattle.std.proofs.Common.{refl, sym, ap, ◌∙◌, subst, arith}
+use Rattle.cdcl_core.specs.declared.trail.Trail.{Trail}
+use Rattle.cdcl_loop.specs.declared.engine.Engine.{Engine}
+use Rattle.cdcl_loop.specs.Engines.{IsEngine}
+use Rattle.sat_bench.proofs.cdcl.list_below.Goals as goal
+
+pub list-requires : goal.list-requires
+list-requires c = (c.variables.invariant.from_one, omega (arith, c.variables-test.true, c.requires))
+
+pub variables-init : goal.variables-init
+variables-init c = record {
+  engine = λ h. h;
+  course = λ h. h;
+  watches = refl;
+  given = refl;
+  from_one = omega arith;
+}
+
+pub variables-preserved : goal.variables-preserved
+variables-preserved c = record {
+  engine = λ h. subst IsEngine (sym c.list.ensures.same) (c.variables.invariant.engine h);
+  course = λ h. c.list.ensures.course (c.variables.invariant.course h);
+  watches = ap (λ (e : Engine). e.watches) c.list.ensures.same ∙ c.variables.invariant.watches;
+  given = ap (λ (e : Engine). e.given) c.list.ensures.same ∙ c.variables.invariant.given;
+  from_one = omega arith;
+}
