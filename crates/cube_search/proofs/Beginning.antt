@@ -1,12 +1,11 @@
 -- The lines that a run begins with.
 use Rattle.std.proofs.Common.{◌≡◌, ℕ, ◌+◌, ◌<◌, ◌≤◌, Bool, true, false, not, List, [], ◌∷◌, ◌++◌, length, Some, None, refl, sym, ap, ◌∙◌, subst, inl, inr, ⊎_elim, arith, take, get_or}
 use Rattle.std.specs.Prelude.{◌&&◌, ◌⊎◌, Contains, ltb}
-use Rattle.std.proofs.lemmas.Bool.{lt-ltb, ltb-true, and_parts, cases_Bool, both_ways}
+use Rattle.std.proofs.lemmas.Bool.{lt-ltb, ltb-true, and_parts}
 use Rattle.std.proofs.lemmas.List.Elements.{Contains-push_cases, Contains-get_or}
 use Rattle.cnf_base.specs.Literals.{Literal}
 use Rattle.cnf_base.specs.declared.clause.ClauseId.{ClauseId}
 use Rattle.cnf_base.proofs.Lists.{Contains-nil}
-use Rattle.hint_chain.specs.Chains.{Lookup}
 use Rattle.smt_terms.specs.declared.node.Node.{Node}
 use Rattle.proof_log.specs.declared.entry.Entry.{Entry}
 use Rattle.proof_log.specs.declared.diary.DiaryLine.{DiaryLine}
@@ -16,14 +15,16 @@ use Rattle.proof_log.specs.Diaries.{Subject, look_of, is_chain, DiaryState, blan
 use Rattle.proof_log.proofs.Growth.{chain_part}
 use Rattle.proof_log.proofs.Lines.{are_lines_snoc, lines_after_snoc, held_cases}
 use Rattle.cdcl_learn.proofs.Lists.{front_cases}
+use Rattle.cdcl_core.specs.declared.watches.Watches.{Watches}
+use Rattle.cdcl_core.specs.Search.{clause_of, held_of}
 use Rattle.cube_search.specs.Holding.{IsForeign, AreSeparate, IsHolding, ArePlaced}
 use Rattle.cube_search.specs.Keeping.{IsKept, IsTaken, IsNoting, IsNotedAll, state_in}
 use Rattle.cube_search.specs.declared.keeper.Keeper.{Keeper}
 use Rattle.cube_search.proofs.Keeping.{held_here, held_still}
 use Rattle.cube_search.proofs.Later.{chain_entry, chain_within}
 
-pub noting_start : (g : Subject) (look : Lookup) (k : Keeper) → k.lines.items ≡ [] → k.puts ≡ 0 → k.chains ≡ 0 → k.left ≡ 0 → IsNoting g look k
-noting_start g look k e puts chains left =
+pub noting_start : (g : Subject) (w : Watches) (variables : List ℕ) (k : Keeper) → k.lines.items ≡ [] → k.puts ≡ 0 → k.chains ≡ 0 → k.left ≡ 0 → IsNoting g w variables k
+noting_start g w variables k e puts chains left =
     let s : lines_after g (blank g) k.lines.items ≡ blank g = ap (lines_after g (blank g)) e in
     record {
       stand = subst (AreLines g (blank g)) (sym e) tt;
@@ -36,7 +37,7 @@ noting_start g look k e puts chains left =
       takes = λ p c. Contains-nil (Put p) (subst (λ (ls : List DiaryLine). Contains ls (Put p)) e c);
     }
 
-module _ (g : Subject) (look : Lookup) (k l : Keeper) (at : ℕ) (h : IsNoting g look k) (e : l.lines.items ≡ k.lines.items ++ Take at ∷ []) where
+module _ (g : Subject) (w : Watches) (variables : List ℕ) (k l : Keeper) (at : ℕ) (h : IsNoting g w variables k) (e : l.lines.items ≡ k.lines.items ++ Take at ∷ []) where
   after : state_in g l ≡ line_after g (state_in g k) (Take at)
   after = ap (λ (ls : List DiaryLine). lines_after g (blank g) ls) e ∙ lines_after_snoc g (blank g) k.lines.items (Take at)
 
@@ -46,7 +47,7 @@ module _ (g : Subject) (look : Lookup) (k l : Keeper) (at : ℕ) (h : IsNoting g
   pub noted_still : (p : ℕ) → (state_in g k).held p ≡ true → (state_in g l).held p ≡ true
   noted_still p x = ap (λ (r : DiaryState). r.held p) after ∙ held_still (state_in g k).held at p x
 
-  pub noting_take : l.puts ≡ k.puts → l.chains ≡ k.chains → l.left ≡ 0 → at ≤ length g.log → ((id : ClauseId) (c : List Literal) → id.pos ≡ at → look_of g id ≡ Some c → look id ≡ Some c) → IsNoting g look l
+  pub noting_take : l.puts ≡ k.puts → l.chains ≡ k.chains → l.left ≡ 0 → at ≤ length g.log → ((id : ClauseId) (c : List Literal) → id.pos ≡ at → look_of g id ≡ Some c → (held_of w id ≡ Some c) ⊎ IsForeign variables c) → IsNoting g w variables l
   noting_take puts chains left within all = record {
     stand = subst (AreLines g (blank g)) (sym e) (are_lines_snoc g (blank g) k.lines.items (Take at) h.stand within);
     no_puts = ap (λ (r : DiaryState). r.puts) after ∙ h.no_puts;
@@ -61,39 +62,38 @@ module _ (g : Subject) (look : Lookup) (k l : Keeper) (at : ℕ) (h : IsNoting g
     takes = λ p c. ⊎_elim (λ old. h.takes p old) (λ q. let f : ⊥ = cc in f) (Contains-push_cases k.lines.items (Take at) (Put p) (subst (λ (ls : List DiaryLine). Contains ls (Put p)) e c));
   }
 
--- a chain that is held has no clause that is not
-pub held_whole : (g : Subject) (look : Lookup) (at : ℕ) (d : List Literal) → ((id : ClauseId) (c : List Literal) → look id ≡ Some c → look_of g id ≡ Some c) → is_chain (entry_at g.log at) ≡ true → look (record { pos = at; part = 0 }) ≡ Some d → (id : ClauseId) (c : List Literal) → id.pos ≡ at → look_of g id ≡ Some c → look id ≡ Some c
-held_whole g look at d sound chain held id c p e =
+-- each clause of a chain that is kept is held, or has another variable
+pub kept_whole : (g : Subject) (w : Watches) (variables opening taken : List ℕ) (at : ℕ) (d : List Literal) → IsHolding w (state_of g.nodes g.log).clauses variables opening taken → Contains taken at → is_chain (entry_at g.log at) ≡ true → clause_of w (record { pos = at; part = 0 }) ≡ Some d → (id : ClauseId) (c : List Literal) → id.pos ≡ at → look_of g id ≡ Some c → (held_of w id ≡ Some c) ⊎ IsForeign variables c
+kept_whole g w variables opening taken at d holding has chain kept id c p e =
     let k = chain_entry (entry_at g.log at) chain in
     let part = chain_part g.nodes g.log id (k.0) c (k.1) (ap (entry_at g.log) p ∙ k.2) e in
     let same : id ≡ record { pos = at; part = 0 } = λ i. record { pos = p i; part = part.0 i } in
-    let there = sound (record { pos = at; part = 0 }) d held in
+    let there = holding.sound (record { pos = at; part = 0 }) d kept in
     let equal : Some d ≡ Some c = sym there ∙ ap (look_of g) (sym same) ∙ e in
-    ap look same ∙ held ∙ equal
+    holding.waiting id c (subst (Contains taken) (sym p) has) (ap (clause_of w) same ∙ kept ∙ equal)
 
-pub begun : (g : Subject) (look : Lookup) (variables opening taken : List ℕ) (k : Keeper) (seen : ℕ) → IsHolding look (state_of g.nodes g.log).clauses variables opening taken → ArePlaced g.log opening taken g.from seen → IsNoting g look k → k.start ≡ seen → ((p : ℕ) → Contains opening p → is_chain (entry_at g.log p) ≡ true → (state_in g k).held p ≡ true) → ((id : ClauseId) (c : List Literal) → Contains taken id.pos → look id ≡ Some c → (state_in g k).held id.pos ≡ true) → AreSeparate (state_of g.nodes g.log).clauses g.log opening g.from → IsKept g look variables k seen
-begun g look variables opening taken k seen holding placed h start open_held taken_held separate = record {
+pub begun : (g : Subject) (w : Watches) (variables opening taken : List ℕ) (k : Keeper) (seen : ℕ) → IsHolding w (state_of g.nodes g.log).clauses variables opening taken → ArePlaced (clause_of w) g.log opening taken g.from seen → IsNoting g w variables k → k.start ≡ seen → ((id : ClauseId) (c : List Literal) → Contains taken id.pos → clause_of w id ≡ Some c → (state_in g k).held id.pos ≡ true) → AreSeparate (state_of g.nodes g.log).clauses g.log opening g.from → IsKept g w variables k seen
+begun g w variables opening taken k seen holding placed h start taken_held separate = record {
   stand = h.stand;
   puts = h.no_puts ∙ sym h.puts;
   chains = omega (arith, h.chains);
   drops = omega (arith, h.left);
-  held = λ id c e. ⊎_elim (λ x. opened id x (cases_Bool (is_chain (entry_at g.log id.pos)))) (λ x. taken_held id c x e) (holding.covered id c e);
-  complete = λ id c x e. ⊎_elim (λ b. before id c b e) (λ all. inl (all id c refl e)) (h.only id.pos x);
+  held = λ id c e. ⊎_elim (λ plain. h.grown id.pos (blank_held id.pos (placed.below id c e plain) plain)) (λ x. taken_held id c x e) (placed.stored id c e);
+  complete = λ id c x e. ⊎_elim (λ b. before id c b e) (λ all. all id c refl e) (h.only id.pos x);
   lined = λ p le lt c. absurd (omega (arith, le, lt, start));
   start = omega (arith, start, placed.from_seen);
   begun = omega (arith, start);
   later = λ p c. absurd (h.takes p c);
 }
   where
-    opened : (id : ClauseId) → Contains opening id.pos → (is_chain (entry_at g.log id.pos) ≡ true) ⊎ (is_chain (entry_at g.log id.pos) ≡ false) → (state_in g k).held id.pos ≡ true
-    opened id x (inl chain) = open_held id.pos x chain
-    opened id x (inr plain) = h.grown id.pos (ap (λ b. ltb id.pos g.from && not b) plain ∙ ap (λ b. b && true) (lt-ltb id.pos g.from (placed.before id.pos x)))
+    blank_held : (p : ℕ) → p < g.from → is_chain (entry_at g.log p) ≡ false → (blank g).held p ≡ true
+    blank_held p lt plain = ap (λ b. ltb p g.from && not b) plain ∙ ap (λ b. b && true) (lt-ltb p g.from lt)
 
     plain_of : (b : Bool) → not b ≡ true → b ≡ false
     plain_of false e = refl
     plain_of true e = let f : ⊥ = cc in absurd f
 
-    before : (id : ClauseId) (c : List Literal) → (blank g).held id.pos ≡ true → look_of g id ≡ Some c → (look id ≡ Some c) ⊎ IsForeign variables c
+    before : (id : ClauseId) (c : List Literal) → (blank g).held id.pos ≡ true → look_of g id ≡ Some c → (held_of w id ≡ Some c) ⊎ IsForeign variables c
     before id c b e =
         let parts = and_parts (ltb id.pos g.from) (not (is_chain (entry_at g.log id.pos))) b in
         ⊎_elim
@@ -103,62 +103,51 @@ begun g look variables opening taken k seen holding placed h start open_held tak
 
 -- ---- position after position
 
-pub noted_same : (g : Subject) (look : Lookup) (old k l : Keeper) → l ≡ k → IsNotedAll g look old k → IsNotedAll g look old l
-noted_same g look old k l e h = subst (IsNotedAll g look old) (sym e) h
+noted_same : (g : Subject) (w : Watches) (variables : List ℕ) (old k l : Keeper) → l ≡ k → IsNotedAll g w variables old k → IsNotedAll g w variables old l
+noted_same g w variables old k l e h = subst (IsNotedAll g w variables old) (sym e) h
 
-pub noted_more : (g : Subject) (look : Lookup) (old k l : Keeper) (at : ℕ) → IsTaken k l at → at ≤ length g.log → ((id : ClauseId) (c : List Literal) → id.pos ≡ at → look_of g id ≡ Some c → look id ≡ Some c) → IsNotedAll g look old k → IsNotedAll g look old l
-noted_more g look old k l at t le all h = record {
-  noting = noting_take g look k l at h.noting t.lines t.puts t.chains t.left le all;
-  kept = λ p x. noted_still g look k l at h.noting t.lines p (h.kept p x);
+noted_more : (g : Subject) (w : Watches) (variables : List ℕ) (old k l : Keeper) (at : ℕ) → IsTaken k l at → at ≤ length g.log → ((id : ClauseId) (c : List Literal) → id.pos ≡ at → look_of g id ≡ Some c → (held_of w id ≡ Some c) ⊎ IsForeign variables c) → IsNotedAll g w variables old k → IsNotedAll g w variables old l
+noted_more g w variables old k l at t le all h = record {
+  noting = noting_take g w variables k l at h.noting t.lines t.puts t.chains t.left le all;
+  kept = λ p x. noted_still g w variables k l at h.noting t.lines p (h.kept p x);
   start = t.start ∙ h.start;
 }
 
-pub noted_none : (g : Subject) (look : Lookup) (k : Keeper) → IsNoting g look k → IsNotedAll g look k k
-noted_none g look k h = record { noting = h; kept = λ p x. x; start = refl }
+pub noted_none : (g : Subject) (w : Watches) (variables : List ℕ) (k : Keeper) → IsNoting g w variables k → IsNotedAll g w variables k k
+noted_none g w variables k h = record { noting = h; kept = λ p x. x; start = refl }
 
-module _ (nodes : List Node) (log : List Entry) (given : List Literal) (from : ℕ) (look : Lookup) (opening taken variables : List ℕ) (seen : ℕ) (holding : IsHolding look (state_of nodes log).clauses variables opening taken) (placed : ArePlaced log opening taken from seen) (old k l : Keeper) (i : ℕ) where
+module _ (nodes : List Node) (log : List Entry) (given : List Literal) (from : ℕ) (w : Watches) (opening taken variables : List ℕ) (seen : ℕ) (holding : IsHolding w (state_of nodes log).clauses variables opening taken) (placed : ArePlaced (clause_of w) log opening taken from seen) (old k l : Keeper) (i : ℕ) (lt : i < length taken) (at : ℕ) (is : at ≡ get_or taken i at)
+    (h : IsNotedAll (record { nodes = nodes; log = log; given = given; from = from }) w variables old k)
+    (items items' : List ℕ)
+    (step : ((clause_of w (record { pos = at; part = 0 }) ≡ None) × (items' ≡ items) × (l ≡ k)) ⊎ ((c : List Literal) × (clause_of w (record { pos = at; part = 0 }) ≡ Some c) × (items' ≡ items ++ at ∷ []) × IsTaken k l at)) where
   abbrev g : Subject
   g = record { nodes = nodes; log = log; given = given; from = from }
 
-  module _ (lt : i < length opening) (at : ℕ) (is : at ≡ get_or opening i at) (h : IsNotedAll (record { nodes = nodes; log = log; given = given; from = from }) look old k) (step : ((is_chain (entry_at log at) ≡ false) × (l ≡ k)) ⊎ ((is_chain (entry_at log at) ≡ true) × IsTaken k l at)) where
-    pub opening_noted : IsNotedAll (record { nodes = nodes; log = log; given = given; from = from }) look old l
-    opening_noted = ⊎_elim
-        (λ x. noted_same g look old k l x.1 h)
-        (λ x. noted_more g look old k l at x.1 (chain_within log at x.0) (λ id c p e. holding.complete id c (subst (Contains opening) (sym (p ∙ is)) (Contains-get_or opening i at lt)) e) h)
-        step
+  has : Contains taken at
+  has = subst (Contains taken) (sym is) (Contains-get_or taken i at lt)
 
-    pub opening_held : ((p : ℕ) → Contains (take i opening) p → is_chain (entry_at log p) ≡ true → (state_in (record { nodes = nodes; log = log; given = given; from = from }) k).held p ≡ true) → (p : ℕ) → Contains (take (i + 1) opening) p → is_chain (entry_at log p) ≡ true → (state_in (record { nodes = nodes; log = log; given = given; from = from }) l).held p ≡ true
-    opening_held f p c chain = ⊎_elim
-        (λ x. subst (λ (q : Keeper). (state_in g q).held p ≡ true) (sym x.1) (⊎_elim (λ old. f p old chain) (λ e. absurd (both_ways (is_chain (entry_at log at)) x.0 (ap (λ n. is_chain (entry_at log n)) (is ∙ e) ∙ chain))) (front_cases opening i at p lt c)))
-        (λ x. ⊎_elim
-        (λ old. noted_still g look k l at h.noting x.1.lines p (f p old chain))
-        (λ e. subst (λ n. (state_in g l).held n ≡ true) (is ∙ e) (noted_here g look k l at h.noting x.1.lines))
-        (front_cases opening i at p lt c))
-        step
+  chained : is_chain (entry_at log at) ≡ true
+  chained = placed.chains at has
 
-  module _ (lt : i < length taken) (at : ℕ) (is : at ≡ get_or taken i at) (h : IsNotedAll (record { nodes = nodes; log = log; given = given; from = from }) look old k) (step : ((look (record { pos = at; part = 0 }) ≡ None) × (l ≡ k)) ⊎ ((c : List Literal) × (look (record { pos = at; part = 0 }) ≡ Some c) × IsTaken k l at)) where
-    chained : is_chain (entry_at log at) ≡ true
-    chained = (placed.chains at (subst (Contains taken) (sym is) (Contains-get_or taken i at lt))).1
+  pub taken_noted : IsNotedAll (record { nodes = nodes; log = log; given = given; from = from }) w variables old l
+  taken_noted = ⊎_elim
+      (λ x. noted_same g w variables old k l x.2 h)
+      (λ x. noted_more g w variables old k l at x.3 (chain_within log at chained) (kept_whole g w variables opening taken at x.0 holding has chained x.1) h)
+      step
 
-    pub taken_noted : IsNotedAll (record { nodes = nodes; log = log; given = given; from = from }) look old l
-    taken_noted = ⊎_elim
-        (λ x. noted_same g look old k l x.1 h)
-        (λ x. noted_more g look old k l at x.2 (chain_within log at chained) (held_whole g look at x.0 holding.sound chained x.1) h)
-        step
-
-    pub taken_held : ((id : ClauseId) (c : List Literal) → Contains (take i taken) id.pos → look id ≡ Some c → (state_in (record { nodes = nodes; log = log; given = given; from = from }) k).held id.pos ≡ true) → (id : ClauseId) (c : List Literal) → Contains (take (i + 1) taken) id.pos → look id ≡ Some c → (state_in (record { nodes = nodes; log = log; given = given; from = from }) l).held id.pos ≡ true
-    taken_held f id c m e = ⊎_elim
-        (λ x. subst (λ (q : Keeper). (state_in g q).held id.pos ≡ true) (sym x.1) (⊎_elim (λ old. f id c old e) (λ q. none_here x.0 (sym q ∙ sym is)) (front_cases taken i at id.pos lt m)))
-        (λ x. ⊎_elim
-        (λ old. noted_still g look k l at h.noting x.2.lines id.pos (f id c old e))
-        (λ q. subst (λ n. (state_in g l).held n ≡ true) (is ∙ q) (noted_here g look k l at h.noting x.2.lines))
-        (front_cases taken i at id.pos lt m))
-        step
-      where
-        none_here : {A : Type 0} → look (record { pos = at; part = 0 }) ≡ None → id.pos ≡ at → A
-        none_here none p =
-            let e2 = chain_entry (entry_at log at) chained in
-            let part = chain_part nodes log id e2.0 c e2.1 (ap (entry_at log) p ∙ e2.2) (holding.sound id c e) in
-            let same : id ≡ record { pos = at; part = 0 } = λ i. record { pos = p i; part = part.0 i } in
-            let f : Some c ≡ None = sym e ∙ ap look same ∙ none in
-            let z : ⊥ = cc in absurd z
+  pub taken_held : ((id : ClauseId) (c : List Literal) → Contains (take i taken) id.pos → clause_of w id ≡ Some c → (state_in (record { nodes = nodes; log = log; given = given; from = from }) k).held id.pos ≡ true) → (id : ClauseId) (c : List Literal) → Contains (take (i + 1) taken) id.pos → clause_of w id ≡ Some c → (state_in (record { nodes = nodes; log = log; given = given; from = from }) l).held id.pos ≡ true
+  taken_held f id c m e = ⊎_elim
+      (λ x. subst (λ (q : Keeper). (state_in g q).held id.pos ≡ true) (sym x.2) (⊎_elim (λ old. f id c old e) (λ q. none_here x.0 (sym q ∙ sym is)) (front_cases taken i at id.pos lt m)))
+      (λ x. ⊎_elim
+      (λ old. noted_still g w variables k l at h.noting x.3.lines id.pos (f id c old e))
+      (λ q. subst (λ n. (state_in g l).held n ≡ true) (is ∙ q) (noted_here g w variables k l at h.noting x.3.lines))
+      (front_cases taken i at id.pos lt m))
+      step
+    where
+      none_here : {A : Type 0} → clause_of w (record { pos = at; part = 0 }) ≡ None → id.pos ≡ at → A
+      none_here none p =
+          let e2 = chain_entry (entry_at log at) chained in
+          let part = chain_part nodes log id e2.0 c e2.1 (ap (entry_at log) p ∙ e2.2) (holding.sound id c e) in
+          let same : id ≡ record { pos = at; part = 0 } = λ i. record { pos = p i; part = part.0 i } in
+          let f : Some c ≡ None = sym e ∙ ap (clause_of w) same ∙ none in
+          let z : ⊥ = cc in absurd z

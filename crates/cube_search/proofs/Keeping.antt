@@ -1,7 +1,7 @@
 -- A diary that is kept line by line.
 use Rattle.std.proofs.Common.{◌≡◌, ℕ, suc, ◌+◌, ◌-◌, ◌/◌, ◌%◌, ◌<◌, ◌≤◌, Bool, true, false, not, List, [], ◌∷◌, ◌++◌, length, Some, None, refl, sym, ap, ◌∙◌, subst, inl, inr, ⊎_elim, arith}
-use Rattle.std.specs.Prelude.{◌==◌, ◌≢◌, ◌⊎◌, Contains, ltb, if◌then◌else◌}
-use Rattle.std.proofs.lemmas.Bool.{eq-eqb, ne_eqb, ltb-true, and_parts}
+use Rattle.std.specs.Prelude.{◌==◌, ◌⊎◌, Contains, ltb, if◌then◌else◌}
+use Rattle.std.proofs.lemmas.Bool.{eq-eqb, ne_eqb, and_parts, both_ways}
 use Rattle.std.proofs.lemmas.List.Elements.{Contains-append_left, Contains-push_cases}
 use Rattle.cnf_base.specs.Literals.{Literal}
 use Rattle.cnf_base.specs.declared.clause.ClauseId.{ClauseId}
@@ -14,6 +14,9 @@ use Rattle.proof_log.specs.Logs.{entry_at}
 use Rattle.proof_log.specs.Diaries.{Subject, look_of, is_chain, DiaryState, blank, with_held, EachIsUsed, IsLine, allowed, line_after, AreLines, lines_after}
 use Rattle.proof_log.proofs.Growth.{chain_part}
 use Rattle.proof_log.proofs.Lines.{are_lines_snoc, lines_after_snoc, held_cases}
+use Rattle.cdcl_core.specs.declared.watches.Watches.{Watches}
+use Rattle.cdcl_core.specs.Search.{clause_of, held_of}
+use Rattle.cdcl_loop.specs.Engines.{IsSameBut}
 use Rattle.cdcl_learn.specs.Puts as learnt
 use Rattle.cube_search.specs.Holding.{IsForeign}
 use Rattle.cube_search.specs.Keeping.{HasLine, IsKept, state_in}
@@ -54,45 +57,45 @@ line_still lines l p h = ⊎_elim (λ k. inl (Contains-append_left lines (l ∷ 
 
 -- ---- a chain that is held from here on
 
-module _ (g : Subject) (look new : Lookup) (variables : List ℕ) (held : ℕ → Bool) (at : ℕ) (clause : List Literal) (hints : List ClauseId) (chain : entry_at g.log at ≡ Some (step.Chain clause hints)) (others : (q : ClauseId) → q ≢ record { pos = at; part = 0 } → new q ≡ look q) where
+module _ (g : Subject) (w v : Watches) (variables : List ℕ) (held : ℕ → Bool) (at : ℕ) (clause : List Literal) (hints : List ClauseId) (chain : entry_at g.log at ≡ Some (step.Chain clause hints)) (others : IsSameBut (record { pos = at; part = 0 }) w v) where
   at_position : (id : ClauseId) (c : List Literal) → id.pos ≡ at → look_of g id ≡ Some c → (id ≡ record { pos = at; part = 0 }) × (c ≡ clause)
   at_position id c p e =
       let k = chain_part g.nodes g.log id clause c hints (ap (entry_at g.log) p ∙ chain) e in
       ((λ i. record { pos = p i; part = k.0 i }), k.1)
 
-  more_held : ((id : ClauseId) (c : List Literal) → look id ≡ Some c → held id.pos ≡ true) → (id : ClauseId) (c : List Literal) → new id ≡ Some c → with_held held at true id.pos ≡ true
+  more_held : ((id : ClauseId) (c : List Literal) → clause_of w id ≡ Some c → held id.pos ≡ true) → (id : ClauseId) (c : List Literal) → clause_of v id ≡ Some c → with_held held at true id.pos ≡ true
   more_held h id c e = elim (same_id id (record { pos = at; part = 0 })) [
     | inl a ↦ ap (with_held held at true) (ap (λ (x : ClauseId). x.pos) a) ∙ held_here held at
-    | inr a ↦ held_still held at id.pos (h id c (sym (others id a) ∙ e))
+    | inr a ↦ held_still held at id.pos (h id c (sym (others.kept id a) ∙ e))
   ]
 
-  more_complete : ((id : ClauseId) (c : List Literal) → held id.pos ≡ true → look_of g id ≡ Some c → (look id ≡ Some c) ⊎ IsForeign variables c) → (new (record { pos = at; part = 0 }) ≡ Some clause) ⊎ IsForeign variables clause → (id : ClauseId) (c : List Literal) → with_held held at true id.pos ≡ true → look_of g id ≡ Some c → (new id ≡ Some c) ⊎ IsForeign variables c
+  more_complete : ((id : ClauseId) (c : List Literal) → held id.pos ≡ true → look_of g id ≡ Some c → (held_of w id ≡ Some c) ⊎ IsForeign variables c) → (held_of v (record { pos = at; part = 0 }) ≡ Some clause) ⊎ IsForeign variables clause → (id : ClauseId) (c : List Literal) → with_held held at true id.pos ≡ true → look_of g id ≡ Some c → (held_of v id ≡ Some c) ⊎ IsForeign variables c
   more_complete h here id c k e = elim (same_id id (record { pos = at; part = 0 })) [
     | inl a ↦
         let s = (at_position id c (ap (λ (x : ClauseId). x.pos) a) e).1 in
-        ⊎_elim (λ x. inl (ap new a ∙ x ∙ ap Some (sym s))) (λ x. inr (subst (IsForeign variables) (sym s) x)) here
+        ⊎_elim (λ x. inl (ap (held_of v) a ∙ x ∙ ap Some (sym s))) (λ x. inr (subst (IsForeign variables) (sym s) x)) here
     | inr a ↦ ⊎_elim
         (λ p. absurd (a (at_position id c p e).0))
-        (λ old. ⊎_elim (λ x. inl (others id a ∙ x)) (λ x. inr x) (h id c old e))
+        (λ old. ⊎_elim (λ x. inl (others.held id a ∙ x)) (λ x. inr x) (h id c old e))
         (held_cases held at true id.pos k)
   ]
 
-  less_held : ((id : ClauseId) (c : List Literal) → look id ≡ Some c → look_of g id ≡ Some c) → new (record { pos = at; part = 0 }) ≡ None → ((id : ClauseId) (c : List Literal) → look id ≡ Some c → held id.pos ≡ true) → (id : ClauseId) (c : List Literal) → new id ≡ Some c → with_held held at false id.pos ≡ true
+  less_held : ((id : ClauseId) (c : List Literal) → clause_of w id ≡ Some c → look_of g id ≡ Some c) → clause_of v (record { pos = at; part = 0 }) ≡ None → ((id : ClauseId) (c : List Literal) → clause_of w id ≡ Some c → held id.pos ≡ true) → (id : ClauseId) (c : List Literal) → clause_of v id ≡ Some c → with_held held at false id.pos ≡ true
   less_held sound none h id c e = elim (same_id id (record { pos = at; part = 0 })) [
-    | inl a ↦ (let f : Some c ≡ None = sym e ∙ ap new a ∙ none in let k : ⊥ = cc in absurd k)
+    | inl a ↦ (let f : Some c ≡ None = sym e ∙ ap (clause_of v) a ∙ none in let k : ⊥ = cc in absurd k)
     | inr a ↦
-        let old = sym (others id a) ∙ e in
+        let old = sym (others.kept id a) ∙ e in
         held_other held at id.pos (λ p. a (at_position id c p (sound id c old)).0) (h id c old)
   ]
 
-  less_complete : ((id : ClauseId) (c : List Literal) → held id.pos ≡ true → look_of g id ≡ Some c → (look id ≡ Some c) ⊎ IsForeign variables c) → (id : ClauseId) (c : List Literal) → with_held held at false id.pos ≡ true → look_of g id ≡ Some c → (new id ≡ Some c) ⊎ IsForeign variables c
+  less_complete : ((id : ClauseId) (c : List Literal) → held id.pos ≡ true → look_of g id ≡ Some c → (held_of w id ≡ Some c) ⊎ IsForeign variables c) → (id : ClauseId) (c : List Literal) → with_held held at false id.pos ≡ true → look_of g id ≡ Some c → (held_of v id ≡ Some c) ⊎ IsForeign variables c
   less_complete h id c k e =
       let d = dropped_cases held at id.pos k in
-      ⊎_elim (λ x. inl (others id (λ a. d.0 (ap (λ (y : ClauseId). y.pos) a)) ∙ x)) (λ x. inr x) (h id c d.1 e)
+      ⊎_elim (λ x. inl (others.held id (λ a. d.0 (ap (λ (y : ClauseId). y.pos) a)) ∙ x)) (λ x. inr x) (h id c d.1 e)
 
 -- ---- the three lines
 
-module _ (g : Subject) (look new : Lookup) (variables : List ℕ) (k l : Keeper) (seen at : ℕ) (clause : List Literal) (hints : List ClauseId) (chain : entry_at g.log at ≡ Some (step.Chain clause hints)) (others : (q : ClauseId) → q ≢ record { pos = at; part = 0 } → new q ≡ look q) (same : l.start ≡ k.start) (h : IsKept g look variables k seen) where
+module _ (g : Subject) (w v : Watches) (variables : List ℕ) (k l : Keeper) (seen at : ℕ) (clause : List Literal) (hints : List ClauseId) (chain : entry_at g.log at ≡ Some (step.Chain clause hints)) (others : IsSameBut (record { pos = at; part = 0 }) w v) (same : l.start ≡ k.start) (h : IsKept g w variables k seen) where
   after : (line : DiaryLine) → l.lines.items ≡ k.lines.items ++ line ∷ [] → state_in g l ≡ line_after g (state_in g k) line
   after line e = ap (λ ls. lines_after g (blank g) ls) e ∙ lines_after_snoc g (blank g) k.lines.items line
 
@@ -102,7 +105,7 @@ module _ (g : Subject) (look new : Lookup) (variables : List ℕ) (k l : Keeper)
   lined_still : (line : DiaryLine) → l.lines.items ≡ k.lines.items ++ line ∷ [] → (p : ℕ) → l.start ≤ p → p < seen → is_chain (entry_at g.log p) ≡ true → HasLine l.lines.items p
   lined_still line e p le lt c = subst (λ ls. HasLine ls p) (sym e) (line_still k.lines.items line p (h.lined p (omega (arith, le, same)) lt c))
 
-  pub kept_put : l.lines.items ≡ k.lines.items ++ Put at ∷ [] → l.puts ≡ k.puts + 1 → l.chains ≡ k.chains + 1 → l.left ≡ allowed l.puts l.chains → IsLine g (state_in g k) (Put at) → k.start ≤ at → new (record { pos = at; part = 0 }) ≡ Some clause → IsKept g new variables l seen
+  pub kept_put : l.lines.items ≡ k.lines.items ++ Put at ∷ [] → l.puts ≡ k.puts + 1 → l.chains ≡ k.chains + 1 → l.left ≡ allowed l.puts l.chains → IsLine g (state_in g k) (Put at) → k.start ≤ at → held_of v (record { pos = at; part = 0 }) ≡ Some clause → IsKept g v variables l seen
   kept_put e puts chains left line start here =
       let s = after (Put at) e in
       record {
@@ -113,15 +116,15 @@ module _ (g : Subject) (look new : Lookup) (variables : List ℕ) (k l : Keeper)
             let n : l.puts ≡ suc (state_in g k).puts = omega (arith, puts, h.puts) in
             let m : l.chains ≤ suc (state_in g k).chains = omega (arith, chains, h.chains) in
             omega (arith, ap (λ r. r.drops) s, left, allowed_more l.puts (suc (state_in g k).puts) l.chains (suc (state_in g k).chains) n m);
-        held = λ id c x. ap (λ r. r.held id.pos) s ∙ more_held g look new variables (state_in g k).held at clause hints chain others h.held id c x;
-        complete = λ id c x y. more_complete g look new variables (state_in g k).held at clause hints chain others h.complete (inl here) id c (sym (ap (λ r. r.held id.pos) s) ∙ x) y;
+        held = λ id c x. ap (λ r. r.held id.pos) s ∙ more_held g w v variables (state_in g k).held at clause hints chain others h.held id c x;
+        complete = λ id c x y. more_complete g w v variables (state_in g k).held at clause hints chain others h.complete (inl here) id c (sym (ap (λ r. r.held id.pos) s) ∙ x) y;
         lined = lined_still (Put at) e;
         start = omega (arith, same, h.start);
         begun = omega (arith, same, h.begun);
         later = λ p c. ⊎_elim (λ old. omega (arith, same, h.later p old)) (λ q. let r : at ≡ p = cc in omega (arith, r, start, same)) (Contains-push_cases k.lines.items (Put at) (Put p) (subst (λ ls. Contains ls (Put p)) e c));
       }
 
-  pub kept_take : l.lines.items ≡ k.lines.items ++ Take at ∷ [] → l.puts ≡ k.puts → l.chains ≡ k.chains → l.left ≡ 0 → at ≤ length g.log → (new (record { pos = at; part = 0 }) ≡ Some clause) ⊎ IsForeign variables clause → IsKept g new variables l seen
+  pub kept_take : l.lines.items ≡ k.lines.items ++ Take at ∷ [] → l.puts ≡ k.puts → l.chains ≡ k.chains → l.left ≡ 0 → at ≤ length g.log → (held_of v (record { pos = at; part = 0 }) ≡ Some clause) ⊎ IsForeign variables clause → IsKept g v variables l seen
   kept_take e puts chains left within here =
       let s = after (Take at) e in
       record {
@@ -129,15 +132,15 @@ module _ (g : Subject) (look new : Lookup) (variables : List ℕ) (k l : Keeper)
         puts = ap (λ r. r.puts) s ∙ h.puts ∙ sym puts;
         chains = omega (arith, ap (λ r. r.chains) s, chains, h.chains);
         drops = omega (arith, left);
-        held = λ id c x. ap (λ r. r.held id.pos) s ∙ more_held g look new variables (state_in g k).held at clause hints chain others h.held id c x;
-        complete = λ id c x y. more_complete g look new variables (state_in g k).held at clause hints chain others h.complete here id c (sym (ap (λ r. r.held id.pos) s) ∙ x) y;
+        held = λ id c x. ap (λ r. r.held id.pos) s ∙ more_held g w v variables (state_in g k).held at clause hints chain others h.held id c x;
+        complete = λ id c x y. more_complete g w v variables (state_in g k).held at clause hints chain others h.complete here id c (sym (ap (λ r. r.held id.pos) s) ∙ x) y;
         lined = lined_still (Take at) e;
         start = omega (arith, same, h.start);
         begun = omega (arith, same, h.begun);
         later = λ p c. ⊎_elim (λ old. omega (arith, same, h.later p old)) (λ q. let f : ⊥ = cc in absurd f) (Contains-push_cases k.lines.items (Take at) (Put p) (subst (λ ls. Contains ls (Put p)) e c));
       }
 
-  pub kept_drop : l.lines.items ≡ k.lines.items ++ Drop at ∷ [] → l.puts ≡ k.puts → l.chains ≡ k.chains - 1 → l.left ≡ k.left - 1 → 0 < k.left → ((id : ClauseId) (c : List Literal) → look id ≡ Some c → look_of g id ≡ Some c) → (c : List Literal) → look (record { pos = at; part = 0 }) ≡ Some c → new (record { pos = at; part = 0 }) ≡ None → IsKept g new variables l seen
+  pub kept_drop : l.lines.items ≡ k.lines.items ++ Drop at ∷ [] → l.puts ≡ k.puts → l.chains ≡ k.chains - 1 → l.left ≡ k.left - 1 → 0 < k.left → ((id : ClauseId) (c : List Literal) → clause_of w id ≡ Some c → look_of g id ≡ Some c) → (c : List Literal) → clause_of w (record { pos = at; part = 0 }) ≡ Some c → clause_of v (record { pos = at; part = 0 }) ≡ None → IsKept g v variables l seen
   kept_drop e puts chains left some sound c was none =
       let s = after (Drop at) e in
       record {
@@ -145,8 +148,8 @@ module _ (g : Subject) (look new : Lookup) (variables : List ℕ) (k l : Keeper)
         puts = ap (λ r. r.puts) s ∙ h.puts ∙ sym puts;
         chains = omega (arith, ap (λ r. r.chains) s, chains, h.chains);
         drops = omega (arith, ap (λ r. r.drops) s, left, h.drops);
-        held = λ id d x. ap (λ r. r.held id.pos) s ∙ less_held g look new variables (state_in g k).held at clause hints chain others sound none h.held id d x;
-        complete = λ id d x y. less_complete g look new variables (state_in g k).held at clause hints chain others h.complete id d (sym (ap (λ r. r.held id.pos) s) ∙ x) y;
+        held = λ id d x. ap (λ r. r.held id.pos) s ∙ less_held g w v variables (state_in g k).held at clause hints chain others sound none h.held id d x;
+        complete = λ id d x y. less_complete g w v variables (state_in g k).held at clause hints chain others h.complete id d (sym (ap (λ r. r.held id.pos) s) ∙ x) y;
         lined = lined_still (Drop at) e;
         start = omega (arith, same, h.start);
         begun = omega (arith, same, h.begun);
@@ -182,9 +185,13 @@ lined_held g s (Drop q ∷ ls) p h = ⊎_elim
     (λ k. inr (line_later (Drop q) ls p k))
     (lined_held g (line_after g s (Drop q)) ls p h)
 
--- a chain of a search that is held has a line
-pub own_line : (g : Subject) (look : Lookup) (variables : List ℕ) (k : Keeper) (seen at : ℕ) (c : List Literal) → IsKept g look variables k seen → g.from ≤ at → look (record { pos = at; part = 0 }) ≡ Some c → HasLine k.lines.items at
-own_line g look variables k seen at c h le e = ⊎_elim
-    (λ b. let lt = ltb-true at g.from (and_parts (ltb at g.from) (not (is_chain (entry_at g.log at))) b).0 in absurd (omega (arith, lt, le)))
+-- a chain that is kept has a line
+pub own_line : (g : Subject) (w : Watches) (variables : List ℕ) (k : Keeper) (seen at : ℕ) (c : List Literal) → IsKept g w variables k seen → is_chain (entry_at g.log at) ≡ true → clause_of w (record { pos = at; part = 0 }) ≡ Some c → HasLine k.lines.items at
+own_line g w variables k seen at c h chain e = ⊎_elim
+    (λ b. absurd (both_ways (is_chain (entry_at g.log at)) (not_false (is_chain (entry_at g.log at)) (and_parts (ltb at g.from) (not (is_chain (entry_at g.log at))) b).1) chain))
     (λ l. l)
     (lined_held g (blank g) k.lines.items at (h.held (record { pos = at; part = 0 }) c e))
+  where
+    not_false : (b : Bool) → not b ≡ true → b ≡ false
+    not_false false q = refl
+    not_false true q = let f : ⊥ = cc in absurd f

@@ -1,12 +1,12 @@
 -- A search over a log that grew.
-use Rattle.std.proofs.Common.{◌≡◌, ℕ, suc, ◌<◌, ◌≤◌, true, List, length, Option, Some, None, refl, sym, ap, ◌∙◌, subst, arith}
+use Rattle.std.proofs.Common.{◌≡◌, ℕ, suc, ◌<◌, ◌≤◌, true, List, [], ◌∷◌, length, Option, Some, None, refl, sym, ap, ◌∙◌, subst, inl, inr, ⊎_elim, arith}
 use Rattle.std.specs.Prelude.{Contains}
-use Rattle.cnf_base.specs.Literals.{Literal}
+use Rattle.cnf_base.specs.Literals.{Literal, negated}
 use Rattle.cnf_base.specs.Assignments.{AreBelow}
 use Rattle.cnf_base.specs.declared.clause.ClauseId.{ClauseId}
 use Rattle.cnf_base.proofs.Agreeing.{AreBelow-more}
-use Rattle.cnf_base.proofs.Lists.{Contains-map}
-use Rattle.hint_chain.specs.Chains.{Lookup, IsChain}
+use Rattle.cnf_base.proofs.Lists.{Contains-first, Contains-later}
+use Rattle.hint_chain.specs.Chains.{IsChain}
 use Rattle.hint_chain.proofs.Growing.{IsChain-grows}
 use Rattle.smt_terms.specs.declared.node.Node.{Node}
 use Rattle.proof_log.specs.declared.entry.Entry.{Entry}
@@ -17,13 +17,10 @@ use Rattle.proof_log.specs.Diaries.{Subject, look_of, is_chain, blank}
 use Rattle.proof_log.proofs.Growth.{grown_holds, grown_length, clause_stays, clause_place, entry_stays, entry_within, clauses_exist, put_is_new}
 use Rattle.proof_log.proofs.Lines.{IsProlonged, blank_within, lines_within, diary_longer}
 use Rattle.proof_log.proofs.Growing.{below_member}
-use Rattle.local_names.specs.Names.{global, global_clause, local_look}
-use Rattle.local_names.proofs.Renamed.{contains_of_map, chain_of_local, found_local}
 use Rattle.cdcl_core.specs.declared.watches.Watches.{Watches}
-use Rattle.cdcl_core.specs.Search.{clause_of}
+use Rattle.cdcl_core.specs.Search.{clause_of, held_of}
 use Rattle.cdcl_learn.specs.Puts.{StandsIn, IsAgainst}
-use Rattle.cube_search.specs.Numbers.{global_found, global_look, AreNumbers, AreNumbered}
-use Rattle.cube_search.proofs.Naming.{below_each, numbers_below, against_global, against_below}
+use Rattle.cube_search.specs.Holding.{AreAmong}
 use Rattle.cube_search.specs.Keeping.{IsKept}
 use Rattle.cube_search.specs.declared.keeper.Keeper.{Keeper}
 use Rattle.cube_search.specs.Running.{IsSearchOf}
@@ -39,10 +36,11 @@ chain_within log p e = let k = chain_entry (entry_at log p) e in entry_within lo
 
 -- ---- what is held
 
-same_nodes : (look : Lookup) (variables opening taken : List ℕ) (from seen : ℕ) (nodes : List Node) (log log' : List Entry) → Grows log log' → IsLog nodes log' → IsSearchOf look variables opening taken from seen nodes log → IsSearchOf look variables opening taken from seen nodes log'
-same_nodes look variables opening taken from seen nodes log log' grows stands h =
+same_nodes : (w : Watches) (variables opening taken : List ℕ) (from seen : ℕ) (nodes : List Node) (log log' : List Entry) → Grows log log' → IsLog nodes log' → IsSearchOf w variables opening taken from seen nodes log → IsSearchOf w variables opening taken from seen nodes log'
+same_nodes w variables opening taken from seen nodes log log' grows stands h =
     let more = grown_holds nodes log log' grows stands in
     let longer = grown_length log log' grows in
+    let kept_entry : (id : ClauseId) (c : List Literal) → clause_of w id ≡ Some c → entry_at log' id.pos ≡ entry_at log id.pos = λ id c e. entry_stays log log' id.pos grows (clause_place nodes log id c (h.holding.sound id c e)) in
     record {
       holding = record {
         sound = λ id c e. more.clauses id c (h.holding.sound id c e);
@@ -51,11 +49,15 @@ same_nodes look variables opening taken from seen nodes log log' grows stands h 
         complete = λ id c k e.
             let low = h.placed.before id.pos k in
             h.holding.complete id c k (sym (clause_stays nodes log log' id grows (omega (arith, low, h.placed.from_seen, h.placed.within))) ∙ e);
+        waiting = h.holding.waiting;
         occurs = λ x k. let o = h.holding.occurs x k in (o.0, o.1, o.2, o.3, more.clauses o.0 o.1 o.4, o.5, o.6);
       };
       placed = record {
         before = h.placed.before;
-        chains = λ p k. let q = h.placed.chains p k in (q.0, ap is_chain (entry_stays log log' p grows (chain_within log p q.1)) ∙ q.1);
+        plain = λ p k. let low = h.placed.before p k in ap is_chain (entry_stays log log' p grows (omega (arith, low, h.placed.from_seen, h.placed.within))) ∙ h.placed.plain p k;
+        chains = λ p k. let q = h.placed.chains p k in ap is_chain (entry_stays log log' p grows (chain_within log p q)) ∙ q;
+        stored = λ id c e. ⊎_elim (λ x. inl (ap is_chain (kept_entry id c e) ∙ x)) (λ x. inr x) (h.placed.stored id c e);
+        below = λ id c e x. h.placed.below id c e (sym (ap is_chain (kept_entry id c e)) ∙ x);
         from_seen = h.placed.from_seen;
         within = omega (arith, h.placed.within, longer);
       };
@@ -63,10 +65,10 @@ same_nodes look variables opening taken from seen nodes log log' grows stands h 
       stands = stands;
     }
 
-pub search_later : (look : Lookup) (variables opening taken : List ℕ) (from seen : ℕ) (nodes nodes' : List Node) (log log' : List Entry) (known known' : ℕ → Type 0) → IsLater nodes nodes' log log' known known' → IsSearchOf look variables opening taken from seen nodes log → IsSearchOf look variables opening taken from seen nodes' log'
-search_later look variables opening taken from seen nodes nodes' log log' known known' l h =
-    subst (λ n. IsSearchOf look variables opening taken from seen n log') (sym l.nodes)
-    (same_nodes look variables opening taken from seen nodes log log' l.grows (subst (λ n. IsLog n log') l.nodes l.stands) h)
+pub search_later : (w : Watches) (variables opening taken : List ℕ) (from seen : ℕ) (nodes nodes' : List Node) (log log' : List Entry) (known known' : ℕ → Type 0) → IsLater nodes nodes' log log' known known' → IsSearchOf w variables opening taken from seen nodes log → IsSearchOf w variables opening taken from seen nodes' log'
+search_later w variables opening taken from seen nodes nodes' log log' known known' l h =
+    subst (λ n. IsSearchOf w variables opening taken from seen n log') (sym l.nodes)
+    (same_nodes w variables opening taken from seen nodes log log' l.grows (subst (λ n. IsLog n log') l.nodes l.stands) h)
 
 -- the next variable does not fall
 below_later_same : (nodes : List Node) (log log' : List Entry) (given : List Literal) → Grows log log' → IsLog nodes log' → AreBelow (state_of nodes log).next given → AreBelow (state_of nodes log').next given
@@ -78,8 +80,8 @@ below_later nodes nodes' log log' known known' given l h =
 
 -- ---- the diary
 
-kept_prolonged : (g g' : Subject) (look : Lookup) (variables : List ℕ) (k : Keeper) (seen : ℕ) → IsProlonged g g' → g.from ≤ suc (length g.log) → seen ≤ suc (length g.log) → ((i : ClauseId) → i.pos ≤ length g.log → look_of g' i ≡ look_of g i) → IsKept g look variables k seen → IsKept g' look variables k seen
-kept_prolonged g g' look variables k seen p from within same h =
+kept_prolonged : (g g' : Subject) (w : Watches) (variables : List ℕ) (k : Keeper) (seen : ℕ) → IsProlonged g g' → g.from ≤ suc (length g.log) → seen ≤ suc (length g.log) → ((i : ClauseId) → i.pos ≤ length g.log → look_of g' i ≡ look_of g i) → IsKept g w variables k seen → IsKept g' w variables k seen
+kept_prolonged g g' w variables k seen p from within same h =
     let d = diary_longer g g' p from k.lines.items h.stand in
     let inside = lines_within g (blank g) k.lines.items h.stand (blank_within g from) in
     record {
@@ -97,63 +99,53 @@ kept_prolonged g g' look variables k seen p from within same h =
       later = h.later;
     }
 
-same_kept : (nodes : List Node) (log log' : List Entry) (given : List Literal) (from seen : ℕ) (look : Lookup) (variables : List ℕ) (k : Keeper) → Grows log log' → from ≤ suc (length log) → seen ≤ suc (length log) → IsKept (record { nodes = nodes; log = log; given = given; from = from }) look variables k seen → IsKept (record { nodes = nodes; log = log'; given = given; from = from }) look variables k seen
-same_kept nodes log log' given from seen look variables k grows low within h =
-    kept_prolonged (record { nodes = nodes; log = log; given = given; from = from }) (record { nodes = nodes; log = log'; given = given; from = from }) look variables k seen
+same_kept : (nodes : List Node) (log log' : List Entry) (given : List Literal) (from seen : ℕ) (w : Watches) (variables : List ℕ) (k : Keeper) → Grows log log' → from ≤ suc (length log) → seen ≤ suc (length log) → IsKept (record { nodes = nodes; log = log; given = given; from = from }) w variables k seen → IsKept (record { nodes = nodes; log = log'; given = given; from = from }) w variables k seen
+same_kept nodes log log' given from seen w variables k grows low within h =
+    kept_prolonged (record { nodes = nodes; log = log; given = given; from = from }) (record { nodes = nodes; log = log'; given = given; from = from }) w variables k seen
     (record { nodes = refl; given = refl; from = refl; grows = grows }) low within (λ i le. clause_stays nodes log log' i grows le) h
 
-pub kept_later : (nodes nodes' : List Node) (log log' : List Entry) (known known' : ℕ → Type 0) (given : List Literal) (from seen : ℕ) (look : Lookup) (variables : List ℕ) (k : Keeper) → IsLater nodes nodes' log log' known known' → from ≤ suc (length log) → seen ≤ suc (length log) → IsKept (record { nodes = nodes; log = log; given = given; from = from }) look variables k seen → IsKept (record { nodes = nodes'; log = log'; given = given; from = from }) look variables k seen
-kept_later nodes nodes' log log' known known' given from seen look variables k l low within h =
-    subst (λ n. IsKept (record { nodes = n; log = log'; given = given; from = from }) look variables k seen) (sym l.nodes)
-    (same_kept nodes log log' given from seen look variables k l.grows low within h)
+pub kept_later : (nodes nodes' : List Node) (log log' : List Entry) (known known' : ℕ → Type 0) (given : List Literal) (from seen : ℕ) (w : Watches) (variables : List ℕ) (k : Keeper) → IsLater nodes nodes' log log' known known' → from ≤ suc (length log) → seen ≤ suc (length log) → IsKept (record { nodes = nodes; log = log; given = given; from = from }) w variables k seen → IsKept (record { nodes = nodes'; log = log'; given = given; from = from }) w variables k seen
+kept_later nodes nodes' log log' known known' given from seen w variables k l low within h =
+    subst (λ n. IsKept (record { nodes = n; log = log'; given = given; from = from }) w variables k seen) (sym l.nodes)
+    (same_kept nodes log log' given from seen w variables k l.grows low within h)
 
 -- ---- chains that may be put
 
-module _ (names : List ℕ) (bound : ℕ) (w : Watches) (variables opening taken : List ℕ) (near : List Literal) (from seen : ℕ) (nodes : List Node) (log : List Entry) (numbered : AreNumbered names bound w near) (h : IsSearchOf (global_look names (clause_of w)) variables opening taken from seen nodes log) where
-  -- what is held stands under its variables in the log
-  pub held_stands : (id : ClauseId) (c : List Literal) → clause_of w id ≡ Some c → clause_at (state_of nodes log).clauses id ≡ Some (global_clause names c)
-  held_stands id c e = h.holding.sound id (global_clause names c) (ap (global_found names) e)
+below_each : (n : ℕ) (c : List Literal) → ((l : Literal) → Contains c l → l.variable < n) → AreBelow n c
+below_each n [] f = tt
+below_each n (l ∷ c) f = (f l (Contains-first l c), below_each n c (λ m k. f m (Contains-later l m c k)))
 
-  -- and is found there under its numbers
-  pub held_near : (id : ClauseId) (c : List Literal) → clause_of w id ≡ Some c → local_look names (clause_at (state_of nodes log).clauses) id ≡ Some c
-  held_near id c e = found_local names (clause_at (state_of nodes log).clauses) c id numbered.numbers.once (numbers_below bound (length names) c numbered.within (numbered.clauses id c e)) (held_stands id c e)
+-- opposites of given literals
+against_below : (n : ℕ) (given clause : List Literal) → AreBelow n given → IsAgainst given clause → AreBelow n clause
+against_below n given clause h against = below_each n clause (λ l k. below_member n given (negated l) h (against l k))
 
-  -- a chain over clauses that are held is one over those of the log
-  pub held_chain : (c : List Literal) (hints : List ClauseId) → AreBelow (length names) c → IsChain (clause_of w) c hints → IsChain (clause_at (state_of nodes log).clauses) (global_clause names c) hints
-  held_chain c hints below k =
-      chain_of_local names (clause_at (state_of nodes log).clauses) c hints numbered.numbers.once below
-      (IsChain-grows (clause_of w) (local_look names (clause_at (state_of nodes log).clauses)) held_near c hints k)
+module _ (w : Watches) (variables opening taken : List ℕ) (from seen : ℕ) (nodes : List Node) (log : List Entry) (h : IsSearchOf w variables opening taken from seen nodes log) where
+  -- a chain over clauses that are kept is one over those of the log
+  kept_chain : (c : List Literal) (hints : List ClauseId) → IsChain (clause_of w) c hints → IsChain (clause_at (state_of nodes log).clauses) c hints
+  kept_chain c hints k = IsChain-grows (clause_of w) (clause_at (state_of nodes log).clauses) h.holding.sound c hints k
 
-  pub closing_step : (c : List Literal) (hints : List ClauseId) → AreBelow (state_of nodes log).next (global_clause names near) → IsAgainst near c → IsChain (clause_of w) c hints → IsStep nodes (state_of nodes log) (step.Chain (global_clause names c) hints)
-  closing_step c hints below against k = (
-    against_below (state_of nodes log).next (global_clause names near) (global_clause names c) below (against_global names near c against),
-    held_chain c hints (against_below (length names) near c numbered.literals against) k,
-  )
+  pub closing_step : (given c : List Literal) (hints : List ClauseId) → AreBelow (state_of nodes log).next given → IsAgainst given c → IsChain (clause_of w) c hints → IsStep nodes (state_of nodes log) (step.Chain c hints)
+  closing_step given c hints below against k = (against_below (state_of nodes log).next given c below against, kept_chain c hints k)
 
   -- the literals of a learnt clause are those of its hints
-  pub learnt_numbers : (c : List Literal) (hints : List ClauseId) → ((l : Literal) → Contains c l → StandsIn (clause_of w) hints l) → AreNumbers bound c
-  learnt_numbers c hints stands l k = let s = stands l k in numbered.clauses s.0 s.1.0 s.1.1.1.0 l s.1.1.1.1
-
-  pub learnt_below : (c : List Literal) (hints : List ClauseId) → ((l : Literal) → Contains c l → StandsIn (clause_of w) hints l) → AreBelow (length names) c
-  learnt_below c hints stands = numbers_below bound (length names) c numbered.within (learnt_numbers c hints stands)
-
-  pub learnt_step : (c : List Literal) (hints : List ClauseId) → ((l : Literal) → Contains c l → StandsIn (clause_of w) hints l) → IsChain (clause_of w) c hints → IsStep nodes (state_of nodes log) (step.Chain (global_clause names c) hints)
-  learnt_step c hints stands k = (below_each (state_of nodes log).next (global_clause names c) below, held_chain c hints (learnt_below c hints stands) k)
+  pub learnt_step : (c : List Literal) (hints : List ClauseId) → ((l : Literal) → Contains c l → StandsIn (clause_of w) hints l) → IsChain (clause_of w) c hints → IsStep nodes (state_of nodes log) (step.Chain c hints)
+  learnt_step c hints stands k = (below_each (state_of nodes log).next c below, kept_chain c hints k)
     where
-      below : (l : Literal) → Contains (global_clause names c) l → l.variable < (state_of nodes log).next
+      below : (l : Literal) → Contains c l → l.variable < (state_of nodes log).next
       below l m =
-          let near_l = contains_of_map (global names) c l m in
-          let s = stands near_l.0 near_l.1 in
-          below_member (state_of nodes log).next (global_clause names s.1.0) l
-          (clauses_exist nodes log h.listed h.stands s.0 (global_clause names s.1.0) (held_stands s.0 s.1.0 s.1.1.1.0))
-          (subst (Contains (global_clause names s.1.0)) near_l.2 (Contains-map (global names) s.1.0 near_l.0 s.1.1.1.1))
+          let s = stands l m in
+          below_member (state_of nodes log).next s.1.0 l (clauses_exist nodes log h.listed h.stands s.0 s.1.0 (h.holding.sound s.0 s.1.0 s.1.1.1.0)) s.1.1.1.1
 
-  -- the position of a put is that of no held clause
+  -- and its variables those of hints that are held
+  pub learnt_among : (c : List Literal) (hints : List ClauseId) → ((l : Literal) → Contains c l → StandsIn (held_of w) hints l) → AreAmong variables c
+  learnt_among c hints stands l k = let s = stands l k in h.holding.among s.0 s.1.0 s.1.1.1.0 l s.1.1.1.1
+
+  -- the position of a put is that of no kept clause
   pub put_is_fresh : (new : List Entry) (e : Entry) (at : ℕ) → IsPutAt log e at new → clause_of w (record { pos = at; part = 0 }) ≡ None
   put_is_fresh new e at p = go (clause_of w (record { pos = at; part = 0 })) refl
     where
       go : (o : Option (List Literal)) → clause_of w (record { pos = at; part = 0 }) ≡ o → o ≡ None
       go None q = refl
       go (Some c) q =
-          let le = clause_place nodes log (record { pos = at; part = 0 }) (global_clause names c) (held_stands (record { pos = at; part = 0 }) c q) in
+          let le = clause_place nodes log (record { pos = at; part = 0 }) c (h.holding.sound (record { pos = at; part = 0 }) c q) in
           absurd (omega (arith, le, put_is_new log new e at p))

@@ -1,4 +1,3 @@
-pub mod Naming
 pub mod Filling
 pub mod Later
 pub mod Keeping
@@ -6,5 +5,7 @@ pub mod Putting
 pub mod Spent
 pub mod Beginning
 pub mod Moving
+pub mod Waking
 pub mod Steps
 pub mod Models
+pub mod Resting

@@ -1,6 +1,7 @@
 -- What is held of a log where one chain comes or goes.
-use Rattle.std.proofs.Common.{◌≡◌, ℕ, ◌+◌, ◌<◌, ◌≤◌, true, List, [], ◌∷◌, ◌++◌, length, take, get_or, Some, None, sym, ap, ◌∙◌, subst, inl, inr, ⊎_elim, arith}
-use Rattle.std.specs.Prelude.{◌≢◌, ◌⊎◌, Contains}
+use Rattle.std.proofs.Common.{◌≡◌, ℕ, ◌+◌, ◌<◌, true, false, List, [], ◌∷◌, ◌++◌, length, take, get_or, Some, None, refl, sym, ap, ◌∙◌, subst, inl, inr, ⊎_elim}
+use Rattle.std.specs.Prelude.{◌⊎◌, Contains}
+use Rattle.std.proofs.lemmas.Bool.{both_ways}
 use Rattle.std.proofs.lemmas.List.{take_more}
 use Rattle.std.proofs.lemmas.List.Elements.{Contains-append_left, Contains-push, Contains-push_cases}
 use Rattle.cnf_base.specs.Literals.{Literal}
@@ -12,157 +13,258 @@ use Rattle.proof_log.specs.declared.entry.Entry.{Entry}
 use Rattle.proof_log.specs.Logs.{clause_at, entry_at, state_of}
 use Rattle.proof_log.specs.Diaries.{Subject, is_chain}
 use Rattle.proof_log.proofs.Growth.{chain_part}
-use Rattle.local_names.specs.Names.{IsNamed, global_clause}
 use Rattle.cdcl_core.specs.declared.watches.Watches.{Watches}
-use Rattle.cdcl_core.specs.Search.{clause_of}
+use Rattle.cdcl_core.specs.Search.{clause_of, held_of}
+use Rattle.cdcl_core.proofs.Held.{held_kept, not_held}
+use Rattle.cdcl_loop.specs.Engines.{IsSameStore, IsSameBut}
 use Rattle.cdcl_learn.proofs.Lists.{front_cases}
-use Rattle.cube_search.specs.Numbers.{global_found, global_look, variables_of, AreNumbered}
-use Rattle.cube_search.proofs.Naming.{found_global, global_look_more, variables_more}
-use Rattle.cube_search.specs.Holding.{AreAmong, ArePlaced, AreLeft}
+use Rattle.cube_search.specs.Holding.{AreAmong, IsForeign, IsHolding, ArePlaced, AreLeft}
 use Rattle.cube_search.specs.Keeping.{IsKept}
 use Rattle.cube_search.specs.declared.keeper.Keeper.{Keeper}
 use Rattle.cube_search.specs.Running.{IsSearchOf}
-use Rattle.cube_search.proofs.Filling.{same_id}
+use Rattle.cube_search.proofs.Filling.{same_id, holding_same}
 use Rattle.cube_search.proofs.Later.{chain_entry}
 
-pub search_moved : (look look' : Lookup) (variables variables' opening opening' taken taken' : List ℕ) (from from' seen seen' : ℕ) (nodes : List Node) (log : List Entry) → look' ≡ look → variables' ≡ variables → opening' ≡ opening → taken' ≡ taken → from' ≡ from → seen' ≡ seen → IsSearchOf look variables opening taken from seen nodes log → IsSearchOf look' variables' opening' taken' from' seen' nodes log
-search_moved look look' variables variables' opening opening' taken taken' from from' seen seen' nodes log z a b c d e h = rw (z, a, b, c, d, e) h
+pub search_moved : (w w' : Watches) (variables variables' opening opening' taken taken' : List ℕ) (from from' seen seen' : ℕ) (nodes : List Node) (log : List Entry) → w' ≡ w → variables' ≡ variables → opening' ≡ opening → taken' ≡ taken → from' ≡ from → seen' ≡ seen → IsSearchOf w variables opening taken from seen nodes log → IsSearchOf w' variables' opening' taken' from' seen' nodes log
+search_moved w w' variables variables' opening opening' taken taken' from from' seen seen' nodes log z a b c d e h = rw (z, a, b, c, d, e) h
 
-pub kept_moved : (nodes : List Node) (log : List Entry) (given given' : List Literal) (from from' : ℕ) (look look' : Lookup) (variables variables' : List ℕ) (k : Keeper) (seen seen' : ℕ) → given' ≡ given → from' ≡ from → look' ≡ look → variables' ≡ variables → seen' ≡ seen → IsKept (record { nodes = nodes; log = log; given = given; from = from }) look variables k seen → IsKept (record { nodes = nodes; log = log; given = given'; from = from' }) look' variables' k seen'
-kept_moved nodes log given given' from from' look look' variables variables' k seen seen' a b z c d h = rw (a, b, z, c, d) h
+pub kept_moved : (nodes : List Node) (log : List Entry) (given given' : List Literal) (from from' : ℕ) (w w' : Watches) (variables variables' : List ℕ) (k : Keeper) (seen seen' : ℕ) → given' ≡ given → from' ≡ from → w' ≡ w → variables' ≡ variables → seen' ≡ seen → IsKept (record { nodes = nodes; log = log; given = given; from = from }) w variables k seen → IsKept (record { nodes = nodes; log = log; given = given'; from = from' }) w' variables' k seen'
+kept_moved nodes log given given' from from' w w' variables variables' k seen seen' a b z c d h = rw (a, b, z, c, d) h
 
-pub search_same : (look new : Lookup) (variables opening taken : List ℕ) (from seen : ℕ) (nodes : List Node) (log : List Entry) → ((id : ClauseId) → new id ≡ look id) → IsSearchOf look variables opening taken from seen nodes log → IsSearchOf new variables opening taken from seen nodes log
-search_same look new variables opening taken from seen nodes log same h = record {
-  holding = record {
-    sound = λ id c e. h.holding.sound id c (sym (same id) ∙ e);
-    among = λ id c e. h.holding.among id c (sym (same id) ∙ e);
-    covered = λ id c e. h.holding.covered id c (sym (same id) ∙ e);
-    complete = λ id c k e. same id ∙ h.holding.complete id c k e;
-    occurs = h.holding.occurs;
+pub search_same : (w v : Watches) (variables opening taken : List ℕ) (from seen : ℕ) (nodes : List Node) (log : List Entry) → IsSameStore w v → IsSearchOf w variables opening taken from seen nodes log → IsSearchOf v variables opening taken from seen nodes log
+search_same w v variables opening taken from seen nodes log same h = record {
+  holding = holding_same w v (state_of nodes log).clauses variables variables opening taken same refl h.holding;
+  placed = record {
+    before = h.placed.before;
+    plain = h.placed.plain;
+    chains = h.placed.chains;
+    stored = λ id c e. h.placed.stored id c (sym (same.kept id) ∙ e);
+    below = λ id c e. h.placed.below id c (sym (same.kept id) ∙ e);
+    from_seen = h.placed.from_seen;
+    within = h.placed.within;
   };
-  placed = h.placed;
   listed = h.listed;
   stands = h.stands;
 }
 
-pub kept_same : (g : Subject) (look new : Lookup) (variables : List ℕ) (k : Keeper) (seen : ℕ) → ((id : ClauseId) → new id ≡ look id) → IsKept g look variables k seen → IsKept g new variables k seen
-kept_same g look new variables k seen same h = record {
+pub kept_same : (g : Subject) (w v : Watches) (variables : List ℕ) (k : Keeper) (seen : ℕ) → IsSameStore w v → IsKept g w variables k seen → IsKept g v variables k seen
+kept_same g w v variables k seen same h = record {
   stand = h.stand;
   puts = h.puts;
   chains = h.chains;
   drops = h.drops;
-  held = λ id c e. h.held id c (sym (same id) ∙ e);
-  complete = λ id c x e. ⊎_elim (λ y. inl (same id ∙ y)) (λ y. inr y) (h.complete id c x e);
+  held = λ id c e. h.held id c (sym (same.kept id) ∙ e);
+  complete = λ id c x e. ⊎_elim (λ y. inl (same.held id ∙ y)) (λ y. inr y) (h.complete id c x e);
   lined = h.lined;
   start = h.start;
   begun = h.begun;
   later = h.later;
 }
 
-placed_more : (log : List Entry) (opening taken : List ℕ) (from seen at : ℕ) → from ≤ at → is_chain (entry_at log at) ≡ true → ArePlaced log opening taken from seen → ArePlaced log opening (taken ++ at ∷ []) from seen
-placed_more log opening taken from seen at le chain h = record {
-  before = h.before;
-  chains = λ p k. ⊎_elim (λ old. h.chains p old) (λ e. subst (λ q. (from ≤ q) × (is_chain (entry_at log q) ≡ true)) e (le, chain)) (Contains-push_cases taken at p k);
-  from_seen = h.from_seen;
-  within = h.within;
-}
+-- ---- a chain at a position
 
-module _ (look new : Lookup) (variables opening taken : List ℕ) (from seen : ℕ) (nodes : List Node) (log : List Entry) (at : ℕ) (own : from ≤ at) (chain : is_chain (entry_at log at) ≡ true) (h : IsSearchOf look variables opening taken from seen nodes log) where
-  -- the position is noted, and its clause not held
-  pub search_noted : ((id : ClauseId) → new id ≡ look id) → IsSearchOf new variables opening (taken ++ at ∷ []) from seen nodes log
-  search_noted same =
-      let k = search_same look new variables opening taken from seen nodes log same h in
+module _ (nodes : List Node) (log : List Entry) (w v : Watches) (variables opening taken : List ℕ) (at : ℕ) (chain : is_chain (entry_at log at) ≡ true) (plain : (p : ℕ) → Contains opening p → is_chain (entry_at log p) ≡ false) (h : IsHolding w (state_of nodes log).clauses variables opening taken) where
+  -- a clause of its position is the first
+  one_part : (id : ClauseId) (c : List Literal) → id.pos ≡ at → clause_at (state_of nodes log).clauses id ≡ Some c → id ≡ record { pos = at; part = 0 }
+  one_part id c p e =
+      let k = chain_entry (entry_at log at) chain in
+      let part = chain_part nodes log id k.0 c k.1 (ap (entry_at log) p ∙ k.2) e in
+      λ i. record { pos = p i; part = part.0 i }
+
+  apart : (id : ClauseId) → Contains opening id.pos → id ≡ record { pos = at; part = 0 } → ⊥
+  apart id k a = both_ways (is_chain (entry_at log id.pos)) (plain id.pos k) (ap (λ (x : ClauseId). is_chain (entry_at log x.pos)) a ∙ chain)
+
+  -- the position is noted: its clause is not kept, or is held already, or has another variable
+  pub holding_noted : IsSameStore w v → ((c : List Literal) → clause_of w (record { pos = at; part = 0 }) ≡ Some c → (held_of w (record { pos = at; part = 0 }) ≡ Some c) ⊎ IsForeign variables c) → IsHolding v (state_of nodes log).clauses variables opening (taken ++ at ∷ [])
+  holding_noted same rest =
+      let k = holding_same w v (state_of nodes log).clauses variables variables opening taken same refl h in
       record {
-        holding = record {
-          sound = k.holding.sound;
-          among = k.holding.among;
-          covered = λ id c e. ⊎_elim (λ x. inl x) (λ x. inr (Contains-append_left taken (at ∷ []) id.pos x)) (k.holding.covered id c e);
-          complete = k.holding.complete;
-          occurs = k.holding.occurs;
-        };
-        placed = placed_more log opening taken from seen at own chain h.placed;
-        listed = h.listed;
-        stands = h.stands;
+        sound = k.sound;
+        among = k.among;
+        covered = λ id c e. ⊎_elim (λ x. inl x) (λ x. inr (Contains-append_left taken (at ∷ []) id.pos x)) (k.covered id c e);
+        complete = k.complete;
+        waiting = λ id c m e. ⊎_elim (λ old. k.waiting id c old e) (λ p. here id c (sym p) e) (Contains-push_cases taken at id.pos m);
+        occurs = k.occurs;
       }
+    where
+      here : (id : ClauseId) (c : List Literal) → id.pos ≡ at → clause_of v id ≡ Some c → (held_of v id ≡ Some c) ⊎ IsForeign variables c
+      here id c p e =
+          let old = sym (same.kept id) ∙ e in
+          let a = one_part id c p (h.sound id c old) in
+          ⊎_elim (λ x. inl (same.held id ∙ ap (held_of w) a ∙ x)) (λ x. inr x) (rest c (ap (clause_of w) (sym a) ∙ old))
 
-  module _ (others : (q : ClauseId) → q ≢ record { pos = at; part = 0 } → new q ≡ look q) where
-    -- its clause comes
-    pub search_held : (clause : List Literal) → new (record { pos = at; part = 0 }) ≡ Some clause → clause_at (state_of nodes log).clauses (record { pos = at; part = 0 }) ≡ Some clause → AreAmong variables clause → IsSearchOf new variables opening (taken ++ at ∷ []) from seen nodes log
-    search_held clause held there among = record {
-      holding = record {
-        sound = λ id c e. elim (same_id id (record { pos = at; part = 0 })) [
-          | inl a ↦ ap (clause_at (state_of nodes log).clauses) a ∙ there ∙ sym (ap new a ∙ held) ∙ e
-          | inr a ↦ h.holding.sound id c (sym (others id a) ∙ e)
-        ];
-        among = λ id c e. elim (same_id id (record { pos = at; part = 0 })) [
-          | inl a ↦ (let r : Some clause ≡ Some c = sym (ap new a ∙ held) ∙ e in let s : clause ≡ c = cc in subst (AreAmong variables) s among)
-          | inr a ↦ h.holding.among id c (sym (others id a) ∙ e)
-        ];
-        covered = λ id c e. elim (same_id id (record { pos = at; part = 0 })) [
-          | inl a ↦ inr (subst (Contains (taken ++ at ∷ [])) (sym (ap (λ (x : ClauseId). x.pos) a)) (Contains-push taken at))
-          | inr a ↦ ⊎_elim (λ x. inl x) (λ x. inr (Contains-append_left taken (at ∷ []) id.pos x)) (h.holding.covered id c (sym (others id a) ∙ e))
-        ];
-        complete = λ id c k e. others id (λ a. apart id k a) ∙ h.holding.complete id c k e;
-        occurs = h.holding.occurs;
-      };
-      placed = placed_more log opening taken from seen at own chain h.placed;
-      listed = h.listed;
-      stands = h.stands;
+  module _ (others : IsSameBut (record { pos = at; part = 0 }) w v) where
+    -- its clause is held from here on
+    pub holding_held : (clause : List Literal) → clause_of v (record { pos = at; part = 0 }) ≡ Some clause → held_of v (record { pos = at; part = 0 }) ≡ Some clause → clause_at (state_of nodes log).clauses (record { pos = at; part = 0 }) ≡ Some clause → AreAmong variables clause → IsHolding v (state_of nodes log).clauses variables opening (taken ++ at ∷ [])
+    holding_held clause kept held there among = record {
+      sound = sound;
+      among = λ id c e. elim (same_id id (record { pos = at; part = 0 })) [
+        | inl a ↦ (let r : Some clause ≡ Some c = sym (ap (held_of v) a ∙ held) ∙ e in let s : clause ≡ c = cc in subst (AreAmong variables) s among)
+        | inr a ↦ h.among id c (sym (others.held id a) ∙ e)
+      ];
+      covered = λ id c e. elim (same_id id (record { pos = at; part = 0 })) [
+        | inl a ↦ inr (subst (Contains (taken ++ at ∷ [])) (sym (ap (λ (x : ClauseId). x.pos) a)) (Contains-push taken at))
+        | inr a ↦ ⊎_elim (λ x. inl x) (λ x. inr (Contains-append_left taken (at ∷ []) id.pos x)) (h.covered id c (sym (others.held id a) ∙ e))
+      ];
+      complete = λ id c k e. others.held id (λ a. apart id k a) ∙ h.complete id c k e;
+      waiting = λ id c k e. elim (same_id id (record { pos = at; part = 0 })) [
+        | inl a ↦ inl (ap (held_of v) a ∙ held ∙ sym (ap (clause_of v) a ∙ kept) ∙ e)
+        | inr a ↦ ⊎_elim
+            (λ old. ⊎_elim (λ x. inl (others.held id a ∙ x)) (λ x. inr x) (h.waiting id c old (sym (others.kept id a) ∙ e)))
+            (λ p. absurd (a (one_part id c (sym p) (sound id c e))))
+            (Contains-push_cases taken at id.pos k)
+      ];
+      occurs = h.occurs;
     }
       where
-        apart : (id : ClauseId) → Contains opening id.pos → id ≡ record { pos = at; part = 0 } → ⊥
-        apart id k a = let low = h.placed.before id.pos k in let p : id.pos ≡ at = ap (λ (x : ClauseId). x.pos) a in absurd (omega (arith, low, p, own))
-
-    -- its clause goes
-    pub search_dropped : new (record { pos = at; part = 0 }) ≡ None → IsSearchOf new variables opening taken from seen nodes log
-    search_dropped none = record {
-      holding = record {
-        sound = λ id c e. h.holding.sound id c (still id c e);
-        among = λ id c e. h.holding.among id c (still id c e);
-        covered = λ id c e. h.holding.covered id c (still id c e);
-        complete = λ id c k e. others id (λ a. apart id k a) ∙ h.holding.complete id c k e;
-        occurs = h.holding.occurs;
-      };
-      placed = h.placed;
-      listed = h.listed;
-      stands = h.stands;
-    }
-      where
-        apart : (id : ClauseId) → Contains opening id.pos → id ≡ record { pos = at; part = 0 } → ⊥
-        apart id k a = let low = h.placed.before id.pos k in let p : id.pos ≡ at = ap (λ (x : ClauseId). x.pos) a in absurd (omega (arith, low, p, own))
-
-        still : (id : ClauseId) (c : List Literal) → new id ≡ Some c → look id ≡ Some c
-        still id c e = elim (same_id id (record { pos = at; part = 0 })) [
-          | inl a ↦ (let f : Some c ≡ None = sym e ∙ ap new a ∙ none in let k : ⊥ = cc in absurd k)
-          | inr a ↦ sym (others id a) ∙ e
+        sound : (id : ClauseId) (c : List Literal) → clause_of v id ≡ Some c → clause_at (state_of nodes log).clauses id ≡ Some c
+        sound id c e = elim (same_id id (record { pos = at; part = 0 })) [
+          | inl a ↦ ap (clause_at (state_of nodes log).clauses) a ∙ there ∙ sym (ap (clause_of v) a ∙ kept) ∙ e
+          | inr a ↦ h.sound id c (sym (others.kept id a) ∙ e)
         ]
 
--- of what was taken, what is not held is forgotten
-pub search_left : (look : Lookup) (variables opening taken left : List ℕ) (from seen : ℕ) (nodes : List Node) (log : List Entry) → AreLeft look taken left → IsSearchOf look variables opening taken from seen nodes log → IsSearchOf look variables opening left from seen nodes log
-search_left look variables opening taken left from seen nodes log l h = record {
+    -- its clause is kept no longer
+    pub holding_dropped : clause_of v (record { pos = at; part = 0 }) ≡ None → IsHolding v (state_of nodes log).clauses variables opening taken
+    holding_dropped none = record {
+      sound = λ id c e. h.sound id c (still id c e);
+      among = λ id c e. h.among id c (still_held id c e);
+      covered = λ id c e. h.covered id c (still_held id c e);
+      complete = λ id c k e. others.held id (λ a. apart id k a) ∙ h.complete id c k e;
+      waiting = λ id c k e. elim (same_id id (record { pos = at; part = 0 })) [
+        | inl a ↦ (let f : Some c ≡ None = sym e ∙ ap (clause_of v) a ∙ none in let z : ⊥ = cc in absurd z)
+        | inr a ↦ ⊎_elim (λ x. inl (others.held id a ∙ x)) (λ x. inr x) (h.waiting id c k (sym (others.kept id a) ∙ e))
+      ];
+      occurs = h.occurs;
+    }
+      where
+        still : (id : ClauseId) (c : List Literal) → clause_of v id ≡ Some c → clause_of w id ≡ Some c
+        still id c e = elim (same_id id (record { pos = at; part = 0 })) [
+          | inl a ↦ (let f : Some c ≡ None = sym e ∙ ap (clause_of v) a ∙ none in let z : ⊥ = cc in absurd z)
+          | inr a ↦ sym (others.kept id a) ∙ e
+        ]
+
+        still_held : (id : ClauseId) (c : List Literal) → held_of v id ≡ Some c → held_of w id ≡ Some c
+        still_held id c e = elim (same_id id (record { pos = at; part = 0 })) [
+          | inl a ↦ (let f : Some c ≡ None = sym e ∙ ap (held_of v) a ∙ not_held v (record { pos = at; part = 0 }) none in let z : ⊥ = cc in absurd z)
+          | inr a ↦ sym (others.held id a) ∙ e
+        ]
+
+-- ---- where it stands
+
+module _ (log : List Entry) (w v : Watches) (opening taken : List ℕ) (from seen at : ℕ) (chain : is_chain (entry_at log at) ≡ true) (h : ArePlaced (clause_of w) log opening taken from seen) where
+  more_chains : (p : ℕ) → Contains (taken ++ at ∷ []) p → is_chain (entry_at log p) ≡ true
+  more_chains p k = ⊎_elim (λ old. h.chains p old) (λ e. subst (λ q. is_chain (entry_at log q) ≡ true) e chain) (Contains-push_cases taken at p k)
+
+  pub placed_noted : IsSameStore w v → ArePlaced (clause_of v) log opening (taken ++ at ∷ []) from seen
+  placed_noted same = record {
+    before = h.before;
+    plain = h.plain;
+    chains = more_chains;
+    stored = λ id c e. ⊎_elim (λ x. inl x) (λ x. inr (Contains-append_left taken (at ∷ []) id.pos x)) (h.stored id c (sym (same.kept id) ∙ e));
+    below = λ id c e. h.below id c (sym (same.kept id) ∙ e);
+    from_seen = h.from_seen;
+    within = h.within;
+  }
+
+  module _ (others : IsSameBut (record { pos = at; part = 0 }) w v) where
+    pub placed_more : ArePlaced (clause_of v) log opening (taken ++ at ∷ []) from seen
+    placed_more = record {
+      before = h.before;
+      plain = h.plain;
+      chains = more_chains;
+      stored = λ id c e. elim (same_id id (record { pos = at; part = 0 })) [
+        | inl a ↦ inr (subst (Contains (taken ++ at ∷ [])) (sym (ap (λ (x : ClauseId). x.pos) a)) (Contains-push taken at))
+        | inr a ↦ ⊎_elim (λ x. inl x) (λ x. inr (Contains-append_left taken (at ∷ []) id.pos x)) (h.stored id c (sym (others.kept id a) ∙ e))
+      ];
+      below = λ id c e q. elim (same_id id (record { pos = at; part = 0 })) [
+        | inl a ↦ absurd (both_ways (is_chain (entry_at log id.pos)) q (ap (λ (x : ClauseId). is_chain (entry_at log x.pos)) a ∙ chain))
+        | inr a ↦ h.below id c (sym (others.kept id a) ∙ e) q
+      ];
+      from_seen = h.from_seen;
+      within = h.within;
+    }
+
+    pub placed_less : clause_of v (record { pos = at; part = 0 }) ≡ None → ArePlaced (clause_of v) log opening taken from seen
+    placed_less none = record {
+      before = h.before;
+      plain = h.plain;
+      chains = h.chains;
+      stored = λ id c e. h.stored id c (still id c e);
+      below = λ id c e. h.below id c (still id c e);
+      from_seen = h.from_seen;
+      within = h.within;
+    }
+      where
+        still : (id : ClauseId) (c : List Literal) → clause_of v id ≡ Some c → clause_of w id ≡ Some c
+        still id c e = elim (same_id id (record { pos = at; part = 0 })) [
+          | inl a ↦ (let f : Some c ≡ None = sym e ∙ ap (clause_of v) a ∙ none in let z : ⊥ = cc in absurd z)
+          | inr a ↦ sym (others.kept id a) ∙ e
+        ]
+
+-- ---- a search
+
+module _ (w v : Watches) (variables opening taken : List ℕ) (from seen : ℕ) (nodes : List Node) (log : List Entry) (at : ℕ) (chain : is_chain (entry_at log at) ≡ true) (h : IsSearchOf w variables opening taken from seen nodes log) where
+  -- the position is noted, and its clause is not kept
+  pub search_noted : IsSameStore w v → clause_of w (record { pos = at; part = 0 }) ≡ None → IsSearchOf v variables opening (taken ++ at ∷ []) from seen nodes log
+  search_noted same none = record {
+    holding = holding_noted nodes log w v variables opening taken at chain h.placed.plain h.holding same (λ c e. let f : Some c ≡ None = sym e ∙ none in let z : ⊥ = cc in absurd z);
+    placed = placed_noted log w v opening taken from seen at chain h.placed same;
+    listed = h.listed;
+    stands = h.stands;
+  }
+
+  module _ (others : IsSameBut (record { pos = at; part = 0 }) w v) where
+    -- its clause comes
+    pub search_held : (clause : List Literal) → clause_of v (record { pos = at; part = 0 }) ≡ Some clause → held_of v (record { pos = at; part = 0 }) ≡ Some clause → clause_at (state_of nodes log).clauses (record { pos = at; part = 0 }) ≡ Some clause → AreAmong variables clause → IsSearchOf v variables opening (taken ++ at ∷ []) from seen nodes log
+    search_held clause kept held there among = record {
+      holding = holding_held nodes log w v variables opening taken at chain h.placed.plain h.holding others clause kept held there among;
+      placed = placed_more log w v opening taken from seen at chain h.placed others;
+      listed = h.listed;
+      stands = h.stands;
+    }
+
+    -- its clause goes
+    pub search_dropped : clause_of v (record { pos = at; part = 0 }) ≡ None → IsSearchOf v variables opening taken from seen nodes log
+    search_dropped none = record {
+      holding = holding_dropped nodes log w v variables opening taken at chain h.placed.plain h.holding others none;
+      placed = placed_less log w v opening taken from seen at chain h.placed others none;
+      listed = h.listed;
+      stands = h.stands;
+    }
+
+-- a taken position of which a clause is kept is left
+pub left_kept : (nodes : List Node) (log : List Entry) (look : Lookup) (taken left : List ℕ) → ((id : ClauseId) (c : List Literal) → look id ≡ Some c → clause_at (state_of nodes log).clauses id ≡ Some c) → ((p : ℕ) → Contains taken p → is_chain (entry_at log p) ≡ true) → AreLeft look taken left → (id : ClauseId) (c : List Literal) → look id ≡ Some c → Contains taken id.pos → Contains left id.pos
+left_kept nodes log look taken left sound chains l id c e k =
+    let q = chain_entry (entry_at log id.pos) (chains id.pos k) in
+    let part = chain_part nodes log id q.0 c q.1 q.2 (sound id c e) in
+    l.all id.pos c k (ap (λ n. look (record { pos = id.pos; part = n })) (sym part.0) ∙ e)
+
+-- of what was taken, what is not kept is forgotten
+pub search_left : (w : Watches) (variables opening taken left : List ℕ) (from seen : ℕ) (nodes : List Node) (log : List Entry) → AreLeft (clause_of w) taken left → IsSearchOf w variables opening taken from seen nodes log → IsSearchOf w variables opening left from seen nodes log
+search_left w variables opening taken left from seen nodes log l h = record {
   holding = record {
     sound = h.holding.sound;
     among = h.holding.among;
-    covered = λ id c e. ⊎_elim (λ x. inl x) (λ x. inr (kept id c e x)) (h.holding.covered id c e);
+    covered = λ id c e. ⊎_elim (λ x. inl x) (λ x. inr (still id c (held_kept w id c e) x)) (h.holding.covered id c e);
     complete = h.holding.complete;
+    waiting = λ id c k e. h.holding.waiting id c (l.among id.pos k) e;
     occurs = h.holding.occurs;
   };
-  placed = record { before = h.placed.before; chains = λ p k. h.placed.chains p (l.among p k); from_seen = h.placed.from_seen; within = h.placed.within };
+  placed = record {
+    before = h.placed.before;
+    plain = h.placed.plain;
+    chains = λ p k. h.placed.chains p (l.among p k);
+    stored = λ id c e. ⊎_elim (λ x. inl x) (λ x. inr (still id c e x)) (h.placed.stored id c e);
+    below = h.placed.below;
+    from_seen = h.placed.from_seen;
+    within = h.placed.within;
+  };
   listed = h.listed;
   stands = h.stands;
 }
   where
-    kept : (id : ClauseId) (c : List Literal) → look id ≡ Some c → Contains taken id.pos → Contains left id.pos
-    kept id c e k =
-        let q = chain_entry (entry_at log id.pos) (h.placed.chains id.pos k).1 in
-        let part = chain_part nodes log id q.0 c q.1 q.2 (h.holding.sound id c e) in
-        l.all id.pos c k (ap (λ n. look (record { pos = id.pos; part = n })) (sym part.0) ∙ e)
-
--- more variables have numbers
-pub search_named : (names new : List ℕ) (bound : ℕ) (w : Watches) (given clause : List Literal) (opening taken : List ℕ) (from seen : ℕ) (nodes : List Node) (log : List Entry) → AreNumbered names bound w given → IsNamed names new clause → IsSearchOf (global_look names (clause_of w)) (variables_of names bound) opening taken from seen nodes log → IsSearchOf (global_look new (clause_of w)) (variables_of new bound) opening taken from seen nodes log
-search_named names new bound w given clause opening taken from seen nodes log numbered named h =
-    subst (λ (vs : List ℕ). IsSearchOf (global_look new (clause_of w)) vs opening taken from seen nodes log) (sym (variables_more names new named.added bound named.more numbered.within))
-    (search_same (global_look names (clause_of w)) (global_look new (clause_of w)) (variables_of names bound) opening taken from seen nodes log (global_look_more names new named.added bound w named.more numbered.within numbered.clauses) h)
+    still : (id : ClauseId) (c : List Literal) → clause_of w id ≡ Some c → Contains taken id.pos → Contains left id.pos
+    still = left_kept nodes log (clause_of w) taken left h.holding.sound h.placed.chains l
 
 -- ---- the positions that are left of those that were taken
 
@@ -197,16 +299,3 @@ left_next look positions old new i at D E lt is step h = ⊎_elim
     (λ x. subst (AreLeft look (take (i + 1) positions)) (sym x.1) (left_less look positions old i at lt is h x.0))
     (λ x. subst (AreLeft look (take (i + 1) positions)) (sym x.2) (left_more look positions old i at lt is h))
     step
-
--- the same step as a diary notes it, of the clauses that stand
-pub noted_step : (names : List ℕ) (look : Lookup) (old new : List ℕ) (at : ℕ) (D E : Type 0) → ((look (record { pos = at; part = 0 }) ≡ None) × (new ≡ old) × D) ⊎ ((c : List Literal) × (look (record { pos = at; part = 0 }) ≡ Some c) × (new ≡ old ++ at ∷ []) × E) → ((global_look names look (record { pos = at; part = 0 }) ≡ None) × D) ⊎ ((c : List Literal) × (global_look names look (record { pos = at; part = 0 }) ≡ Some c) × E)
-noted_step names look old new at D E step = ⊎_elim
-    (λ x. inl (ap (global_found names) x.0, x.2))
-    (λ x. inr (global_clause names x.0, ap (global_found names) x.1, x.3))
-    step
-
-pub left_global : (names : List ℕ) (look : Lookup) (positions left : List ℕ) → AreLeft look positions left → AreLeft (global_look names look) positions left
-left_global names look positions left h = record {
-  among = h.among;
-  all = λ p c k e. let d = found_global names look (record { pos = p; part = 0 }) c e in h.all p d.0 k d.1;
-}

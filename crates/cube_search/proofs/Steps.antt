@@ -1,12 +1,11 @@
 -- What a call leaves of a search.
 use Rattle.std.proofs.Common.{◌≡◌, ℕ, suc, ◌+◌, ◌<◌, ◌≤◌, Bool, true, List, [], ◌∷◌, ◌++◌, length, Option, Some, None, Result, Ok, Err, refl, sym, ap, ◌∙◌, subst, inl, inr, ⊎_elim, arith}
-use Rattle.std.specs.Prelude.{◌≢◌, ◌⊎◌, Contains, IfOk, OnOk, MatchOption}
+use Rattle.std.specs.Prelude.{◌⊎◌, Contains, IfOk, OnOk, MatchOption}
 use Rattle.std.specs.declared.alloc.AllocError.{AllocError}
 use Rattle.std.proofs.lemmas.List.Elements.{Contains-push, Contains-push_cases}
 use Rattle.cnf_base.specs.Literals.{Literal}
 use Rattle.cnf_base.specs.Assignments.{AreBelow}
 use Rattle.cnf_base.specs.declared.clause.ClauseId.{ClauseId}
-use Rattle.hint_chain.specs.Chains.{Lookup}
 use Rattle.smt_terms.specs.declared.node.Node.{Node}
 use Rattle.proof_log.specs.declared.entry.Entry.{Entry}
 use Rattle.proof_log.specs.declared.entry.Entry.TheVariants as step
@@ -19,27 +18,23 @@ use Rattle.proof_log.proofs.Growth.{later_same, entry_stays, chain_clause, chain
 use Rattle.proof_log.proofs.Lines.{spent}
 use Rattle.cdcl_core.specs.Levels.{IsTrueBy}
 use Rattle.cdcl_core.specs.declared.watches.Watches.{Watches}
-use Rattle.cdcl_core.specs.Search.{literals_of, level_of, clause_of}
+use Rattle.cdcl_core.specs.Search.{literals_of, level_of, clause_of, held_of}
 use Rattle.cdcl_learn.specs.Puts.{IsAgainst}
 use Rattle.cube_search.specs.declared.search.Search.{Search}
 use Rattle.proof_log.specs.declared.diary.Diary.{Diary}
-use Rattle.local_names.specs.Names.{global_clause, global_values}
-use Rattle.cube_search.specs.Numbers.{global_found, global_look, variables_of, AreNumbers, AreNumbered}
-use Rattle.cube_search.specs.Holding.{IsForeign, IsAdmitted}
+use Rattle.cube_search.specs.Holding.{AreAmong, IsForeign, IsAdmitted}
 use Rattle.cube_search.specs.declared.keeper.Keeper.{Keeper}
-use Rattle.cube_search.specs.Keeping.{HasLine, IsKept, IsTaken, AreImported, state_in}
-use Rattle.cube_search.specs.Running.{look_in, variables_in, given_in, IsSearch, IsSearchOf, IsRunning, IsWriting, IsUpToDate, IsSameRun, IsLearnt, IsKeptAt, subject_of}
-use Rattle.cube_search.specs.Ends.{IsModel, IsClosing, IsSpentDiary, IsEnd}
+use Rattle.cube_search.specs.Keeping.{HasLine, IsKept, IsTaken, state_in}
+use Rattle.cube_search.specs.Running.{variables_in, given_in, IsSearch, IsSearchOf, IsRunning, IsWriting, IsUpToDate, IsSameRun, IsLearnt, IsKeptAt, subject_of}
+use Rattle.cube_search.specs.Ends.{IsClosing, IsSpentDiary, IsEnd}
 use Rattle.cube_search.specs.declared.ends.End.{End}
 use Rattle.cube_search.specs.declared.ends.End.TheVariants.{Closed, Model, Spent, Stopped}
 use Rattle.cdcl_loop.specs.declared.engine.Engine.{Engine}
-use Rattle.cdcl_loop.specs.Engines.{IsEngine, IsOnCourse}
+use Rattle.cdcl_loop.specs.Engines.{IsEngine, IsOnCourse, IsSameStore, IsSameBut, IsSameTask}
 use Rattle.cdcl_loop.proofs.Courses.{true_later}
 use Rattle.cube_search.proofs.Keeping.{kept_put, kept_take, line_still}
 use Rattle.cube_search.proofs.Putting.{good_put}
-use Rattle.cube_search.proofs.Naming.{numbers_among}
-use Rattle.cube_search.proofs.Filling.{numbered_added, numbered_same, numbered_moved}
-use Rattle.cube_search.proofs.Later.{learnt_numbers, search_later, below_later, kept_later, chain_within, chain_entry}
+use Rattle.cube_search.proofs.Later.{learnt_among, search_later, below_later, kept_later, chain_within, chain_entry}
 use Rattle.cube_search.proofs.Moving.{search_moved, kept_moved, search_same, search_held, search_noted, kept_same}
 
 pub running_board : (s : Search) (nodes : List Node) (log : List Entry) (known : ℕ → Type 0) → IsRunning s nodes log → IsLater nodes nodes log log known known
@@ -55,78 +50,58 @@ module _ (s : Search) (nodes nodes' : List Node) (log log' : List Entry) (known 
   pub running_later : IsRunning s nodes log → IsRunning s nodes' log'
   running_later h = (
     h.0,
-    search_later (look_in s) (variables_in s) s.opening.items s.taken.items s.from s.seen nodes nodes' log log' known known' later h.1,
+    search_later s.engine.watches (variables_in s) s.opening.items s.taken.items s.from s.seen nodes nodes' log log' known known' later h.1,
     h.2,
     below_later nodes nodes' log log' known known' (given_in s) later h.3,
-    h.4,
   )
 
   pub writing_later : IsRunning s nodes log → IsWriting s nodes log → IsWriting s nodes' log'
   writing_later h k =
-      kept_later nodes nodes' log log' known known' (given_in s) s.from s.seen (look_in s) (variables_in s) s.diary later
+      kept_later nodes nodes' log log' known known' (given_in s) s.from s.seen s.engine.watches (variables_in s) s.diary later
       (omega (arith, h.1.placed.from_seen, h.1.placed.within)) h.1.placed.within k
 
 -- a search that does not run
 pub still_search : (s : Search) (nodes nodes' : List Node) (log log' : List Entry) (known known' : ℕ → Type 0) → IsLater nodes nodes' log log' known known' → IsSearch s nodes log → IsSearch s nodes' log'
-still_search s nodes nodes' log log' known known' later h = (h.0, search_later (look_in s) (variables_in s) s.opening.items s.taken.items s.from s.seen nodes nodes' log log' known known' later h.1, h.2)
+still_search s nodes nodes' log log' known known' later h = (h.0, search_later s.engine.watches (variables_in s) s.opening.items s.taken.items s.from s.seen nodes nodes' log log' known known' later h.1)
 
 -- ---- the same run
 
-module _ (s t : Search) (h : IsSameRun s t) where
-  pub same_look : look_in t ≡ global_look s.names (clause_of t.engine.watches)
-  same_look = ap (λ (n : List ℕ). global_look n (clause_of t.engine.watches)) h.names
-
-  pub same_variables : variables_in t ≡ variables_in s
-  same_variables = λ i. variables_of (h.names i) (h.bound i)
-
-  pub same_given : given_in t ≡ given_in s
-  same_given = λ i. global_clause (h.names i) (h.given i).items
+pub same_given : (s t : Search) → IsSameRun s t → given_in t ≡ given_in s
+same_given s t h = ap (λ v. v.items) h.given
 
 -- ---- a learnt clause that is kept
 
-module _ (s t : Search) (nodes nodes' : List Node) (log log' : List Entry) (known known' : ℕ → Type 0) (later : IsLater nodes nodes' log log' known known') (clause : List Literal) (level at : ℕ) (run : IsRunning s nodes log) (above : s.engine.base < level_of s.engine.trail) (learnt : IsLearnt s.names (clause_of s.engine.watches) s.engine.trail log log' clause level at) where
-  there : entry_at log' at ≡ Some (step.Chain (global_clause s.names clause) learnt.hints)
-  there = put_entry log log' (step.Chain (global_clause s.names clause) learnt.hints) at learnt.put
-
-  own : s.from ≤ at
-  own = omega (arith, put_is_new log log' (step.Chain (global_clause s.names clause) learnt.hints) at learnt.put, run.1.placed.from_seen, run.1.placed.within)
+module _ (s t : Search) (nodes nodes' : List Node) (log log' : List Entry) (known known' : ℕ → Type 0) (later : IsLater nodes nodes' log log' known known') (clause : List Literal) (level at : ℕ) (run : IsRunning s nodes log) (above : s.engine.base < level_of s.engine.trail) (learnt : IsLearnt s.engine.watches s.engine.trail log log' clause level at) where
+  there : entry_at log' at ≡ Some (step.Chain clause learnt.hints)
+  there = put_entry log log' (step.Chain clause learnt.hints) at learnt.put
 
   unseen : s.seen ≤ at
-  unseen = omega (arith, put_is_new log log' (step.Chain (global_clause s.names clause) learnt.hints) at learnt.put, run.1.placed.within)
+  unseen = omega (arith, put_is_new log log' (step.Chain clause learnt.hints) at learnt.put, run.1.placed.within)
 
   after : IsRunning s nodes' log'
   after = running_later s nodes nodes' log log' known known' later run
 
   true_given : (l : Literal) → Contains s.engine.given.items l → IsTrueBy (literals_of s.engine.trail) (level_of s.engine.trail) l
-  true_given l c = true_later (literals_of s.engine.trail) s.engine.base (level_of s.engine.trail) l (omega (arith, above)) (run.2.all above l c)
+  true_given l c = true_later (literals_of s.engine.trail) s.engine.base (level_of s.engine.trail) l (omega (arith, above)) (run.2.0.all above l c)
+
+  among : AreAmong (variables_in s) clause
+  among = learnt_among s.engine.watches (variables_in s) s.opening.items s.taken.items s.from s.seen nodes log run.1 clause learnt.hints learnt.among
 
   pub learnt_line : IsWriting s nodes log → IsLine (subject_of s nodes' log') (state_in (subject_of s nodes' log') s.diary) (Put at)
   learnt_line w = (
-    global_clause s.names clause,
+    clause,
     learnt.hints,
     there,
-    good_put (subject_of s nodes' log') s.names s.bound s.engine.watches s.engine.given.items s.diary s.seen (literals_of s.engine.trail) (level_of s.engine.trail) clause learnt.hints run.4
-        (writing_later s nodes nodes' log log' known known' later run w) after.1.holding.sound true_given refl learnt.good,
+    good_put (subject_of s nodes' log') s.engine.watches (variables_in s) (given_in s) s.diary s.seen (literals_of s.engine.trail) (level_of s.engine.trail) clause learnt.hints
+        (writing_later s nodes nodes' log log' known known' later run w) after.1.holding.sound true_given refl among learnt.good,
   )
 
-  numbers : AreNumbers s.bound clause
-  numbers = learnt_numbers s.names s.bound s.engine.watches (variables_in s) s.opening.items s.taken.items s.engine.given.items s.from s.seen nodes log run.4 run.1 clause learnt.hints learnt.good.stands
-
-  others : IsKeptAt s t clause level at → (q : ClauseId) → q ≢ record { pos = at; part = 0 } → global_look s.names (clause_of t.engine.watches) q ≡ look_in s q
-  others k q ne = ap (global_found s.names) (k.others q ne)
-
-  pub kept_search : IsSameRun s t → IsKeptAt s t clause level at → IsSearchOf (look_in t) (variables_in t) t.opening.items t.taken.items t.from t.seen nodes' log'
+  pub kept_search : IsSameRun s t → IsKeptAt s t clause level at → IsSearchOf t.engine.watches (variables_in t) t.opening.items t.taken.items t.from t.seen nodes' log'
   kept_search same k =
-      search_moved (global_look s.names (clause_of t.engine.watches)) (look_in t) (variables_in s) (variables_in t) s.opening.items t.opening.items (s.taken.items ++ at ∷ []) t.taken.items s.from t.from s.seen t.seen nodes' log'
-      (same_look s t same) (same_variables s t same) (ap (λ v. v.items) same.opening) k.taken same.from k.seen
-      (search_held (look_in s) (global_look s.names (clause_of t.engine.watches)) (variables_in s) s.opening.items s.taken.items s.from s.seen nodes' log' at own (ap is_chain there) after.1 (others k) (global_clause s.names clause) (ap (global_found s.names) k.held)
-      (put_clause nodes' log log' (global_clause s.names clause) learnt.hints at learnt.put)
-      (numbers_among s.names s.bound clause run.4.within numbers))
-
-  kept_numbers : IsSameRun s t → IsKeptAt s t clause level at → AreNumbered t.names t.bound t.engine.watches t.engine.given.items
-  kept_numbers same k =
-      numbered_moved s.names t.names s.bound t.bound t.engine.watches s.engine.given.items t.engine.given.items same.names same.bound (ap (λ v. v.items) same.given)
-      (numbered_added s.engine.watches t.engine.watches (record { pos = at; part = 0 }) k.others s.names s.bound s.engine.given.items clause run.4 numbers k.held)
+      search_moved t.engine.watches t.engine.watches (variables_in s) (variables_in t) s.opening.items t.opening.items (s.taken.items ++ at ∷ []) t.taken.items s.from t.from s.seen t.seen nodes' log'
+      refl same.listed (ap (λ v. v.items) same.opening) k.taken same.from k.seen
+      (search_held s.engine.watches t.engine.watches (variables_in s) s.opening.items s.taken.items s.from s.seen nodes' log' at (ap is_chain there) after.1 k.others clause k.kept k.held
+      (put_clause nodes' log log' clause learnt.hints at learnt.put) among)
 
   pub kept_running : IsSameRun s t → IsKeptAt s t clause level at → IsEngine t.engine → IsOnCourse t.engine → IsRunning t nodes' log'
   kept_running same k engine course = (
@@ -134,15 +109,14 @@ module _ (s t : Search) (nodes nodes' : List Node) (log log' : List Entry) (know
     kept_search same k,
     course,
     subst (λ (l : List Literal). AreBelow (state_of nodes' log').next l) (sym (same_given s t same)) after.3,
-    kept_numbers same k,
   )
 
   pub kept_writing : IsSameRun s t → IsKeptAt s t clause level at → IsWriting s nodes log → IsWriting t nodes' log'
   kept_writing same k w =
-      kept_moved nodes' log' (given_in s) (given_in t) s.from t.from (global_look s.names (clause_of t.engine.watches)) (look_in t) (variables_in s) (variables_in t) t.diary s.seen t.seen
-      (same_given s t same) same.from (same_look s t same) (same_variables s t same) k.seen
-      (kept_put (subject_of s nodes' log') (look_in s) (global_look s.names (clause_of t.engine.watches)) (variables_in s) s.diary t.diary s.seen at (global_clause s.names clause) learnt.hints there (others k) k.start
-      (writing_later s nodes nodes' log log' known known' later run w) k.lines k.puts k.chains k.left (learnt_line w) (omega (arith, w.begun, unseen)) (ap (global_found s.names) k.held))
+      kept_moved nodes' log' (given_in s) (given_in t) s.from t.from t.engine.watches t.engine.watches (variables_in s) (variables_in t) t.diary s.seen t.seen
+      (same_given s t same) same.from refl same.listed k.seen
+      (kept_put (subject_of s nodes' log') s.engine.watches t.engine.watches (variables_in s) s.diary t.diary s.seen at clause learnt.hints there k.others k.start
+      (writing_later s nodes nodes' log log' known known' later run w) k.lines k.puts k.chains k.left (learnt_line w) (omega (arith, w.begun, unseen)) k.held)
 
   -- the last put
   pub spent_diary : (d : Diary) (budget : ℕ) → KnowsOneMore known at known' → s.diary.puts ≡ budget → d.start ≡ s.diary.start → d.lines ≡ s.diary.lines.items ++ Put at ∷ [] → IsUpToDate s nodes log known → IsSpentDiary (subject_of s nodes' log') known' budget d
@@ -169,8 +143,9 @@ pub on_ok : (r : Result (Unit {0}) AllocError) (X : Type 0) → X → OnOk r X
 on_ok (Ok u) X x = x
 on_ok (Err e) X x = tt
 
-pub kept_at : (old new : Search) (r : Result (Unit {0}) AllocError) (clause : List Literal) (level at : ℕ) → clause_of new.engine.watches (record { pos = at; part = 0 }) ≡ Some clause → ((q : ClauseId) → q ≢ record { pos = at; part = 0 } → clause_of new.engine.watches q ≡ clause_of old.engine.watches q) → new.taken.items ≡ old.taken.items ++ at ∷ [] → new.seen ≡ old.seen → new.diary.start ≡ old.diary.start → OnOk r (new.diary.lines.items ≡ old.diary.lines.items ++ Put at ∷ []) → OnOk r (new.diary.puts ≡ old.diary.puts + 1) → OnOk r (new.diary.chains ≡ old.diary.chains + 1) → OnOk r (new.diary.left ≡ allowed new.diary.puts new.diary.chains) → OnOk r (IsKeptAt old new clause level at)
-kept_at old new (Ok u) clause level at held others taken seen start lines puts chains left = record {
+pub kept_at : (old new : Search) (r : Result (Unit {0}) AllocError) (clause : List Literal) (level at : ℕ) → clause_of new.engine.watches (record { pos = at; part = 0 }) ≡ Some clause → held_of new.engine.watches (record { pos = at; part = 0 }) ≡ Some clause → IsSameBut (record { pos = at; part = 0 }) old.engine.watches new.engine.watches → new.taken.items ≡ old.taken.items ++ at ∷ [] → new.seen ≡ old.seen → new.diary.start ≡ old.diary.start → OnOk r (new.diary.lines.items ≡ old.diary.lines.items ++ Put at ∷ []) → OnOk r (new.diary.puts ≡ old.diary.puts + 1) → OnOk r (new.diary.chains ≡ old.diary.chains + 1) → OnOk r (new.diary.left ≡ allowed new.diary.puts new.diary.chains) → OnOk r (IsKeptAt old new clause level at)
+kept_at old new (Ok u) clause level at kept held others taken seen start lines puts chains left = record {
+  kept = kept;
   held = held;
   others = others;
   taken = taken;
@@ -181,23 +156,23 @@ kept_at old new (Ok u) clause level at held others taken seen start lines puts c
   chains = chains;
   left = left;
 }
-kept_at old new (Err e) clause level at held others taken seen start lines puts chains left = tt
+kept_at old new (Err e) clause level at kept held others taken seen start lines puts chains left = tt
 
 -- ---- a chain of another that is taken
 
-module _ (s t : Search) (nodes : List Node) (log : List Entry) (at : ℕ) (clause : List Literal) (run : IsRunning s nodes log) (own : s.from ≤ at) (chain : is_chain (entry_at log at) ≡ true) (there : clause_at (state_of nodes log).clauses (record { pos = at; part = 0 }) ≡ Some clause) (came : IsAdmitted (look_in s) (global_look s.names (clause_of t.engine.watches)) (variables_in s) at clause) where
-  pub taken_search : IsSearchOf (global_look s.names (clause_of t.engine.watches)) (variables_in s) s.opening.items (s.taken.items ++ at ∷ []) s.from s.seen nodes log
+module _ (s t : Search) (nodes : List Node) (log : List Entry) (at : ℕ) (clause : List Literal) (run : IsRunning s nodes log) (chain : is_chain (entry_at log at) ≡ true) (fresh : clause_of s.engine.watches (record { pos = at; part = 0 }) ≡ None) (there : clause_at (state_of nodes log).clauses (record { pos = at; part = 0 }) ≡ Some clause) (came : IsAdmitted s.engine.watches t.engine.watches (variables_in s) at clause) where
+  pub taken_search : IsSearchOf t.engine.watches (variables_in s) s.opening.items (s.taken.items ++ at ∷ []) s.from s.seen nodes log
   taken_search = ⊎_elim
-      (λ x. search_held (look_in s) (global_look s.names (clause_of t.engine.watches)) (variables_in s) s.opening.items s.taken.items s.from s.seen nodes log at own chain run.1 came.others clause x.0 there x.1)
-      (λ x. search_noted (look_in s) (global_look s.names (clause_of t.engine.watches)) (variables_in s) s.opening.items s.taken.items s.from s.seen nodes log at own chain run.1 x.0)
+      (λ x. search_held s.engine.watches t.engine.watches (variables_in s) s.opening.items s.taken.items s.from s.seen nodes log at chain run.1 came.others clause x.0 x.1 there x.2)
+      (λ x. search_noted s.engine.watches t.engine.watches (variables_in s) s.opening.items s.taken.items s.from s.seen nodes log at chain run.1 x.0 fresh)
       came.came
 
-  pub taken_writing : (l : Keeper) → l.lines.items ≡ s.diary.lines.items ++ Take at ∷ [] → l.start ≡ s.diary.start → l.puts ≡ s.diary.puts → l.chains ≡ s.diary.chains → l.left ≡ 0 → IsWriting s nodes log → IsKept (subject_of s nodes log) (global_look s.names (clause_of t.engine.watches)) (variables_in s) l s.seen
+  pub taken_writing : (l : Keeper) → l.lines.items ≡ s.diary.lines.items ++ Take at ∷ [] → l.start ≡ s.diary.start → l.puts ≡ s.diary.puts → l.chains ≡ s.diary.chains → l.left ≡ 0 → IsWriting s nodes log → IsKept (subject_of s nodes log) t.engine.watches (variables_in s) l s.seen
   taken_writing l lines start puts chains left w =
       let e = chain_entry (entry_at log at) chain in
       let same = (chain_part nodes log (record { pos = at; part = 0 }) e.0 clause e.1 e.2 there).1 in
-      kept_take (subject_of s nodes log) (look_in s) (global_look s.names (clause_of t.engine.watches)) (variables_in s) s.diary l s.seen at e.0 e.1 e.2 came.others start w lines puts chains left (chain_within log at chain)
-      (subst (λ (c : List Literal). (global_look s.names (clause_of t.engine.watches) (record { pos = at; part = 0 }) ≡ Some c) ⊎ IsForeign (variables_in s) c) same (⊎_elim (λ x. inl x.0) (λ x. inr x.1) came.came))
+      kept_take (subject_of s nodes log) s.engine.watches t.engine.watches (variables_in s) s.diary l s.seen at e.0 e.1 e.2 came.others start w lines puts chains left (chain_within log at chain)
+      (subst (λ (c : List Literal). (held_of t.engine.watches (record { pos = at; part = 0 }) ≡ Some c) ⊎ IsForeign (variables_in s) c) same (⊎_elim (λ x. inl x.1) (λ x. inr x.1) came.came))
 
 -- the position of a chain has its clause
 pub no_chain : (nodes : List Node) (log : List Entry) (at : ℕ) → is_chain (entry_at log at) ≡ true → clause_at (state_of nodes log).clauses (record { pos = at; part = 0 }) ≡ None → ⊥
@@ -206,32 +181,25 @@ no_chain nodes log at chain none =
     let f : Some (e.0) ≡ None = sym (chain_clause nodes log at e.0 e.1 e.2) ∙ none in
     cc
 
-module _ (s t : Search) (nodes : List Node) (log : List Entry) (at : ℕ) (clause : List Literal) (run : IsRunning s nodes log) (own : s.from ≤ at) (chain : is_chain (entry_at log at) ≡ true) (there : clause_at (state_of nodes log).clauses (record { pos = at; part = 0 }) ≡ Some clause) (names : t.names ≡ s.names) (bound : t.bound ≡ s.bound) (opening : t.opening.items ≡ s.opening.items) (taken : t.taken.items ≡ s.taken.items ++ at ∷ []) (from : t.from ≡ s.from) (seen : t.seen ≡ s.seen) (given : t.engine.given.items ≡ s.engine.given.items) where
-  took_look : look_in t ≡ global_look s.names (clause_of t.engine.watches)
-  took_look = ap (λ (n : List ℕ). global_look n (clause_of t.engine.watches)) names
-
-  took_variables : variables_in t ≡ variables_in s
-  took_variables = λ i. variables_of (names i) (bound i)
-
+module _ (s t : Search) (nodes : List Node) (log : List Entry) (at : ℕ) (clause : List Literal) (run : IsRunning s nodes log) (chain : is_chain (entry_at log at) ≡ true) (fresh : clause_of s.engine.watches (record { pos = at; part = 0 }) ≡ None) (there : clause_at (state_of nodes log).clauses (record { pos = at; part = 0 }) ≡ Some clause) (opening : t.opening.items ≡ s.opening.items) (taken : t.taken.items ≡ s.taken.items ++ at ∷ []) (from : t.from ≡ s.from) (seen : t.seen ≡ s.seen) (task : IsSameTask s.engine t.engine) where
   took_given : given_in t ≡ given_in s
-  took_given = λ i. global_clause (names i) (given i)
+  took_given = ap (λ v. v.items) task.given
 
-  pub took_running : (r : Result (Unit {0}) AllocError) → OnOk r (IsEngine t.engine) → OnOk r (IsOnCourse s.engine → IsOnCourse t.engine) → OnOk r (AreNumbered s.names s.bound t.engine.watches s.engine.given.items) → OnOk r (IsAdmitted (look_in s) (global_look s.names (clause_of t.engine.watches)) (variables_in s) at clause) → OnOk r (IsRunning t nodes log)
-  took_running (Err e) engine course numbered came = tt
-  took_running (Ok u) engine course numbered came = (
+  pub took_running : (r : Result (Unit {0}) AllocError) → OnOk r (IsEngine t.engine) → OnOk r (IsOnCourse s.engine → IsOnCourse t.engine) → OnOk r (IsAdmitted s.engine.watches t.engine.watches (variables_in s) at clause) → OnOk r (IsRunning t nodes log)
+  took_running (Err e) engine course came = tt
+  took_running (Ok u) engine course came = (
     engine,
-    search_moved (global_look s.names (clause_of t.engine.watches)) (look_in t) (variables_in s) (variables_in t) s.opening.items t.opening.items (s.taken.items ++ at ∷ []) t.taken.items s.from t.from s.seen t.seen nodes log took_look took_variables opening taken from seen
-        (taken_search s t nodes log at clause run own chain there came),
+    search_moved t.engine.watches t.engine.watches (variables_in s) (variables_in t) s.opening.items t.opening.items (s.taken.items ++ at ∷ []) t.taken.items s.from t.from s.seen t.seen nodes log refl task.listed opening taken from seen
+        (taken_search s t nodes log at clause run chain fresh there came),
     course run.2,
     subst (λ (l : List Literal). AreBelow (state_of nodes log).next l) (sym took_given) run.3,
-    numbered_moved s.names t.names s.bound t.bound t.engine.watches s.engine.given.items t.engine.given.items names bound given numbered,
   )
 
-  pub took_writing : (r : Result (Unit {0}) AllocError) → OnOk r (IsAdmitted (look_in s) (global_look s.names (clause_of t.engine.watches)) (variables_in s) at clause) → IsTaken s.diary t.diary at → OnOk r (IsWriting s nodes log → IsWriting t nodes log)
+  pub took_writing : (r : Result (Unit {0}) AllocError) → OnOk r (IsAdmitted s.engine.watches t.engine.watches (variables_in s) at clause) → IsTaken s.diary t.diary at → OnOk r (IsWriting s nodes log → IsWriting t nodes log)
   took_writing (Err e) came k = tt
   took_writing (Ok u) came k = λ w.
-      kept_moved nodes log (given_in s) (given_in t) s.from t.from (global_look s.names (clause_of t.engine.watches)) (look_in t) (variables_in s) (variables_in t) t.diary s.seen t.seen took_given from took_look took_variables seen
-      (taken_writing s t nodes log at clause run own chain there came t.diary k.lines k.start k.puts k.chains k.left w)
+      kept_moved nodes log (given_in s) (given_in t) s.from t.from t.engine.watches t.engine.watches (variables_in s) (variables_in t) t.diary s.seen t.seen took_given from refl task.listed seen
+      (taken_writing s t nodes log at clause run chain fresh there came t.diary k.lines k.start k.puts k.chains k.left w)
 
 pub took_line : (old new : Keeper) (at : ℕ) → IsTaken old new at → HasLine new.lines.items at
 took_line old new at k = subst (λ (ls : List DiaryLine). HasLine ls at) (sym k.lines) (inl (Contains-push old.lines.items (Take at)))
@@ -241,16 +209,16 @@ took_still old new at p k h = subst (λ (ls : List DiaryLine). HasLine ls p) (sy
 
 -- ---- what was seen
 
-pub search_seen : (look : Lookup) (variables opening taken : List ℕ) (from seen n : ℕ) (nodes : List Node) (log : List Entry) → seen ≤ n → n ≤ suc (length log) → IsSearchOf look variables opening taken from seen nodes log → IsSearchOf look variables opening taken from n nodes log
-search_seen look variables opening taken from seen n nodes log le within h = record {
+pub search_seen : (w : Watches) (variables opening taken : List ℕ) (from seen n : ℕ) (nodes : List Node) (log : List Entry) → seen ≤ n → n ≤ suc (length log) → IsSearchOf w variables opening taken from seen nodes log → IsSearchOf w variables opening taken from n nodes log
+search_seen w variables opening taken from seen n nodes log le within h = record {
   holding = h.holding;
-  placed = record { before = h.placed.before; chains = h.placed.chains; from_seen = omega (arith, h.placed.from_seen, le); within = within };
+  placed = record { before = h.placed.before; plain = h.placed.plain; chains = h.placed.chains; stored = h.placed.stored; below = h.placed.below; from_seen = omega (arith, h.placed.from_seen, le); within = within };
   listed = h.listed;
   stands = h.stands;
 }
 
-pub kept_seen : (g : Subject) (look : Lookup) (variables : List ℕ) (k : Keeper) (seen n : ℕ) → seen ≤ n → ((p : ℕ) → k.start ≤ p → p < n → is_chain (entry_at g.log p) ≡ true → HasLine k.lines.items p) → IsKept g look variables k seen → IsKept g look variables k n
-kept_seen g look variables k seen n le lined h = record {
+pub kept_seen : (g : Subject) (w : Watches) (variables : List ℕ) (k : Keeper) (seen n : ℕ) → seen ≤ n → ((p : ℕ) → k.start ≤ p → p < n → is_chain (entry_at g.log p) ≡ true → HasLine k.lines.items p) → IsKept g w variables k seen → IsKept g w variables k n
+kept_seen g w variables k seen n le lined h = record {
   stand = h.stand;
   puts = h.puts;
   chains = h.chains;
@@ -264,7 +232,7 @@ kept_seen g look variables k seen n le lined h = record {
 }
 
 pub run_then : (a b c : Search) → IsSameRun a b → IsSameRun b c → IsSameRun a c
-run_then a b c h k = record { opening = k.opening ∙ h.opening; from = k.from ∙ h.from; given = k.given ∙ h.given; names = k.names ∙ h.names; bound = k.bound ∙ h.bound }
+run_then a b c h k = record { opening = k.opening ∙ h.opening; from = k.from ∙ h.from; given = k.given ∙ h.given; listed = k.listed ∙ h.listed }
 
 -- ---- a search whose choices alone changed
 
@@ -274,14 +242,17 @@ module _ (s t u : Search) (e : t ≡ record s { engine = record s.engine { choic
     opening = h.opening ∙ ap (λ (x : Search). x.opening) e;
     from = h.from ∙ ap (λ (x : Search). x.from) e;
     given = h.given ∙ ap (λ (x : Search). x.engine.given) e;
-    names = h.names ∙ ap (λ (x : Search). x.names) e;
-    bound = h.bound ∙ ap (λ (x : Search). x.bound) e;
+    listed = h.listed ∙ ap (λ (x : Search). x.engine.agenda.list) e;
   }
 
   pub learnt_kept : (clause : List Literal) (level at : ℕ) → IsKeptAt t u clause level at → IsKeptAt s u clause level at
   learnt_kept clause level at h = record {
+    kept = h.kept;
     held = h.held;
-    others = λ q ne. h.others q ne ∙ ap (λ (x : Search). clause_of x.engine.watches q) e;
+    others = record {
+      kept = λ q ne. h.others.kept q ne ∙ ap (λ (x : Search). clause_of x.engine.watches q) e;
+      held = λ q ne. h.others.held q ne ∙ ap (λ (x : Search). held_of x.engine.watches q) e;
+    };
     taken = h.taken ∙ ap (λ (x : Search). x.taken.items ++ at ∷ []) e;
     seen = h.seen ∙ ap (λ (x : Search). x.seen) e;
     start = h.start ∙ ap (λ (x : Search). x.diary.start) e;
@@ -296,97 +267,72 @@ module _ (s t u : Search) (e : t ≡ record s { engine = record s.engine { choic
 
 -- ---- a search whose engine moved
 
-module _ (s : Search) (n : Engine) (given : n.given ≡ s.engine.given) where
+module _ (s : Search) (n : Engine) (task : IsSameTask s.engine n) where
   pub moved_same : IsSameRun s (record s { engine = n })
-  moved_same = record { opening = refl; from = refl; given = given; names = refl; bound = refl }
-
-  -- it went back
-  module _ (watches : n.watches ≡ s.engine.watches) (nodes : List Node) (log : List Entry) where
-    pub went_back : IsEngine n → IsOnCourse n → IsRunning s nodes log → IsRunning (record s { engine = n }) nodes log
-    went_back engine course h = (
-      engine,
-      subst (λ (w : Watches). IsSearchOf (global_look s.names (clause_of w)) (variables_in s) s.opening.items s.taken.items s.from s.seen nodes log) (sym watches) h.1,
-      course,
-      subst (λ (l : List Literal). AreBelow (state_of nodes log).next (global_clause s.names l)) (sym (ap (λ v. v.items) given)) h.3,
-      subst (λ (w : Watches). AreNumbered s.names s.bound w n.given.items) (sym watches) (subst (λ (l : List Literal). AreNumbered s.names s.bound s.engine.watches l) (sym (ap (λ v. v.items) given)) h.4),
-    )
-
-    pub went_writing : IsWriting s nodes log → IsWriting (record s { engine = n }) nodes log
-    went_writing h =
-        subst (λ (w : Watches). IsKept (subject_of (record s { engine = n }) nodes log) (global_look s.names (clause_of w)) (variables_in s) s.diary s.seen) (sym watches)
-        (subst (λ (l : List Literal). IsKept (record { nodes = nodes; log = log; given = global_clause s.names l; from = s.from }) (look_in s) (variables_in s) s.diary s.seen) (sym (ap (λ v. v.items) given)) h)
+  moved_same = record { opening = refl; from = refl; given = task.given; listed = task.listed }
 
   -- it holds the same clauses
-  module _ (held : (id : ClauseId) → clause_of n.watches id ≡ clause_of s.engine.watches id) (nodes : List Node) (log : List Entry) where
-    -- what the clauses stand for that are held is the same
-    same_clauses : (id : ClauseId) → global_look s.names (clause_of n.watches) id ≡ look_in s id
-    same_clauses id = ap (global_found s.names) (held id)
-
-    pub assumed_running : IsEngine n → IsOnCourse n → IsRunning s nodes log → IsRunning (record s { engine = n }) nodes log
-    assumed_running engine course h = (
+  module _ (store : IsSameStore s.engine.watches n.watches) (nodes : List Node) (log : List Entry) where
+    pub moved_running : IsEngine n → IsOnCourse n → IsRunning s nodes log → IsRunning (record s { engine = n }) nodes log
+    moved_running engine course h = (
       engine,
-      search_same (look_in s) (global_look s.names (clause_of n.watches)) (variables_in s) s.opening.items s.taken.items s.from s.seen nodes log same_clauses h.1,
+      search_moved n.watches n.watches (variables_in s) n.agenda.list s.opening.items s.opening.items s.taken.items s.taken.items s.from s.from s.seen s.seen nodes log refl task.listed refl refl refl refl
+          (search_same s.engine.watches n.watches (variables_in s) s.opening.items s.taken.items s.from s.seen nodes log store h.1),
       course,
-      subst (λ (l : List Literal). AreBelow (state_of nodes log).next (global_clause s.names l)) (sym (ap (λ v. v.items) given)) h.3,
-      subst (λ (l : List Literal). AreNumbered s.names s.bound n.watches l) (sym (ap (λ v. v.items) given)) (numbered_same s.names s.bound s.engine.watches n.watches s.engine.given.items held h.4),
+      subst (λ (l : List Literal). AreBelow (state_of nodes log).next l) (sym (ap (λ v. v.items) task.given)) h.3,
     )
 
-    pub assumed_writing : (known : ℕ → Type 0) → IsUpToDate s nodes log known → IsUpToDate (record s { engine = n }) nodes log known
-    assumed_writing known h = (
-      kept_same (subject_of (record s { engine = n }) nodes log) (look_in s) (global_look s.names (clause_of n.watches)) (variables_in s) s.diary s.seen same_clauses
-          (subst (λ (l : List Literal). IsKept (record { nodes = nodes; log = log; given = global_clause s.names l; from = s.from }) (look_in s) (variables_in s) s.diary s.seen) (sym (ap (λ v. v.items) given)) h.0),
-      h.1,
-      h.2,
-    )
+    pub moved_writing : IsWriting s nodes log → IsWriting (record s { engine = n }) nodes log
+    moved_writing h =
+        kept_moved nodes log (given_in s) n.given.items s.from s.from n.watches n.watches (variables_in s) n.agenda.list s.diary s.seen s.seen (ap (λ v. v.items) task.given) refl refl task.listed refl
+        (kept_same (subject_of s nodes log) s.engine.watches n.watches (variables_in s) s.diary s.seen store h)
 
--- ---- a model
+    pub moved_upto : (known : ℕ → Type 0) → IsUpToDate s nodes log known → IsUpToDate (record s { engine = n }) nodes log known
+    moved_upto known h = (moved_writing h.0, h.1, h.2)
 
--- a model of what a search holds is one of what an earlier state of it holds
-pub model_as : (s t : Search) (rows : List (List (List Literal))) (v : ℕ → Bool) → t.names ≡ s.names → t.opening.items ≡ s.opening.items → t.engine.given.items ≡ s.engine.given.items → IsModel rows t.opening.items (given_in t) (global_values t.names v) → IsModel rows s.opening.items (given_in s) (global_values s.names v)
-model_as s t rows v a b c h = subst (λ (n : List ℕ). IsModel rows s.opening.items (global_clause n s.engine.given.items) (global_values n v)) a
-    (subst (λ (o : List ℕ). IsModel rows o (global_clause t.names s.engine.given.items) (global_values t.names v)) b
-    (subst (λ (l : List Literal). IsModel rows t.opening.items (global_clause t.names l) (global_values t.names v)) c h))
+-- the same watches hold the same clauses
+pub same_store : (w v : Watches) → v ≡ w → IsSameStore w v
+same_store w v e = record { kept = λ id. ap (λ (x : Watches). clause_of x id) e; held = λ id. ap (λ (x : Watches). held_of x id) e }
 
 -- ---- an end under another condition
 
-pub end_where : (P Q : Type 0) (g : Subject) (known : ℕ → Type 0) (found : Bool) (positions names : List ℕ) (cube budget : ℕ) (e : End) → (Q → P) → IsEnd P g known found positions names cube budget e → IsEnd Q g known found positions names cube budget e
-end_where P Q g known found positions names cube budget (Closed p) f h = h
-end_where P Q g known found positions names cube budget (Model values) f h = h
-end_where P Q g known found positions names cube budget (Spent d) f h = (h.0, (λ q. h.1 (f q)))
-end_where P Q g known found positions names cube budget Stopped f h = h
+pub end_where : (P Q : Type 0) (g : Subject) (known : ℕ → Type 0) (found : Bool) (positions : List ℕ) (v : ℕ → Bool) (cube budget : ℕ) (e : End) → (Q → P) → IsEnd P g known found positions v cube budget e → IsEnd Q g known found positions v cube budget e
+end_where P Q g known found positions v cube budget (Closed p) f h = h
+end_where P Q g known found positions v cube budget Model f h = h
+end_where P Q g known found positions v cube budget (Spent d) f h = (h.0, (λ q. h.1 (f q)))
+end_where P Q g known found positions v cube budget Stopped f h = h
 
 -- ---- after a conflict: a clause was learnt, it is kept, and the engine may have restarted
 
-module _ (s t u : Search) (n : Engine) (nodes nodes' : List Node) (log log' : List Entry) (known known' : ℕ → Type 0) (later : IsLater nodes nodes' log log' known known') (clause : List Literal) (level at : ℕ) (run : IsRunning s nodes log) (above : s.engine.base < level_of s.engine.trail) (learnt : IsLearnt s.names (clause_of s.engine.watches) s.engine.trail log log' clause level at) (e : t ≡ record s { engine = record s.engine { choices = t.engine.choices } }) (same : IsSameRun t u) (kept : IsKeptAt t u clause level at) (engine : IsEngine u.engine) (course : IsOnCourse t.engine → IsOnCourse u.engine) where
+module _ (s t u : Search) (n : Engine) (nodes nodes' : List Node) (log log' : List Entry) (known known' : ℕ → Type 0) (later : IsLater nodes nodes' log log' known known') (clause : List Literal) (level at : ℕ) (run : IsRunning s nodes log) (above : s.engine.base < level_of s.engine.trail) (learnt : IsLearnt s.engine.watches s.engine.trail log log' clause level at) (e : t ≡ record s { engine = record s.engine { choices = t.engine.choices } }) (same : IsSameRun t u) (kept : IsKeptAt t u clause level at) (engine : IsEngine u.engine) (course : IsOnCourse t.engine → IsOnCourse u.engine) where
   pub conflict_course : IsOnCourse u.engine
   conflict_course = course (subst (λ (x : Search). IsOnCourse x.engine) (sym e) run.2)
 
-  module _ (watches : n.watches ≡ u.engine.watches) (given : n.given ≡ u.engine.given) where
+  module _ (watches : n.watches ≡ u.engine.watches) (task : IsSameTask u.engine n) where
     pub conflict_running : IsEngine n → IsOnCourse n → IsRunning (record u { engine = n }) nodes' log'
     conflict_running engine2 course2 =
-        went_back u n given watches nodes' log' engine2 course2
+        moved_running u n task (same_store u.engine.watches n.watches watches) nodes' log' engine2 course2
         (kept_running s u nodes nodes' log log' known known' later clause level at run above learnt (learnt_same s t u e same) (learnt_kept s t u e clause level at kept) engine conflict_course)
 
     pub conflict_writing : IsWriting s nodes log → IsWriting (record u { engine = n }) nodes' log'
     conflict_writing w =
-        went_writing u n given watches nodes' log'
+        moved_writing u n task (same_store u.engine.watches n.watches watches) nodes' log'
         (kept_writing s u nodes nodes' log log' known known' later clause level at run above learnt (learnt_same s t u e same) (learnt_kept s t u e clause level at kept) w)
 
     pub conflict_same : IsSameRun s (record u { engine = n })
-    conflict_same = run_then s u (record u { engine = n }) (learnt_same s t u e same) (moved_same u n given)
+    conflict_same = run_then s u (record u { engine = n }) (learnt_same s t u e same) (moved_same u n task)
 
-pub end_from : (s : Search) (n : Engine) (new : Search) (given : n.given ≡ s.engine.given) (nodes nodes' : List Node) (log log' : List Entry) (known known' : ℕ → Type 0) (found : Bool) (cube budget : ℕ) (r : Result (Option End) AllocError) → (IsUpToDate s nodes log known → IsUpToDate (record s { engine = n }) nodes log known) → IfOk r (λ o. MatchOption o (IsUpToDate (record s { engine = n }) nodes log known → IsUpToDate new nodes' log' known') (IsEnd (IsUpToDate (record s { engine = n }) nodes log known) (subject_of (record s { engine = n }) nodes' log') known' found s.opening.items s.names cube budget)) → IfOk r (λ o. MatchOption o (IsUpToDate s nodes log known → IsUpToDate new nodes' log' known') (IsEnd (IsUpToDate s nodes log known) (subject_of s nodes' log') known' found s.opening.items s.names cube budget))
-end_from s n new given nodes nodes' log log' known known' found cube budget (Err x) w h = tt
-end_from s n new given nodes nodes' log log' known known' found cube budget (Ok None) w h = λ u. h (w u)
-end_from s n new given nodes nodes' log log' known known' found cube budget (Ok (Some x)) w h =
-    end_where (IsUpToDate (record s { engine = n }) nodes log known) (IsUpToDate s nodes log known) (subject_of s nodes' log') known' found s.opening.items s.names cube budget x w
-    (subst (λ (l : List Literal). IsEnd (IsUpToDate (record s { engine = n }) nodes log known) (record { nodes = nodes'; log = log'; given = global_clause s.names l; from = s.from }) known' found s.opening.items s.names cube budget x) (ap (λ v. v.items) given) h)
+pub end_from : (s : Search) (n : Engine) (new : Search) (task : IsSameTask s.engine n) (nodes nodes' : List Node) (log log' : List Entry) (known known' : ℕ → Type 0) (found : Bool) (v : ℕ → Bool) (cube budget : ℕ) (r : Result (Option End) AllocError) → (IsUpToDate s nodes log known → IsUpToDate (record s { engine = n }) nodes log known) → IfOk r (λ o. MatchOption o (IsUpToDate (record s { engine = n }) nodes log known → IsUpToDate new nodes' log' known') (IsEnd (IsUpToDate (record s { engine = n }) nodes log known) (subject_of (record s { engine = n }) nodes' log') known' found s.opening.items v cube budget)) → IfOk r (λ o. MatchOption o (IsUpToDate s nodes log known → IsUpToDate new nodes' log' known') (IsEnd (IsUpToDate s nodes log known) (subject_of s nodes' log') known' found s.opening.items v cube budget))
+end_from s n new task nodes nodes' log log' known known' found v cube budget (Err x) w h = tt
+end_from s n new task nodes nodes' log log' known known' found v cube budget (Ok None) w h = λ u. h (w u)
+end_from s n new task nodes nodes' log log' known known' found v cube budget (Ok (Some x)) w h =
+    end_where (IsUpToDate (record s { engine = n }) nodes log known) (IsUpToDate s nodes log known) (subject_of s nodes' log') known' found s.opening.items v cube budget x w
+    (subst (λ (l : List Literal). IsEnd (IsUpToDate (record s { engine = n }) nodes log known) (record { nodes = nodes'; log = log'; given = l; from = s.from }) known' found s.opening.items v cube budget x) (ap (λ v. v.items) task.given) h)
 
 -- the end of a run says the same of its beginning
-pub run_end : (P Q : Type 0) (s t : Search) (nodes : List Node) (log : List Entry) (known : ℕ → Type 0) (found : Bool) (given : List Literal) (from : ℕ) (opening : List ℕ) (cube budget : ℕ) (x : End) → (Q → P) → given_in s ≡ given → s.from ≡ from → s.opening.items ≡ opening → t.names ≡ s.names → IsEnd P (subject_of s nodes log) known found s.opening.items s.names cube budget x → IsEnd Q (record { nodes = nodes; log = log; given = given; from = from }) known found opening t.names cube budget x
-run_end P Q s t nodes log known found given from opening cube budget x w a b c d h =
-    end_where P Q (record { nodes = nodes; log = log; given = given; from = from }) known found opening t.names cube budget x w
-    (subst (λ (n : List ℕ). IsEnd P (record { nodes = nodes; log = log; given = given; from = from }) known found opening n cube budget x) (sym d)
-    (subst (λ (o : List ℕ). IsEnd P (record { nodes = nodes; log = log; given = given; from = from }) known found o s.names cube budget x) c
-    (subst (λ (f : ℕ). IsEnd P (record { nodes = nodes; log = log; given = given; from = f }) known found s.opening.items s.names cube budget x) b
-    (subst (λ (l : List Literal). IsEnd P (record { nodes = nodes; log = log; given = l; from = s.from }) known found s.opening.items s.names cube budget x) a h))))
+pub run_end : (P Q : Type 0) (s : Search) (nodes : List Node) (log : List Entry) (known : ℕ → Type 0) (found : Bool) (v : ℕ → Bool) (given : List Literal) (from : ℕ) (opening : List ℕ) (cube budget : ℕ) (x : End) → (Q → P) → given_in s ≡ given → s.from ≡ from → s.opening.items ≡ opening → IsEnd P (subject_of s nodes log) known found s.opening.items v cube budget x → IsEnd Q (record { nodes = nodes; log = log; given = given; from = from }) known found opening v cube budget x
+run_end P Q s nodes log known found v given from opening cube budget x w a b c h =
+    end_where P Q (record { nodes = nodes; log = log; given = given; from = from }) known found opening v cube budget x w
+    (subst (λ (o : List ℕ). IsEnd P (record { nodes = nodes; log = log; given = given; from = from }) known found o v cube budget x) c
+    (subst (λ (f : ℕ). IsEnd P (record { nodes = nodes; log = log; given = given; from = f }) known found s.opening.items v cube budget x) b
+    (subst (λ (l : List Literal). IsEnd P (record { nodes = nodes; log = log; given = l; from = s.from }) known found s.opening.items v cube budget x) a h)))

@@ -7,12 +7,10 @@ use Rattle.proof_log.specs.declared.diary.Diary.{Diary}
 use Rattle.proof_log.specs.declared.diary.DiaryLine.TheVariants.{Put}
 use Rattle.proof_log.specs.Logs.{clause_at, state_of}
 use Rattle.proof_log.specs.Diaries.{Subject, IsSpent}
-use Rattle.local_names.specs.Names.{global_values}
 use Rattle.cdcl_learn.specs.Puts.{IsAgainst}
 use Rattle.cube_search.specs.declared.ends.End.{End}
 use Rattle.cube_search.specs.declared.ends.End.TheVariants.{Closed, Model, Spent, Stopped}
 use Rattle.cube_search.specs.Keeping.{AreImported}
-pub use Rattle.cdcl_loop.specs.Values.{assignment}
 
 -- every clause of these positions is true, and each given literal
 pub record IsModel (rows : List (List (List Literal))) (positions : List ℕ) (given : List Literal) (v : ℕ → Bool) : Type 0 where
@@ -32,10 +30,10 @@ pub record IsSpentDiary (g : Subject) (knows : ℕ → Type 0) (budget : ℕ) (d
   pub within : d.start ≤ suc (length g.log)
   pub later : (p : ℕ) → Contains d.lines (Put p) → d.start ≤ p
 
--- What an end says of a board after it, of which the search holds these positions from the opening, with their variables under the numbers
--- of these names. That of a diary it says where the condition holds.
-abbrev pub IsEnd : Type 0 → Subject → (ℕ → Type 0) → Bool → List ℕ → List ℕ → ℕ → ℕ → End → Type 0
-IsEnd condition g knows found positions names cube budget (Closed p) = IsClosing (state_of g.nodes g.log).clauses g.given p
-IsEnd condition g knows found positions names cube budget (Model values) = IsModel (state_of g.nodes g.log).clauses positions g.given (global_values names (assignment values.items))
-IsEnd condition g knows found positions names cube budget (Spent d) = (d.cube ≡ cube) × (condition → IsSpentDiary g knows budget d)
-IsEnd condition g knows found positions names cube budget Stopped = found ≡ true
+-- What an end says of a board after it, of which the search holds these positions from the opening, and of the value of each variable
+-- under the search's true literals. That of a diary it says where the condition holds.
+abbrev pub IsEnd : Type 0 → Subject → (ℕ → Type 0) → Bool → List ℕ → (ℕ → Bool) → ℕ → ℕ → End → Type 0
+IsEnd condition g knows found positions v cube budget (Closed p) = IsClosing (state_of g.nodes g.log).clauses g.given p
+IsEnd condition g knows found positions v cube budget Model = IsModel (state_of g.nodes g.log).clauses positions g.given v
+IsEnd condition g knows found positions v cube budget (Spent d) = (d.cube ≡ cube) × (condition → IsSpentDiary g knows budget d)
+IsEnd condition g knows found positions v cube budget Stopped = found ≡ true

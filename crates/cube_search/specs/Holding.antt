@@ -1,11 +1,14 @@
--- Which clauses of a log a search holds.
-use Rattle.std.specs.Prelude.{◌≡◌, ◌≢◌, ◌≤◌, ◌<◌, ◌⊎◌, ℕ, suc, true, false, List, length, Some, Contains}
+-- Which clauses of a log a search keeps, and which of them it holds.
+use Rattle.std.specs.Prelude.{◌≡◌, ◌≤◌, ◌<◌, ◌⊎◌, ◌++◌, ◌∷◌, [], ℕ, suc, true, false, List, length, Some, None, Contains}
 use Rattle.cnf_base.specs.Literals.{Literal}
 use Rattle.cnf_base.specs.declared.clause.ClauseId.{ClauseId}
 use Rattle.hint_chain.specs.Chains.{Lookup}
 use Rattle.proof_log.specs.declared.entry.Entry.{Entry}
 use Rattle.proof_log.specs.Logs.{clause_at, entry_at}
 use Rattle.proof_log.specs.Diaries.{is_chain}
+use Rattle.cdcl_core.specs.declared.watches.Watches.{Watches}
+use Rattle.cdcl_core.specs.Search.{clause_of, held_of}
+use Rattle.cdcl_loop.specs.Engines.{IsSameStore, IsSameBut}
 
 -- every variable of the clause is one of these
 abbrev pub AreAmong : List ℕ → List Literal → Type 0
@@ -14,6 +17,20 @@ AreAmong variables c = (l : Literal) → Contains c l → Contains variables l.v
 -- a variable of the clause is none of these
 abbrev pub IsForeign : List ℕ → List Literal → Type 0
 IsForeign variables c = (l : Literal) × Contains c l × (Contains variables l.variable → ⊥)
+
+-- the variables of the clause are listed beside the others
+pub record IsListing (old : List ℕ) (c : List Literal) (new : List ℕ) : Type 0 where
+  pub kept : (x : ℕ) → Contains old x → Contains new x
+  pub only : (x : ℕ) → Contains new x → Contains old x ⊎ ((l : Literal) × Contains c l × (l.variable ≡ x))
+  pub among : AreAmong new c
+
+-- what is kept was kept before
+abbrev pub IsFewer : Watches → Watches → Type 0
+IsFewer old new = (id : ClauseId) (c : List Literal) → clause_of new id ≡ Some c → clause_of old id ≡ Some c
+
+-- or is a clause of this position
+abbrev pub Brings : Watches → Watches → ℕ → Type 0
+Brings old new pos = (id : ClauseId) (c : List Literal) → clause_of new id ≡ Some c → (clause_of old id ≡ Some c) ⊎ (id.pos ≡ pos)
 
 -- the variable stands in a clause of one of these positions
 abbrev pub Occurs : List (List (List Literal)) → List ℕ → ℕ → Type 0
@@ -26,37 +43,59 @@ AreSeparate rows log positions from =
     (id : ClauseId) (c : List Literal) → id.pos < from → is_chain (entry_at log id.pos) ≡ false → clause_at rows id ≡ Some c →
     Contains positions id.pos ⊎ ((l : Literal) × Contains c l × (Occurs rows positions l.variable → ⊥))
 
--- The clauses that are held are those of the log, of the opening positions and of some that were taken, and have only these
--- variables; of the opening positions every clause is held, and each of the variables stands in one.
-pub record IsHolding (look : Lookup) (rows : List (List (List Literal))) (variables opening taken : List ℕ) : Type 0 where
-  pub sound : (id : ClauseId) (c : List Literal) → look id ≡ Some c → clause_at rows id ≡ Some c
-  pub among : (id : ClauseId) (c : List Literal) → look id ≡ Some c → AreAmong variables c
-  pub covered : (id : ClauseId) (c : List Literal) → look id ≡ Some c → Contains opening id.pos ⊎ Contains taken id.pos
-  pub complete : (id : ClauseId) (c : List Literal) → Contains opening id.pos → clause_at rows id ≡ Some c → look id ≡ Some c
+-- What is kept are clauses of the log. Those that are held are of the opening positions and of some that were taken, and have only
+-- these variables; of the opening positions every clause is held, and each of the variables stands in one; and of what was taken,
+-- a clause that is kept and not held has another variable.
+pub record IsHolding (w : Watches) (rows : List (List (List Literal))) (variables opening taken : List ℕ) : Type 0 where
+  pub sound : (id : ClauseId) (c : List Literal) → clause_of w id ≡ Some c → clause_at rows id ≡ Some c
+  pub among : (id : ClauseId) (c : List Literal) → held_of w id ≡ Some c → AreAmong variables c
+  pub covered : (id : ClauseId) (c : List Literal) → held_of w id ≡ Some c → Contains opening id.pos ⊎ Contains taken id.pos
+  pub complete : (id : ClauseId) (c : List Literal) → Contains opening id.pos → clause_at rows id ≡ Some c → held_of w id ≡ Some c
+  pub waiting : (id : ClauseId) (c : List Literal) → Contains taken id.pos → clause_of w id ≡ Some c → (held_of w id ≡ Some c) ⊎ IsForeign variables c
   pub occurs : (x : ℕ) → Contains variables x → Occurs rows opening x
 
--- the same while the clauses of one position more are being held: those before this part are
-pub record IsFilling (look : Lookup) (rows : List (List (List Literal))) (variables opening : List ℕ) (pos part : ℕ) : Type 0 where
-  pub sound : (id : ClauseId) (c : List Literal) → look id ≡ Some c → clause_at rows id ≡ Some c
-  pub among : (id : ClauseId) (c : List Literal) → look id ≡ Some c → AreAmong variables c
-  pub covered : (id : ClauseId) (c : List Literal) → look id ≡ Some c → Contains opening id.pos ⊎ (id.pos ≡ pos)
-  pub complete : (id : ClauseId) (c : List Literal) → Contains opening id.pos → clause_at rows id ≡ Some c → look id ≡ Some c
-  pub filled : (id : ClauseId) (c : List Literal) → id.pos ≡ pos → id.part < part → clause_at rows id ≡ Some c → look id ≡ Some c
+-- the same while the clauses of one position more are being held, before what was taken: those before this part are
+pub record IsFilling (w : Watches) (rows : List (List (List Literal))) (variables opening : List ℕ) (pos part : ℕ) : Type 0 where
+  pub sound : (id : ClauseId) (c : List Literal) → clause_of w id ≡ Some c → clause_at rows id ≡ Some c
+  pub among : (id : ClauseId) (c : List Literal) → held_of w id ≡ Some c → AreAmong variables c
+  pub covered : (id : ClauseId) (c : List Literal) → held_of w id ≡ Some c → Contains opening id.pos ⊎ (id.pos ≡ pos)
+  pub complete : (id : ClauseId) (c : List Literal) → Contains opening id.pos → clause_at rows id ≡ Some c → held_of w id ≡ Some c
+  pub filled : (id : ClauseId) (c : List Literal) → id.pos ≡ pos → id.part < part → clause_at rows id ≡ Some c → held_of w id ≡ Some c
   pub occurs : (x : ℕ) → Contains variables x → Occurs rows opening x ⊎ ((id : ClauseId) × (c : List Literal) × (l : Literal) × (id.pos ≡ pos) × (clause_at rows id ≡ Some c) × Contains c l × (l.variable ≡ x))
 
--- the opening positions are before the search's own, and those that were taken are chains'; of its own it has seen those below `seen`
-pub record ArePlaced (log : List Entry) (opening taken : List ℕ) (from seen : ℕ) : Type 0 where
+-- what is kept is a step's that is no chain, or was taken
+abbrev pub AreStored : Lookup → List Entry → List ℕ → Type 0
+AreStored look log taken = (id : ClauseId) (c : List Literal) → look id ≡ Some c → (is_chain (entry_at log id.pos) ≡ false) ⊎ Contains taken id.pos
+
+-- a step whose clauses are kept stands below this position, where it is no chain
+abbrev pub AreStoredBelow : Lookup → List Entry → ℕ → Type 0
+AreStoredBelow look log from = (id : ClauseId) (c : List Literal) → look id ≡ Some c → is_chain (entry_at log id.pos) ≡ false → id.pos < from
+
+-- The opening positions are before the search's own and no chains', and those that were taken are chains'; what is kept was taken, or
+-- is no chain's and before the search's own. Of its own it has seen those below `seen`.
+pub record ArePlaced (look : Lookup) (log : List Entry) (opening taken : List ℕ) (from seen : ℕ) : Type 0 where
   pub before : (p : ℕ) → Contains opening p → p < from
-  pub chains : (p : ℕ) → Contains taken p → (from ≤ p) × (is_chain (entry_at log p) ≡ true)
+  pub plain : (p : ℕ) → Contains opening p → is_chain (entry_at log p) ≡ false
+  pub chains : (p : ℕ) → Contains taken p → is_chain (entry_at log p) ≡ true
+  pub stored : AreStored look log taken
+  pub below : AreStoredBelow look log from
   pub from_seen : from ≤ seen
   pub within : seen ≤ suc (length log)
 
--- of these positions, those are left whose clause is held
+-- of these positions, those are left whose clause is kept
 pub record AreLeft (look : Lookup) (positions left : List ℕ) : Type 0 where
   pub among : (p : ℕ) → Contains left p → Contains positions p
   pub all : (p : ℕ) (c : List Literal) → Contains positions p → look (record { pos = p; part = 0 }) ≡ Some c → Contains left p
 
 -- the clause of a chain at this position came, beside the others, where all its variables are among these; else nothing did
-pub record IsAdmitted (old new : Lookup) (variables : List ℕ) (at : ℕ) (clause : List Literal) : Type 0 where
-  pub others : (q : ClauseId) → q ≢ record { pos = at; part = 0 } → new q ≡ old q
-  pub came : ((new (record { pos = at; part = 0 }) ≡ Some clause) × AreAmong variables clause) ⊎ (((q : ClauseId) → new q ≡ old q) × IsForeign variables clause)
+pub record IsAdmitted (old new : Watches) (variables : List ℕ) (at : ℕ) (clause : List Literal) : Type 0 where
+  pub others : IsSameBut (record { pos = at; part = 0 }) old new
+  pub came : ((clause_of new (record { pos = at; part = 0 }) ≡ Some clause) × (held_of new (record { pos = at; part = 0 }) ≡ Some clause) × AreAmong variables clause)
+      ⊎ (IsSameStore old new × IsForeign variables clause)
+
+-- a chain at this position that is kept is noted beside the others, and held where all its variables are among these
+abbrev pub IsWoken : Watches → Watches → List ℕ → ℕ → List ℕ → List ℕ → Type 0
+IsWoken old new variables at noted noted' =
+    ((clause_of old (record { pos = at; part = 0 }) ≡ None) × (noted' ≡ noted) × (held_of new (record { pos = at; part = 0 }) ≡ held_of old (record { pos = at; part = 0 })))
+    ⊎ ((c : List Literal) × (clause_of old (record { pos = at; part = 0 }) ≡ Some c) × (noted' ≡ noted ++ at ∷ [])
+    × (((held_of new (record { pos = at; part = 0 }) ≡ Some c) × AreAmong variables c) ⊎ ((held_of new (record { pos = at; part = 0 }) ≡ held_of old (record { pos = at; part = 0 })) × IsForeign variables c)))

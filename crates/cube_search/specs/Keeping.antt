@@ -2,7 +2,6 @@
 use Rattle.std.specs.Prelude.{◌≡◌, ◌≤◌, ◌<◌, ◌⊎◌, ◌++◌, ◌∷◌, [], ℕ, true, List, Some, Contains}
 use Rattle.cnf_base.specs.Literals.{Literal}
 use Rattle.cnf_base.specs.declared.clause.ClauseId.{ClauseId}
-use Rattle.hint_chain.specs.Chains.{Lookup}
 use Rattle.smt_terms.specs.declared.node.Node.{Node}
 use Rattle.proof_log.specs.declared.entry.Entry.{Entry}
 use Rattle.proof_log.specs.declared.diary.DiaryLine.{DiaryLine}
@@ -10,6 +9,8 @@ use Rattle.proof_log.specs.declared.diary.DiaryLine.TheVariants.{Take, Put}
 use Rattle.proof_log.specs.Logs.{entry_at, state_of}
 use Rattle.proof_log.specs.Diaries.{Subject, look_of, is_chain, DiaryState, blank, AreLines, lines_after}
 use Rattle.cube_search.specs.declared.keeper.Keeper.{Keeper}
+use Rattle.cdcl_core.specs.declared.watches.Watches.{Watches}
+use Rattle.cdcl_core.specs.Search.{clause_of, held_of}
 use Rattle.cube_search.specs.Holding.{IsForeign, IsHolding, ArePlaced}
 
 -- the position was taken or put
@@ -20,15 +21,15 @@ HasLine lines p = Contains lines (Take p) ⊎ Contains lines (Put p)
 abbrev pub state_in : Subject → Keeper → DiaryState
 state_in g k = lines_after g (blank g) k.lines.items
 
--- The lines stand; the numbers are theirs, or less; what is held by them is what the search holds, and clauses with a variable that
--- it does not have; and from the start on each chain that was seen has a line.
-pub record IsKept (g : Subject) (look : Lookup) (variables : List ℕ) (k : Keeper) (seen : ℕ) : Type 0 where
+-- The lines stand; the numbers are theirs, or less; what the search keeps is held by them, and what is held by them is what the search
+-- holds, and clauses with a variable that it does not have; and from the start on each chain that was seen has a line.
+pub record IsKept (g : Subject) (w : Watches) (variables : List ℕ) (k : Keeper) (seen : ℕ) : Type 0 where
   pub stand : AreLines g (blank g) k.lines.items
   pub puts : (state_in g k).puts ≡ k.puts
   pub chains : k.chains ≤ (state_in g k).chains
   pub drops : k.left ≤ (state_in g k).drops
-  pub held : (id : ClauseId) (c : List Literal) → look id ≡ Some c → (state_in g k).held id.pos ≡ true
-  pub complete : (id : ClauseId) (c : List Literal) → (state_in g k).held id.pos ≡ true → look_of g id ≡ Some c → (look id ≡ Some c) ⊎ IsForeign variables c
+  pub held : (id : ClauseId) (c : List Literal) → clause_of w id ≡ Some c → (state_in g k).held id.pos ≡ true
+  pub complete : (id : ClauseId) (c : List Literal) → (state_in g k).held id.pos ≡ true → look_of g id ≡ Some c → (held_of w id ≡ Some c) ⊎ IsForeign variables c
   pub lined : (p : ℕ) → k.start ≤ p → p < seen → is_chain (entry_at g.log p) ≡ true → HasLine k.lines.items p
   pub start : g.from ≤ k.start
   pub begun : k.start ≤ seen
@@ -38,16 +39,16 @@ pub record IsKept (g : Subject) (look : Lookup) (variables : List ℕ) (k : Keep
 abbrev pub AreImported : List DiaryLine → List Entry → (ℕ → Type 0) → ℕ → Type 0
 AreImported lines log knows start = (p : ℕ) → start ≤ p → knows p → is_chain (entry_at log p) ≡ true → HasLine lines p
 
--- The lines that a run begins with take what is held already: nothing is put, and what is held by them is what was held without a line, or
--- all of its clauses are held.
-pub record IsNoting (g : Subject) (look : Lookup) (k : Keeper) : Type 0 where
+-- The lines that a run begins with take what is kept already: nothing is put, and what is held by them is what was held without a line, or
+-- each of its clauses is held by the search or has a variable that it does not have.
+pub record IsNoting (g : Subject) (w : Watches) (variables : List ℕ) (k : Keeper) : Type 0 where
   pub stand : AreLines g (blank g) k.lines.items
   pub no_puts : (state_in g k).puts ≡ 0
   pub puts : k.puts ≡ 0
   pub chains : k.chains ≡ 0
   pub left : k.left ≡ 0
   pub grown : (p : ℕ) → (blank g).held p ≡ true → (state_in g k).held p ≡ true
-  pub only : (p : ℕ) → (state_in g k).held p ≡ true → ((blank g).held p ≡ true) ⊎ ((id : ClauseId) (c : List Literal) → id.pos ≡ p → look_of g id ≡ Some c → look id ≡ Some c)
+  pub only : (p : ℕ) → (state_in g k).held p ≡ true → ((blank g).held p ≡ true) ⊎ ((id : ClauseId) (c : List Literal) → id.pos ≡ p → look_of g id ≡ Some c → (held_of w id ≡ Some c) ⊎ IsForeign variables c)
   pub takes : (p : ℕ) → Contains k.lines.items (Put p) → ⊥
 
 -- one position more is taken
@@ -58,26 +59,17 @@ pub record IsTaken (old new : Keeper) (at : ℕ) : Type 0 where
   pub chains : new.chains ≡ old.chains
   pub left : new.left ≡ 0
 
--- more of what is held is noted
-pub record IsNotedAll (g : Subject) (look : Lookup) (old new : Keeper) : Type 0 where
-  pub noting : IsNoting g look new
+-- more of what is kept is noted
+pub record IsNotedAll (g : Subject) (w : Watches) (variables : List ℕ) (old new : Keeper) : Type 0 where
+  pub noting : IsNoting g w variables new
   pub kept : (p : ℕ) → (state_in g old).held p ≡ true → (state_in g new).held p ≡ true
   pub start : new.start ≡ old.start
 
--- these of the opening positions are noted, where they are chains'
-abbrev pub NotesOpening : List Node → List Entry → List ℕ → List ℕ → Keeper → Keeper → Type 0
-NotesOpening nodes log opening done old new =
-    (given : List Literal) (from : ℕ) (look : Lookup) (variables taken : List ℕ) (seen : ℕ) →
-    IsHolding look (state_of nodes log).clauses variables opening taken → ArePlaced log opening taken from seen →
-    IsNoting (record { nodes = nodes; log = log; given = given; from = from }) look old →
-    IsNotedAll (record { nodes = nodes; log = log; given = given; from = from }) look old new
-    × ((p : ℕ) → Contains done p → is_chain (entry_at log p) ≡ true → (state_in (record { nodes = nodes; log = log; given = given; from = from }) new).held p ≡ true)
-
--- these of the positions that were taken are noted, where they are held
-abbrev pub NotesTaken : Lookup → List ℕ → List ℕ → Keeper → Keeper → Type 0
-NotesTaken look taken done old new =
+-- these of the positions that were taken are noted, where they are kept
+abbrev pub NotesTaken : Watches → List ℕ → List ℕ → Keeper → Keeper → Type 0
+NotesTaken w taken done old new =
     (nodes : List Node) (log : List Entry) (given : List Literal) (from : ℕ) (variables opening : List ℕ) (seen : ℕ) →
-    IsHolding look (state_of nodes log).clauses variables opening taken → ArePlaced log opening taken from seen →
-    IsNoting (record { nodes = nodes; log = log; given = given; from = from }) look old →
-    IsNotedAll (record { nodes = nodes; log = log; given = given; from = from }) look old new
-    × ((id : ClauseId) (c : List Literal) → Contains done id.pos → look id ≡ Some c → (state_in (record { nodes = nodes; log = log; given = given; from = from }) new).held id.pos ≡ true)
+    IsHolding w (state_of nodes log).clauses variables opening taken → ArePlaced (clause_of w) log opening taken from seen →
+    IsNoting (record { nodes = nodes; log = log; given = given; from = from }) w variables old →
+    IsNotedAll (record { nodes = nodes; log = log; given = given; from = from }) w variables old new
+    × ((id : ClauseId) (c : List Literal) → Contains done id.pos → clause_of w id ≡ Some c → (state_in (record { nodes = nodes; log = log; given = given; from = from }) new).held id.pos ≡ true)

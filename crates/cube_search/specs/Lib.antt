@@ -1,5 +1,4 @@
 pub mod Holding
-pub mod Numbers
 pub mod Keeping
 pub mod Running
 pub mod Ends

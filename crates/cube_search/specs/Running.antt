@@ -1,67 +1,75 @@
--- A search, between its runs and in the midst of one.
-use Rattle.std.specs.Prelude.{◌≡◌, ◌≢◌, ◌<◌, ◌≤◌, ◌+◌, ◌++◌, ◌∷◌, [], ℕ, List, length, Some, Contains}
+-- A search: between checks, between its runs, and in the midst of one.
+use Rattle.std.specs.Prelude.{◌≡◌, ◌<◌, ◌≤◌, ◌⊎◌, ◌+◌, ◌++◌, ◌∷◌, [], ℕ, Bool, true, false, List, length, Some, Contains}
 use Rattle.cnf_base.specs.Literals.{Literal}
 use Rattle.cnf_base.specs.Assignments.{AreBelow}
 use Rattle.cnf_base.specs.declared.clause.ClauseId.{ClauseId}
-use Rattle.hint_chain.specs.Chains.{Lookup}
 use Rattle.smt_terms.specs.declared.node.Node.{Node}
 use Rattle.smt_terms.specs.Terms.{IsTermList}
 use Rattle.proof_log.specs.declared.entry.Entry.{Entry}
-use Rattle.proof_log.specs.Logs.{state_of, IsLog}
+use Rattle.proof_log.specs.Logs.{clause_at, entry_at, state_of, IsLog}
 use Rattle.proof_log.specs.declared.entry.Entry.TheVariants as step
 use Rattle.proof_log.specs.declared.diary.DiaryLine.TheVariants.{Put}
 use Rattle.proof_log.specs.Boards.{IsPutAt}
-use Rattle.proof_log.specs.Diaries.{Subject, allowed}
-use Rattle.local_names.specs.Names.{global_clause}
+use Rattle.proof_log.specs.Diaries.{Subject, is_chain, allowed}
 use Rattle.cdcl_core.specs.declared.trail.Trail.{Trail}
-use Rattle.cdcl_core.specs.Search.{literals_of, level_of, clause_of}
-use Rattle.cdcl_learn.specs.Puts.{IsGoodPut, IsUnitAfter}
-use Rattle.cdcl_loop.specs.Engines.{IsEngine, IsOnCourse}
+use Rattle.cdcl_core.specs.declared.watches.Watches.{Watches}
+use Rattle.cdcl_core.specs.Search.{literals_of, level_of, clause_of, held_of}
+use Rattle.cdcl_learn.specs.Puts.{IsGoodPut, IsUnitAfter, StandsIn}
+use Rattle.cdcl_loop.specs.Engines.{IsEngine, IsOnCourse, IsSameBut}
+use Rattle.cdcl_loop.specs.Values.{valuation}
 use Rattle.cube_search.specs.declared.search.Search.{Search}
-use Rattle.cube_search.specs.Holding.{IsHolding, ArePlaced}
-use Rattle.cube_search.specs.Numbers.{global_look, variables_of, AreNumbered}
+use Rattle.cube_search.specs.Holding.{IsHolding, ArePlaced, AreStored}
 use Rattle.cube_search.specs.Keeping.{IsKept, AreImported}
 
 -- what is held of a log over its terms
-pub record IsSearchOf (look : Lookup) (variables opening taken : List ℕ) (from seen : ℕ) (nodes : List Node) (log : List Entry) : Type 0 where
-  pub holding : IsHolding look (state_of nodes log).clauses variables opening taken
-  pub placed : ArePlaced log opening taken from seen
+pub record IsSearchOf (w : Watches) (variables opening taken : List ℕ) (from seen : ℕ) (nodes : List Node) (log : List Entry) : Type 0 where
+  pub holding : IsHolding w (state_of nodes log).clauses variables opening taken
+  pub placed : ArePlaced (clause_of w) log opening taken from seen
   pub listed : IsTermList nodes
   pub stands : IsLog nodes log
 
--- the clauses that a search holds, and the variables that they have
-abbrev pub look_in : Search → Lookup
-look_in s = global_look s.names (clause_of s.engine.watches)
-
+-- the variables of a search, which are those of the clauses at its opening positions
 abbrev pub variables_in : Search → List ℕ
-variables_in s = variables_of s.names s.bound
+variables_in s = s.engine.agenda.list
 
 -- the literals that are given to a search
 abbrev pub given_in : Search → List Literal
-given_in s = global_clause s.names s.engine.given.items
+given_in s = s.engine.given.items
+
+-- the value of each variable under its true literals
+abbrev pub valuation_of : Search → ℕ → Bool
+valuation_of s = valuation s.engine.trail
+
+-- A search between two checks, beside the clauses and the steps of a log: what it keeps are clauses of the log, of steps that are no chains
+-- and of chains that were taken, and what it holds of them is of its opening positions, or was taken.
+pub record IsResting (s : Search) (rows : List (List (List Literal))) (log : List Entry) : Type 0 where
+  pub engine : IsEngine s.engine
+  pub sound : (id : ClauseId) (c : List Literal) → clause_of s.engine.watches id ≡ Some c → clause_at rows id ≡ Some c
+  pub covered : (id : ClauseId) (c : List Literal) → held_of s.engine.watches id ≡ Some c → Contains s.opening.items id.pos ⊎ Contains s.taken.items id.pos
+  pub plain : (p : ℕ) → Contains s.opening.items p → (p ≤ length log) × (is_chain (entry_at log p) ≡ false)
+  pub chains : (p : ℕ) → Contains s.taken.items p → is_chain (entry_at log p) ≡ true
+  pub stored : AreStored (clause_of s.engine.watches) log s.taken.items
 
 -- a search of a log
 abbrev pub IsSearch : Search → List Node → List Entry → Type 0
 IsSearch s nodes log =
     IsEngine s.engine
-    × IsSearchOf (look_in s) (variables_in s) s.opening.items s.taken.items s.from s.seen nodes log
-    × AreNumbered s.names s.bound s.engine.watches s.engine.given.items
+    × IsSearchOf s.engine.watches (variables_in s) s.opening.items s.taken.items s.from s.seen nodes log
 
 -- it decides its given literals first
 abbrev pub IsRunning : Search → List Node → List Entry → Type 0
 IsRunning s nodes log =
     IsEngine s.engine
-    × IsSearchOf (look_in s) (variables_in s) s.opening.items s.taken.items s.from s.seen nodes log
+    × IsSearchOf s.engine.watches (variables_in s) s.opening.items s.taken.items s.from s.seen nodes log
     × IsOnCourse s.engine
     × AreBelow (state_of nodes log).next (given_in s)
-    × AreNumbered s.names s.bound s.engine.watches s.engine.given.items
 
 abbrev pub subject_of : Search → List Node → List Entry → Subject
 subject_of s nodes log = record { nodes = nodes; log = log; given = given_in s; from = s.from }
 
 -- its diary is kept
 abbrev pub IsWriting : Search → List Node → List Entry → Type 0
-IsWriting s nodes log = IsKept (subject_of s nodes log) (look_in s) (variables_in s) s.diary s.seen
+IsWriting s nodes log = IsKept (subject_of s nodes log) s.engine.watches (variables_in s) s.diary s.seen
 
 -- and each chain that is known, which was seen, has a line in it
 abbrev pub IsUpToDate : Search → List Node → List Entry → (ℕ → Type 0) → Type 0
@@ -72,21 +80,22 @@ pub record IsSameRun (old new : Search) : Type 0 where
   pub opening : new.opening ≡ old.opening
   pub from : new.from ≡ old.from
   pub given : new.engine.given ≡ old.engine.given
-  pub names : new.names ≡ old.names
-  pub bound : new.bound ≡ old.bound
+  pub listed : new.engine.agenda.list ≡ old.engine.agenda.list
 
--- a clause under numbers that was learnt from a conflict, put at this position, and is unit at the end of this lower level
-pub record IsLearnt (names : List ℕ) (look : Lookup) (t : Trail) (old new : List Entry) (clause : List Literal) (level at : ℕ) : Type 0 where
+-- a clause that was learnt from a conflict, put at this position, and is unit at the end of this lower level
+pub record IsLearnt (w : Watches) (t : Trail) (old new : List Entry) (clause : List Literal) (level at : ℕ) : Type 0 where
   pub hints : List ClauseId
-  pub put : IsPutAt old (step.Chain (global_clause names clause) hints) at new
-  pub good : IsGoodPut look (literals_of t) (level_of t) clause hints
+  pub put : IsPutAt old (step.Chain clause hints) at new
+  pub good : IsGoodPut (clause_of w) (held_of w) (literals_of t) (level_of t) clause hints
+  pub among : (l : Literal) → Contains clause l → StandsIn (held_of w) hints l
   pub lower : level < level_of t
   pub unit : IsUnitAfter (literals_of t) level clause
 
 -- the clause is held under this name beside the others, the trail went back to the level and the clause came
 pub record IsKeptAt (old new : Search) (clause : List Literal) (level at : ℕ) : Type 0 where
-  pub held : clause_of new.engine.watches (record { pos = at; part = 0 }) ≡ Some clause
-  pub others : (q : ClauseId) → q ≢ record { pos = at; part = 0 } → clause_of new.engine.watches q ≡ clause_of old.engine.watches q
+  pub kept : clause_of new.engine.watches (record { pos = at; part = 0 }) ≡ Some clause
+  pub held : held_of new.engine.watches (record { pos = at; part = 0 }) ≡ Some clause
+  pub others : IsSameBut (record { pos = at; part = 0 }) old.engine.watches new.engine.watches
   pub taken : new.taken.items ≡ old.taken.items ++ at ∷ []
   pub seen : new.seen ≡ old.seen
   pub start : new.diary.start ≡ old.diary.start

@@ -8,9 +8,8 @@ use proof_log::diary::Diary;
 pub enum End {
     /// Clause 0 of this position has only opposites of given literals.
     Closed(Pos),
-    /// An assignment under which the clauses of the opening positions and the given literals are true: the value of each variable,
-    /// by its local number. Those past the end, and variables without a number, are false.
-    Model(Vec<bool>),
+    /// Under the values that the search has now, the clauses of the opening positions and the given literals are true.
+    Model,
     /// One more clause was put than the budget allows.
     Spent(Diary),
     /// Another search has found a model.

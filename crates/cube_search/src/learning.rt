@@ -34,14 +34,13 @@ impl Search {
         ensures later { IsLater (B.nodes board.old) (B.nodes board.new) (B.log board.old) (B.log board.new) (B.knows board.old) (B.knows board.new) }
         ensures closing { IfOk result (IsClosing (state_of (B.nodes board.new) (B.log board.new)).clauses (given_in self.now)) }
     {
-        let (near, hints) = self.engine.final_clause(clash)?;
-        let clause = self.names.global_clause(self.alloc, &near)?;
+        let (clause, hints) = self.engine.final_clause(clash)?;
         let chain = Hints::of(self.alloc, hints.as_slice())?;
         board.put(Entry::Chain(clause, chain))
     }
 
-    /// Learns from a conflict above the given literals: the clause under numbers for which it puts the clause itself, the level to which
-    /// the search may go back so that it is unit there, and its position.
+    /// Learns from a conflict above the given literals: the clause that it puts, the level to which the search may go back so that it
+    /// is unit there, and its position.
     pub(crate) fn learn<B: Board>(
         &mut self,
         board: &mut B,
@@ -52,14 +51,14 @@ impl Search {
         requires above { self.old.engine.base < level_of self.old.engine.trail }
         ensures same { self.new ≡ record self.old { engine = record self.old.engine { choices = self.new.engine.choices } } }
         ensures later { IsLater (B.nodes board.old) (B.nodes board.new) (B.log board.old) (B.log board.new) (B.knows board.old) (B.knows board.new) }
-        ensures learnt { IfOk result (λ r. IsLearnt self.old.names (clause_of self.old.engine.watches) self.old.engine.trail (B.log board.old) (B.log board.new) r.0 r.1 r.2) }
+        ensures learnt { IfOk result (λ r. IsLearnt self.old.engine.watches self.old.engine.trail (B.log board.old) (B.log board.new) r.0 r.1 r.2) }
         ensures known { IfOk result (λ r. KnowsOneMore (B.knows board.old) r.2 (B.knows board.new)) }
     {
-        let (near, hints, level) = self.engine.learn(conflict)?;
-        let clause = self.names.global_clause(self.alloc, &near)?;
+        let (clause, hints, level) = self.engine.learn(conflict)?;
+        let own = clause.copy(self.alloc)?;
         let chain = Hints::of(self.alloc, hints.as_slice())?;
-        let at = board.put(Entry::Chain(clause, chain))?;
-        Ok((near, level, at))
+        let at = board.put(Entry::Chain(own, chain))?;
+        Ok((clause, level, at))
     }
 
     /// Holds a clause that was learnt and put, at the level where it is unit.
@@ -85,7 +84,7 @@ impl Search {
         ensures running { OnOk result (IsRunning self.new (B.nodes board.now) (B.log board.now)) }
         ensures writing { OnOk result (IsWriting self.old (B.nodes board.now) (B.log board.now) → IsWriting self.new (B.nodes board.now) (B.log board.now)) }
     {
-        if at < self.from || self.diary.left == 0 {
+        if self.diary.left == 0 {
             return Ok(());
         }
         if !is_chain(board, at) {

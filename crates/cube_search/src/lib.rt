@@ -5,19 +5,18 @@
 //! others put there. It ends with a clause of opposites of given literals, with a model of the clauses that it was told and the
 //! given literals, with a diary that shows that its budget is spent, or because another search has found a model.
 //!
-//! It searches under local numbers of the variables, so that its tables go by what it holds and not by all variables of the log. What it
-//! puts, and what its contract speaks of, is under the variables.
+//! It is kept from check to check. When it goes over to other positions it keeps the clauses that it had, and holds of them what the
+//! new positions have, and of what it learnt what speaks of their variables alone; so it costs what is new in a check.
 //!
 //! The contract says for each of these ends what caused it. Nothing is promised of the choices: which variable is decided, when the
-//! search restarts, and which clauses it drops. It stands on `cdcl_loop` for the search, on `local_names` for the
-//! numbers, and on `proof_log` for boards and diaries.
+//! search restarts, and which clauses it drops. It stands on `cdcl_loop` for the search, and on `proof_log` for boards and diaries.
 #![tactic(auto)]
 
 mod ends;
 mod keeper;
 mod learning;
 mod news;
-mod numbers;
+mod retarget;
 mod run;
 mod search;
 

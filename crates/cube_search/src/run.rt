@@ -1,12 +1,12 @@
 //! A run of a search.
 
-ghost use Rattle.std.specs.Prelude.{ℕ, ◌≡◌, Contains, IfOk, OnOk, MatchOption};
+ghost use Rattle.std.specs.Prelude.{◌≡◌, IfOk, OnOk, MatchOption};
 ghost use Rattle.cnf_base.specs.Assignments.{AreBelow};
 ghost use Rattle.proof_log.specs.Logs.{state_of};
 ghost use Rattle.proof_log.specs.Boards.{IsLater};
 ghost use Rattle.cdcl_core.specs.Search.{IsConflict};
 ghost use Rattle.cube_search.specs.Holding.{AreSeparate};
-ghost use Rattle.cube_search.specs.Running.{IsSearch, IsRunning, IsUpToDate, IsSameRun, subject_of};
+ghost use Rattle.cube_search.specs.Running.{IsSearch, IsRunning, IsUpToDate, IsSameRun, subject_of, valuation_of};
 ghost use Rattle.cube_search.specs.Ends.{IsEnd};
 
 use crate::ends::End;
@@ -32,7 +32,7 @@ impl Search {
         ensures running { OnOk result (IsRunning self.new (B.nodes board.new) (B.log board.new)) }
         ensures end { IfOk result (λ o. MatchOption o
             (IsUpToDate self.old (B.nodes board.old) (B.log board.old) (B.knows board.old) → IsUpToDate self.new (B.nodes board.new) (B.log board.new) (B.knows board.new))
-            (IsEnd (IsUpToDate self.old (B.nodes board.old) (B.log board.old) (B.knows board.old)) (subject_of self.old (B.nodes board.new) (B.log board.new)) (B.knows board.new) (B.found board.new) self.old.opening.items self.old.names cube budget)) }
+            (IsEnd (IsUpToDate self.old (B.nodes board.old) (B.log board.old) (B.knows board.old)) (subject_of self.old (B.nodes board.new) (B.log board.new)) (B.knows board.new) (B.found board.new) self.old.opening.items (valuation_of self.new) cube budget)) }
     {
         if self.engine.level() == self.engine.base() {
             return Ok(Some(End::Closed(self.close(board, Clash::Held(conflict))?)));
@@ -63,7 +63,7 @@ impl Search {
         ensures running { OnOk result (IsRunning self.new (B.nodes board.new) (B.log board.new)) }
         ensures end { IfOk result (λ o. MatchOption o
             (IsUpToDate self.old (B.nodes board.old) (B.log board.old) (B.knows board.old) → IsUpToDate self.new (B.nodes board.new) (B.log board.new) (B.knows board.new))
-            (IsEnd (IsUpToDate self.old (B.nodes board.old) (B.log board.old) (B.knows board.old)) (subject_of self.old (B.nodes board.new) (B.log board.new)) (B.knows board.new) (B.found board.new) self.old.opening.items self.old.names cube budget)) }
+            (IsEnd (IsUpToDate self.old (B.nodes board.old) (B.log board.old) (B.knows board.old)) (subject_of self.old (B.nodes board.new) (B.log board.new)) (B.knows board.new) (B.found board.new) self.old.opening.items (valuation_of self.new) cube budget)) }
     {
         if let Some(id) = self.engine.propagate() {
             return self.settle(board, id, cube, budget);
@@ -71,10 +71,10 @@ impl Search {
         if let Some(clash) = self.engine.assume()? {
             return Ok(Some(End::Closed(self.close(board, clash)?)));
         }
-        if self.engine.decide(self.bound)? {
+        if self.engine.decide()? {
             return Ok(None);
         }
-        Ok(Some(End::Model(self.engine.values()?)))
+        Ok(Some(End::Model))
     }
 
     /// Searches under the given literals, those of the cube of this number among them, until the answer is known, or one more clause was
@@ -87,7 +87,6 @@ impl Search {
         budget: u64,
     ) -> Result<End, AllocError>
         requires search { IsSearch self.old (B.nodes board.old) (B.log board.old) }
-        requires known { (p : ℕ) → Contains self.old.opening.items p → B.knows board.old p }
         requires below { AreBelow (state_of (B.nodes board.old) (B.log board.old)).next given.now }
         ensures later { IsLater (B.nodes board.old) (B.nodes board.new) (B.log board.old) (B.log board.new) (B.knows board.old) (B.knows board.new) }
         ensures search { OnOk result (IsSearch self.new (B.nodes board.new) (B.log board.new)) }
@@ -95,9 +94,9 @@ impl Search {
         ensures from { self.new.from ≡ self.old.from }
         ensures end { IfOk result (IsEnd (AreSeparate (state_of (B.nodes board.old) (B.log board.old)).clauses (B.log board.old) self.old.opening.items self.old.from)
             (record { nodes = B.nodes board.new; log = B.log board.new; given = given.now; from = self.old.from })
-            (B.knows board.new) (B.found board.new) self.old.opening.items self.new.names cube budget) }
+            (B.knows board.new) (B.found board.new) self.old.opening.items (valuation_of self.new) cube budget) }
     {
-        self.begin(board, given)?;
+        self.begin(given)?;
         if self.take_news(board)? {
             return Ok(End::Stopped);
         }

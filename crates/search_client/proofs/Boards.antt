@@ -41,6 +41,4 @@ board_waits terms own log own_log chain e e_log h =
 pub waits_later : (chain : Option Entry) (nodes nodes' : List Node) (log log' : List Entry) (known known' : ℕ → Type 0) → IsLater nodes nodes' log log' known known' → IfSome chain (MayBePut nodes log) → IfSome chain (MayBePut nodes' log')
 waits_later None nodes nodes' log log' known known' l h = h
 waits_later (Some (step.Chain c hints)) nodes nodes' log log' known known' l h = (h.0, step_stays nodes nodes' log log' known known' l c hints h.1)
-waits_later (Some (step.Equal t u)) nodes nodes' log log' known known' l h = absurd h.1
-waits_later (Some (step.Lemma a)) nodes nodes' log log' known known' l h = absurd h.1
 waits_later (Some e) nodes nodes' log log' known known' l h = let q = h.0 in let f : ⊥ = cc in absurd f

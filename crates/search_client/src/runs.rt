@@ -1,29 +1,78 @@
 //! Searches over a board, and how their runs end.
 
-ghost use Rattle.std.specs.Prelude.{ℕ, ◌≡◌, ◌<◌, ◌≤◌, suc, length, IfOk, OnOk, Contains};
+ghost use Rattle.std.specs.Prelude.{ℕ, ◌≡◌, ◌<◌, ◌≤◌, ◌⊎◌, ◌++◌, ◌∷◌, [], false, suc, length, IfOk, OnOk, Contains};
 ghost use Rattle.cnf_base.specs.Assignments.{AreBelow};
 ghost use Rattle.smt_terms.specs.Terms.{IsTermList};
 ghost use Rattle.proof_log.specs.Boards.{IsLater};
-ghost use Rattle.proof_log.specs.Logs.{state_of};
-ghost use Rattle.cube_search.specs.Running.{IsSearch};
+ghost use Rattle.proof_log.specs.Logs.{state_of, entry_at};
+ghost use Rattle.proof_log.specs.Diaries.{is_chain};
+ghost use Rattle.cdcl_core.specs.Search.{clause_of};
+ghost use Rattle.cube_search.specs.Holding.{AreStoredBelow};
+ghost use Rattle.cube_search.specs.Running.{IsResting, IsSearch};
 
 use cnf_base::{Lit, Pos};
 use cube_search::{End, Search};
-use local_names::LocalNames;
 use proof_log::board::Board;
+use proof_log::entry::Entry;
 use std::alloc::{AllocError, Global};
 
 pub(crate) const CUBE: u32 = 3;
 
-// The positions below the bound.
-fn positions(alloc: Global, bound: u64) -> Result<Vec<Pos>, AllocError>
-    ensures { IfOk result (λ ps. (p : ℕ) → Contains ps.items p → p < bound) }
+// Whether a chain stands at a position that is known.
+fn is_chain<B: Board>(board: &B, at: Pos) -> bool
+    requires { B.knows board.now at }
+    ensures { result ≡ false → is_chain (entry_at (B.log board.now) at) ≡ false }
+{
+    matches!(board.entry(at), Some(Entry::Chain(_, _)))
+}
+
+// Adds a position that is known, where it is no chain's.
+fn add_plain<B: Board>(board: &B, at: Pos, positions: &mut Vec<Pos>) -> Result<(), AllocError>
+    requires { B.knows board.now at }
+    ensures { OnOk result ((positions.new.items ≡ positions.old.items)
+        ⊎ ((positions.new.items ≡ positions.old.items ++ at ∷ []) × (is_chain (entry_at (B.log board.now) at) ≡ false))) }
+{
+    if is_chain(board, at) {
+        return Ok(());
+    }
+    positions.push(at)?;
+    Ok(())
+}
+
+// The positions below the bound that are no chains'.
+fn positions<B: Board>(alloc: Global, board: &B, bound: u64) -> Result<Vec<Pos>, AllocError>
+    requires { (p : ℕ) → p < bound → B.knows board.now p }
+    ensures below { IfOk result (λ ps. (p : ℕ) → Contains ps.items p → p < bound) }
+    ensures plain { IfOk result (λ ps. (p : ℕ) → Contains ps.items p → is_chain (entry_at (B.log board.now) p) ≡ false) }
 {
     let mut positions = Vec::new(alloc);
     'positions: for at in 0..bound {
-        positions.push(at)?;
+        add_plain(board, at, &mut positions)?;
     }
     Ok(positions)
+}
+
+// Goes over to the positions of the board below the bound.
+fn go_over<B: Board>(
+    alloc: Global,
+    board: &B,
+    search: &mut Search,
+    bound: u64,
+    from: u64,
+) -> Result<(), AllocError>
+    requires resting { IsResting search.old (state_of (B.nodes board.now) (B.log board.now)).clauses (B.log board.now) }
+    requires stored { AreStoredBelow (clause_of search.old.engine.watches) (B.log board.now) from }
+    requires listed { IsTermList (B.nodes board.now) }
+    requires known { (p : ℕ) → p < bound → B.knows board.now p }
+    requires within { bound ≤ from }
+    requires from { from ≤ suc (length (B.log board.now)) }
+    ensures search { OnOk result (IsSearch search.new (B.nodes board.now) (B.log board.now)) }
+    ensures from { OnOk result (search.new.from ≡ from) }
+{
+    let _stands = board.bits();
+    let positions = positions(alloc, board, bound)?;
+    search.retarget(board, positions.as_slice(), from)?;
+    Ok(())
 }
 
 // A search that holds the positions of the board below the bound.
@@ -33,13 +82,16 @@ fn begun<B: Board>(alloc: Global, board: &B, bound: u64, from: u64) -> Result<Se
     requires within { bound ≤ from }
     requires from { from ≤ suc (length (B.log board.now)) }
     ensures search { IfOk result (λ s. IsSearch s (B.nodes board.now) (B.log board.now)) }
-    ensures below { IfOk result (λ s. (p : ℕ) → Contains s.opening.items p → p < bound) }
+    ensures from { IfOk result (λ s. s.from ≡ from) }
 {
-    let _stands = board.bits();
-    let positions = positions(alloc, bound)?;
-    let names = LocalNames::new(alloc)?;
-    let search = Search::new(alloc, board, names, positions.as_slice(), from)?;
-    Ok(search)
+    let mut search = Search::new(alloc)?;
+    match go_over(alloc, board, &mut search, bound, from) {
+        Ok(()) => Ok(search),
+        Err(error) => {
+            drop(search);
+            Err(error)
+        }
+    }
 }
 
 // How a search is to end.
@@ -48,18 +100,29 @@ pub(crate) enum Ended {
     Closed,
     ClosedAt(Pos),
     Model,
-    // the value of each variable that has a number
-    ModelOf(&'static [bool]),
+    // these variables below 12 are true, and no others
+    ModelOf(&'static [u64]),
     // with so many lines in the diary of this cube
     Spent(u32, usize),
 }
 
-fn is_end(end: &End, wanted: Ended) -> bool {
+// Whether these variables below 12 are true, and no others.
+fn are_true(search: &Search, variables: &[u64]) -> bool {
+    for variable in 1..12 {
+        let is_wanted = variables.contains(&variable);
+        if search.is_true(Lit::new(variable, true)) != is_wanted {
+            return false;
+        }
+    }
+    true
+}
+
+fn is_end(search: &Search, end: &End, wanted: Ended) -> bool {
     match (end, wanted) {
         (End::Closed(_), Ended::Closed) => true,
         (End::Closed(at), Ended::ClosedAt(pos)) => *at == pos,
-        (End::Model(_), Ended::Model) => true,
-        (End::Model(values), Ended::ModelOf(other)) => values.as_slice() == other,
+        (End::Model, Ended::Model) => true,
+        (End::Model, Ended::ModelOf(variables)) => are_true(search, variables),
         (End::Spent(diary), Ended::Spent(cube, lines)) => {
             diary.cube == cube && diary.lines.as_slice().len() == lines
         }
@@ -76,14 +139,13 @@ fn is_run<B: Board>(
     wanted: Ended,
 ) -> Result<bool, AllocError>
     requires search { IsSearch search.old (B.nodes board.old) (B.log board.old) }
-    requires known { (p : ℕ) → Contains search.old.opening.items p → B.knows board.old p }
     requires below { AreBelow (state_of (B.nodes board.old) (B.log board.old)).next given.now }
     ensures later { IsLater (B.nodes board.old) (B.nodes board.new) (B.log board.old) (B.log board.new) (B.knows board.old) (B.knows board.new) }
     ensures search { OnOk result (IsSearch search.new (B.nodes board.new) (B.log board.new)) }
-    ensures opening { search.new.opening ≡ search.old.opening }
+    ensures from { search.new.from ≡ search.old.from }
 {
     let end = search.run(board, CUBE, given, budget)?;
-    let is_so = is_end(&end, wanted);
+    let is_so = is_end(&*search, &end, wanted);
     drop(end);
     Ok(is_so)
 }
@@ -117,7 +179,6 @@ fn are_runs<B: Board>(
     second: Ended,
 ) -> Result<bool, AllocError>
     requires search { IsSearch search.old (B.nodes board.old) (B.log board.old) }
-    requires known { (p : ℕ) → Contains search.old.opening.items p → B.knows board.old p }
     requires below { AreBelow (state_of (B.nodes board.old) (B.log board.old)).next given.now }
 {
     let is_first = is_run(board, search, given, 1, first)?;
@@ -125,7 +186,7 @@ fn are_runs<B: Board>(
     Ok(is_first && is_second)
 }
 
-// The same of a search that holds the positions below the bound, with how many numbers it has used; `None` where they do not.
+// The same of a search that holds the positions below the bound.
 pub(crate) fn ends_twice_on<B: Board>(
     alloc: Global,
     board: &mut B,
@@ -134,7 +195,7 @@ pub(crate) fn ends_twice_on<B: Board>(
     given: &[Lit],
     first: Ended,
     second: Ended,
-) -> Result<Option<u64>, AllocError>
+) -> Result<bool, AllocError>
     requires listed { IsTermList (B.nodes board.old) }
     requires known { (p : ℕ) → p < bound → B.knows board.old p }
     requires within { bound ≤ from }
@@ -143,10 +204,8 @@ pub(crate) fn ends_twice_on<B: Board>(
 {
     let mut search = begun(alloc, &*board, bound, from)?;
     let are_so = are_runs(board, &mut search, given, first, second);
-    let names = search.into_names();
-    let len = names.len();
-    drop(names);
-    Ok(if are_so? { Some(len) } else { None })
+    drop(search);
+    are_so
 }
 
 // Whether two searches end closed, the first within one put and the other behind it without any.
@@ -158,8 +217,6 @@ fn are_both_closed<B: Board>(
 ) -> Result<bool, AllocError>
     requires first { IsSearch first.old (B.nodes board.old) (B.log board.old) }
     requires second { IsSearch second.old (B.nodes board.old) (B.log board.old) }
-    requires first_known { (p : ℕ) → Contains first.old.opening.items p → B.knows board.old p }
-    requires second_known { (p : ℕ) → Contains second.old.opening.items p → B.knows board.old p }
     requires below { AreBelow (state_of (B.nodes board.old) (B.log board.old)).next given.now }
 {
     let is_first = is_run(board, first, given, 1, Ended::Closed)?;
@@ -176,7 +233,6 @@ fn second_closes<B: Board>(
     given: &[Lit],
 ) -> Result<bool, AllocError>
     requires first { IsSearch first.old (B.nodes board.old) (B.log board.old) }
-    requires first_known { (p : ℕ) → Contains first.old.opening.items p → B.knows board.old p }
     requires listed { IsTermList (B.nodes board.old) }
     requires known { (p : ℕ) → p < from → B.knows board.old p }
     requires from { from ≤ suc (length (B.log board.old)) }
@@ -204,4 +260,71 @@ pub(crate) fn two_close_on<B: Board>(
     let are_closed = second_closes(alloc, board, &mut first, from, given);
     drop(first);
     are_closed
+}
+
+// Whether a run of a search that goes over to the positions below the bound ends so.
+fn is_run_over<B: Board>(
+    alloc: Global,
+    board: &mut B,
+    search: &mut Search,
+    bound: u64,
+    from: u64,
+    given: &[Lit],
+    wanted: Ended,
+) -> Result<bool, AllocError>
+    requires search { IsSearch search.old (B.nodes board.old) (B.log board.old) }
+    requires own { search.old.from ≡ from }
+    requires listed { IsTermList (B.nodes board.old) }
+    requires known { (p : ℕ) → p < bound → B.knows board.old p }
+    requires within { bound ≤ from }
+    requires below { AreBelow (state_of (B.nodes board.old) (B.log board.old)).next given.now }
+    ensures later { OnOk result (IsLater (B.nodes board.old) (B.nodes board.new) (B.log board.old) (B.log board.new) (B.knows board.old) (B.knows board.new)) }
+    ensures search { OnOk result (IsSearch search.new (B.nodes board.new) (B.log board.new)) }
+    ensures own { OnOk result (search.new.from ≡ from) }
+{
+    go_over(alloc, &*board, search, bound, from)?;
+    is_run(board, search, given, 0, wanted)
+}
+
+// Whether a search over the whole log ends closed within one put, then has this model over position 0 alone, and then over the whole
+// log again ends closed without any put.
+fn goes_and_comes<B: Board>(
+    alloc: Global,
+    board: &mut B,
+    search: &mut Search,
+    from: u64,
+    given: &[Lit],
+    model: Ended,
+) -> Result<bool, AllocError>
+    requires search { IsSearch search.old (B.nodes board.old) (B.log board.old) }
+    requires own { search.old.from ≡ from }
+    requires listed { IsTermList (B.nodes board.old) }
+    requires known { (p : ℕ) → p < from → B.knows board.old p }
+    requires some { 0 < from }
+    requires below { AreBelow (state_of (B.nodes board.old) (B.log board.old)).next given.now }
+{
+    let is_closed = is_run(board, search, given, 1, Ended::Closed)?;
+    let is_model = is_run_over(alloc, board, search, 1, from, given, model)?;
+    let is_kept = is_run_over(alloc, board, search, from, from, given, Ended::Closed)?;
+    Ok(is_closed && is_model && is_kept)
+}
+
+// The same of a search that begins over the whole log.
+pub(crate) fn comes_back_on<B: Board>(
+    alloc: Global,
+    board: &mut B,
+    from: u64,
+    given: &[Lit],
+    model: Ended,
+) -> Result<bool, AllocError>
+    requires listed { IsTermList (B.nodes board.old) }
+    requires known { (p : ℕ) → p < from → B.knows board.old p }
+    requires from { from ≤ suc (length (B.log board.old)) }
+    requires some { 0 < from }
+    requires below { AreBelow (state_of (B.nodes board.old) (B.log board.old)).next given.now }
+{
+    let mut search = begun(alloc, &*board, from, from)?;
+    let is_so = goes_and_comes(alloc, board, &mut search, from, given, model);
+    drop(search);
+    is_so
 }

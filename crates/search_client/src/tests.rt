@@ -6,7 +6,7 @@ ghost use Rattle.proof_log.specs.Stored.{Stands};
 ghost use Rattle.search_client.specs.Putting.{MayBePut};
 
 use crate::assertions::{Proof, asserted, told_chain};
-use crate::runs::{CUBE, Ended, ends_on, ends_twice_on, two_close_on};
+use crate::runs::{CUBE, Ended, comes_back_on, ends_on, ends_twice_on, two_close_on};
 use cnf_base::{Clause, ClauseId, Lit, Pos};
 use proof_log::board::{Board, LogBoard, Sync};
 use proof_log::entry::Entry;
@@ -92,7 +92,7 @@ fn log_ends(
     is_so
 }
 
-// Whether two runs of a search end so that holds the positions below the bound, with how many numbers it has used.
+// Whether two runs of a search end so that holds the positions below the bound.
 fn log_ends_twice(
     alloc: Global,
     proof: Proof,
@@ -100,7 +100,7 @@ fn log_ends_twice(
     given: &[Lit],
     first: Ended,
     second: Ended,
-) -> Result<Option<u64>, AllocError>
+) -> Result<bool, AllocError>
     requires stands { Stands proof.terms.nodes proof.log }
     requires given { AreBelow proof.log.next given.now }
     requires within { bound ≤ suc (length proof.log.entries) }
@@ -126,6 +126,23 @@ fn log_closes_twice(alloc: Global, proof: Proof, given: &[Lit]) -> Result<bool, 
     drop(board);
     drop(proof.terms);
     are_closed
+}
+
+// The model of the clause of position 0 under the selectors.
+const GIVEN: Ended = Ended::ModelOf(&[1, 5, 7, 9, 11]);
+
+// Whether a search over the whole log ends closed within one put, and without any after it went over to position 0 and came back.
+fn log_comes_back(alloc: Global, proof: Proof, given: &[Lit]) -> Result<bool, AllocError>
+    requires stands { Stands proof.terms.nodes proof.log }
+    requires given { AreBelow proof.log.next given.now }
+{
+    let _terms = proof.terms.len();
+    let from = proof.log.len();
+    let mut board = LogBoard::new(alloc, proof.log, &proof.terms);
+    let is_so = comes_back_on(alloc, &mut board, from, given, GIVEN);
+    drop(board);
+    drop(proof.terms);
+    is_so
 }
 
 // Whether a search for the first assertions, so many of them, ends so, where the first `sync` of its board tells that chain or
@@ -182,17 +199,23 @@ fn a_second_run_has_what_the_first_learnt(rt: HostRuntime) -> Result<(), Fail> {
     let (proof, given) = asserted(alloc, 4)?;
     let bound = proof.log.len();
     let given = given.as_slice();
-    let used = log_ends_twice(alloc, proof, bound, given, Ended::Closed, Ended::Closed)?;
-    assert!(rt; used.is_some());
+    assert!(rt; log_ends_twice(alloc, proof, bound, given, Ended::Closed, Ended::Closed)?);
     Ok(())
 }
 
 #[test]
 fn given_literals_without_a_clause_are_true(rt: HostRuntime) -> Result<(), Fail> {
     let (proof, given) = asserted(rt.alloc(), 4)?;
-    let values = Ended::ModelOf(&[false, true, true, true, true, true]);
     let given = given.as_slice();
-    let used = log_ends_twice(rt.alloc(), proof, 1, given, Ended::Model, values)?;
-    assert!(rt; used == Some(6));
+    assert!(rt; log_ends_twice(rt.alloc(), proof, 1, given, Ended::Model, GIVEN)?);
+    Ok(())
+}
+
+#[test]
+fn what_was_learnt_is_held_again_where_its_variables_come_back(
+    rt: HostRuntime,
+) -> Result<(), Fail> {
+    let (proof, given) = asserted(rt.alloc(), 4)?;
+    assert!(rt; log_comes_back(rt.alloc(), proof, given.as_slice())?);
     Ok(())
 }

@@ -4,8 +4,5 @@ use Rattle.search_client.proofs.runs.are_runs.Goals as goal
 pub is_run-requires-2-clause-search : goal.is_run-requires-2-clause-search
 is_run-requires-2-clause-search g c = c.in_ok-is_first.ensures.search
 
-pub is_run-requires-2-clause-known : goal.is_run-requires-2-clause-known
-is_run-requires-2-clause-known g c = λ p k. c.is_run.ensures.later.knows p (c.requires.known p (rw c.is_run.ensures.opening at k))
-
 pub is_run-requires-2-clause-below : goal.is_run-requires-2-clause-below
 is_run-requires-2-clause-below g c = below_later _ _ _ _ _ _ c.args.given.now c.is_run.ensures.later c.requires.below

@@ -6,6 +6,3 @@ begun-requires-clause-within g c = omega arith
 
 pub is_run-is_so-requires-clause-search : goal.is_run-is_so-requires-clause-search
 is_run-is_so-requires-clause-search g c = c.in_ok-search.ensures.search
-
-pub is_run-is_so-requires-clause-known : goal.is_run-is_so-requires-clause-known
-is_run-is_so-requires-clause-known g c = λ p k. c.requires.known p (c.in_ok-search.ensures.below p k)

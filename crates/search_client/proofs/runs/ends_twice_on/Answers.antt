@@ -2,6 +2,3 @@ use Rattle.search_client.proofs.runs.ends_twice_on.Goals as goal
 
 pub are_runs-are_so-requires-clause-search : goal.are_runs-are_so-requires-clause-search
 are_runs-are_so-requires-clause-search g c = c.in_ok-search.ensures.search
-
-pub are_runs-are_so-requires-clause-known : goal.are_runs-are_so-requires-clause-known
-are_runs-are_so-requires-clause-known g c = λ p k. c.requires.known p (c.in_ok-search.ensures.below p k)

@@ -6,6 +6,3 @@ begun-requires-clause-within g c = omega arith
 
 pub are_both_closed-are_closed-requires-clause-second : goal.are_both_closed-are_closed-requires-clause-second
 are_both_closed-are_closed-requires-clause-second g c = c.in_ok-second.ensures.search
-
-pub are_both_closed-are_closed-requires-clause-second_known : goal.are_both_closed-are_closed-requires-clause-second_known
-are_both_closed-are_closed-requires-clause-second_known g c = λ p k. c.requires.known p (c.in_ok-second.ensures.below p k)

@@ -6,6 +6,3 @@ begun-requires-clause-within g c = omega arith
 
 pub second_closes-are_closed-requires-clause-first : goal.second_closes-are_closed-requires-clause-first
 second_closes-are_closed-requires-clause-first g c = c.in_ok-first.ensures.search
-
-pub second_closes-are_closed-requires-clause-first_known : goal.second_closes-are_closed-requires-clause-first_known
-second_closes-are_closed-requires-clause-first_known g c = λ p k. c.requires.known p (c.in_ok-first.ensures.below p k)

@@ -12,4 +12,4 @@ returns-clause-course c = on_ok c.put.result _ c.in_ok-keep.ensures.course
 pub returns-clause-kept : goal.returns-clause-kept
 returns-clause-kept c =
     kept_at c.args.self.now _ c.put.result c.args.clause c.args.level c.args.at
-    c.in_ok-keep.ensures.held c.keep.ensures.others c.in_ok-push.ensures.items refl c.put.ensures.start c.put.ensures.lines c.put.ensures.puts c.put.ensures.chains c.put.ensures.left
+    c.in_ok-keep.ensures.kept c.in_ok-keep.ensures.held c.keep.ensures.others c.in_ok-push.ensures.items refl c.put.ensures.start c.put.ensures.lines c.put.ensures.puts c.put.ensures.chains c.put.ensures.left

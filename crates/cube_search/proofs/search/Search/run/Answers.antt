@@ -3,6 +3,7 @@ use Rattle.std.proofs.lemmas.Bool.{MatchBool-at_false}
 use Rattle.std.proofs.lemmas.Option.{MatchOption-at_some}
 use Rattle.proof_log.proofs.Growth.{later_then}
 use Rattle.cdcl_loop.proofs.Assuming.{none_of}
+use Rattle.cube_search.specs.Running.{valuation_of}
 use Rattle.cube_search.proofs.Steps.{same_given, run_end}
 use Rattle.cube_search.proofs.search.Search.run.Goals as goal
 
@@ -13,7 +14,7 @@ steps-init g c = record {
   given = same_given c.begin.new.self c.take_news.new.self c.in_ok-take_news.ensures.run ∙ c.in_ok-begin.ensures.given;
   later = c.in_ok-take_news.ensures.later;
   running = c.in_ok-take_news.ensures.running;
-  upto = λ separate. MatchBool-at_false _ _ c.if-branch.false c.in_ok-take_news.ensures.news (c.in_ok-begin.ensures.writing separate);
+  upto = λ separate. MatchBool-at_false _ _ c.if-branch.false c.in_ok-take_news.ensures.news (c.in_ok-begin.ensures.writing (g.B.Board.nodes c.args.board.now) (g.B.Board.log c.args.board.now) c.requires.search separate);
 }
 
 pub returns-in_err-end-clause-later : goal.returns-in_err-end-clause-later
@@ -24,8 +25,8 @@ returns-in-Some-clause-later g c = later_then (g.B.Board.nodes c.args.board.now)
 
 pub returns-in-Some-clause-end : goal.returns-in-Some-clause-end
 returns-in-Some-clause-end g c =
-    run_end _ _ c.steps.self c.step.new.self (g.B.Board.nodes c.step.new.board) (g.B.Board.log c.step.new.board) (g.B.Board.knows c.step.new.board) (g.B.Board.found c.step.new.board) c.args.given.now c.args.self.now.from c.args.self.now.opening.items c.args.cube c.args.budget c.in-Some.end
-    c.steps.invariant.upto c.steps.invariant.given c.steps.invariant.from (ap (λ v. v.items) c.steps.invariant.opening) c.in_ok-end.ensures.run.names
+    run_end _ _ c.steps.self (g.B.Board.nodes c.step.new.board) (g.B.Board.log c.step.new.board) (g.B.Board.knows c.step.new.board) (g.B.Board.found c.step.new.board) (valuation_of c.step.new.self) c.args.given.now c.args.self.now.from c.args.self.now.opening.items c.args.cube c.args.budget c.in-Some.end
+    c.steps.invariant.upto c.steps.invariant.given c.steps.invariant.from (ap (λ v. v.items) c.steps.invariant.opening)
     (MatchOption-at_some _ _ c.in-Some.end c.in-Some.is c.in_ok-end.ensures.end)
 
 pub steps-preserved : goal.steps-preserved
@@ -37,3 +38,6 @@ steps-preserved g c = record {
   running = c.in_ok-end.ensures.running;
   upto = λ separate. none_of _ c.in_ok-end.field-0 c.in_default.not-Some c.in_ok-end.ensures.end (c.steps.invariant.upto separate);
 }
+
+pub take_news-requires : goal.take_news-requires
+take_news-requires g c = record { running = c.in_ok-begin.ensures.running (g.B.Board.nodes c.args.board.now) (g.B.Board.log c.args.board.now) c.requires.search c.requires.below }

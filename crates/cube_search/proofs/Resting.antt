@@ -1,0 +1,46 @@
+-- A search between two checks.
+use Rattle.std.proofs.Common.{◌≡◌, suc, ◌≤◌, List, [], ◌++◌, length, Some, ap, ◌∙◌, inl, inr, ⊎_elim, arith}
+use Rattle.std.proofs.lemmas.List.{length-append}
+use Rattle.cnf_base.specs.Literals.{Literal}
+use Rattle.cnf_base.specs.declared.clause.ClauseId.{ClauseId}
+use Rattle.smt_terms.specs.declared.node.Node.{Node}
+use Rattle.proof_log.specs.declared.entry.Entry.{Entry}
+use Rattle.proof_log.specs.Logs.{state_of}
+use Rattle.proof_log.specs.Diaries.{is_chain}
+use Rattle.proof_log.proofs.Growth.{entry_left}
+use Rattle.proof_log.proofs.Growing.{clause_more, clause_within}
+use Rattle.cdcl_core.specs.Search.{clause_of}
+use Rattle.cube_search.specs.declared.search.Search.{Search}
+use Rattle.cube_search.specs.Running.{IsSearch, IsResting}
+use Rattle.cube_search.proofs.Later.{chain_within}
+
+pub search_rests : (s : Search) (nodes : List Node) (log : List Entry) → IsSearch s nodes log → IsResting s (state_of nodes log).clauses log
+search_rests s nodes log h = record {
+  engine = h.0;
+  sound = h.1.holding.sound;
+  covered = h.1.holding.covered;
+  plain = λ p k. let low = h.1.placed.before p k in (omega (arith, low, h.1.placed.from_seen, h.1.placed.within), h.1.placed.plain p k);
+  chains = h.1.placed.chains;
+  stored = h.1.placed.stored;
+}
+
+-- it rests beside a log that has become longer
+pub rests_longer : (s : Search) (rows more : List (List (List Literal))) (log steps : List Entry) → length rows ≡ suc (length log) → IsResting s rows log → IsResting s (rows ++ more) (log ++ steps)
+rests_longer s rows more log steps size h = record {
+  engine = h.engine;
+  sound = λ id c e. clause_more rows more id c (h.sound id c e);
+  covered = h.covered;
+  plain = λ p k. let q = h.plain p k in (omega (arith, q.0, longer), ap is_chain (entry_left log steps p q.0) ∙ q.1);
+  chains = λ p k. let q = h.chains p k in ap is_chain (entry_left log steps p (chain_within log p q)) ∙ q;
+  stored = λ id c e. ⊎_elim (λ x. inl (ap is_chain (entry_left log steps id.pos (place id c e)) ∙ x)) (λ x. inr x) (h.stored id c e);
+}
+  where
+    longer : length log ≤ length (log ++ steps)
+    longer = omega (arith, length-append log steps)
+
+    place : (id : ClauseId) (c : List Literal) → clause_of s.engine.watches id ≡ Some c → id.pos ≤ length log
+    place id c e = omega (arith, clause_within rows id c (h.sound id c e), size)
+
+-- what rests beside every log keeps nothing
+pub keeps_nothing : (s : Search) → ((rows : List (List (List Literal))) (log : List Entry) → IsResting s rows log) → (id : ClauseId) (c : List Literal) → clause_of s.engine.watches id ≡ Some c → ⊥
+keeps_nothing s h id c e = let lt = clause_within [] id c ((h [] []).sound id c e) in omega (arith, lt)
