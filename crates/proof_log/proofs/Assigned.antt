@@ -21,7 +21,7 @@ use Rattle.bit_blast.specs.Meanings.{AreBitsOf, EachIsBits}
 use Rattle.bit_blast.proofs.Fixing.{clauses_fix}
 use Rattle.proof_log.specs.declared.entry.Entry.{Entry}
 use Rattle.proof_log.specs.declared.entry.Entry.TheVariants as step
-use Rattle.proof_log.specs.Logs.{Asserted, LogState, start, clause_in, clause_at, entry_at, IsStep, IsLeaf, IsEncoding, IsSelector, block_after, selector_clause, selector_after, after, state_from, state_of, IsLog}
+use Rattle.proof_log.specs.Logs.{Asserted, LogState, start, clause_in, clause_at, entry_at, IsStep, IsEncoding, IsSelector, block_after, selector_clause, selector_after, after, state_from, state_of, IsLog}
 use Rattle.proof_log.specs.Places.{GivesSelector, IsForTerm}
 use Rattle.proof_log.specs.Stored.{LogValue, IsKept, Stands}
 use Rattle.proof_log.specs.Assigned.{IsTrueAt, Satisfies, AreValues}
@@ -146,10 +146,7 @@ module _ (M : Interpretation) (nodes : List Node) (all : IsTermList nodes) (reac
       block_valued r.state t p i.block i.term i.circuit r.before (subst (λ o. Holds (block_after r.state t o) (state_of nodes log.entries)) i.circuit r.behind) r.place is each
 
   leaf_valued : (t p : ℕ) → reached t → entry_at log.entries p ≡ Some (step.Leaf t) → Valued t
-  leaf_valued t p in_it e c q =
-      let r = reached_step nodes log.entries p (step.Leaf t) kept.steps e in
-      let i : IsLeaf nodes r.state t = r.step in
-      h.constants t i.width c in_it i.constant q
+  leaf_valued t p in_it e c q = h.leaves t p c in_it e q
 
   -- ---- all terms, each behind its arguments
 

@@ -5,10 +5,11 @@ use Rattle.std.specs.declared.alloc.AllocError.{AllocError}
 use Rattle.std.specs.List.{AllByRecursion}
 use Rattle.std.proofs.lemmas.Bool.{cases_lt}
 use Rattle.std.proofs.lemmas.Option.{slice_get_within}
+use Rattle.cnf_base.specs.Choices.{equal_gates}
 use Rattle.cnf_base.specs.Gates.{gates_clauses}
 use Rattle.bit_blast.specs.Blocks.{Block, block_of}
 use Rattle.smt_terms.specs.Nodes.{node_at}
-use Rattle.cnf_base.specs.Literals.{Literal}
+use Rattle.cnf_base.specs.Literals.{Literal, true_literal}
 use Rattle.cnf_base.specs.Assignments.{AreBelow}
 use Rattle.cnf_base.specs.declared.clause.ClauseId.{ClauseId}
 use Rattle.cnf_base.proofs.Agreeing.{AreBelow-more}
@@ -16,13 +17,15 @@ use Rattle.cnf_base.proofs.Lists.{each_append, slice_get-append_left, slice_get-
 use Rattle.hint_chain.proofs.Growing.{IsChain-grows}
 use Rattle.smt_terms.specs.declared.node.Node.{Node}
 use Rattle.smt_terms.specs.Terms.{IsTermList, TermsValue}
+use Rattle.theory_lemmas.specs.declared.fault.LemmaFault.{LemmaFault}
+use Rattle.theory_lemmas.specs.Clauses.{clause_of}
 use Rattle.proof_log.specs.declared.entry.Entry.{Entry}
 use Rattle.proof_log.specs.declared.entry.Entry.TheVariants as step
 use Rattle.proof_log.specs.declared.entry.Role.TheVariants as role
-use Rattle.proof_log.specs.Logs.{LogState, start, clause_in, clause_at, entry_at, constant_width, selector_clause, IsStep, leaf_after, block_after, selector_after, after, state_from, state_of, IsLog}
+use Rattle.proof_log.specs.Logs.{LogState, start, clause_in, clause_at, entry_at, leaf_width, selector_clause, IsStep, leaf_after, block_after, selector_after, equal_after, lemma_after, after, state_from, state_of, IsLog}
 use Rattle.proof_log.specs.Stored.{LogValue, Stands, IsPushed, clauses_of}
 use Rattle.proof_log.specs.Faults.{IsValid, MakesNoTerm}
-use Rattle.proof_log.specs.Boards.{IsOfSearch, Grows, IsLater, IsPutAt, KnowsOneMore, IsClauseOf}
+use Rattle.proof_log.specs.Boards.{IsOfSearch, IsAdded, Grows, IsLater, IsPutAt, KnowsOneMore, IsClauseOf}
 use Rattle.proof_log.proofs.Growing.{clause_within}
 use Rattle.proof_log.proofs.Staying.{Holds, state_from-append, steps_parts, steps_hold}
 use Rattle.proof_log.proofs.Standing.{stands_over}
@@ -61,13 +64,27 @@ grown_holds nodes log log' g h =
     let is = ap (state_of nodes) g.is ∙ state_from-append nodes start log g.more in
     subst (Holds (state_of nodes log)) (sym is) (steps_hold nodes (state_of nodes log) g.more parts.1)
 
--- a search gives no term bits and no assertion a selector
+-- a chain gives no term bits and no assertion a selector
 search_keeps : (nodes : List Node) (s : LogState) (more : List Entry) → AllByRecursion IsOfSearch more → ((state_from nodes s more).bits ≡ s.bits) × ((state_from nodes s more).selectors ≡ s.selectors)
 search_keeps nodes s [] h = (refl, refl)
-search_keeps nodes s (step.Leaf t ∷ more) h = let q = h.0 in let f : ⊥ = cc in absurd f
-search_keeps nodes s (step.Encode t ∷ more) h = let q = h.0 in let f : ⊥ = cc in absurd f
-search_keeps nodes s (step.Selector a t ∷ more) h = let q = h.0 in let f : ⊥ = cc in absurd f
-search_keeps nodes s (e ∷ more) h = search_keeps nodes (after nodes s e) more h.1
+search_keeps nodes s (step.Chain c hints ∷ more) h = search_keeps nodes (after nodes s (step.Chain c hints)) more h.1
+search_keeps nodes s (e ∷ more) h = let q = h.0 in let f : ⊥ = cc in absurd f
+
+equal_keeps : (s : LogState) (t u : ℕ) (o p : Option (List Literal)) → ((equal_after s t u o p).bits ≡ s.bits) × ((equal_after s t u o p).selectors ≡ s.selectors)
+equal_keeps s t u None p = (refl, refl)
+equal_keeps s t u (Some a) None = (refl, refl)
+equal_keeps s t u (Some a) (Some b) = (refl, refl)
+
+lemma_keeps : (s : LogState) (o : Result (List Literal) LemmaFault) → ((lemma_after s o).bits ≡ s.bits) × ((lemma_after s o).selectors ≡ s.selectors)
+lemma_keeps s (Err f) = (refl, refl)
+lemma_keeps s (Ok c) = (refl, refl)
+
+-- a step that makes no term, gives no term bits and no assertion a selector leaves both as they are
+pub added_keeps : (nodes : List Node) (s : LogState) (e : Entry) → IsAdded e → ((after nodes s e).bits ≡ s.bits) × ((after nodes s e).selectors ≡ s.selectors)
+added_keeps nodes s (step.Chain c hints) h = (refl, refl)
+added_keeps nodes s (step.Equal t u) h = equal_keeps s t u (s.bits t) (s.bits u)
+added_keeps nodes s (step.Lemma l) h = lemma_keeps s (clause_of nodes s.bits s.equals l)
+added_keeps nodes s e h = let f : ⊥ = cc in absurd f
 
 -- bits and selectors stay
 pub grown_keeps : (nodes : List Node) (log log' : List Entry) → Grows log log' → ((state_of nodes log').bits ≡ (state_of nodes log).bits) × ((state_of nodes log').selectors ≡ (state_of nodes log).selectors)
@@ -98,35 +115,68 @@ entry_stays log log' p g le = ap (λ l. entry_at l p) g.is ∙ entry_left log g.
 
 -- ---- what a step of a log has
 
-abbrev OneRow : LogState → LogState → Type 0
-OneRow s t = (row : List (List Literal)) × (t.clauses ≡ s.clauses ++ row ∷ [])
+-- the clauses that a step adds
+abbrev pub block_row : LogState → Option Block → List (List Literal)
+block_row s None = []
+block_row s (Some b) = gates_clauses s.next b.gates
 
-leaf_row : (s : LogState) (t : ℕ) (o : Option ℕ) → OneRow s (leaf_after s t o)
-leaf_row s t None = ([], refl)
-leaf_row s t (Some n) = ([], refl)
+abbrev pub selector_row : LogState → Option (List Literal) → List (List Literal)
+selector_row s None = []
+selector_row s (Some []) = []
+selector_row s (Some (bit ∷ bits)) = selector_clause s.next bit ∷ []
 
-block_row : (s : LogState) (t : ℕ) (o : Option Block) → OneRow s (block_after s t o)
-block_row s t None = ([], refl)
-block_row s t (Some b) = (gates_clauses s.next b.gates, refl)
+abbrev pub equal_row : LogState → Option (List Literal) → Option (List Literal) → List (List Literal)
+equal_row s None p = []
+equal_row s (Some a) None = []
+equal_row s (Some a) (Some b) = gates_clauses s.next (equal_gates s.next true_literal a b)
 
-selector_row : (s : LogState) (a t : ℕ) (o : Option (List Literal)) → OneRow s (selector_after s a t o)
-selector_row s a t None = ([], refl)
-selector_row s a t (Some []) = ([], refl)
-selector_row s a t (Some (b ∷ bs)) = (selector_clause s.next b ∷ [], refl)
+abbrev pub lemma_row : Result (List Literal) LemmaFault → List (List Literal)
+lemma_row (Err f) = []
+lemma_row (Ok c) = c ∷ []
+
+abbrev pub row_of : List Node → LogState → Entry → List (List Literal)
+row_of nodes s (step.Encode t) = block_row s (block_of s.next s.bits (node_at nodes t))
+row_of nodes s (step.Selector a t) = selector_row s (s.bits t)
+row_of nodes s (step.Equal t u) = equal_row s (s.bits t) (s.bits u)
+row_of nodes s (step.Lemma l) = lemma_row (clause_of nodes s.bits s.equals l)
+row_of nodes s e = clauses_of e []
+
+leaf_adds : (s : LogState) (t : ℕ) (o : Option ℕ) → (leaf_after s t o).clauses ≡ s.clauses ++ [] ∷ []
+leaf_adds s t None = refl
+leaf_adds s t (Some n) = refl
+
+block_adds : (s : LogState) (t : ℕ) (o : Option Block) → (block_after s t o).clauses ≡ s.clauses ++ block_row s o ∷ []
+block_adds s t None = refl
+block_adds s t (Some b) = refl
+
+selector_adds : (s : LogState) (a t : ℕ) (o : Option (List Literal)) → (selector_after s a t o).clauses ≡ s.clauses ++ selector_row s o ∷ []
+selector_adds s a t None = refl
+selector_adds s a t (Some []) = refl
+selector_adds s a t (Some (bit ∷ bits)) = refl
+
+equal_adds : (s : LogState) (t u : ℕ) (o p : Option (List Literal)) → (equal_after s t u o p).clauses ≡ s.clauses ++ equal_row s o p ∷ []
+equal_adds s t u None p = refl
+equal_adds s t u (Some a) None = refl
+equal_adds s t u (Some a) (Some b) = refl
+
+lemma_adds : (s : LogState) (o : Result (List Literal) LemmaFault) → (lemma_after s o).clauses ≡ s.clauses ++ lemma_row o ∷ []
+lemma_adds s (Err f) = refl
+lemma_adds s (Ok c) = refl
 
 -- each step has one position
-step_row : (nodes : List Node) (s : LogState) (e : Entry) → OneRow s (after nodes s e)
-step_row nodes s (step.Leaf t) = leaf_row s t (constant_width (node_at nodes t).op)
-step_row nodes s (step.Encode t) = block_row s t (block_of s.next s.bits (node_at nodes t))
-step_row nodes s (step.Selector a t) = selector_row s a t (s.bits t)
-step_row nodes s e = (clauses_of e [], refl)
+pub step_adds : (nodes : List Node) (s : LogState) (e : Entry) → (after nodes s e).clauses ≡ s.clauses ++ row_of nodes s e ∷ []
+step_adds nodes s (step.Leaf t) = leaf_adds s t (leaf_width nodes t)
+step_adds nodes s (step.Encode t) = block_adds s t (block_of s.next s.bits (node_at nodes t))
+step_adds nodes s (step.Selector a t) = selector_adds s a t (s.bits t)
+step_adds nodes s (step.Equal t u) = equal_adds s t u (s.bits t) (s.bits u)
+step_adds nodes s (step.Lemma l) = lemma_adds s (clause_of nodes s.bits s.equals l)
+step_adds nodes s e = refl
 
 pub steps_rows : (nodes : List Node) (s : LogState) (log : List Entry) → (rest : List (List (List Literal))) × ((state_from nodes s log).clauses ≡ s.clauses ++ rest)
 steps_rows nodes s [] = ([], sym (append-nil s.clauses))
 steps_rows nodes s (e ∷ log) =
-    let one = step_row nodes s e in
     let k = steps_rows nodes (after nodes s e) log in
-    (one.0 ∷ k.0, k.1 ∙ ap (λ l. l ++ k.0) one.1 ∙ append_assoc s.clauses (one.0 ∷ []) k.0)
+    (row_of nodes s e ∷ k.0, k.1 ∙ ap (λ l. l ++ k.0) (step_adds nodes s e) ∙ append_assoc s.clauses (row_of nodes s e ∷ []) k.0)
 
 -- ---- old clauses
 
@@ -163,8 +213,7 @@ chain_row_from nodes s (d ∷ log) zero c hints e =
     ∙ ap (λ rs. slice_get rs (length s.clauses)) (k.1 ∙ append_assoc s.clauses ((c ∷ []) ∷ []) k.0)
     ∙ slice_get-at s.clauses (c ∷ []) k.0
 chain_row_from nodes s (d ∷ log) (suc p) c hints e =
-    let one = step_row nodes s d in
-    let n : length s.clauses + suc p ≡ length (after nodes s d).clauses + p = omega (arith, ap length one.1, length-append s.clauses (one.0 ∷ [])) in
+    let n : length s.clauses + suc p ≡ length (after nodes s d).clauses + p = omega (arith, ap length (step_adds nodes s d), length-append s.clauses (row_of nodes s d ∷ [])) in
     ap (λ i. slice_get (state_from nodes (after nodes s d) log).clauses i) n ∙ chain_row_from nodes (after nodes s d) log p c hints e
 
 -- the position of a chain has the chain's clause alone
@@ -209,9 +258,14 @@ clauses_exist nodes log all h = (log_is_ordered nodes log all h).clauses
 
 -- ---- a log alone
 
+-- a chain makes no term, gives no term bits, and no assertion a selector
+pub chain_is_added : (e : Entry) → IsOfSearch e → IsAdded e
+chain_is_added (step.Chain c hints) h = refl
+chain_is_added e h = let f : ⊥ = cc in absurd f
+
 -- a step of a search is one that a log takes
 pub search_step : (e : Entry) → IsOfSearch e → MakesNoTerm e
-search_step e h = λ m. let r : role.Search ≡ role.Term = sym h ∙ m in cc
+search_step e h = λ m. let r : role.Search ≡ role.Term = sym (chain_is_added e h) ∙ m in cc
 
 pub search_valid : (v : TermsValue) (s : LogState) (e : Entry) → IsOfSearch e → IsStep v.nodes s e → IsValid v s e
 search_valid v s (step.Node n) h k = let f : ⊥ = cc in absurd f

@@ -1,5 +1,7 @@
 pub mod Growing
 mod Finding
+mod Rows
+mod Flat
 pub mod Placing
 pub mod Placed
 pub mod Sound
@@ -9,6 +11,7 @@ pub mod Ordered
 pub mod Standing
 pub mod Settled
 pub mod Assigned
+pub mod Leaves
 mod Tried
 mod Worked
 pub mod Growth

@@ -1,6 +1,6 @@
 -- What a step names was made before it.
-use Rattle.std.proofs.Common.{◌≡◌, ℕ, zero, suc, ◌+◌, ◌<◌, ◌≤◌, List, [], ◌∷◌, ◌++◌, length, take, Option, Some, None, refl, sym, ap, ◌∙◌, subst, inl, inr, ⊎_elim, arith, length-append}
-use Rattle.std.specs.Prelude.{◌⊎◌, All, slice_get, map}
+use Rattle.std.proofs.Common.{◌≡◌, ℕ, zero, suc, ◌+◌, ◌<◌, ◌≤◌, List, [], ◌∷◌, ◌++◌, length, take, Option, Some, None, sym, subst, ⊎_elim, arith, length-append, Result, Ok, Err}
+use Rattle.std.specs.Prelude.{All, slice_get, map}
 use Rattle.std.proofs.lemmas.Bool.{cases_lt}
 use Rattle.std.proofs.lemmas.List.Elements.{All-cons, All-nil}
 use Rattle.cnf_base.specs.Literals.{Literal, negated}
@@ -10,15 +10,17 @@ use Rattle.smt_terms.specs.Nodes.{node_at}
 use Rattle.smt_terms.specs.Terms.{IsTermList}
 use Rattle.smt_terms.specs.Values.{Interpretation, no_value}
 use Rattle.bit_blast.specs.Blocks.{Block, block_of}
-use Rattle.hint_chain.specs.Chains.{Lookup, ChainFrom, IsChain}
+use Rattle.hint_chain.specs.Chains.{ChainFrom, IsChain}
+use Rattle.theory_lemmas.specs.declared.fault.LemmaFault.{LemmaFault}
+use Rattle.theory_lemmas.specs.Clauses.{clause_of}
 use Rattle.proof_log.specs.declared.entry.Entry.{Entry}
 use Rattle.proof_log.specs.declared.entry.Entry.TheVariants as step
-use Rattle.proof_log.specs.Logs.{Asserted, LogState, start, clause_at, constant_width, IsStep, leaf_after, block_after, selector_after, after, state_from, state_of, AreSteps, IsLog}
-use Rattle.proof_log.specs.Meanings.{meaning, Owns, LogIsOrdered}
+use Rattle.proof_log.specs.Logs.{LogState, start, clause_at, leaf_width, IsStep, leaf_after, block_after, selector_after, equal_after, lemma_after, after, state_from, state_of, AreSteps, IsLog}
+use Rattle.proof_log.specs.Meanings.{meaning, LogIsOrdered}
 use Rattle.proof_log.proofs.Growing.{clause_each, clause_within}
 use Rattle.proof_log.proofs.Sound.{IsTrueBelow, log_suits}
 use Rattle.proof_log.proofs.Staying.{step_holds}
-use Rattle.proof_log.proofs.Selecting.{log_selects}
+use Rattle.proof_log.proofs.Selecting.{log_selects, log_pairs}
 
 -- ---- variables
 
@@ -66,10 +68,21 @@ selector_length s a t None = row_length s.clauses _
 selector_length s a t (Some []) = row_length s.clauses _
 selector_length s a t (Some (b ∷ bs)) = row_length s.clauses _
 
+equal_length : (s : LogState) (t u : ℕ) (o p : Option (List Literal)) → length (equal_after s t u o p).clauses ≡ suc (length s.clauses)
+equal_length s t u None p = row_length s.clauses _
+equal_length s t u (Some a) None = row_length s.clauses _
+equal_length s t u (Some a) (Some b) = row_length s.clauses _
+
+lemma_length : (s : LogState) (o : Result (List Literal) LemmaFault) → length (lemma_after s o).clauses ≡ suc (length s.clauses)
+lemma_length s (Err f) = row_length s.clauses _
+lemma_length s (Ok c) = row_length s.clauses _
+
 step_length : (nodes : List Node) (s : LogState) (e : Entry) → length (after nodes s e).clauses ≡ suc (length s.clauses)
-step_length nodes s (step.Leaf t) = leaf_length s t (constant_width (node_at nodes t).op)
+step_length nodes s (step.Leaf t) = leaf_length s t (leaf_width nodes t)
 step_length nodes s (step.Encode t) = block_length s t (block_of s.next s.bits (node_at nodes t))
 step_length nodes s (step.Selector a t) = selector_length s a t (s.bits t)
+step_length nodes s (step.Equal t u) = equal_length s t u (s.bits t) (s.bits u)
+step_length nodes s (step.Lemma l) = lemma_length s (clause_of nodes s.bits s.equals l)
 step_length nodes s e = row_length s.clauses _
 
 -- a log has a position for each step, and one before
@@ -123,6 +136,7 @@ log_is_ordered nodes log all i =
       clauses = λ id c e. (clause_each (IsTrueBelow s.next (meaning any_interpretation nodes log)) s.clauses id c h.clauses e).1;
       bits = λ t b e. (h.terms t b e, (h.bits t b e).0);
       selectors = λ a r e. let k = log_selects nodes log a r e in (k.0, (h.selectors a r e).0, k.1);
+      equals = λ t u l e. let k = h.equals t u l e in (k.positive, k.below, log_pairs nodes log t u l e);
       owned = λ x lo hi. let k = owner nodes start log x lo hi in (k.0, record { step = k.1.step; from = k.1.from; upto = k.1.upto });
       once = λ x p q o r.
           ⊎_elim

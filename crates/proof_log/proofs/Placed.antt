@@ -1,15 +1,17 @@
 -- Each term that has bits got them by a step, and each selector was made by one.
-use Rattle.std.proofs.Common.{◌≡◌, ℕ, suc, List, [], ◌∷◌, ◌++◌, length, append_assoc, append-nil, Option, Some, None, refl, sym, ap, ◌∙◌, subst, ⊎_elim}
-use Rattle.std.specs.Prelude.{◌⊎◌, IsSome}
+use Rattle.std.proofs.Common.{◌≡◌, ℕ, suc, List, [], ◌∷◌, ◌++◌, length, append_assoc, append-nil, Option, Some, None, Result, Ok, Err, refl, sym, ap, ◌∙◌, subst, ⊎_elim}
+use Rattle.std.specs.Prelude.{IsSome}
 use Rattle.std.proofs.lemmas.Option.{slice_get-get_or}
 use Rattle.cnf_base.specs.Literals.{Literal}
 use Rattle.smt_terms.specs.declared.node.Node.{Node}
 use Rattle.smt_terms.specs.Nodes.{node_at}
 use Rattle.smt_terms.specs.Bits.{bits_in}
 use Rattle.bit_blast.specs.Blocks.{Block, block_of}
+use Rattle.theory_lemmas.specs.declared.fault.LemmaFault.{LemmaFault}
+use Rattle.theory_lemmas.specs.Clauses.{clause_of}
 use Rattle.proof_log.specs.declared.entry.Entry.{Entry}
 use Rattle.proof_log.specs.declared.entry.Entry.TheVariants as step
-use Rattle.proof_log.specs.Logs.{LogState, start, constant_width, leaf_after, block_after, selector_after, after, state_from, state_of}
+use Rattle.proof_log.specs.Logs.{LogState, start, leaf_width, leaf_after, block_after, selector_after, equal_after, lemma_after, after, state_from, state_of}
 use Rattle.proof_log.specs.Places.{GivesBits, GivesSelector, IsPlaceOf}
 use Rattle.proof_log.specs.Stored.{LogValue, Stands, selector_in}
 use Rattle.proof_log.proofs.Placing.{bits_more, entry_last}
@@ -48,11 +50,24 @@ selector_same s a t None = refl
 selector_same s a t (Some []) = refl
 selector_same s a t (Some (b ∷ bs)) = refl
 
+equal_same : (s : LogState) (t u : ℕ) (o p : Option (List Literal)) → (equal_after s t u o p).bits ≡ s.bits
+equal_same s t u None p = refl
+equal_same s t u (Some a) None = refl
+equal_same s t u (Some a) (Some b) = refl
+
+lemma_same : (s : LogState) (o : Result (List Literal) LemmaFault) → (lemma_after s o).bits ≡ s.bits
+lemma_same s (Err f) = refl
+lemma_same s (Ok c) = refl
+
 step_given : (nodes : List Node) (log : List Entry) (s : LogState) (e : Entry) → AreGivenIn log s.bits → AreGivenIn (log ++ e ∷ []) (after nodes s e).bits
-step_given nodes log s (step.Leaf t) h = leaf_given log s t (constant_width (node_at nodes t).op) h
+step_given nodes log s (step.Leaf t) h = leaf_given log s t (leaf_width nodes t) h
 step_given nodes log s (step.Encode t) h = block_given log s t (block_of s.next s.bits (node_at nodes t)) h
 step_given nodes log s (step.Selector a t) h =
     subst (AreGivenIn (log ++ step.Selector a t ∷ [])) (sym (selector_same s a t (s.bits t))) (more_given log (step.Selector a t) s.bits h)
+step_given nodes log s (step.Equal t u) h =
+    subst (AreGivenIn (log ++ step.Equal t u ∷ [])) (sym (equal_same s t u (s.bits t) (s.bits u))) (more_given log (step.Equal t u) s.bits h)
+step_given nodes log s (step.Lemma l) h =
+    subst (AreGivenIn (log ++ step.Lemma l ∷ [])) (sym (lemma_same s (clause_of nodes s.bits s.equals l))) (more_given log (step.Lemma l) s.bits h)
 step_given nodes log s e h = more_given log e s.bits h
 
 steps_given : (nodes : List Node) (before : List Entry) (s : LogState) (log : List Entry) → AreGivenIn before s.bits → AreGivenIn (before ++ log) (state_from nodes s log).bits

@@ -13,7 +13,7 @@ use Rattle.cnf_base.proofs.Lists.{slice_get-longer, slice_get-push, slice_get-pu
 
 -- ---- the step at a position, where one step is added
 
-entry_more : (log : List Entry) (e x : Entry) (p : ℕ) → entry_at log p ≡ Some x → entry_at (log ++ e ∷ []) p ≡ Some x
+pub entry_more : (log : List Entry) (e x : Entry) (p : ℕ) → entry_at log p ≡ Some x → entry_at (log ++ e ∷ []) p ≡ Some x
 entry_more log e x zero h = let q : ⊥ = cc in absurd q
 entry_more log e x (suc p) h = slice_get-longer log (e ∷ []) p x h
 

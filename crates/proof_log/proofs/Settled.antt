@@ -37,6 +37,10 @@ stands_settled nodes l all h =
             subst (λ x. x.variable < l.next) r.2 (subst (λ n. r.0.literal.variable < n) (sym k.next) o.1),
             (λ M. ap (λ x. lit_true (meaning M nodes l.entries) x) (sym r.2) ∙ sound.selectors M a r.0 r.1),
           );
+      equals = λ t u x e.
+          let own = sym (k.equals t u) ∙ e in
+          let o = ordered.equals t u x own in
+          (o.2, o.0, subst (λ n. x.variable < n) (sym k.next) o.1, (λ M. sound.equals M t u x own));
     }
 
 pub valid_stands : (v : TermsValue) (s : LogState) (e : Entry) → IsValid v s e → IsStep (terms_after v e).nodes s e

@@ -1,10 +1,11 @@
 -- Each step keeps the meaning of a log: its clauses are true, bits are those of values, selectors mean their terms.
-use Rattle.std.proofs.Common.{◌≡◌, ℕ, suc, ◌+◌, ◌^◌, ◌<◌, ◌≤◌, Bool, true, false, not, ◌||◌, List, [], ◌∷◌, length, map, Option, Some, None, Ok, refl, sym, ap, ◌∙◌, subst, inl, inr, ⊎_elim, arith}
-use Rattle.std.specs.Prelude.{◌==◌, ◌⊎◌, if◌then◌else◌}
+use Rattle.std.proofs.Common.{◌≡◌, ℕ, suc, ◌+◌, ◌*◌, ◌^◌, ◌<◌, ◌≤◌, Bool, true, false, not, ◌||◌, List, [], ◌∷◌, length, map, Option, Some, None, Ok, refl, sym, ap, ◌∙◌, subst, inl, inr, ⊎_elim, arith}
+use Rattle.std.specs.Prelude.{◌==◌, ◌&&◌, ◌⊎◌, ltb, if◌then◌else◌}
 use Rattle.std.specs.List.{AllByRecursion}
-use Rattle.std.proofs.lemmas.Bool.{eqb-true, and_parts}
-use Rattle.cnf_base.specs.Literals.{Literal, positive_of}
+use Rattle.std.proofs.lemmas.Bool.{eqb-true, eq-eqb, ne_eqb, and_parts}
+use Rattle.cnf_base.specs.Literals.{Literal, positive_of, true_literal}
 use Rattle.cnf_base.specs.Clauses.{lit_true, clause_true, all_true, bit, number}
+use Rattle.cnf_base.specs.Choices.{equal_gates, equal_bit}
 use Rattle.cnf_base.specs.Gates.{gates_clauses}
 use Rattle.cnf_base.specs.Assignments.{AgreeBelow, AreBelow, ClausesBelow, fresh_bits, with_variable, with_number, with_gates}
 use Rattle.cnf_base.proofs.Agreeing.{same_lit_true, same_clause_true, AreBelow-more, AreBelow-fresh_bits}
@@ -12,27 +13,39 @@ use Rattle.cnf_base.proofs.Extending.{with_variable-here, with_variable-agrees, 
 use Rattle.cnf_base.proofs.Meaning.{gates_mean}
 use Rattle.cnf_base.proofs.Rows.{length-fresh_bits}
 use Rattle.cnf_base.proofs.Lists.{each_append}
+use Rattle.cnf_base.proofs.Options.{some_value}
 use Rattle.smt_terms.specs.declared.sort.Sort.{Sort}
 use Rattle.smt_terms.specs.declared.sort.Sort.TheVariants as sort
-use Rattle.smt_terms.specs.declared.node.Op.{Op}
-use Rattle.smt_terms.specs.declared.node.Op.TheVariants.{Plain, Word, Extract, ZeroExtend, SignExtend, RotateLeft, RotateRight, Repeat, ConstantArray, Constant, Apply, Param}
+use Rattle.smt_terms.specs.declared.operator.Operator.TheVariants as plain
+use Rattle.smt_terms.specs.declared.node.Op.TheVariants.{Plain}
 use Rattle.smt_terms.specs.declared.node.Node.{Node}
 use Rattle.smt_terms.specs.Nodes.{node_at}
-use Rattle.smt_terms.specs.Terms.{IsTermList, op_rank, sort_of}
-use Rattle.smt_terms.specs.Values.{Value, VBool, VWord, HasSort, Interpretation, is_true, value}
+use Rattle.smt_terms.specs.Ranks.{is_array}
+use Rattle.smt_terms.specs.Terms.{IsTermList, sort_of}
+use Rattle.smt_terms.specs.Values.{Value, VBool, VWord, HasSort, Interpretation, no_value, is_true, same_value, value}
+use Rattle.smt_terms.proofs.Evaluating.{value_is_evaluation}
 use Rattle.smt_terms.proofs.Typing.{value_is, typed}
-use Rattle.bit_blast.specs.Circuits.{built}
+use Rattle.bit_blast.specs.Circuits.{Makes, Lacks, built, equality}
 use Rattle.bit_blast.specs.Blocks.{Block, with_first, all_bits, block_over, block_of, circuit_of}
 use Rattle.bit_blast.specs.Meanings.{AreBitsOf, EachIsBits}
-use Rattle.bit_blast.proofs.Correct.{word_sort_is}
+use Rattle.bit_blast.proofs.Compared.{equal_means}
 use Rattle.bit_blast.proofs.Table.{op_correct}
 use Rattle.bit_blast.proofs.Ordered.{op_ordered}
 use Rattle.bit_blast.proofs.Fixing.{same_bits}
 use Rattle.hint_chain.proofs.Sound.{IsChain-follows}
+use Rattle.theory_terms.specs.declared.shape.Shape.{Shape}
+use Rattle.theory_terms.specs.declared.shape.Shape.TheVariants.{Selecting as SelectingShape, Storing, Filling, Choosing, Equating as EquatingShape, Witnessing, Applying, Declaring, Other}
+use Rattle.theory_terms.specs.declared.lemma.Lemma.{Lemma}
+use Rattle.theory_terms.specs.Shapes.{shape_at}
+use Rattle.theory_terms.proofs.Shapes.{FactsOf, facts}
+use Rattle.theory_lemmas.specs.Clauses.{clause_of, Means}
+use Rattle.theory_lemmas.proofs.Below.{clause_below}
+use Rattle.theory_lemmas.proofs.Literals.{clause_sound}
 use Rattle.proof_log.specs.declared.entry.Entry.{Entry}
 use Rattle.proof_log.specs.declared.entry.Entry.TheVariants as step
-use Rattle.proof_log.specs.Logs.{Asserted, LogState, start, clause_at, with_value, with_row, plain_width, constant_width, IsStep, leaf_after, block_after, selector_clause, selector_after, after, state_from, state_of, AreSteps, IsLog}
-use Rattle.proof_log.specs.Meanings.{bits_number, leaf_mean, block_mean, mean_after, mean_from, meaning, LogIsSound}
+use Rattle.proof_log.specs.Pairs.{with_pair}
+use Rattle.proof_log.specs.Logs.{Asserted, LogState, start, clause_at, with_value, with_row, plain_width, width_by, leaf_width, IsStep, leaf_after, block_after, selector_clause, selector_after, equal_after, lemma_after, after, state_from, state_of, AreSteps, IsLog}
+use Rattle.proof_log.specs.Meanings.{bits_number, leaf_mean, block_mean, equal_mean, mean_after, mean_from, meaning, LogIsSound}
 use Rattle.proof_log.proofs.Growing.{clause_each}
 
 -- a clause that is true, and of variables that there are
@@ -69,6 +82,17 @@ with_value_cases {A} h x a y b e = go (y == x) refl
         inl (eqb-true y x q, r)
     go false q = inr (subst (λ c. (if c then Some a else h y) ≡ Some b) q e)
 
+pub pair_cases : {A : Type 0} (f : ℕ → ℕ → Option A) (t u : ℕ) (a : A) (x y : ℕ) (b : A) → with_pair f t u a x y ≡ Some b → ((x ≡ t) × (y ≡ u) × (a ≡ b)) ⊎ (f x y ≡ Some b)
+pair_cases {A} f t u a x y b e = go ((x == t) && (y == u)) refl
+  where
+    go : (c : Bool) → ((x == t) && (y == u)) ≡ c → ((x ≡ t) × (y ≡ u) × (a ≡ b)) ⊎ (f x y ≡ Some b)
+    go true q =
+        let both = and_parts (x == t) (y == u) q in
+        let p : Some a ≡ Some b = subst (λ c. (if c then Some a else f x y) ≡ Some b) q e in
+        let r : a ≡ b = cc in
+        inl (eqb-true x t both.0, eqb-true y u both.1, r)
+    go false q = inr (subst (λ c. (if c then Some a else f x y) ≡ Some b) q e)
+
 -- ---- the meaning suits the log
 
 -- the bits of each term are of variables that there are, and those of its value
@@ -78,6 +102,16 @@ Known n f bits sorts values = (t : ℕ) (b : List Literal) → bits t ≡ Some b
 abbrev pub Selecting : ℕ → (ℕ → Bool) → (ℕ → Option Asserted) → (ℕ → Value) → Type 0
 Selecting n f selectors values = (a : ℕ) (r : Asserted) → selectors a ≡ Some r → (r.literal.variable < n) × (lit_true f r.literal ≡ is_true (values r.term))
 
+-- the literal of an equality is a variable, and tells whether two values are the same, whichever is named first
+pub record Equates (n : ℕ) (f : ℕ → Bool) (v w : Value) (l : Literal) : Type 0 where
+  pub positive : l.positive ≡ true
+  pub below : l.variable < n
+  pub means : lit_true f l ≡ same_value v w
+  pub back : lit_true f l ≡ same_value w v
+
+abbrev pub Equating : ℕ → (ℕ → Bool) → (ℕ → ℕ → Option Literal) → (ℕ → Value) → Type 0
+Equating n f equals values = (t u : ℕ) (l : Literal) → equals t u ≡ Some l → Equates n f (values t) (values u) l
+
 pub record Suits (M : Interpretation) (nodes : List Node) (s : LogState) (f : ℕ → Bool) : Type 0 where
   pub one : f 1 ≡ true
   pub next : 1 < s.next
@@ -85,6 +119,7 @@ pub record Suits (M : Interpretation) (nodes : List Node) (s : LogState) (f : �
   pub terms : (t : ℕ) (b : List Literal) → s.bits t ≡ Some b → t < length nodes
   pub bits : Known s.next f s.bits (sort_of nodes) (value M nodes)
   pub selectors : Selecting s.next f s.selectors (value M nodes)
+  pub equals : Equating s.next f s.equals (value M nodes)
 
 known_keeps : (n m : ℕ) (f g : ℕ → Bool) → AgreeBelow n f g → n ≤ m → (bits : ℕ → Option (List Literal)) (sorts : ℕ → Sort) (values : ℕ → Value) → Known n f bits sorts values → Known m g bits sorts values
 known_keeps n m f g a le bits sorts values h t b e =
@@ -112,6 +147,20 @@ selecting_more m g selectors values x new h below means y r e =
     (λ p. h y r p)
     (with_value_cases selectors x new y r e)
 
+equating_keeps : (n m : ℕ) (f g : ℕ → Bool) → AgreeBelow n f g → n ≤ m → (equals : ℕ → ℕ → Option Literal) (values : ℕ → Value) → Equating n f equals values → Equating m g equals values
+equating_keeps n m f g a le equals values h t u l e =
+    let k = h t u l e in
+    let below = k.below in
+    let same = same_lit_true n f g a l k.below in
+    record { positive = k.positive; below = omega (arith, below, le); means = same ∙ k.means; back = same ∙ k.back }
+
+equating_more : (m : ℕ) (g : ℕ → Bool) (equals : ℕ → ℕ → Option Literal) (values : ℕ → Value) (t u : ℕ) (new : Literal) → Equating m g equals values → Equates m g (values t) (values u) new → Equating m g (with_pair equals t u new) values
+equating_more m g equals values t u new h own x y l e =
+    ⊎_elim
+    (λ p. subst (λ k. Equates m g (values x) (values y) k) p.2 (subst (λ z. Equates m g (values x) (values z) new) (sym p.1) (subst (λ z. Equates m g (values z) (values u) new) (sym p.0) own)))
+    (λ p. h x y l p)
+    (pair_cases equals t u new x y l e)
+
 -- one position more whose clauses are true
 row_suits : (M : Interpretation) (nodes : List Node) (s : LogState) (f : ℕ → Bool) (row : List (List Literal)) → Suits M nodes s f → AreTrueBelow s.next f row → Suits M nodes (with_row s row) f
 row_suits M nodes s f row h k = record {
@@ -121,6 +170,7 @@ row_suits M nodes s f row h k = record {
   terms = h.terms;
   bits = h.bits;
   selectors = h.selectors;
+  equals = h.equals;
 }
 
 -- ---- leaves
@@ -153,32 +203,62 @@ fresh_means f g n (sort.Word m) v e h =
     (subst (λ w. AreBitsOf (with_number f g m (bits_number w)) (sort.Word m) (fresh_bits g m) w) (sym h.1) is)
 fresh_means f g n (sort.Array m k) v e h = let q : ⊥ = cc in absurd q
 
--- a declared constant has its own sort
-given_sort : (d : ℕ) (t s : Sort) (n : ℕ) → op_rank (Constant d t) [] ≡ Ok s → plain_width t ≡ Some n → s ≡ t
-given_sort d sort.Bool s n e w = let q : sort.Bool ≡ s = cc in sym q
-given_sort d (sort.Word m) s n e w = word_sort_is m s e
-given_sort d (sort.Array m k) s n e w = let q : ⊥ = cc in absurd q
+-- an interpretation
+some_interpretation : Interpretation
+some_interpretation = record { constants = λ d. no_value; functions = λ d vs. no_value }
 
-no_argument : (d : ℕ) (t s : Sort) (ss : List Sort) → op_rank (Constant d t) ss ≡ Ok s → ss ≡ []
-no_argument d t s [] e = refl
-no_argument d t s (x ∷ ss) e = let q : ⊥ = cc in absurd q
+one_bit : (c : Bool) (n : ℕ) → (let o : Option ℕ = if c then Some 1 else None in o) ≡ Some n → 1 ≡ n
+one_bit true n e = cc
+one_bit false n e = let q : ⊥ = cc in absurd q
 
-pub leaf_sort : (op : Op) (ss : List Sort) (s : Sort) (n : ℕ) → op_rank op ss ≡ Ok s → constant_width op ≡ Some n → plain_width s ≡ Some n
-leaf_sort (Constant d t) ss s n e w =
-    let none = no_argument d t s ss e in
-    let own = given_sort d t s n (subst (λ xs. op_rank (Constant d t) xs ≡ Ok s) none e) w in
-    subst (λ u. plain_width u ≡ Some n) (sym own) w
-leaf_sort (Plain o) ss s n e w = let q : ⊥ = cc in absurd q
-leaf_sort (Word m x) ss s n e w = let q : ⊥ = cc in absurd q
-leaf_sort (Extract i j) ss s n e w = let q : ⊥ = cc in absurd q
-leaf_sort (ZeroExtend i) ss s n e w = let q : ⊥ = cc in absurd q
-leaf_sort (SignExtend i) ss s n e w = let q : ⊥ = cc in absurd q
-leaf_sort (RotateLeft i) ss s n e w = let q : ⊥ = cc in absurd q
-leaf_sort (RotateRight i) ss s n e w = let q : ⊥ = cc in absurd q
-leaf_sort (Repeat i) ss s n e w = let q : ⊥ = cc in absurd q
-leaf_sort (ConstantArray k) ss s n e w = let q : ⊥ = cc in absurd q
-leaf_sort (Apply d t) ss s n e w = let q : ⊥ = cc in absurd q
-leaf_sort (Param k t) ss s n e w = let q : ⊥ = cc in absurd q
+-- a leaf gives a term as many bits as its sort has
+pub leaf_sort : (nodes : List Node) (t n : ℕ) → IsTermList nodes → leaf_width nodes t ≡ Some n → plain_width (sort_of nodes t) ≡ Some n
+leaf_sort nodes t n all w = go (shape_at nodes t) (facts some_interpretation nodes (value some_interpretation nodes) all (value_is_evaluation some_interpretation nodes all) t) w
+  where
+    go : (k : Shape) → FactsOf some_interpretation (sort_of nodes) (value some_interpretation nodes) t (node_at nodes t) k → width_by nodes t k ≡ Some n → plain_width (sort_of nodes t) ≡ Some n
+    go (Declaring d q) h e = ap plain_width h.sort ∙ e
+    go (SelectingShape a i) h e = e
+    go (Witnessing a b) h e = e
+    go (Applying d) h e = e
+    go (EquatingShape a b) h e = ap plain_width h.sort ∙ ap Some (one_bit (ltb a t && is_array (sort_of nodes a)) n e)
+    go (Storing a i x) h e = let q : ⊥ = cc in absurd q
+    go (Filling x) h e = let q : ⊥ = cc in absurd q
+    go (Choosing c a b) h e = let q : ⊥ = cc in absurd q
+    go Other h e = let q : ⊥ = cc in absurd q
+
+-- ---- equalities
+
+both_bits : (p q : Bool) → ((bit p + 2 * 0) == (bit q + 2 * 0)) ≡ (if p then q else not q)
+both_bits true true = refl
+both_bits true false = refl
+both_bits false true = refl
+both_bits false false = refl
+
+-- rows of the bits of two values of one sort are of one length, and equal where the values are
+rows_agree : (v : ℕ → Bool) (s : Sort) (a c : List Literal) (x y : Value) → AreBitsOf v s a x → AreBitsOf v s c y → (length a ≡ length c) × ((number v a == number v c) ≡ same_value x y)
+rows_agree v sort.Bool a c x y p q =
+    let l = p.0 in
+    let m = q.0 in
+    (ap length p.1 ∙ sym (ap length q.1), rw (p.1, q.1, p.2, q.2) (both_bits (lit_true v l) (lit_true v m)))
+rows_agree v (sort.Word n) a c x y p q =
+    (p.0 ∙ sym q.0, rw (p.1, q.1) (sym (ap (λ b. b && (number v a == number v c)) (eq-eqb n n refl))))
+rows_agree v (sort.Array n m) a c x y p q = absurd p
+
+-- the circuit of `=` over rows of one length
+equal_built : (g : ℕ) (a b : List Literal) → length a ≡ length b → built (circuit_of (Plain plain.Equal)) g (a ∷ b ∷ []) ≡ Some (equality a b g)
+equal_built g a b same = ap (λ t. built (if t then Makes (equality a b) else Lacks) g []) (eq-eqb (length a) (length b) same)
+
+equal_positive : (g : ℕ) (e : Literal) (a b : List Literal) → e.positive ≡ true → (equal_bit g e a b).positive ≡ true
+equal_positive g e [] b p = p
+equal_positive g e (x ∷ a) [] p = p
+equal_positive g e (x ∷ a) (y ∷ b) p = equal_positive (suc (suc g)) (positive_of (suc g)) a b refl
+
+pub eqb_flip : (t u : ℕ) → (t == u) ≡ (u == t)
+eqb_flip t u = go (u == t) refl
+  where
+    go : (b : Bool) → (u == t) ≡ b → (t == u) ≡ b
+    go true h = eq-eqb t u (sym (eqb-true u t h))
+    go false h = ne_eqb t u (λ e. let p : (u == t) ≡ true = eq-eqb u t (sym e) in let q : ⊥ = cc in q)
 
 -- the rows of the arguments of a block
 pub block_rows : (s : LogState) (n : Node) (b : Block) → block_of s.next s.bits n ≡ Some b → (rows : List (List Literal)) × (all_bits s.bits n.args ≡ Some rows) × (built (circuit_of n.op) s.next rows ≡ Some b)
@@ -206,6 +286,7 @@ module _ (M : Interpretation) (nodes : List Node) (all : IsTermList nodes) where
             (known_keeps s.next (s.next + n) f g a le s.bits (sort_of nodes) (value M nodes) h.bits)
             (AreBelow-fresh_bits n s.next) is;
         selectors = selecting_keeps s.next (s.next + n) f g a le s.selectors (value M nodes) h.selectors;
+        equals = equating_keeps s.next (s.next + n) f g a le s.equals (value M nodes) h.equals;
       }
 
   -- ---- circuits
@@ -256,6 +337,7 @@ module _ (M : Interpretation) (nodes : List Node) (all : IsTermList nodes) where
         terms = terms_more nodes s.bits t b.bits h.terms within;
         bits = known_more m g s.bits (sort_of nodes) (value M nodes) t b.bits known ordered.1 (subst (AreBitsOf g (sort_of nodes t) b.bits) (sym (value_is M nodes t term)) is);
         selectors = selecting_keeps s.next m f g a le s.selectors (value M nodes) h.selectors;
+        equals = equating_keeps s.next m f g a le s.equals (value M nodes) h.equals;
       }
 
   -- ---- selectors
@@ -288,14 +370,75 @@ module _ (M : Interpretation) (nodes : List Node) (all : IsTermList nodes) where
         selectors =
             selecting_more (suc s.next) g s.selectors (value M nodes) x (record { literal = positive_of s.next; term = t })
             (selecting_keeps s.next (suc s.next) f g a le s.selectors (value M nodes) h.selectors) own here;
+        equals = equating_keeps s.next (suc s.next) f g a le s.equals (value M nodes) h.equals;
       }
+
+  -- ---- equalities
+
+  equal_suits : (s : LogState) (f : ℕ → Bool) (t u : ℕ) (a b : List Literal) → Suits M nodes s f → sort_of nodes t ≡ sort_of nodes u → s.bits t ≡ Some a → s.bits u ≡ Some b
+      → Suits M nodes (equal_after s t u (Some a) (Some b)) (with_gates f s.next (equal_gates s.next true_literal a b))
+  equal_suits s f t u a b h same e k =
+      let gates = equal_gates s.next true_literal a b in
+      let g = with_gates f s.next gates in
+      let m = s.next + length gates in
+      let agree : AgreeBelow s.next f (with_gates f s.next (equal_gates s.next true_literal a b)) = with_gates-agrees (equal_gates s.next true_literal a b) f s.next in
+      let le : s.next ≤ s.next + length (equal_gates s.next true_literal a b) = omega arith in
+      let known = known_keeps s.next m f g agree le s.bits (sort_of nodes) (value M nodes) h.bits in
+      let p = (known t a e).1 in
+      let q = subst (λ w. AreBitsOf g w b (value M nodes u)) (sym same) (known u b k).1 in
+      let there = rows_agree g (sort_of nodes t) a b (value M nodes t) (value M nodes u) p q in
+      let back = rows_agree g (sort_of nodes t) b a (value M nodes u) (value M nodes t) q p in
+      let ordered = op_ordered s.next (Plain plain.Equal) (a ∷ b ∷ []) (equality a b s.next) h.next ((h.bits t a e).0, ((h.bits u b k).0, tt)) (equal_built s.next a b there.0) in
+      let have = with_gates-mean gates f s.next ordered.0 in
+      let one = agree 1 h.next ∙ h.one in
+      let means = equal_means g s.next one a b there.0 have in
+      record {
+        one = one;
+        next = omega (arith, h.next);
+        clauses =
+            each_append (AreTrueBelow m g) s.clauses (gates_clauses s.next gates ∷ [])
+            (rows_keep s.next m f g agree le s.clauses h.clauses)
+            (row_of_both m g (gates_clauses s.next gates) ((gates_mean g s.next gates).1 have) (gates_clauses-below gates s.next ordered.0), tt);
+        terms = h.terms;
+        bits = known;
+        selectors = selecting_keeps s.next m f g agree le s.selectors (value M nodes) h.selectors;
+        equals =
+            equating_more m g s.equals (value M nodes) t u (equal_bit s.next true_literal a b)
+            (equating_keeps s.next m f g agree le s.equals (value M nodes) h.equals)
+            (record {
+              positive = equal_positive s.next true_literal a b refl;
+              below = ordered.1.0;
+              means = means ∙ there.1;
+              back = means ∙ eqb_flip (number g a) (number g b) ∙ back.1;
+            });
+      }
+
+  -- ---- lemmas
+
+  bit_means : (s : LogState) (f : ℕ → Bool) (t : ℕ) (l : Literal) → Suits M nodes s f → sort_of nodes t ≡ sort.Bool → s.bits t ≡ Some (l ∷ []) → lit_true f l ≡ is_true (value M nodes t)
+  bit_means s f t l h bool e =
+      let means = subst (λ w. AreBitsOf f w (l ∷ []) (value M nodes t)) bool (h.bits t (l ∷ []) e).1 in
+      let same : l ≡ means.0 = let q = means.1 in cc in
+      ap (lit_true f) same ∙ sym (ap is_true means.2)
+
+  lemma_suits : (s : LogState) (f : ℕ → Bool) (l : Lemma) (c : List Literal) → Suits M nodes s f → clause_of nodes s.bits s.equals l ≡ Ok c → Suits M nodes (with_row s (c ∷ [])) f
+  lemma_suits s f l c h e =
+      let means : Means f (sort_of nodes) (value M nodes) s.bits s.equals = record {
+        top = h.one;
+        bit = λ t k bool q. bit_means s f t k h bool q;
+        equal = λ t u k q. (h.equals t u k q).means;
+        back = λ t u k q. (h.equals t u k q).back;
+      } in
+      let holds = clause_sound f M nodes s.bits s.equals l c all means e in
+      let below = clause_below s.next s.bits s.equals h.next (λ t b q. (h.bits t b q).0) (λ t u k q. (h.equals t u k q).below) nodes l c e in
+      row_suits M nodes s f (c ∷ []) h ((holds, below), tt)
 
   -- ---- all steps
 
   pub step_suits : (s : LogState) (f : ℕ → Bool) (e : Entry) → Suits M nodes s f → IsStep nodes s e → Suits M nodes (after nodes s e) (mean_after M nodes s f e)
   step_suits s f (step.Node n) h i = row_suits M nodes s f [] h tt
   step_suits s f (step.Leaf t) h i =
-      let w = leaf_sort (node_at nodes t).op (map (sort_of nodes) (node_at nodes t).args) (sort_of nodes t) i.width (all t i.term).rank i.constant in
+      let w = leaf_sort nodes t i.width all i.constant in
       subst (λ o. Suits M nodes (leaf_after s t o) (leaf_mean f s.next o (value M nodes t))) (sym i.constant)
       (leaf_suits s f t i.width h i.term w)
   step_suits s f (step.Encode t) h i =
@@ -307,7 +450,16 @@ module _ (M : Interpretation) (nodes : List Node) (all : IsTermList nodes) where
   step_suits s f (step.Chain c hints) h i =
       let holds = IsChain-follows (clause_at s.clauses) c hints i.1 f (λ k d among e. (clause_each (IsTrueBelow s.next f) s.clauses k d h.clauses e).0) in
       row_suits M nodes s f (c ∷ []) h ((holds, i.0), tt)
-  step_suits s f e h i = absurd i
+  step_suits s f (step.Equal t u) h i =
+      let a = some_value (s.bits t) i.pair.left in
+      let b = some_value (s.bits u) i.pair.right in
+      subst (λ o. Suits M nodes (equal_after s t u o (s.bits u)) (equal_mean f s.next o (s.bits u))) (sym a.1)
+      (subst (λ o. Suits M nodes (equal_after s t u (Some a.0) o) (equal_mean f s.next (Some a.0) o)) (sym b.1)
+      (equal_suits s f t u a.0 b.0 h i.pair.sort a.1 b.1))
+  step_suits s f (step.Lemma l) h i =
+      subst (λ o. Suits M nodes (lemma_after s o) f) (sym i.is)
+      (lemma_suits s f l i.clause h i.is)
+  step_suits s f (step.Rewrite r) h i = absurd i
 
   pub run_suits : (s : LogState) (f : ℕ → Bool) (log : List Entry) → Suits M nodes s f → AreSteps nodes s log → Suits M nodes (state_from nodes s log) (mean_from M nodes s f log)
   run_suits s f [] h i = h
@@ -321,6 +473,7 @@ module _ (M : Interpretation) (nodes : List Node) (all : IsTermList nodes) where
     terms = λ t b e. let q : ⊥ = cc in absurd q;
     bits = λ t b e. let q : ⊥ = cc in absurd q;
     selectors = λ x t e. let q : ⊥ = cc in absurd q;
+    equals = λ t u l e. let q : ⊥ = cc in absurd q;
   }
 
   pub log_suits : (log : List Entry) → IsLog nodes log → Suits M nodes (state_of nodes log) (meaning M nodes log)
@@ -331,4 +484,5 @@ log_is_sound nodes log all i = record {
   clauses = λ id c e M. let h = log_suits M nodes all log i in (clause_each (IsTrueBelow (state_of nodes log).next (meaning M nodes log)) (state_of nodes log).clauses id c h.clauses e).0;
   bits = λ M t b e. ((log_suits M nodes all log i).bits t b e).1;
   selectors = λ M a r e. ((log_suits M nodes all log i).selectors a r e).1;
+  equals = λ M t u l e. ((log_suits M nodes all log i).equals t u l e).means;
 }

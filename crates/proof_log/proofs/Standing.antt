@@ -1,14 +1,16 @@
 -- What a stored log stands for, before and after a step.
-use Rattle.std.proofs.Common.{◌≡◌, ℕ, suc, ◌+◌, ◌<◌, ◌≤◌, Bool, true, false, List, [], ◌∷◌, ◌++◌, length, take, drop, Option, Some, None, refl, sym, ap, ◌∙◌, subst, arith, length-append}
-use Rattle.std.specs.Prelude.{◌==◌, if◌then◌else◌}
-use Rattle.std.proofs.lemmas.Bool.{eqb-true, eq-eqb, ne_eqb}
+use Rattle.std.proofs.Common.{◌≡◌, ℕ, suc, ◌+◌, ◌<◌, ◌≤◌, Bool, true, false, List, [], ◌∷◌, ◌++◌, length, take, drop, Option, Some, None, Ok, refl, sym, ap, ◌∙◌, subst, ⊎_elim, arith, length-append}
+use Rattle.std.specs.Prelude.{◌==◌, ◌&&◌, if◌then◌else◌}
+use Rattle.std.proofs.lemmas.Bool.{eq-eqb, ne_eqb}
 use Rattle.std.proofs.lemmas.List.{take-append-drop, take-append-le}
 use Rattle.std.proofs.Math.Seq.{take-length}
-use Rattle.cnf_base.specs.Literals.{Literal, positive_of}
+use Rattle.cnf_base.specs.Literals.{Literal, positive_of, true_literal}
+use Rattle.cnf_base.specs.Choices.{equal_gates, equal_bit}
 use Rattle.cnf_base.specs.Assignments.{AreBelow, fresh_bits}
 use Rattle.cnf_base.specs.Gates.{gates_clauses}
 use Rattle.cnf_base.specs.declared.clause.ClauseId.{ClauseId}
 use Rattle.cnf_base.proofs.Lists.{each_append}
+use Rattle.cnf_base.proofs.Options.{some_value}
 use Rattle.smt_terms.specs.declared.sort.Sort.{Sort}
 use Rattle.smt_terms.specs.declared.sort.Sort.TheVariants as sort
 use Rattle.smt_terms.specs.declared.node.Node.{Node}
@@ -19,12 +21,17 @@ use Rattle.smt_terms.specs.Bits.{TermBits, bits_in, with_bits}
 use Rattle.smt_terms.proofs.Widths.{sort_bounded}
 use Rattle.bit_blast.specs.Blocks.{Block, block_of, EachShort}
 use Rattle.bit_blast.specs.Meanings.{AreBitsOf}
+use Rattle.theory_terms.specs.declared.lemma.Lemma.{Lemma}
+use Rattle.theory_lemmas.specs.Clauses.{clause_of}
+use Rattle.proof_log.specs.declared.equals.EqualRow.{EqualRow}
 use Rattle.proof_log.specs.declared.entry.Entry.{Entry}
 use Rattle.proof_log.specs.declared.entry.Entry.TheVariants as step
-use Rattle.proof_log.specs.Logs.{Asserted, LogState, start, clause_at, with_value, with_row, selector_clause, plain_width, constant_width, IsStep, leaf_after, block_after, selector_after, after, state_of, IsLog}
+use Rattle.proof_log.specs.Pairs.{found, with_pair}
+use Rattle.proof_log.specs.Logs.{Asserted, LogState, start, clause_at, entry_at, with_value, with_row, selector_clause, plain_width, leaf_width, IsStep, IsPair, leaf_after, block_after, selector_after, equal_after, lemma_after, after, state_of, IsLog}
 use Rattle.proof_log.specs.Meanings.{meaning, IsSound}
-use Rattle.proof_log.specs.Stored.{LogValue, selector_in, literal_of, IsKept, Stands, clauses_of, with_leaf, with_block, with_plain, IsSelected}
-use Rattle.proof_log.proofs.Sound.{log_suits, leaf_sort, log_is_sound}
+use Rattle.proof_log.specs.Stored.{LogValue, selector_in, literal_of, row_literal, equal_in, IsKept, Stands, clauses_of, with_leaf, with_block, with_lemma, with_plain, HaveEqualBits, IsPairedBy, IsSelected}
+use Rattle.proof_log.proofs.Placing.{entry_more, entry_last}
+use Rattle.proof_log.proofs.Sound.{eqb_flip, pair_cases, log_suits, leaf_sort, log_is_sound}
 use Rattle.proof_log.proofs.Staying.{state_from-append, steps_append, same_state, steps_longer}
 use Rattle.proof_log.proofs.Ordered.{any_interpretation, log_is_ordered}
 
@@ -53,6 +60,8 @@ kept_longer nodes more l k =
       next = k.next ∙ ap (λ s. s.next) e;
       bits = λ t. k.bits t ∙ ap (λ s. s.bits t) e;
       selectors = λ a. k.selectors a ∙ ap (λ s. literal_of (s.selectors a)) e;
+      equals = λ t u. k.equals t u ∙ ap (λ s. s.equals t u) e;
+      pairs = k.pairs;
       clauses = k.clauses ∙ ap (λ s. s.clauses) e;
       short = k.short;
     }
@@ -97,19 +106,12 @@ bits_short nodes log t b all i e =
     let h = log_suits any_interpretation nodes all log i in
     width_small (sort_of nodes t) (length b) (sort_bounded nodes all t (h.terms t b e)) (bits_width nodes log t b all i e)
 
--- a declared constant has 128 bits at most
-pub leaf_small : (nodes : List Node) (t n : ℕ) → IsTermList nodes → t < length nodes → constant_width (node_at nodes t).op ≡ Some n → n ≤ 128
+-- a leaf has 128 bits at most
+pub leaf_small : (nodes : List Node) (t n : ℕ) → IsTermList nodes → t < length nodes → leaf_width nodes t ≡ Some n → n ≤ 128
 leaf_small nodes t n all within e =
-    width_small (sort_of nodes t) n (sort_bounded nodes all t within) (leaf_sort (node_at nodes t).op _ (sort_of nodes t) n (all t within).rank e)
+    width_small (sort_of nodes t) n (sort_bounded nodes all t within) (leaf_sort nodes t n all e)
 
 -- ---- one step more
-
-eqb_flip : (t u : ℕ) → (t == u) ≡ (u == t)
-eqb_flip t u = go (u == t) refl
-  where
-    go : (b : Bool) → (u == t) ≡ b → (t == u) ≡ b
-    go true h = eq-eqb t u (sym (eqb-true u t h))
-    go false h = ne_eqb t u (λ e. let p : (u == t) ≡ true = eq-eqb u t (sym e) in let q : ⊥ = cc in q)
 
 -- a term's new bits are the last
 bits_more : (held : List TermBits) (t : ℕ) (row : List Literal) (u : ℕ) → bits_in held t ≡ None → bits_in (with_bits held t row) u ≡ with_value (bits_in held) t row u
@@ -136,20 +138,32 @@ pub record Matches (l : LogValue) (s : LogState) : Type 0 where
   pub next : l.next ≡ s.next
   pub bits : (t : ℕ) → bits_in l.bits t ≡ s.bits t
   pub selectors : (a : ℕ) → selector_in l.selectors a ≡ literal_of (s.selectors a)
+  pub equals : (t u : ℕ) → equal_in l.equals t u ≡ s.equals t u
   pub clauses : l.clauses ≡ s.clauses
+
+-- each equality that is kept stands at its position
+abbrev pub ArePairs : LogValue → Type 0
+ArePairs l = (t u : ℕ) (r : EqualRow) → found l.equals t u ≡ Some r → entry_at l.entries r.place ≡ Some (step.Equal t u)
+
+-- one step more leaves them
+pairs_longer : (l new : LogValue) (e : Entry) → new.entries ≡ l.entries ++ e ∷ [] → new.equals ≡ l.equals → ArePairs l → ArePairs new
+pairs_longer l new e more same h t u r q =
+    ap (λ es. entry_at es r.place) more ∙ entry_more l.entries e (step.Equal t u) r.place (h t u r (sym (ap (λ f. found f t u) same) ∙ q))
 
 goes_on : (nodes : List Node) (log : List Entry) (e : Entry) → state_of nodes (log ++ e ∷ []) ≡ after nodes (state_of nodes log) e
 goes_on nodes log e = state_from-append nodes start log (e ∷ [])
 
 -- a step that is kept with what it leaves
-kept_after : (nodes : List Node) (l new : LogValue) (e : Entry) → IsKept nodes l → IsStep nodes (state_of nodes l.entries) e → new.entries ≡ l.entries ++ e ∷ [] → Matches new (after nodes (state_of nodes l.entries) e) → EachShort new.bits → IsKept nodes new
-kept_after nodes l new e k i ee m short =
+kept_after : (nodes : List Node) (l new : LogValue) (e : Entry) → IsKept nodes l → IsStep nodes (state_of nodes l.entries) e → new.entries ≡ l.entries ++ e ∷ [] → ArePairs new → Matches new (after nodes (state_of nodes l.entries) e) → EachShort new.bits → IsKept nodes new
+kept_after nodes l new e k i ee pairs m short =
     let g : after nodes (state_of nodes l.entries) e ≡ state_of nodes new.entries = sym (ap (state_of nodes) ee ∙ goes_on nodes l.entries e) in
     record {
       steps = subst (IsLog nodes) (sym ee) (steps_append nodes start l.entries (e ∷ []) k.steps (i, tt));
       next = m.next ∙ ap (λ s. s.next) g;
       bits = λ t. m.bits t ∙ ap (λ s. s.bits t) g;
       selectors = λ a. m.selectors a ∙ ap (λ s. literal_of (s.selectors a)) g;
+      equals = λ t u. m.equals t u ∙ ap (λ s. s.equals t u) g;
+      pairs = pairs;
       clauses = m.clauses ∙ ap (λ s. s.clauses) g;
       short = short;
     }
@@ -162,23 +176,24 @@ new_short nodes l e t row all k i b =
 
 pub kept_plain : (nodes : List Node) (l : LogValue) (e : Entry) → IsKept nodes l → IsStep nodes (state_of nodes l.entries) e → after nodes (state_of nodes l.entries) e ≡ with_row (state_of nodes l.entries) (clauses_of e []) → IsKept nodes (with_plain l (length nodes) e)
 kept_plain nodes l e k i a =
-    kept_after nodes l (with_plain l (length nodes) e) e k i refl
-    (subst (Matches (with_plain l (length nodes) e)) (sym a) (record { next = k.next; bits = k.bits; selectors = k.selectors; clauses = ap (λ cs. cs ++ clauses_of e [] ∷ []) k.clauses }))
+    kept_after nodes l (with_plain l (length nodes) e) e k i refl (pairs_longer l (with_plain l (length nodes) e) e refl refl k.pairs)
+    (subst (Matches (with_plain l (length nodes) e)) (sym a) (record { next = k.next; bits = k.bits; selectors = k.selectors; equals = k.equals; clauses = ap (λ cs. cs ++ clauses_of e [] ∷ []) k.clauses }))
     k.short
 
-pub kept_leaf : (nodes : List Node) (l : LogValue) (t n : ℕ) → IsTermList nodes → IsKept nodes l → IsStep nodes (state_of nodes l.entries) (step.Leaf t) → constant_width (node_at nodes t).op ≡ Some n → IsKept nodes (with_leaf l (length nodes) t n)
+pub kept_leaf : (nodes : List Node) (l : LogValue) (t n : ℕ) → IsTermList nodes → IsKept nodes l → IsStep nodes (state_of nodes l.entries) (step.Leaf t) → leaf_width nodes t ≡ Some n → IsKept nodes (with_leaf l (length nodes) t n)
 kept_leaf nodes l t n all k i w =
     let s = state_of nodes l.entries in
-    let goes : leaf_after (state_of nodes l.entries) t (Some n) ≡ leaf_after (state_of nodes l.entries) t (constant_width (node_at nodes t).op) = ap (leaf_after s t) (sym w) in
+    let goes : leaf_after (state_of nodes l.entries) t (Some n) ≡ leaf_after (state_of nodes l.entries) t (leaf_width nodes t) = ap (leaf_after s t) (sym w) in
     let here : (after nodes (state_of nodes l.entries) (step.Leaf t)).bits t ≡ Some (fresh_bits (state_of nodes l.entries).next n) = ap (λ r. r.bits t) (sym goes) ∙ value_here s.bits t (fresh_bits s.next n) in
     let none : bits_in l.bits t ≡ None = k.bits t ∙ i.new in
     let new = with_leaf l (length nodes) t n in
     let row : fresh_bits l.next n ≡ fresh_bits (state_of nodes l.entries).next n = ap (λ x. fresh_bits x n) k.next in
-    kept_after nodes l (with_leaf l (length nodes) t n) (step.Leaf t) k i refl
+    kept_after nodes l (with_leaf l (length nodes) t n) (step.Leaf t) k i refl (pairs_longer l (with_leaf l (length nodes) t n) (step.Leaf t) refl refl k.pairs)
     (subst (Matches new) goes (record {
       next = ap (λ x. x + n) k.next;
       bits = λ u. bits_more l.bits t (fresh_bits l.next n) u none ∙ same_value (bits_in l.bits) s.bits t (fresh_bits l.next n) u (k.bits u) ∙ ap (λ r. with_value s.bits t r u) row;
       selectors = k.selectors;
+      equals = k.equals;
       clauses = ap (λ cs. cs ++ [] ∷ []) k.clauses;
     }))
     (short_more l.bits t (fresh_bits l.next n) k.short (subst (λ r. length r ≤ 128) (sym row) (new_short nodes l (step.Leaf t) t _ all k i here)))
@@ -189,11 +204,12 @@ kept_block nodes l t b all k i w =
     let goes : block_after (state_of nodes l.entries) t (Some b) ≡ block_after (state_of nodes l.entries) t (block_of (state_of nodes l.entries).next (state_of nodes l.entries).bits (node_at nodes t)) = ap (block_after s t) (sym w) in
     let here : (after nodes (state_of nodes l.entries) (step.Encode t)).bits t ≡ Some b.bits = ap (λ r. r.bits t) (sym goes) ∙ value_here s.bits t b.bits in
     let none : bits_in l.bits t ≡ None = k.bits t ∙ i.new in
-    kept_after nodes l (with_block l (length nodes) t b) (step.Encode t) k i refl
+    kept_after nodes l (with_block l (length nodes) t b) (step.Encode t) k i refl (pairs_longer l (with_block l (length nodes) t b) (step.Encode t) refl refl k.pairs)
     (subst (Matches (with_block l (length nodes) t b)) goes (record {
       next = ap (λ x. x + length b.gates) k.next;
       bits = λ u. bits_more l.bits t b.bits u none ∙ same_value (bits_in l.bits) s.bits t b.bits u (k.bits u);
       selectors = k.selectors;
+      equals = k.equals;
       clauses = ap (λ cs. cs ++ gates_clauses l.next b.gates ∷ []) k.clauses ∙ ap (λ x. s.clauses ++ gates_clauses x b.gates ∷ []) k.next;
     }))
     (short_more l.bits t b.bits k.short (new_short nodes l (step.Encode t) t b.bits all k i here))
@@ -209,16 +225,75 @@ pub kept_selector : (nodes : List Node) (l new : LogValue) (a t : ℕ) (bit : Li
 kept_selector nodes l new a t bit k i w h =
     let s = state_of nodes l.entries in
     let goes : selector_after (state_of nodes l.entries) a t (Some (bit ∷ [])) ≡ selector_after (state_of nodes l.entries) a t ((state_of nodes l.entries).bits t) = ap (selector_after s a t) (sym w) in
-    kept_after nodes l new (step.Selector a t) k i h.entries
+    kept_after nodes l new (step.Selector a t) k i h.entries (pairs_longer l new (step.Selector a t) h.entries h.equals k.pairs)
     (subst (Matches new) goes (record {
       next = h.next ∙ ap suc k.next;
       bits = λ u. ap (λ b. bits_in b u) h.bits ∙ k.bits u;
       selectors = λ x.
           h.selectors x ∙ ap (λ n. with_value (selector_in l.selectors) a (positive_of n) x) k.next
           ∙ literal_more (selector_in l.selectors) s.selectors a (record { literal = positive_of s.next; term = t }) x (k.selectors x);
+      equals = λ x y. ap (λ f. equal_in f x y) h.equals ∙ k.equals x y;
       clauses = h.clauses ∙ ap (λ n. l.clauses ++ (selector_clause n bit ∷ []) ∷ []) k.next ∙ ap (λ cs. cs ++ (selector_clause s.next bit ∷ []) ∷ []) k.clauses;
     }))
     (subst EachShort (sym h.bits) k.short)
+
+-- both terms of a pair have bits, as many
+pub pair_bits : (nodes : List Node) (l : LogValue) (t u : ℕ) → IsTermList nodes → IsKept nodes l → IsPair nodes (state_of nodes l.entries) t u → HaveEqualBits l.bits t u
+pair_bits nodes l t u all k p =
+    let s = state_of nodes l.entries in
+    let a = some_value ((state_of nodes l.entries).bits t) p.left in
+    let b = some_value ((state_of nodes l.entries).bits u) p.right in
+    let first = bits_width nodes l.entries t a.0 all k.steps a.1 in
+    let second = bits_width nodes l.entries u b.0 all k.steps b.1 in
+    let whole : Some (length a.0) ≡ Some (length b.0) = sym first ∙ ap plain_width p.sort ∙ second in
+    let same : length a.0 ≡ length b.0 = cc in
+    (a.0, b.0, k.bits t ∙ a.1, k.bits u ∙ b.1, same)
+
+-- one equality more, which is the last step's
+pairs_push : (l : LogValue) (t u : ℕ) (r : Literal) → ArePairs l → (x y : ℕ) (q : EqualRow) → with_pair (found l.equals) t u (record { literal = r; place = suc (length l.entries) }) x y ≡ Some q → entry_at (l.entries ++ step.Equal t u ∷ []) q.place ≡ Some (step.Equal x y)
+pairs_push l t u r h x y q e =
+    ⊎_elim
+    (λ p. ap (λ (k : EqualRow). entry_at (l.entries ++ step.Equal t u ∷ []) k.place) (sym p.2) ∙ entry_last l.entries (step.Equal t u) ∙ ap (λ z. Some (step.Equal z u)) (sym p.0) ∙ ap (λ z. Some (step.Equal x z)) (sym p.1))
+    (λ p. entry_more l.entries (step.Equal t u) (step.Equal x y) q.place (h x y q p))
+    (pair_cases (found l.equals) t u (record { literal = r; place = suc (length l.entries) }) x y q e)
+
+-- one literal more
+pair_literal : (f : ℕ → ℕ → Option EqualRow) (g : ℕ → ℕ → Option Literal) (t u : ℕ) (r : EqualRow) (x y : ℕ) → row_literal (f x y) ≡ g x y → row_literal (with_pair f t u r x y) ≡ with_pair g t u r.literal x y
+pair_literal f g t u r x y e = go ((x == t) && (y == u))
+  where
+    go : (c : Bool) → row_literal (if c then Some r else f x y) ≡ (if c then Some r.literal else g x y)
+    go true = refl
+    go false = e
+
+pub kept_equal : (nodes : List Node) (l new : LogValue) (t u : ℕ) (a b : List Literal) → IsKept nodes l → IsStep nodes (state_of nodes l.entries) (step.Equal t u) → bits_in l.bits t ≡ Some a → bits_in l.bits u ≡ Some b → IsPairedBy l new (length nodes) t u a b → IsKept nodes new
+kept_equal nodes l new t u a b k i e f h =
+    let s = state_of nodes l.entries in
+    let first : (state_of nodes l.entries).bits t ≡ Some a = sym (k.bits t) ∙ e in
+    let second : (state_of nodes l.entries).bits u ≡ Some b = sym (k.bits u) ∙ f in
+    let goes : equal_after (state_of nodes l.entries) t u (Some a) (Some b) ≡ equal_after (state_of nodes l.entries) t u ((state_of nodes l.entries).bits t) ((state_of nodes l.entries).bits u) =
+    ap (equal_after s t u (Some a)) (sym second) ∙ ap (λ o. equal_after s t u o (s.bits u)) (sym first) in
+    let row : EqualRow = record { literal = equal_bit l.next true_literal a b; place = suc (length l.entries) } in
+    kept_after nodes l new (step.Equal t u) k i h.entries
+    (λ x y q g. ap (λ es. entry_at es q.place) h.entries ∙ pairs_push l t u (equal_bit l.next true_literal a b) k.pairs x y q (sym (h.equals x y) ∙ g))
+    (subst (Matches new) goes (record {
+      next = h.next ∙ ap (λ n. n + length (equal_gates n true_literal a b)) k.next;
+      bits = λ x. ap (λ bs. bits_in bs x) h.bits ∙ k.bits x;
+      selectors = λ x. ap (λ ss. selector_in ss x) h.selectors ∙ k.selectors x;
+      equals = λ x y. ap row_literal (h.equals x y) ∙ pair_literal (found l.equals) s.equals t u row x y (k.equals x y) ∙ ap (λ n. with_pair s.equals t u (equal_bit n true_literal a b) x y) k.next;
+      clauses =
+          h.clauses
+          ∙ ap (λ cs. cs ++ gates_clauses l.next (equal_gates l.next true_literal a b) ∷ []) k.clauses
+          ∙ ap (λ n. s.clauses ++ gates_clauses n (equal_gates n true_literal a b) ∷ []) k.next;
+    }))
+    (subst EachShort (sym h.bits) k.short)
+
+pub kept_lemma : (nodes : List Node) (l : LogValue) (a : Lemma) (c : List Literal) → IsKept nodes l → IsStep nodes (state_of nodes l.entries) (step.Lemma a) → clause_of nodes (state_of nodes l.entries).bits (state_of nodes l.entries).equals a ≡ Ok c → IsKept nodes (with_lemma l (length nodes) a c)
+kept_lemma nodes l a c k i e =
+    let s = state_of nodes l.entries in
+    let goes : with_row (state_of nodes l.entries) (c ∷ []) ≡ after nodes (state_of nodes l.entries) (step.Lemma a) = ap (lemma_after s) (sym e) in
+    kept_after nodes l (with_lemma l (length nodes) a c) (step.Lemma a) k i refl (pairs_longer l (with_lemma l (length nodes) a c) (step.Lemma a) refl refl k.pairs)
+    (subst (Matches (with_lemma l (length nodes) a c)) goes (record { next = k.next; bits = k.bits; selectors = k.selectors; equals = k.equals; clauses = ap (λ cs. cs ++ (c ∷ []) ∷ []) k.clauses }))
+    k.short
 
 -- ---- what a stored log has
 

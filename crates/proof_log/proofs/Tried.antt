@@ -1,6 +1,7 @@
 -- What trying a step tells.
-use Rattle.std.proofs.Common.{◌≡◌, ℕ, suc, ◌+◌, ◌<◌, ◌≤◌, Bool, true, false, List, [], ◌∷◌, ◌++◌, length, Option, Some, None, Result, Ok, Err, refl, sym, ap, ◌∙◌, subst, ⊎_elim, arith, position}
-use Rattle.std.specs.Prelude.{◌⊎◌, Contains, MatchOption, is_some}
+use Rattle.std.proofs.Common.{◌≡◌, ℕ, suc, ◌<◌, ◌≤◌, Bool, true, false, List, [], ◌∷◌, ◌++◌, length, Option, Some, None, Result, Ok, Err, refl, sym, ap, ◌∙◌, subst, ⊎_elim, arith, position}
+use Rattle.std.specs.Prelude.{◌&&◌, Contains, MatchOption, is_some}
+use Rattle.std.proofs.lemmas.Bool.{and_parts}
 use Rattle.std.proofs.lemmas.List.Elements.{Contains-push}
 use Rattle.cnf_base.specs.Literals.{Literal}
 use Rattle.cnf_base.specs.Assignments.{AreBelow}
@@ -18,6 +19,10 @@ use Rattle.smt_terms.proofs.Made.{made, no_place}
 use Rattle.bit_blast.specs.Blocks.{Block, block_of}
 use Rattle.hint_chain.specs.Chains.{IsChain}
 use Rattle.hint_chain.proofs.Exact.{IsChain-no_fault}
+use Rattle.theory_terms.specs.declared.lemma.Lemma.{Lemma}
+use Rattle.theory_lemmas.specs.declared.fault.LemmaFault.{LemmaFault}
+use Rattle.theory_lemmas.specs.Clauses.{clause_of}
+use Rattle.proof_log.specs.declared.equals.EqualRow.{EqualRow}
 use Rattle.proof_log.specs.declared.entry.Entry.{Entry}
 use Rattle.proof_log.specs.declared.entry.Entry.TheVariants as step
 use Rattle.proof_log.specs.declared.fault.StepKind.TheVariants as kind
@@ -25,10 +30,11 @@ use Rattle.proof_log.specs.declared.fault.Kept.{Kept}
 use Rattle.proof_log.specs.declared.fault.Kept.TheVariants as kept
 use Rattle.proof_log.specs.declared.fault.PushError.{PushError}
 use Rattle.proof_log.specs.declared.fault.PushError.TheVariants as push
-use Rattle.proof_log.specs.Logs.{clause_at, constant_width, IsStep, IsLeaf, IsEncoding, IsSelector, state_of}
-use Rattle.proof_log.specs.Stored.{LogValue, StepsValue, with_step, selector_in, IsKept, Stands, with_leaf, with_block, with_plain, Encodes, IsSelected, IsPushed}
+use Rattle.proof_log.specs.Pairs.{found}
+use Rattle.proof_log.specs.Logs.{clause_at, leaf_width, IsStep, IsLeaf, IsEncoding, IsSelector, IsLemma, state_of}
+use Rattle.proof_log.specs.Stored.{LogValue, StepsValue, with_step, selector_in, IsKept, Stands, with_leaf, with_block, with_lemma, with_plain, EqualRows, row_literal, equal_in, HaveEqualBits, IsPaired, Encodes, IsSelected, IsPushed}
 use Rattle.proof_log.specs.Faults.{IsGiven, IsValid, terms_after, MakesNoTerm, kind_of, Shows, ShowsChain, IsFault, Tried, Answers}
-use Rattle.proof_log.proofs.Standing.{stands_over, stands_all, kept_longer, kept_plain, kept_leaf, kept_block, kept_selector, no_literal, some_literal}
+use Rattle.proof_log.proofs.Standing.{stands_over, stands_all, kept_longer, kept_plain, kept_leaf, kept_block, kept_selector, kept_equal, kept_lemma, pair_bits, no_literal, some_literal}
 use Rattle.proof_log.proofs.Growing.{below_member}
 
 pushed : (nodes : List Node) (old new : LogValue) (e : Entry) → new.entries ≡ old.entries ++ e ∷ [] → new.over ≡ length nodes → IsKept nodes new → IsPushed nodes old new e (suc (length old.entries))
@@ -36,7 +42,7 @@ pushed nodes old new e es o k = record { position = refl; entries = es; over = o
 
 -- ---- leaves
 
-pub leaf_done : (v : TermsValue) (old new : LogValue) (t n : ℕ) → AreTerms v → Stands v.nodes old → t < length v.nodes → is_some (bits_in old.bits t) ≡ false → constant_width (node_at v.nodes t).op ≡ Some n → new ≡ with_leaf old (length v.nodes) t n → Tried v (step.Leaf t) old new None
+pub leaf_done : (v : TermsValue) (old new : LogValue) (t n : ℕ) → AreTerms v → Stands v.nodes old → t < length v.nodes → is_some (bits_in old.bits t) ≡ false → leaf_width v.nodes t ≡ Some n → new ≡ with_leaf old (length v.nodes) t n → Tried v (step.Leaf t) old new None
 leaf_done v old new t n all h within test w e =
     let none = none_from (bits_in old.bits t) test in
     let k = stands_over v.nodes old h in
@@ -56,7 +62,7 @@ leaf_past v old t le = ((λ i. let lt = i.term in omega arith), refl, refl)
 pub leaf_held : (v : TermsValue) (old : LogValue) (t : ℕ) → Stands v.nodes old → is_some (bits_in old.bits t) ≡ true → Tried v (step.Leaf t) old old (Some (kept.Term t))
 leaf_held v old t h e = ((λ i. has_bits v old t h e i.new), refl, refl)
 
-pub leaf_other : (v : TermsValue) (old : LogValue) (t : ℕ) → constant_width (node_at v.nodes t).op ≡ None → Tried v (step.Leaf t) old old (Some (kept.Term t))
+pub leaf_other : (v : TermsValue) (old : LogValue) (t : ℕ) → leaf_width v.nodes t ≡ None → Tried v (step.Leaf t) old old (Some (kept.Term t))
 leaf_other v old t e = ((λ i. let w = i.constant in cc), refl, refl)
 
 -- ---- circuits
@@ -157,6 +163,72 @@ chain_found v old mid new c hints o over h m e same count put =
     let i = subst (λ o. MatchOption o (AreBelow old.next c × IsChain (clause_at old.clauses) c hints) (ShowsChain old.next old.clauses c hints)) e m in
     chain_done v old new c hints h i.0 i.1 (put ∙ ap (λ l. with_plain l over (step.Chain c hints)) same ∙ ap (λ n. with_plain old n (step.Chain c hints)) count)
 
+-- ---- equalities
+
+pub equal_other : (v : TermsValue) (old : LogValue) (t u : ℕ) → ((t < u) × (u < length v.nodes) × (sort_of v.nodes t ≡ sort_of v.nodes u) → ⊥) → Tried v (step.Equal t u) old old (Some (kept.Terms t u))
+equal_other v old t u none = ((λ i. none (i.pair.lower, i.pair.term, i.pair.sort)), (refl, refl), refl)
+
+-- where one of the terms has no bits
+pub equal_without : (v : TermsValue) (old : LogValue) (t u : ℕ) → Stands v.nodes old → (is_some (bits_in old.bits t) && is_some (bits_in old.bits u)) ≡ false → Tried v (step.Equal t u) old old (Some (kept.Terms t u))
+equal_without v old t u h none =
+    let k = stands_over v.nodes old h in (
+      (λ i.
+          let left : is_some (bits_in old.bits t) ≡ true = ap is_some (k.bits t) ∙ i.pair.left in
+          let right : is_some (bits_in old.bits u) ≡ true = ap is_some (k.bits u) ∙ i.pair.right in
+          let both : (is_some (bits_in old.bits t) && is_some (bits_in old.bits u)) ≡ true = ap (λ b. b && is_some (bits_in old.bits u)) left ∙ right in
+          let q : true ≡ false = sym both ∙ none in
+          let f : ⊥ = cc in f),
+      (refl, refl),
+      refl,
+    )
+
+pub equal_held : (v : TermsValue) (old : LogValue) (t u x : ℕ) (r : EqualRow) → Stands v.nodes old → found old.equals t u ≡ Some r → x ≡ r.literal.variable → Tried v (step.Equal t u) old old (Some (kept.Variable x))
+equal_held v old t u x r h e q =
+    let k = stands_over v.nodes old h in
+    let held : (state_of v.nodes old.entries).equals t u ≡ Some r.literal = sym (k.equals t u) ∙ ap row_literal e in
+    ((λ i. let n = i.new in let z : None ≡ Some r.literal = sym n ∙ held in let f : ⊥ = cc in f), (r.literal, held, sym q), refl)
+
+-- two terms of one sort with bits, whose equality has no variable
+pub is_equal : (v : TermsValue) (old : LogValue) (t u : ℕ) → Stands v.nodes old → (t < u) × (u < length v.nodes) × (sort_of v.nodes t ≡ sort_of v.nodes u) → (is_some (bits_in old.bits t) && is_some (bits_in old.bits u)) ≡ true → found old.equals t u ≡ None → IsStep v.nodes (state_of v.nodes old.entries) (step.Equal t u)
+is_equal v old t u h pair both none =
+    let k = stands_over v.nodes old h in
+    let bits = and_parts (is_some (bits_in old.bits t)) (is_some (bits_in old.bits u)) both in
+    record {
+      pair = record { lower = pair.0; term = pair.1; sort = pair.2; left = ap is_some (sym (k.bits t)) ∙ bits.0; right = ap is_some (sym (k.bits u)) ∙ bits.1 };
+      new = sym (k.equals t u) ∙ ap row_literal none;
+    }
+
+pub equal_bits : (v : TermsValue) (old : LogValue) (t u : ℕ) → AreTerms v → Stands v.nodes old → IsStep v.nodes (state_of v.nodes old.entries) (step.Equal t u) → HaveEqualBits old.bits t u
+equal_bits v old t u all h i = pair_bits v.nodes old t u all.list (stands_over v.nodes old h) i.pair
+
+pub equal_done : (v : TermsValue) (old new : LogValue) (t u : ℕ) → AreTerms v → Stands v.nodes old → IsStep v.nodes (state_of v.nodes old.entries) (step.Equal t u) → IsPaired old new (length v.nodes) t u → Tried v (step.Equal t u) old new None
+equal_done v old new t u all h i put =
+    let b = equal_bits v old t u all h i in
+    let k = stands_over v.nodes old h in
+    let p = put b.0 b.1 b.2 b.3 in
+    (i, pushed v.nodes old new (step.Equal t u) p.entries p.terms (kept_equal v.nodes old new t u b.0 b.1 k i b.2 b.3 p))
+
+-- ---- lemmas
+
+same_clause : (v : TermsValue) (old : LogValue) (a : Lemma) → IsKept v.nodes old → clause_of v.nodes (bits_in old.bits) (equal_in old.equals) a ≡ clause_of v.nodes (state_of v.nodes old.entries).bits (state_of v.nodes old.entries).equals a
+same_clause v old a k =
+    let bits : bits_in old.bits ≡ (state_of v.nodes old.entries).bits = λ i t. k.bits t i in
+    let equals : equal_in old.equals ≡ (state_of v.nodes old.entries).equals = λ i t u. k.equals t u i in
+    ap (λ f. clause_of v.nodes f (equal_in old.equals) a) bits ∙ ap (λ f. clause_of v.nodes (state_of v.nodes old.entries).bits f a) equals
+
+pub lemma_done : (v : TermsValue) (old new : LogValue) (a : Lemma) (c : List Literal) → Stands v.nodes old → Ok c ≡ clause_of v.nodes (bits_in old.bits) (equal_in old.equals) a → new ≡ with_lemma old (length v.nodes) a c → Tried v (step.Lemma a) old new None
+lemma_done v old new a c h is e =
+    let k = stands_over v.nodes old h in
+    let clause : clause_of v.nodes (state_of v.nodes old.entries).bits (state_of v.nodes old.entries).equals a ≡ Ok c = sym (is ∙ same_clause v old a k) in
+    let i : IsLemma v.nodes (state_of v.nodes old.entries) a = record { clause = c; is = clause } in
+    (i, subst (λ l. IsPushed v.nodes old l (step.Lemma a) (suc (length old.entries))) (sym e) (pushed v.nodes old (with_lemma old (length v.nodes) a c) (step.Lemma a) refl refl (kept_lemma v.nodes old a c k i clause)))
+
+pub lemma_fault : (v : TermsValue) (old : LogValue) (a : Lemma) (f : LemmaFault) → Stands v.nodes old → Err f ≡ clause_of v.nodes (bits_in old.bits) (equal_in old.equals) a → Tried v (step.Lemma a) old old (Some (kept.Lemma f))
+lemma_fault v old a f h is =
+    let k = stands_over v.nodes old h in
+    let fault : clause_of v.nodes (state_of v.nodes old.entries).bits (state_of v.nodes old.entries).equals a ≡ Err f = sym (is ∙ same_clause v old a k) in
+    ((λ i. let z : Err f ≡ Ok i.clause = sym fault ∙ i.is in let g : ⊥ = cc in g), fault, refl)
+
 -- ---- what follows from trying
 
 pub tried_valid : (v : TermsValue) (e : Entry) (old new : LogValue) (o : Option Kept) → IsValid v (state_of v.nodes old.entries) e → Tried v e old new o → IsPushed v.nodes old new e (suc (length old.entries))
@@ -227,16 +299,16 @@ no_some None h = refl
 no_some (Some x) h = absurd (h x refl)
 
 -- the log with one step more, part by part
-view_of : ℕ → ℕ → List TermBits → List (Option Literal) → StepsValue → LogValue
-view_of next over bits selectors s = record { next = next; over = over; bits = bits; selectors = selectors; entries = s.entries; clauses = s.clauses }
+view_of : ℕ → ℕ → List TermBits → List (Option Literal) → EqualRows → StepsValue → LogValue
+view_of next over bits selectors equals s = record { next = next; over = over; bits = bits; selectors = selectors; equals = equals; entries = s.entries; clauses = s.clauses }
 
-pub node_new : (next before over count : ℕ) (bits : List TermBits) (selectors : List (Option Literal)) (s t : StepsValue) (old : LogValue) (n : Node)
-    → (let l : LogValue = record { next = next; over = before; bits = bits; selectors = selectors; entries = s.entries; clauses = s.clauses } in l) ≡ old
+pub node_new : (next before over count : ℕ) (bits : List TermBits) (selectors : List (Option Literal)) (equals : EqualRows) (s t : StepsValue) (old : LogValue) (n : Node)
+    → (let l : LogValue = record { next = next; over = before; bits = bits; selectors = selectors; equals = equals; entries = s.entries; clauses = s.clauses } in l) ≡ old
     → t ≡ with_step s (step.Node n) [] → over ≡ count
-    → (let l : LogValue = record { next = next; over = over; bits = bits; selectors = selectors; entries = t.entries; clauses = t.clauses } in l) ≡ with_plain old count (step.Node n)
+    → (let l : LogValue = record { next = next; over = over; bits = bits; selectors = selectors; equals = equals; entries = t.entries; clauses = t.clauses } in l) ≡ with_plain old count (step.Node n)
 unfolding view_of
-node_new next before over count bits selectors s t old n v e c =
-    ap (λ t. view_of next over bits selectors t) e ∙ ap (λ o. view_of next o bits selectors (with_step s (step.Node n) [])) c ∙ ap (λ l. with_plain l count (step.Node n)) v
+node_new next before over count bits selectors equals s t old n v e c =
+    ap (λ t. view_of next over bits selectors equals t) e ∙ ap (λ o. view_of next o bits selectors equals (with_step s (step.Node n) [])) c ∙ ap (λ l. with_plain l count (step.Node n)) v
 
 pub plain_added : (v : TermsValue) (e : Entry) (c : List Literal) (hints : List ClauseId) (old new : LogValue) (over p : ℕ) → e ≡ step.Chain c hints → Stands v.nodes old → IsValid v (state_of v.nodes old.entries) e → over ≡ length v.nodes → new ≡ with_plain old over (step.Chain c hints) → p ≡ suc (length old.entries) → IsPushed v.nodes old new e p
 plain_added v e c hints old new over p q h i count x at =

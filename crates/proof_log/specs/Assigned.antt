@@ -8,7 +8,8 @@ use Rattle.smt_terms.specs.Terms.{sort_of}
 use Rattle.smt_terms.specs.Bits.{bits_in}
 use Rattle.smt_terms.specs.Values.{Interpretation, is_true, value}
 use Rattle.bit_blast.specs.Meanings.{AreBitsOf}
-use Rattle.proof_log.specs.Logs.{Asserted, clause_at, constant_width, state_of}
+use Rattle.proof_log.specs.declared.entry.Entry.TheVariants as step
+use Rattle.proof_log.specs.Logs.{Asserted, clause_at, entry_at, state_of}
 use Rattle.proof_log.specs.Places.{GivesBits, GivesSelector}
 use Rattle.proof_log.specs.Stored.{LogValue}
 
@@ -21,13 +22,13 @@ abbrev pub AreClosed : List Node → (ℕ → Type 0) → Type 0
 AreClosed nodes reached = (t u : ℕ) → reached t → Contains (node_at nodes t).args u → reached u
 
 -- Of these terms, which are closed under arguments, each got its bits by a step whose clauses are true under the
--- assignment, and the bits of each declared constant are those of its value. Position 0 has the clause that variable 1 is
--- true.
+-- assignment, and the bits of each that got them as a leaf are those of its value. Position 0 has the clause that variable 1
+-- is true.
 pub record Satisfies (M : Interpretation) (nodes : List Node) (reached : ℕ → Type 0) (log : LogValue) (v : ℕ → Bool) : Type 0 where
   pub first : IsTrueAt log v 0
   pub closed : AreClosed nodes reached
   pub steps : (t : ℕ) → reached t → (p : ℕ) × GivesBits log.entries t p × IsTrueAt log v p
-  pub constants : (t n : ℕ) (b : List Literal) → reached t → constant_width (node_at nodes t).op ≡ Some n → bits_in log.bits t ≡ Some b → AreBitsOf v (sort_of nodes t) b (value M nodes t)
+  pub leaves : (t p : ℕ) (b : List Literal) → reached t → entry_at log.entries p ≡ Some (step.Leaf t) → bits_in log.bits t ≡ Some b → AreBitsOf v (sort_of nodes t) b (value M nodes t)
 
 -- Under the assignment the bits of each of these terms are those of its value. Where the selector of an assertion of such
 -- a term is true, and the clauses of the step that made it, the term is true.

@@ -1,5 +1,5 @@
 -- What the calls of a board promise.
-use Rattle.std.specs.Prelude.{◌≡◌, ◌⊎◌, ℕ, suc, List, [], ◌∷◌, ◌++◌, length, Option, Some, None}
+use Rattle.std.specs.Prelude.{◌≡◌, ◌⊎◌, ℕ, suc, true, List, [], ◌∷◌, ◌++◌, length, Option, Some, None}
 use Rattle.std.specs.List.{AllByRecursion}
 use Rattle.cnf_base.specs.Literals.{Literal}
 use Rattle.cnf_base.specs.declared.clause.ClauseId.{ClauseId}
@@ -9,12 +9,17 @@ use Rattle.smt_terms.specs.Bits.{TermBits, bits_in}
 use Rattle.proof_log.specs.declared.entry.Entry.{Entry}
 use Rattle.proof_log.specs.declared.entry.Role.TheVariants as role
 use Rattle.proof_log.specs.Roles.{role_of}
+use Rattle.proof_log.specs.Diaries.{is_chain}
 use Rattle.proof_log.specs.Logs.{clause_at, entry_at, state_of, IsLog}
 use Rattle.proof_log.specs.Stored.{LogValue}
 
--- a step that a search adds: it makes no term, gives no term bits, and no assertion a selector
+-- a step that a search adds: a chain
 abbrev pub IsOfSearch : Entry → Type 0
-IsOfSearch e = role_of e ≡ role.Search
+IsOfSearch e = is_chain (Some e) ≡ true
+
+-- a step that makes no term, gives no term bits, and no assertion a selector
+abbrev pub IsAdded : Entry → Type 0
+IsAdded e = role_of e ≡ role.Search
 
 -- the new log is the old one, then steps of searches
 pub record Grows (old new : List Entry) : Type 0 where

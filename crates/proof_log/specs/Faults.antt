@@ -12,6 +12,8 @@ use Rattle.smt_terms.specs.declared.fault.MakeError.TheVariants.{NoMemory, Fault
 use Rattle.smt_terms.specs.Same.{same_node}
 use Rattle.smt_terms.specs.Terms.{TermsValue, Agrees, make, with_node}
 use Rattle.hint_chain.specs.Faults.{FirstFault}
+use Rattle.theory_terms.specs.declared.lemma.Lemma.{Lemma}
+use Rattle.theory_lemmas.specs.Clauses.{clause_of}
 use Rattle.proof_log.specs.declared.entry.Entry.{Entry}
 use Rattle.proof_log.specs.declared.entry.Entry.TheVariants as step
 use Rattle.proof_log.specs.declared.entry.Role.TheVariants as role
@@ -95,6 +97,17 @@ ShowsSelector s a t (kept.Term u) = u ≡ t
 ShowsSelector s a t (kept.Variable x) = (r : Asserted) × (s.selectors a ≡ Some r) × (r.literal.variable ≡ x)
 ShowsSelector s a t _ = ⊥
 
+-- the terms, which are no pair, or the variable of their equality
+abbrev pub ShowsEqual : LogState → ℕ → ℕ → Kept → Type 0
+ShowsEqual s t u (kept.Terms x y) = (x ≡ t) × (y ≡ u)
+ShowsEqual s t u (kept.Variable x) = (l : Literal) × (s.equals t u ≡ Some l) × (l.variable ≡ x)
+ShowsEqual s t u _ = ⊥
+
+-- the fault of the lemma
+abbrev pub ShowsLemma : List Node → LogState → Lemma → Kept → Type 0
+ShowsLemma nodes s l (kept.Lemma f) = clause_of nodes s.bits s.equals l ≡ Err f
+ShowsLemma nodes s l _ = ⊥
+
 -- a variable of the clause that no step made, or the first fault of the hints
 abbrev pub ShowsChain : ℕ → List (List (List Literal)) → List Literal → List ClauseId → Kept → Type 0
 ShowsChain next rows c hints (kept.Variable x) = (l : Literal) × Contains c l × (l.variable ≡ x) × (next ≤ x)
@@ -108,8 +121,8 @@ Shows v s (step.Encode t) k = ShowsTerm t k
 Shows v s (step.Selector a t) k = ShowsSelector s a t k
 Shows v s (step.Chain c hints) k = ShowsChain s.next s.clauses c hints k
 Shows v s (step.Rewrite r) k = k ≡ kept.NoRule
-Shows v s (step.Equal t u) k = k ≡ kept.NoRule
-Shows v s (step.Lemma l) k = k ≡ kept.NoRule
+Shows v s (step.Equal t u) k = ShowsEqual s t u k
+Shows v s (step.Lemma l) k = ShowsLemma v.nodes s l k
 
 -- the step is not valid, and the fault says of what kind it is and what shows it
 pub record IsFault (v : TermsValue) (s : LogState) (e : Entry) (f : StepFault) : Type 0 where

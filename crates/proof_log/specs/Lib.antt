@@ -1,5 +1,7 @@
 pub mod Roles
+pub mod Pairs
 pub mod Logs
+pub mod Words
 pub mod Meanings
 pub mod Places
 pub mod Stored

@@ -1,7 +1,8 @@
 -- Logs: which steps may stand after others, and what they leave.
-use Rattle.std.specs.Prelude.{◌≡◌, ℕ, zero, suc, ◌+◌, ◌<◌, ◌==◌, if◌then◌else◌, List, [], ◌∷◌, ◌++◌, length, Option, Some, None, Contains, slice_get}
+use Rattle.std.specs.Prelude.{◌≡◌, ℕ, zero, suc, ◌+◌, ◌<◌, ◌==◌, ◌&&◌, ltb, if◌then◌else◌, List, [], ◌∷◌, ◌++◌, length, Option, Some, None, Result, Ok, Err, IsSome, Contains, slice_get}
 use Rattle.cnf_base.specs.Literals.{Literal, positive_of, negative_of, true_literal}
 use Rattle.cnf_base.specs.Assignments.{AreBelow, fresh_bits}
+use Rattle.cnf_base.specs.Choices.{equal_gates, equal_bit}
 use Rattle.cnf_base.specs.Gates.{gates_clauses}
 use Rattle.cnf_base.specs.declared.clause.ClauseId.{ClauseId}
 use Rattle.smt_terms.specs.declared.sort.Sort.{Sort}
@@ -10,11 +11,19 @@ use Rattle.smt_terms.specs.declared.node.Op.{Op}
 use Rattle.smt_terms.specs.declared.node.Op.TheVariants.{Plain, Word, Extract, ZeroExtend, SignExtend, RotateLeft, RotateRight, Repeat, ConstantArray, Constant, Apply, Param}
 use Rattle.smt_terms.specs.declared.node.Node.{Node}
 use Rattle.smt_terms.specs.Nodes.{node_at}
+use Rattle.smt_terms.specs.Ranks.{is_array}
 use Rattle.smt_terms.specs.Terms.{sort_of}
 use Rattle.bit_blast.specs.Blocks.{Block, block_of}
 use Rattle.hint_chain.specs.Chains.{IsChain}
+use Rattle.theory_terms.specs.declared.shape.Shape.{Shape}
+use Rattle.theory_terms.specs.declared.shape.Shape.TheVariants.{Selecting, Storing, Filling, Choosing, Equating, Witnessing, Applying, Declaring, Other}
+use Rattle.theory_terms.specs.declared.lemma.Lemma.{Lemma}
+use Rattle.theory_terms.specs.Shapes.{shape_at}
+use Rattle.theory_lemmas.specs.declared.fault.LemmaFault.{LemmaFault}
+use Rattle.theory_lemmas.specs.Clauses.{clause_of}
 use Rattle.proof_log.specs.declared.entry.Entry.{Entry}
 use Rattle.proof_log.specs.declared.entry.Entry.TheVariants as step
+use Rattle.proof_log.specs.Pairs.{with_pair}
 
 -- ---- what a log leaves
 
@@ -23,16 +32,18 @@ pub record Asserted : Type 0 where
   pub literal : Literal
   pub term : ℕ
 
--- the next variable, the bits of terms, the selectors of assertions, and the clauses of each position
+-- The next variable, the bits of terms, the selectors of assertions, the literals of equalities, by the lower and the upper
+-- term, and the clauses of each position.
 pub record LogState : Type 0 where
   pub next : ℕ
   pub bits : ℕ → Option (List Literal)
   pub selectors : ℕ → Option Asserted
+  pub equals : ℕ → ℕ → Option Literal
   pub clauses : List (List (List Literal))
 
 -- before the first step: position 0 has the clause that variable 1 is true
 abbrev pub start : LogState
-start = record { next = 2; bits = λ t. None; selectors = λ a. None; clauses = ((true_literal ∷ []) ∷ []) ∷ [] }
+start = record { next = 2; bits = λ t. None; selectors = λ a. None; equals = λ t u. None; clauses = ((true_literal ∷ []) ∷ []) ∷ [] }
 
 abbrev pub clause_in : Option (List (List Literal)) → ℕ → Option (List Literal)
 clause_in None k = None
@@ -78,12 +89,28 @@ constant_width (Constant d s) = plain_width s
 constant_width (Apply d s) = None
 constant_width (Param k s) = None
 
--- a declared Bool or word that has no bits
+-- How many bits a leaf gives a term of this shape, if it may be one: a declared constant, an element of an array, a witness or
+-- an application that is a Bool or a word, and an equality of arrays, which names an earlier term.
+abbrev pub width_by : List Node → ℕ → Shape → Option ℕ
+width_by nodes t (Declaring d s) = plain_width s
+width_by nodes t (Selecting a i) = plain_width (sort_of nodes t)
+width_by nodes t (Witnessing a b) = plain_width (sort_of nodes t)
+width_by nodes t (Applying d) = plain_width (sort_of nodes t)
+width_by nodes t (Equating a b) = if ltb a t && is_array (sort_of nodes a) then Some 1 else None
+width_by nodes t (Storing a i v) = None
+width_by nodes t (Filling x) = None
+width_by nodes t (Choosing c a b) = None
+width_by nodes t Other = None
+
+abbrev pub leaf_width : List Node → ℕ → Option ℕ
+leaf_width nodes t = width_by nodes t (shape_at nodes t)
+
+-- a leaf that has no bits
 pub record IsLeaf (nodes : List Node) (s : LogState) (t : ℕ) : Type 0 where
   pub term : t < length nodes
   pub new : s.bits t ≡ None
   pub width : ℕ
-  pub constant : constant_width (node_at nodes t).op ≡ Some width
+  pub constant : leaf_width nodes t ≡ Some width
 
 -- a term without bits whose operator has a circuit over the bits of its arguments
 pub record IsEncoding (nodes : List Node) (s : LogState) (t : ℕ) : Type 0 where
@@ -100,8 +127,26 @@ pub record IsSelector (nodes : List Node) (s : LogState) (a t : ℕ) : Type 0 wh
   pub bit : Literal
   pub encoded : s.bits t ≡ Some (bit ∷ [])
 
+-- two terms, the lower first, of one sort, which have bits
+pub record IsPair (nodes : List Node) (s : LogState) (t u : ℕ) : Type 0 where
+  pub lower : t < u
+  pub term : u < length nodes
+  pub sort : sort_of nodes t ≡ sort_of nodes u
+  pub left : IsSome (s.bits t)
+  pub right : IsSome (s.bits u)
+
+-- such terms, whose equality has no variable
+pub record IsEqual (nodes : List Node) (s : LogState) (t u : ℕ) : Type 0 where
+  pub pair : IsPair nodes s t u
+  pub new : s.equals t u ≡ None
+
+-- a lemma that has a clause
+pub record IsLemma (nodes : List Node) (s : LogState) (l : Lemma) : Type 0 where
+  pub clause : List Literal
+  pub is : clause_of nodes s.bits s.equals l ≡ Ok clause
+
 -- The step may stand after what the log has, over these terms, among which the term of a Node step is. No rule lets a step of
--- rewriting, an equality or a lemma stand yet.
+-- rewriting stand yet.
 abbrev pub IsStep : List Node → LogState → Entry → Type 0
 IsStep nodes s (step.Node n) = Contains nodes n
 IsStep nodes s (step.Leaf t) = IsLeaf nodes s t
@@ -109,8 +154,8 @@ IsStep nodes s (step.Encode t) = IsEncoding nodes s t
 IsStep nodes s (step.Selector a t) = IsSelector nodes s a t
 IsStep nodes s (step.Chain c hints) = AreBelow s.next c × IsChain (clause_at s.clauses) c hints
 IsStep nodes s (step.Rewrite r) = ⊥
-IsStep nodes s (step.Equal t u) = ⊥
-IsStep nodes s (step.Lemma l) = ⊥
+IsStep nodes s (step.Equal t u) = IsEqual nodes s t u
+IsStep nodes s (step.Lemma l) = IsLemma nodes s l
 
 -- ---- what a step leaves
 
@@ -120,6 +165,7 @@ leaf_after s t (Some n) = record {
   next = s.next + n;
   bits = with_value s.bits t (fresh_bits s.next n);
   selectors = s.selectors;
+  equals = s.equals;
   clauses = s.clauses ++ [] ∷ [];
 }
 
@@ -129,6 +175,7 @@ block_after s t (Some b) = record {
   next = s.next + length b.gates;
   bits = with_value s.bits t b.bits;
   selectors = s.selectors;
+  equals = s.equals;
   clauses = s.clauses ++ gates_clauses s.next b.gates ∷ [];
 }
 
@@ -143,15 +190,35 @@ selector_after s a t (Some (bit ∷ bits)) = record {
   next = suc s.next;
   bits = s.bits;
   selectors = with_value s.selectors a (record { literal = positive_of s.next; term = t });
+  equals = s.equals;
   clauses = s.clauses ++ (selector_clause s.next bit ∷ []) ∷ [];
 }
 
+-- the variable of the equality of two terms, by the circuit of `=` over their bits
+abbrev pub equal_after : LogState → ℕ → ℕ → Option (List Literal) → Option (List Literal) → LogState
+equal_after s t u None o = with_row s []
+equal_after s t u (Some a) None = with_row s []
+equal_after s t u (Some a) (Some b) = record {
+  next = s.next + length (equal_gates s.next true_literal a b);
+  bits = s.bits;
+  selectors = s.selectors;
+  equals = with_pair s.equals t u (equal_bit s.next true_literal a b);
+  clauses = s.clauses ++ gates_clauses s.next (equal_gates s.next true_literal a b) ∷ [];
+}
+
+-- the clause of a lemma
+abbrev pub lemma_after : LogState → Result (List Literal) LemmaFault → LogState
+lemma_after s (Err f) = with_row s []
+lemma_after s (Ok c) = with_row s (c ∷ [])
+
 -- what the log has after the step
 abbrev pub after : List Node → LogState → Entry → LogState
-after nodes s (step.Leaf t) = leaf_after s t (constant_width (node_at nodes t).op)
+after nodes s (step.Leaf t) = leaf_after s t (leaf_width nodes t)
 after nodes s (step.Encode t) = block_after s t (block_of s.next s.bits (node_at nodes t))
 after nodes s (step.Selector a t) = selector_after s a t (s.bits t)
 after nodes s (step.Chain c hints) = with_row s (c ∷ [])
+after nodes s (step.Equal t u) = equal_after s t u (s.bits t) (s.bits u)
+after nodes s (step.Lemma l) = lemma_after s (clause_of nodes s.bits s.equals l)
 after nodes s _ = with_row s []
 
 -- what it has after all steps

@@ -4,6 +4,7 @@ use hint_chain::ChainFault;
 use smt_terms::fault::MakeFault;
 use smt_terms::node::TermId;
 use std::alloc::{AllocError, AllocFailed};
+use theory_lemmas::fault::LemmaFault;
 
 /// Of what kind a step is.
 #[derive(Clone, Copy, Debug, PartialEq, Eq)]
@@ -27,10 +28,14 @@ pub enum Kept {
     Make(MakeFault),
     /// The term that the node is already, or the term without what the step asks for.
     Term(TermId),
-    /// A variable of the clause that no step made, or the one that is the assertion's selector already.
+    /// The terms that are no pair of one sort with bits, the lower first.
+    Terms(TermId, TermId),
+    /// A variable of the clause that no step made, or the one that the assertion or the equality has already.
     Variable(u64),
     /// The first fault of the hints.
     Chain(ChainFault),
+    /// The first fault of the lemma.
+    Lemma(LemmaFault),
     /// That no rule makes a step of the kind valid yet.
     NoRule,
 }

@@ -49,8 +49,8 @@ pub fn stored_logs_are_settled()
 {}
 
 /// Where an assignment makes true the clauses of the steps that gave some terms bits, and these terms are closed under
-/// arguments, and the bits of each declared constant among them are those of its value in an interpretation: then the bits
-/// of each of them are those of its value. An assertion of such a term is true, if its selector is and the clauses of the
+/// arguments, and the bits of each of them that got them as a leaf are those of its value in an interpretation: then the
+/// bits of each of them are those of its value. An assertion of such a term is true, if its selector is and the clauses of the
 /// step that made it.
 pub fn satisfied_terms_have_values()
     ensures { (M : Interpretation) (nodes : List Node) (reached : List ℕ) (log : LogValue) (v : ℕ → Bool) →

@@ -12,6 +12,7 @@ ghost use Rattle.proof_log.specs.Stored.{Stands, IsPushed, selector_in};
 ghost use Rattle.proof_log.specs.Faults.{IsValid, MakesNoTerm, IsNewNode, IsDeclared, Answers};
 
 use crate::entry::{AssertId, Entry};
+use crate::equals::Equals;
 use crate::fault::{Kept, PushError, StepFault, StepKind};
 use crate::selectors::selector_of;
 use crate::steps::Steps;
@@ -32,6 +33,7 @@ pub struct Log {
     pub(crate) over: u32,
     pub(crate) bits: Bits,
     pub(crate) selectors: Vec<Option<Lit>>,
+    pub(crate) equals: Equals,
     pub(crate) steps: Steps,
     pub(crate) marks: Marks,
 }
@@ -41,7 +43,7 @@ impl Model for Log {
 
     ghost Value = { LogValue };
 
-    ghost view = { λ l. record { next = l.next; over = l.over; bits = l.bits; selectors = l.selectors.items; entries = l.steps.entries; clauses = l.steps.clauses } };
+    ghost view = { λ l. record { next = l.next; over = l.over; bits = l.bits; selectors = l.selectors.items; equals = l.equals; entries = l.steps.entries; clauses = l.steps.clauses } };
 }
 
 impl Clauses for Log {
@@ -66,6 +68,7 @@ impl Log {
             over: 0,
             bits: Bits::new(alloc),
             selectors: Vec::new(alloc),
+            equals: Equals::new(alloc),
             steps,
             marks: Marks::new(alloc),
         })
@@ -102,6 +105,13 @@ impl Log {
         ensures { IsPlaceOf (GivesSelector self.now.entries assertion) result }
     {
         self.steps.of_assertion(assertion)
+    }
+
+    /// The variables of equalities.
+    pub fn equals(&self) -> &Equals
+        ensures { result.now ≡ self.now.equals }
+    {
+        &self.equals
     }
 
     /// The bits of terms.
@@ -163,10 +173,14 @@ impl Log {
             Entry::Chain(clause, hints) => {
                 self.put_plain(alloc, over, Entry::Chain(clause, hints))?;
             }
-            // Excluded: a term by the condition on the kind, the others since no rule makes them valid.
-            Entry::Node(_) | Entry::Rewrite(_) | Entry::Equal(_, _) | Entry::Lemma(_) => {
-                unreachable!()
+            Entry::Equal(lower, upper) => {
+                self.equal(alloc, terms, lower, upper)?;
             }
+            Entry::Lemma(lemma) => {
+                self.lemma(alloc, terms, lemma)?;
+            }
+            // Excluded: a term by the condition on the kind, a step of rewriting since no rule makes it valid.
+            Entry::Node(_) | Entry::Rewrite(_) => unreachable!(),
         }
         Ok(at)
     }
@@ -221,8 +235,12 @@ impl Log {
                 self.chain(alloc, terms, clause, hints)?,
             ),
             Entry::Rewrite(_) => Err(refused(StepKind::Rewrite, Kept::NoRule)),
-            Entry::Equal(_, _) => Err(refused(StepKind::Equal, Kept::NoRule)),
-            Entry::Lemma(_) => Err(refused(StepKind::Lemma, Kept::NoRule)),
+            Entry::Equal(lower, upper) => told(
+                StepKind::Equal,
+                at,
+                self.equal(alloc, terms, lower, upper)?,
+            ),
+            Entry::Lemma(lemma) => told(StepKind::Lemma, at, self.lemma(alloc, terms, lemma)?),
         }
     }
 

@@ -1,22 +1,31 @@
 //! Steps that are put into a log, kind by kind, with what they leave.
 
-ghost use Rattle.std.specs.Prelude.{◌≡◌, ◌<◌, ◌≤◌, ◌+◌, ◌^◌, None, OnOk, OnErr, IfOk, length};
+ghost use Rattle.std.specs.Prelude.{◌≡◌, ◌<◌, ◌≤◌, ◌+◌, ◌^◌, ◌&&◌, ltb, if◌then◌else◌, List, [], ◌∷◌, None, Some, OnOk, OnErr, IfOk, length};
+ghost use Rattle.cnf_base.specs.Literals.{Literal, true_literal};
+ghost use Rattle.cnf_base.specs.Choices.{equal_gates, equal_bit};
+ghost use Rattle.cnf_base.specs.Circuits.{Gains};
 ghost use Rattle.cnf_base.specs.Assignments.{fresh_bits};
 ghost use Rattle.smt_terms.specs.Bits.{bits_in};
 ghost use Rattle.smt_terms.specs.Nodes.{node_at};
 ghost use Rattle.bit_blast.specs.Blocks.{block_of, EachShort};
-ghost use Rattle.proof_log.specs.Logs.{constant_width, plain_width};
+ghost use Rattle.smt_terms.specs.Ranks.{is_array};
+ghost use Rattle.smt_terms.specs.Terms.{sort_of};
+ghost use Rattle.proof_log.specs.Logs.{leaf_width, plain_width};
+ghost use Rattle.proof_log.specs.Pairs.{found};
 ghost use Rattle.proof_log.specs.Places.{IsPlain};
-ghost use Rattle.proof_log.specs.Stored.{with_leaf, with_plain, IsSelected, Encodes};
+ghost use Rattle.proof_log.specs.Stored.{with_leaf, with_lemma, with_plain, HaveEqualBits, IsPaired, IsSelected, Encodes};
 
 use crate::entry::{AssertId, Entry};
 use crate::log::Log;
 use bit_blast::encode;
 use cnf_base::{Circuit, Clause, Lit};
-use smt_terms::node::{Op, TermId};
+use smt_terms::bits::Bits;
+use smt_terms::node::TermId;
 use smt_terms::sort::Sort;
 use smt_terms::terms::Terms;
 use std::alloc::{AllocError, Global};
+use theory_terms::lemma::Lemma;
+use theory_terms::shape::{Shape, shape_at};
 
 /// The greatest next variable from which a step may make variables: no step makes more than 2^17, and variables are
 /// below 2^63.
@@ -35,17 +44,37 @@ fn fresh_row(alloc: Global, first: u64, count: u64) -> Result<Vec<Lit>, AllocErr
     Ok(row)
 }
 
-/// How many bits a declared constant has, if the operator is one of a Bool or a word.
-pub(crate) fn width_of(op: &Op) -> Option<u64>
-    ensures { result ≡ constant_width op.now }
+// How many bits an equality of arrays has.
+fn equality_width(terms: &Terms, term: TermId, left: TermId) -> Option<u64>
+    requires { term < length terms.now.nodes }
+    ensures { result ≡ (if ltb left term && is_array (sort_of terms.now.nodes left) then Some 1 else None) }
 {
-    match op {
-        Op::Constant {
-            declaration: _,
-            sort,
-        } => plain_width(*sort),
+    if left < term && is_array(terms.sort(left)) {
+        Some(1)
+    } else {
+        None
+    }
+}
+
+/// How many bits a leaf gives a term, if it may be one.
+pub(crate) fn width_of(terms: &Terms, term: TermId) -> Option<u64>
+    requires { term < length terms.now.nodes }
+    ensures { result ≡ leaf_width terms.now.nodes term }
+{
+    match shape_at(terms, term) {
+        Shape::Declaring { sort, .. } => plain_width(sort),
+        Shape::Selecting { .. } | Shape::Witnessing { .. } | Shape::Applying { .. } => {
+            plain_width(terms.sort(term))
+        }
+        Shape::Equating { left, .. } => equality_width(terms, term, left),
         _ => None,
     }
+}
+
+fn is_array(sort: Sort) -> bool
+    ensures { result ≡ is_array sort }
+{
+    matches!(sort, Sort::Array(_, _))
 }
 
 // How many bits a Bool or a word has.
@@ -57,6 +86,34 @@ fn plain_width(sort: Sort) -> Option<u64>
         Sort::Word(width) => Some(width as u64),
         Sort::Array(_, _) => None,
     }
+}
+
+// The literal that is true where the bits of two terms are equal.
+fn equality(
+    bits: &Bits,
+    lower: TermId,
+    upper: TermId,
+    circuit: &mut Circuit,
+) -> Result<Lit, AllocError>
+    requires short { EachShort bits.now }
+    requires bits { HaveEqualBits bits.now lower upper }
+    requires room { circuit.old.next + 2 ^ 17 ≤ 2 ^ 63 }
+    ensures ok { IfOk result (λ l. (a b : List Literal) → bits_in bits.now lower ≡ Some a → bits_in bits.now upper ≡ Some b →
+        (l ≡ equal_bit circuit.old.next true_literal a b) × Gains circuit.old circuit.new (equal_gates circuit.old.next true_literal a b)) }
+{
+    match (bits.of(lower), bits.of(upper)) {
+        (Some(a), Some(b)) => circuit.equal(a, b),
+        _ => unreachable!(),
+    }
+}
+
+// One clause alone.
+fn one_clause(alloc: Global, clause: Clause) -> Result<Vec<Clause>, AllocError>
+    ensures { IfOk result (λ made. made.items ≡ clause ∷ []) }
+{
+    let mut made = Vec::new(alloc);
+    made.push(clause)?;
+    Ok(made)
 }
 
 impl Log {
@@ -141,6 +198,52 @@ impl Log {
             .push_selector(&mut self.selectors, assertion, selector, entry, made)?;
         self.next += 1;
         self.over = terms.len();
+        Ok(())
+    }
+
+    /// The variable of the equality of two terms, which have equally many bits.
+    pub(crate) fn put_equal(
+        &mut self,
+        alloc: Global,
+        over: u32,
+        lower: TermId,
+        upper: TermId,
+    ) -> Result<(), AllocError>
+        requires next { 1 < self.old.next }
+        requires short { EachShort self.old.bits }
+        requires bits { HaveEqualBits self.old.bits lower upper }
+        requires new { found self.old.equals lower upper ≡ None }
+        ensures ok { OnOk result (IsPaired self.old self.new over lower upper) }
+        ensures err { OnErr result (self.new ≡ self.old) }
+    {
+        if self.next > LAST {
+            return Err(AllocError);
+        }
+        let mut circuit = Circuit::new(alloc, self.next);
+        let literal = equality(&self.bits, lower, upper, &mut circuit)?;
+        let next = circuit.next();
+        let made = circuit.into_clauses();
+        self.steps
+            .push_pair(&mut self.equals, lower, upper, literal, made)?;
+        self.next = next;
+        self.over = over;
+        Ok(())
+    }
+
+    /// The clause of a lemma.
+    pub(crate) fn put_lemma(
+        &mut self,
+        alloc: Global,
+        over: u32,
+        lemma: Lemma,
+        clause: Clause,
+    ) -> Result<(), AllocError>
+        ensures ok { OnOk result (self.new ≡ with_lemma self.old over lemma clause) }
+        ensures err { OnErr result (self.new ≡ self.old) }
+    {
+        let made = one_clause(alloc, clause)?;
+        self.steps.push(Entry::Lemma(lemma), made)?;
+        self.over = over;
         Ok(())
     }
 

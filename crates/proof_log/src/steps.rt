@@ -7,11 +7,13 @@ ghost use Rattle.cnf_base.specs.Literals.{true_literal};
 ghost use Rattle.smt_terms.specs.Terms.{Agrees, make};
 ghost use Rattle.proof_log.specs.declared.entry.Entry.TheVariants as step;
 ghost use Rattle.proof_log.specs.Logs.{entry_at, with_value};
+ghost use Rattle.proof_log.specs.Pairs.{found, with_pair};
 ghost use Rattle.proof_log.specs.Places.{GivesBits, GivesSelector, IsPlaceOf, IsForTerm, IsPlain};
 ghost use Rattle.proof_log.specs.Stored.{with_step, selector_in};
 ghost use Rattle.proof_log.specs.Faults.{NodeIsMade};
 
 use crate::entry::{AssertId, Entry};
+use crate::equals::{EqualRow, Equals};
 use crate::{places, selectors};
 use cnf_base::{Clause, ClauseId, Lit, Pos};
 use hint_chain::Clauses;
@@ -179,6 +181,31 @@ impl Steps {
         bits.set(term, row)?;
         places::set(&mut self.terms, term, at);
         self.steps.push_reserved(Step { entry, made });
+        Ok(())
+    }
+
+    /// One step more, with these clauses, which gives an equality its variable.
+    pub(crate) fn push_pair(
+        &mut self,
+        equals: &mut Equals,
+        lower: TermId,
+        upper: TermId,
+        literal: Lit,
+        made: Vec<Clause>,
+    ) -> Result<(), AllocError>
+        requires { found equals.old lower upper ≡ None }
+        ensures step { OnOk result (self.new ≡ with_step self.old (step.Equal lower upper) made.items) }
+        ensures equals { OnOk result ((t u : ℕ) → found equals.new t u ≡ with_pair (found equals.old) lower upper (record { literal = literal; place = suc (length self.old.entries) }) t u) }
+        ensures err { OnErr result (self.new ≡ self.old) }
+        ensures err_equals { OnErr result (equals.new ≡ equals.old) }
+    {
+        let place = self.len();
+        self.steps.reserve(1)?;
+        equals.insert(lower, upper, EqualRow { literal, place })?;
+        self.steps.push_reserved(Step {
+            entry: Entry::Equal(lower, upper),
+            made,
+        });
         Ok(())
     }
 

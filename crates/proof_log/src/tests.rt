@@ -20,7 +20,9 @@ use smt_terms::terms::Terms;
 use std::alloc::{AllocError, Global};
 use std::process::Abort;
 use std::test::Fail;
-use theory_terms::lemma::Lemma;
+use theory_lemmas::clauses::Equalities;
+use theory_lemmas::fault::LemmaFault;
+use theory_terms::lemma::{Access, Lemma, Path, Start};
 
 // A log, and the terms that it stands over.
 #[derive(Drop)]
@@ -66,6 +68,10 @@ fn answer(
 enum Given {
     // The term true.
     True,
+    // The term of an operator over these.
+    Over(Operator, &'static [TermId]),
+    // The array with indexes of one bit that is this term everywhere.
+    Filled(TermId),
     Leaf(TermId),
     Encode(TermId),
     Selector(AssertId, TermId),
@@ -75,6 +81,8 @@ enum Given {
     Equal(TermId, TermId),
     // That two applications of a declaration to equal arguments are equal.
     Congruence(TermId, TermId),
+    // That the element of this constant array at this index is what this select of it is.
+    Filling(TermId, TermId, TermId),
 }
 
 // What is seen of a log. A literal is its variable, and whether it is positive.
@@ -94,6 +102,8 @@ enum Seen {
     Next(u64),
     // The bits of a term.
     Bits(TermId, &'static [(u64, bool)]),
+    // The variable of the equality of these terms, which is positive, and the position of its step, if it has one.
+    Equal(TermId, TermId, Option<(u64, Pos)>),
     // So many positions, over so many terms.
     Counts(u64, u32),
 }
@@ -150,6 +160,17 @@ fn has_bits(log: &Log, term: TermId, parts: &[(u64, bool)]) -> bool {
     }
 }
 
+fn has_equal(log: &Log, lower: TermId, upper: TermId, parts: Option<(u64, Pos)>) -> bool {
+    let equals = log.equals();
+    match (equals.of(lower, upper), parts) {
+        (Some(literal), Some((variable, place))) => {
+            is_literal(literal, (variable, true)) && equals.place_of(lower, upper) == Some(place)
+        }
+        (None, None) => equals.place_of(lower, upper).is_none(),
+        _ => false,
+    }
+}
+
 fn is_plain(op: &Op, operator: Operator) -> bool {
     match op {
         Op::Plain(held) => *held == operator,
@@ -179,6 +200,7 @@ fn is_seen(proof: &Proof, seen: Seen) -> bool {
         Seen::SelectorStepOf(assertion, at) => log.selector_step_of(assertion) == at,
         Seen::Next(next) => log.next() == next,
         Seen::Bits(term, parts) => has_bits(log, term, parts),
+        Seen::Equal(lower, upper, parts) => has_equal(log, lower, upper, parts),
         Seen::Counts(positions, terms) => log.len() == positions && log.over() == terms,
     }
 }
@@ -192,11 +214,27 @@ fn refuted(alloc: Global, hints: &[ClauseId]) -> Result<Entry, AllocError>
     Ok(Entry::Chain(clause, hints))
 }
 
+// An access without a move.
+fn access(alloc: Global, start: Start) -> Access {
+    Access {
+        start,
+        path: Path::none(alloc),
+    }
+}
+
 fn entry_of(alloc: Global, given: Given) -> Result<Entry, AllocError>
     ensures { IfOk result (λ e. (v : TermsValue) → IsDeclared v e) }
 {
     match given {
         Given::True => Ok(Entry::Node(Node::leaf(alloc, Op::Plain(Operator::True)))),
+        Given::Over(operator, args) => Ok(Entry::Node(Node {
+            op: Op::Plain(operator),
+            args: Arguments::of(alloc, args)?,
+        })),
+        Given::Filled(term) => Ok(Entry::Node(Node {
+            op: Op::ConstantArray(1),
+            args: Arguments::of(alloc, &[term])?,
+        })),
         Given::Leaf(term) => Ok(Entry::Leaf(term)),
         Given::Encode(term) => Ok(Entry::Encode(term)),
         Given::Selector(assertion, term) => Ok(Entry::Selector(assertion, term)),
@@ -204,6 +242,10 @@ fn entry_of(alloc: Global, given: Given) -> Result<Entry, AllocError>
         Given::Rewrite(from, to) => Ok(Entry::Rewrite(RuleUse { rule: 1, from, to })),
         Given::Equal(first, second) => Ok(Entry::Equal(first, second)),
         Given::Congruence(first, second) => { Ok(Entry::Lemma(Lemma::Congruence(first, second))) }
+        Given::Filling(array, index, select) => Ok(Entry::Lemma(Lemma::Arrays(
+            access(alloc, Start::Const(array, index)),
+            access(alloc, Start::Term(select)),
+        ))),
     }
 }
 
@@ -325,16 +367,99 @@ fn steps_of_a_kind_without_a_rule_are_refused(rt: HostRuntime) -> Result<(), Fai
         &[
             Step::Try(Given::Encode(0), Ok(1)),
             Step::Try(Given::Rewrite(0, 0), fault(StepKind::Rewrite, Kept::NoRule)),
-            Step::Try(Given::Equal(0, 1), fault(StepKind::Equal, Kept::NoRule)),
-            Step::Try(
-                Given::Congruence(0, 0),
-                fault(StepKind::Lemma, Kept::NoRule),
-            ),
             Step::See(Seen::Counts(2, 1)),
             Step::See(Seen::Next(2)),
             Step::See(Seen::StepOf(0, Some(1))),
             Step::See(Seen::Bits(0, &[(1, true)])),
             Step::Try(Given::Selector(0, 0), Ok(2)),
+        ],
+    )
+}
+
+const SHAPE: Kept = Kept::Lemma(LemmaFault::Shape);
+
+#[test]
+fn two_terms_with_bits_have_one_equality(rt: HostRuntime) -> Result<(), Fail> {
+    let constant = Op::Constant {
+        declaration: 0,
+        sort: Sort::Bool,
+    };
+    walk(
+        &rt,
+        constant,
+        &[
+            Step::Try(Given::True, Ok(1)),
+            Step::Try(Given::Leaf(0), Ok(2)),
+            Step::Try(
+                Given::Equal(0, 1),
+                fault(StepKind::Equal, Kept::Terms(0, 1)),
+            ),
+            Step::Try(Given::Encode(1), Ok(3)),
+            Step::Try(
+                Given::Equal(1, 0),
+                fault(StepKind::Equal, Kept::Terms(1, 0)),
+            ),
+            Step::Try(
+                Given::Equal(0, 0),
+                fault(StepKind::Equal, Kept::Terms(0, 0)),
+            ),
+            Step::Try(
+                Given::Equal(0, 2),
+                fault(StepKind::Equal, Kept::Terms(0, 2)),
+            ),
+            Step::See(Seen::Equal(0, 1, None)),
+            Step::Try(Given::Equal(0, 1), Ok(4)),
+            Step::See(Seen::Equal(0, 1, Some((4, 4)))),
+            Step::See(Seen::Next(5)),
+            Step::See(Seen::Counts(5, 2)),
+            Step::See(Seen::Clause(
+                ClauseId { pos: 4, part: 0 },
+                Some(&[(3, false), (2, true), (1, true)]),
+            )),
+            Step::Try(
+                Given::Equal(0, 1),
+                fault(StepKind::Equal, Kept::Variable(4)),
+            ),
+            Step::Try(Given::Congruence(0, 1), fault(StepKind::Lemma, SHAPE)),
+        ],
+    )
+}
+
+#[test]
+fn elements_of_arrays_are_leaves_and_have_lemmas(rt: HostRuntime) -> Result<(), Fail> {
+    let constant = Op::Constant {
+        declaration: 0,
+        sort: Sort::Word(1),
+    };
+    let unequal = Kept::Lemma(LemmaFault::NoEqual(0, 2));
+    walk(
+        &rt,
+        constant,
+        &[
+            Step::Try(Given::Filled(0), Ok(1)),
+            Step::Try(Given::Over(Operator::Select, &[1, 0]), Ok(2)),
+            Step::Try(Given::Over(Operator::Equal, &[1, 1]), Ok(3)),
+            Step::Try(Given::Leaf(0), Ok(4)),
+            Step::Try(Given::Leaf(1), fault(StepKind::Leaf, Kept::Term(1))),
+            Step::Try(Given::Leaf(2), Ok(5)),
+            Step::Try(Given::Encode(3), fault(StepKind::Encode, Kept::Term(3))),
+            Step::Try(Given::Leaf(3), Ok(6)),
+            Step::See(Seen::Bits(3, &[(4, true)])),
+            Step::Try(
+                Given::Equal(1, 1),
+                fault(StepKind::Equal, Kept::Terms(1, 1)),
+            ),
+            Step::Try(
+                Given::Equal(0, 3),
+                fault(StepKind::Equal, Kept::Terms(0, 3)),
+            ),
+            Step::Try(Given::Filling(1, 0, 2), fault(StepKind::Lemma, unequal)),
+            Step::Try(Given::Filling(1, 3, 2), fault(StepKind::Lemma, SHAPE)),
+            Step::Try(Given::Equal(0, 2), Ok(7)),
+            Step::See(Seen::Equal(0, 2, Some((6, 7)))),
+            Step::Try(Given::Filling(1, 0, 2), Ok(8)),
+            Step::See(Seen::Clause(ClauseId { pos: 8, part: 0 }, Some(&[(1, false), (6, true)]))),
+            Step::See(Seen::Next(7)),
         ],
     )
 }

@@ -1,17 +1,21 @@
 //! Steps that are tried, kind by kind: what shows that one is not valid, or it is put into the log.
 
-ghost use Rattle.std.specs.Prelude.{◌≡◌, ◌≤◌, ◌≢◌, List, [], ◌∷◌, Some, OnErr, IfOk, MatchOption, MatchBool, Contains, is_some};
+ghost use Rattle.std.specs.Prelude.{◌≡◌, ◌≤◌, ◌<◌, ◌&&◌, ◌≢◌, List, [], ◌∷◌, length, Some, OnErr, IfOk, MatchOption, MatchBool, Contains, is_some};
 ghost use Rattle.cnf_base.specs.Literals.{Literal};
 ghost use Rattle.cnf_base.specs.Assignments.{AreBelow};
 ghost use Rattle.cnf_base.specs.declared.clause.ClauseId.{ClauseId};
 ghost use Rattle.smt_terms.specs.Bits.{bits_in};
+ghost use Rattle.smt_terms.specs.Terms.{sort_of};
 ghost use Rattle.hint_chain.specs.Chains.{IsChain};
 ghost use Rattle.proof_log.specs.declared.entry.Entry.TheVariants as step;
 ghost use Rattle.proof_log.specs.Logs.{clause_at};
-ghost use Rattle.proof_log.specs.Stored.{Stands};
+ghost use Rattle.proof_log.specs.Pairs.{found};
+ghost use Rattle.theory_lemmas.specs.Clauses.{clause_of};
+ghost use Rattle.proof_log.specs.Stored.{Stands, equal_in};
 ghost use Rattle.proof_log.specs.Faults.{Tried, IsGiven, ShowsChain};
 
 use crate::entry::{AssertId, Entry, Hints};
+use crate::equals::EqualRow;
 use crate::fault::Kept;
 use crate::log::Log;
 use crate::pushing::width_of;
@@ -21,6 +25,9 @@ use smt_terms::node::{Op, TermId};
 use smt_terms::sort::Sort;
 use smt_terms::terms::Terms;
 use std::alloc::{AllocError, Global};
+use theory_lemmas::clauses::clause_of;
+use theory_lemmas::fault::{LemmaError, LemmaFault};
+use theory_terms::lemma::Lemma;
 
 /// Whether an operator is made by no step.
 pub(crate) fn is_given(op: &Op) -> bool
@@ -34,6 +41,15 @@ fn is_bool(sort: Sort) -> bool
     ensures { MatchBool result (sort ≡ Sort.Bool) (sort ≢ Sort.Bool) }
 {
     matches!(sort, Sort::Bool)
+}
+
+// Whether two terms of one sort are held, the lower first.
+fn is_pair(terms: &Terms, lower: TermId, upper: TermId) -> bool
+    ensures { MatchBool result
+        ((lower < upper) × (upper < length terms.now.nodes) × (sort_of terms.now.nodes lower ≡ sort_of terms.now.nodes upper))
+        ((lower < upper) × (upper < length terms.now.nodes) × (sort_of terms.now.nodes lower ≡ sort_of terms.now.nodes upper) → ⊥) }
+{
+    lower < upper && upper < terms.len() && terms.sort(lower) == terms.sort(upper)
 }
 
 // The first variable of the literals that is not below this one.
@@ -50,7 +66,7 @@ fn first_above(literals: &[Lit], next: u64) -> Option<u64>
 }
 
 impl Log {
-    /// New variables for the bits of a declared Bool or word.
+    /// New variables for the bits of a term that may be a leaf.
     pub(crate) fn leaf(
         &mut self,
         alloc: Global,
@@ -67,7 +83,7 @@ impl Log {
         if self.has_bits(term) {
             return Ok(Some(Kept::Term(term)));
         }
-        match width_of(&terms.node(term).op) {
+        match width_of(terms, term) {
             None => Ok(Some(Kept::Term(term))),
             Some(width) => {
                 self.put_leaf(alloc, terms, term, width)?;
@@ -129,6 +145,55 @@ impl Log {
         }
     }
 
+    /// A variable for the equality of two terms.
+    pub(crate) fn equal(
+        &mut self,
+        alloc: Global,
+        terms: &Terms,
+        lower: TermId,
+        upper: TermId,
+    ) -> Result<Option<Kept>, AllocError>
+        requires stands { Stands terms.now.nodes self.old }
+        ensures ok { IfOk result (Tried terms.now (step.Equal lower upper) self.old self.new) }
+        ensures err { OnErr result (self.new ≡ self.old) }
+    {
+        let over = terms.len();
+        if !is_pair(terms, lower, upper) {
+            return Ok(Some(Kept::Terms(lower, upper)));
+        }
+        if !self.have_bits(lower, upper) {
+            return Ok(Some(Kept::Terms(lower, upper)));
+        }
+        match self.equal_row(lower, upper) {
+            Some(row) => Ok(Some(Kept::Variable(row.literal.variable()))),
+            None => {
+                self.put_equal(alloc, over, lower, upper)?;
+                Ok(None)
+            }
+        }
+    }
+
+    /// The clause of a lemma.
+    pub(crate) fn lemma(
+        &mut self,
+        alloc: Global,
+        terms: &Terms,
+        lemma: Lemma,
+    ) -> Result<Option<Kept>, AllocError>
+        requires stands { Stands terms.now.nodes self.old }
+        ensures ok { IfOk result (Tried terms.now (step.Lemma lemma) self.old self.new) }
+        ensures err { OnErr result (self.new ≡ self.old) }
+    {
+        let over = terms.len();
+        match self.lemma_clause(alloc, terms, &lemma)? {
+            Err(fault) => Ok(Some(Kept::Lemma(fault))),
+            Ok(clause) => {
+                self.put_lemma(alloc, over, lemma, clause)?;
+                Ok(None)
+            }
+        }
+    }
+
     // Whether a term has bits.
     fn has_bits(&self, term: TermId) -> bool
         ensures { result ≡ is_some (bits_in self.now.bits term) }
@@ -137,6 +202,36 @@ impl Log {
             Some(_) => true,
             None => false,
         }
+    }
+
+    // Whether two terms have bits.
+    fn have_bits(&self, lower: TermId, upper: TermId) -> bool
+        ensures { result ≡ (is_some (bits_in self.now.bits lower) && is_some (bits_in self.now.bits upper)) }
+    {
+        self.has_bits(lower) && self.has_bits(upper)
+    }
+
+    // The clause of a lemma over what the log has.
+    fn lemma_clause(
+        &self,
+        alloc: Global,
+        terms: &Terms,
+        lemma: &Lemma,
+    ) -> Result<Result<Clause, LemmaFault>, AllocError>
+        ensures { IfOk result (λ r. r ≡ clause_of terms.now.nodes (bits_in self.now.bits) (equal_in self.now.equals) lemma.now) }
+    {
+        match clause_of(alloc, terms, &self.bits, &self.equals, lemma) {
+            Ok(clause) => Ok(Ok(clause)),
+            Err(LemmaError::Fault(fault)) => Ok(Err(fault)),
+            Err(LemmaError::NoMemory) => Err(AllocError),
+        }
+    }
+
+    // The variable of an equality, with the position of its step.
+    fn equal_row(&self, lower: TermId, upper: TermId) -> Option<EqualRow>
+        ensures { result ≡ found self.now.equals lower upper }
+    {
+        self.equals.row(lower, upper)
     }
 
     // The bit of a term that has one.

@@ -1,4 +1,4 @@
-use Rattle.std.proofs.Common.{◌∙◌, refl}
+use Rattle.std.proofs.Common.{◌∙◌}
 use Rattle.cnf_base.proofs.Rows.{fresh_bits-push}
 use Rattle.proof_log.proofs.pushing.fresh_row.Goals as goal
 

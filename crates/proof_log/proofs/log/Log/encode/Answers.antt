@@ -1,5 +1,4 @@
 use Rattle.std.proofs.Common.{arith, sym, ◌∙◌}
-use Rattle.smt_terms.specs.Bits.{bits_in}
 use Rattle.proof_log.proofs.Standing.{next_above, stands_over}
 use Rattle.proof_log.proofs.Tried.{encode_past, encode_held, encode_done, encode_none}
 use Rattle.proof_log.proofs.log.Log.encode.Goals as goal
