@@ -2,15 +2,22 @@
 use Rattle.std.proofs.Common.{◌≡◌, ℕ, zero, suc, ◌+◌, ◌-◌, ◌/◌, ◌%◌, ◌^◌, ◌<◌, ◌≤◌, List, [], ◌∷◌, ◌++◌, length, get_or, take, map, refl, sym, ap, ◌∙◌, arith, append_assoc, eqb, Option, Some, None, IfSome, IsSome, Result, Ok, Err, OnOk, OnErr, length-append, ◌≢◌, codes}
 use Rattle.std.proofs.lemmas.Bool.Decides.{nat_tests}
 use Rattle.std.proofs.Math.Seq.{take-append_seam}
-use Rattle.std.proofs.lemmas.List.{append-nil, take-take, take_more}
+use Rattle.std.specs.Prelude.{option_to_list}
+use Rattle.std.specs.List.{flat_map}
+use Rattle.std.proofs.lemmas.List.{append-nil, map-append, take-take, take_more}
 use Rattle.std.proofs.lemmas.List.Concat.{flat_map-append}
 use Rattle.std.specs.Option.{option_map}
 use Rattle.std.specs.Fmt.{decimal}
-use Rattle.proof_text.specs.Lines.{spaced, joined, with_number, head_words, line_text, digit_of}
-use Rattle.proof_text.specs.Records.{binary}
+use Rattle.smt_values.specs.declared.value.Value.{Value as Kept}
+use Rattle.smt_values.specs.declared.value.Value.TheVariants as kept
+use Rattle.proof_text.specs.Lines.{spaced, joined, with_number, head_words, scalar_text, value_words, value_text, line_text, digit_of}
+use Rattle.proof_text.specs.Records.{binary, written_value}
+use Rattle.proof_text.specs.declared.list.WrittenScalar.{WrittenScalar}
+use Rattle.proof_text.specs.declared.line.WrittenValue.{WrittenValue}
+use Rattle.proof_text.specs.declared.line.WrittenValue.TheVariants as value
 use Rattle.proof_text.specs.declared.line.Head.{Head}
-use Rattle.proof_text.specs.declared.line.Head.TheVariants.{Plain, Word, Extract, ZeroExtend, SignExtend, RotateLeft, RotateRight, Repeat, Apply}
-use Rattle.proof_text.specs.declared.line.Line.TheVariants.{Term, Header}
+use Rattle.proof_text.specs.declared.line.Head.TheVariants.{Plain, Word, Extract, ZeroExtend, SignExtend, RotateLeft, RotateRight, Repeat, Apply, ConstantArray}
+use Rattle.proof_text.specs.declared.line.Line.TheVariants.{Term, Header, Value}
 
 -- the highest digit of so many
 pub binary_step : (width x : ℕ) → 0 < width → binary width x ≡ eqb ((x / 2 ^ (width - 1)) % 2) 1 ∷ binary (width - 1) x
@@ -59,6 +66,10 @@ header_words out a b new cubes budget e f g =
 pub chain_words : (out a b c d new : List ℕ) (ls hs : List (List ℕ)) → a ≡ out ++ 99 ∷ [] → b ≡ a ++ spaced ls → c ≡ b ++ 32 ∷ 48 ∷ [] → d ≡ c ++ spaced hs → new ≡ d ++ 10 ∷ [] → new ≡ out ++ (99 ∷ (spaced (ls ++ (48 ∷ []) ∷ hs) ++ 10 ∷ []))
 chain_words out a b c d new ls hs e f g h i = i ∙ rw (h, g, f, e, flat_map-append (λ w. 32 ∷ w) ls ((48 ∷ []) ∷ hs)) (simp append_assoc)
 
+pub accesses_words : (out a b c d new : List ℕ) (xs ys : List (List ℕ)) → a ≡ out ++ codes "l a" → b ≡ a ++ spaced xs → c ≡ b ++ codes " /" → d ≡ c ++ spaced ys → new ≡ d ++ 10 ∷ []
+    → new ≡ out ++ (108 ∷ 32 ∷ 97 ∷ (spaced (xs ++ (47 ∷ []) ∷ ys) ++ 10 ∷ []))
+accesses_words out a b c d new xs ys e f g h i = i ∙ rw (h, g, f, e, flat_map-append (λ w. 32 ∷ w) xs ((47 ∷ []) ∷ ys)) (simp append_assoc)
+
 head_spaced : (h : Head) → spaced (head_words h) ≡ 32 ∷ joined (head_words h)
 head_spaced (Plain op) = refl
 head_spaced (Word w x) = refl
@@ -69,6 +80,7 @@ head_spaced (RotateLeft i) = refl
 head_spaced (RotateRight i) = refl
 head_spaced (Repeat i) = refl
 head_spaced (Apply d) = refl
+head_spaced (ConstantArray n) = refl
 
 regroup_term : (out a b c d : List ℕ) → ((out ++ a) ++ b) ++ c ++ d ≡ out ++ (a ++ ((b ++ c) ++ d))
 regroup_term out a b c d = simp append_assoc
@@ -90,6 +102,38 @@ on_err (Err e) p = p
 pub on_ok : {T E P : Type 0} (r : Result T E) → P → OnOk r P
 on_ok (Ok x) p = p
 on_ok (Err e) p = tt
+
+-- ---- values
+
+value_spaced : (v : WrittenValue) → spaced (value_words v) ≡ 32 ∷ value_text v
+value_spaced (value.Bool b) = refl
+value_spaced (value.Word ds) = refl
+value_spaced (value.Array d es) = refl
+value_spaced (value.Fun d vs) = refl
+
+regroup_value : (out a v : List ℕ) → (((out ++ a) ++ 32 ∷ []) ++ v) ++ 10 ∷ [] ≡ out ++ (a ++ (32 ∷ v) ++ 10 ∷ [])
+regroup_value out a v = simp append_assoc
+
+pub value_line : (d : ℕ) (o : Option WrittenValue) (out a b c new : List ℕ) → IsSome o → a ≡ out ++ joined (with_number (codes "v") d) → b ≡ a ++ 32 ∷ [] → IfSome o (λ v. c ≡ b ++ value_text v) → new ≡ c ++ 10 ∷ []
+    → new ≡ out ++ flat_map line_text (map (Value d) (option_to_list o))
+value_line d None out a b c new some e f g h = absurd (let k : ⊥ = cc in k)
+value_line d (Some v) out a b c new some e f g h =
+    h ∙ rw (g, f, e, value_spaced v, append-nil (decimal d), append-nil (codes "v" ++ 32 ∷ decimal d ++ (32 ∷ value_text v) ++ 10 ∷ [])) (regroup_value out (codes "v" ++ 32 ∷ decimal d) (value_text v))
+
+pub is_written : (v : Kept) → IsSome (written_value v)
+is_written (kept.Bool b) = refl
+is_written (kept.Word w) = refl
+is_written (kept.Array a) = refl
+is_written (kept.Fun t) = refl
+
+pub scalars_append : (xs ys : List WrittenScalar) → spaced (map scalar_text (xs ++ ys)) ≡ spaced (map scalar_text xs) ++ spaced (map scalar_text ys)
+scalars_append xs ys = ap spaced (map-append scalar_text xs ys) ∙ flat_map-append (λ w. 32 ∷ w) (map scalar_text xs) (map scalar_text ys)
+
+pub row_text : (out a new : List ℕ) (xs : List WrittenScalar) (y : WrittenScalar) → a ≡ out ++ spaced (map scalar_text xs) → new ≡ a ++ 32 ∷ scalar_text y → new ≡ out ++ spaced (map scalar_text (xs ++ y ∷ []))
+row_text out a new xs y e f =
+    let parts : spaced (map scalar_text (xs ++ y ∷ [])) ≡ spaced (map scalar_text xs) ++ 32 ∷ scalar_text y =
+    scalars_append xs (y ∷ []) ∙ ap (λ t. spaced (map scalar_text xs) ++ 32 ∷ t) (append-nil (scalar_text y)) in
+    f ∙ rw (e, parts) (append_assoc out (spaced (map scalar_text xs)) (32 ∷ scalar_text y))
 
 -- ---- a text of each element
 

@@ -4,20 +4,29 @@ use Rattle.std.proofs.lemmas.Bool.{and_parts, ne_eqb}
 use Rattle.std.proofs.lemmas.List.Folds.{list_all-append}
 use Rattle.std.specs.Prelude.{nat_lt}
 use Rattle.std.specs.Fmt.{decimal}
-use Rattle.std.specs.List.{list_all, AllByRecursion}
+use Rattle.std.specs.List.{list_all, flat_map, AllByRecursion}
 use Rattle.cnf_base.proofs.Lists.{each_append}
 use Rattle.smt_terms.specs.declared.operator.Operator.{Operator}
 use Rattle.smt_terms.specs.declared.operator.Operator.TheVariants as plain
 use Rattle.proof_text.specs.Operators.{name_of}
 use Rattle.proof_text.specs.declared.list.WrittenLiteral.{WrittenLiteral}
 use Rattle.proof_text.specs.declared.list.WrittenHint.{WrittenHint}
+use Rattle.proof_text.specs.declared.list.WrittenStart.{WrittenStart}
+use Rattle.proof_text.specs.declared.list.WrittenStart.TheVariants as access
+use Rattle.proof_text.specs.declared.list.Letter.{Letter}
+use Rattle.proof_text.specs.declared.list.Letter.TheVariants.{Store, Then, Else, Sides}
+use Rattle.proof_text.specs.declared.list.WrittenMove.{WrittenMove}
+use Rattle.proof_text.specs.declared.list.WrittenAccess.{WrittenAccess}
+use Rattle.proof_text.specs.declared.list.WrittenScalar.{WrittenScalar}
+use Rattle.proof_text.specs.declared.list.WrittenScalar.TheVariants as scalar
+use Rattle.proof_text.specs.declared.list.WrittenEntry.{WrittenEntry}
 use Rattle.proof_text.specs.declared.line.Head.{Head}
-use Rattle.proof_text.specs.declared.line.Head.TheVariants.{Plain, Word, Extract, ZeroExtend, SignExtend, RotateLeft, RotateRight, Repeat, Apply}
+use Rattle.proof_text.specs.declared.line.Head.TheVariants.{Plain, Word, Extract, ZeroExtend, SignExtend, RotateLeft, RotateRight, Repeat, Apply, ConstantArray}
 use Rattle.proof_text.specs.declared.line.WrittenValue.{WrittenValue}
 use Rattle.proof_text.specs.declared.line.WrittenValue.TheVariants as value
 use Rattle.proof_text.specs.declared.line.Line.{Line}
 use Rattle.proof_text.specs.declared.line.Line.TheVariants as line
-use Rattle.proof_text.specs.Lines.{spaced, joined, head_words, literal_text, hint_text, digit_of, value_text, words_of, IsNumber, IsHead, IsLiteral, IsHint, IsLine}
+use Rattle.proof_text.specs.Lines.{spaced, joined, head_words, literal_text, hint_text, start_text, letter_text, move_words, access_words, digit_of, digits_text, scalar_text, entry_words, value_words, words_of, IsNumber, IsHead, IsLiteral, IsHint, IsStart, IsMove, IsAccess, IsLine}
 use Rattle.smt_text.specs.Lexicon.{is_digit}
 use Rattle.proof_text.proofs.Numerals.{decimal_digits, digit_range, low_enough}
 use Rattle.proof_text.proofs.Fields.{is_free}
@@ -63,10 +72,44 @@ binary_clear [] = refl
 binary_clear (true ∷ ds) = rw (binary_clear ds) refl
 binary_clear (false ∷ ds) = rw (binary_clear ds) refl
 
-value_clear : (v : WrittenValue) → is_clear (value_text v) ≡ true
-value_clear (value.Bool true) = refl
-value_clear (value.Bool false) = refl
-value_clear (value.Word ds) = rw (binary_clear ds) refl
+digits_text_clear : (ds : List Bool) → is_clear (digits_text ds) ≡ true
+digits_text_clear ds = rw (binary_clear ds) refl
+
+scalar_clear : (v : WrittenScalar) → is_clear (scalar_text v) ≡ true
+scalar_clear (scalar.Bool true) = refl
+scalar_clear (scalar.Bool false) = refl
+scalar_clear (scalar.Word ds) = digits_text_clear ds
+
+scalars_clear : (vs : List WrittenScalar) → AreClear (map scalar_text vs)
+scalars_clear [] = tt
+scalars_clear (v ∷ vs) = (scalar_clear v, scalars_clear vs)
+
+entries_clear : (es : List WrittenEntry) → AreClear (flat_map entry_words es)
+entries_clear [] = tt
+entries_clear (e ∷ es) = (digits_text_clear e.index, (digits_text_clear e.element, entries_clear es))
+
+value_clear : (v : WrittenValue) → AreClear (value_words v)
+value_clear (value.Bool b) = (scalar_clear (scalar.Bool b), tt)
+value_clear (value.Word ds) = (digits_text_clear ds, tt)
+value_clear (value.Array d es) = (refl, (digits_text_clear d, entries_clear es))
+value_clear (value.Fun d vs) = (refl, (scalar_clear d, scalars_clear vs))
+
+start_clear : (s : WrittenStart) → IsStart s → is_clear (start_text s) ≡ true
+start_clear (access.Term t) h = number_clear t h
+start_clear (access.Const k j) h = rw (list_all-append (λ b. nat_lt 32 b) (decimal k) (64 ∷ decimal j), number_clear k h.0, number_clear j h.1) refl
+
+letter_clear : (l : Letter) → is_clear (letter_text l) ≡ true
+letter_clear Store = refl
+letter_clear Then = refl
+letter_clear Else = refl
+letter_clear Sides = refl
+
+moves_clear : (ms : List WrittenMove) → AllByRecursion IsMove ms → AreClear (flat_map move_words ms)
+moves_clear [] all = tt
+moves_clear (m ∷ ms) all = (letter_clear m.letter, (number_clear m.term all.0, moves_clear ms all.1))
+
+access_clear : (a : WrittenAccess) → IsAccess a → AreClear (access_words a)
+access_clear a h = (start_clear a.start h.start, moves_clear a.moves h.moves)
 
 name_clear : (op : Operator) → is_clear (name_of op) ≡ true
 name_clear plain.True = refl
@@ -121,6 +164,7 @@ head_clear (RotateLeft i) k = (refl, (number_clear i k, tt))
 head_clear (RotateRight i) k = (refl, (number_clear i k, tt))
 head_clear (Repeat i) k = (refl, (number_clear i k, tt))
 head_clear (Apply i) k = (refl, (number_clear i k, tt))
+head_clear (ConstantArray i) k = (refl, (number_clear i k, tt))
 
 pub words_clear : (l : Line) → IsLine l → AreClear (words_of l)
 words_clear (line.Header c b) h = (refl, (refl, (refl, (number_clear c h.0, (refl, (number_clear b h.1, tt))))))
@@ -133,8 +177,13 @@ words_clear (line.Chain clause hints) h = (
   each_append (λ w. is_clear w ≡ true) (map literal_text clause) ((48 ∷ []) ∷ map hint_text hints) (all_map IsLiteral (λ w. is_clear w ≡ true) literal_text literal_clear clause h.0)
       (refl, all_map IsHint (λ w. is_clear w ≡ true) hint_text hint_clear hints h.1),
 )
+words_clear (line.Equal t u) h = (refl, (number_clear t h.0, (number_clear u h.1, tt)))
+words_clear (line.Congruence t u) h = (refl, (refl, (number_clear t h.0, (number_clear u h.1, tt))))
+words_clear (line.Witness t) h = (refl, (refl, (number_clear t h, tt)))
+words_clear (line.Accesses a b) h =
+    (refl, (refl, each_append (λ w. is_clear w ≡ true) (access_words a) ((47 ∷ []) ∷ access_words b) (access_clear a h.0) (refl, access_clear b h.1)))
 words_clear (line.Sat n) h = (refl, (number_clear n h, tt))
-words_clear (line.Value d v) h = (refl, (number_clear d h.0, (value_clear v, tt)))
+words_clear (line.Value d v) h = (refl, (number_clear d h.0, value_clear v))
 words_clear (line.Unsat n) h = (refl, (number_clear n h, tt))
 words_clear (line.Unknown n g c) h = (refl, (number_clear n h.0, (number_clear g h.1, (number_clear c h.2, tt))))
 words_clear (line.Take n) h = (refl, (number_clear n h, tt))

@@ -1,11 +1,10 @@
 -- Words that are joined by marks, and split at them.
-use Rattle.std.proofs.Common.{◌≡◌, ℕ, ◌<◌, Bool, true, false, not, cond, List, [], ◌∷◌, ◌++◌, length, refl, ◌∙◌, arith, append-nil, eqb}
+use Rattle.std.proofs.Common.{◌≡◌, ◌≢◌, ℕ, ◌<◌, Bool, true, false, not, cond, List, [], ◌∷◌, ◌++◌, length, refl, ap, ◌∙◌, arith, append-nil, eqb}
 use Rattle.std.proofs.lemmas.Bool.{and_parts, eqb-true, eq-eqb, ne_eqb, not-true}
 use Rattle.std.specs.List.{flat_map, list_all, AllByRecursion}
 use Rattle.smt_text.specs.Lexicon.{is_digit}
 use Rattle.proof_text.specs.Reading.{fields, longer}
 use Rattle.proof_text.proofs.Splitting.{in_front, nothing_in_front, some_word}
-use Rattle.proof_text.proofs.Numerals.{digit_range}
 
 -- the mark does not stand in the word
 abbrev pub is_free : ℕ → List ℕ → Bool
@@ -38,6 +37,11 @@ fields_joined mark w (v ∷ vs) free =
     let same : eqb mark mark ≡ true = eq-eqb mark mark refl in
     fields_word mark w (marked mark (v ∷ vs)) free.0 ∙ rw (same, fields_joined mark v vs free.1, append-nil w) refl
 
+not_a_digit : (b mark : ℕ) → is_digit b ≡ true → is_digit mark ≡ false → b ≢ mark
+not_a_digit b mark h k e =
+    let same : is_digit b ≡ is_digit mark = ap is_digit e in
+    let z : ⊥ = cc in z
+
 joined_longer : (mark b : ℕ) (ws : List (List ℕ)) → joined_by mark (longer b ws) ≡ b ∷ joined_by mark ws
 joined_longer mark b [] = refl
 joined_longer mark b (w ∷ ws) = refl
@@ -58,11 +62,10 @@ unfolding fields
 joined_fields mark [] = refl
 joined_fields mark (b ∷ bs) = joined_chosen (eqb b mark) mark b bs refl (joined_fields mark bs)
 
--- digits are no marks
-pub digits_free : (mark : ℕ) (w : List ℕ) → mark < 48 → list_all is_digit w ≡ true → is_free mark w ≡ true
-digits_free mark [] low h = refl
-digits_free mark (b ∷ w) low h =
+-- digits have no mark that is none
+pub digits_free : (mark : ℕ) (w : List ℕ) → is_digit mark ≡ false → list_all is_digit w ≡ true → is_free mark w ≡ true
+digits_free mark [] other h = refl
+digits_free mark (b ∷ w) other h =
     let p = and_parts (is_digit b) (list_all is_digit w) h in
-    let r = digit_range b p.0 in
-    let other : eqb b mark ≡ false = ne_eqb b mark (λ e. absurd (omega arith)) in
-    rw (other, digits_free mark w low p.1) refl
+    let unlike : eqb b mark ≡ false = ne_eqb b mark (not_a_digit b mark p.0 other) in
+    rw (unlike, digits_free mark w other p.1) refl

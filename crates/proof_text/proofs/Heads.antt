@@ -1,9 +1,8 @@
--- Names, terms and values are read exactly.
-use Rattle.std.proofs.Common.{◌≡◌, ℕ, ◌^◌, ◌<◌, Bool, true, false, ◌&&◌, cond, List, [], ◌∷◌, ◌++◌, length, refl, sym, ap, subst, ◌∙◌, arith, eqb, codes, Option, Some, None}
-use Rattle.std.proofs.lemmas.Bool.{and_parts, eqb-true}
-use Rattle.std.proofs.lemmas.List.{length-map}
+-- Names and terms are read exactly.
+use Rattle.std.proofs.Common.{◌≡◌, ℕ, ◌^◌, ◌<◌, Bool, true, false, cond, List, [], ◌∷◌, ◌++◌, refl, sym, ap, subst, ◌∙◌, arith, codes, Option, Some, None}
+use Rattle.std.proofs.lemmas.Bool.{and_parts}
 use Rattle.std.specs.Fmt.{decimal}
-use Rattle.std.specs.List.{list_all, AllByRecursion}
+use Rattle.std.specs.List.{list_all}
 use Rattle.std.specs.Str.{bytes_eq}
 use Rattle.smt_terms.specs.declared.operator.Operator.{Operator}
 use Rattle.smt_terms.specs.declared.operator.Operator.TheVariants as plain
@@ -13,13 +12,11 @@ use Rattle.proof_text.specs.declared.keyword.Keyword.TheVariants as key
 use Rattle.proof_text.specs.declared.keyword.Indexed.{Indexed}
 use Rattle.proof_text.specs.declared.keyword.Indexed.TheVariants as indexed
 use Rattle.proof_text.specs.declared.line.Head.{Head}
-use Rattle.proof_text.specs.declared.line.Head.TheVariants.{Plain, Word, Extract, ZeroExtend, SignExtend, RotateLeft, RotateRight, Repeat, Apply}
-use Rattle.proof_text.specs.declared.line.WrittenValue.{WrittenValue}
-use Rattle.proof_text.specs.declared.line.WrittenValue.TheVariants as value
-use Rattle.proof_text.specs.Lines.{with_number, head_words, digit_of, value_text, IsNumber, IsHead, IsValue}
-use Rattle.proof_text.specs.Reading.{◌>>=◌, look_up, number_of, number_at, wide_at, indexed_names, with_index, indexed_at, named_at, head_at, digit_in, digits_of, binary_of, value_of, keywords}
+use Rattle.proof_text.specs.declared.line.Head.TheVariants.{Plain, Word, Extract, ZeroExtend, SignExtend, RotateLeft, RotateRight, Repeat, Apply, ConstantArray}
+use Rattle.proof_text.specs.Lines.{with_number, head_words, IsNumber, IsHead}
+use Rattle.proof_text.specs.Reading.{◌>>=◌, look_up, number_of, number_at, wide_at, indexed_names, with_index, indexed_at, named_at, head_at, keywords}
 use Rattle.proof_text.proofs.Numerals.{number_reads, number_says}
-use Rattle.proof_text.proofs.Literals.{bind_some, each_reads, each_says, number_at_says, number_in_reads, same_text}
+use Rattle.proof_text.proofs.Literals.{bind_some, number_at_says, number_in_reads, same_text}
 
 -- ---- names
 
@@ -27,7 +24,7 @@ table_chosen : {A : Type 0} (name : A → List ℕ) (q : Bool) (x : List ℕ × 
 table_chosen name true x o w a k b ih e = same_text w x.0 k ∙ same_text x.0 (name x.1) b ∙ (let q : x.1 ≡ a = cc in ap name q)
 table_chosen name false x o w a k b ih e = ih e
 
-table_says : {A : Type 0} (name : A → List ℕ) (es : List (List ℕ × A)) → list_all (λ e. bytes_eq e.0 (name e.1)) es ≡ true → (w : List ℕ) (a : A) → look_up es w ≡ Some a → w ≡ name a
+pub table_says : {A : Type 0} (name : A → List ℕ) (es : List (List ℕ × A)) → list_all (λ e. bytes_eq e.0 (name e.1)) es ≡ true → (w : List ℕ) (a : A) → look_up es w ≡ Some a → w ≡ name a
 table_says name [] all w a e = absurd (let k : ⊥ = cc in k)
 table_says name (x ∷ es) all w a e =
     let b = and_parts (bytes_eq x.0 (name x.1)) (list_all (λ e. bytes_eq e.0 (name e.1)) es) all in
@@ -88,6 +85,7 @@ indexed_name indexed.RotateLeft = codes "rotate_left"
 indexed_name indexed.RotateRight = codes "rotate_right"
 indexed_name indexed.Repeat = codes "repeat"
 indexed_name indexed.Apply = codes "apply"
+indexed_name indexed.ConstantArray = codes "const"
 
 indexed_says : (w : List ℕ) (name : Indexed) → look_up indexed_names w ≡ Some name → w ≡ indexed_name name
 unfolding indexed_name
@@ -100,6 +98,8 @@ keyword_name key.Leaf = codes "f"
 keyword_name key.Encode = codes "e"
 keyword_name key.Selector = codes "s"
 keyword_name key.Chain = codes "c"
+keyword_name key.Equal = codes "q"
+keyword_name key.Lemma = codes "l"
 keyword_name key.Sat = codes "sat"
 keyword_name key.Value = codes "v"
 keyword_name key.Unsat = codes "unsat"
@@ -143,6 +143,7 @@ head_reads (RotateLeft i) ws k = rw (number_in_reads i k) refl
 head_reads (RotateRight i) ws k = rw (number_in_reads i k) refl
 head_reads (Repeat i) ws k = rw (number_in_reads i k) refl
 head_reads (Apply i) ws k = rw (number_in_reads i k) refl
+head_reads (ConstantArray i) ws k = rw (number_in_reads i k) refl
 
 with_index_says : (make : ℕ → Head) (name : List ℕ) → ((n : ℕ) → head_words (make n) ≡ with_number name n) → ((n : ℕ) → IsNumber n → IsHead (make n))
     → (ws : List (List ℕ)) (r : Head × List (List ℕ)) → with_index make ws ≡ Some r → StartsWithHead (name ∷ ws) r.0 r.1
@@ -177,6 +178,7 @@ indexed_at_says indexed.RotateLeft ws r e = with_index_says RotateLeft (codes "r
 indexed_at_says indexed.RotateRight ws r e = with_index_says RotateRight (codes "rotate_right") (λ n. refl) (λ n k. k) ws r e
 indexed_at_says indexed.Repeat ws r e = with_index_says Repeat (codes "repeat") (λ n. refl) (λ n k. k) ws r e
 indexed_at_says indexed.Apply ws r e = with_index_says Apply (codes "apply") (λ n. refl) (λ n k. k) ws r e
+indexed_at_says indexed.ConstantArray ws r e = with_index_says ConstantArray (codes "const") (λ n. refl) (λ n k. k) ws r e
 
 named_says : (o : Option Operator) (w : List ℕ) (ws : List (List ℕ)) (r : Head × List (List ℕ)) → look_up operator_names w ≡ o → named_at o w ws ≡ Some r → StartsWithHead (w ∷ ws) r.0 r.1
 named_says (Some op) w ws r k e =
@@ -191,63 +193,3 @@ named_says None w ws r k e =
 pub head_says : (ws : List (List ℕ)) (r : Head × List (List ℕ)) → head_at ws ≡ Some r → StartsWithHead ws r.0 r.1
 head_says [] r e = absurd (let k : ⊥ = cc in k)
 head_says (w ∷ ws) r e = named_says (look_up operator_names w) w ws r refl e
-
--- ---- values
-
-digit_reads : (d : Bool) → Unit {0} → digit_in (digit_of d) ≡ Some d
-digit_reads true u = refl
-digit_reads false u = refl
-
-digit_says : (b : ℕ) (d : Bool) → digit_in b ≡ Some d → (b ≡ digit_of d) × Unit {0}
-digit_says b d e = digit_chosen (eqb b 48) (eqb b 49) b d refl refl e
-  where
-    digit_chosen : (p q : Bool) (b : ℕ) (d : Bool) → eqb b 48 ≡ p → eqb b 49 ≡ q → cond p (Some false) (cond q (Some true) None) ≡ Some d → (b ≡ digit_of d) × Unit {0}
-    digit_chosen true q b d k l e = (eqb-true b 48 k ∙ (let z : false ≡ d = cc in ap digit_of z), tt)
-    digit_chosen false true b d k l e = (eqb-true b 49 l ∙ (let z : true ≡ d = cc in ap digit_of z), tt)
-    digit_chosen false false b d k l e = absurd (let z : ⊥ = cc in z)
-
-all_units : (ds : List Bool) → AllByRecursion (λ (d : Bool). Unit {0}) ds
-all_units [] = tt
-all_units (d ∷ ds) = (tt, all_units ds)
-
-pub value_reads : (v : WrittenValue) → IsValue v → value_of (value_text v) ≡ Some v
-value_reads (value.Bool true) h = refl
-value_reads (value.Bool false) h = refl
-value_reads (value.Word []) h = absurd (omega arith)
-value_reads (value.Word (d ∷ ds)) h = rw (each_reads digit_in digit_of (λ x. Unit {0}) digit_reads (d ∷ ds) (all_units (d ∷ ds))) refl
-
-pub record IsReadValue (w : List ℕ) (v : WrittenValue) : Type 0 where
-  pub text : w ≡ value_text v
-  pub fits : IsValue v
-
-binary_by : (q : Bool) (a b c : ℕ) (bs : List ℕ) (v : WrittenValue) → (eqb a 35 && eqb b 98) ≡ q → cond q (digits_of (c ∷ bs) >>= λ ds. Some (value.Word ds)) None ≡ Some v → IsReadValue (a ∷ b ∷ c ∷ bs) v
-binary_by true a b c bs v k e =
-    let p = and_parts (eqb a 35) (eqb b 98) k in
-    let first : a ≡ 35 = eqb-true a 35 p.0 in
-    let second : b ≡ 98 = eqb-true b 98 p.1 in
-    let d = bind_some (digits_of (c ∷ bs)) (λ ds. Some (value.Word ds)) v e in
-    let same : value.Word d.0 ≡ v = let q = d.2 in cc in
-    let s = each_says digit_in digit_of (λ x. Unit {0}) digit_says (c ∷ bs) d.0 d.1 in
-    let long : length (c ∷ bs) ≡ length d.0 = ap length s.0 ∙ length-map d.0 digit_of in
-    subst (λ (x : WrittenValue). IsReadValue (a ∷ b ∷ c ∷ bs) x) same
-    (record { text = rw (first, second) (ap (λ vs. 35 ∷ 98 ∷ vs) s.0); fits = omega arith })
-binary_by false a b c bs v k e = absurd (let z : ⊥ = cc in z)
-
-binary_says : (w : List ℕ) (v : WrittenValue) → binary_of w ≡ Some v → IsReadValue w v
-binary_says [] v e = absurd (let z : ⊥ = cc in z)
-binary_says (a ∷ []) v e = absurd (let z : ⊥ = cc in z)
-binary_says (a ∷ b ∷ []) v e = absurd (let z : ⊥ = cc in z)
-binary_says (a ∷ b ∷ c ∷ bs) v e = binary_by (eqb a 35 && eqb b 98) a b c bs v refl e
-
-value_by : (p q : Bool) (w : List ℕ) (v : WrittenValue) → bytes_eq w (codes "true") ≡ p → bytes_eq w (codes "false") ≡ q
-    → cond p (Some (value.Bool true)) (cond q (Some (value.Bool false)) (binary_of w)) ≡ Some v → IsReadValue w v
-value_by true q w v k l e =
-    let same : value.Bool true ≡ v = cc in
-    subst (IsReadValue w) same (record { text = same_text w (codes "true") k; fits = tt })
-value_by false true w v k l e =
-    let same : value.Bool false ≡ v = cc in
-    subst (IsReadValue w) same (record { text = same_text w (codes "false") l; fits = tt })
-value_by false false w v k l e = binary_says w v e
-
-pub value_says : (w : List ℕ) (v : WrittenValue) → value_of w ≡ Some v → IsReadValue w v
-value_says w v e = value_by (bytes_eq w (codes "true")) (bytes_eq w (codes "false")) w v refl refl e

@@ -5,6 +5,8 @@ pub mod Numerals
 pub mod Fields
 pub mod Literals
 pub mod Heads
+pub mod Accesses
+pub mod WrittenValues
 pub mod LineWords
 pub mod Clear
 pub mod Exact

@@ -1,22 +1,32 @@
 -- The words of a line are read exactly.
-use Rattle.std.proofs.Common.{◌≡◌, ℕ, Bool, true, false, cond, List, [], ◌∷◌, ◌++◌, map, refl, sym, ap, subst, ◌∙◌, codes, Some, None}
+use Rattle.std.proofs.Common.{◌≡◌, ℕ, Bool, true, false, cond, List, [], ◌∷◌, ◌++◌, map, refl, sym, ap, subst, ◌∙◌, append-nil, codes, Some, None}
 use Rattle.std.specs.Fmt.{decimal}
 use Rattle.std.specs.Str.{bytes_eq}
 use Rattle.proof_text.specs.declared.keyword.Keyword.{Keyword}
 use Rattle.proof_text.specs.declared.keyword.Keyword.TheVariants as key
-use Rattle.proof_text.specs.declared.line.WrittenValue.{WrittenValue}
+use Rattle.proof_text.specs.declared.keyword.LemmaKind.{LemmaKind}
+use Rattle.proof_text.specs.declared.keyword.LemmaKind.TheVariants as kind
+use Rattle.proof_text.specs.declared.list.WrittenAccess.{WrittenAccess}
 use Rattle.proof_text.specs.declared.line.Line.{Line}
 use Rattle.proof_text.specs.declared.line.Line.TheVariants as line
-use Rattle.proof_text.specs.Lines.{with_number, head_words, literal_text, hint_text, value_text, words_of, IsNumber, IsHint, IsValue, IsLine}
-use Rattle.proof_text.specs.Reading.{◌>>=◌, look_up, number_in, number_at, ended, only_number, numbers_of, literals_at, hint_of, hints_of, chain_of, head_at, term_of, value_of, value_at, declared_of, exactly, header_of, unknown_of, keywords, one_number, line_by, line_of}
-use Rattle.proof_text.proofs.Literals.{bind_some, each_reads, each_says, ended_says, hint_reads, hint_says, literals_read, literals_say, number_at_says, number_in_reads, number_in_says, only_number_says, same_text}
-use Rattle.proof_text.proofs.Heads.{head_reads, head_says, keyword_name, keyword_says, value_reads, value_says}
+use Rattle.proof_text.specs.Lines.{with_number, head_words, literal_text, hint_text, access_words, words_of, IsNumber, IsHint, IsAccess, IsLine}
+use Rattle.proof_text.specs.Reading.{◌>>=◌, look_up, number_in, number_at, ended, only_number, numbers_of, literals_at, hint_of, hints_of, chain_of, head_at, term_of, value_of, declared_of, exactly, access_at, accesses_of, two_numbers, one_number, lemma_names, lemma_by, lemma_of, header_of, unknown_of, keywords, line_by, line_of}
+use Rattle.proof_text.proofs.Literals.{bind_is, bind_some, each_reads, each_says, ended_says, hint_reads, hint_says, literals_read, literals_say, number_at_says, number_in_reads, number_in_says, only_number_says, same_text}
+use Rattle.proof_text.proofs.Heads.{head_reads, head_says, keyword_name, keyword_says, table_says}
+use Rattle.proof_text.proofs.WrittenValues.{value_reads, value_says}
+use Rattle.proof_text.proofs.Accesses.{moves_end, access_reads, access_ends, access_says}
 
 -- ---- lines
 
 pub record IsReadLine (ws : List (List ℕ)) (l : Line) : Type 0 where
   pub words : ws ≡ words_of l
   pub fits : IsLine l
+
+accesses_read : (a b : WrittenAccess) → IsAccess a → IsAccess b → accesses_of (access_words a ++ codes "/" ∷ access_words b) ≡ Some (line.Accesses a b)
+accesses_read a b h k =
+    bind_is (access_at (access_words a ++ codes "/" ∷ access_words b)) (a, codes "/" ∷ access_words b)
+    (λ r. exactly (codes "/") r.1 >>= λ q. access_at q >>= λ c. ended (line.Accesses r.0 c.0) c.1) (access_reads a (codes "/" ∷ access_words b) h (moves_end (access_words b)))
+    ∙ bind_is (access_at (access_words b)) (b, []) (λ c. ended (line.Accesses a c.0) c.1) (access_ends b k)
 
 pub words_read : (l : Line) → IsLine l → line_of (words_of l) ≡ Some l
 words_read (line.Header c b) h = rw (number_in_reads c h.0, number_in_reads b h.1) refl
@@ -25,6 +35,10 @@ words_read (line.Leaf t) h = rw (number_in_reads t h) refl
 words_read (line.Encode t) h = rw (number_in_reads t h) refl
 words_read (line.Selector a) h = rw (number_in_reads a h) refl
 words_read (line.Chain clause hints) h = rw (literals_read clause (map hint_text hints) h.0, each_reads hint_of hint_text IsHint hint_reads hints h.1) refl
+words_read (line.Equal t u) h = rw (number_in_reads t h.0, number_in_reads u h.1) refl
+words_read (line.Congruence t u) h = rw (number_in_reads t h.0, number_in_reads u h.1) refl
+words_read (line.Witness t) h = rw (number_in_reads t h) refl
+words_read (line.Accesses a b) h = accesses_read a b h.0 h.1
 words_read (line.Sat n) h = rw (number_in_reads n h) refl
 words_read (line.Value d v) h = rw (number_in_reads d h.0, value_reads v h.1) refl
 words_read (line.Unsat p) h = rw (number_in_reads p h) refl
@@ -94,27 +108,15 @@ chain_says ws l e =
     subst (IsReadLine (codes "c" ∷ ws)) same
     (record { words = ap (λ vs. codes "c" ∷ vs) (s.words ∙ ap (λ vs. map literal_text b.0.0 ++ (48 ∷ []) ∷ vs) t.0); fits = (s.each, t.1) })
 
-record StartsWithValue (ws : List (List ℕ)) (v : WrittenValue) (rest : List (List ℕ)) : Type 0 where
-  words : ws ≡ value_text v ∷ rest
-  fits : IsValue v
-
-value_at_says : (ws : List (List ℕ)) (r : WrittenValue × List (List ℕ)) → value_at ws ≡ Some r → StartsWithValue ws r.0 r.1
-value_at_says [] r e = absurd (let z : ⊥ = cc in z)
-value_at_says (w ∷ ws) r e =
-    let b = bind_some (value_of w) (λ v. Some (v, ws)) r e in
-    let same : ◌≡◌ {A = WrittenValue × List (List ℕ)} (b.0, ws) r = let q = b.2 in cc in
-    let s = value_says w b.0 b.1 in
-    subst (λ (x : WrittenValue × List (List ℕ)). StartsWithValue (w ∷ ws) x.0 x.1) same (record { words = ap (λ v. v ∷ ws) s.text; fits = s.fits })
-
 declared_says : (ws : List (List ℕ)) (l : Line) → declared_of ws ≡ Some l → IsReadLine (codes "v" ∷ ws) l
 declared_says ws l e =
-    let b = bind_some (number_at ws) (λ r. value_at r.1 >>= λ s. ended (line.Value r.0 s.0) s.1) l e in
-    let d = bind_some (value_at b.0.1) (λ s. ended (line.Value b.0.0 s.0) s.1) l b.2 in
-    let q = ended_says (line.Value b.0.0 d.0.0) l d.0.1 d.2 in
+    let b = bind_some (number_at ws) (λ r. value_of r.1 >>= λ v. Some (line.Value r.0 v)) l e in
+    let d = bind_some (value_of b.0.1) (λ v. Some (line.Value b.0.0 v)) l b.2 in
+    let same : line.Value b.0.0 d.0 ≡ l = let q = d.2 in cc in
     let s = number_at_says ws b.0 b.1 in
-    let t = value_at_says b.0.1 d.0 d.1 in
-    subst (IsReadLine (codes "v" ∷ ws)) q.0
-    (record { words = ap (λ vs. codes "v" ∷ vs) (s.words ∙ ap (λ vs. decimal b.0.0 ∷ vs) (t.words ∙ ap (λ vs. value_text d.0.0 ∷ vs) q.1)); fits = (s.bound, t.fits) })
+    let t = value_says b.0.1 d.0 d.1 in
+    subst (IsReadLine (codes "v" ∷ ws)) same
+    (record { words = ap (λ vs. codes "v" ∷ vs) (s.words ∙ ap (λ vs. decimal b.0.0 ∷ vs) t.words); fits = (s.bound, t.fits) })
 
 unknown_says : (ws : List (List ℕ)) (l : Line) → unknown_of ws ≡ Some l → IsReadLine (codes "unknown" ∷ ws) l
 unknown_says ws l e =
@@ -128,6 +130,65 @@ unknown_says ws l e =
     subst (IsReadLine (codes "unknown" ∷ ws)) same
     (record { words = ap (λ vs. codes "unknown" ∷ vs) (s.words ∙ ap (λ vs. decimal a.0.0 ∷ vs) (t.words ∙ ap (λ vs. decimal b.0.0 ∷ vs) u.words)); fits = (s.bound, t.bound, u.bound) })
 
+-- ---- lemmas
+
+two_numbers_say : (make : ℕ → ℕ → Line) (front : List (List ℕ)) → ((t u : ℕ) → words_of (make t u) ≡ front ++ decimal t ∷ decimal u ∷ []) → ((t u : ℕ) → IsNumber t → IsNumber u → IsLine (make t u))
+    → (ws : List (List ℕ)) (l : Line) → two_numbers make ws ≡ Some l → IsReadLine (front ++ ws) l
+two_numbers_say make front words fits ws l e =
+    let b = bind_some (number_at ws) (λ r. only_number r.1 >>= λ u. Some (make r.0 u)) l e in
+    let d = bind_some (only_number b.0.1) (λ u. Some (make b.0.0 u)) l b.2 in
+    let same : make b.0.0 d.0 ≡ l = let q = d.2 in cc in
+    let s = number_at_says ws b.0 b.1 in
+    let t = only_number_says b.0.1 d.0 d.1 in
+    subst (IsReadLine (front ++ ws)) same
+    (record { words = ap (λ vs. front ++ vs) (s.words ∙ ap (λ vs. decimal b.0.0 ∷ vs) t.words) ∙ sym (words b.0.0 d.0); fits = fits b.0.0 d.0 s.bound t.bound })
+
+witness_says : (ws : List (List ℕ)) (l : Line) → one_number line.Witness ws ≡ Some l → IsReadLine (codes "l" ∷ codes "w" ∷ ws) l
+witness_says ws l e =
+    let b = bind_some (only_number ws) (λ n. Some (line.Witness n)) l e in
+    let same : line.Witness b.0 ≡ l = let q = b.2 in cc in
+    let s = only_number_says ws b.0 b.1 in
+    subst (IsReadLine (codes "l" ∷ codes "w" ∷ ws)) same (record { words = ap (λ vs. codes "l" ∷ codes "w" ∷ vs) s.words; fits = s.bound })
+
+accesses_say : (ws : List (List ℕ)) (l : Line) → accesses_of ws ≡ Some l → IsReadLine (codes "l" ∷ codes "a" ∷ ws) l
+accesses_say ws l e =
+    let a = bind_some (access_at ws) _ l e in
+    let b = bind_some (exactly (codes "/") a.0.1) _ l a.2 in
+    let c = bind_some (access_at b.0) (λ c. ended (line.Accesses a.0.0 c.0) c.1) l b.2 in
+    let q = ended_says (line.Accesses a.0.0 c.0.0) l c.0.1 c.2 in
+    let s = access_says ws a.0 a.1 in
+    let t = access_says b.0 c.0 c.1 in
+    let between = exactly_says (codes "/") a.0.1 b.0 b.1 in
+    let last = t.words ∙ ap (λ vs. access_words c.0.0 ++ vs) q.1 ∙ append-nil (access_words c.0.0) in
+    subst (IsReadLine (codes "l" ∷ codes "a" ∷ ws)) q.0
+    (record {
+      words = ap (λ vs. codes "l" ∷ codes "a" ∷ vs) (s.words ∙ ap (λ vs. access_words a.0.0 ++ vs) (between ∙ ap (λ vs. codes "/" ∷ vs) last));
+      fits = (s.fits, t.fits);
+    })
+
+lemma_name : LemmaKind → List ℕ
+lemma_name kind.Congruence = codes "c"
+lemma_name kind.Witness = codes "w"
+lemma_name kind.Accesses = codes "a"
+
+lemma_name_says : (w : List ℕ) (k : LemmaKind) → look_up lemma_names w ≡ Some k → w ≡ lemma_name k
+unfolding lemma_name
+lemma_name_says w k e = table_says lemma_name lemma_names refl w k e
+
+lemma_read : (k : LemmaKind) (ws : List (List ℕ)) (l : Line) → lemma_by k ws ≡ Some l → IsReadLine (codes "l" ∷ lemma_name k ∷ ws) l
+unfolding lemma_name
+lemma_read kind.Congruence ws l e = two_numbers_say line.Congruence (codes "l" ∷ codes "c" ∷ []) (λ t u. refl) (λ t u h k. (h, k)) ws l e
+lemma_read kind.Witness ws l e = witness_says ws l e
+lemma_read kind.Accesses ws l e = accesses_say ws l e
+
+lemma_says : (ws : List (List ℕ)) (l : Line) → lemma_of ws ≡ Some l → IsReadLine (codes "l" ∷ ws) l
+lemma_says [] l e = absurd (let z : ⊥ = cc in z)
+lemma_says (w ∷ ws) l e =
+    let b = bind_some (look_up lemma_names w) (λ k. lemma_by k ws) l e in
+    subst (λ (v : List ℕ). IsReadLine (codes "l" ∷ v ∷ ws) l) (sym (lemma_name_says w b.0 b.1)) (lemma_read b.0 ws l b.2)
+
+-- ---- all lines
+
 keyword_read : (k : Keyword) (ws : List (List ℕ)) (l : Line) → line_by k ws ≡ Some l → IsReadLine (keyword_name k ∷ ws) l
 unfolding keyword_name
 keyword_read key.Header ws l e = header_says ws l e
@@ -136,6 +197,8 @@ keyword_read key.Leaf ws l e = one_number_says line.Leaf (codes "f") (λ n. refl
 keyword_read key.Encode ws l e = one_number_says line.Encode (codes "e") (λ n. refl) (λ n k. k) ws l e
 keyword_read key.Selector ws l e = one_number_says line.Selector (codes "s") (λ n. refl) (λ n k. k) ws l e
 keyword_read key.Chain ws l e = chain_says ws l e
+keyword_read key.Equal ws l e = two_numbers_say line.Equal (codes "q" ∷ []) (λ t u. refl) (λ t u h k. (h, k)) ws l e
+keyword_read key.Lemma ws l e = lemma_says ws l e
 keyword_read key.Sat ws l e = one_number_says line.Sat (codes "sat") (λ n. refl) (λ n k. k) ws l e
 keyword_read key.Value ws l e = declared_says ws l e
 keyword_read key.Unsat ws l e = one_number_says line.Unsat (codes "unsat") (λ n. refl) (λ n k. k) ws l e

@@ -17,6 +17,9 @@ pub bind_some : {A B : Type 0} (o : Option A) (f : A → Option B) (y : B) → (
 bind_some None f y e = absurd (let k : ⊥ = cc in k)
 bind_some (Some x) f y e = (x, refl, e)
 
+pub bind_is : {A B : Type 0} (o : Option A) (x : A) (f : A → Option B) → o ≡ Some x → (o >>= f) ≡ f x
+bind_is o x f e = ap (λ p. p >>= f) e
+
 pub same_text : (a b : List ℕ) → bytes_eq a b ≡ true → a ≡ b
 same_text a b e = (bytes_eq-Decides a b).0 e
 
@@ -177,14 +180,14 @@ literals_say (w ∷ ws) r e = literals_chosen (bytes_eq w (48 ∷ [])) w ws r re
 
 -- ---- hints
 
-digits_of_number : (mark n : ℕ) → mark < 48 → IsNumber n → is_free mark (decimal n) ≡ true
-digits_of_number mark n low h = digits_free mark (decimal n) low (decimal_digits n (omega arith))
+pub digits_of_number : (mark n : ℕ) → is_digit mark ≡ false → IsNumber n → is_free mark (decimal n) ≡ true
+digits_of_number mark n other h = digits_free mark (decimal n) other (decimal_digits n (omega arith))
 
 pub hint_reads : (h : WrittenHint) → IsHint h → hint_of (hint_text h) ≡ Some h
 hint_reads h k =
     let joined_is : joined_by 46 (decimal h.pos ∷ decimal h.part ∷ []) ≡ hint_text h = rw (append-nil (decimal h.part)) refl in
     let split : fields 46 (hint_text h) ≡ decimal h.pos ∷ decimal h.part ∷ [] =
-    ap (fields 46) (sym joined_is) ∙ fields_joined 46 (decimal h.pos) (decimal h.part ∷ []) (digits_of_number 46 h.pos (omega arith) k.pos, (digits_of_number 46 h.part (omega arith) k.part, tt)) in
+    ap (fields 46) (sym joined_is) ∙ fields_joined 46 (decimal h.pos) (decimal h.part ∷ []) (digits_of_number 46 h.pos refl k.pos, (digits_of_number 46 h.part refl k.part, tt)) in
     rw (split, number_in_reads h.pos k.pos, number_in_reads h.part k.part) refl
 
 pub hint_says : (w : List ℕ) (h : WrittenHint) → hint_of w ≡ Some h → (w ≡ hint_text h) × IsHint h

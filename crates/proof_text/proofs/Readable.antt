@@ -7,6 +7,12 @@ use Rattle.std.proofs.lemmas.List.{take_more, take_all}
 use Rattle.cnf_base.specs.Literals.{Literal}
 use Rattle.cnf_base.specs.declared.clause.ClauseId.{ClauseId}
 use Rattle.cnf_base.proofs.Lists.{each_append, each_get_or}
+use Rattle.smt_words.specs.Words.{WordValue}
+use Rattle.smt_terms.specs.declared.scalar.Scalar.{Scalar}
+use Rattle.smt_terms.specs.declared.scalar.Scalar.TheVariants as scalar
+use Rattle.smt_values.specs.Arrays.{Entry}
+use Rattle.smt_values.specs.declared.table.Row.{Row}
+use Rattle.theory_terms.specs.declared.lemma.Access.{Access}
 use Rattle.smt_values.specs.declared.value.Value.{Value}
 use Rattle.smt_values.specs.declared.value.Value.TheVariants as kept
 use Rattle.proof_log.specs.declared.diary.Diary.{Diary}
@@ -15,9 +21,9 @@ use Rattle.proof_text.specs.declared.list.WrittenLiteral.{WrittenLiteral}
 use Rattle.proof_text.specs.declared.list.WrittenHint.{WrittenHint}
 use Rattle.proof_text.specs.declared.line.Head.{Head}
 use Rattle.proof_text.specs.declared.line.Line.TheVariants as line
-use Rattle.proof_text.specs.Lines.{IsNumber, IsHead, IsLiteral, IsHint, IsLine}
-use Rattle.proof_text.specs.Entries.{written_literal, written_hint}
-use Rattle.proof_text.specs.Records.{value_lines, diary_line, record_lines, HasDigit, HaveDigits}
+use Rattle.proof_text.specs.Lines.{IsNumber, IsHead, IsLiteral, IsHint, IsStart, IsMove, IsAccess, IsDigits, IsScalar, IsEntry, IsLine}
+use Rattle.proof_text.specs.Entries.{written_literal, written_hint, written_start, written_move, written_access}
+use Rattle.proof_text.specs.Records.{digits_of, written_scalar, written_entry, row_scalars, value_lines, diary_line, record_lines, HasScalarDigit, HasDigit, HaveDigits}
 use Rattle.proof_text.specs.declared.record.Record.{Record}
 use Rattle.proof_text.specs.declared.record.Record.TheVariants.{Sat, Unsat, Unknown}
 use Rattle.proof_text.proofs.Appending.{binary_length}
@@ -51,13 +57,38 @@ node_readable (Some head) args h k = (h, k)
 pub chain_readable : (clause : List WrittenLiteral) (hints : List WrittenHint) → AllByRecursion IsLiteral clause → AllByRecursion IsHint hints → IsLine (line.Chain clause hints)
 chain_readable clause hints h k = (h, k)
 
+pub access_readable : (a : Access) → IsStart (written_start a.start) → AllByRecursion IsMove (map written_move a.path) → IsAccess (written_access a)
+access_readable a h k = record { start = h; moves = k }
+
 -- ---- records
+
+digits_some : (w : WordValue) → 0 < w.width → IsDigits (digits_of w)
+digits_some w h = subst (λ n. 0 < n) (sym (binary_length w.width w.value)) h
+
+scalar_fits : (s : Scalar) → HasScalarDigit s → IsScalar (written_scalar s)
+scalar_fits (scalar.Bool b) h = tt
+scalar_fits (scalar.Word w) h = digits_some w h
+
+scalars_fit : (xs : List Scalar) → AllByRecursion HasScalarDigit xs → AllByRecursion IsScalar (map written_scalar xs)
+scalars_fit [] h = tt
+scalars_fit (x ∷ xs) h = (scalar_fits x h.0, scalars_fit xs h.1)
+
+entries_fit : (es : List Entry) → AllByRecursion (λ (e : Entry). (0 < e.0.width) × (0 < e.1.width)) es → AllByRecursion IsEntry (map written_entry es)
+entries_fit [] h = tt
+entries_fit (e ∷ es) h = (record { index = digits_some e.0 h.0.0; element = digits_some e.1 h.0.1 }, entries_fit es h.1)
+
+rows_fit : (rs : List Row) → AllByRecursion (λ (r : Row). AllByRecursion HasScalarDigit r.args × HasScalarDigit r.value) rs → AllByRecursion IsScalar (flat_map row_scalars rs)
+rows_fit [] h = tt
+rows_fit (r ∷ rs) h =
+    each_append IsScalar (row_scalars r) (flat_map row_scalars rs)
+    (each_append IsScalar (map written_scalar r.args) (written_scalar r.value ∷ []) (scalars_fit r.args h.0.0) (scalar_fits r.value h.0.1, tt))
+    (rows_fit rs h.1)
 
 of_value : (d : ℕ) (x : Value) → d < 2 ^ 64 → HasDigit x → AllByRecursion IsLine (value_lines (d, x))
 of_value d (kept.Bool b) lt h = ((lt, tt), tt)
-of_value d (kept.Word w) lt h = ((lt, subst (λ n. 0 < n) (sym (binary_length w.width w.value)) h), tt)
-of_value d (kept.Array a) lt h = tt
-of_value d (kept.Fun f) lt h = tt
+of_value d (kept.Word w) lt h = ((lt, digits_some w h), tt)
+of_value d (kept.Array a) lt h = ((lt, (digits_some a.default h.0, entries_fit a.entries h.1)), tt)
+of_value d (kept.Fun t) lt h = ((lt, (scalar_fits t.default h.0, rows_fit t.rows h.1)), tt)
 
 pub value_readable : (d : ℕ) (x : Value) → d < 2 ^ 32 → HasDigit x → AllByRecursion IsLine (value_lines (d, x))
 value_readable d x lt h = of_value d x (omega (arith, lt)) h

@@ -1,14 +1,16 @@
 -- Words of a line, and what was read so far before what is left.
-use Rattle.std.proofs.Common.{◌≡◌, ◌≢◌, ℕ, suc, ◌+◌, ◌-◌, ◌*◌, ◌<◌, ◌≤◌, Bool, true, false, cond, List, [], ◌∷◌, ◌++◌, length, take, drop, get_or, refl, sym, ap, ◌∙◌, arith, append_assoc, append-nil, eqb, le-ltb, lt-ltb, drop-cons, add-one, Option, Some, None}
+use Rattle.std.proofs.Common.{◌≡◌, ◌≢◌, ℕ, suc, ◌+◌, ◌-◌, ◌*◌, ◌<◌, ◌≤◌, Bool, true, false, cond, List, [], ◌∷◌, ◌++◌, length, take, drop, get_or, refl, sym, ap, subst, ◌∙◌, arith, append_assoc, append-nil, eqb, le-ltb, lt-ltb, drop-cons, add-one, Option, Some, None}
 use Rattle.std.proofs.lemmas.Bool.{eq-eqb, ne_eqb}
 use Rattle.std.proofs.lemmas.List.{take_more, drop_all}
 use Rattle.smt_text.specs.Lexicon.{is_digit}
-use Rattle.proof_text.specs.Reading.{fields, behind, longer, ◌>>=◌, each_of, literals_at, literal_of, more_digits, look_up, indexed_names, indexed_at, indexed_head_at, head_at}
+use Rattle.proof_text.specs.Reading.{fields, behind, longer, ◌>>=◌, each_of, literals_at, literal_of, moves_at, move_of, entries_of, entry_of, more_digits, look_up, indexed_names, indexed_at, indexed_head_at, head_at}
 use Rattle.proof_text.specs.Operators.{operator_names}
 use Rattle.proof_text.specs.declared.keyword.Indexed.{Indexed}
 use Rattle.std.specs.Prelude.{nat_lt}
 use Rattle.std.specs.Str.{bytes_eq}
 use Rattle.proof_text.specs.declared.list.WrittenLiteral.{WrittenLiteral}
+use Rattle.proof_text.specs.declared.list.WrittenMove.{WrittenMove}
+use Rattle.proof_text.specs.declared.list.WrittenEntry.{WrittenEntry}
 
 -- the first word is longer by these bytes
 abbrev pub in_front : List ℕ → List (List ℕ) → List (List ℕ)
@@ -130,6 +132,68 @@ pub literals_missing : (front : List WrittenLiteral) (rest : List (List ℕ)) (a
     → rest ≡ [] → with_front_and front (literals_at rest) ≡ all → None ≡ all
 unfolding literals_at
 literals_missing front rest all e h = rw e at h
+
+-- ---- moves
+
+pub move_says : (front : List WrittenMove) (rest ws vs : List (List ℕ)) (w x : List ℕ) (m : WrittenMove) (all : Option (List WrittenMove × List (List ℕ)))
+    → rest ≡ w ∷ ws → bytes_eq w (47 ∷ []) ≡ false → ws ≡ x ∷ vs → move_of w x ≡ Some m → with_front_and front (moves_at rest) ≡ all → with_front_and (front ++ m ∷ []) (moves_at vs) ≡ all
+unfolding moves_at
+move_says front rest ws vs w x m all e n f g h = sym (more_literals front m (moves_at vs)) ∙ (rw (e, f, n, g) at h)
+
+pub move_fails : (front : List WrittenMove) (rest ws vs : List (List ℕ)) (w x : List ℕ) (all : Option (List WrittenMove × List (List ℕ)))
+    → rest ≡ w ∷ ws → bytes_eq w (47 ∷ []) ≡ false → ws ≡ x ∷ vs → move_of w x ≡ None → with_front_and front (moves_at rest) ≡ all → None ≡ all
+unfolding moves_at
+move_fails front rest ws vs w x all e n f g h = rw (e, f, n, g) at h
+
+-- a letter without a term
+pub move_breaks : (front : List WrittenMove) (rest ws : List (List ℕ)) (w : List ℕ) (all : Option (List WrittenMove × List (List ℕ)))
+    → rest ≡ w ∷ ws → bytes_eq w (47 ∷ []) ≡ false → ws ≡ [] → with_front_and front (moves_at rest) ≡ all → None ≡ all
+unfolding moves_at
+move_breaks front rest ws w all e n f h = rw (e, f, n) at h
+
+moves_stop : (front : List WrittenMove) (rest : List (List ℕ)) (all : Option (List WrittenMove × List (List ℕ)))
+    → moves_at rest ≡ Some ([], rest) → with_front_and front (moves_at rest) ≡ all → Some (front, rest) ≡ all
+moves_stop front rest all e h = ap (λ q. Some (q, rest)) (sym (append-nil front)) ∙ (rw e at h)
+
+ends_there : (w : List ℕ) (ws : List (List ℕ)) → bytes_eq w (47 ∷ []) ≡ true → moves_at (w ∷ ws) ≡ Some ([], w ∷ ws)
+unfolding moves_at
+ends_there w [] y = rw y refl
+ends_there w (x ∷ ws) y = rw y refl
+
+pub moves_end : (front : List WrittenMove) (rest ws : List (List ℕ)) (w : List ℕ) (all : Option (List WrittenMove × List (List ℕ)))
+    → rest ≡ w ∷ ws → bytes_eq w (47 ∷ []) ≡ true → with_front_and front (moves_at rest) ≡ all → Some (front, rest) ≡ all
+moves_end front rest ws w all e y h = moves_stop front rest all (subst (λ (r : List (List ℕ)). moves_at r ≡ Some ([], r)) (sym e) (ends_there w ws y)) h
+
+no_words : (rest : List (List ℕ)) → rest ≡ [] → moves_at rest ≡ Some ([], rest)
+unfolding moves_at
+no_words rest e = rw e refl
+
+pub moves_over : (front : List WrittenMove) (rest : List (List ℕ)) (all : Option (List WrittenMove × List (List ℕ)))
+    → rest ≡ [] → with_front_and front (moves_at rest) ≡ all → Some (front, rest) ≡ all
+moves_over front rest all e h = moves_stop front rest all (no_words rest e) h
+
+-- ---- the entries of an array
+
+pub entry_says : (front : List WrittenEntry) (rest ws vs : List (List ℕ)) (w x : List ℕ) (m : WrittenEntry) (all : Option (List WrittenEntry))
+    → rest ≡ w ∷ ws → ws ≡ x ∷ vs → entry_of w x ≡ Some m → with_front front (entries_of rest) ≡ all → with_front (front ++ m ∷ []) (entries_of vs) ≡ all
+unfolding entries_of
+entry_says front rest ws vs w x m all e f g h = sym (and_more front m (entries_of vs)) ∙ (rw (e, f, g) at h)
+
+pub entry_fails : (front : List WrittenEntry) (rest ws vs : List (List ℕ)) (w x : List ℕ) (all : Option (List WrittenEntry))
+    → rest ≡ w ∷ ws → ws ≡ x ∷ vs → entry_of w x ≡ None → with_front front (entries_of rest) ≡ all → None ≡ all
+unfolding entries_of
+entry_fails front rest ws vs w x all e f g h = rw (e, f, g) at h
+
+-- an index without an element
+pub entry_breaks : (front : List WrittenEntry) (rest ws : List (List ℕ)) (w : List ℕ) (all : Option (List WrittenEntry))
+    → rest ≡ w ∷ ws → ws ≡ [] → with_front front (entries_of rest) ≡ all → None ≡ all
+unfolding entries_of
+entry_breaks front rest ws w all e f h = rw (e, f) at h
+
+pub entries_end : (front : List WrittenEntry) (rest : List (List ℕ)) (all : Option (List WrittenEntry))
+    → rest ≡ [] → with_front front (entries_of rest) ≡ all → Some front ≡ all
+unfolding entries_of
+entries_end front rest all e h = ap Some (sym (append-nil front)) ∙ (rw e at h)
 
 -- ---- digits
 

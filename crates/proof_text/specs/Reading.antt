@@ -6,12 +6,23 @@ use Rattle.smt_terms.specs.declared.operator.Operator.{Operator}
 use Rattle.proof_text.specs.Operators.{operator_names}
 use Rattle.proof_text.specs.declared.list.WrittenLiteral.{WrittenLiteral}
 use Rattle.proof_text.specs.declared.list.WrittenHint.{WrittenHint}
+use Rattle.proof_text.specs.declared.list.WrittenStart.{WrittenStart}
+use Rattle.proof_text.specs.declared.list.WrittenStart.TheVariants as access
+use Rattle.proof_text.specs.declared.list.Letter.{Letter}
+use Rattle.proof_text.specs.declared.list.Letter.TheVariants.{Store, Then, Else, Sides}
+use Rattle.proof_text.specs.declared.list.WrittenMove.{WrittenMove}
+use Rattle.proof_text.specs.declared.list.WrittenAccess.{WrittenAccess}
+use Rattle.proof_text.specs.declared.list.WrittenScalar.{WrittenScalar}
+use Rattle.proof_text.specs.declared.list.WrittenScalar.TheVariants as scalar
+use Rattle.proof_text.specs.declared.list.WrittenEntry.{WrittenEntry}
 use Rattle.proof_text.specs.declared.keyword.Keyword.{Keyword}
 use Rattle.proof_text.specs.declared.keyword.Keyword.TheVariants as key
+use Rattle.proof_text.specs.declared.keyword.LemmaKind.{LemmaKind}
+use Rattle.proof_text.specs.declared.keyword.LemmaKind.TheVariants as kind
 use Rattle.proof_text.specs.declared.keyword.Indexed.{Indexed}
 use Rattle.proof_text.specs.declared.keyword.Indexed.TheVariants as indexed
 use Rattle.proof_text.specs.declared.line.Head.{Head}
-use Rattle.proof_text.specs.declared.line.Head.TheVariants.{Plain, Word, Extract, ZeroExtend, SignExtend, RotateLeft, RotateRight, Repeat, Apply}
+use Rattle.proof_text.specs.declared.line.Head.TheVariants.{Plain, Word, Extract, ZeroExtend, SignExtend, RotateLeft, RotateRight, Repeat, Apply, ConstantArray}
 use Rattle.proof_text.specs.declared.line.WrittenValue.{WrittenValue}
 use Rattle.proof_text.specs.declared.line.WrittenValue.TheVariants as value
 use Rattle.proof_text.specs.declared.line.Line.{Line}
@@ -125,6 +136,7 @@ indexed_names =
     ∷ (codes "rotate_right", indexed.RotateRight)
     ∷ (codes "repeat", indexed.Repeat)
     ∷ (codes "apply", indexed.Apply)
+    ∷ (codes "const", indexed.ConstantArray)
     ∷ []
 
 abbrev pub with_index : (ℕ → Head) → List (List ℕ) → Option (Head × List (List ℕ))
@@ -139,6 +151,7 @@ indexed_at indexed.RotateLeft ws = with_index RotateLeft ws
 indexed_at indexed.RotateRight ws = with_index RotateRight ws
 indexed_at indexed.Repeat ws = with_index Repeat ws
 indexed_at indexed.Apply ws = with_index Apply ws
+indexed_at indexed.ConstantArray ws = with_index ConstantArray ws
 
 abbrev pub indexed_head_at : List ℕ → List (List ℕ) → Option (Head × List (List ℕ))
 indexed_head_at w ws = look_up indexed_names w >>= λ name. indexed_at name ws
@@ -162,26 +175,116 @@ digit_in b = if b == 48 then Some false else (if b == 49 then Some true else Non
 abbrev pub digits_of : List ℕ → Option (List Bool)
 digits_of bs = each_of digit_in bs
 
-abbrev pub binary_of : List ℕ → Option WrittenValue
-binary_of (a ∷ b ∷ c ∷ bs) = if a == 35 && b == 98 then (digits_of (c ∷ bs) >>= λ ds. Some (value.Word ds)) else None
+abbrev pub binary_of : List ℕ → Option (List Bool)
+binary_of (a ∷ b ∷ c ∷ bs) = if a == 35 && b == 98 then digits_of (c ∷ bs) else None
 binary_of _ = None
 
-abbrev pub value_of : List ℕ → Option WrittenValue
-value_of w = if bytes_eq w (codes "true") then Some (value.Bool true) else (if bytes_eq w (codes "false") then Some (value.Bool false) else binary_of w)
+abbrev pub word_of : List ℕ → Option WrittenScalar
+word_of w = binary_of w >>= λ ds. Some (scalar.Word ds)
 
-abbrev pub value_at : List (List ℕ) → Option (WrittenValue × List (List ℕ))
-value_at [] = None
-value_at (w ∷ ws) = value_of w >>= λ v. Some (v, ws)
+abbrev pub scalar_of : List ℕ → Option WrittenScalar
+scalar_of w = if bytes_eq w (codes "true") then Some (scalar.Bool true) else (if bytes_eq w (codes "false") then Some (scalar.Bool false) else word_of w)
+
+abbrev pub scalars_of : List (List ℕ) → Option (List WrittenScalar)
+scalars_of ws = each_of scalar_of ws
+
+abbrev pub entry_of : List ℕ → List ℕ → Option WrittenEntry
+entry_of w x = binary_of w >>= λ i. binary_of x >>= λ e. Some (record { index = i; element = e })
+
+-- indexes and elements, two and two
+unfoldable pub entries_of : List (List ℕ) → Option (List WrittenEntry)
+entries_of [] = Some []
+entries_of (w ∷ []) = None
+entries_of (w ∷ x ∷ ws) = entry_of w x >>= λ e. entries_of ws >>= λ es. Some (e ∷ es)
+
+abbrev pub array_of : List (List ℕ) → Option WrittenValue
+array_of [] = None
+array_of (w ∷ ws) = binary_of w >>= λ d. entries_of ws >>= λ es. Some (value.Array d es)
+
+abbrev pub function_of : List (List ℕ) → Option WrittenValue
+function_of [] = None
+function_of (w ∷ ws) = scalar_of w >>= λ d. scalars_of ws >>= λ vs. Some (value.Fun d vs)
+
+abbrev pub plain_value : WrittenScalar → WrittenValue
+plain_value (scalar.Bool b) = value.Bool b
+plain_value (scalar.Word ds) = value.Word ds
+
+-- a truth value or a word, where no word is left
+abbrev pub plain_of : List ℕ → List (List ℕ) → Option WrittenValue
+plain_of w ws = scalar_of w >>= λ s. ended (plain_value s) ws
+
+abbrev pub value_of : List (List ℕ) → Option WrittenValue
+value_of [] = None
+value_of (w ∷ ws) = if bytes_eq w (codes "a") then array_of ws else (if bytes_eq w (codes "f") then function_of ws else plain_of w ws)
 
 abbrev pub declared_of : List (List ℕ) → Option Line
-declared_of ws = number_at ws >>= λ r. value_at r.1 >>= λ s. ended (line.Value r.0 s.0) s.1
+declared_of ws = number_at ws >>= λ r. value_of r.1 >>= λ v. Some (line.Value r.0 v)
 
--- ---- lines
+-- ---- lemmas
 
 -- this word, and what is behind it
 abbrev pub exactly : List ℕ → List (List ℕ) → Option (List (List ℕ))
 exactly word [] = None
 exactly word (w ∷ ws) = if bytes_eq w word then Some ws else None
+
+-- a constant array, where an index stands behind it
+abbrev pub index_at : ℕ → List (List ℕ) → Option WrittenStart
+index_at k [] = Some (access.Term k)
+index_at k (w ∷ ws) = number_in w >>= λ j. ended (access.Const k j) ws
+
+abbrev pub start_in : List (List ℕ) → Option WrittenStart
+start_in ws = number_at ws >>= λ r. index_at r.0 r.1
+
+abbrev pub start_of : List ℕ → Option WrittenStart
+start_of w = start_in (fields 64 w)
+
+abbrev pub letters : List (List ℕ × Letter)
+letters =
+    (codes "w", Store)
+    ∷ (codes "t", Then)
+    ∷ (codes "e", Else)
+    ∷ (codes "q", Sides)
+    ∷ []
+
+abbrev pub move_of : List ℕ → List ℕ → Option WrittenMove
+move_of w x = look_up letters w >>= λ l. number_in x >>= λ n. Some (record { letter = l; term = n })
+
+-- the moves before the word `/` or before the end, and the words from there on
+unfoldable pub moves_at : List (List ℕ) → Option (List WrittenMove × List (List ℕ))
+moves_at [] = Some ([], [])
+moves_at (w ∷ []) = if bytes_eq w (47 ∷ []) then Some ([], w ∷ []) else None
+moves_at (w ∷ x ∷ ws) = if bytes_eq w (47 ∷ []) then Some ([], w ∷ x ∷ ws) else (move_of w x >>= λ m. moves_at ws >>= λ r. Some (m ∷ r.0, r.1))
+
+abbrev pub access_at : List (List ℕ) → Option (WrittenAccess × List (List ℕ))
+access_at [] = None
+access_at (w ∷ ws) = start_of w >>= λ s. moves_at ws >>= λ r. Some (record { start = s; moves = r.0 }, r.1)
+
+abbrev pub accesses_of : List (List ℕ) → Option Line
+accesses_of ws = access_at ws >>= λ a. exactly (codes "/") a.1 >>= λ b. access_at b >>= λ c. ended (line.Accesses a.0 c.0) c.1
+
+abbrev pub two_numbers : (ℕ → ℕ → Line) → List (List ℕ) → Option Line
+two_numbers make ws = number_at ws >>= λ r. only_number r.1 >>= λ u. Some (make r.0 u)
+
+abbrev pub one_number : (ℕ → Line) → List (List ℕ) → Option Line
+one_number make ws = only_number ws >>= λ n. Some (make n)
+
+abbrev pub lemma_names : List (List ℕ × LemmaKind)
+lemma_names =
+    (codes "c", kind.Congruence)
+    ∷ (codes "w", kind.Witness)
+    ∷ (codes "a", kind.Accesses)
+    ∷ []
+
+abbrev pub lemma_by : LemmaKind → List (List ℕ) → Option Line
+lemma_by kind.Congruence ws = two_numbers line.Congruence ws
+lemma_by kind.Witness ws = one_number line.Witness ws
+lemma_by kind.Accesses ws = accesses_of ws
+
+abbrev pub lemma_of : List (List ℕ) → Option Line
+lemma_of [] = None
+lemma_of (w ∷ ws) = look_up lemma_names w >>= λ k. lemma_by k ws
+
+-- ---- lines
 
 abbrev pub header_of : List (List ℕ) → Option Line
 header_of ws =
@@ -199,6 +302,8 @@ keywords =
     ∷ (codes "e", key.Encode)
     ∷ (codes "s", key.Selector)
     ∷ (codes "c", key.Chain)
+    ∷ (codes "q", key.Equal)
+    ∷ (codes "l", key.Lemma)
     ∷ (codes "sat", key.Sat)
     ∷ (codes "v", key.Value)
     ∷ (codes "unsat", key.Unsat)
@@ -208,9 +313,6 @@ keywords =
     ∷ (codes "-", key.Drop)
     ∷ []
 
-abbrev pub one_number : (ℕ → Line) → List (List ℕ) → Option Line
-one_number make ws = only_number ws >>= λ n. Some (make n)
-
 abbrev pub line_by : Keyword → List (List ℕ) → Option Line
 line_by key.Header ws = header_of ws
 line_by key.Term ws = term_of ws
@@ -218,6 +320,8 @@ line_by key.Leaf ws = one_number line.Leaf ws
 line_by key.Encode ws = one_number line.Encode ws
 line_by key.Selector ws = one_number line.Selector ws
 line_by key.Chain ws = chain_of ws
+line_by key.Equal ws = two_numbers line.Equal ws
+line_by key.Lemma ws = lemma_of ws
 line_by key.Sat ws = one_number line.Sat ws
 line_by key.Value ws = declared_of ws
 line_by key.Unsat ws = one_number line.Unsat ws

@@ -1,10 +1,11 @@
 // The lines of steps.
 
 ghost use Rattle.std.specs.Prelude.{◌≡◌, ◌++◌, ◌∷◌, length, take, map, IsSome, IfSome, OnOk, OnErr};
-ghost use Rattle.std.specs.List.{AllByRecursion};
+ghost use Rattle.std.specs.List.{flat_map, AllByRecursion};
 ghost use Rattle.std.specs.Fmt.{decimal};
-ghost use Rattle.proof_text.specs.Lines.{spaced, head_words, joined, literal_text, hint_text, line_text, IsNumber, IsHead, IsLiteral, IsHint, IsLine};
-ghost use Rattle.proof_text.specs.Entries.{head_of, written_literal, written_hint, entry_line};
+ghost use Rattle.proof_text.specs.Lines.{spaced, head_words, joined, literal_text, hint_text, start_text, move_words, access_words, line_text, IsNumber, IsHead, IsLiteral, IsHint, IsStart, IsMove, IsAccess, IsLine};
+ghost use Rattle.proof_text.specs.declared.line.Line.TheVariants.{Equal, Congruence, Accesses};
+ghost use Rattle.proof_text.specs.Entries.{head_of, written_literal, written_hint, written_start, written_move, written_access, lemma_line, entry_line};
 
 use crate::operator::operator_name;
 use crate::write::{push_line, push_marked, push_spaced, push_spaced_wide, push_with_number};
@@ -15,6 +16,7 @@ use smt_text::number::push_number;
 use smt_text::print::whole_or_none;
 use smt_text::text::Text;
 use std::alloc::AllocError;
+use theory_terms::lemma::{Access, Lemma, Move, Start};
 
 /// Appends an operator with its numbers.
 fn push_head(op: &Op, out: &mut Text) -> Result<(), AllocError>
@@ -47,7 +49,7 @@ fn push_head(op: &Op, out: &mut Text) -> Result<(), AllocError>
             sort: _,
         } => unreachable!(),
         Op::Param { place: _, sort: _ } => unreachable!(),
-        Op::ConstantArray(_) => unreachable!(),
+        Op::ConstantArray(width) => push_with_number(out, b"const", *width),
     }
 }
 
@@ -129,6 +131,97 @@ fn push_chain(clause: &Clause, hints: &Hints, out: &mut Text) -> Result<(), Allo
     out.push(b'\n')
 }
 
+fn push_equal(lower: TermId, upper: TermId, out: &mut Text) -> Result<(), AllocError>
+    ensures ok { OnOk result (out.new ≡ out.old ++ line_text (Equal lower upper)) }
+    ensures line { OnOk result (IsLine (Equal lower upper)) }
+    ensures err { OnErr result (take (length out.old) out.new ≡ out.old) }
+{
+    push_with_number(out, b"q", lower as u64)?;
+    push_spaced(out, upper as u64)?;
+    out.push(b'\n')
+}
+
+fn push_congruence(lower: TermId, upper: TermId, out: &mut Text) -> Result<(), AllocError>
+    ensures ok { OnOk result (out.new ≡ out.old ++ line_text (Congruence lower upper)) }
+    ensures line { OnOk result (IsLine (Congruence lower upper)) }
+    ensures err { OnErr result (take (length out.old) out.new ≡ out.old) }
+{
+    push_with_number(out, b"l c", lower as u64)?;
+    push_spaced(out, upper as u64)?;
+    out.push(b'\n')
+}
+
+fn push_start(start: Start, out: &mut Text) -> Result<(), AllocError>
+    ensures ok { OnOk result (out.new ≡ out.old ++ 32 ∷ start_text (written_start start)) }
+    ensures start { OnOk result (IsStart (written_start start)) }
+    ensures err { OnErr result (take (length out.old) out.new ≡ out.old) }
+{
+    match start {
+        Start::Term(term) => push_spaced(out, term as u64),
+        Start::Const(array, index) => {
+            push_spaced(out, array as u64)?;
+            push_marked(out, b'@', index as u64)
+        }
+    }
+}
+
+fn push_move(passed: Move, out: &mut Text) -> Result<(), AllocError>
+    ensures ok { OnOk result (out.new ≡ out.old ++ spaced (move_words (written_move passed))) }
+    ensures term { OnOk result (IsMove (written_move passed)) }
+    ensures err { OnErr result (take (length out.old) out.new ≡ out.old) }
+{
+    match passed {
+        Move::Store(store) => push_with_number(out, b" w", store as u64),
+        Move::Then(choice) => push_with_number(out, b" t", choice as u64),
+        Move::Else(choice) => push_with_number(out, b" e", choice as u64),
+        Move::Sides(equality) => push_with_number(out, b" q", equality as u64),
+    }
+}
+
+fn push_moves(moves: &[Move], out: &mut Text) -> Result<(), AllocError>
+    ensures ok { OnOk result (out.new ≡ out.old ++ spaced (flat_map move_words (map written_move moves.now))) }
+    ensures terms { OnOk result (AllByRecursion IsMove (map written_move moves.now)) }
+    ensures err { OnErr result (take (length out.old) out.new ≡ out.old) }
+{
+    for passed in moves {
+        push_move(*passed, out)?;
+    }
+    Ok(())
+}
+
+fn push_access(access: &Access, out: &mut Text) -> Result<(), AllocError>
+    ensures ok { OnOk result (out.new ≡ out.old ++ spaced (access_words (written_access access.now))) }
+    ensures access { OnOk result (IsAccess (written_access access.now)) }
+    ensures err { OnErr result (take (length out.old) out.new ≡ out.old) }
+{
+    push_start(access.start, out)?;
+    push_moves(access.path.as_slice(), out)
+}
+
+fn push_accesses(one: &Access, other: &Access, out: &mut Text) -> Result<(), AllocError>
+    ensures ok { OnOk result (out.new ≡ out.old ++ line_text (Accesses (written_access one.now) (written_access other.now))) }
+    ensures line { OnOk result (IsLine (Accesses (written_access one.now) (written_access other.now))) }
+    ensures err { OnErr result (take (length out.old) out.new ≡ out.old) }
+{
+    out.push_slice(b"l a")?;
+    push_access(one, out)?;
+    out.push_slice(b" /")?;
+    push_access(other, out)?;
+    out.push(b'\n')
+}
+
+fn push_lemma(lemma: &Lemma, out: &mut Text) -> Result<(), AllocError>
+    ensures ok { OnOk result (out.new ≡ out.old ++ line_text (lemma_line lemma.now)) }
+    ensures line { OnOk result (IsLine (lemma_line lemma.now)) }
+    ensures err { OnErr result (take (length out.old) out.new ≡ out.old) }
+{
+    match lemma {
+        Lemma::Congruence(lower, upper) => push_congruence(*lower, *upper, out),
+        Lemma::Witness(equality) => push_line(out, b"l w", *equality as u64),
+        Lemma::Arrays(one, other) => push_accesses(one, other, out),
+    }
+}
+
 fn push_entry(entry: &Entry, out: &mut Text) -> Result<(), AllocError>
     requires { IsSome (entry_line entry.now) }
     ensures ok { OnOk result (IfSome (entry_line entry.now) (λ line. out.new ≡ out.old ++ line_text line)) }
@@ -141,14 +234,16 @@ fn push_entry(entry: &Entry, out: &mut Text) -> Result<(), AllocError>
         Entry::Encode(term) => push_line(out, b"e", *term as u64),
         Entry::Selector(assertion, _) => push_line(out, b"s", *assertion as u64),
         Entry::Chain(clause, hints) => push_chain(clause, hints, out),
-        // Excluded by the condition: these have no line yet.
-        Entry::Rewrite(_) | Entry::Equal(_, _) | Entry::Lemma(_) => unreachable!(),
+        Entry::Equal(lower, upper) => push_equal(*lower, *upper, out),
+        Entry::Lemma(lemma) => push_lemma(lemma, out),
+        // Excluded by the condition: it has no line yet.
+        Entry::Rewrite(_) => unreachable!(),
     }
 }
 
 /// Appends the line of a step. It can be read: its numbers are in range.
 pub fn write_entry(entry: &Entry, out: &mut Text) -> Result<(), AllocError>
-    // No line makes a declared constant or a parameter, and none is of a kind that no rule makes valid yet.
+    // No line makes a declared constant or a parameter, and a use of a rewrite rule has none yet.
     requires { IsSome (entry_line entry.now) }
     ensures ok { OnOk result (IfSome (entry_line entry.now) (λ line. out.new ≡ out.old ++ line_text line)) }
     ensures line { OnOk result (IfSome (entry_line entry.now) IsLine) }

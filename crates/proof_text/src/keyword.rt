@@ -1,7 +1,10 @@
-// The words that lines begin with, and the operators behind whose names numbers stand.
+// The words that lines begin with, the kinds of lemmas, the letters of moves, and the operators behind whose names
+// numbers stand.
 
 ghost use Rattle.std.specs.Prelude.{◌≡◌, map};
 ghost use Rattle.proof_text.specs.Reading.{look_up};
+
+use crate::list::Letter;
 
 /// What kind of line a word begins.
 #[derive(Clone, Copy, Debug)]
@@ -12,6 +15,8 @@ pub(crate) enum Keyword {
     Encode,
     Selector,
     Chain,
+    Equal,
+    Lemma,
     Sat,
     Value,
     Unsat,
@@ -19,6 +24,14 @@ pub(crate) enum Keyword {
     Take,
     Put,
     Drop,
+}
+
+/// What a lemma is about.
+#[derive(Clone, Copy, Debug)]
+pub(crate) enum LemmaKind {
+    Congruence,
+    Witness,
+    Accesses,
 }
 
 /// An operator behind whose name numbers stand.
@@ -32,16 +45,19 @@ pub(crate) enum Indexed {
     RotateRight,
     Repeat,
     Apply,
+    ConstantArray,
 }
 
 /// The words that lines begin with.
-pub(crate) const KEYWORDS: [(&[u8], Keyword); 13] = [
+pub(crate) const KEYWORDS: [(&[u8], Keyword); 15] = [
     (b"smt_proof", Keyword::Header),
     (b"t", Keyword::Term),
     (b"f", Keyword::Leaf),
     (b"e", Keyword::Encode),
     (b"s", Keyword::Selector),
     (b"c", Keyword::Chain),
+    (b"q", Keyword::Equal),
+    (b"l", Keyword::Lemma),
     (b"sat", Keyword::Sat),
     (b"v", Keyword::Value),
     (b"unsat", Keyword::Unsat),
@@ -51,8 +67,23 @@ pub(crate) const KEYWORDS: [(&[u8], Keyword); 13] = [
     (b"-", Keyword::Drop),
 ];
 
+/// The words behind the `l` of a lemma.
+pub(crate) const LEMMA_NAMES: [(&[u8], LemmaKind); 3] = [
+    (b"c", LemmaKind::Congruence),
+    (b"w", LemmaKind::Witness),
+    (b"a", LemmaKind::Accesses),
+];
+
+/// The letters of moves.
+pub(crate) const LETTERS: [(&[u8], Letter); 4] = [
+    (b"w", Letter::Store),
+    (b"t", Letter::Then),
+    (b"e", Letter::Else),
+    (b"q", Letter::Sides),
+];
+
 /// The names of the operators with numbers.
-pub(crate) const INDEXED_NAMES: [(&[u8], Indexed); 8] = [
+pub(crate) const INDEXED_NAMES: [(&[u8], Indexed); 9] = [
     (b"word", Indexed::Word),
     (b"extract", Indexed::Extract),
     (b"zero_extend", Indexed::ZeroExtend),
@@ -61,6 +92,7 @@ pub(crate) const INDEXED_NAMES: [(&[u8], Indexed); 8] = [
     (b"rotate_right", Indexed::RotateRight),
     (b"repeat", Indexed::Repeat),
     (b"apply", Indexed::Apply),
+    (b"const", Indexed::ConstantArray),
 ];
 
 /// What a table has at a word, if anything.

@@ -1,6 +1,9 @@
 // What one line of a proof file says.
 
-use crate::list::{Digits, Numbers, WrittenClause, WrittenHints};
+use crate::list::{
+    Digits, Numbers, WrittenAccess, WrittenClause, WrittenEntries, WrittenHints, WrittenScalar,
+    WrittenScalars,
+};
 use smt_terms::operator::Operator;
 
 /// The operator of a term, with the numbers that are written behind its name. A declared function is named by the
@@ -16,13 +19,26 @@ pub enum Head {
     RotateRight(u64),
     Repeat(u64),
     Apply(u64),
+    /// `const n`, the array with indexes of this width that is its argument at each index.
+    ConstantArray(u64),
 }
 
-/// A value as it is written: a truth value, or the digits of a word.
+/// A value as it is written.
 #[derive(Debug, Drop)]
 pub enum WrittenValue {
     Bool(bool),
     Word(Digits),
+    /// `a V I V ..`, the element at each index that is not held, and the held ones.
+    Array {
+        default: Digits,
+        entries: WrittenEntries,
+    },
+    /// `f V A .. V ..`, the value where no row has the arguments, and the rows. How many arguments a row has is not
+    /// written.
+    Fun {
+        default: WrittenScalar,
+        values: WrittenScalars,
+    },
 }
 
 /// A line of a proof file, with the numbers and values that are written there.
@@ -49,6 +65,14 @@ pub enum Line {
         clause: WrittenClause,
         hints: WrittenHints,
     },
+    /// `q t u`, a variable that is true exactly where two terms are equal.
+    Equal(u64, u64),
+    /// `l c t u`, two applications to equal arguments are equal.
+    Congruence(u64, u64),
+    /// `l w t`, the sides of an equality of arrays differ at their witness, or are equal.
+    Witness(u64),
+    /// `l a A moves / B moves`, two accesses of one array with equal indexes have equal values.
+    Accesses(WrittenAccess, WrittenAccess),
     /// `sat K`, which so many values follow.
     Sat(u64),
     /// `v D VALUE`, the value of a declaration.

@@ -2,12 +2,14 @@
 
 ghost use Rattle.std.specs.Prelude.{◌≡◌, IfOk};
 ghost use Rattle.std.specs.Option.{option_map};
-ghost use Rattle.proof_text.specs.Reading.{fields, behind, numbers_of, literal_of, literals_at, hint_of, hints_of, chain_of, indexed_at, indexed_head_at, head_at, term_of, digit_in, digits_of, binary_of, value_of, declared_of, header_of, unknown_of, one_number, line_by, line_of};
+ghost use Rattle.proof_text.specs.Reading.{fields, behind, numbers_of, literal_of, literals_at, hint_of, hints_of, chain_of, indexed_at, indexed_head_at, head_at, term_of, declared_of, header_of, unknown_of, one_number, two_numbers, line_by, line_of};
 
 use crate::keyword::{INDEXED_NAMES, Indexed, KEYWORDS, Keyword, look_up};
-use crate::line::{Head, Line, WrittenValue};
-use crate::list::{Digits, Numbers, WrittenClause, WrittenHint, WrittenHints, WrittenLiteral};
+use crate::line::{Head, Line};
+use crate::list::{Numbers, WrittenClause, WrittenHint, WrittenHints, WrittenLiteral};
 use crate::operator::OPERATOR_NAMES;
+use crate::reading_lemmas::lemma;
+use crate::reading_values::value;
 use crate::words::{exactly, next_word, number, number_at, only_number, split_word, wide_at};
 use std::alloc::{AllocError, Global};
 
@@ -121,6 +123,7 @@ fn indexed(name: Indexed, rest: &[u8]) -> Option<(Head, &[u8])>
         Indexed::RotateRight => Head::RotateRight(first),
         Indexed::Repeat => Head::Repeat(first),
         Indexed::Apply => Head::Apply(first),
+        Indexed::ConstantArray => Head::ConstantArray(first),
     };
     Some((head, rest))
 }
@@ -156,69 +159,16 @@ fn term(alloc: Global, rest: &[u8]) -> Result<Option<Line>, AllocError>
     Ok(Some(Line::Term { head, args }))
 }
 
-fn digit(byte: u8) -> Option<bool>
-    ensures { result ≡ digit_in byte }
-{
-    match byte {
-        b'0' => Some(false),
-        b'1' => Some(true),
-        _ => None,
-    }
-}
-
-fn digits(alloc: Global, bytes: &[u8]) -> Result<Option<Digits>, AllocError>
-    ensures { IfOk result (λ o. o ≡ digits_of bytes.now) }
-{
-    let mut items = Vec::new(alloc);
-    for byte in bytes {
-        let Some(found) = digit(*byte) else {
-            return Ok(None);
-        };
-        items.push(found)?;
-    }
-    Ok(Some(Digits::from_vec(items)))
-}
-
-fn binary(alloc: Global, word: &[u8]) -> Result<Option<WrittenValue>, AllocError>
-    ensures { IfOk result (λ o. o ≡ binary_of word.now) }
-{
-    match word {
-        [b'#', b'b', _, ..] => match digits(alloc, &word[2..])? {
-            Some(digits) => Ok(Some(WrittenValue::Word(digits))),
-            None => Ok(None),
-        },
-        _ => Ok(None),
-    }
-}
-
-fn value(alloc: Global, word: &[u8]) -> Result<Option<WrittenValue>, AllocError>
-    ensures { IfOk result (λ o. o ≡ value_of word.now) }
-{
-    if word == b"true".as_slice() {
-        Ok(Some(WrittenValue::Bool(true)))
-    } else if word == b"false".as_slice() {
-        Ok(Some(WrittenValue::Bool(false)))
-    } else {
-        binary(alloc, word)
-    }
-}
-
 fn declared(alloc: Global, rest: &[u8]) -> Result<Option<Line>, AllocError>
     ensures { IfOk result (λ o. o ≡ declared_of (behind 32 rest.now)) }
 {
     let Some((declaration, rest)) = number_at(b' ', rest) else {
         return Ok(None);
     };
-    let Some((word, rest)) = next_word(b' ', rest) else {
+    let Some(value) = value(alloc, rest)? else {
         return Ok(None);
     };
-    let Some(value) = value(alloc, word)? else {
-        return Ok(None);
-    };
-    match next_word(b' ', rest) {
-        None => Ok(Some(Line::Value { declaration, value })),
-        Some(_) => Ok(None),
-    }
+    Ok(Some(Line::Value { declaration, value }))
 }
 
 fn header(rest: &[u8]) -> Option<Line>
@@ -241,6 +191,14 @@ fn unknown(rest: &[u8]) -> Option<Line>
     Some(Line::Unknown { cube, start, count })
 }
 
+fn equal(rest: &[u8]) -> Option<Line>
+    ensures { result ≡ two_numbers Line.Equal (behind 32 rest.now) }
+{
+    let (lower, rest) = number_at(b' ', rest)?;
+    let upper = only_number(b' ', rest)?;
+    Some(Line::Equal(lower, upper))
+}
+
 fn line_by(alloc: Global, keyword: Keyword, rest: &[u8]) -> Result<Option<Line>, AllocError>
     ensures { IfOk result (λ o. o ≡ line_by keyword (behind 32 rest.now)) }
 {
@@ -251,6 +209,8 @@ fn line_by(alloc: Global, keyword: Keyword, rest: &[u8]) -> Result<Option<Line>,
         Keyword::Encode => Ok(only_number(b' ', rest).map(Line::Encode)),
         Keyword::Selector => Ok(only_number(b' ', rest).map(Line::Selector)),
         Keyword::Chain => chain(alloc, rest),
+        Keyword::Equal => Ok(equal(rest)),
+        Keyword::Lemma => lemma(alloc, rest),
         Keyword::Sat => Ok(only_number(b' ', rest).map(Line::Sat)),
         Keyword::Value => declared(alloc, rest),
         Keyword::Unsat => Ok(only_number(b' ', rest).map(Line::Unsat)),

@@ -1,11 +1,12 @@
 // The lines of records.
 
-ghost use Rattle.std.specs.Prelude.{◌≡◌, ◌++◌, ◌≤◌, ◌∷◌, length, take, map, IsSome, IfSome, OnOk, OnErr};
+ghost use Rattle.std.specs.Prelude.{◌≡◌, ◌++◌, length, take, map, OnOk, OnErr};
 ghost use Rattle.std.specs.List.{flat_map, AllByRecursion};
-ghost use Rattle.proof_text.specs.Lines.{digit_of, value_text, line_text, IsLine};
+ghost use Rattle.proof_text.specs.Lines.{line_text, IsLine};
 ghost use Rattle.proof_text.specs.declared.line.Line.TheVariants.{Unknown};
-ghost use Rattle.proof_text.specs.Records.{binary, written_value, value_lines, diary_line, AreWritten, HasDigit, HaveDigits, record_lines};
+ghost use Rattle.proof_text.specs.Records.{value_lines, diary_line, HasDigit, HaveDigits, record_lines};
 
+pub use crate::value::push_value;
 use crate::write::{push_line, push_spaced, push_with_number};
 use cnf_base::Pos;
 use plain_list::List;
@@ -14,7 +15,6 @@ use smt_terms::sort::DeclId;
 use smt_text::print::whole_or_none;
 use smt_text::text::Text;
 use smt_values::Value;
-use smt_words::Word;
 use std::alloc::AllocError;
 
 /// The values of the live declarations, by their numbers.
@@ -28,50 +28,7 @@ pub enum Record {
     Unknown(Diary),
 }
 
-/// Appends so many low binary digits of a number, the highest first.
-fn push_digits(width: u32, number: u128, out: &mut Text) -> Result<(), AllocError>
-    requires { width ≤ 128 }
-    ensures ok { OnOk result (out.new ≡ out.old ++ map digit_of (binary width number)) }
-    ensures err { OnErr result (take (length out.old) out.new ≡ out.old) }
-{
-    if width == 0 {
-        return Ok(());
-    }
-    let rest = width - 1;
-    out.push(if (number >> rest) % 2 == 1 {
-        b'1'
-    } else {
-        b'0'
-    })?;
-    push_digits(rest, number, out)
-}
-
-fn push_word(word: Word, out: &mut Text) -> Result<(), AllocError>
-    ensures ok { OnOk result (out.new ≡ out.old ++ 35 ∷ (98 ∷ map digit_of (binary word.width word.value))) }
-    ensures err { OnErr result (take (length out.old) out.new ≡ out.old) }
-{
-    out.push_slice(b"#b")?;
-    push_digits(word.width(), word.value(), out)
-}
-
-/// Appends a value as it stands in a line. An error may leave the first bytes of it.
-pub fn push_value(value: &Value, out: &mut Text) -> Result<(), AllocError>
-    // Arrays and tables of functions have no written form.
-    requires { IsSome (written_value value.now) }
-    ensures ok { OnOk result (IfSome (written_value value.now) (λ v. out.new ≡ out.old ++ value_text v)) }
-    ensures err { OnErr result (take (length out.old) out.new ≡ out.old) }
-{
-    match value {
-        Value::Bool(true) => out.push_slice(b"true"),
-        Value::Bool(false) => out.push_slice(b"false"),
-        Value::Word(word) => push_word(*word, out),
-        Value::Array(_) => unreachable!(),
-        Value::Fun(_) => unreachable!(),
-    }
-}
-
 fn push_declared(declaration: DeclId, value: &Value, out: &mut Text) -> Result<(), AllocError>
-    requires { IsSome (written_value value.now) }
     ensures ok { OnOk result (out.new ≡ out.old ++ flat_map line_text (value_lines (declaration, value.now))) }
     ensures lines { OnOk result (HasDigit value.now → AllByRecursion IsLine (value_lines (declaration, value.now))) }
     ensures err { OnErr result (take (length out.old) out.new ≡ out.old) }
@@ -83,7 +40,6 @@ fn push_declared(declaration: DeclId, value: &Value, out: &mut Text) -> Result<(
 }
 
 fn push_values(values: &[(DeclId, Value)], out: &mut Text) -> Result<(), AllocError>
-    requires { AllByRecursion (λ p. IsSome (written_value p.1)) values.now }
     ensures ok { OnOk result (out.new ≡ out.old ++ flat_map line_text (flat_map value_lines values.now)) }
     ensures lines { OnOk result (AllByRecursion (λ p. HasDigit p.1) values.now → AllByRecursion IsLine (flat_map value_lines values.now)) }
     ensures err { OnErr result (take (length out.old) out.new ≡ out.old) }
@@ -130,7 +86,6 @@ fn push_unknown(cube: u64, start: Pos, count: u64, out: &mut Text) -> Result<(),
 }
 
 fn push_record(shown: &Record, out: &mut Text) -> Result<(), AllocError>
-    requires { AreWritten shown.now }
     ensures ok { OnOk result (out.new ≡ out.old ++ flat_map line_text (record_lines shown.now)) }
     ensures lines { OnOk result (HaveDigits shown.now → AllByRecursion IsLine (record_lines shown.now)) }
     ensures err { OnErr result (take (length out.old) out.new ≡ out.old) }
@@ -152,8 +107,6 @@ fn push_record(shown: &Record, out: &mut Text) -> Result<(), AllocError>
 
 /// Appends the lines of a record. They can be read, where each word has a digit.
 pub fn write_record(shown: &Record, out: &mut Text) -> Result<(), AllocError>
-    // Arrays and tables of functions have no written form.
-    requires { AreWritten shown.now }
     ensures ok { OnOk result (out.new ≡ out.old ++ flat_map line_text (record_lines shown.now)) }
     ensures lines { OnOk result (HaveDigits shown.now → AllByRecursion IsLine (record_lines shown.now)) }
     ensures err { OnErr result (out.new ≡ out.old) }

@@ -1,127 +1,34 @@
-//! Worked proof files: what is printed, and what is read of a text. What is read is a table of steps that is walked over one
-//! reader.
+//! Worked proof files: what is read of a text, which is a table of steps that is walked over one reader.
 
-ghost use Rattle.std.specs.Prelude.{IfOk, IsSome};
-ghost use Rattle.proof_text.specs.Entries.{entry_line};
-ghost use Rattle.proof_text.specs.Records.{AreWritten};
-
-use crate::entry::write_entry;
 use crate::file::lines;
-use crate::header::write_header;
 use crate::line::{Head, Line, WrittenValue};
-use crate::list::{WrittenHint, WrittenLiteral};
+use crate::list::{
+    WrittenAccess, WrittenEntry, WrittenHint, WrittenLiteral, WrittenMove, WrittenScalar,
+    WrittenStart,
+};
 use crate::reader::{LineFault, ProofReader};
-use crate::record::{DeclaredValues, Record, write_record};
-use cnf_base::{Clause, ClauseId, Lit};
-use proof_log::diary::{Diary, DiaryLine, DiaryLines};
-use proof_log::entry::{Entry, Hints};
 use smt_terms::operator::Operator;
 use smt_text::text::Text;
-use smt_values::Value;
-use smt_words::Word;
 use std::alloc::{AllocError, Global};
 use std::process::Abort;
 use std::test::Fail;
 
-/// Appends the line of a step.
-fn print_entry(entry: Entry, out: &mut Text) -> Result<(), AllocError>
-    requires { IsSome (entry_line entry) }
-{
-    let written = write_entry(&entry, out);
-    drop(entry);
-    written
-}
+/// Where an access starts, and its moves.
+pub(crate) type Route = (WrittenStart, &'static [WrittenMove]);
 
-/// Appends the lines of a record.
-fn print_record(shown: Record, out: &mut Text) -> Result<(), AllocError>
-    requires { AreWritten shown }
-{
-    let written = write_record(&shown, out);
-    drop(shown);
-    written
-}
+/// The digits of an index, and of its element.
+pub(crate) type Pair = (&'static [bool], &'static [bool]);
 
-/// The chain of the opposite of variable 2, by the clauses at 0 and at 2.
-fn chain(alloc: Global) -> Result<Entry, AllocError>
-    ensures { IfOk result (λ e. IsSome (entry_line e)) }
-{
-    let names = [ClauseId { pos: 0, part: 0 }, ClauseId { pos: 2, part: 0 }];
-    let hints = Hints::of(alloc, &names)?;
-    let clause = Clause::of_one(alloc, Lit::new(2, false))?;
-    Ok(Entry::Chain(clause, hints))
-}
-
-/// Prints a refutation of the assertion of false, and tells how long its first line is.
-fn print_refutation(alloc: Global, out: &mut Text) -> Result<usize, AllocError> {
-    write_header(0, 100000, out)?;
-    let first = out.len();
-    print_entry(Entry::Encode(0), out)?;
-    print_entry(Entry::Selector(0, 0), out)?;
-    print_entry(chain(alloc)?, out)?;
-    print_record(Record::Unsat(3), out)?;
-    Ok(first)
-}
-
-#[test]
-fn a_refutation_of_false_is_printed_in_five_lines(rt: HostRuntime) -> Result<(), Fail> {
-    let mut out = Text::new(rt.alloc());
-    let first = print_refutation(rt.alloc(), &mut out);
-    assert!(rt; first == Ok(34));
-    assert!(rt;
-        out.as_slice()
-            == b"smt_proof 1 cubes 0 budget 100000\ne 0\ns 0\nc -2 0 0.0 2.0\nunsat 3\n".as_slice()
-    );
-    Ok(())
-}
-
-/// Whether a record is printed so.
-fn is_printed(alloc: Global, shown: Record, text: &[u8]) -> Result<bool, AllocError>
-    requires { AreWritten shown }
-{
-    let mut out = Text::new(alloc);
-    print_record(shown, &mut out)?;
-    Ok(out.as_slice() == text)
-}
-
-/// A model of a truth value and a word.
-fn two_values(alloc: Global) -> Result<Record, Fail>
-    ensures { IfOk result AreWritten }
-{
-    let word = Word::new(4, 3).ok_or("a word")?;
-    let values = Vec::from_array(alloc, [(0, Value::Bool(true)), (2, Value::Word(word))])?;
-    Ok(Record::Sat(DeclaredValues::from_vec(values)))
-}
-
-#[test]
-fn values_are_printed_high_digit_first(rt: HostRuntime) -> Result<(), Fail> {
-    let record = two_values(rt.alloc())?;
-    let printed = is_printed(rt.alloc(), record, b"sat 2\nv 0 true\nv 2 #b0011\n");
-    assert!(rt; printed == Ok(true));
-    Ok(())
-}
-
-/// The diary of a cube, of three lines.
-fn diary(alloc: Global) -> Result<Diary, AllocError> {
-    let lines = [DiaryLine::Take(9), DiaryLine::Put(12), DiaryLine::Drop(9)];
-    let lines = DiaryLines::from_vec(Vec::from_slice(alloc, &lines)?);
-    Ok(Diary {
-        cube: 3,
-        start: 7,
-        lines,
-    })
-}
-
-#[test]
-fn a_diary_is_printed_behind_its_cube_and_its_start(rt: HostRuntime) -> Result<(), Fail> {
-    let record = Record::Unknown(diary(rt.alloc())?);
-    let printed = is_printed(rt.alloc(), record, b"unknown 3 7 3\n= 9\n+ 12\n- 9\n");
-    assert!(rt; printed == Ok(true));
-    Ok(())
+/// A truth value, or the digits of a word.
+#[derive(Clone, Copy)]
+pub(crate) enum Shown {
+    Bool(bool),
+    Word(&'static [bool]),
 }
 
 /// What a reader gives next.
 #[derive(Clone, Copy)]
-enum Next {
+pub(crate) enum Next {
     /// No whole line is held.
     Nothing,
     /// The line of this number is none of a proof file.
@@ -135,8 +42,19 @@ enum Next {
     Encode(u64),
     Selector(u64),
     Chain(&'static [WrittenLiteral], &'static [WrittenHint]),
+    /// A constant array of this index width, over these terms.
+    Filled(u64, &'static [u64]),
+    Equal(u64, u64),
+    Congruence(u64, u64),
+    Witness(u64),
+    /// Two accesses.
+    Accesses(Route, Route),
     /// The digits of a declaration's value.
     Digits(u64, &'static [bool]),
+    /// The default of an array, and its indexes with their elements.
+    Array(&'static [bool], &'static [Pair]),
+    /// The default of a function, and the values of its rows.
+    Table(Shown, &'static [Shown]),
     Unsat(u64),
     /// A cube, where its diary starts, and how many lines follow.
     Unknown(u64, u64, u64),
@@ -145,7 +63,7 @@ enum Next {
 
 /// A step of reading.
 #[derive(Clone, Copy)]
-enum Step {
+pub(crate) enum Step {
     /// A piece of the file is fed.
     Feed(&'static [u8]),
     /// This comes next.
@@ -163,8 +81,52 @@ fn is_term(head: &Head, args: &[u64], next: Next) -> bool {
         (Head::Word { width, value }, Next::Literal(wide, number)) => {
             *width == wide && *value == number && args.is_empty()
         }
+        (Head::ConstantArray(index), Next::Filled(width, terms)) => {
+            *index == width && args == terms
+        }
         _ => false,
     }
+}
+
+/// Whether the access is this one.
+fn is_access(access: &WrittenAccess, wanted: Route) -> bool {
+    access.start == wanted.0 && access.moves.as_slice() == wanted.1
+}
+
+/// Whether the indexes and elements are these.
+fn are_entries(entries: &[WrittenEntry], wanted: &[Pair]) -> bool {
+    if entries.len() != wanted.len() {
+        return false;
+    }
+    for i in 0..entries.len() {
+        let entry = &entries[i];
+        if entry.index.as_slice() != wanted[i].0 || entry.element.as_slice() != wanted[i].1 {
+            return false;
+        }
+    }
+    true
+}
+
+/// Whether the truth value or word is this one.
+fn is_scalar(scalar: &WrittenScalar, wanted: Shown) -> bool {
+    match (scalar, wanted) {
+        (WrittenScalar::Bool(holds), Shown::Bool(other)) => *holds == other,
+        (WrittenScalar::Word(digits), Shown::Word(other)) => digits.as_slice() == other,
+        _ => false,
+    }
+}
+
+/// Whether the truth values and words are these.
+fn are_scalars(scalars: &[WrittenScalar], wanted: &[Shown]) -> bool {
+    if scalars.len() != wanted.len() {
+        return false;
+    }
+    for i in 0..scalars.len() {
+        if !is_scalar(&scalars[i], wanted[i]) {
+            return false;
+        }
+    }
+    true
 }
 
 /// Whether a value's line is this one.
@@ -172,6 +134,25 @@ fn is_value(declaration: u64, value: &WrittenValue, next: Next) -> bool {
     match (value, next) {
         (WrittenValue::Word(digits), Next::Digits(number, wanted)) => {
             declaration == number && digits.as_slice() == wanted
+        }
+        (WrittenValue::Array { default, entries }, Next::Array(digits, wanted)) => {
+            default.as_slice() == digits && are_entries(entries.as_slice(), wanted)
+        }
+        (WrittenValue::Fun { default, values }, Next::Table(shown, wanted)) => {
+            is_scalar(default, shown) && are_scalars(values.as_slice(), wanted)
+        }
+        _ => false,
+    }
+}
+
+/// Whether a line of an equality or a lemma is this one.
+fn is_lemma(line: &Line, next: Next) -> bool {
+    match (line, next) {
+        (Line::Equal(lower, upper), Next::Equal(t, u)) => *lower == t && *upper == u,
+        (Line::Congruence(one, other), Next::Congruence(t, u)) => *one == t && *other == u,
+        (Line::Witness(equality), Next::Witness(t)) => *equality == t,
+        (Line::Accesses(one, other), Next::Accesses(a, b)) => {
+            is_access(one, a) && is_access(other, b)
         }
         _ => false,
     }
@@ -200,7 +181,7 @@ fn is_line(line: &Line, next: Next) -> bool {
         (Line::Chain { clause, hints }, Next::Chain(literals, by)) => {
             clause.as_slice() == literals && hints.as_slice() == by
         }
-        _ => has_numbers(line, next),
+        _ => has_numbers(line, next) || is_lemma(line, next),
     }
 }
 
@@ -249,7 +230,7 @@ fn first_not_done(reader: &mut ProofReader, steps: &[Step]) -> Result<Option<usi
 }
 
 /// A reader that was fed nothing does each of the steps.
-fn walk(rt: &(impl Abort + AllocGlobal), steps: &[Step]) -> Result<(), Fail> {
+pub(crate) fn walk(rt: &(impl Abort + AllocGlobal), steps: &[Step]) -> Result<(), Fail> {
     let mut reader = ProofReader::new(rt.alloc());
     let failed = first_not_done(&mut reader, steps);
     drop(reader);
@@ -363,9 +344,9 @@ fn what_no_line_prints_is_a_fault(rt: HostRuntime) -> Result<(), Fail> {
 
 /// What a whole file is read as.
 #[derive(Clone, Copy)]
-enum File {
+enum File<'a> {
     /// These lines.
-    Lines(&'static [Next]),
+    Lines(&'a [Next]),
     /// The first line that is none has this number.
     Fault(u64),
 }
@@ -384,7 +365,7 @@ fn are_lines(lines: &[Line], wanted: &[Next]) -> bool {
 }
 
 /// Whether a file that comes in these pieces is read so.
-fn is_read(alloc: Global, pieces: &[&[u8]], wanted: File) -> Result<bool, AllocError> {
+fn is_read(alloc: Global, pieces: &[&[u8]], wanted: File<'_>) -> Result<bool, AllocError> {
     let mut texts = Vec::new(alloc);
     for piece in pieces {
         texts.push(Text::from_slice(alloc, piece)?)?;

@@ -2,7 +2,7 @@ use Rattle.std.proofs.Common.{sym, ◌∙◌}
 use Rattle.std.proofs.lemmas.List.{drop_all}
 use Rattle.proof_text.specs.Reading.{digit_in}
 use Rattle.proof_text.proofs.Splitting.{each_says, each_fails, each_ends, next_byte}
-use Rattle.proof_text.proofs.reading.digits.Goals as goal
+use Rattle.proof_text.proofs.reading_values.digits.Goals as goal
 
 pub returns-in_default : goal.returns-in_default
 returns-in_default c = each_fails digit_in c.loop-byte.items.items _ _ _ _ (next_byte c.args.bytes.now c.loop-byte.byte-index c.loop-byte-test.true) (sym c.digit.ensures ∙ c.in_default.is) c.loop-byte.invariant

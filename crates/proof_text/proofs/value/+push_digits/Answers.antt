@@ -2,8 +2,8 @@ use Rattle.std.proofs.Common.{◌≡◌, ◌^◌, ◌/◌, ◌%◌, ◌-◌, ref
 use Rattle.std.proofs.lemmas.Result.{on_ok_weaker, on_err_weaker}
 use Rattle.proof_text.specs.Lines.{digit_of}
 use Rattle.proof_text.proofs.Appending.{no_digits, digits_more, digit_is_one, digit_is_zero, kept_front}
-use Rattle.proof_text.proofs.record.+push_digits.Goals as goal
-use Rattle.proof_text.proofs.record.+push_digits.Goals.{then-number-rest-eq1, else-number-rest-eq1}
+use Rattle.proof_text.proofs.value.+push_digits.Goals as goal
+use Rattle.proof_text.proofs.value.+push_digits.Goals.{then-number-rest-eq1, else-number-rest-eq1}
 
 pub returns-then-width-eq0-clause-ok : goal.returns-then-width-eq0-clause-ok
 returns-then-width-eq0-clause-ok t c = rw (no_digits c.args.width c.args.number c.if-width-eq0.true, append-nil) refl

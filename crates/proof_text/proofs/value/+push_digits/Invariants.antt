@@ -1,4 +1,4 @@
-use Rattle.proof_text.proofs.record.+push_digits.Given as goal
+use Rattle.proof_text.proofs.value.+push_digits.Given as goal
 
 abbrev pub decreases-push_digits : goal.decreases-push_digits
 decreases-push_digits l = l.width
