@@ -65,6 +65,7 @@ opted_state v o s a is are = record {
   terms = is.terms;
   scopes = is.scopes;
   live = is.live;
+  theories = is.theories;
   constants = is.constants;
   declared = is.declared;
   bodies = is.bodies;
@@ -88,11 +89,12 @@ fallen_state v is = opted_state v v.options None None is (none_assumed v.terms.n
 -- one declaration more
 pub declared_state : (v : StateValue) (w : SymbolsValue) (n : CommandName) (es : Sexps) (d : ℕ) → declare v.symbols n es ≡ Ok (d, w) → IsState v → IsState (record { symbols = w; terms = v.terms; scopes = v.scopes; options = v.options; standing = None; assumed = None })
 declared_state v w n es d e is =
-    let kept = declared_kept v.symbols w n es d v.terms.nodes is.sorts e in
+    let kept = declared_kept v.symbols w n es d v.terms.nodes is.theories is.sorts e in
     record {
       terms = is.terms;
       scopes = is.scopes;
       live = kept.live is.live;
+      theories = kept.theories ∙ is.theories;
       constants = kept.constants is.constants;
       declared = kept.declared is.declared;
       bodies = rw kept.definitions is.bodies;
@@ -122,12 +124,13 @@ declared_state v w n es d e is =
 -- one name of a sort more
 pub named_state : (v : StateValue) (w : SymbolsValue) (n : CommandName) (es : Sexps) → define_sort v.symbols n es ≡ Ok w → IsState v → IsState (record { symbols = w; terms = v.terms; scopes = v.scopes; options = v.options; standing = None; assumed = None })
 named_state v w n es e is =
-    let one = sort_defined v.symbols w n es is.sorts e in
+    let one = sort_defined v.symbols w n es is.theories is.sorts e in
     subst (λ (u : SymbolsValue). IsState (record { symbols = u; terms = v.terms; scopes = v.scopes; options = v.options; standing = None; assumed = None })) (sym one.3)
     (record {
       terms = is.terms;
       scopes = is.scopes;
       live = record { rising = is.live.rising; made = is.live.made };
+      theories = is.theories;
       constants = is.constants;
       declared = is.declared;
       bodies = is.bodies;
@@ -183,6 +186,7 @@ module _ (v : StateValue) (w : TermsValue) (grows : Grows v.symbols.signatures v
     terms = list;
     scopes = is.scopes;
     live = is.live;
+    theories = is.theories;
     constants = is.constants;
     declared = grows.declared is.declared;
     bodies = bodies_longer _ _ v.symbols.definitions longer is.bodies;
@@ -219,7 +223,7 @@ asserted_plain nodes t = go (same_sort (sort_of nodes t) sort.Bool) (is_plain no
 
 -- one assertion more, of a term over live declarations against which nothing stands, with names that are given within it
 abbrev pub with_more : SymbolsValue → Meanings Definition → SymbolsValue
-with_more v more = record { live = v.live; signatures = v.signatures; definitions = v.definitions ++ more; sorts = v.sorts; levels = v.levels }
+with_more v more = record { live = v.live; signatures = v.signatures; definitions = v.definitions ++ more; sorts = v.sorts; levels = v.levels; theories = v.theories }
 
 pub asserted_state : (v : StateValue) (more : Meanings Definition) (t : ℕ) (name : Option (List ℕ)) (scopes : ScopesValue) → IsState v → AreBodies (length v.terms.nodes) (v.symbols.definitions ++ more) → AreOver v.symbols.live v.terms.nodes (v.symbols.definitions ++ more) → t < length v.terms.nodes → is_over v.symbols.live v.terms.nodes t ≡ true → objection v.terms.nodes t ≡ None → scopes ≡ asserted v.scopes t name → IsState (record { symbols = with_more v.symbols more; terms = v.terms; scopes = scopes; options = v.options; standing = None; assumed = None })
 asserted_state v more t name scopes is bodies over lt here none e =
@@ -229,6 +233,7 @@ asserted_state v more t name scopes is bodies over lt here none e =
       terms = is.terms;
       scopes = one_more v.scopes t name is.scopes;
       live = record { rising = is.live.rising; made = is.live.made };
+      theories = is.theories;
       constants = is.constants;
       declared = is.declared;
       bodies = bodies;
@@ -261,6 +266,7 @@ defined_state v w x f is lt over = record {
   terms = is.terms;
   scopes = is.scopes;
   live = record { rising = is.live.rising; made = is.live.made };
+  theories = is.theories;
   constants = is.constants;
   declared = is.declared;
   bodies = bodies_push (length w.nodes) v.symbols.definitions x f is.bodies lt;

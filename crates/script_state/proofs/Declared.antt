@@ -1,5 +1,5 @@
 -- A declaration keeps those that were made, and is a constant that is a word.
-use Rattle.std.proofs.Common.{◌≡◌, ℕ, ◌<◌, zero, suc, Bool, true, false, List, [], ◌∷◌, ◌++◌, length, refl, sym, subst, arith, leb-true, length-append, Option, Some, None, Result, Ok, Err}
+use Rattle.std.proofs.Common.{◌≡◌, ℕ, ◌<◌, Bool, true, false, List, [], ◌∷◌, ◌++◌, length, refl, sym, ap, subst, arith, leb-true, length-append, Option, Some, None, Result, Ok, Err}
 use Rattle.std.specs.Prelude.{◌&&◌, nat_le, slice_get, if◌then◌else◌, All}
 use Rattle.std.specs.List.{AllByRecursion}
 use Rattle.std.specs.Str.{bytes_eq}
@@ -23,8 +23,8 @@ use Rattle.smt_build.specs.declared.symbols.LiveName.{LiveName}
 use Rattle.smt_build.specs.Literals.{decimal_value, value_in}
 use Rattle.smt_build.specs.Names.{SymbolsValue, Meanings, AreDeclared, meaning_in, is_taken, with_declaration}
 use Rattle.smt_build.specs.Operators.{is_reserved}
-use Rattle.smt_build.specs.Sorts.{defined_sort, sort_named, word_of_width, width_sort, named_sort, indexed_sort, listed_sort, sort_in}
-use Rattle.smt_build.specs.Declaring.{Declaration, declare, declare_constant, constant_parts, function_parts, value_sort, constant, next}
+use Rattle.smt_build.specs.Sorts.{defined_sort, sort_named, word_of_width, width_sort, named_sort, indexed_sort, word_listed, part_sort, sort_in}
+use Rattle.smt_build.specs.Declaring.{Declaration, declare, declare_name, of_constant, signature_in, constant_parts, function_parts, value_sort, next}
 use Rattle.smt_terms.specs.Ranks as ranks
 use Rattle.script_state.specs.States.{AreLive, IsPlainConstant, IsPlainName}
 
@@ -76,18 +76,36 @@ plain_indexed : (i j : TokenKind) (b : List ℕ) (k : TokenKind) (n : List ℕ) 
 plain_indexed kind.Underscore j b k n = plain_word j b k n
 plain_indexed _ j b k n = tt
 
-plain_listed : (es : Sexps) → IsPlainIf (listed_sort es)
+plain_listed : (es : Sexps) → IsPlainIf (word_listed es)
 plain_listed (more (atom i l) (more (atom j b) (more (atom k n) none))) = plain_indexed i j b k n
 plain_listed _ = tt
 
-plain_sort : (ms : Meanings Sort) (e : Sexp) → ArePlainNames ms → IsPlainIf (sort_in ms e)
-plain_sort ms (atom k x) h = plain_atom ms k x h
-plain_sort ms (group es) h = plain_listed es
+plain_part : (ms : Meanings Sort) (e : Sexp) → ArePlainNames ms → IsPlainIf (part_sort ms e)
+plain_part ms (atom k x) h = plain_atom ms k x h
+plain_part ms (group es) h = plain_listed es
 
-pub plain_value : (v : SymbolsValue) (ps s : Sexp) → ArePlainNames v.sorts → IsPlainIf (value_sort v ps s)
-plain_value v (group none) s h = plain_sort v.sorts s h
-plain_value v (group (more e es)) s h = tt
-plain_value v (atom k x) s h = tt
+-- where arrays are not read
+plain_sort : (v : SymbolsValue) (e : Sexp) → v.theories ≡ false → ArePlainNames v.sorts → IsPlainIf (sort_in v e)
+plain_sort v e off h = rw off (plain_part v.sorts e h)
+
+pub plain_value : (v : SymbolsValue) (ps s : Sexp) → v.theories ≡ false → ArePlainNames v.sorts → IsPlainIf (value_sort v ps s)
+plain_value v (group none) s off h = plain_sort v s off h
+plain_value v (group (more e es)) s off h = tt
+plain_value v (atom k x) s off h = tt
+
+-- the signature is that of a constant that is a Bool or a word
+abbrev IsConstantIf : Result Signature BuildFault → Type 0
+IsConstantIf (Ok g) = (s : Sort) × ((ranks.is_plain s ≡ true) × IsSort s) × (g ≡ constant_signature s)
+IsConstantIf (Err f) = Unit {0}
+
+plain_constant : (r : Result Sort BuildFault) → IsPlainIf r → IsConstantIf (of_constant r)
+plain_constant (Ok s) h = (s, h, refl)
+plain_constant (Err f) h = tt
+
+plain_signature : (v : SymbolsValue) (ps s : Sexp) → v.theories ≡ false → ArePlainNames v.sorts → IsConstantIf (signature_in v ps s)
+plain_signature v (group none) s off h = plain_constant (sort_in v s) (plain_sort v s off h)
+plain_signature v (group (more e es)) s off h = rw off tt
+plain_signature v (atom k x) s off h = tt
 
 -- ---- declarations
 
@@ -100,35 +118,27 @@ more_unless : (v : SymbolsValue) (b : Bool) (f : BuildFault) (d : Declaration) �
 more_unless v true f d h = tt
 more_unless v false f d h = h
 
-more_next : (v : SymbolsValue) (x : List ℕ) (s : Result Sort BuildFault) → IsPlainIf s → OneMore v (s >>= next v x)
-more_next v x (Ok s) h = (x, s, h, refl)
+more_next : (v : SymbolsValue) (x : List ℕ) (r : Result Signature BuildFault) → IsConstantIf r → OneMore v (r >>= next v x)
+more_next v x (Ok g) h = (x, h.0, h.1, ap (with_declaration v x) h.2)
 more_next v x (Err f) h = tt
 
-more_constant : (v : SymbolsValue) (x : List ℕ) (s : Result Sort BuildFault) → IsPlainIf s → OneMore v (constant v x s)
-more_constant v x s h = more_unless v (is_reserved x) Reserved _ (more_unless v (is_taken v x) Declared _ (more_next v x s h))
+more_named : (v : SymbolsValue) (x : Sexp) (r : Result Signature BuildFault) → IsConstantIf r → OneMore v (declare_name v x r)
+more_named v (atom k x) r h = more_unless v (is_reserved x) Reserved _ (more_unless v (is_taken v x) Declared _ (more_next v x r h))
+more_named v (group es) r h = tt
 
-more_named : (v : SymbolsValue) (x : Sexp) (s : Result Sort BuildFault) → IsPlainIf s → OneMore v (declare_constant v x s)
-more_named v (atom k x) s h = more_constant v x s h
-more_named v (group es) s h = tt
+more_parts : (v : SymbolsValue) (es : Sexps) → v.theories ≡ false → ArePlainNames v.sorts → OneMore v (constant_parts v es)
+more_parts v (more x (more s none)) off h = more_named v x _ (plain_constant (sort_in v s) (plain_sort v s off h))
+more_parts v _ off h = tt
 
-more_parts : (v : SymbolsValue) (es : Sexps) → ArePlainNames v.sorts → OneMore v (constant_parts v es)
-more_parts v none h = tt
-more_parts v (more x none) h = tt
-more_parts v (more x (more s none)) h = more_named v x _ (plain_sort v.sorts s h)
-more_parts v (more x (more s (more t es))) h = tt
+more_function : (v : SymbolsValue) (es : Sexps) → v.theories ≡ false → ArePlainNames v.sorts → OneMore v (function_parts v es)
+more_function v (more x (more args (more s none))) off h = more_named v x _ (plain_signature v args s off h)
+more_function v _ off h = tt
 
-more_function : (v : SymbolsValue) (es : Sexps) → ArePlainNames v.sorts → OneMore v (function_parts v es)
-more_function v none h = tt
-more_function v (more x none) h = tt
-more_function v (more x (more args none)) h = tt
-more_function v (more x (more args (more s none))) h = more_named v x _ (plain_value v args s h)
-more_function v (more x (more args (more s (more t es)))) h = tt
-
-more_declared : (v : SymbolsValue) (n : CommandName) (es : Sexps) → ArePlainNames v.sorts → OneMore v (declare v n es)
+more_declared : (v : SymbolsValue) (n : CommandName) (es : Sexps) → v.theories ≡ false → ArePlainNames v.sorts → OneMore v (declare v n es)
 unfolding declare
-more_declared v name.DeclareConst es h = more_parts v es h
-more_declared v name.DeclareFun es h = more_function v es h
-more_declared v _ es h = tt
+more_declared v name.DeclareConst es off h = more_parts v es off h
+more_declared v name.DeclareFun es off h = more_function v es off h
+more_declared v _ es off h = tt
 
 -- ---- what stays
 
@@ -155,6 +165,7 @@ pub record AreKept (v w : SymbolsValue) (nodes : List Node) : Type 0 where
   pub definitions : w.definitions ≡ v.definitions
   pub sorts : w.sorts ≡ v.sorts
   pub levels : w.levels ≡ v.levels
+  pub theories : w.theories ≡ v.theories
   pub longer : (d : ℕ) (s : Signature) → slice_get v.signatures d ≡ Some s → slice_get w.signatures d ≡ Some s
 
 kept_more : (v : SymbolsValue) (x : List ℕ) (s : Sort) (nodes : List Node) → (ranks.is_plain s ≡ true) × IsSort s → AreKept v (with_declaration v x (constant_signature s)) nodes
@@ -167,11 +178,12 @@ kept_more v x s nodes plain = record {
   definitions = refl;
   sorts = refl;
   levels = refl;
+  theories = refl;
   longer = λ d r e. slice_get-longer v.signatures (constant_signature s ∷ []) d r e;
 }
 
-pub declared_kept : (v w : SymbolsValue) (n : CommandName) (es : Sexps) (d : ℕ) (nodes : List Node) → ArePlainNames v.sorts → declare v n es ≡ Ok (d, w) → AreKept v w nodes
-declared_kept v w n es d nodes h e =
+pub declared_kept : (v w : SymbolsValue) (n : CommandName) (es : Sexps) (d : ℕ) (nodes : List Node) → v.theories ≡ false → ArePlainNames v.sorts → declare v n es ≡ Ok (d, w) → AreKept v w nodes
+declared_kept v w n es d nodes off h e =
     let P : Declaration → Type 0 = OneMore v in
-    let m : OneMore v (Ok (d, w)) = subst P e (more_declared v n es h) in
+    let m : OneMore v (Ok (d, w)) = subst P e (more_declared v n es off h) in
     subst (λ (u : SymbolsValue). AreKept v u nodes) (sym m.3) (kept_more v m.0 m.1 nodes m.2)

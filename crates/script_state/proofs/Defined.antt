@@ -37,17 +37,17 @@ sort_by_name : (v : SymbolsValue) (x : Sexp) (s : Result Sort BuildFault) → Is
 sort_by_name v (atom k x) s h = sort_unless v (is_sort_reserved x) Reserved _ (sort_unless v (is_some (meaning_in v.sorts x)) Declared _ (sort_next v x s h))
 sort_by_name v (group es) s h = tt
 
-sort_by_parts : (v : SymbolsValue) (es : Sexps) → ArePlainNames v.sorts → OneSort v (sort_parts v es)
-sort_by_parts v none h = tt
-sort_by_parts v (more x none) h = tt
-sort_by_parts v (more x (more ps none)) h = tt
-sort_by_parts v (more x (more ps (more s none))) h = sort_by_name v x _ (plain_value v ps s h)
-sort_by_parts v (more x (more ps (more s (more t es)))) h = tt
+sort_by_parts : (v : SymbolsValue) (es : Sexps) → v.theories ≡ false → ArePlainNames v.sorts → OneSort v (sort_parts v es)
+sort_by_parts v none off h = tt
+sort_by_parts v (more x none) off h = tt
+sort_by_parts v (more x (more ps none)) off h = tt
+sort_by_parts v (more x (more ps (more s none))) off h = sort_by_name v x _ (plain_value v ps s off h)
+sort_by_parts v (more x (more ps (more s (more t es)))) off h = tt
 
-one_sort : (v : SymbolsValue) (n : CommandName) (es : Sexps) → ArePlainNames v.sorts → OneSort v (define_sort v n es)
+one_sort : (v : SymbolsValue) (n : CommandName) (es : Sexps) → v.theories ≡ false → ArePlainNames v.sorts → OneSort v (define_sort v n es)
 unfolding define_sort
-one_sort v name.DefineSort es h = sort_by_parts v es h
-one_sort v _ es h = tt
+one_sort v name.DefineSort es off h = sort_by_parts v es off h
+one_sort v _ es off h = tt
 
-pub sort_defined : (v w : SymbolsValue) (n : CommandName) (es : Sexps) → ArePlainNames v.sorts → define_sort v n es ≡ Ok w → OneSort v (Ok w)
-sort_defined v w n es h e = let P : SortDefinition → Type 0 = OneSort v in subst P e (one_sort v n es h)
+pub sort_defined : (v w : SymbolsValue) (n : CommandName) (es : Sexps) → v.theories ≡ false → ArePlainNames v.sorts → define_sort v n es ≡ Ok w → OneSort v (Ok w)
+sort_defined v w n es off h e = let P : SortDefinition → Type 0 = OneSort v in subst P e (one_sort v n es off h)

@@ -53,12 +53,12 @@ module _ (s : StateValue) (is : IsState s) where
   by_declaring : (n : CommandName) (es : Sexps) (d : ℕ) (w : SymbolsValue) → declare s.symbols n es ≡ Ok (d, w) → Goes (declaring s (Ok (d, w)))
   by_declaring n es d w e = record {
     state = declared_state s w n es d e is;
-    keeps = record { behind = []; nodes = sym (append-nil s.terms.nodes); signatures = (declared_kept s.symbols w n es d s.terms.nodes is.sorts e).longer; assertions = λ a t e. e };
+    keeps = record { behind = []; nodes = sym (append-nil s.terms.nodes); signatures = (declared_kept s.symbols w n es d s.terms.nodes is.theories is.sorts e).longer; assertions = λ a t e. e };
   }
 
   by_naming : (n : CommandName) (es : Sexps) (w : SymbolsValue) → define_sort s.symbols n es ≡ Ok w → Goes (naming_sort s (Ok w))
   by_naming n es w e =
-      let one = sort_defined s.symbols w n es is.sorts e in
+      let one = sort_defined s.symbols w n es is.theories is.sorts e in
       record {
         state = named_state s w n es e is;
         keeps = record {

@@ -84,6 +84,7 @@ begun_state v n w is o s e =
       terms = is.terms;
       scopes = more_are v.scopes n is.scopes p.0;
       live = record { rising = is.live.rising; made = is.live.made };
+      theories = is.theories;
       constants = is.constants;
       declared = is.declared;
       bodies = is.bodies;
@@ -120,6 +121,7 @@ to_level v k l is o s le here =
       terms = is.terms;
       scopes = fewer_levels v.scopes.levels k v.scopes.made v.scopes.terms v.scopes.live (made_within k v.scopes.live) is.scopes le refl;
       live = live_take v.symbols l.names _ is.live level.names refl refl;
+      theories = is.theories;
       constants = is.constants;
       declared = is.declared;
       bodies = bodies_take (length v.terms.nodes) l.definitions v.symbols.definitions is.bodies;
@@ -178,6 +180,7 @@ emptied_state v o is = record {
     within = omega arith;
   };
   live = record { rising = λ i j d lt within. absurd (omega (arith, within)); made = All-nil (λ (l : LiveName). l.declaration < length v.symbols.signatures) };
+  theories = is.theories;
   constants = is.constants;
   declared = is.declared;
   bodies = tt;
@@ -205,6 +208,7 @@ first_state = record {
     within = omega arith;
   };
   live = record { rising = λ i j d lt within. absurd (omega (arith, within)); made = All-nil (λ (l : LiveName). l.declaration < 0) };
+  theories = refl;
   constants = All-nil IsPlainConstant;
   declared = record { each = λ t d e. absurd (none_declared t d e) };
   bodies = tt;

@@ -20,3 +20,4 @@ pub mod Telling
 pub mod Applying
 pub mod Deciding
 pub mod Words
+pub mod Theories

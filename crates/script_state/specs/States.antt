@@ -1,5 +1,5 @@
 -- The state of a session (SMT-LIB 2.6, section 4.1).
-use Rattle.std.specs.Prelude.{◌≡◌, ℕ, ◌<◌, ◌≤◌, ◌^◌, ◌++◌, Bool, true, List, [], length, map, slice_get, take, All, AllPairs, Option, Some, None}
+use Rattle.std.specs.Prelude.{◌≡◌, ℕ, ◌<◌, ◌≤◌, ◌^◌, ◌++◌, Bool, true, false, List, [], length, map, slice_get, take, All, AllPairs, Option, Some, None}
 use Rattle.std.specs.List.{AllByRecursion}
 use Rattle.smt_terms.specs.declared.sort.Sort.{Sort}
 use Rattle.smt_terms.specs.declared.sort.Sort.TheVariants as sort
@@ -96,12 +96,13 @@ pub record IsAssumption (nodes : List Node) (live : List LiveName) (a : Asked) :
   pub closed : is_over live nodes a.term ≡ true
 
 -- The terms are a list of well-sorted terms and name declarations as they were made, which are constants; names of sorts
--- are plain, and the bodies of definitions are terms; each live assertion is a plain term of sort Bool, and so is each
--- assumption. What is live names live declarations alone, and so it will where levels are popped.
+-- are plain, functions with arguments and arrays are not read, and the bodies of definitions are terms; each live assertion
+-- is a plain term of sort Bool, and so is each assumption. What is live names live declarations alone, and so it will where levels are popped.
 pub record IsState (v : StateValue) : Type 0 where
   pub terms : IsTermList v.terms.nodes
   pub scopes : AreScopes v.scopes
   pub live : AreLive v.symbols
+  pub theories : v.symbols.theories ≡ false
   pub constants : All IsPlainConstant v.symbols.signatures
   pub declared : AreDeclared v.symbols.signatures v.terms.nodes
   pub bodies : AreBodies (length v.terms.nodes) v.symbols.definitions

@@ -32,6 +32,11 @@ pub fn steps_keep_states()
     ensures { (s : StateValue) (r : Reading) → IsState s → IsState (step s r).1 }
 {}
 
+/// No step changes whether functions with arguments and arrays are read.
+pub fn steps_keep_theories()
+    ensures { (s : StateValue) (r : Reading) → (step s r).1.symbols.theories ≡ s.symbols.theories }
+{}
+
 /// What fits terms fits more terms too.
 pub fn more_terms_fit()
     ensures { (old new : TermsValue) (r : RestValue) → Grows r.symbols.signatures old new → IsTermList new.nodes → Fit old r → Fit new r }

@@ -7,11 +7,12 @@ use Rattle.smt_text.specs.declared.token.CommandName.TheVariants as name
 use Rattle.smt_syntax.specs.declared.span.Span.{Span}
 use Rattle.smt_syntax.specs.declared.command.Command.{Command}
 use Rattle.smt_syntax.specs.declared.command.Command.TheVariants as command
-use Rattle.smt_syntax.specs.Sexps.{Sign, close_paren, Sexp, Sexps, atom, group, none, more, spelling, spellings, signs_in}
+use Rattle.smt_syntax.specs.Sexps.{Sign, open_paren, close_paren, Sexp, Sexps, atom, group, none, more, spelling, spellings, sign_in, signs_in}
 use Rattle.smt_syntax.specs.Spans.{AllStand, Stands}
 use Rattle.smt_syntax.specs.Commands.{name_of, spans_of}
 use Rattle.smt_syntax.proofs.CommandReadings.{length-signs, some_signs}
 use Rattle.smt_terms.specs.declared.sort.Sort.{Sort}
+use Rattle.smt_terms.specs.declared.sort.Signature.{Signature}
 use Rattle.smt_build.specs.declared.fault.BuildFault.{BuildFault}
 use Rattle.smt_build.specs.declared.fault.BuildFault.TheVariants.{Declared, Reserved, NotSupported}
 use Rattle.smt_build.specs.declared.fault.BuildError.{BuildError}
@@ -19,8 +20,9 @@ use Rattle.smt_build.specs.declared.definition.Definition.{Definition}
 use Rattle.smt_build.specs.Names.{SymbolsValue, declaration_of, meaning_in, is_taken}
 use Rattle.smt_build.specs.Operators.{is_reserved}
 use Rattle.smt_build.specs.Sorts.{sort_in}
-use Rattle.smt_build.specs.Declaring.{next, constant, declare_constant, value_sort, declare, Declares}
-use Rattle.smt_build.proofs.Spellings.{one_word}
+use Rattle.smt_build.specs.Naming.{parts_of}
+use Rattle.smt_build.specs.Declaring.{next, named, declare_name, value_sort, of_constant, plain_in, next_argument, of_function, signature_in, declare, Declares}
+use Rattle.smt_build.proofs.Spellings.{one_word, not_end}
 
 -- one token of a slice is a word
 pub name_is : (ts : List Token) (d : Token) → 1 ≤ length ts → length ts < 2 → (n : Sexp) → signs_in ts ≡ spelling n → n ≡ atom (get_or ts 0 d).kind (get_or ts 0 d).text.now
@@ -29,30 +31,30 @@ name_is (t ∷ []) d h k n e = one_word t.kind t.text.now n e
 name_is (t ∷ u ∷ ts) d h k n e = absurd (omega arith)
 
 -- other tokens are no name
-pub no_name : (v : SymbolsValue) (ts : List Token) (n : Sexp) (s : Result Sort BuildFault) → signs_in ts ≡ spelling n → (length ts ≡ 1 → ⊥) → declare_constant v n s ≡ Err NotSupported
-no_name v [] (atom k x) s e m = absurd (let z : ⊥ = cc in z)
-no_name v (t ∷ []) (atom k x) s e m = absurd (m refl)
-no_name v (t ∷ u ∷ ts) (atom k x) s e m = absurd (let z : ⊥ = cc in z)
-no_name v ts (group es) s e m = refl
+pub no_name : (v : SymbolsValue) (ts : List Token) (n : Sexp) (r : Result Signature BuildFault) → signs_in ts ≡ spelling n → (length ts ≡ 1 → ⊥) → declare_name v n r ≡ Err NotSupported
+no_name v [] (atom k x) r e m = absurd (let z : ⊥ = cc in z)
+no_name v (t ∷ []) (atom k x) r e m = absurd (m refl)
+no_name v (t ∷ u ∷ ts) (atom k x) r e m = absurd (let z : ⊥ = cc in z)
+no_name v ts (group es) r e m = refl
 
-module _ (v : SymbolsValue) (ts : List Token) (d : Token) (a : 1 ≤ length ts) (b : length ts < 2) (n : Sexp) (s : Result Sort BuildFault) (e : signs_in ts ≡ spelling n) where
+module _ (v : SymbolsValue) (ts : List Token) (d : Token) (a : 1 ≤ length ts) (b : length ts < 2) (n : Sexp) (r : Result Signature BuildFault) (e : signs_in ts ≡ spelling n) where
   abbrev text : List ℕ
   text = (get_or ts 0 d).text.now
 
-  as_constant : declare_constant v n s ≡ constant v text s
-  as_constant = ap (λ m. declare_constant v m s) (name_is ts d a b n e)
+  as_named : declare_name v n r ≡ named v text r
+  as_named = ap (λ m. declare_name v m r) (name_is ts d a b n e)
 
-  pub reserved_name : is_reserved text ≡ true → declare_constant v n s ≡ Err Reserved
-  reserved_name f = as_constant ∙ rw f refl
+  pub reserved_name : is_reserved text ≡ true → declare_name v n r ≡ Err Reserved
+  reserved_name f = as_named ∙ rw f refl
 
-  pub declared_name : is_reserved text ≡ false → is_taken v text ≡ true → declare_constant v n s ≡ Err Declared
-  declared_name f g = as_constant ∙ rw (f, g) refl
+  pub declared_name : is_reserved text ≡ false → is_taken v text ≡ true → declare_name v n r ≡ Err Declared
+  declared_name f g = as_named ∙ rw (f, g) refl
 
-  pub no_sort : is_reserved text ≡ false → is_taken v text ≡ false → (y : BuildFault) → s ≡ Err y → declare_constant v n s ≡ Err y
-  no_sort f g y h = as_constant ∙ rw (f, g, h) refl
+  pub no_signature : is_reserved text ≡ false → is_taken v text ≡ false → (y : BuildFault) → r ≡ Err y → declare_name v n r ≡ Err y
+  no_signature f g y h = as_named ∙ rw (f, g, h) refl
 
-  pub new_name : is_reserved text ≡ false → is_taken v text ≡ false → (r : Sort) → s ≡ Ok r → declare_constant v n s ≡ next v text r
-  new_name f g r h = as_constant ∙ rw (f, g, h) refl
+  pub new_name : is_reserved text ≡ false → is_taken v text ≡ false → (q : Signature) → r ≡ Ok q → declare_name v n r ≡ next v text q
+  new_name f g q h = as_named ∙ rw (f, g, h) refl
 
 -- a name that is not taken is not declared
 pub not_declared : (v : SymbolsValue) (x : List ℕ) → is_taken v x ≡ false → declaration_of v.live x ≡ None
@@ -71,13 +73,13 @@ not_defined v x e = go (is_some (declaration_of v.live x)) (meaning_in v.definit
   go true (Some d) h = absurd (let z : ⊥ = cc in z)
   go false (Some d) h = absurd (let z : ⊥ = cc in z)
 
--- ---- functions
+-- ---- signatures
 
 -- two tokens are an empty list, and no other number is
-pub no_arguments : (v : SymbolsValue) (ts : List Token) (a s : Sexp) → length ts ≡ 2 → signs_in ts ≡ spelling a → value_sort v a s ≡ sort_in v.sorts s
-no_arguments v ts (atom k x) s l e = absurd (let p : 2 ≡ 1 = sym l ∙ sym (length-signs ts) ∙ ap length e in let z : ⊥ = omega arith in z)
-no_arguments v ts (group none) s l e = refl
-no_arguments v ts (group (more x es)) s l e = absurd (
+pub no_arguments : (ts : List Token) (a : Sexp) → length ts ≡ 2 → signs_in ts ≡ spelling a → a ≡ group none
+no_arguments ts (atom k x) l e = absurd (let p : 2 ≡ 1 = sym l ∙ sym (length-signs ts) ∙ ap length e in let z : ⊥ = omega arith in z)
+no_arguments ts (group none) l e = refl
+no_arguments ts (group (more x es)) l e = absurd (
     let p : 2 ≡ suc (length ((spelling x ++ spellings es) ++ close_paren ∷ [])) = sym l ∙ sym (length-signs ts) ∙ ap length e in
     let q : 1 ≤ length (spelling x) = some_signs x in
     let z : ⊥ = omega (arith, length-append (spelling x ++ spellings es) (close_paren ∷ []), length-append (spelling x) (spellings es)) in z)
@@ -87,23 +89,50 @@ some_arguments v ts (atom k x) s l e = refl
 some_arguments v ts (group none) s l e = absurd (l (sym (length-signs ts) ∙ ap length e))
 some_arguments v ts (group (more x es)) s l e = refl
 
+-- a word in place of the list of arguments
+pub word_arguments : (v : SymbolsValue) (ts : List Token) (a s : Sexp) → length ts < 2 → signs_in ts ≡ spelling a → signature_in v a s ≡ Err NotSupported
+word_arguments v ts (atom k x) s l e = refl
+word_arguments v [] (group es) s l e = absurd (let z : ⊥ = cc in z)
+word_arguments v (t ∷ []) (group es) s l e = absurd (not_end (spellings es) open_paren close_paren (sign_in t) [] (sym e))
+word_arguments v (t ∷ u ∷ ts) (group es) s l e = absurd (omega (arith, l))
+
+-- arguments where functions are not read, and where they are
+pub unread_arguments : (v : SymbolsValue) (ts : List Token) (a s : Sexp) → (length ts ≡ 2 → ⊥) → v.theories ≡ false → signs_in ts ≡ spelling a → signature_in v a s ≡ Err NotSupported
+unread_arguments v ts (atom k x) s l off e = refl
+unread_arguments v ts (group none) s l off e = absurd (l (sym (length-signs ts) ∙ ap length e))
+unread_arguments v ts (group (more x es)) s l off e = rw off refl
+
+pub read_arguments : (v : SymbolsValue) (ts : List Token) (a s : Sexp) → (length ts ≡ 2 → ⊥) → 2 ≤ length ts → v.theories ≡ true → signs_in ts ≡ spelling a → signature_in v a s ≡ of_function v (parts_of a) s
+read_arguments v [] (atom k x) s l h on e = absurd (omega (arith, h))
+read_arguments v (t ∷ []) (atom k x) s l h on e = absurd (omega (arith, h))
+read_arguments v (t ∷ u ∷ ts) (atom k x) s l h on e = absurd (let z : ⊥ = cc in z)
+read_arguments v ts (group none) s l h on e = absurd (l (sym (length-signs ts) ∙ ap length e))
+read_arguments v ts (group (more x es)) s l h on e = rw on refl
+
+-- one argument more
+pub argument_more : (v : SymbolsValue) (args new : List Sort) (s : Sort) (e : Sexp) → Ok s ≡ plain_in v e → new ≡ args ++ s ∷ [] → next_argument v args e ≡ Ok new
+argument_more v args new s e p n = rw (← p, n) refl
+
+pub argument_fails : (v : SymbolsValue) (args : List Sort) (f : BuildFault) (e : Sexp) → Err f ≡ plain_in v e → next_argument v args e ≡ Err f
+argument_fails v args f e p = rw (← p) refl
+
 -- ---- commands
 
-pub declares_constant : (tokens : List Sign) (a b : Span) (es : Sexps) → AllStand tokens (a ∷ b ∷ []) es → (r : Result ℕ BuildError) (old new : SymbolsValue) (value : Result Sort BuildFault)
-    → ((n : Sexp) → Stands tokens a n → Declares (declare_constant old n value) r old new) → ((s : Sexp) → Stands tokens b s → value ≡ sort_in old.sorts s) → Declares (declare old name.DeclareConst es) r old new
+pub declares_constant : (tokens : List Sign) (a b : Span) (es : Sexps) → AllStand tokens (a ∷ b ∷ []) es → (r : Result ℕ BuildError) (old new : SymbolsValue) (value : Result Signature BuildFault)
+    → ((n : Sexp) → Stands tokens a n → Declares (declare_name old n value) r old new) → ((s : Sexp) → Stands tokens b s → value ≡ of_constant (sort_in old s)) → Declares (declare old name.DeclareConst es) r old new
 unfolding declare
 declares_constant tokens a b none h r old new value k v = absurd h
 declares_constant tokens a b (more n none) h r old new value k v = absurd h.1
-declares_constant tokens a b (more n (more s none)) h r old new value k v = subst (λ q. Declares (declare_constant old n q) r old new) (v s h.1.0) (k n h.0)
+declares_constant tokens a b (more n (more s none)) h r old new value k v = subst (λ q. Declares (declare_name old n q) r old new) (v s h.1.0) (k n h.0)
 declares_constant tokens a b (more n (more s (more t es))) h r old new value k v = absurd h.1.1
 
-pub declares_function : (tokens : List Sign) (a b c : Span) (es : Sexps) → AllStand tokens (a ∷ b ∷ c ∷ []) es → (r : Result ℕ BuildError) (old new : SymbolsValue) (value : Result Sort BuildFault)
-    → ((n : Sexp) → Stands tokens a n → Declares (declare_constant old n value) r old new) → ((p s : Sexp) → Stands tokens b p → Stands tokens c s → value ≡ value_sort old p s) → Declares (declare old name.DeclareFun es) r old new
+pub declares_function : (tokens : List Sign) (a b c : Span) (es : Sexps) → AllStand tokens (a ∷ b ∷ c ∷ []) es → (r : Result ℕ BuildError) (old new : SymbolsValue) (value : Result Signature BuildFault)
+    → ((n : Sexp) → Stands tokens a n → Declares (declare_name old n value) r old new) → ((p s : Sexp) → Stands tokens b p → Stands tokens c s → value ≡ signature_in old p s) → Declares (declare old name.DeclareFun es) r old new
 unfolding declare
 declares_function tokens a b c none h r old new value k v = absurd h
 declares_function tokens a b c (more n none) h r old new value k v = absurd h.1
 declares_function tokens a b c (more n (more p none)) h r old new value k v = absurd h.1.1
-declares_function tokens a b c (more n (more p (more s none))) h r old new value k v = subst (λ q. Declares (declare_constant old n q) r old new) (v p s h.1.0 h.1.1.0) (k n h.0)
+declares_function tokens a b c (more n (more p (more s none))) h r old new value k v = subst (λ q. Declares (declare_name old n q) r old new) (v p s h.1.0 h.1.1.0) (k n h.0)
 declares_function tokens a b c (more n (more p (more s (more t es)))) h r old new value k v = absurd h.1.1.1
 
 nothing : (v : SymbolsValue) (n : CommandName) → declare v n none ≡ Err NotSupported

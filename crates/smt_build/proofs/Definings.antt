@@ -126,15 +126,15 @@ module _ (v : SymbolsValue) (terms : TermsValue) (ps : Parameters) (s : Sort) (t
 -- ---- parameters and sorts
 
 module _ (v : SymbolsValue) (p s : Sexp) (ps : Parameters) where
-  pub head_list_fails : (x : BuildError) → Lists (parameters_in v.sorts p) (Err x) ps → Heads (head_of v p s) (Err x) ps
+  pub head_list_fails : (x : BuildError) → Lists (parameters_in v p) (Err x) ps → Heads (head_of v p s) (Err x) ps
   head_list_fails NoMemory h = tt
   head_list_fails (Fault f) h = rw h refl
 
-  pub head_sort_fails : (f : BuildFault) (r o : Result Sort BuildFault) → parameters_in v.sorts p ≡ Ok ps → o ≡ sort_in v.sorts s → r ≡ value_over ps o → r ≡ Err f → head_of v p s ≡ Err f
-  head_sort_fails f r o h k m e = let q : value_over ps (sort_in v.sorts s) ≡ Err f = ap (value_over ps) (sym k) ∙ sym m ∙ e in rw h (ap (λ z. z >>= λ s. Ok (ps, s)) q)
+  pub head_sort_fails : (f : BuildFault) (r o : Result Sort BuildFault) → parameters_in v p ≡ Ok ps → o ≡ sort_in v s → r ≡ value_over ps o → r ≡ Err f → head_of v p s ≡ Err f
+  head_sort_fails f r o h k m e = let q : value_over ps (sort_in v s) ≡ Err f = ap (value_over ps) (sym k) ∙ sym m ∙ e in rw h (ap (λ z. z >>= λ s. Ok (ps, s)) q)
 
-  pub head_is : (t : Sort) (r o : Result Sort BuildFault) → parameters_in v.sorts p ≡ Ok ps → o ≡ sort_in v.sorts s → r ≡ value_over ps o → r ≡ Ok t → head_of v p s ≡ Ok (ps, t)
-  head_is t r o h k m e = let q : value_over ps (sort_in v.sorts s) ≡ Ok t = ap (value_over ps) (sym k) ∙ sym m ∙ e in rw h (ap (λ z. z >>= λ s. Ok (ps, s)) q)
+  pub head_is : (t : Sort) (r o : Result Sort BuildFault) → parameters_in v p ≡ Ok ps → o ≡ sort_in v s → r ≡ value_over ps o → r ≡ Ok t → head_of v p s ≡ Ok (ps, t)
+  head_is t r o h k m e = let q : value_over ps (sort_in v s) ≡ Ok t = ap (value_over ps) (sym k) ∙ sym m ∙ e in rw h (ap (λ z. z >>= λ s. Ok (ps, s)) q)
 
 -- ---- commands
 

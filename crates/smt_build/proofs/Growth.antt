@@ -6,7 +6,7 @@ use Rattle.smt_terms.specs.declared.sort.Sort.{Sort}
 use Rattle.smt_terms.specs.declared.sort.Signature.{Signature}
 use Rattle.smt_terms.specs.declared.operator.Operator.{Operator}
 use Rattle.smt_terms.specs.declared.node.Op.{Op}
-use Rattle.smt_terms.specs.declared.node.Op.TheVariants.{Plain, Word, Constant}
+use Rattle.smt_terms.specs.declared.node.Op.TheVariants.{Plain, Word, Constant, Apply}
 use Rattle.smt_terms.specs.declared.node.Node.{Node}
 use Rattle.smt_terms.specs.declared.fault.MakeFault.{MakeFault}
 use Rattle.smt_terms.specs.declared.fault.MakeFault.TheVariants.{TermLimit}
@@ -59,6 +59,9 @@ names_none signatures op none = record { each = λ d e. absurd (let z : ⊥ = cc
 
 pub constant_declared : (signatures : List Signature) (d : ℕ) (s : Signature) → slice_get signatures d ≡ Some s → s.args ≡ [] → IsDeclared signatures (Constant d s.value)
 constant_declared signatures d s e f = record { each = λ c g. let p : d ≡ c = cc in subst (λ k. slice_get signatures k ≡ Some (constant_signature s.value)) p (e ∙ ap Some (λ i. record { args = f i; value = s.value })) }
+
+pub function_declared : (signatures : List Signature) (d : ℕ) (s : Signature) → slice_get signatures d ≡ Some s → IsDeclared signatures (Apply d s)
+function_declared signatures d s e = record { each = λ c g. let p : d ≡ c = cc in subst (λ k. slice_get signatures k ≡ Some s) p e }
 
 pub word_agrees : (terms : TermsValue) (n x : ℕ) → Agrees terms.nodes (Word n x)
 word_agrees terms n x t d e f = absurd (let z : ⊥ = cc in z)

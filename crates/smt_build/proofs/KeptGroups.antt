@@ -5,11 +5,11 @@ use Rattle.smt_terms.specs.declared.operator.Operator.{Operator}
 use Rattle.smt_terms.specs.declared.operator.Operator.TheVariants.{True, Not, And, Equal, Concat}
 use Rattle.smt_terms.specs.Terms.{TermsValue}
 use Rattle.smt_build.specs.declared.fault.BuildFault.{BuildFault}
-use Rattle.smt_build.specs.declared.fault.BuildFault.TheVariants.{WrongSort, Width}
+use Rattle.smt_build.specs.declared.fault.BuildFault.TheVariants.{WrongSort, Width, NotSupported}
 use Rattle.smt_build.specs.declared.operators.Arity.{Arity}
 use Rattle.smt_build.specs.declared.operators.Arity.TheVariants.{Ranked, LeftAssociative, RightAssociative, Chainable, Pairwise, Joining}
 use Rattle.smt_build.specs.declared.operators.Named.{Named}
-use Rattle.smt_build.specs.declared.operators.Named.TheVariants.{Applies, Indexed, LeftOut}
+use Rattle.smt_build.specs.declared.operators.Named.TheVariants.{Applies, Indexed, OfArrays}
 use Rattle.smt_build.specs.Names.{SymbolsValue}
 use Rattle.smt_build.specs.Building.{Built}
 use Rattle.smt_build.specs.Grouping.{each, of_one, of_two, left, right, Chain, next_equal, chain, chained, Listed, apart, apart_from, all_apart, all_true, joins_within, by_arity, are_taken, grouped, operation}
@@ -130,7 +130,7 @@ module _ (symbols : SymbolsValue) (Has : TermsValue → ℕ → Type 0) (kept : 
   keeps_operation o Pairwise terms args h = keeps_grouped o Pairwise terms args h
   keeps_operation o Joining terms args h = keeps_grouped o Joining terms args h
 
-  pub keeps_applied : (terms : TermsValue) (named : Named) (args : List ℕ) → AllHave terms args → Keeps terms (applied terms named args)
-  keeps_applied terms LeftOut args h = tt
+  pub keeps_applied : (terms : TermsValue) (named : Named) (args : List ℕ) → AllHave terms args → Keeps terms (applied symbols terms named args)
+  keeps_applied terms (OfArrays o) args h = kept_terms.keeps_if symbols Has terms symbols.theories NotSupported _ (keeps_operation o Ranked terms args h)
   keeps_applied terms (Indexed k) args h = tt
   keeps_applied terms (Applies o arity) args h = keeps_operation o arity terms args h

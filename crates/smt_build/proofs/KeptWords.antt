@@ -8,7 +8,7 @@ use Rattle.smt_text.specs.declared.token.TokenKind.TheVariants as kind
 use Rattle.smt_terms.specs.declared.sort.Sort.{Sort}
 use Rattle.smt_terms.specs.declared.sort.Signature.{Signature}
 use Rattle.smt_terms.specs.declared.node.Op.{Op}
-use Rattle.smt_terms.specs.declared.node.Op.TheVariants.{Word, Constant}
+use Rattle.smt_terms.specs.declared.node.Op.TheVariants.{Word, Constant, Apply}
 use Rattle.smt_terms.specs.Nodes.{node_of, leaf}
 use Rattle.smt_terms.specs.Terms.{TermsValue}
 use Rattle.smt_build.specs.declared.fault.BuildFault.{BuildFault}
@@ -16,7 +16,7 @@ use Rattle.smt_build.specs.declared.fault.BuildFault.TheVariants.{UnknownSymbol,
 use Rattle.smt_build.specs.declared.operators.Family.{Family}
 use Rattle.smt_build.specs.declared.operators.Family.TheVariants as family
 use Rattle.smt_build.specs.declared.operators.Named.{Named}
-use Rattle.smt_build.specs.declared.operators.Named.TheVariants.{Applies, Indexed, LeftOut}
+use Rattle.smt_build.specs.declared.operators.Named.TheVariants.{Applies, Indexed, OfArrays}
 use Rattle.smt_build.specs.declared.symbols.LiveName.{LiveName}
 use Rattle.smt_build.specs.declared.definition.Definition.{Definition}
 use Rattle.smt_build.specs.Literals.{bit_value, hexadecimal_value, value_in, width_of_numeral, number_of}
@@ -24,11 +24,11 @@ use Rattle.smt_build.specs.Operators.{operator_named}
 use Rattle.smt_build.specs.Names.{Meanings, SymbolsValue, declaration_of, meaning_in}
 use Rattle.smt_build.specs.Scoped.{is_live, names_live}
 use Rattle.smt_build.specs.Definitions.{used}
-use Rattle.smt_build.specs.Building.{Built, made, constant, declared_at, declared}
+use Rattle.smt_build.specs.Building.{Built, made, constant, declared_at, declared, function, called_at, called}
 use Rattle.smt_build.specs.Applying.{symbol_by, symbol_term, word_term, application_by, application, indexed_term}
 use Rattle.smt_build.specs.Indices.{Indices, one, two, many, Head, plain, indexed, is_word_name, word_by, word_in, word_of, known, with_indices, first_width, indexed_by, indexed_application}
 use Rattle.smt_build.specs.Binding.{misused}
-use Rattle.smt_build.proofs.Growth.{constant_declared}
+use Rattle.smt_build.proofs.Growth.{constant_declared, function_declared}
 use Rattle.smt_build.proofs.KeptTerms as kept_terms
 use Rattle.smt_build.proofs.KeptTerms.{IsKept, MayStand, none_stands}
 use Rattle.smt_build.proofs.KeptGroups as kept_groups
@@ -81,6 +81,25 @@ module _ (symbols : SymbolsValue) (Has : TermsValue → ℕ → Type 0) (kept : 
   keeps_declared terms None live = tt
   keeps_declared terms (Some d) live = keeps_declared_at terms d (slice_get symbols.signatures d) refl live
 
+  -- ---- declared functions
+
+  function_stands : (d : ℕ) (s : Signature) → slice_get symbols.signatures d ≡ Some s → is_live symbols.live d ≡ true → MayStand symbols (Apply d s)
+  function_stands d s e live = record { declared = function_declared symbols.signatures d s e; live = live }
+
+  keeps_function : (terms : TermsValue) (d : ℕ) (s : Signature) (args : List ℕ) → slice_get symbols.signatures d ≡ Some s → is_live symbols.live d ≡ true → AllHave terms args → Keeps terms (function terms d s args)
+  keeps_function terms d s args e live k = go s.args where
+    go : (sorts : List Sort) → Keeps terms (elim sorts [ [] ↦ Err WrongSort | _ ∷ _ ↦ made terms (node_of (Apply d s) args) ])
+    go [] = tt
+    go (a ∷ sorts) = kept_terms.keeps_made symbols Has kept terms (node_of (Apply d s) args) (function_stands d s e live) k
+
+  keeps_called_at : (terms : TermsValue) (d : ℕ) (s : Option Signature) (args : List ℕ) → slice_get symbols.signatures d ≡ s → is_live symbols.live d ≡ true → AllHave terms args → Keeps terms (called_at terms d s args)
+  keeps_called_at terms d None args e live k = tt
+  keeps_called_at terms d (Some s) args e live k = keeps_function terms d s args e live k
+
+  keeps_called : (terms : TermsValue) (d : Option ℕ) (args : List ℕ) → names_live symbols.live d ≡ true → AllHave terms args → Keeps terms (called symbols terms d args)
+  keeps_called terms None args live k = tt
+  keeps_called terms (Some d) args live k = keeps_called_at terms d (slice_get symbols.signatures d) args refl live k
+
   -- ---- uses of definitions
 
   -- the body of what a name is defined as has it
@@ -122,10 +141,10 @@ module _ (symbols : SymbolsValue) (Has : TermsValue → ℕ → Type 0) (kept : 
 
   -- ---- applications
 
-  keeps_application_by : (terms : TermsValue) (named : Option Named) (f : Option Definition) (d : Option ℕ) (args : List ℕ) → BodyHas terms f → AllHave terms args → Keeps terms (application_by terms named f d args)
-  keeps_application_by terms (Some named) f d args h k = kept_groups.keeps_applied symbols Has kept terms named args k
-  keeps_application_by terms None (Some f) d args h k = keeps_used terms f args h k
-  keeps_application_by terms None None d args h k = tt
+  keeps_application_by : (terms : TermsValue) (named : Option Named) (f : Option Definition) (d : Option ℕ) (args : List ℕ) → BodyHas terms f → names_live symbols.live d ≡ true → AllHave terms args → Keeps terms (application_by symbols terms named f d args)
+  keeps_application_by terms (Some named) f d args h live k = kept_groups.keeps_applied symbols Has kept terms named args k
+  keeps_application_by terms None (Some f) d args h live k = keeps_used terms f args h k
+  keeps_application_by terms None None d args h live k = keeps_called terms d args live k
 
   -- such an operator names no declaration
   abbrev AllStand : Option Op → Type 0
@@ -148,12 +167,12 @@ module _ (symbols : SymbolsValue) (Has : TermsValue → ℕ → Type 0) (kept : 
   keeps_indexed : (terms : TermsValue) (f : List ℕ) (is : Indices) (named : Option Named) (args : List ℕ) → AllHave terms args → Keeps terms (indexed_application symbols terms f is named args)
   keeps_indexed terms f is (Some (Indexed k)) args h = keeps_indexed_by terms (with_indices k is (first_width terms args)) args (indices_stand k is (first_width terms args)) h
   keeps_indexed terms f is (Some (Applies o arity)) args h = tt
-  keeps_indexed terms f is (Some LeftOut) args h = tt
+  keeps_indexed terms f is (Some (OfArrays o)) args h = tt
   keeps_indexed terms f is None args h = tt
 
   pub keeps_application : (terms : TermsValue) (f : Head) (args : List ℕ) → BodiesHave terms symbols.definitions → AllHave terms args → Keeps terms (application symbols terms f args)
   unfolding application
-  keeps_application terms (plain f) args h k = keeps_application_by terms (operator_named f) (meaning_in symbols.definitions f) (declaration_of symbols.live f) args (body_has terms symbols.definitions f h) k
+  keeps_application terms (plain f) args h k = keeps_application_by terms (operator_named f) (meaning_in symbols.definitions f) (declaration_of symbols.live f) args (body_has terms symbols.definitions f h) (live_found symbols.live f) k
   keeps_application terms (indexed f is) args h k = keeps_indexed terms f is (operator_named f) args k
 
   keeps_word_by : (terms : TermsValue) (n : ℕ) (x : Option ℕ) → Keeps terms (word_by terms n x)

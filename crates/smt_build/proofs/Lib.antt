@@ -6,7 +6,9 @@ pub mod Spellings
 pub mod Places
 pub mod TermWalks
 pub mod Stepping
+pub mod PartLists
 pub mod Declarations
+pub mod ArraySorts
 pub mod Levels
 pub mod Folds
 pub mod Uses
@@ -28,3 +30,4 @@ pub mod Assertions
 pub mod Scoped
 pub mod ScopedCommands
 pub mod ScopedValues
+pub mod Theories

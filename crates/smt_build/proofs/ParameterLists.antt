@@ -1,27 +1,28 @@
 -- The parameters that a list spells.
-use Rattle.std.proofs.Common.{◌≡◌, ℕ, ◌+◌, ◌<◌, ◌≤◌, Bool, List, [], ◌∷◌, ◌++◌, length, map, get_or, drop, suc, refl, ap, sym, ◌∙◌, subst, arith, None, Result, Ok, Err, Vec, Global}
+use Rattle.std.proofs.Common.{◌≡◌, ℕ, ◌<◌, ◌≤◌, Bool, List, [], ◌∷◌, ◌++◌, length, map, get_or, suc, refl, ap, sym, ◌∙◌, arith, None, Result, Err, Vec, Global}
 use Rattle.std.specs.Prelude.{◌==◌}
 use Rattle.std.specs.Str.{bytes_eq}
 use Rattle.std.proofs.lemmas.Bool.{ne_eqb}
-use Rattle.std.proofs.lemmas.List.{drop_more, drop_all, map-append}
+use Rattle.std.proofs.lemmas.List.{map-append}
 use Rattle.indexmap.specs.IndexMap.{insert_entry}
 use Rattle.smt_text.specs.declared.token.Token.{Token}
 use Rattle.smt_syntax.specs.declared.span.Span.{Span}
 use Rattle.smt_syntax.specs.Sexps.{Sign, open_paren, close_paren, Sexp, Sexps, atom, group, none, more, spelling, spellings, sign_in, signs_in}
 use Rattle.smt_syntax.specs.Spans.{AllStand, Stands}
-use Rattle.smt_syntax.specs.Walk.{◌>>=◌}
 use Rattle.smt_terms.specs.declared.sort.Sort.{Sort}
 use Rattle.smt_build.specs.declared.fault.BuildFault.{BuildFault}
 use Rattle.smt_build.specs.declared.fault.BuildFault.TheVariants.{NotSupported}
 use Rattle.smt_build.specs.declared.fault.BuildError.{BuildError}
 use Rattle.smt_build.specs.declared.fault.BuildError.TheVariants.{NoMemory, Fault}
 use Rattle.smt_build.specs.declared.parameters.Parameter.{Parameter}
-use Rattle.smt_build.specs.Names.{Meanings, entry_of, meaning_in}
+use Rattle.smt_build.specs.Names.{SymbolsValue, entry_of, meaning_in}
 use Rattle.smt_build.specs.Naming.{parts_of}
 use Rattle.smt_build.specs.Sorts.{sort_in}
-use Rattle.smt_build.specs.Parameters.{Parameters, is_none, sorts_of, with_parameter, new_parameter, named_parameter, next_parameter, parameters_behind, parameters_in, Lists}
+use Rattle.smt_build.specs.Parameters.{Parameters, is_none, sorts_of, with_parameter, new_parameter, named_parameter, next_parameter, parameters_in, Lists}
+use Rattle.smt_build.specs.Parts.{over_parts}
 use Rattle.smt_build.proofs.NameLemmas.{meaning_put}
 use Rattle.smt_build.proofs.Declarations.{name_is}
+use Rattle.smt_build.proofs.PartLists.{Behind, behind_fault}
 use Rattle.smt_build.proofs.Spellings.{not_end}
 
 -- ---- how they are stored
@@ -57,13 +58,13 @@ none_there es now sorts view inv b e = e ∙ go now (ap length inv ∙ ap (λ ps
 -- ---- a parameter that tokens spell
 
 -- two parts of a list
-pub two_parts : (tokens : List Sign) (a b : Span) (sorts : Meanings Sort) (ps new : Parameters) (r : Result (Unit {0}) BuildError) (e : Sexp) → AllStand tokens (a ∷ b ∷ []) (parts_of e)
-    → ((n s : Sexp) → Stands tokens a n → Stands tokens b s → Lists (named_parameter ps n (sort_in sorts s)) r new) → Lists (next_parameter sorts ps e) r new
-two_parts tokens a b sorts ps new r (atom k x) h f = absurd h
-two_parts tokens a b sorts ps new r (group none) h f = absurd h
-two_parts tokens a b sorts ps new r (group (more n none)) h f = absurd h.1
-two_parts tokens a b sorts ps new r (group (more n (more s none))) h f = f n s h.0 h.1.0
-two_parts tokens a b sorts ps new r (group (more n (more s (more t es)))) h f = absurd h.1.1
+pub two_parts : (tokens : List Sign) (a b : Span) (v : SymbolsValue) (ps new : Parameters) (r : Result (Unit {0}) BuildError) (e : Sexp) → AllStand tokens (a ∷ b ∷ []) (parts_of e)
+    → ((n s : Sexp) → Stands tokens a n → Stands tokens b s → Lists (named_parameter ps n (sort_in v s)) r new) → Lists (next_parameter v ps e) r new
+two_parts tokens a b v ps new r (atom k x) h f = absurd h
+two_parts tokens a b v ps new r (group none) h f = absurd h
+two_parts tokens a b v ps new r (group (more n none)) h f = absurd h.1
+two_parts tokens a b v ps new r (group (more n (more s none))) h f = f n s h.0 h.1.0
+two_parts tokens a b v ps new r (group (more n (more s (more t es)))) h f = absurd h.1.1
 
 pub first_two : (ss : List Span) (d e : Span) → length ss ≡ 2 → ss ≡ get_or ss 0 d ∷ get_or ss 1 e ∷ []
 first_two [] d e l = absurd (let z : ⊥ = cc in z)
@@ -72,15 +73,15 @@ first_two (s ∷ t ∷ []) d e l = refl
 first_two (s ∷ t ∷ u ∷ ss) d e l = absurd (omega (arith, l))
 
 -- another number of parts
-pub other_parts : (tokens : List Sign) (ss : List Span) (sorts : Meanings Sort) (ps : Parameters) (e : Sexp) → AllStand tokens ss (parts_of e) → (length ss ≡ 2 → ⊥) → next_parameter sorts ps e ≡ Err NotSupported
-other_parts tokens ss sorts ps (atom k x) h n = refl
-other_parts tokens ss sorts ps (group none) h n = refl
-other_parts tokens ss sorts ps (group (more a none)) h n = refl
-other_parts tokens [] sorts ps (group (more a (more b none))) h n = absurd h
-other_parts tokens (s ∷ []) sorts ps (group (more a (more b none))) h n = absurd h.1
-other_parts tokens (s ∷ t ∷ []) sorts ps (group (more a (more b none))) h n = absurd (n refl)
-other_parts tokens (s ∷ t ∷ u ∷ ss) sorts ps (group (more a (more b none))) h n = absurd h.1.1
-other_parts tokens ss sorts ps (group (more a (more b (more c es)))) h n = refl
+pub other_parts : (tokens : List Sign) (ss : List Span) (v : SymbolsValue) (ps : Parameters) (e : Sexp) → AllStand tokens ss (parts_of e) → (length ss ≡ 2 → ⊥) → next_parameter v ps e ≡ Err NotSupported
+other_parts tokens ss v ps (atom k x) h n = refl
+other_parts tokens ss v ps (group none) h n = refl
+other_parts tokens ss v ps (group (more a none)) h n = refl
+other_parts tokens [] v ps (group (more a (more b none))) h n = absurd h
+other_parts tokens (s ∷ []) v ps (group (more a (more b none))) h n = absurd h.1
+other_parts tokens (s ∷ t ∷ []) v ps (group (more a (more b none))) h n = absurd (n refl)
+other_parts tokens (s ∷ t ∷ u ∷ ss) v ps (group (more a (more b none))) h n = absurd h.1.1
+other_parts tokens ss v ps (group (more a (more b (more c es)))) h n = refl
 
 -- tokens that are no word
 pub no_parameter_name : (ps : Parameters) (ts : List Token) (n : Sexp) (s : Result Sort BuildFault) → signs_in ts ≡ spelling n → (length ts ≡ 1 → ⊥) → named_parameter ps n s ≡ Err NotSupported
@@ -94,50 +95,21 @@ parameter_named ps ts d a b n s e = ap (λ m. named_parameter ps m s) (name_is t
 
 -- ---- the list
 
--- behind so many spans, the others give what all of them give
-pub record Behind (tokens : List Sign) (sorts : Meanings Sort) (spans : List Span) (i : ℕ) (now : Parameters) : Type 0 where
-  pub rest : (es : Sexps) → AllStand tokens spans es → (r : Sexps) × AllStand tokens (drop i spans) r × (parameters_behind sorts [] es ≡ parameters_behind sorts now r)
-
-pub behind_none : (tokens : List Sign) (sorts : Meanings Sort) (spans : List Span) (now : Parameters) → now ≡ [] → Behind tokens sorts spans 0 now
-behind_none tokens sorts spans now e = record { rest = λ es h. (es, h, ap (λ ps. parameters_behind sorts ps es) (sym e)) }
-
-module _ (tokens : List Sign) (sorts : Meanings Sort) (spans : List Span) (i : ℕ) (d : Span) (now : Parameters) (lt : i < length spans) (b : Behind tokens sorts spans i now) where
-  -- the next part
-  split : (es : Sexps) → AllStand tokens spans es → (e : Sexp) × (r : Sexps) × Stands tokens (get_or spans i d) e × AllStand tokens (drop (i + 1) spans) r × (parameters_behind sorts [] es ≡ next_parameter sorts now e >>= λ qs. parameters_behind sorts qs r)
-  unfolding parameters_behind
-  split es h =
-      let p = b.rest es h in
-      let q : AllStand tokens (get_or spans i d ∷ drop (i + 1) spans) p.0 = subst (λ ss. AllStand tokens ss p.0) (drop_more spans i d lt) p.1 in
-      parts p.0 q p.2 where
-        parts : (r : Sexps) → AllStand tokens (get_or spans i d ∷ drop (i + 1) spans) r → parameters_behind sorts [] es ≡ parameters_behind sorts now r → (e : Sexp) × (q : Sexps) × Stands tokens (get_or spans i d) e × AllStand tokens (drop (i + 1) spans) q × (parameters_behind sorts [] es ≡ next_parameter sorts now e >>= λ qs. parameters_behind sorts qs q)
-        parts none q f = absurd q
-        parts (more e r) q f = (e, r, q.0, q.1, f)
-
-  pub behind_more : (new : Parameters) → ((e : Sexp) → Stands tokens (get_or spans i d) e → next_parameter sorts now e ≡ Ok new) → Behind tokens sorts spans (i + 1) new
-  behind_more new f = record { rest = λ es h. (let p = split es h in (p.1, p.3, p.4 ∙ rw (f p.0 p.2) refl)) }
-
-  pub behind_fails : (x : BuildError) (new last : Parameters) (es : Sexps) → AllStand tokens spans es → ((e : Sexp) → Stands tokens (get_or spans i d) e → Lists (next_parameter sorts now e) (Err x) new) → Lists (parameters_behind sorts [] es) (Err x) last
-  behind_fails NoMemory new last es h f = tt
-  behind_fails (Fault y) new last es h f = let p = split es h in p.4 ∙ rw (f p.0 p.2) refl
-
-pub behind_all : (tokens : List Sign) (sorts : Meanings Sort) (spans : List Span) (i : ℕ) (now : Parameters) → length spans ≤ i → Behind tokens sorts spans i now → (es : Sexps) → AllStand tokens spans es → parameters_behind sorts [] es ≡ Ok now
-unfolding parameters_behind
-behind_all tokens sorts spans i now le b es h =
-    let p = b.rest es h in
-    ends p.0 (subst (λ ss. AllStand tokens ss p.0) (drop_all i spans le) p.1) p.2 where
-      ends : (r : Sexps) → AllStand tokens [] r → parameters_behind sorts [] es ≡ parameters_behind sorts now r → parameters_behind sorts [] es ≡ Ok now
-      ends none q f = f
-      ends (more e r) q f = absurd q
+-- the fault of a part is that of the list
+pub list_fails : (v : SymbolsValue) (tokens : List Sign) (spans : List Span) (i : ℕ) (d : Span) (now : Parameters) → i < length spans → Behind (next_parameter v) tokens spans [] i now → (x : BuildError) (new last : Parameters) (es : Sexps) → AllStand tokens spans es
+    → ((e : Sexp) → Stands tokens (get_or spans i d) e → Lists (next_parameter v now e) (Err x) new) → Lists (over_parts (next_parameter v) [] es) (Err x) last
+list_fails v tokens spans i d now lt b NoMemory new last es h f = tt
+list_fails v tokens spans i d now lt b (Fault y) new last es h f = behind_fault (next_parameter v) tokens spans [] i d now lt b y es h f
 
 -- a list, and no word
-pub list_of : (ts : List Token) (e : Sexp) → signs_in ts ≡ spelling e → 2 ≤ length ts → (sorts : Meanings Sort) → parameters_in sorts e ≡ parameters_behind sorts [] (parts_of e)
-list_of ts (group es) l n sorts = refl
-list_of [] (atom k x) l n sorts = absurd (omega (arith, n))
-list_of (t ∷ []) (atom k x) l n sorts = absurd (omega (arith, n))
-list_of (t ∷ u ∷ ts) (atom k x) l n sorts = absurd (let z : ⊥ = cc in z)
+pub list_of : (ts : List Token) (e : Sexp) → signs_in ts ≡ spelling e → 2 ≤ length ts → (v : SymbolsValue) → parameters_in v e ≡ over_parts (next_parameter v) [] (parts_of e)
+list_of ts (group es) l n v = refl
+list_of [] (atom k x) l n v = absurd (omega (arith, n))
+list_of (t ∷ []) (atom k x) l n v = absurd (omega (arith, n))
+list_of (t ∷ u ∷ ts) (atom k x) l n v = absurd (let z : ⊥ = cc in z)
 
-pub no_list : (ts : List Token) (e : Sexp) → signs_in ts ≡ spelling e → length ts < 2 → (sorts : Meanings Sort) → parameters_in sorts e ≡ Err NotSupported
-no_list ts (atom k x) l lt sorts = refl
-no_list [] (group es) l lt sorts = absurd (let z : ⊥ = cc in z)
-no_list (t ∷ []) (group es) l lt sorts = absurd (not_end (spellings es) open_paren close_paren (sign_in t) [] (sym l))
-no_list (t ∷ u ∷ ts) (group es) l lt sorts = absurd (omega arith)
+pub no_list : (ts : List Token) (e : Sexp) → signs_in ts ≡ spelling e → length ts < 2 → (v : SymbolsValue) → parameters_in v e ≡ Err NotSupported
+no_list ts (atom k x) l lt v = refl
+no_list [] (group es) l lt v = absurd (let z : ⊥ = cc in z)
+no_list (t ∷ []) (group es) l lt v = absurd (not_end (spellings es) open_paren close_paren (sign_in t) [] (sym l))
+no_list (t ∷ u ∷ ts) (group es) l lt v = absurd (omega arith)

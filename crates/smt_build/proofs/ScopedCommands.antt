@@ -6,8 +6,9 @@ use Rattle.smt_text.specs.declared.token.CommandName.TheVariants as name
 use Rattle.smt_syntax.specs.Sexps.{Sexp, Sexps, atom, group, none, more}
 use Rattle.smt_syntax.specs.Walk.{◌>>=◌}
 use Rattle.smt_terms.specs.declared.sort.Sort.{Sort}
+use Rattle.smt_terms.specs.declared.sort.Signature.{Signature}
 use Rattle.smt_terms.specs.declared.node.Node.{Node}
-use Rattle.smt_terms.specs.Terms.{TermsValue, IsTermList, constant_signature}
+use Rattle.smt_terms.specs.Terms.{TermsValue, IsTermList}
 use Rattle.smt_build.specs.declared.fault.BuildFault.{BuildFault}
 use Rattle.smt_build.specs.declared.fault.BuildFault.TheVariants.{Declared, Reserved}
 use Rattle.smt_build.specs.declared.symbols.LiveName.{LiveName}
@@ -16,7 +17,7 @@ use Rattle.smt_build.specs.Names.{Meanings, SymbolsValue, AreBodies, meaning_in,
 use Rattle.smt_build.specs.Operators.{is_reserved}
 use Rattle.smt_build.specs.Sorts.{sort_in}
 use Rattle.smt_build.specs.Scoped.{is_over, AreOver}
-use Rattle.smt_build.specs.Declaring.{Declaration, next, declare_constant, value_sort, constant_parts, function_parts, declare}
+use Rattle.smt_build.specs.Declaring.{Declaration, next, declare_name, of_constant, signature_in, value_sort, constant_parts, function_parts, declare}
 use Rattle.smt_build.specs.Defining.{SortDefinition, is_sort_reserved, next_sort, name_sort, sort_parts, define_sort, define}
 use Rattle.smt_build.specs.Asserting.{Assertion, assertion}
 use Rattle.smt_build.proofs.KeptTerms.{Follows}
@@ -28,27 +29,27 @@ use Rattle.smt_build.proofs.Scoped.{IsOver, over_kept, bodies_are_over, bodies_o
 
 -- one declaration more
 abbrev pub Declares : SymbolsValue → Declaration → Type 0
-Declares v r = Follows (λ r. (x : List ℕ) × (s : Sort) × (r.1 ≡ with_declaration v x (constant_signature s))) r
+Declares v r = Follows (λ r. (x : List ℕ) × (g : Signature) × (r.1 ≡ with_declaration v x g)) r
 
 module _ (v : SymbolsValue) where
   declares_unless : (b : Bool) (f : BuildFault) (d : Declaration) → Declares v d → Declares v (if b then Err f else d)
   declares_unless true f d h = tt
   declares_unless false f d h = h
 
-  declares_next : (x : List ℕ) (s : Result Sort BuildFault) → Declares v (s >>= next v x)
-  declares_next x (Ok s) = (x, s, refl)
+  declares_next : (x : List ℕ) (r : Result Signature BuildFault) → Declares v (r >>= next v x)
+  declares_next x (Ok g) = (x, g, refl)
   declares_next x (Err f) = tt
 
-  declares_constant : (n : Sexp) (s : Result Sort BuildFault) → Declares v (declare_constant v n s)
-  declares_constant (atom k x) s = declares_unless (is_reserved x) Reserved _ (declares_unless (is_taken v x) Declared _ (declares_next x s))
-  declares_constant (group es) s = tt
+  declares_name : (n : Sexp) (r : Result Signature BuildFault) → Declares v (declare_name v n r)
+  declares_name (atom k x) r = declares_unless (is_reserved x) Reserved _ (declares_unless (is_taken v x) Declared _ (declares_next x r))
+  declares_name (group es) r = tt
 
   declares_constant_parts : (es : Sexps) → Declares v (constant_parts v es)
-  declares_constant_parts (more x (more s none)) = declares_constant x (sort_in v.sorts s)
+  declares_constant_parts (more x (more s none)) = declares_name x (of_constant (sort_in v s))
   declares_constant_parts _ = tt
 
   declares_function_parts : (es : Sexps) → Declares v (function_parts v es)
-  declares_function_parts (more x (more args (more s none))) = declares_constant x (value_sort v args s)
+  declares_function_parts (more x (more args (more s none))) = declares_name x (signature_in v args s)
   declares_function_parts _ = tt
 
   declares : (n : CommandName) (es : Sexps) → Declares v (declare v n es)
@@ -57,7 +58,7 @@ module _ (v : SymbolsValue) where
   declares name.DeclareFun es = declares_function_parts es
   declares _ es = tt
 
-  pub declare_adds : (w : SymbolsValue) (d : ℕ) (n : CommandName) (es : Sexps) → declare v n es ≡ Ok (d, w) → (x : List ℕ) × (s : Sort) × (w ≡ with_declaration v x (constant_signature s))
+  pub declare_adds : (w : SymbolsValue) (d : ℕ) (n : CommandName) (es : Sexps) → declare v n es ≡ Ok (d, w) → (x : List ℕ) × (g : Signature) × (w ≡ with_declaration v x g)
   declare_adds w d n es is = let P : Declaration → Type 0 = Declares v in subst P is (declares n es)
 
   pub declare_is_over : (w : SymbolsValue) (nodes : List Node) (d : ℕ) (n : CommandName) (es : Sexps) → declare v n es ≡ Ok (d, w) → AreOver v.live nodes v.definitions → AreOver w.live nodes w.definitions
@@ -91,8 +92,11 @@ module _ (v : SymbolsValue) where
   names_defined name.DefineSort es = names_parts es
   names_defined _ es = tt
 
+  pub sort_adds : (w : SymbolsValue) (n : CommandName) (es : Sexps) → define_sort v n es ≡ Ok w → (x : List ℕ) × (s : Sort) × (w ≡ with_sort v x s)
+  sort_adds w n es is = let P : SortDefinition → Type 0 = NamesSort v in subst P is (names_defined n es)
+
   pub sort_is_over : (w : SymbolsValue) (nodes : List Node) (n : CommandName) (es : Sexps) → define_sort v n es ≡ Ok w → AreOver v.live nodes v.definitions → AreOver w.live nodes w.definitions
-  sort_is_over w nodes n es is over = let P : SortDefinition → Type 0 = NamesSort v in let h = subst P is (names_defined n es) in rw h.2 over
+  sort_is_over w nodes n es is over = let h = sort_adds w n es is in rw h.2 over
 
 -- ---- definitions
 

@@ -14,7 +14,7 @@ use Rattle.smt_terms.specs.declared.sort.Sort.{Sort}
 use Rattle.smt_build.specs.declared.fault.BuildFault.{BuildFault}
 use Rattle.smt_build.specs.declared.fault.BuildFault.TheVariants.{NotSupported}
 use Rattle.smt_build.specs.Names.{Meanings}
-use Rattle.smt_build.specs.Sorts.{sort_named, width_sort, named_sort, indexed_sort, sort_in}
+use Rattle.smt_build.specs.Sorts.{sort_named, width_sort, named_sort, indexed_sort, part_sort}
 
 -- behind anything stands something more
 pub not_end : {A : Type 0} (xs : List A) (x y z : A) (ys : List A) → ◌≡◌ {A = List A} (x ∷ (xs ++ y ∷ ys)) (z ∷ []) → ⊥
@@ -84,7 +84,7 @@ same_words i j k a b c l x n m y p e f g =
         by_kind _ e = (cc, cc)
 
 -- five tokens in a list
-pub five : (sorts : Meanings Sort) (a : Sign) (i : TokenKind) (l : List ℕ) (j : TokenKind) (x : List ℕ) (k : TokenKind) (n : List ℕ) (z : Sign) (e : Sexp) → ◌≡◌ {A = List Sign} (a ∷ sign_by i l ∷ sign_by j x ∷ sign_by k n ∷ z ∷ []) (spelling e) → indexed_sort i j x k n ≡ sort_in sorts e
+pub five : (sorts : Meanings Sort) (a : Sign) (i : TokenKind) (l : List ℕ) (j : TokenKind) (x : List ℕ) (k : TokenKind) (n : List ℕ) (z : Sign) (e : Sexp) → ◌≡◌ {A = List Sign} (a ∷ sign_by i l ∷ sign_by j x ∷ sign_by k n ∷ z ∷ []) (spelling e) → indexed_sort i j x k n ≡ part_sort sorts e
 five sorts a i l j x k n z (atom b y) h = absurd (let q : ⊥ = cc in q)
 five sorts a i l j x k n z (group none) h = absurd (let q : ⊥ = cc in q)
 five sorts a i l j x k n z (group (more (group fs) es)) h = not_word i l (let p : open_paren ≡ sign_by i l = cc in p) j x k n
@@ -97,7 +97,7 @@ five sorts a i l j x k n z (group (more (atom b y) (more (atom c w) (more (atom 
 five sorts a i l j x k n z (group (more (atom b y) (more (atom c w) (more (atom d v) (more (group fs) es))))) h = absurd (not_end ((spellings fs ++ close_paren ∷ []) ++ spellings es) open_paren close_paren z [] (let p : ◌≡◌ {A = List Sign} (open_paren ∷ (((spellings fs ++ close_paren ∷ []) ++ spellings es) ++ close_paren ∷ [])) (z ∷ []) = cc in p))
 
 -- other numbers of tokens are no sort that is supported
-pub other : (sorts : Meanings Sort) (ts : List Sign) (e : Sexp) → ts ≡ spelling e → (length ts ≡ 1 → ⊥) → (length ts ≡ 5 → ⊥) → Err NotSupported ≡ sort_in sorts e
+pub other : (sorts : Meanings Sort) (ts : List Sign) (e : Sexp) → ts ≡ spelling e → (length ts ≡ 1 → ⊥) → (length ts ≡ 5 → ⊥) → Err NotSupported ≡ part_sort sorts e
 other sorts ts (atom k x) h n m = absurd (n (ap length h))
 other sorts ts (group none) h n m = refl
 other sorts ts (group (more (group fs) es)) h n m = refl
@@ -118,7 +118,7 @@ at_span tokens ts xs s e l cut h =
     cut there.within ∙ there.spelled
 
 -- five tokens of a slice
-pub sort_five : (sorts : Meanings Sort) (ts : List Token) (a b c : Token) → 5 ≤ length ts → length ts < 6 → (s : Sexp) → signs_in ts ≡ spelling s → (r : Result Sort BuildFault) → r ≡ indexed_sort (get_or ts 1 a).kind (get_or ts 2 b).kind (get_or ts 2 b).text.now (get_or ts 3 c).kind (get_or ts 3 c).text.now → r ≡ sort_in sorts s
+pub sort_five : (sorts : Meanings Sort) (ts : List Token) (a b c : Token) → 5 ≤ length ts → length ts < 6 → (s : Sexp) → signs_in ts ≡ spelling s → (r : Result Sort BuildFault) → r ≡ indexed_sort (get_or ts 1 a).kind (get_or ts 2 b).kind (get_or ts 2 b).text.now (get_or ts 3 c).kind (get_or ts 3 c).text.now → r ≡ part_sort sorts s
 sort_five sorts [] a b c h k s e r q = absurd (omega arith)
 sort_five sorts (t ∷ []) a b c h k s e r q = absurd (omega arith)
 sort_five sorts (t ∷ u ∷ []) a b c h k s e r q = absurd (omega arith)
@@ -128,7 +128,7 @@ sort_five sorts (t ∷ u ∷ v ∷ w ∷ x ∷ []) a b c h k s e r q = q ∙ fiv
 sort_five sorts (t ∷ u ∷ v ∷ w ∷ x ∷ y ∷ ts) a b c h k s e r q = absurd (omega arith)
 
 -- one token of a slice
-pub sort_one : (sorts : Meanings Sort) (ts : List Token) (a : Token) → 1 ≤ length ts → length ts < 2 → (s : Sexp) → signs_in ts ≡ spelling s → (r : Result Sort BuildFault) → r ≡ sort_named sorts (get_or ts 0 a).kind (get_or ts 0 a).text.now → r ≡ sort_in sorts s
+pub sort_one : (sorts : Meanings Sort) (ts : List Token) (a : Token) → 1 ≤ length ts → length ts < 2 → (s : Sexp) → signs_in ts ≡ spelling s → (r : Result Sort BuildFault) → r ≡ sort_named sorts (get_or ts 0 a).kind (get_or ts 0 a).text.now → r ≡ part_sort sorts s
 sort_one sorts [] a h k s e r q = absurd (omega arith)
-sort_one sorts (t ∷ []) a h k s e r q = q ∙ sym (ap (sort_in sorts) (one_word t.kind t.text.now s e))
+sort_one sorts (t ∷ []) a h k s e r q = q ∙ sym (ap (part_sort sorts) (one_word t.kind t.text.now s e))
 sort_one sorts (t ∷ u ∷ ts) a h k s e r q = absurd (omega arith)

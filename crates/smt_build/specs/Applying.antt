@@ -3,26 +3,26 @@ use Rattle.std.specs.Prelude.{ℕ, List, [], ◌∷◌, Option, Some, None, Err,
 use Rattle.smt_text.specs.declared.token.TokenKind.{TokenKind}
 use Rattle.smt_text.specs.declared.token.TokenKind.TheVariants as kind
 use Rattle.smt_terms.specs.Terms.{TermsValue}
-use Rattle.smt_build.specs.declared.fault.BuildFault.{BuildFault}
-use Rattle.smt_build.specs.declared.fault.BuildFault.TheVariants.{UnknownSymbol, WrongSort, NotSupported}
+use Rattle.smt_build.specs.declared.fault.BuildFault.TheVariants.{WrongSort, NotSupported}
+use Rattle.smt_build.specs.declared.operators.Arity.TheVariants.{Ranked}
 use Rattle.smt_build.specs.declared.operators.Named.{Named}
-use Rattle.smt_build.specs.declared.operators.Named.TheVariants.{Applies, Indexed, LeftOut}
+use Rattle.smt_build.specs.declared.operators.Named.TheVariants.{Applies, Indexed, OfArrays}
 use Rattle.smt_build.specs.Operators.{operator_named}
 use Rattle.smt_build.specs.declared.definition.Definition.{Definition}
 use Rattle.smt_build.specs.Names.{SymbolsValue, declaration_of, meaning_in}
 use Rattle.smt_build.specs.Definitions.{used}
-use Rattle.smt_build.specs.Building.{Built, binary, hexadecimal, declared}
+use Rattle.smt_build.specs.Building.{Built, binary, hexadecimal, declared, called}
 use Rattle.smt_build.specs.Grouping.{operation}
 use Rattle.smt_build.specs.Indices.{Head, plain, indexed, is_word_name, word_of, known, indexed_application}
 
 -- the term of an operator's name and its arguments
-abbrev pub applied : TermsValue → Named → List ℕ → Built
-applied terms LeftOut args = Err NotSupported
-applied terms (Indexed k) args = Err WrongSort
-applied terms (Applies o arity) args = operation o arity terms args
+abbrev pub applied : SymbolsValue → TermsValue → Named → List ℕ → Built
+applied symbols terms (OfArrays o) args = if symbols.theories then operation o Ranked terms args else Err NotSupported
+applied symbols terms (Indexed k) args = Err WrongSort
+applied symbols terms (Applies o arity) args = operation o arity terms args
 
 abbrev pub symbol_by : SymbolsValue → TermsValue → Option Named → Option Definition → Option ℕ → Built
-symbol_by symbols terms (Some named) f d = applied terms named []
+symbol_by symbols terms (Some named) f d = applied symbols terms named []
 symbol_by symbols terms None (Some f) d = used terms f []
 symbol_by symbols terms None None d = declared symbols terms d
 
@@ -37,18 +37,14 @@ word_term symbols terms kind.Binary (a ∷ b ∷ digits) = binary terms digits
 word_term symbols terms kind.Hexadecimal (a ∷ b ∷ digits) = hexadecimal terms digits
 word_term symbols terms _ x = Err NotSupported
 
-abbrev pub not_applied : Option ℕ → BuildFault
-not_applied None = UnknownSymbol
-not_applied (Some d) = WrongSort
-
-abbrev pub application_by : TermsValue → Option Named → Option Definition → Option ℕ → List ℕ → Built
-application_by terms (Some named) f d args = applied terms named args
-application_by terms None (Some f) d args = used terms f args
-application_by terms None None d args = Err (not_applied d)
+abbrev pub application_by : SymbolsValue → TermsValue → Option Named → Option Definition → Option ℕ → List ℕ → Built
+application_by symbols terms (Some named) f d args = applied symbols terms named args
+application_by symbols terms None (Some f) d args = used terms f args
+application_by symbols terms None None d args = called symbols terms d args
 
 -- the term of a name and the terms that it is applied to
 unfoldable pub application : SymbolsValue → TermsValue → Head → List ℕ → Built
-application symbols terms (plain f) args = application_by terms (operator_named f) (meaning_in symbols.definitions f) (declaration_of symbols.live f) args
+application symbols terms (plain f) args = application_by symbols terms (operator_named f) (meaning_in symbols.definitions f) (declaration_of symbols.live f) args
 application symbols terms (indexed f is) args = indexed_application symbols terms f is (operator_named f) args
 
 -- the term of a name with indices

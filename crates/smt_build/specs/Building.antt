@@ -1,11 +1,11 @@
--- The terms of nodes, of literals and of declared constants.
+-- The terms of nodes, of literals, and of declared constants and functions.
 use Rattle.std.specs.Prelude.{◌≡◌, ℕ, ◌*◌, nat_le, List, [], ◌∷◌, ◌++◌, length, slice_get, Option, Some, None, Result, Ok, Err, if◌then◌else◌}
 use Rattle.smt_terms.specs.declared.sort.Signature.{Signature}
-use Rattle.smt_terms.specs.declared.node.Op.TheVariants.{Word, Constant}
+use Rattle.smt_terms.specs.declared.node.Op.TheVariants.{Word, Constant, Apply}
 use Rattle.smt_terms.specs.declared.node.Node.{Node}
 use Rattle.smt_terms.specs.declared.fault.MakeFault.{MakeFault}
 use Rattle.smt_terms.specs.declared.fault.MakeFault.TheVariants as making
-use Rattle.smt_terms.specs.Nodes.{leaf}
+use Rattle.smt_terms.specs.Nodes.{leaf, node_of}
 use Rattle.smt_terms.specs.Terms.{TermsValue, make}
 use Rattle.smt_build.specs.declared.fault.BuildFault.{BuildFault}
 use Rattle.smt_build.specs.declared.fault.BuildFault.TheVariants.{UnknownSymbol, WrongSort, Width, LiteralTooWide, TermLimit}
@@ -52,6 +52,20 @@ declared_at terms d (Some s) = constant terms d s
 abbrev pub declared : SymbolsValue → TermsValue → Option ℕ → Built
 declared symbols terms None = Err UnknownSymbol
 declared symbols terms (Some d) = declared_at terms d (slice_get symbols.signatures d)
+
+-- ---- declared functions
+
+-- a declaration without arguments is no function
+abbrev pub function : TermsValue → ℕ → Signature → List ℕ → Built
+function terms d s args = elim s.args [ [] ↦ Err WrongSort | _ ∷ _ ↦ made terms (node_of (Apply d s) args) ]
+
+abbrev pub called_at : TermsValue → ℕ → Option Signature → List ℕ → Built
+called_at terms d None args = Err UnknownSymbol
+called_at terms d (Some s) args = function terms d s args
+
+abbrev pub called : SymbolsValue → TermsValue → Option ℕ → List ℕ → Built
+called symbols terms None args = Err UnknownSymbol
+called symbols terms (Some d) args = called_at terms d (slice_get symbols.signatures d) args
 
 -- ---- what the code answers
 

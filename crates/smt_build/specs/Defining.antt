@@ -79,7 +79,7 @@ value_over ps s = if is_none ps then s else (s >>= plain_sort)
 
 -- the parameters and the sort of a function
 abbrev pub head_of : SymbolsValue → Sexp → Sexp → Result (Parameters × Sort) BuildFault
-head_of v ps s = parameters_in v.sorts ps >>= λ ps. value_over ps (sort_in v.sorts s) >>= λ s. Ok (ps, s)
+head_of v ps s = parameters_in v ps >>= λ ps. value_over ps (sort_in v s) >>= λ s. Ok (ps, s)
 
 abbrev pub function_over : SymbolsValue → TermsValue → List ℕ → Parameters → Sort → Sexp → FunctionDefinition
 function_over v terms x ps s t = body_of v terms ps s t >>= next_function v x ps

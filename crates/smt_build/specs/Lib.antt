@@ -12,6 +12,7 @@ pub mod Reached
 pub mod Scoped
 pub mod Applying
 pub mod Pairs
+pub mod Parts
 pub mod Binding
 pub mod Naming
 pub mod Terms

@@ -2,11 +2,11 @@
 use Rattle.std.specs.Prelude.{ℕ, Bool, ◌||◌, List, [], ◌∷◌, codes, is_some, Option, Some, None, if◌then◌else◌}
 use Rattle.std.specs.Str.{bytes_eq}
 use Rattle.smt_text.specs.Lexicon.{reserved_kind}
-use Rattle.smt_terms.specs.declared.operator.Operator.TheVariants.{True, False, Not, And, Or, Xor, Implies, Ite, Equal, Bvnot, Bvneg, Bvadd, Bvsub, Bvmul, Bvand, Bvor, Bvxor, Bvnand, Bvnor, Bvxnor, Bvudiv, Bvurem, Bvsdiv, Bvsrem, Bvsmod, Bvshl, Bvlshr, Bvashr, Bvult, Bvule, Bvugt, Bvuge, Bvslt, Bvsle, Bvsgt, Bvsge, Bvcomp, Concat}
+use Rattle.smt_terms.specs.declared.operator.Operator.TheVariants.{True, False, Not, And, Or, Xor, Implies, Ite, Equal, Bvnot, Bvneg, Bvadd, Bvsub, Bvmul, Bvand, Bvor, Bvxor, Bvnand, Bvnor, Bvxnor, Bvudiv, Bvurem, Bvsdiv, Bvsrem, Bvsmod, Bvshl, Bvlshr, Bvashr, Bvult, Bvule, Bvugt, Bvuge, Bvslt, Bvsle, Bvsgt, Bvsge, Bvcomp, Concat, Select, Store}
 use Rattle.smt_build.specs.declared.operators.Arity.TheVariants.{Ranked, LeftAssociative, RightAssociative, Chainable, Pairwise, Joining}
 use Rattle.smt_build.specs.declared.operators.Family.TheVariants as family
 use Rattle.smt_build.specs.declared.operators.Named.{Named}
-use Rattle.smt_build.specs.declared.operators.Named.TheVariants.{Applies, Indexed, LeftOut}
+use Rattle.smt_build.specs.declared.operators.Named.TheVariants.{Applies, Indexed, OfArrays}
 
 -- the operators of Core, FixedSizeBitVectors and ArraysEx, a line for each name
 abbrev pub operators : List (List ℕ × Named)
@@ -56,8 +56,8 @@ operators =
     ∷ (codes "rotate_left", Indexed family.RotateLeft)
     ∷ (codes "rotate_right", Indexed family.RotateRight)
     ∷ (codes "repeat", Indexed family.Repeat)
-    ∷ (codes "select", LeftOut)
-    ∷ (codes "store", LeftOut)
+    ∷ (codes "select", OfArrays Select)
+    ∷ (codes "store", OfArrays Store)
     ∷ []
 
 abbrev pub look_up : List (List ℕ × Named) → List ℕ → Option Named

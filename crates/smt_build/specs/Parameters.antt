@@ -10,7 +10,8 @@ use Rattle.smt_build.specs.declared.fault.BuildError.{BuildError}
 use Rattle.smt_build.specs.declared.fault.BuildError.TheVariants.{NoMemory, Fault}
 use Rattle.smt_build.specs.declared.parameters.Parameter.{Parameter}
 use Rattle.smt_build.specs.Operators.{is_reserved}
-use Rattle.smt_build.specs.Names.{Meanings, meaning_in}
+use Rattle.smt_build.specs.Names.{Meanings, SymbolsValue, meaning_in}
+use Rattle.smt_build.specs.Parts.{over_parts}
 use Rattle.smt_build.specs.Sorts.{sort_in}
 
 -- names with their places and sorts, in order
@@ -42,23 +43,18 @@ named_parameter ps (atom k x) s = new_parameter ps x s
 named_parameter ps (group es) s = Err NotSupported
 
 -- `(x S)`
-abbrev pub parameter_parts : Meanings Sort → Parameters → Sexps → Result Parameters BuildFault
-parameter_parts sorts ps (more x (more s none)) = named_parameter ps x (sort_in sorts s)
-parameter_parts sorts ps _ = Err NotSupported
+abbrev pub parameter_parts : SymbolsValue → Parameters → Sexps → Result Parameters BuildFault
+parameter_parts v ps (more x (more s none)) = named_parameter ps x (sort_in v s)
+parameter_parts v ps _ = Err NotSupported
 
-abbrev pub next_parameter : Meanings Sort → Parameters → Sexp → Result Parameters BuildFault
-next_parameter sorts ps (group es) = parameter_parts sorts ps es
-next_parameter sorts ps (atom k x) = Err NotSupported
+abbrev pub next_parameter : SymbolsValue → Parameters → Sexp → Result Parameters BuildFault
+next_parameter v ps (group es) = parameter_parts v ps es
+next_parameter v ps (atom k x) = Err NotSupported
 
--- one parameter after the other
-unfoldable pub parameters_behind : Meanings Sort → Parameters → Sexps → Result Parameters BuildFault
-parameters_behind sorts ps none = Ok ps
-parameters_behind sorts ps (more e es) = next_parameter sorts ps e >>= λ qs. parameters_behind sorts qs es
-
--- the parameters of a list
-abbrev pub parameters_in : Meanings Sort → Sexp → Result Parameters BuildFault
-parameters_in sorts (group es) = parameters_behind sorts [] es
-parameters_in sorts (atom k x) = Err NotSupported
+-- the parameters of a list, one after the other
+abbrev pub parameters_in : SymbolsValue → Sexp → Result Parameters BuildFault
+parameters_in v (group es) = over_parts (next_parameter v) [] es
+parameters_in v (atom k x) = Err NotSupported
 
 -- The answer is what is meant.
 abbrev pub Lists : Result Parameters BuildFault → Result (Unit {0}) BuildError → Parameters → Type 0

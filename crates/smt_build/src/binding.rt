@@ -145,8 +145,9 @@ pub(crate) fn application_in(
     head: Head<'_>,
     args: Vec<TermId>,
 ) -> Result<TermId, BuildError>
+    requires { AreDeclared symbols.now.signatures terms.old.nodes }
     ensures reads { ReadsTerm (application_in symbols.now scope.now.bound (progress (state_of terms.old scope.now)) (head_of head.entry) args.items) result (progress (state_of terms.new scope.now)) }
-    ensures grows { (signatures : List SignatureValue) → Grows signatures terms.old terms.new }
+    ensures grows { Grows symbols.now.signatures terms.old terms.new }
 {
     match head {
         Head::Plain(name) => {

@@ -4,7 +4,7 @@ ghost use Rattle.std.specs.Prelude.{◌≡◌, ◌*◌, Some, slice_get, List};
 ghost use Rattle.smt_terms.specs.Nodes.{leaf};
 ghost use Rattle.smt_terms.specs.declared.sort.Signature.{Signature as SignatureValue};
 ghost use Rattle.smt_build.specs.Names.{AreDeclared, declaration_of, meaning_in};
-ghost use Rattle.smt_build.specs.Building.{made, binary, hexadecimal, constant, declared, declared_at, Builds, Means, Grows};
+ghost use Rattle.smt_build.specs.Building.{made, binary, hexadecimal, constant, declared, declared_at, function, called, called_at, Builds, Means, Grows};
 ghost use Rattle.smt_build.specs.Applying.{applied, symbol_term, word_term, application_by, application, indexed_term};
 ghost use Rattle.smt_build.specs.Indices.{indexed};
 ghost use Rattle.smt_build.specs.Operators.{operator_named};
@@ -16,8 +16,9 @@ use crate::grouping::operation;
 use crate::indices::{Head, Indices, indexed_application, is_word_name, known, word_of};
 use crate::literal::{binary_number, hexadecimal_number};
 use crate::making::made;
-use crate::operators::{Named, operator_named};
+use crate::operators::{Arity, Named, operator_named};
 use crate::symbols::Symbols;
+use smt_terms::list::Arguments;
 use smt_terms::node::{Node, Op, TermId};
 use smt_terms::sort::{DeclId, Signature};
 use smt_terms::terms::Terms;
@@ -105,18 +106,74 @@ fn declared(
     constant(alloc, symbols, terms, declaration, signature)
 }
 
+/// The term of a declaration with arguments that is applied to terms.
+fn function(
+    alloc: Global,
+    symbols: &Symbols,
+    terms: &mut Terms,
+    declaration: DeclId,
+    signature: &Signature,
+    args: Vec<TermId>,
+) -> Result<TermId, BuildError>
+    requires made { slice_get symbols.now.signatures declaration ≡ Some signature.now }
+    requires declared { AreDeclared symbols.now.signatures terms.old.nodes }
+    ensures builds { Builds (function terms.old declaration signature.now args.items) result terms.old terms.new }
+    ensures grows { Grows symbols.now.signatures terms.old terms.new }
+{
+    if signature.args.as_slice().is_empty() {
+        return Err(BuildError::Fault(BuildFault::WrongSort));
+    }
+    let signature = Signature {
+        args: signature.args.copy(alloc)?,
+        value: signature.value,
+    };
+    let op = Op::Apply {
+        declaration,
+        signature,
+    };
+    let args = Arguments::from_vec(args);
+    made(terms, Node { op, args })
+}
+
+/// The term of a name that is neither an operator's nor defined, applied to terms.
+fn called(
+    alloc: Global,
+    symbols: &Symbols,
+    terms: &mut Terms,
+    name: &[u8],
+    args: Vec<TermId>,
+) -> Result<TermId, BuildError>
+    requires { AreDeclared symbols.now.signatures terms.old.nodes }
+    ensures builds { Builds (called symbols.now terms.old (declaration_of symbols.now.live name.now) args.items) result terms.old terms.new }
+    ensures grows { Grows symbols.now.signatures terms.old terms.new }
+{
+    let Some(declaration) = symbols.declaration(name) else {
+        return Err(BuildError::Fault(BuildFault::UnknownSymbol));
+    };
+    let Some(signature) = symbols.signature(declaration) else {
+        return Err(BuildError::Fault(BuildFault::UnknownSymbol));
+    };
+    function(alloc, symbols, terms, declaration, signature, args)
+}
+
 /// The term of an operator's name and its arguments.
 fn applied(
     alloc: Global,
+    symbols: &Symbols,
     terms: &mut Terms,
     named: Named,
     args: Vec<TermId>,
 ) -> Result<TermId, BuildError>
-    ensures means { Means (applied terms.old named args.items) result terms.new }
+    ensures means { Means (applied symbols.now terms.old named args.items) result terms.new }
     ensures grows { (signatures : List SignatureValue) → Grows signatures terms.old terms.new }
 {
     match named {
-        Named::LeftOut => Err(BuildError::Fault(BuildFault::NotSupported)),
+        Named::OfArrays(operator) => {
+            if !symbols.reads_theories() {
+                return Err(BuildError::Fault(BuildFault::NotSupported));
+            }
+            operation(alloc, terms, operator, Arity::Ranked, args)
+        }
         Named::Indexed(_) => Err(BuildError::Fault(BuildFault::WrongSort)),
         Named::Applies(operator, arity) => operation(alloc, terms, operator, arity, args),
     }
@@ -136,7 +193,7 @@ fn symbol_term(
     ensures grows { Grows symbols.now.signatures terms.old terms.new }
 {
     if let Some(named) = operator_named(name) {
-        return applied(alloc, terms, named, Vec::new(alloc));
+        return applied(alloc, symbols, terms, named, Vec::new(alloc));
     }
     match symbols.definition(name) {
         Some(definition) => used(alloc, terms, reached, definition, &[]),
@@ -175,19 +232,16 @@ fn plain_application(
     name: &[u8],
     args: Vec<TermId>,
 ) -> Result<TermId, BuildError>
-    ensures means { Means (application_by terms.old (operator_named name.now) (meaning_in symbols.now.definitions name.now) (declaration_of symbols.now.live name.now) args.items) result terms.new }
-    ensures grows { (signatures : List SignatureValue) → Grows signatures terms.old terms.new }
+    requires { AreDeclared symbols.now.signatures terms.old.nodes }
+    ensures means { Means (application_by symbols.now terms.old (operator_named name.now) (meaning_in symbols.now.definitions name.now) (declaration_of symbols.now.live name.now) args.items) result terms.new }
+    ensures grows { Grows symbols.now.signatures terms.old terms.new }
 {
     if let Some(named) = operator_named(name) {
-        return applied(alloc, terms, named, args);
+        return applied(alloc, symbols, terms, named, args);
     }
-    if let Some(definition) = symbols.definition(name) {
-        return used(alloc, terms, reached, definition, args.as_slice());
-    }
-    if symbols.declaration(name).is_some() {
-        Err(BuildError::Fault(BuildFault::WrongSort))
-    } else {
-        Err(BuildError::Fault(BuildFault::UnknownSymbol))
+    match symbols.definition(name) {
+        Some(definition) => used(alloc, terms, reached, definition, args.as_slice()),
+        None => called(alloc, symbols, terms, name, args),
     }
 }
 
@@ -201,8 +255,9 @@ pub fn application(
     head: Head<'_>,
     args: Vec<TermId>,
 ) -> Result<TermId, BuildError>
+    requires { AreDeclared symbols.now.signatures terms.old.nodes }
     ensures means { Means (application symbols.now terms.old (head_of head.entry) args.items) result terms.new }
-    ensures grows { (signatures : List SignatureValue) → Grows signatures terms.old terms.new }
+    ensures grows { Grows symbols.now.signatures terms.old terms.new }
 {
     match head {
         Head::Plain(name) => plain_application(alloc, symbols, terms, reached, name, args),

@@ -110,7 +110,8 @@ fn read_head(
     ensures { (p s : Sexp) → signs_in list.now ≡ spelling p → signs_in value.now ≡ spelling s → Heads (head_of symbols.now p s) result parameters.new }
 {
     parameters_in(alloc, symbols, parameters, list)?;
-    match value_over(parameters, sort_of(symbols, value)) {
+    let sort = sort_of(alloc, symbols, value)?;
+    match value_over(parameters, sort) {
         Ok(sort) => Ok(sort),
         Err(fault) => Err(BuildError::Fault(fault)),
     }
@@ -203,7 +204,12 @@ impl Symbols {
                 parameters,
                 sort,
             } => {
-                let sort = value_sort(self, tokens_at(items, *parameters), tokens_at(items, *sort));
+                let sort = value_sort(
+                    alloc,
+                    self,
+                    tokens_at(items, *parameters),
+                    tokens_at(items, *sort),
+                )?;
                 name_sort(self, alloc, tokens_at(items, *name), sort)
             }
             _ => Err(BuildError::Fault(BuildFault::NotSupported)),

@@ -8,7 +8,7 @@
 //! functions and names of sorts are defined. All operators of Core, of FixedSizeBitVectors and of the
 //! logic QF_BV are read, those on two or more arguments grouped, chained or held pairwise as the standard says, and so are
 //! literals, `(_ bvX n)`, names with indices, `let`, and terms with attributes; other forms of the standard are told as not
-//! supported. The crate stands on `smt_syntax`, `smt_terms`, `term_reach` and `indexmap`.
+//! supported. Symbols that are made by `with_theories` take functions with arguments, array sorts, `select` and `store` too. The crate stands on `smt_syntax`, `smt_terms`, `term_reach` and `indexmap`.
 //!
 //! [`symbols::Symbols::assert_term`] reads the term of an assertion in the same way; there alone terms may be given names by
 //! `:named`, which are definitions from then on. [`naming::name_of_assertion`] tells the name of the assertion itself.
@@ -37,3 +37,5 @@ mod sorts;
 pub mod symbols;
 #[cfg(test)]
 mod tests;
+#[cfg(test)]
+mod theory_tests;

@@ -158,13 +158,13 @@ fn next_parameter(
     parameters: &mut Parameters,
     tokens: &[Token<'_>],
 ) -> Result<(), BuildError>
-    ensures { (e : Sexp) → signs_in tokens.now ≡ spelling e → Lists (next_parameter symbols.now.sorts parameters.old e) result parameters.new }
+    ensures { (e : Sexp) → signs_in tokens.now ≡ spelling e → Lists (next_parameter symbols.now parameters.old e) result parameters.new }
 {
     let spans = parts_of(alloc, tokens)?;
     if spans.len() != 2 {
         return Err(BuildError::Fault(BuildFault::NotSupported));
     }
-    let sort = sort_of(symbols, tokens_at(tokens, spans[1]));
+    let sort = sort_of(alloc, symbols, tokens_at(tokens, spans[1]))?;
     named_parameter(alloc, parameters, tokens_at(tokens, spans[0]), sort)
 }
 
@@ -176,7 +176,7 @@ pub(crate) fn parameters_in(
     tokens: &[Token<'_>],
 ) -> Result<(), BuildError>
     requires { parameters.old ≡ [] }
-    ensures { (e : Sexp) → signs_in tokens.now ≡ spelling e → Lists (parameters_in symbols.now.sorts e) result parameters.new }
+    ensures { (e : Sexp) → signs_in tokens.now ≡ spelling e → Lists (parameters_in symbols.now e) result parameters.new }
 {
     if tokens.len() < 2 {
         return Err(BuildError::Fault(BuildFault::NotSupported));

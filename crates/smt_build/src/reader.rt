@@ -1,7 +1,6 @@
 // The reader of terms, a step at a time.
 
-ghost use Rattle.std.specs.Prelude.{◌≡◌, List};
-ghost use Rattle.smt_terms.specs.declared.sort.Signature.{Signature as SignatureValue};
+ghost use Rattle.std.specs.Prelude.{◌≡◌};
 ghost use Rattle.smt_build.specs.Names.{AreDeclared, SymbolsValue};
 ghost use Rattle.smt_build.specs.Binding.{new_variable, naming, is_label, word_in, application_in, indexed_in_scope};
 ghost use Rattle.smt_build.specs.Building.{Grows};
@@ -194,8 +193,9 @@ pub fn closes<'a>(
     scope: &mut Scope<'a>,
     list: Open<'a>,
 ) -> Result<Part<'a>, BuildError>
+    requires { AreDeclared symbols.now.signatures terms.old.nodes }
     ensures does { Does (closes symbols.now (open_of list.entry) (state_of terms.old scope.old)) result (state_of terms.new scope.new) }
-    ensures grows { (signatures : List SignatureValue) → Grows signatures terms.old terms.new }
+    ensures grows { Grows symbols.now.signatures terms.old terms.new }
 {
     match list {
         Open::Application(head, args) => {

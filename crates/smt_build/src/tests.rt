@@ -55,7 +55,7 @@ fn obey(
 }
 
 /// The same of a command's text.
-fn done(
+pub(crate) fn done(
     rt: &(impl Abort + AllocGlobal),
     symbols: &mut Symbols,
     terms: &mut Terms,
