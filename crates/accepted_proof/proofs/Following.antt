@@ -38,7 +38,7 @@ use Rattle.proof_log.specs.Diaries as diaries
 use Rattle.script_state.specs.declared.answer.Verdict.TheVariants as verdict
 use Rattle.accepted_proof.specs.Searching.{Limits, IsSearch, IsUnknown, subject_of}
 use Rattle.accepted_proof.specs.Models.{interpretation_of, IsModel, IsOfSignature, IsWrittenModel}
-use Rattle.accepted_proof.specs.Turns.{Turn, AreTurns, AreStepsOf, IsShown, IsAgainstOne, IsRefutation, HasProof, with_step, with_steps, verdict_of, concluded_by, state_after}
+use Rattle.accepted_proof.specs.Turns.{Turn, AreTurns, IsOfScript, AreStepsOf, IsShown, IsAgainstOne, IsRefutation, HasProof, with_step, with_steps, verdict_of, concluded_by, state_after}
 use Rattle.accepted_proof.specs.Answers.{shown_lines, step_lines, turn_lines}
 use Rattle.accepted_proof.specs.Accepted.{EndLast}
 use Rattle.accepted_proof.proofs.Settling.{settled_by}
@@ -143,7 +143,7 @@ module _ (s u : StateValue) (scopes : s.scopes ≡ u.scopes) (assumed : s.assume
       let a : IsUnknown limits (state_with s u.scopes s.assumed) nodes log d = subst (λ x. IsUnknown limits (state_with s x s.assumed) nodes log d) scopes h in
       let b : IsUnknown limits (state_with s u.scopes u.assumed) nodes log d = subst (λ x. IsUnknown limits (state_with s u.scopes x) nodes log d) assumed a in
       let q = b.search in
-      record { search = record { cube_of_check = q.cube_of_check; selectors = q.selectors; bits = q.bits; within = q.within; chains = q.chains }; spent = b.spent }
+      record { search = record { cube_of_check = q.cube_of_check; selectors = q.selectors; bits = q.bits; within = q.within; added = q.added }; spent = b.spent }
 
 pub model_in : (s u : StateValue) (values : List (ℕ × Value)) → s.symbols ≡ u.symbols → IsModel u (interpretation_of values) → IsWrittenModel s values → IsWrittenModel u values
 model_in s u values e m h = record {
@@ -174,6 +174,10 @@ is_step (line.Leaf t) = true
 is_step (line.Encode t) = true
 is_step (line.Selector a) = true
 is_step (line.Chain c hs) = true
+is_step (line.Equal t u) = false
+is_step (line.Congruence t u) = false
+is_step (line.Witness t) = false
+is_step (line.Accesses a b) = false
 is_step (line.Sat n) = false
 is_step (line.Value d v) = false
 is_step (line.Unsat p) = false
@@ -190,12 +194,14 @@ term_steps : (o : Option Head) (args : List ℕ) → is_step_in (option_map (λ 
 term_steps None args = refl
 term_steps (Some h) args = refl
 
-entry_steps : (e : Entry) → is_step_in (entry_line e) ≡ true
-entry_steps (entry.Node n) = term_steps (head_of n.op) n.args
-entry_steps e = refl
+entry_steps : (s : StateValue) (e : Entry) → IsOfScript s e → is_step_in (entry_line e) ≡ true
+entry_steps s (entry.Node n) i = term_steps (head_of n.op) n.args
+entry_steps s (entry.Equal t u) i = absurd i
+entry_steps s (entry.Lemma l) i = absurd i
+entry_steps s e i = refl
 
-pub line_steps : (e : Entry) (l : Line) → entry_line e ≡ Some l → is_step l ≡ true
-line_steps e l h = ap is_step_in (sym h) ∙ entry_steps e
+pub line_steps : (s : StateValue) (e : Entry) (l : Line) → IsOfScript s e → entry_line e ≡ Some l → is_step l ≡ true
+line_steps s e l i h = ap is_step_in (sym h) ∙ entry_steps s e i
 
 steps_by : (j : Judging) (l : Line) (k : Judging) → is_step l ≡ true → StepsBy j l k → AtStep j l k
 steps_by j (line.Header c b) k e h = let f : ⊥ = cc in absurd f
@@ -204,6 +210,10 @@ steps_by j (line.Leaf t) k e h = h
 steps_by j (line.Encode t) k e h = h
 steps_by j (line.Selector a) k e h = h
 steps_by j (line.Chain c hs) k e h = h
+steps_by j (line.Equal t u) k e h = let f : ⊥ = cc in absurd f
+steps_by j (line.Congruence t u) k e h = let f : ⊥ = cc in absurd f
+steps_by j (line.Witness t) k e h = let f : ⊥ = cc in absurd f
+steps_by j (line.Accesses a b) k e h = let f : ⊥ = cc in absurd f
 steps_by j (line.Sat n) k e h = let f : ⊥ = cc in absurd f
 steps_by j (line.Value d v) k e h = let f : ⊥ = cc in absurd f
 steps_by j (line.Unsat p) k e h = let f : ⊥ = cc in absurd f
@@ -319,7 +329,7 @@ module _ (limits : Limits) where
       (subst (λ l. Rest (concluded (with_steps s (e ∷ es)) (verdict_of r)) l cs ls) assoc rest) in
       let is_step_of : IsStepOf s log w.0 e = record { written = w.1; script = a.1; valid = a.0 } in
       subst (λ o. Judged j cs (lines_before ls ((option_to_list o ++ step_lines es) ++ record_lines r)) None) (sym w.1)
-      (judged_line j (stepped j e) cs (Some w.0) (lines_before ls (step_lines es ++ record_lines r)) None refl (steps_by j w.0 (stepped j e) (line_steps e w.0 w.1) (inl (e, is_step_of, refl))) after)
+      (judged_line j (stepped j e) cs (Some w.0) (lines_before ls (step_lines es ++ record_lines r)) None refl (steps_by j w.0 (stepped j e) (line_steps s e w.0 a.1 w.1) (inl (e, is_step_of, refl))) after)
 
   -- ---- turns
 

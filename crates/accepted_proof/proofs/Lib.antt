@@ -10,6 +10,7 @@ pub mod Once
 pub mod Following
 pub mod Remaining
 pub mod Completing
+pub mod Beginning
 pub mod Good
 -- Lemmas of the law on split variables.
 pub mod Splitting
@@ -17,5 +18,7 @@ pub mod Splitting
 pub mod Standing
 -- Lemmas of the interpretation that values give.
 pub mod Valuing
+-- Lemmas of the values of constants.
+pub mod Constants
 -- A worked row of the definitions.
 mod Worked

@@ -1,7 +1,8 @@
 -- What is judged of a proof is one thing.
-use Rattle.std.proofs.Common.{◌≡◌, ℕ, zero, suc, ◌+◌, ◌*◌, ◌<◌, ◌/◌, ◌%◌, ◌^◌, Bool, true, false, List, [], ◌∷◌, ◌++◌, map, slice_get, Option, Some, None, refl, sym, ap, ap₂, ◌∙◌, subst, arith, one-add, mod-eq_of_lt}
+use Rattle.std.proofs.Common.{◌≡◌, ℕ, zero, suc, ◌+◌, ◌*◌, ◌<◌, ◌/◌, ◌%◌, ◌^◌, Bool, true, false, List, [], ◌∷◌, ◌++◌, length, map, slice_get, Option, Some, None, refl, sym, ap, ap₂, ◌∙◌, subst, arith, one-add, mod-eq_of_lt}
 use Rattle.std.specs.Prelude.{◌==◌}
 use Rattle.std.proofs.Common.{inl, inr}
+use Rattle.std.specs.List.{AllByRecursion}
 use Rattle.std.specs.Option.{option_map, option_and_then}
 use Rattle.std.proofs.lemmas.Nat.{mod-pow-add}
 use Rattle.cnf_base.specs.Literals.{Literal}
@@ -14,29 +15,41 @@ use Rattle.smt_terms.specs.declared.sort.Signature.{Signature}
 use Rattle.smt_terms.specs.declared.node.Op.{Op}
 use Rattle.smt_terms.specs.declared.node.Op.TheVariants as op
 use Rattle.smt_terms.specs.declared.node.Node.{Node}
-use Rattle.smt_terms.specs.Values.{HasSort, VBool, VWord, VArray}
+use Rattle.smt_values.specs.Arrays.{Entry as Held, ArrayFields, IsOfWidth, IsEntry}
 use Rattle.smt_values.specs.declared.value.Value.{Value}
 use Rattle.smt_values.specs.declared.value.Value.TheVariants as held
-use Rattle.smt_values.specs.Held.{meaning}
+use Rattle.theory_terms.specs.declared.lemma.Move.{Move}
+use Rattle.theory_terms.specs.declared.lemma.Move.TheVariants as move
+use Rattle.theory_terms.specs.declared.lemma.Start.{Start}
+use Rattle.theory_terms.specs.declared.lemma.Start.TheVariants as begins
+use Rattle.theory_terms.specs.declared.lemma.Access.{Access}
+use Rattle.theory_terms.specs.declared.lemma.Lemma.{Lemma}
+use Rattle.theory_terms.specs.declared.lemma.Lemma.TheVariants as lemma
 use Rattle.script_state.specs.Readings.{Reading}
 use Rattle.smt_build.specs.Names.{IsDeclared}
 use Rattle.smt_build.specs.declared.symbols.LiveName.{LiveName}
 use Rattle.script_state.specs.States.{StateValue}
 use Rattle.proof_log.specs.declared.entry.Entry.{Entry}
 use Rattle.proof_log.specs.declared.entry.Entry.TheVariants as entry
+use Rattle.proof_text.specs.declared.list.Letter.{Letter}
+use Rattle.proof_text.specs.declared.list.Letter.TheVariants as letter
+use Rattle.proof_text.specs.declared.list.WrittenMove.{WrittenMove}
+use Rattle.proof_text.specs.declared.list.WrittenAccess.{WrittenAccess}
+use Rattle.proof_text.specs.declared.list.WrittenEntry.{WrittenEntry}
 use Rattle.proof_text.specs.declared.line.Head.{Head}
 use Rattle.proof_text.specs.declared.line.Head.TheVariants as head
 use Rattle.proof_text.specs.declared.line.WrittenValue.{WrittenValue}
 use Rattle.proof_text.specs.declared.line.WrittenValue.TheVariants as written
 use Rattle.proof_text.specs.declared.line.Line.{Line}
 use Rattle.proof_text.specs.declared.line.Line.TheVariants as line
-use Rattle.proof_text.specs.Entries.{head_of, written_literal, written_hint, entry_line}
-use Rattle.proof_text.specs.Records.{binary, written_value}
+use Rattle.proof_text.specs.Entries.{head_of, written_literal, written_hint, written_move, written_start, written_access, lemma_line, entry_line}
+use Rattle.proof_text.specs.Records.{binary, digits_of, written_entry, written_value}
+use Rattle.proof_text.proofs.Appending.{binary_length}
 use Rattle.accepted_proof.specs.declared.refusal.Refusal.{Refusal}
 use Rattle.proof_log.specs.declared.diary.DiaryLine.{DiaryLine}
 use Rattle.proof_log.specs.declared.diary.DiaryLine.TheVariants as diary
 use Rattle.accepted_proof.specs.Searching.{Limits}
-use Rattle.accepted_proof.specs.Models.{IsOfSignature}
+use Rattle.accepted_proof.specs.Models.{IsOfKind, IsOfSignature}
 use Rattle.accepted_proof.specs.Turns.{IsOfScript}
 use Rattle.accepted_proof.specs.Judged.{Owed, Nothing, Steps, Values, Noted, Over, Judging, stepped, Decides, StepsBy, Goes, Opens, AtStep, AtValue, Notes, AtDiary, MovesBy, reach, no_judging, IsHeader, Judged, JudgedProof}
 
@@ -68,6 +81,7 @@ op_of signatures (head.SignExtend i) = Some (op.SignExtend i)
 op_of signatures (head.RotateLeft i) = Some (op.RotateLeft i)
 op_of signatures (head.RotateRight i) = Some (op.RotateRight i)
 op_of signatures (head.Repeat i) = Some (op.Repeat i)
+op_of signatures (head.ConstantArray n) = Some (op.ConstantArray n)
 op_of signatures (head.Apply d) = option_map (λ s. op.Apply d s) (slice_get signatures d)
 
 op_at : (signatures : List Signature) (o : Op) (h : Head) → head_of o ≡ Some h → IsDeclared signatures o → op_of signatures h ≡ Some o
@@ -79,7 +93,7 @@ op_at signatures (op.SignExtend k) h e i = ap (λ x. option_and_then (op_of sign
 op_at signatures (op.RotateLeft k) h e i = ap (λ x. option_and_then (op_of signatures) x) (sym e)
 op_at signatures (op.RotateRight k) h e i = ap (λ x. option_and_then (op_of signatures) x) (sym e)
 op_at signatures (op.Repeat k) h e i = ap (λ x. option_and_then (op_of signatures) x) (sym e)
-op_at signatures (op.ConstantArray k) h e i = let q : ⊥ = cc in absurd q
+op_at signatures (op.ConstantArray k) h e i = ap (λ x. option_and_then (op_of signatures) x) (sym e)
 op_at signatures (op.Constant d s) h e i = let q : ⊥ = cc in absurd q
 op_at signatures (op.Apply d s) h e i = ap (λ x. option_and_then (op_of signatures) x) (sym e) ∙ ap (λ x. option_map (λ s. op.Apply d s) x) (i.each d refl)
 op_at signatures (op.Param k s) h e i = let q : ⊥ = cc in absurd q
@@ -128,15 +142,76 @@ same_chains c d hs is l p q =
     let x = list_back written_literal literal_back c d a in
     let y = list_back written_hint hint_back hs is b in cc
 
+move_of : WrittenMove → Move
+move_of m = of_letter m.letter m.term
+  where
+    of_letter : Letter → ℕ → Move
+    of_letter letter.Store t = move.Store t
+    of_letter letter.Then t = move.Then t
+    of_letter letter.Else t = move.Else t
+    of_letter letter.Sides t = move.Sides t
+
+move_is : (m : Move) → move_of (written_move m) ≡ m
+unfolding move_of
+move_is (move.Store t) = refl
+move_is (move.Then t) = refl
+move_is (move.Else t) = refl
+move_is (move.Sides t) = refl
+
+move_back : (a b : Move) → written_move a ≡ written_move b → a ≡ b
+move_back a b e = sym (move_is a) ∙ ap move_of e ∙ move_is b
+
+start_back : (a b : Start) → written_start a ≡ written_start b → a ≡ b
+start_back (begins.Term t) (begins.Term u) e = cc
+start_back (begins.Const k i) (begins.Const l j) e = cc
+start_back _ _ e = let q : ⊥ = cc in absurd q
+
+access_back : (a b : Access) → written_access a ≡ written_access b → a ≡ b
+access_back a b e =
+    let first = start_back a.start b.start (ap (λ (x : WrittenAccess). x.start) e) in
+    let moves = list_back written_move move_back a.path b.path (ap (λ (x : WrittenAccess). x.moves) e) in
+    (λ i. record { start = first i; path = moves i })
+
+same_lemmas : (a b : Lemma) (l : Line) → entry_line (entry.Lemma a) ≡ Some l → entry_line (entry.Lemma b) ≡ Some l → a ≡ b
+same_lemmas (lemma.Congruence t u) (lemma.Congruence v w) l p q = cc
+same_lemmas (lemma.Witness t) (lemma.Witness u) l p q = cc
+same_lemmas (lemma.Arrays a b) (lemma.Arrays c d) l p q =
+    let e : Some (line.Accesses (written_access a) (written_access b)) ≡ Some (line.Accesses (written_access c) (written_access d)) = p ∙ sym q in
+    let f : written_access a ≡ written_access c = cc in
+    let g : written_access b ≡ written_access d = cc in
+    ap₂ lemma.Arrays (access_back a c f) (access_back b d g)
+same_lemmas _ _ l p q = let f : ⊥ = cc in absurd f
+
+abbrev is_lemma : Line → Bool
+is_lemma (line.Congruence t u) = true
+is_lemma (line.Witness t) = true
+is_lemma (line.Accesses a b) = true
+is_lemma _ = false
+
+abbrev is_lemma_in : Option Line → Bool
+is_lemma_in None = false
+is_lemma_in (Some l) = is_lemma l
+
+lemma_is_one : (a : Lemma) → (is_lemma (lemma_line a) ≡ true) × (is_term (lemma_line a) ≡ false)
+lemma_is_one (lemma.Congruence t u) = (refl, refl)
+lemma_is_one (lemma.Witness t) = (refl, refl)
+lemma_is_one (lemma.Arrays a b) = (refl, refl)
+
+not_lemma : (a : Lemma) (l : Line) (other : Option Line) → entry_line (entry.Lemma a) ≡ Some l → other ≡ Some l → is_lemma_in other ≡ false → ⊥
+not_lemma a l other e p n =
+    let b : is_lemma_in (Some (lemma_line a)) ≡ is_lemma_in other = ap is_lemma_in (e ∙ sym p) in
+    let c : is_lemma (lemma_line a) ≡ true = (lemma_is_one a).0 in cc
+
 -- a line is that of one step of the script
 pub same_entry : (s : StateValue) (l : Line) (e d : Entry) → entry_line e ≡ Some l → entry_line d ≡ Some l → IsOfScript s e → IsOfScript s d → e ≡ d
 same_entry s l (entry.Node n) (entry.Node m) p q i j = ap entry.Node (same_terms s l n m p q i j)
 same_entry s l (entry.Rewrite r) _ p q i j = let f : ⊥ = cc in absurd f
-same_entry s l (entry.Equal t u) _ p q i j = let f : ⊥ = cc in absurd f
-same_entry s l (entry.Lemma a) _ p q i j = let f : ⊥ = cc in absurd f
 same_entry s l _ (entry.Rewrite r) p q i j = let f : ⊥ = cc in absurd f
-same_entry s l _ (entry.Equal t u) p q i j = let f : ⊥ = cc in absurd f
-same_entry s l _ (entry.Lemma a) p q i j = let f : ⊥ = cc in absurd f
+same_entry s l (entry.Lemma a) (entry.Lemma b) p q i j = ap entry.Lemma (same_lemmas a b l p q)
+same_entry s l (entry.Node n) (entry.Lemma a) p q i j = absurd (not_term _ _ l _ p q (lemma_is_one a).1)
+same_entry s l (entry.Lemma a) (entry.Node n) p q i j = absurd (not_term _ _ l _ q p (lemma_is_one a).1)
+same_entry s l (entry.Lemma a) _ p q i j = absurd (not_lemma a l _ p q refl)
+same_entry s l _ (entry.Lemma a) p q i j = absurd (not_lemma a l _ q p refl)
 same_entry s l (entry.Node n) _ p q i j = absurd (not_term _ _ l _ p q refl)
 same_entry s l _ (entry.Node n) p q i j = absurd (not_term _ _ l _ q p refl)
 same_entry s l (entry.Leaf t) (entry.Leaf u) p q i j = cc
@@ -144,6 +219,7 @@ same_entry s l (entry.Encode t) (entry.Encode u) p q i j = cc
 same_entry s l (entry.Selector a t) (entry.Selector b u) p q i j =
     let e : a ≡ b = cc in
     let f : t ≡ u = same_found (slice_get s.scopes.terms a) t u i (ap (slice_get s.scopes.terms) e ∙ j) in cc
+same_entry s l (entry.Equal t u) (entry.Equal v w) p q i j = cc
 same_entry s l (entry.Chain c hs) (entry.Chain d is) p q i j = same_chains c d hs is l p q
 same_entry s l _ _ p q i j = let f : ⊥ = cc in absurd f
 
@@ -173,48 +249,55 @@ binary_back (suc n) x y e =
 small_back : (n x y : ℕ) → x < 2 ^ n → y < 2 ^ n → binary n x ≡ binary n y → x ≡ y
 small_back n x y a b e = sym (mod-eq_of_lt a) ∙ binary_back n x y e ∙ mod-eq_of_lt b
 
--- a word of a sort is of its width, and small
-record IsSmall (n w x : ℕ) : Type 0 where
-  pub width : w ≡ n
-  pub small : x < 2 ^ n
+-- a word that fits its width is told by its digits
+word_back : (v w : WordValue) → v.value < 2 ^ v.width → w.value < 2 ^ w.width → digits_of v ≡ digits_of w → v ≡ w
+word_back v w a b e =
+    let width : v.width ≡ w.width = sym (binary_length v.width v.value) ∙ ap length e ∙ binary_length w.width w.value in
+    let digits : binary w.width v.value ≡ binary w.width w.value = ap (λ k. binary k v.value) (sym width) ∙ e in
+    let small : v.value < 2 ^ w.width = subst (λ k. v.value < 2 ^ k) width a in
+    let value = small_back w.width v.value w.value small b digits in
+    (λ i. record { width = width i; value = value i })
 
-word_small : (n w x : ℕ) → HasSort (sort.Word n) (VWord w x) → IsSmall n w x
-word_small n w x h = let p : w ≡ n = cc in let q : x ≡ h.0 = cc in record { width = p; small = subst (λ y. y < 2 ^ n) (sym q) h.2 }
+word_fits : (n : ℕ) (w : WordValue) → IsOfWidth n w → w.value < 2 ^ w.width
+word_fits n w h = subst (λ k. w.value < 2 ^ k) (sym h.width) h.fits
 
-no_bool_word : (w x : ℕ) → HasSort sort.Bool (VWord w x) → ⊥
-no_bool_word w x h = let e : VWord w x ≡ VBool h.0 = h.1 in cc
+entries_back : (n m k l : ℕ) (es fs : List Held) → AllByRecursion (IsEntry n m) es → AllByRecursion (IsEntry k l) fs → map written_entry es ≡ map written_entry fs → es ≡ fs
+entries_back n m k l [] [] a b e = refl
+entries_back n m k l [] (f ∷ fs) a b e = let q : ⊥ = cc in absurd q
+entries_back n m k l (x ∷ es) [] a b e = let q : ⊥ = cc in absurd q
+entries_back n m k l (x ∷ es) (y ∷ fs) a b e =
+    let h = cons_back (written_entry x) (written_entry y) (map written_entry es) (map written_entry fs) e in
+    let index = word_back x.0 y.0 (word_fits n x.0 a.0.0) (word_fits k y.0 b.0.0) (ap (λ (w : WrittenEntry). w.index) h.0) in
+    let element = word_back x.1 y.1 (word_fits m x.1 a.0.1) (word_fits l y.1 b.0.1) (ap (λ (w : WrittenEntry). w.element) h.0) in
+    ap₂ (λ z zs. z ∷ zs) (ap₂ (λ i d. (i, d)) index element) (entries_back n m k l es fs a.1 b.1 h.1)
 
-pub no_word_bool : (n : ℕ) (b : Bool) → HasSort (sort.Word n) (VBool b) → ⊥
-no_word_bool n b h = let e : VBool b ≡ VWord n h.0 = h.1 in cc
-
-same_words : (s : Sort) (v w : WordValue) → HasSort s (VWord v.width v.value) → HasSort s (VWord w.width w.value) → binary v.width v.value ≡ binary w.width w.value → v ≡ w
-same_words sort.Bool v w a b e = absurd (no_bool_word v.width v.value a)
-same_words (sort.Word n) v w a b e =
-    let p = word_small n v.width v.value a in
-    let q = word_small n w.width w.value b in
-    let f : binary n v.value ≡ binary n w.value = ap (λ k. binary k v.value) (sym p.width) ∙ e ∙ ap (λ k. binary k w.value) q.width in
-    let x = small_back n v.value w.value p.small q.small f in
-    let y : v.width ≡ w.width = p.width ∙ sym q.width in
-    (λ i. record { width = y i; value = x i })
-same_words (sort.Array i m) v w a b e = let q : VWord v.width v.value ≡ VArray i m a.0 = a.1 in absurd (let f : ⊥ = cc in f)
-
-same_sorted : (s : Sort) (v w : Value) (x : WrittenValue) → HasSort s (meaning v) → HasSort s (meaning w) → written_value v ≡ Some x → written_value w ≡ Some x → v ≡ w
-same_sorted s (held.Bool b) (held.Bool c) x a d p q = cc
-same_sorted s (held.Bool b) (held.Word c) x a d p q = let f : ⊥ = cc in absurd f
-same_sorted s (held.Word b) (held.Bool c) x a d p q = let f : ⊥ = cc in absurd f
-same_sorted s (held.Word b) (held.Word c) x a d p q =
-    let e : written.Word (binary b.width b.value) ≡ written.Word (binary c.width c.value) = same_found (Some x) (written.Word (binary b.width b.value)) (written.Word (binary c.width c.value)) (sym p) (sym q) in
-    let f : binary b.width b.value ≡ binary c.width c.value = cc in
-    ap held.Word (same_words s b c a d f)
-same_sorted s (held.Array b) w x a d p q = let f : ⊥ = cc in absurd f
-same_sorted s (held.Fun b) w x a d p q = let f : ⊥ = cc in absurd f
-same_sorted s v (held.Array b) x a d p q = let f : ⊥ = cc in absurd f
-same_sorted s v (held.Fun b) x a d p q = let f : ⊥ = cc in absurd f
+array_back : (s : Sort) (a b : ArrayFields) → IsOfKind s (held.Array a) → IsOfKind s (held.Array b) → digits_of a.default ≡ digits_of b.default → map written_entry a.entries ≡ map written_entry b.entries → a ≡ b
+array_back s a b h k e f =
+    let sorts : sort.Array a.index a.default.width ≡ sort.Array b.index b.default.width = sym h.0 ∙ k.0 in
+    let index : a.index ≡ b.index = cc in
+    let other = word_back a.default b.default h.1.default.fits k.1.default.fits e in
+    let kept = entries_back a.index a.default.width b.index b.default.width a.entries b.entries h.1.entries k.1.entries f in
+    (λ i. record { index = index i; default = other i; entries = kept i })
 
 -- a written value is one value of a sort
+same_kind : (s : Sort) (v w : Value) (x : WrittenValue) → IsOfKind s v → IsOfKind s w → written_value v ≡ Some x → written_value w ≡ Some x → v ≡ w
+same_kind s (held.Bool b) (held.Bool c) x a d p q = cc
+same_kind s (held.Word b) (held.Word c) x a d p q =
+    let e : written.Word (digits_of b) ≡ written.Word (digits_of c) = same_found (Some x) (written.Word (digits_of b)) (written.Word (digits_of c)) (sym p) (sym q) in
+    let f : digits_of b ≡ digits_of c = cc in
+    ap held.Word (word_back b c a.1 d.1 f)
+same_kind s (held.Array b) (held.Array c) x a d p q =
+    let e : Some (written.Array (digits_of b.default) (map written_entry b.entries)) ≡ Some (written.Array (digits_of c.default) (map written_entry c.entries)) = p ∙ sym q in
+    let f : digits_of b.default ≡ digits_of c.default = cc in
+    let g : map written_entry b.entries ≡ map written_entry c.entries = cc in
+    ap held.Array (array_back s b c a d f g)
+same_kind s (held.Fun b) w x a d p q = absurd a
+same_kind s v (held.Fun b) x a d p q = absurd d
+same_kind s v w x a d p q = let f : ⊥ = cc in absurd f
+
 pub same_value : (o : Option Signature) (v w : Value) (x : WrittenValue) → IsOfSignature v o → IsOfSignature w o → written_value v ≡ Some x → written_value w ≡ Some x → v ≡ w
 same_value None v w x a b p q = absurd a
-same_value (Some s) v w x a b p q = same_sorted s.value v w x a.1 b.1 p q
+same_value (Some s) v w x a b p q = same_kind s.value v w x a.1 b.1 p q
 
 -- ---- lines
 
@@ -253,6 +336,10 @@ at_step_once j (line.Leaf t) k m x y = stepped_once j _ k m x y
 at_step_once j (line.Encode t) k m x y = stepped_once j _ k m x y
 at_step_once j (line.Selector a) k m x y = stepped_once j _ k m x y
 at_step_once j (line.Chain c hs) k m x y = stepped_once j _ k m x y
+at_step_once j (line.Equal t u) k m x y = x ∙ sym y
+at_step_once j (line.Congruence t u) k m x y = x ∙ sym y
+at_step_once j (line.Witness t) k m x y = x ∙ sym y
+at_step_once j (line.Accesses a b) k m x y = x ∙ sym y
 at_step_once j (line.Sat n) k m x y = begun_once j n k m x y
 at_step_once j (line.Value d w) k m x y = x ∙ sym y
 at_step_once j (line.Unsat p) k m x y = decided_once _ _ _ k m x y

@@ -117,6 +117,7 @@ reached_first = record {
       within = omega arith;
     };
     live = record { rising = λ i j d lt below. absurd (omega (arith, below)); made = λ k d lt. absurd (omega (arith, lt)) };
+    theories = refl;
     constants = λ k d lt. absurd (omega (arith, lt));
     declared = none_declared [];
     bodies = tt;

@@ -1,6 +1,6 @@
 -- Values of declarations, as interpretations hold them.
-use Rattle.std.proofs.Common.{◌≡◌, ℕ, ◌+◌, ◌<◌, true, List, ◌∷◌, length, drop, get_or, slice_get, Option, Some, refl, sym, ap, ◌∙◌}
-use Rattle.std.specs.Prelude.{◌==◌, if◌then◌else◌}
+use Rattle.std.proofs.Common.{◌≡◌, ℕ, ◌+◌, ◌<◌, true, false, List, ◌∷◌, length, drop, get_or, slice_get, Option, Some, refl, sym, ap, ◌∙◌}
+use Rattle.std.specs.Prelude.{◌==◌, All, if◌then◌else◌}
 use Rattle.std.proofs.lemmas.List.{at_drop_more}
 use Rattle.std.proofs.lemmas.List.Elements.{recursion_from_All}
 use Rattle.cnf_base.proofs.Lists.{each_slice_get}
@@ -16,6 +16,7 @@ use Rattle.smt_values.specs.Held as set
 use Rattle.smt_eval.specs.Evaluated.{AreSuited, IsSuited}
 use Rattle.smt_terms.specs.Ranks as ranks
 use Rattle.script_state.specs.States.{StateValue, IsState, IsPlainConstant}
+use Rattle.script_state.proofs.Theories.{word_constants}
 use Rattle.accepted_proof.specs.Models.{value_for, interpretation_of}
 
 -- ---- the interpretation
@@ -37,7 +38,7 @@ suits_plain sort.Bool v e = tt
 suits_plain (sort.Word n) v e = tt
 suits_plain (sort.Array n m) v e = let f : ⊥ = cc in absurd f
 
-module _ (s : StateValue) (h : IsState s) where
+module _ (s : StateValue) (h : IsState s) (constants : All IsPlainConstant s.symbols.signatures) where
   suited_op : (values : List (Option Value)) (t : ℕ) (o : Op) → (node_at s.terms.nodes t).op ≡ o → IsSuited o values
   suited_op values t (op.Plain o) e = tt
   suited_op values t (op.Word n x) e = tt
@@ -50,11 +51,18 @@ module _ (s : StateValue) (h : IsState s) where
   suited_op values t (op.ConstantArray k) e = tt
   suited_op values t (op.Constant d r) e =
       let declared : slice_get s.symbols.signatures d ≡ Some (constant_signature r) = h.declared.each t d (ap declaration_of e) ∙ ap (λ x. Some (signature_of x)) e in
-      let plain = each_slice_get IsPlainConstant s.symbols.signatures d (constant_signature r) (recursion_from_All IsPlainConstant s.symbols.signatures h.constants) declared in
+      let plain = each_slice_get IsPlainConstant s.symbols.signatures d (constant_signature r) (recursion_from_All IsPlainConstant s.symbols.signatures constants) declared in
       suits_plain r (set_for values d) plain.sort
   suited_op values t (op.Apply d r) e = tt
   suited_op values t (op.Param k r) e = tt
 
-  -- only plain constants are declared
-  pub are_suited : (values : List (Option Value)) → AreSuited s.terms.nodes values
-  are_suited values t lt = suited_op values t (node_at s.terms.nodes t).op refl
+  all_suited : (values : List (Option Value)) → AreSuited s.terms.nodes values
+  all_suited values t lt = suited_op values t (node_at s.terms.nodes t).op refl
+
+-- only plain constants are declared
+pub are_suited : (s : StateValue) → IsState s → (values : List (Option Value)) → AreSuited s.terms.nodes values
+are_suited s h values = all_suited s h h.constants values
+
+-- only plain constants are declared where functions and arrays are not read
+pub word_suited : (s : StateValue) → IsState s → s.symbols.theories ≡ false → (values : List (Option Value)) → AreSuited s.terms.nodes values
+word_suited s h words values = all_suited s h (word_constants s h words) values

@@ -26,7 +26,7 @@ use Rattle.proof_log.specs.Logs.{clause_at, entry_at, state_of}
 use Rattle.proof_log.specs.Boards.{Grows}
 use Rattle.proof_log.specs.Diaries.{look_of, is_chain, blank, StandsIn, EachIsUsed, IsGoodPut}
 use Rattle.proof_log.proofs.Growing.{clause_each}
-use Rattle.proof_log.proofs.Growth.{clause_stays, entry_within}
+use Rattle.proof_log.proofs.Growth.{chain_is_added, clause_stays, entry_within}
 use Rattle.proof_text.specs.declared.line.Line.TheVariants as line
 use Rattle.proof_text.specs.declared.record.Record.TheVariants as shown
 use Rattle.proof_text.specs.Records.{record_lines}
@@ -129,7 +129,7 @@ search = record {
   selectors = all_each (HasSelector (state_of terms log)) asserted ((record { literal = positive_of 8; term = 2 }, refl), ((record { literal = positive_of 9; term = 4 }, refl), ((record { literal = positive_of 10; term = 6 }, refl), ((record { literal = positive_of 11; term = 7 }, refl), tt))));
   bits = All-nil (HasBit (state_of terms log));
   within = omega arith;
-  chains = λ p e le h. last_is_chain p e le h (entry_within log p e h);
+  added = λ p e le h. chain_is_added e (last_is_chain p e le h (entry_within log p e h));
 }
   where
     last_is_chain : (p : ℕ) (e : Entry) → 13 ≤ p → entry_at log p ≡ Some e → p ≤ length log → is_chain (Some e) ≡ true

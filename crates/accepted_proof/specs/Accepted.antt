@@ -49,6 +49,17 @@ pub record Accepted (limits : Limits) (script proof : List ℕ) (turns : List Tu
   pub run : AreTurns limits no_state [] turns
   pub lines : proof ≡ proof_of limits turns
 
+-- The proof begins with the accepted proof of the first commands of the script, whatever stands behind in either text.
+pub record AcceptedSoFar (limits : Limits) (script proof : List ℕ) (turns : List Turn) : Type 0 where
+  pub allowed : AreLimits limits
+  pub chunks : List Chunk
+  pub rest : List ℕ
+  pub front : IsFront script chunks
+  pub read : AreRead chunks turns
+  pub last : EndLast turns
+  pub run : AreTurns limits no_state [] turns
+  pub lines : proof ≡ proof_of limits turns ++ rest
+
 -- a front of the answer to the next command of the script, which is not the whole answer
 pub record IsBegun (limits : Limits) (script : List ℕ) (chunks : List Chunk) (turns : List Turn) (begun : List ℕ) : Type 0 where
   pub next : Chunk

@@ -17,6 +17,7 @@ use Rattle.smt_terms.specs.declared.sort.Sort.{Sort}
 use Rattle.smt_terms.specs.declared.sort.Sort.TheVariants as sort
 use Rattle.smt_terms.specs.declared.sort.Signature.{Signature}
 use Rattle.smt_values.specs.declared.value.Value.{Value}
+use Rattle.smt_values.specs.declared.value.Value.TheVariants as held
 use Rattle.smt_build.specs.declared.symbols.LiveName.{LiveName}
 use Rattle.cnf_base.specs.Literals.{Literal}
 use Rattle.smt_terms.specs.declared.node.Node.{Node}
@@ -30,7 +31,7 @@ use Rattle.proof_text.specs.declared.record.Record.TheVariants.{Sat}
 use Rattle.proof_text.specs.declared.line.WrittenValue.TheVariants as written
 use Rattle.proof_text.specs.Lines.{joined, line_text, value_text as written_text}
 use Rattle.proof_text.specs.Entries.{entry_line}
-use Rattle.proof_text.specs.Records.{binary, written_value, record_lines}
+use Rattle.proof_text.specs.Records.{binary, digits_of, record_lines}
 use Rattle.accepted_proof.specs.Models.{value_for, interpretation_of}
 use Rattle.accepted_proof.specs.Searching.{Limits}
 use Rattle.accepted_proof.specs.Cores.{core_names, blamed_assumptions, refuting_clause}
@@ -61,9 +62,12 @@ sort_text sort.Bool = codes "Bool"
 sort_text (sort.Word n) = word_sort_text n
 sort_text (sort.Array n m) = codes "(Array " ++ word_sort_text n ++ codes " " ++ word_sort_text m ++ codes ")"
 
--- a truth value, or a word by its digits, as in the lines of a proof
+-- a truth value, or a word by its digits, as in the lines of a proof; no array and no function is shown yet
 abbrev pub value_text : Value → List ℕ
-value_text v = flat_map written_text (option_to_list (written_value v))
+value_text (held.Bool b) = written_text (written.Bool b)
+value_text (held.Word w) = written_text (written.Word (digits_of w))
+value_text (held.Array a) = []
+value_text (held.Fun t) = []
 
 -- the constant of a name, of this sort, with this value
 abbrev pub definition_text : List ℕ → Sort → Value → List ℕ

@@ -116,7 +116,7 @@ abbrev pub Opens : Judging → ℕ → ℕ → ℕ → Judging → Type 0
 Opens j cube start zero k = k ≡ refused j rule.Diary
 Opens j cube start (suc left) k = Decides (IsSearch j.limits j.state j.state.terms.nodes j.log cube start) (noted j cube start left []) (refused j rule.Diary) k
 
--- a line of a check, before its record's end
+-- a line of a check, before its record's end; those of equalities and lemmas are not taken yet
 abbrev pub AtStep : Judging → Line → Judging → Type 0
 AtStep j (line.Header cubes budget) k = k ≡ refused j rule.Line
 AtStep j (line.Term head args) k = StepsBy j (line.Term head args) k
@@ -124,6 +124,10 @@ AtStep j (line.Leaf t) k = StepsBy j (line.Leaf t) k
 AtStep j (line.Encode t) k = StepsBy j (line.Encode t) k
 AtStep j (line.Selector a) k = StepsBy j (line.Selector a) k
 AtStep j (line.Chain clause hints) k = StepsBy j (line.Chain clause hints) k
+AtStep j (line.Equal t u) k = k ≡ refused j rule.Line
+AtStep j (line.Congruence t u) k = k ≡ refused j rule.Line
+AtStep j (line.Witness t) k = k ≡ refused j rule.Line
+AtStep j (line.Accesses a b) k = k ≡ refused j rule.Line
 AtStep j (line.Sat count) k = ((count ≡ length j.state.symbols.live) × Goes j j.state.symbols.live [] k) ⊎ ((count ≡ length j.state.symbols.live → ⊥) × (k ≡ refused j rule.Sat))
 AtStep j (line.Value d w) k = k ≡ refused j rule.Line
 AtStep j (line.Unsat p) k = Decides (IsRefutation j.state j.state.terms.nodes j.log p) (closed j (shown.Unsat p)) (refused j rule.Unsat) k

@@ -1,10 +1,14 @@
 -- Models of the live assertions (SMT-LIB 2.6, section 4.2.5: what `sat` and `unsat` say).
-use Rattle.std.specs.Prelude.{◌≡◌, ℕ, ◌==◌, true, if◌then◌else◌, List, [], ◌∷◌, map, slice_get, All, Option, Some, None}
+use Rattle.std.specs.Prelude.{◌≡◌, ℕ, ◌<◌, ◌^◌, ◌==◌, true, if◌then◌else◌, List, [], ◌∷◌, map, slice_get, All, Option, Some, None}
 use Rattle.smt_terms.specs.declared.node.Node.{Node}
+use Rattle.smt_terms.specs.declared.sort.Sort.{Sort}
+use Rattle.smt_terms.specs.declared.sort.Sort.TheVariants as sort
 use Rattle.smt_terms.specs.declared.sort.Signature.{Signature}
-use Rattle.smt_terms.specs.Values.{HasSort, Interpretation, is_true, value}
+use Rattle.smt_terms.specs.Values.{Interpretation, is_true, value}
+use Rattle.smt_values.specs.Arrays.{IsArray}
 use Rattle.smt_values.specs.declared.value.Value.{Value}
-use Rattle.smt_values.specs.Held.{meaning, constant_of, function_of}
+use Rattle.smt_values.specs.declared.value.Value.TheVariants as held
+use Rattle.smt_values.specs.Held.{constant_of, function_of}
 use Rattle.smt_build.specs.declared.symbols.LiveName.{LiveName}
 use Rattle.scope_selectors.specs.declared.live.Live.{Live}
 use Rattle.script_state.specs.declared.answer.Asked.{Asked}
@@ -37,10 +41,17 @@ value_for (p ∷ ps) d = if d == p.0 then Some p.1 else value_for ps d
 abbrev pub interpretation_of : List (ℕ × Value) → Interpretation
 interpretation_of values = record { constants = λ d. constant_of (value_for values d); functions = λ d. function_of (value_for values d) }
 
+-- the value is of the sort, and none that no code can hold
+abbrev pub IsOfKind : Sort → Value → Type 0
+IsOfKind s (held.Bool b) = s ≡ sort.Bool
+IsOfKind s (held.Word w) = (s ≡ sort.Word w.width) × (w.value < 2 ^ w.width)
+IsOfKind s (held.Array a) = (s ≡ sort.Array a.index a.default.width) × IsArray a
+IsOfKind s (held.Fun t) = ⊥
+
 -- the declaration is a constant, and the value is of its sort
 abbrev pub IsOfSignature : Value → Option Signature → Type 0
 IsOfSignature v None = ⊥
-IsOfSignature v (Some s) = (s.args ≡ []) × HasSort s.value (meaning v)
+IsOfSignature v (Some g) = (g.args ≡ []) × IsOfKind g.value v
 
 -- a value of its sort for each live declaration, in the order of the declarations, under which each live assertion and each
 -- assumption is true

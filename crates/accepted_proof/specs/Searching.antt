@@ -1,7 +1,7 @@
 -- How a check is searched: the cubes into which it is split, and the diary of a cube on which the budget was spent.
 -- Splitting is that of M. Heule, O. Kullmann, S. Wieringa and A. Biere, "Cube and Conquer: Guiding CDCL SAT Solvers by
 -- Lookaheads", 2011.
-use Rattle.std.specs.Prelude.{◌≡◌, ◌<◌, ◌≤◌, ◌^◌, suc, ℕ, Bool, true, ◌&&◌, is_some, if◌then◌else◌, List, [], ◌∷◌, ◌++◌, length, map, take, All, Option, Some, None, option_to_list}
+use Rattle.std.specs.Prelude.{◌≡◌, ◌<◌, ◌≤◌, ◌^◌, suc, ℕ, Bool, ◌&&◌, is_some, if◌then◌else◌, List, [], ◌∷◌, ◌++◌, length, map, take, All, Option, Some, None, option_to_list}
 use Rattle.std.specs.List.{list_any, flat_map}
 use Rattle.cnf_base.specs.Literals.{Literal}
 use Rattle.smt_terms.specs.declared.node.Node.{Node}
@@ -14,7 +14,8 @@ use Rattle.proof_log.specs.declared.entry.Entry.{Entry}
 use Rattle.proof_log.specs.declared.entry.Entry.TheVariants as entry
 use Rattle.proof_log.specs.declared.diary.Diary.{Diary}
 use Rattle.proof_log.specs.Logs.{Asserted, LogState, constant_width, entry_at, state_of}
-use Rattle.proof_log.specs.Diaries.{Subject, IsSpent, is_chain}
+use Rattle.proof_log.specs.Boards.{IsAdded}
+use Rattle.proof_log.specs.Diaries.{Subject, IsSpent}
 use Rattle.cube_tree.specs.Cubes.{cube_of}
 
 -- ---- limits
@@ -81,13 +82,13 @@ abbrev pub HasBit : LogState → Asked → Type 0
 HasBit log a = (bit : Literal) × (log.bits a.term ≡ Some (bit ∷ []))
 
 -- A search of the cube may start at this position: the check has so many cubes, its assertions have selectors and its
--- assumptions bits, and from the position on there are chains alone.
+-- assumptions bits, and from the position on no step makes a term, gives a term bits, or an assertion a selector.
 pub record IsSearch (limits : Limits) (s : StateValue) (nodes : List Node) (log : List Entry) (cube start : ℕ) : Type 0 where
   pub cube_of_check : cube < 2 ^ length (cube_variables limits s nodes log)
   pub selectors : All (HasSelector (state_of nodes log)) s.scopes.live
   pub bits : All (HasBit (state_of nodes log)) (assumptions s)
   pub within : start ≤ suc (length log)
-  pub chains : (p : ℕ) (e : Entry) → start ≤ p → entry_at log p ≡ Some e → is_chain (Some e) ≡ true
+  pub added : (p : ℕ) (e : Entry) → start ≤ p → entry_at log p ≡ Some e → IsAdded e
 
 -- what the diary of the search is about
 abbrev pub subject_of : Limits → StateValue → List Node → List Entry → ℕ → ℕ → Subject

@@ -10,7 +10,7 @@ ghost use Rattle.accepted_proof.specs.declared.refusal.Refusal.{Refusal};
 ghost use Rattle.accepted_proof.specs.Searching.{Limits, AreLimits};
 ghost use Rattle.accepted_proof.specs.Turns.{Turn};
 ghost use Rattle.accepted_proof.specs.Answers.{turn_lines, proof_of};
-ghost use Rattle.accepted_proof.specs.Accepted.{Accepted};
+ghost use Rattle.accepted_proof.specs.Accepted.{Accepted, AcceptedSoFar, IsFront};
 ghost use Rattle.accepted_proof.specs.Judged.{Judging, no_judging, is_idle, commanded, Moves, Judged, JudgedProof, ReadEach, AreAllSaid};
 
 /// An accepted proof is judged to have no bad line.
@@ -24,6 +24,13 @@ pub fn judged_proofs_are_accepted()
     ensures { (limits : Limits) (script : List ℕ) (chunks : List Chunk) (says : List Reading) (lines : List (Option Line))
         → AreLimits limits → AreAllSaid script chunks says → ReadEach chunks says → Judged (no_judging limits) says lines None
         → (turns : List Turn) × (lines ≡ map (λ l. Some l) (flat_map turn_lines turns)) × Accepted limits script (proof_of limits turns) turns }
+{}
+
+/// The first lines of a proof, where none is bad with the first commands of a script, are those of turns of these.
+pub fn judged_fronts_are_accepted()
+    ensures { (limits : Limits) (script : List ℕ) (chunks : List Chunk) (says : List Reading) (lines : List (Option Line))
+        → AreLimits limits → IsFront script chunks → ReadEach chunks says → Judged (no_judging limits) says lines None
+        → (turns : List Turn) × (lines ≡ map (λ l. Some l) (flat_map turn_lines turns)) × AcceptedSoFar limits script (proof_of limits turns) turns }
 {}
 
 /// One thing at most is judged of a proof.

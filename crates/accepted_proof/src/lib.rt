@@ -9,22 +9,24 @@
 //! rule of that, or that it has none. A command that ends the run is the last of a script's turns, and what stands in
 //! the script behind it is not read. The laws say that accepted proofs are right, and so is what is printed of the check
 //! that stands: a model and values are its record's, the assertions of a core have no model with those that have no name
-//! and the assumptions, and assumptions that are printed have none with the live assertions. A solver proves that what
+//! and the assumptions, and assumptions that are printed have none with the live assertions. Definitions and values are printed here. A solver proves that what
 //! it writes is accepted, a checker that it tells accepted proofs from others. The crate stands on `script_state`,
 //! `cube_tree`, `proof_log` and `proof_text`, and on the crates that these stand on.
 #![tactic(auto)]
 
 mod judging;
 mod laws;
+mod printing;
 pub mod refusal;
 mod values;
 
 pub use judging::{
-    accepted_proofs_are_judged, judged_proofs_are_accepted, proofs_are_judged_one_way,
-    the_rest_is_judged_as_the_whole,
+    accepted_proofs_are_judged, judged_fronts_are_accepted, judged_proofs_are_accepted,
+    proofs_are_judged_one_way, the_rest_is_judged_as_the_whole,
 };
 pub use laws::{
     accepted_proofs_are_right, answers_are_right, answers_beside_proofs_are_right,
     scripts_are_read_one_way, split_variables_rise, what_is_printed_is_right,
 };
+pub use printing::{push_definition, push_meaning};
 pub use values::interp_of;

@@ -9,7 +9,8 @@ use Rattle.smt_terms.specs.Nodes.{node_at}
 use Rattle.bit_blast.specs.Blocks.{Block, all_bits, block_over, block_of}
 use Rattle.proof_log.specs.declared.entry.Entry.{Entry}
 use Rattle.proof_log.specs.declared.entry.Entry.TheVariants as step
-use Rattle.proof_log.specs.Logs.{LogState, start, constant_width, leaf_after, block_after, selector_after, after, state_from, state_of}
+use Rattle.proof_log.specs.Logs.{LogState, start, constant_width, leaf_width, leaf_after, block_after, selector_after, after, state_from, state_of}
+use Rattle.proof_log.proofs.Growth.{added_keeps}
 use Rattle.proof_log.proofs.Sound.{with_value_cases}
 use Rattle.cnf_base.proofs.Lists.{Contains-first, Contains-later}
 
@@ -56,11 +57,13 @@ module _ (nodes : List Node) (t : ℕ) (declared : IsDeclared (node_at nodes t).
   selector_drew s a u (Some (x ∷ xs)) b h = h
 
   step_drew : (s : LogState) (e : Entry) (b : List Literal) → HasBits (after nodes s e) b → (e ≡ step.Leaf t) ⊎ HasBits s b
-  step_drew s (step.Leaf u) b h = ⊎_elim (λ p. inl (ap step.Leaf (sym p))) (λ p. inr p) (leaf_drew s u (constant_width (node_at nodes u).op) b h)
+  step_drew s (step.Leaf u) b h = ⊎_elim (λ p. inl (ap step.Leaf (sym p))) (λ p. inr p) (leaf_drew s u (leaf_width nodes u) b h)
   step_drew s (step.Encode u) b h =
       inr (block_drew s u (block_of s.next s.bits (node_at nodes u)) b
       (λ p. subst (λ v. block_of s.next s.bits (node_at nodes v) ≡ None) p (no_circuit (node_at nodes t).op s.next (all_bits s.bits (node_at nodes t).args) declared)) h)
   step_drew s (step.Selector a u) b h = inr (selector_drew s a u (s.bits u) b h)
+  step_drew s (step.Equal a c) b h = inr (subst (λ (f : ℕ → Option (List Literal)). f t ≡ Some b) (added_keeps nodes s (step.Equal a c) refl).0 h)
+  step_drew s (step.Lemma l) b h = inr (subst (λ (f : ℕ → Option (List Literal)). f t ≡ Some b) (added_keeps nodes s (step.Lemma l) refl).0 h)
   step_drew s e b h = inr h
 
   steps_drew : (s : LogState) (log : List Entry) (b : List Literal) → HasBits (state_from nodes s log) b → Contains log (step.Leaf t) ⊎ HasBits s b

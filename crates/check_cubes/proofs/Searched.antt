@@ -12,44 +12,41 @@ use Rattle.script_state.specs.declared.answer.Asked.{Asked}
 use Rattle.script_state.specs.States.{StateValue, assumptions}
 use Rattle.proof_log.specs.declared.entry.Entry.{Entry}
 use Rattle.proof_log.specs.Logs.{Asserted, LogState, entry_at, state_of}
-use Rattle.proof_log.specs.Diaries.{is_chain}
+use Rattle.proof_log.specs.Boards.{IsAdded}
 use Rattle.proof_log.specs.Stored.{LogValue, IsKept, literal_of, selector_in}
 use Rattle.proof_log.proofs.Growth.{entry_within}
 use Rattle.proof_log.proofs.Standing.{some_literal}
 use Rattle.cube_tree.specs.Cubes.{cube_of}
 use Rattle.accepted_proof.specs.Searching.{Limits, cube_variables, selector_literals, bits_or_none, HasSelector, HasBit, given_literals, IsSearch}
-use Rattle.check_cubes.specs.Searches.{only, kept_selector, IsSelected, kept_bits, IsOneBit, AreChainsFrom}
+use Rattle.check_cubes.specs.Searches.{only, kept_selector, IsSelected, kept_bits, IsOneBit, AreAddedFrom}
 
 -- ---- where a search starts
 
--- the steps from one position to another are chains
-abbrev pub AreChainsTo : List Entry → ℕ → ℕ → Type 0
-AreChainsTo log start at = (p : ℕ) (e : Entry) → start ≤ p → p < at → entry_at log p ≡ Some e → is_chain (Some e) ≡ true
+-- the steps from one position to another are such
+abbrev pub AreAddedTo : List Entry → ℕ → ℕ → Type 0
+AreAddedTo log start at = (p : ℕ) (e : Entry) → start ≤ p → p < at → entry_at log p ≡ Some e → IsAdded e
 
-pub chains_none : (log : List Entry) (start : ℕ) → AreChainsTo log start start
-chains_none log start p e le lt at = absurd (omega (arith, le, lt))
+pub added_none : (log : List Entry) (start : ℕ) → AreAddedTo log start start
+added_none log start p e le lt at = absurd (omega (arith, le, lt))
 
-pub chains_more : (log : List Entry) (start at : ℕ) → AreChainsTo log start at → ((e : Entry) → entry_at log at ≡ Some e → is_chain (Some e) ≡ true) → AreChainsTo log start (at + 1)
-chains_more log start at h here p e le lt is = elim (cases_lt p at) [
+pub added_more : (log : List Entry) (start at : ℕ) → AreAddedTo log start at → ((e : Entry) → entry_at log at ≡ Some e → IsAdded e) → AreAddedTo log start (at + 1)
+added_more log start at h here p e le lt is = elim (cases_lt p at) [
   | inl less ↦ h p e le less is
   | inr ge ↦ let same : p ≡ at = omega (arith, ge, lt) in here e (subst (λ q. entry_at log q ≡ Some e) same is)
 ]
 
-pub chains_all : (log : List Entry) (start at : ℕ) → suc (length log) ≤ at → AreChainsTo log start at → AreChainsFrom log start
-chains_all log start at all h p e le is = let within = entry_within log p e is in h p e le (omega (arith, within, all)) is
+pub added_all : (log : List Entry) (start at : ℕ) → suc (length log) ≤ at → AreAddedTo log start at → AreAddedFrom log start
+added_all log start at all h p e le is = let within = entry_within log p e is in h p e le (omega (arith, within, all)) is
 
-pub not_chains : (log : List Entry) (start at : ℕ) → start ≤ at → (e : Entry) × (entry_at log at ≡ Some e) × (is_chain (Some e) ≡ false) → AreChainsFrom log start → ⊥
-not_chains log start at le found h =
-    let yes : is_chain (Some found.0) ≡ true = h at found.0 le found.1 in
-    let z : ◌≡◌ {A = Bool} true false = sym yes ∙ found.2 in
-    cc
+pub not_added : (log : List Entry) (start at : ℕ) → start ≤ at → (e : Entry) × (entry_at log at ≡ Some e) × (IsAdded e → ⊥) → AreAddedFrom log start → ⊥
+not_added log start at le found h = found.2 (h at found.0 le found.1)
 
-pub chain_told : (log : List Entry) (at : ℕ) (e : Entry) (b : Bool) → Some e ≡ entry_at log at → b ≡ is_chain (Some e)
-    → MatchBool b ((d : Entry) → entry_at log at ≡ Some d → is_chain (Some d) ≡ true) ((d : Entry) × (entry_at log at ≡ Some d) × (is_chain (Some d) ≡ false))
-chain_told log at e true here is = λ d h. let same : Some e ≡ Some d = here ∙ h in ap is_chain (sym same) ∙ sym is
-chain_told log at e false here is = (e, sym here, sym is)
+pub added_told : (log : List Entry) (at : ℕ) (e : Entry) (b : Bool) → Some e ≡ entry_at log at → MatchBool b (IsAdded e) (IsAdded e → ⊥)
+    → MatchBool b ((d : Entry) → entry_at log at ≡ Some d → IsAdded d) ((d : Entry) × (entry_at log at ≡ Some d) × (IsAdded d → ⊥))
+added_told log at e true here is = λ d h. let whole : Some e ≡ Some d = here ∙ h in let same : e ≡ d = cc in subst IsAdded same is
+added_told log at e false here is = (e, sym here, is)
 
-pub no_step : (log : List Entry) (at : ℕ) → ◌≡◌ {A = Option Entry} None (entry_at log at) → (d : Entry) → entry_at log at ≡ Some d → is_chain (Some d) ≡ true
+pub no_step : (log : List Entry) (at : ℕ) → ◌≡◌ {A = Option Entry} None (entry_at log at) → (d : Entry) → entry_at log at ≡ Some d → IsAdded d
 no_step log at none d h = absurd (let z : ◌≡◌ {A = Option Entry} None (Some d) = none ∙ h in let f : ⊥ = cc in f)
 
 -- ---- what is given
@@ -136,18 +133,18 @@ module _ (s : StateValue) (log : LogValue) (kept : IsKept s.terms.nodes log) whe
     -- each assertion and each assumption has its literal
     pub is_search : (variables : List ℕ) (first second given : List Literal) (live : List Live) (asked : List Asked) → live ≡ s.scopes.live → asked ≡ assumptions s
         → variables ≡ cube_variables limits s s.terms.nodes log.entries
-        → start ≤ suc (length log.entries) → AreChainsFrom log.entries start
+        → start ≤ suc (length log.entries) → AreAddedFrom log.entries start
         → (cube < 2 ^ length variables) × (first ≡ cube_of variables cube)
         → All (IsSelected log.selectors) live × (second ≡ first ++ flat_map (kept_selector log.selectors) live)
         → All (IsOneBit log.bits) asked × (given ≡ second ++ flat_map (kept_bits log.bits) asked)
         → Searches × (given ≡ given_literals limits s s.terms.nodes log.entries cube)
-    is_search variables first second given live asked same assumed are within chains cubes selected one = (
+    is_search variables first second given live asked same assumed are within added cubes selected one = (
       record {
         cube_of_check = subst (λ (vs : List ℕ). cube < 2 ^ length vs) are cubes.0;
         selectors = subst (λ (ls : List Live). All (HasSelector after) ls) same (All-weaker (IsSelected log.selectors) (HasSelector after) has_selector live selected.0);
         bits = subst (λ (ls : List Asked). All (HasBit after) ls) assumed (All-weaker (IsOneBit log.bits) (HasBit after) has_bit asked one.0);
         within = within;
-        chains = chains;
+        added = added;
       },
       one.1
           ∙ ap₂ (λ x y. x ++ y)
@@ -158,8 +155,8 @@ module _ (s : StateValue) (log : LogValue) (kept : IsKept s.terms.nodes log) whe
     pub late_start : suc (length log.entries) < start → Searches → ⊥
     late_start lt h = let w = h.within in omega (arith, lt, w)
 
-    pub other_start : (AreChainsFrom log.entries start → ⊥) → Searches → ⊥
-    other_start none h = none h.chains
+    pub other_start : (AreAddedFrom log.entries start → ⊥) → Searches → ⊥
+    other_start none h = none h.added
 
     pub other_cube : (variables : List ℕ) → variables ≡ cube_variables limits s s.terms.nodes log.entries → 2 ^ length variables ≤ cube → Searches → ⊥
     other_cube variables are ge h =

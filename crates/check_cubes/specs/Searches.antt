@@ -1,5 +1,5 @@
 -- How the search of a cube is looked up: the variables of declared terms, and the literals that are taken as true.
-use Rattle.std.specs.Prelude.{◌≡◌, ◌≤◌, ℕ, true, List, ◌∷◌, Option, Some, None, is_some, if◌then◌else◌, [], option_to_list}
+use Rattle.std.specs.Prelude.{◌≡◌, ◌≤◌, ℕ, List, ◌∷◌, Option, Some, None, is_some, if◌then◌else◌, [], option_to_list}
 use Rattle.cnf_base.specs.Literals.{Literal}
 use Rattle.smt_terms.specs.declared.node.Node.{Node}
 use Rattle.smt_terms.specs.Nodes.{node_at}
@@ -8,7 +8,7 @@ use Rattle.scope_selectors.specs.declared.live.Live.{Live}
 use Rattle.script_state.specs.declared.answer.Asked.{Asked}
 use Rattle.proof_log.specs.declared.entry.Entry.{Entry}
 use Rattle.proof_log.specs.Logs.{constant_width, entry_at}
-use Rattle.proof_log.specs.Diaries.{is_chain}
+use Rattle.proof_log.specs.Boards.{IsAdded}
 use Rattle.proof_log.specs.Stored.{selector_in}
 use Rattle.accepted_proof.specs.Searching as searching
 use Rattle.accepted_proof.specs.Searching.{variables_of, bits_or_none}
@@ -47,6 +47,6 @@ IsOneBit bits a = (l : Literal) × (bits_in bits a.term ≡ Some (l ∷ []))
 
 -- ---- where a search starts
 
--- from the position on there are chains alone
-abbrev pub AreChainsFrom : List Entry → ℕ → Type 0
-AreChainsFrom log start = (p : ℕ) (e : Entry) → start ≤ p → entry_at log p ≡ Some e → is_chain (Some e) ≡ true
+-- from the position on no step makes a term, gives a term bits, or an assertion a selector
+abbrev pub AreAddedFrom : List Entry → ℕ → Type 0
+AreAddedFrom log start = (p : ℕ) (e : Entry) → start ≤ p → entry_at log p ≡ Some e → IsAdded e

@@ -1,20 +1,20 @@
 // The search of a cube: where it may start, and what it takes as true.
 
-ghost use Rattle.std.specs.Prelude.{◌≡◌, ◌≤◌, ◌++◌, suc, true, false, All, IfOk, MatchBool, MatchOption, length, Some};
+ghost use Rattle.std.specs.Prelude.{◌≡◌, ◌≤◌, ◌++◌, suc, All, IfOk, MatchBool, MatchOption, length, Some};
 ghost use Rattle.std.specs.List.{flat_map};
 ghost use Rattle.smt_terms.specs.Bits.{bits_in};
 ghost use Rattle.proof_log.specs.declared.entry.Entry.{Entry as Step};
 ghost use Rattle.proof_log.specs.Logs.{entry_at};
-ghost use Rattle.proof_log.specs.Diaries.{is_chain};
+ghost use Rattle.proof_log.specs.Boards.{IsAdded};
 ghost use Rattle.proof_log.specs.Stored.{Stands};
 ghost use Rattle.accepted_proof.specs.Searching.{given_literals, IsSearch};
-ghost use Rattle.check_cubes.specs.Searches.{limits_of, only, kept_selector, IsSelected, kept_bits, IsOneBit, AreChainsFrom};
+ghost use Rattle.check_cubes.specs.Searches.{limits_of, only, kept_selector, IsSelected, kept_bits, IsOneBit, AreAddedFrom};
 
 use crate::cubes::{cube_literals, cube_variables};
 use crate::limits::Limits;
 use cnf_base::{Lit, Pos};
 use proof_log::Log;
-use proof_log::entry::Entry;
+use proof_log::entry::{Entry, Role};
 use scope_selectors::live::Live;
 use script_state::answer::Asked;
 use script_state::state::State;
@@ -22,35 +22,32 @@ use smt_terms::node::TermId;
 use std::alloc::{AllocError, Global};
 use term_reach::Reached;
 
-/// Whether a step is a chain.
-fn is_chain(step: &Entry) -> bool
-    ensures { result ≡ is_chain (Some step.now) }
+/// Whether a step makes no term, gives no term bits, and no assertion a selector.
+fn is_added(step: &Entry) -> bool
+    ensures { MatchBool result (IsAdded step.now) (IsAdded step.now → ⊥) }
 {
-    match step {
-        Entry::Chain(_, _) => true,
-        _ => false,
-    }
+    matches!(step.role(), Role::Search)
 }
 
-/// Whether the step at a position is a chain, if there is one.
-fn is_chain_at(log: &Log, at: Pos) -> bool
+/// Whether the step at a position is such, if there is one.
+fn is_added_at(log: &Log, at: Pos) -> bool
     ensures { MatchBool result
-        ((e : Step) → entry_at log.now.entries at ≡ Some e → is_chain (Some e) ≡ true)
-        ((e : Step) × (entry_at log.now.entries at ≡ Some e) × (is_chain (Some e) ≡ false)) }
+        ((e : Step) → entry_at log.now.entries at ≡ Some e → IsAdded e)
+        ((e : Step) × (entry_at log.now.entries at ≡ Some e) × (IsAdded e → ⊥)) }
 {
     match log.entry(at) {
-        Some(step) => is_chain(step),
+        Some(step) => is_added(step),
         None => true,
     }
 }
 
-/// Whether all steps from a position on are chains.
-fn are_chains(log: &Log, start: Pos) -> bool
+/// Whether all steps from a position on are such.
+fn are_added(log: &Log, start: Pos) -> bool
     requires { start ≤ suc (length log.now.entries) }
-    ensures { MatchBool result (AreChainsFrom log.now.entries start) (AreChainsFrom log.now.entries start → ⊥) }
+    ensures { MatchBool result (AreAddedFrom log.now.entries start) (AreAddedFrom log.now.entries start → ⊥) }
 {
     'steps: for at in start..log.len() {
-        if !is_chain_at(log, at) {
+        if !is_added_at(log, at) {
             return false;
         }
     }
@@ -117,7 +114,7 @@ pub fn search(
     if start > log.len() {
         return Ok(None);
     }
-    if !are_chains(log, start) {
+    if !are_added(log, start) {
         return Ok(None);
     }
     let variables = cube_variables(alloc, state, log, limits, reached)?;

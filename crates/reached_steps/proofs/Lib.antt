@@ -5,4 +5,3 @@ pub mod Blocks
 pub mod Clauses
 pub mod Steps
 pub mod Separate
-pub mod Adding

@@ -18,6 +18,7 @@ use Rattle.proof_log.specs.Meanings.{Owns}
 use Rattle.proof_log.specs.Places.{GivesBits, IsForTerm}
 use Rattle.proof_log.specs.Diaries.{is_chain}
 use Rattle.proof_log.proofs.Growth.{clause_place, steps_rows}
+use Rattle.proof_log.proofs.Leaves.{word_at}
 use Rattle.proof_log.proofs.Ordered.{log_is_ordered}
 use Rattle.proof_log.proofs.Standing.{stands_over}
 use Rattle.cube_search.specs.Holding.{Occurs, AreSeparate}
@@ -196,7 +197,9 @@ module _ (nodes : List Node) (log : List Entry) (positions : List ℕ) (all : Is
       let first : Contains c (negative_of x) = subst (λ d. Contains d (negative_of x)) is_clause (0, omega arith, refl) in
       (negative_of x, first, (λ o. fresh p x out r.within (omega arith) (omega (arith, r.next)) (occurs_own x o)))
   other_clause p k c (step.Chain d hints) e plain out g = let f : ⊥ = cc in absurd f
-  other_clause p k c x e plain out g = absurd (made nodes start log p x is e).step
+  other_clause p k c (step.Equal t u) e plain out g = absurd (word_at nodes log (suc p) (step.Equal t u) h.words e)
+  other_clause p k c (step.Lemma a) e plain out g = absurd (word_at nodes log (suc p) (step.Lemma a) h.words e)
+  other_clause p k c (step.Rewrite r) e plain out g = absurd (made nodes start log p (step.Rewrite r) is e).step
 
   separate_at : (q k : ℕ) (c : List Literal) → q ≤ length log → is_chain (entry_at log q) ≡ false → (Contains positions q → ⊥) → clause_in (slice_get (state_of nodes log).clauses q) k ≡ Some c → HasNew c
   separate_at zero k c le plain out g = absurd (out h.first)

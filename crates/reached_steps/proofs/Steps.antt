@@ -12,13 +12,12 @@ use Rattle.smt_terms.specs.Terms.{IsTermList}
 use Rattle.bit_blast.specs.Blocks.{Block, with_first, all_bits, block_of}
 use Rattle.proof_log.specs.declared.entry.Entry.{Entry}
 use Rattle.proof_log.specs.declared.entry.Entry.TheVariants as step
-use Rattle.proof_log.specs.Logs.{LogState, start, clause_in, constant_width, IsStep, IsLeaf, IsEncoding, IsSelector, leaf_after, block_after, selector_clause, selector_after, after, state_from, state_of, AreSteps, IsLog}
-use Rattle.proof_log.specs.Stored.{clauses_of}
+use Rattle.proof_log.specs.Logs.{LogState, start, clause_in, IsStep, IsLeaf, IsEncoding, IsSelector, leaf_after, block_after, selector_clause, selector_after, after, state_from, state_of, AreSteps, IsLog}
 use Rattle.proof_log.proofs.Ordered.{any_interpretation, log_is_ordered}
 use Rattle.proof_log.proofs.Sound.{log_suits, block_rows}
 use Rattle.proof_log.proofs.Staying.{Holds, steps_hold}
 use Rattle.proof_log.proofs.Standing.{value_here}
-use Rattle.proof_log.proofs.Growth.{steps_rows}
+use Rattle.proof_log.proofs.Growth.{block_row, selector_row, row_of, step_adds, steps_rows}
 use Rattle.reached_steps.specs.Circuits.{StandsOnArguments}
 use Rattle.reached_steps.proofs.Clauses.{blocks_stand}
 
@@ -29,40 +28,6 @@ pub row_has : (rows : List (List (List Literal))) (q k : ℕ) (row : List (List 
 row_has rows q k row c e h = Contains-slice_get row k c (sym (ap (λ o. clause_in o k) e) ∙ h)
 
 -- ---- rows of clauses
-
--- the clauses that a step adds
-abbrev block_row : LogState → Option Block → List (List Literal)
-block_row s None = []
-block_row s (Some b) = gates_clauses s.next b.gates
-
-abbrev selector_row : LogState → Option (List Literal) → List (List Literal)
-selector_row s None = []
-selector_row s (Some []) = []
-selector_row s (Some (bit ∷ bits)) = selector_clause s.next bit ∷ []
-
-abbrev pub row_of : List Node → LogState → Entry → List (List Literal)
-row_of nodes s (step.Encode t) = block_row s (block_of s.next s.bits (node_at nodes t))
-row_of nodes s (step.Selector a t) = selector_row s (s.bits t)
-row_of nodes s e = clauses_of e []
-
-leaf_adds : (s : LogState) (t : ℕ) (o : Option ℕ) → (leaf_after s t o).clauses ≡ s.clauses ++ [] ∷ []
-leaf_adds s t None = refl
-leaf_adds s t (Some n) = refl
-
-block_adds : (s : LogState) (t : ℕ) (o : Option Block) → (block_after s t o).clauses ≡ s.clauses ++ block_row s o ∷ []
-block_adds s t None = refl
-block_adds s t (Some b) = refl
-
-selector_adds : (s : LogState) (a t : ℕ) (o : Option (List Literal)) → (selector_after s a t o).clauses ≡ s.clauses ++ selector_row s o ∷ []
-selector_adds s a t None = refl
-selector_adds s a t (Some []) = refl
-selector_adds s a t (Some (bit ∷ bits)) = refl
-
-step_adds : (nodes : List Node) (s : LogState) (e : Entry) → (after nodes s e).clauses ≡ s.clauses ++ row_of nodes s e ∷ []
-step_adds nodes s (step.Leaf t) = leaf_adds s t (constant_width (node_at nodes t).op)
-step_adds nodes s (step.Encode t) = block_adds s t (block_of s.next s.bits (node_at nodes t))
-step_adds nodes s (step.Selector a t) = selector_adds s a t (s.bits t)
-step_adds nodes s e = refl
 
 -- the row that a step added stays
 row_stays : (nodes : List Node) (s : LogState) (e : Entry) (log : List Entry) → slice_get (state_from nodes s (e ∷ log)).clauses (length s.clauses) ≡ Some (row_of nodes s e)

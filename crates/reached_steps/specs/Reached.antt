@@ -1,16 +1,16 @@
 -- Which steps of a log are those of the terms that a check reaches.
 use Rattle.std.specs.Prelude.{◌≡◌, ◌⊎◌, ℕ, List, Some, All, Contains}
-use Rattle.cnf_base.specs.Literals.{Literal}
-use Rattle.cnf_base.specs.declared.clause.ClauseId.{ClauseId}
+use Rattle.std.specs.List.{AllByRecursion}
 use Rattle.smt_terms.specs.declared.node.Node.{Node}
 use Rattle.smt_terms.specs.Terms.{IsTermList}
 use Rattle.proof_log.specs.declared.entry.Entry.{Entry}
 use Rattle.proof_log.specs.declared.entry.Entry.TheVariants as step
-use Rattle.proof_log.specs.Logs.{clause_at, entry_at, state_of, IsLog}
+use Rattle.proof_log.specs.Logs.{entry_at, state_of, IsLog}
 use Rattle.proof_log.specs.Places.{GivesBits}
+use Rattle.proof_log.specs.Words.{IsOfWords}
 use Rattle.proof_log.specs.Stored.{LogValue, Stands}
 use Rattle.proof_log.specs.Assigned.{AreClosed}
-use Rattle.cube_search.specs.Holding.{Occurs, AreSeparate}
+use Rattle.cube_search.specs.Holding.{AreSeparate}
 
 -- the position is 0, or of a step that gave bits to one of these terms, or of the selector of an assertion of such a term
 abbrev pub IsOfTerms : List Entry → List ℕ → ℕ → Type 0
@@ -18,13 +18,15 @@ IsOfTerms log terms p =
     (p ≡ 0) ⊎ (((t : ℕ) × Contains terms t × GivesBits log t p) ⊎ ((a : ℕ) × (t : ℕ) × Contains terms t × (entry_at log p ≡ Some (step.Selector a t))))
 
 -- Of some terms, which are closed under arguments, these are the positions of the steps that gave them their bits, and beside
--- these at most the positions of selectors of their assertions. Position 0 is one.
+-- these at most the positions of selectors of their assertions. Position 0 is one. The log is of Bools and words alone, since a
+-- lemma may have a clause over reached variables alone.
 pub record AreReachedSteps (nodes : List Node) (log : List Entry) (positions : List ℕ) : Type 0 where
   pub reached : List ℕ
   pub closed : AreClosed nodes (Contains reached)
   pub first : Contains positions 0
   pub terms : All (λ t. (p : ℕ) × GivesBits log t p × Contains positions p) reached
   pub only : (p : ℕ) → Contains positions p → IsOfTerms log reached p
+  pub words : AllByRecursion (IsOfWords nodes) log
 
 -- a search over such positions of a log needs no others, wherever it begins
 abbrev pub ReachedStepsAreSeparate : Type 0
@@ -37,20 +39,3 @@ abbrev pub StoredStepsAreSeparate : Type 0
 StoredStepsAreSeparate =
     (nodes : List Node) (log : LogValue) (positions : List ℕ) (from : ℕ)
     → IsTermList nodes → Stands nodes log → AreReachedSteps nodes log.entries positions → AreSeparate log.clauses log.entries positions from
-
--- ---- positions more
-
--- each variable in the clauses of this position stands in a clause of the others
-abbrev pub HasNoOther : List (List (List Literal)) → List ℕ → ℕ → Type 0
-HasNoOther rows steps p = (id : ClauseId) (c : List Literal) (l : Literal) → id.pos ≡ p → clause_at rows id ≡ Some c → Contains c l → Occurs rows steps l.variable
-
--- the positions are these and more, whose clauses bring no variable
-pub record AddsNoVariable (rows : List (List (List Literal))) (steps positions : List ℕ) : Type 0 where
-  pub kept : (p : ℕ) → Contains steps p → Contains positions p
-  pub more : (p : ℕ) → Contains positions p → Contains steps p ⊎ HasNoOther rows steps p
-
--- such positions are separate where the others are: learnt chains may be held too
-abbrev pub MorePositionsStaySeparate : Type 0
-MorePositionsStaySeparate =
-    (rows : List (List (List Literal))) (log : List Entry) (steps positions : List ℕ) (from : ℕ)
-    → AreSeparate rows log steps from → AddsNoVariable rows steps positions → AreSeparate rows log positions from

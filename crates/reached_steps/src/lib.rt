@@ -4,13 +4,10 @@
 //! reaches, and of the selectors of their assertions. The laws of this crate say that it needs no more. The clauses of a
 //! block are of variable 1, of the variables of its own gates and of those of its arguments' bits, and each has one of its
 //! own gates (`blocks_stand_on_arguments`). So each clause of another step, but of a learnt chain, has a variable that stands
-//! in no clause which the search holds (`reached_steps_are_separate`), and so it stays where the search also holds learnt
-//! chains that have no variables but these (`more_positions_stay_separate`). The crate stands on `cube_search`, whose
-//! definition of separate positions it shows, `proof_log` and `bit_blast`, and on the crates that these stand on.
+//! in no clause which the search holds (`reached_steps_are_separate`). The crate stands on `cube_search`, whose definition of
+//! separate positions it shows, `proof_log` and `bit_blast`, and on the crates that these stand on.
 #![tactic(auto)]
 
 mod laws;
 
-pub use laws::{
-    blocks_stand_on_arguments, more_positions_stay_separate, reached_steps_are_separate,
-};
+pub use laws::{blocks_stand_on_arguments, reached_steps_are_separate};

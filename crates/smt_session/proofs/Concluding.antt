@@ -1,7 +1,6 @@
 -- What the search of its cubes shows of a check.
-use Rattle.std.proofs.Common.{◌≡◌, ℕ, zero, suc, ◌<◌, ◌≤◌, ◌^◌, Bool, true, List, [], ◌∷◌, ◌++◌, length, map, flat_map, take, Option, Some, refl, sym, ap, ◌∙◌, subst, inl, inr, ⊎_elim, append_assoc, arith}
-use Rattle.std.specs.Prelude.{◌⊎◌, ◌&&◌, is_some, if◌then◌else◌, All, Contains, Vec, option_to_list, slice_get}
-use Rattle.std.specs.declared.alloc.Global.{Global}
+use Rattle.std.proofs.Common.{◌≡◌, ℕ, zero, suc, ◌<◌, ◌≤◌, ◌^◌, Bool, true, false, List, [], ◌∷◌, ◌++◌, length, map, flat_map, take, Option, Some, refl, sym, ap, ◌∙◌, subst, inl, inr, ⊎_elim, append_assoc, arith}
+use Rattle.std.specs.Prelude.{◌&&◌, is_some, if◌then◌else◌, All, Contains, option_to_list, slice_get}
 use Rattle.std.specs.List.{AllByRecursion}
 use Rattle.std.proofs.lemmas.List.Elements.{All-contains, All-cons, All-from_recursion, All-nil, recursion_from_All}
 use Rattle.cnf_base.specs.Literals.{Literal}
@@ -13,7 +12,6 @@ use Rattle.smt_terms.specs.Bits.{bits_in}
 use Rattle.smt_terms.specs.Nodes.{node_at}
 use Rattle.smt_terms.specs.Terms.{TermsValue}
 use Rattle.smt_values.specs.declared.value.Value.{Value}
-use Rattle.local_names.specs.Names.{global_values}
 use Rattle.scope_selectors.specs.declared.live.Live.{Live}
 use Rattle.script_state.specs.declared.answer.Asked.{Asked}
 use Rattle.script_state.specs.States.{StateValue, assumptions, roots}
@@ -21,22 +19,23 @@ use Rattle.proof_log.specs.declared.entry.Entry.{Entry}
 use Rattle.proof_log.specs.declared.entry.Entry.TheVariants as step
 use Rattle.proof_log.specs.declared.diary.Diary.{Diary}
 use Rattle.proof_log.specs.Boards.{IsOfSearch, Grows as Prolongs}
-use Rattle.proof_log.specs.Diaries.{IsSpent}
+use Rattle.proof_log.specs.Diaries.{IsSpent, is_chain}
+use Rattle.proof_log.specs.Places.{IsForTerm}
 use Rattle.proof_log.specs.Logs.{Asserted, LogState, clause_at, constant_width, entry_at, state_of}
 use Rattle.proof_log.specs.Stored.{LogValue, Stands, selector_in}
-use Rattle.proof_log.proofs.Growth.{entry_within, grown_keeps}
+use Rattle.proof_log.specs.Words.{IsOfWords}
+use Rattle.proof_log.proofs.Growth.{chain_is_added, entry_within, grown_keeps}
 use Rattle.proof_log.proofs.Standing.{stands_over, some_literal}
 use Rattle.cube_tree.specs.Cubes.{cube_of}
 use Rattle.cube_tree.proofs.Resolving.{members}
-use Rattle.cube_search.specs.Ends.{IsModel, assignment}
+use Rattle.cube_search.specs.Ends.{IsModel}
 use Rattle.proof_text.specs.Records.{AreWritten}
 use Rattle.proof_text.specs.declared.record.Record.{Record}
 use Rattle.proof_text.specs.declared.record.Record.TheVariants.{Sat, Unsat, Unknown}
 use Rattle.accepted_proof.specs.Models.{IsWrittenModel}
 use Rattle.accepted_proof.specs.Searching.{Limits, is_reached, variables_of, leaf_variables, Rise, cube_variables, selector_literals, bits_or_none, given_literals, HasSelector, HasBit, IsUnknown}
-use Rattle.reached_steps.specs.Reached.{IsOfTerms, AreReachedSteps, AddsNoVariable}
+use Rattle.reached_steps.specs.Reached.{IsOfTerms, AreReachedSteps}
 use Rattle.reached_steps.proofs.Separate.{reached_are_separate}
-use Rattle.reached_steps.proofs.Adding.{still_separate}
 use Rattle.smt_session.specs.Growing.{Grows, IsStepFor, AreBits, AreGiven, AreSelectors}
 use Rattle.smt_session.specs.declared.solve.Found.{Found}
 use Rattle.smt_session.specs.declared.solve.Found.TheVariants as found
@@ -46,7 +45,7 @@ use Rattle.smt_session.proofs.Cubes.{grown_chain}
 use Rattle.smt_session.proofs.Giving.{given_below, given_stays, selectors_true, true_bits}
 use Rattle.smt_session.proofs.Roots.{roots_live}
 use Rattle.smt_session.proofs.Satisfied.{satisfied}
-use Rattle.smt_session.proofs.Staying.{grows_more, grown_steps}
+use Rattle.smt_session.proofs.Staying.{grows_more, grown_steps, words_of}
 use Rattle.smt_session.proofs.Turning.{refutation, true_selectors, grows_by_searches}
 
 -- ---- what is searched
@@ -71,6 +70,11 @@ entry_among log (suc k) e h = go log k h
     go (x ∷ log) zero h = let q : x ≡ e = cc in (zero, omega arith, q)
     go (x ∷ log) (suc k) h = let r = go log k h in (suc r.0, omega (arith, r.1), r.2)
 
+-- a step that gives a term bits is no chain
+bits_plain : (t : ℕ) (e : Entry) → IsForTerm t e → is_chain (Some e) ≡ false
+bits_plain t (step.Chain c hints) h = let f : ⊥ = cc in absurd f
+bits_plain t e h = refl
+
 module _ (s : StateValue) (log : LogValue) (session : IsSession s log) (positions : List ℕ) (enough : AreEnough s.terms.nodes log (roots s) s.scopes.live positions) where
   -- the selector of a live assertion stands for its term, which is reached
   selector_reached : (a : Live) (p t : ℕ) → Contains s.scopes.live a → entry_at log.entries p ≡ Some (step.Selector a.assertion t) → Contains enough.reached t
@@ -91,7 +95,7 @@ module _ (s : StateValue) (log : LogValue) (session : IsSession s log) (position
       (All-contains (IsStepOf log enough.reached s.scopes.live) positions p enough.each.only among)
 
   reached_steps : AreReachedSteps s.terms.nodes log.entries positions
-  reached_steps = record { reached = enough.reached; closed = enough.closed; first = enough.each.first; terms = enough.each.terms; only = of_terms }
+  reached_steps = record { reached = enough.reached; closed = enough.closed; first = enough.each.first; terms = enough.each.terms; only = of_terms; words = words_of s log.entries session.each }
 
   step_within : (p : ℕ) → Contains positions p → p < suc (length log.entries)
   step_within p among =
@@ -103,22 +107,30 @@ module _ (s : StateValue) (log : LogValue) (session : IsSession s log) (position
       other)
       (All-contains (IsStepOf log enough.reached s.scopes.live) positions p enough.each.only among)
 
-  module _ (all : List ℕ) (adds : AddsNoVariable log.clauses positions all) (placed : (p : ℕ) → Contains all p → Contains positions p ⊎ (p < suc (length log.entries))) where
-    pub is_problem : (variables : List ℕ) (given : List Literal) (budget : ℕ) → Rise 2 log.next variables → AreGiven s log given → IsProblem (problem s.terms.nodes log.entries all variables given budget) log.entries
-    is_problem variables given budget rise are =
-        let over = stands_over s.terms.nodes log session.stands in
-        record {
-          positions = λ p among. ⊎_elim (λ own. step_within p own) (λ lt. lt) (placed p among);
-          begun = omega arith;
-          from = omega arith;
-          chains = λ at e le q. absurd (let w = entry_within log.entries at e q in omega (arith, le, w));
-          separate =
-              still_separate (state_of s.terms.nodes log.entries).clauses log.entries positions all (suc (length log.entries))
-              (reached_are_separate s.terms.nodes log.entries positions (suc (length log.entries)) session.state.terms over.steps reached_steps)
-              (subst (λ rows. AddsNoVariable rows positions all) over.clauses adds);
-          variables = subst (λ n. All (λ x. x < n) variables) over.next (All-from_recursion (λ x. x < log.next) variables (rise_below 2 log.next variables rise));
-          assumed = subst (λ n. AreBelow n given) over.next (given_below s log given session.state.terms session.stands are);
-        }
+  -- the step at such a position is no chain
+  step_plain : (p : ℕ) → Contains positions p → is_chain (entry_at log.entries p) ≡ false
+  step_plain p among =
+      ⊎_elim
+      (λ (e : p ≡ 0). ap (λ q. is_chain (entry_at log.entries q)) e)
+      (λ other. ⊎_elim
+      (λ (t : IsTermStep log enough.reached p). ap is_chain t.2.1 ∙ bits_plain t.0 t.2.0 t.2.2)
+      (λ (a : IsAssertionStep log s.scopes.live p). ap is_chain a.2.1)
+      other)
+      (All-contains (IsStepOf log enough.reached s.scopes.live) positions p enough.each.only among)
+
+  pub is_problem : (variables : List ℕ) (given : List Literal) (budget : ℕ) → Rise 2 log.next variables → AreGiven s log given → IsProblem (problem s.terms.nodes log.entries positions variables given budget) log.entries
+  is_problem variables given budget rise are =
+      let over = stands_over s.terms.nodes log session.stands in
+      record {
+        positions = step_within;
+        begun = omega arith;
+        from = omega arith;
+        plain = step_plain;
+        chains = λ at e le q. absurd (let w = entry_within log.entries at e q in omega (arith, le, w));
+        separate = reached_are_separate s.terms.nodes log.entries positions (suc (length log.entries)) session.state.terms over.steps reached_steps;
+        variables = subst (λ n. All (λ x. x < n) variables) over.next (All-from_recursion (λ x. x < log.next) variables (rise_below 2 log.next variables rise));
+        assumed = subst (λ n. AreBelow n given) over.next (given_below s log given session.state.terms session.stands are);
+      }
 
 -- ---- a spent cube
 
@@ -202,7 +214,7 @@ unknown limits s old new positions variables given d before after prolongs grows
         selectors = have_selectors s.terms.nodes new s.scopes.live now.selectors after now.chosen;
         bits = have_bits s.terms.nodes new (assumptions s) now.bits after now.assumed;
         within = h.own.within;
-        chains = λ p e le q. (let start = h.own.start in grown_chain s.terms.nodes old.entries new.entries p e (stands_over s.terms.nodes new after).steps prolongs (omega (arith, start, le)) q);
+        added = λ p e le q. (let start = h.own.start in chain_is_added e (grown_chain old.entries new.entries p e prolongs (omega (arith, start, le)) q));
       };
       spent = subst (λ xs. IsSpent (record { nodes = s.terms.nodes; log = new.entries; given = xs; from = d.start }) limits.budget d.lines) (sym literals) h.own.spent;
     }
@@ -213,20 +225,20 @@ unknown limits s old new positions variables given d before after prolongs grows
 pub checked_more : (limits : Limits) (s : StateValue) (old mid new : LogValue) (r : Record) → Grows s old mid → IsChecked limits s mid new r → IsChecked limits s old new r
 checked_more limits s old mid new r g h = record { grows = grows_more s old mid new g h.grows; shown = h.shown }
 
-module _ (s : StateValue) (terms : TermsValue) (old new : LogValue) (places variables : List ℕ) (given : List Literal) (budget : ℕ) (names : List ℕ) (f : Found)
+module _ (s : StateValue) (terms : TermsValue) (old new : LogValue) (places variables : List ℕ) (given : List Literal) (budget : ℕ) (v : ℕ → Bool) (f : Found)
     (own : terms ≡ s.terms) (session : IsSession s old) (are : AreGiven s old given) (prolongs : Prolongs old.entries new.entries) (after : Stands terms.nodes new)
-    (is : IsFound (problem terms.nodes old.entries places variables given budget) new.entries names f) where
+    (is : IsFound (problem terms.nodes old.entries places variables given budget) new.entries v f) where
   stands : Stands s.terms.nodes new
   stands = subst (λ (t : TermsValue). Stands t.nodes new) own after
 
   grows : Grows s old new
   grows = grows_by_searches s old new prolongs stands
 
-  found_in : IsFound (problem s.terms.nodes old.entries places variables given budget) new.entries names f
-  found_in = subst (λ (t : TermsValue). IsFound (problem t.nodes old.entries places variables given budget) new.entries names f) own is
+  found_in : IsFound (problem s.terms.nodes old.entries places variables given budget) new.entries v f
+  found_in = subst (λ (t : TermsValue). IsFound (problem t.nodes old.entries places variables given budget) new.entries v f) own is
 
-  found_as : (g : Found) → f ≡ g → IsFound (problem s.terms.nodes old.entries places variables given budget) new.entries names g
-  found_as g e = subst (IsFound (problem s.terms.nodes old.entries places variables given budget) new.entries names) e found_in
+  found_as : (g : Found) → f ≡ g → IsFound (problem s.terms.nodes old.entries places variables given budget) new.entries v g
+  found_as g e = subst (IsFound (problem s.terms.nodes old.entries places variables given budget) new.entries v) e found_in
 
   pub refuted_checked : (limits : Limits) (at : ℕ) → f ≡ found.Refuted at → IsChecked limits s old new (Unsat at)
   refuted_checked limits at e = record { grows = grows; shown = refutation s old new given at session.stands grows are (found_as (found.Refuted at) e) }
@@ -242,29 +254,32 @@ module _ (s : StateValue) (terms : TermsValue) (old new : LogValue) (places vari
   pub model_checked : (limits : Limits) (values : List (ℕ × Value)) → AreWritten (Sat values) × IsWrittenModel s values → IsChecked limits s old new (Sat values)
   model_checked limits values shown = record { grows = grows; shown = shown }
 
-  module _ (values : Vec Bool Global) (slice : List Bool) (model : f ≡ found.Model values) (same : slice ≡ values.items) where
-    is_model : IsModel (state_of s.terms.nodes new.entries).clauses places given (global_values names (assignment slice))
-    is_model = subst (λ bs. IsModel (state_of s.terms.nodes new.entries).clauses places given (global_values names (assignment bs))) (sym same) (found_as (found.Model values) model)
+  module _ (model : f ≡ found.Model) where
+    is_model : IsModel (state_of s.terms.nodes new.entries).clauses places given v
+    is_model = found_as found.Model model
 
-    given_true : AllByRecursion (λ x. lit_true (global_values names (assignment slice)) x ≡ true) given
-    given_true = recursion_from_All (λ x. lit_true (global_values names (assignment slice)) x ≡ true) given (members (λ x. lit_true (global_values names (assignment slice)) x ≡ true) given is_model.literals)
+    given_true : AllByRecursion (λ x. lit_true v x ≡ true) given
+    given_true = recursion_from_All (λ x. lit_true v x ≡ true) given (members (λ x. lit_true v x ≡ true) given is_model.literals)
+
+    pub model_words : AllByRecursion (IsOfWords s.terms.nodes) new.entries
+    model_words = words_of s new.entries (grown_steps s old new session.each grows)
 
     given_now : AreGiven s new given
     given_now = given_stays s old new given session.stands grows are
 
-    pub model_satisfies : (steps all : List ℕ) → AreEnough s.terms.nodes old (roots s) s.scopes.live steps → AddsNoVariable old.clauses steps all → places ≡ all → AreSatisfied s.terms.nodes new (roots s) s.scopes.live (global_values names (assignment slice))
-    model_satisfies steps all enough adds e =
-        satisfied s.terms.nodes old new (roots s) s.scopes.live steps (global_values names (assignment slice)) prolongs enough
+    pub model_satisfies : AreEnough s.terms.nodes old (roots s) s.scopes.live places → AreSatisfied s.terms.nodes new (roots s) s.scopes.live v
+    model_satisfies enough =
+        satisfied s.terms.nodes old new (roots s) s.scopes.live places v prolongs enough
         (λ at among k c q.
-        is_model.clauses (record { pos = at; part = k }) c (subst (λ ps. Contains ps at) (sym e) (adds.kept at among))
+        is_model.clauses (record { pos = at; part = k }) c among
         (sym (ap (λ rows. clause_at rows (record { pos = at; part = k })) (stands_over s.terms.nodes new stands).clauses) ∙ q))
 
-    pub model_selects : All (HasTrueSelector s.terms.nodes new (global_values names (assignment slice))) s.scopes.live
+    pub model_selects : All (HasTrueSelector s.terms.nodes new v) s.scopes.live
     model_selects =
-        All-from_recursion (HasTrueSelector s.terms.nodes new (global_values names (assignment slice))) s.scopes.live
-        (true_selectors s new (global_values names (assignment slice)) s.scopes.live given_now.selectors session.state.terms stands (grown_steps s old new session.each grows)
+        All-from_recursion (HasTrueSelector s.terms.nodes new v) s.scopes.live
+        (true_selectors s new v s.scopes.live given_now.selectors session.state.terms stands (grown_steps s old new session.each grows)
         (recursion_from_All (λ (a : Live). slice_get s.scopes.terms a.assertion ≡ Some a.term) s.scopes.live session.state.scopes.known) given_now.chosen
-        (selectors_true s new (global_values names (assignment slice)) given given_now given_true))
+        (selectors_true s new v given given_now given_true))
 
-    pub model_assumes : All (HasTrueBit new (global_values names (assignment slice))) (assumptions s)
-    model_assumes = All-from_recursion (HasTrueBit new (global_values names (assignment slice))) (assumptions s) (true_bits s new (global_values names (assignment slice)) given given_now given_true)
+    pub model_assumes : All (HasTrueBit new v) (assumptions s)
+    model_assumes = All-from_recursion (HasTrueBit new v) (assumptions s) (true_bits s new v given given_now given_true)

@@ -1,5 +1,5 @@
 -- The search of a check's cubes, one after the other, over a log that grows by chains.
-use Rattle.std.proofs.Common.{◌≡◌, ℕ, zero, suc, ◌+◌, ◌/◌, ◌<◌, ◌≤◌, true, List, [], ◌∷◌, ◌++◌, length, Option, Some, None, refl, sym, ap, ◌∙◌, subst, inl, inr, ⊎_elim, arith, length-append}
+use Rattle.std.proofs.Common.{◌≡◌, ℕ, zero, suc, ◌+◌, ◌/◌, ◌<◌, ◌≤◌, true, false, List, [], ◌∷◌, ◌++◌, length, Option, Some, None, refl, sym, ap, ◌∙◌, subst, inl, inr, ⊎_elim, arith, length-append}
 use Rattle.std.specs.Prelude.{◌⊎◌, Contains, slice_get}
 use Rattle.std.specs.List.{AllByRecursion}
 use Rattle.std.proofs.lemmas.Bool.{cases_lt}
@@ -8,12 +8,11 @@ use Rattle.cnf_base.specs.Literals.{Literal, negated}
 use Rattle.cnf_base.specs.Assignments.{AreBelow}
 use Rattle.cnf_base.specs.declared.clause.ClauseId.{ClauseId}
 use Rattle.cnf_base.proofs.Agreeing.{AreBelow-more}
-use Rattle.cnf_base.proofs.Lists.{each_append, slice_get-there, slice_get-push_cases}
+use Rattle.cnf_base.proofs.Lists.{each_append, each_slice_get, slice_get-there, slice_get-push_cases}
 use Rattle.smt_terms.specs.declared.node.Node.{Node}
 use Rattle.proof_log.specs.declared.entry.Entry.{Entry}
-use Rattle.proof_log.specs.declared.entry.Entry.TheVariants as step
 use Rattle.proof_log.specs.declared.diary.Diary.{Diary}
-use Rattle.proof_log.specs.Logs.{LogState, start, clause_at, entry_at, IsStep, after, state_of, AreSteps, IsLog}
+use Rattle.proof_log.specs.Logs.{clause_at, entry_at, state_of, IsLog}
 use Rattle.proof_log.specs.Boards.{Grows, IsOfSearch}
 use Rattle.proof_log.specs.Diaries.{is_chain}
 use Rattle.proof_log.proofs.Growth.{grown_holds, grown_length, clause_stays, clause_place, entry_stays}
@@ -29,24 +28,15 @@ use Rattle.smt_session.specs.Searched.{Problem, look_in, given_in, subject_in, I
 
 -- ---- a log that grew by chains
 
--- of the steps of a search chains alone are valid
-is_chain_of : (nodes : List Node) (s : LogState) (e : Entry) → IsOfSearch e → IsStep nodes s e → is_chain (Some e) ≡ true
-is_chain_of nodes s (step.Chain c hints) h i = refl
-is_chain_of nodes s (step.Equal t u) h i = absurd i
-is_chain_of nodes s (step.Lemma l) h i = absurd i
-is_chain_of nodes s e h i = let f : ⊥ = cc in absurd f
-
-chain_behind : (nodes : List Node) (s : LogState) (log more : List Entry) (k : ℕ) (e : Entry) → AllByRecursion IsOfSearch more → AreSteps nodes s (log ++ more) → length log ≤ k → slice_get (log ++ more) k ≡ Some e → is_chain (Some e) ≡ true
-chain_behind nodes s [] [] k e h i le q = let f : ⊥ = cc in absurd f
-chain_behind nodes s [] (x ∷ more) zero e h i le q = let same : x ≡ e = cc in subst (λ y. is_chain (Some y) ≡ true) same (is_chain_of nodes s x h.0 i.0)
-chain_behind nodes s [] (x ∷ more) (suc k) e h i le q = chain_behind nodes (after nodes s x) [] more k e h.1 i.1 (omega arith) q
-chain_behind nodes s (x ∷ log) more zero e h i le q = absurd (omega (arith, le))
-chain_behind nodes s (x ∷ log) more (suc k) e h i le q = chain_behind nodes (after nodes s x) log more k e h i.1 (omega (arith, le)) q
+chain_behind : (log more : List Entry) (k : ℕ) (e : Entry) → AllByRecursion IsOfSearch more → length log ≤ k → slice_get (log ++ more) k ≡ Some e → is_chain (Some e) ≡ true
+chain_behind [] more k e h le q = each_slice_get IsOfSearch more k e h q
+chain_behind (x ∷ log) more zero e h le q = absurd (omega (arith, le))
+chain_behind (x ∷ log) more (suc k) e h le q = chain_behind log more k e h (omega (arith, le)) q
 
 -- what is behind the old log is a chain
-pub grown_chain : (nodes : List Node) (log log' : List Entry) (at : ℕ) (e : Entry) → IsLog nodes log' → Grows log log' → suc (length log) ≤ at → entry_at log' at ≡ Some e → is_chain (Some e) ≡ true
-grown_chain nodes log log' zero e is g le q = absurd (omega (arith, le))
-grown_chain nodes log log' (suc k) e is g le q = chain_behind nodes start log g.more k e g.of_search (subst (IsLog nodes) g.is is) (omega (arith, le)) (ap (λ l. slice_get l k) (sym g.is) ∙ q)
+pub grown_chain : (log log' : List Entry) (at : ℕ) (e : Entry) → Grows log log' → suc (length log) ≤ at → entry_at log' at ≡ Some e → is_chain (Some e) ≡ true
+grown_chain log log' zero e g le q = absurd (omega (arith, le))
+grown_chain log log' (suc k) e g le q = chain_behind log g.more k e g.of_search (omega (arith, le)) (ap (λ l. slice_get l k) (sym g.is) ∙ q)
 
 -- ---- the problem
 
@@ -97,8 +87,11 @@ module _ (p : Problem) (log log' : List Entry) (grows : Grows log log') where
     chains_stay at e le q =
         ⊎_elim
         (λ (within : at < suc (length log)). h.chains at e le (sym (entry_stays log log' at grows (omega (arith, within))) ∙ q))
-        (λ (behind : suc (length log) ≤ at). grown_chain p.nodes log log' at e stands grows behind q)
+        (λ (behind : suc (length log) ≤ at). grown_chain log log' at e grows behind q)
         (cases_lt at (suc (length log)))
+
+    plain_stays : (at : ℕ) → Contains p.positions at → is_chain (entry_at log' at) ≡ false
+    plain_stays at among = let low = h.positions at among in ap is_chain (entry_stays log log' at grows (omega (arith, low, h.from))) ∙ h.plain at among
 
     pub problem_stays : IsProblem p log'
     problem_stays =
@@ -108,6 +101,7 @@ module _ (p : Problem) (log log' : List Entry) (grows : Grows log log') where
           positions = h.positions;
           begun = h.begun;
           from = omega (arith, h.from, longer);
+          plain = plain_stays;
           chains = chains_stay;
           separate = separate_stays;
           variables = All-weaker (λ x. x < (state_of p.nodes log).next) (λ x. x < (state_of p.nodes log').next) (λ x lt. omega (arith, lt, next)) p.variables h.variables;

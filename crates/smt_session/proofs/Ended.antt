@@ -1,7 +1,6 @@
 -- What the search of one cube came to.
-use Rattle.std.proofs.Common.{◌≡◌, ℕ, suc, ◌<◌, ◌^◌, Bool, false, List, ◌++◌, length, sym, ap, ◌∙◌, subst}
-use Rattle.std.specs.Prelude.{Option, None, Vec, MatchOption}
-use Rattle.std.specs.declared.alloc.Global.{Global}
+use Rattle.std.proofs.Common.{◌≡◌, ℕ, suc, ◌<◌, ◌^◌, Bool, true, false, List, ◌++◌, length, sym, ap, ◌∙◌, subst}
+use Rattle.std.specs.Prelude.{Option, MatchBool}
 use Rattle.std.proofs.lemmas.List.Elements.{Contains-append_right}
 use Rattle.cnf_base.specs.Literals.{Literal}
 use Rattle.smt_terms.specs.declared.node.Node.{Node}
@@ -17,22 +16,22 @@ use Rattle.cube_search.specs.declared.ends.End.TheVariants as end
 use Rattle.cube_search.specs.Running.{IsSearch}
 use Rattle.cube_search.specs.Ends.{IsEnd, IsSpentDiary}
 use Rattle.cube_search.proofs.Spent.{spent_from_start}
-use Rattle.smt_session.specs.Searched.{Problem, subject_in, IsProblem, IsSearching, IsEndOf, AreTried, problem_of, problem}
+use Rattle.smt_session.specs.Searched.{Problem, subject_in, IsProblem, IsSearching, IsEndOf, IsModelOf, AreTried, problem_of, problem}
 use Rattle.smt_session.proofs.Cubes.{against_given, problem_stays}
 
 -- an end of the search is one of the cube, where no other search finds a model
-end_of : (p : Problem) (log : List Entry) (condition : Type 0) (knows : ℕ → Type 0) (names : List ℕ) (cube : ℕ) (e : End) → IsProblem p log → condition → cube < 2 ^ length p.variables
-    → IsEnd condition (subject_in p log cube p.from) knows false p.positions names cube p.budget e → IsEndOf p log names cube e
-end_of p log condition knows names cube (end.Closed at) h holds lt q = record {
+end_of : (p : Problem) (log : List Entry) (condition : Type 0) (knows : ℕ → Type 0) (v : ℕ → Bool) (cube : ℕ) (e : End) → IsProblem p log → condition → cube < 2 ^ length p.variables
+    → IsEnd condition (subject_in p log cube p.from) knows false p.positions v cube p.budget e → IsEndOf p log v cube e
+end_of p log condition knows v cube (end.Closed at) h holds lt q = record {
   clause = q.0;
   found = q.1;
   closing = against_given (cube_of p.variables cube) p.assumed q.0 q.2;
 }
-end_of p log condition knows names cube (end.Model values) h holds lt q = record {
+end_of p log condition knows v cube end.Model h holds lt q = record {
   clauses = q.clauses;
   literals = λ l among. q.literals l (Contains-append_right (cube_of p.variables cube) p.assumed l among);
 }
-end_of p log condition knows names cube (end.Spent d) h holds lt q =
+end_of p log condition knows v cube (end.Spent d) h holds lt q =
     let diary : IsSpentDiary (subject_in p log cube p.from) knows p.budget d = q.1 holds in (
       q.0,
       record {
@@ -42,7 +41,7 @@ end_of p log condition knows names cube (end.Spent d) h holds lt q =
         spent = subst (λ n. IsSpent (subject_in p log n d.start) p.budget d.lines) (sym q.0) (spent_from_start (subject_in p log cube p.from) knows p.budget d h.begun h.chains diary);
       },
     )
-end_of p log condition knows names cube end.Stopped h holds lt q = let f : ⊥ = cc in absurd f
+end_of p log condition knows v cube end.Stopped h holds lt q = let f : ⊥ = cc in absurd f
 
 -- the search goes on about the same problem
 module _ (s s' : Search) (b b' : LogBoardValue) (known known' : ℕ → Type 0) (variables : List ℕ) (assumed : List Literal) (budget : ℕ)
@@ -62,13 +61,13 @@ module _ (s s' : Search) (b b' : LogBoardValue) (known known' : ℕ → Type 0) 
   still_searching h search = record { search = search; problem = later_problem h.problem }
 
   -- an end of the search is one of the cube
-  pub ended : (condition : Type 0) (knows : ℕ → Type 0) (cube : ℕ) (given : List Literal) (e : End) → given ≡ cube_of variables cube ++ assumed → IsProblem (problem_of s' b' variables assumed budget) b'.log.entries → condition → cube < 2 ^ length variables
-      → IsEnd condition (record { nodes = b'.terms.nodes; log = b'.log.entries; given = given; from = s.from }) knows false s.opening.items s'.names cube budget e → IsEndOf (problem_of s' b' variables assumed budget) b'.log.entries s'.names cube e
-  ended condition knows cube given e literals h holds lt q =
-      end_of (problem_of s' b' variables assumed budget) b'.log.entries condition knows s'.names cube e h holds lt
-      (subst (λ ps. IsEnd condition (record { nodes = b'.terms.nodes; log = b'.log.entries; given = cube_of variables cube ++ assumed; from = s'.from }) knows false ps s'.names cube budget e) (sym (ap (λ o. o.items) opening))
-      (subst (λ k. IsEnd condition (record { nodes = b'.terms.nodes; log = b'.log.entries; given = cube_of variables cube ++ assumed; from = k }) knows false s.opening.items s'.names cube budget e) (sym from)
-      (subst (λ g. IsEnd condition (record { nodes = b'.terms.nodes; log = b'.log.entries; given = g; from = s.from }) knows false s.opening.items s'.names cube budget e) literals q)))
+  pub ended : (condition : Type 0) (knows : ℕ → Type 0) (v : ℕ → Bool) (cube : ℕ) (given : List Literal) (e : End) → given ≡ cube_of variables cube ++ assumed → IsProblem (problem_of s' b' variables assumed budget) b'.log.entries → condition → cube < 2 ^ length variables
+      → IsEnd condition (record { nodes = b'.terms.nodes; log = b'.log.entries; given = given; from = s.from }) knows false s.opening.items v cube budget e → IsEndOf (problem_of s' b' variables assumed budget) b'.log.entries v cube e
+  ended condition knows v cube given e literals h holds lt q =
+      end_of (problem_of s' b' variables assumed budget) b'.log.entries condition knows v cube e h holds lt
+      (subst (λ ps. IsEnd condition (record { nodes = b'.terms.nodes; log = b'.log.entries; given = cube_of variables cube ++ assumed; from = s'.from }) knows false ps v cube budget e) (sym (ap (λ o. o.items) opening))
+      (subst (λ k. IsEnd condition (record { nodes = b'.terms.nodes; log = b'.log.entries; given = cube_of variables cube ++ assumed; from = k }) knows false s.opening.items v cube budget e) (sym from)
+      (subst (λ g. IsEnd condition (record { nodes = b'.terms.nodes; log = b'.log.entries; given = g; from = s.from }) knows false s.opening.items v cube budget e) literals q)))
 
 -- the problem of a search that was begun behind a log
 pub start_problem : (s : Search) (b : LogBoardValue) (nodes : List Node) (log : List Entry) (positions variables : List ℕ) (assumed : List Literal) (budget : ℕ) → b.terms.nodes ≡ nodes → s.opening.items ≡ positions → s.from ≡ suc (length log)
@@ -79,6 +78,11 @@ start_problem s b nodes log positions variables assumed budget e f g =
     ∙ ap (λ k. record { nodes = nodes; positions = positions; from = k; variables = variables; assumed = assumed; budget = budget }) g
 
 -- what the cubes came to, over the log that a board gave back
-pub tried_back : (p p' : Problem) (log log' : List Entry) (count : ℕ) (closed : List ℕ) (spent : Option Diary) (o : Option (Vec Bool Global)) (IsOther : Vec Bool Global → Type 0) → p ≡ p' → log' ≡ log → o ≡ None → MatchOption o (AreTried p log count closed spent) IsOther → AreTried p' log' count closed spent
-tried_back p p' log log' count closed spent o IsOther e f none h =
-    subst (λ q. AreTried q log' count closed spent) e (subst (λ l. AreTried p l count closed spent) (sym f) (subst (λ x. MatchOption x (AreTried p log count closed spent) IsOther) none h))
+pub tried_back : (p p' : Problem) (log log' : List Entry) (count : ℕ) (closed : List ℕ) (spent : Option Diary) (found : Bool) (IsOther : Type 0) → p ≡ p' → log' ≡ log → found ≡ false → MatchBool found IsOther (AreTried p log count closed spent) → AreTried p' log' count closed spent
+tried_back p p' log log' count closed spent found IsOther e f none h =
+    subst (λ q. AreTried q log' count closed spent) e (subst (λ l. AreTried p l count closed spent) (sym f) (subst (λ b. MatchBool b IsOther (AreTried p log count closed spent)) none h))
+
+-- and a model, over that log
+pub model_back : (p p' : Problem) (log log' : List Entry) (v : ℕ → Bool) (found : Bool) (IsOther : Type 0) → p ≡ p' → log' ≡ log → found ≡ true → MatchBool found (IsModelOf p log v) IsOther → IsModelOf p' log' v
+model_back p p' log log' v found IsOther e f one h =
+    subst (λ q. IsModelOf q log' v) e (subst (λ l. IsModelOf p l v) (sym f) (subst (λ b. MatchBool b (IsModelOf p log v) IsOther) one h))

@@ -1,15 +1,19 @@
 -- A session goes on over the terms and the assertions that a command leaves.
-use Rattle.std.proofs.Common.{◌≡◌, ℕ, List, [], ◌∷◌, refl, sym, subst, Some}
+use Rattle.std.proofs.Common.{◌≡◌, ℕ, false, List, [], ◌∷◌, ◌++◌, refl, sym, ◌∙◌, subst, Some}
 use Rattle.std.specs.Prelude.{slice_get}
+use Rattle.smt_terms.specs.declared.node.Node.{Node}
 use Rattle.script_state.specs.Readings.{Reading}
 use Rattle.script_state.specs.declared.answer.Answer.{Answer}
 use Rattle.script_state.specs.States.{StateValue, IsState}
 use Rattle.script_state.specs.Steps.{Step, step}
 use Rattle.script_state.proofs.Keeping.{GoesOn, step_goes_on}
+use Rattle.script_state.proofs.Theories.{theories_stay}
 use Rattle.proof_log.specs.declared.entry.Entry.{Entry}
 use Rattle.proof_log.specs.declared.entry.Entry.TheVariants as entry
 use Rattle.proof_log.specs.Faults.{MakesNoTerm}
 use Rattle.proof_log.specs.Stored.{LogValue, Stands}
+use Rattle.proof_log.specs.Words.{IsOfWords}
+use Rattle.proof_log.proofs.Leaves.{words_longer}
 use Rattle.proof_log.proofs.Standing.{stands_longer}
 use Rattle.accepted_proof.specs.Turns.{IsOfScript}
 use Rattle.smt_session.specs.Growing.{AreStepsFor}
@@ -18,12 +22,17 @@ use Rattle.smt_session.specs.Sessions.{IsSession}
 more_for : (old new : StateValue) → ((a t : ℕ) → slice_get old.scopes.terms a ≡ Some t → slice_get new.scopes.terms a ≡ Some t) → (e : Entry) → MakesNoTerm e → IsOfScript old e → IsOfScript new e
 more_for old new more (entry.Node n) k i = absurd (k refl)
 more_for old new more (entry.Selector a t) k i = more a t i
+more_for old new more (entry.Equal t u) k i = absurd i
+more_for old new more (entry.Lemma l) k i = absurd i
 more_for old new more e k i = tt
 
--- steps for a script are for one with more assertions
-pub more_steps : (old new : StateValue) (es : List Entry) → ((a t : ℕ) → slice_get old.scopes.terms a ≡ Some t → slice_get new.scopes.terms a ≡ Some t) → AreStepsFor old es → AreStepsFor new es
-more_steps old new [] more h = tt
-more_steps old new (e ∷ es) more h = ((h.0.0, more_for old new more e h.0.0 h.0.1), more_steps old new es more h.1)
+-- steps for a script are for one with more assertions and more terms
+pub more_steps : (old new : StateValue) (behind : List Node) (es : List Entry) → new.terms.nodes ≡ old.terms.nodes ++ behind → ((a t : ℕ) → slice_get old.scopes.terms a ≡ Some t → slice_get new.scopes.terms a ≡ Some t) → AreStepsFor old es → AreStepsFor new es
+more_steps old new behind [] terms more h = tt
+more_steps old new behind (e ∷ es) terms more h = (
+  (h.0.0, more_for old new more e h.0.0 h.0.1, subst (λ ns. IsOfWords ns e) (sym terms) (words_longer old.terms.nodes behind e h.0.2)),
+  more_steps old new behind es terms more h.1,
+)
 
 goes_on : (old new : StateValue) (a : Answer) (es : Reading) → IsState old → ◌≡◌ {A = Step} (step old es) (a, new) → GoesOn old new
 goes_on old new a es is e = subst (λ (to : Step). GoesOn old to.1) e (step_goes_on old is es)
@@ -34,6 +43,7 @@ still_session old new log a es h e =
     let g = goes_on old new a es h.state e in
     record {
       state = g.state;
+      theories = subst (λ (to : Step). to.1.symbols.theories ≡ false) e (theories_stay old es ∙ h.theories);
       stands = subst (λ ns. Stands ns log) (sym g.keeps.nodes) (stands_longer old.terms.nodes g.keeps.behind log h.stands);
-      each = more_steps old new log.entries g.keeps.assertions h.each;
+      each = more_steps old new g.keeps.behind log.entries g.keeps.nodes g.keeps.assertions h.each;
     }

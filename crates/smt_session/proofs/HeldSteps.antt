@@ -1,7 +1,7 @@
 -- The positions of the steps of terms and of selectors, one after the other.
 use Rattle.std.proofs.Common.{◌≡◌, ℕ, ◌+◌, ◌<◌, ◌≤◌, List, [], ◌∷◌, ◌++◌, length, get_or, take, Option, Some, refl, sym, ap, ◌∙◌, subst, inl, inr}
 use Rattle.std.specs.Prelude.{All, Contains, IsSome}
-use Rattle.std.proofs.lemmas.List.Elements.{All-append, All-more, All-push, All-weaker, Contains-append_left, Contains-append_right, Contains-get_or, Contains-push}
+use Rattle.std.proofs.lemmas.List.Elements.{All-append, All-more, All-nil, All-push, All-weaker, Contains-append_left, Contains-append_right, Contains-get_or, Contains-push}
 use Rattle.std.proofs.lemmas.List.{take_all}
 use Rattle.smt_terms.specs.declared.node.Node.{Node}
 use Rattle.smt_terms.specs.Bits.{bits_in}
@@ -58,17 +58,17 @@ assertion_only log live positions new i p a o lt at e found place h =
 pub all_of : {A : Type 0} (P : A → Type 0) (xs : List A) (i : ℕ) → length xs ≤ i → All P (take i xs) → All P xs
 all_of P xs i le h = subst (All P) (take_all i xs le) h
 
--- the positions of terms, of assertions, and position 0
-pub positions_all : (log : LogValue) (reached : List ℕ) (live : List Live) (a b both all : List ℕ) → All (IsHeldTerm log a) reached → All (IsHeldAssertion log b) live → All (IsTermStep log reached) a → All (IsAssertionStep log live) b → both ≡ a ++ b → all ≡ both ++ 0 ∷ [] → ArePositions log reached live all
-positions_all log reached live a b both all h k only others e f =
-    let whole : all ≡ (a ++ b) ++ 0 ∷ [] = f ∙ ap (λ l. l ++ 0 ∷ []) e in
+-- position 0, and the positions of terms and of assertions
+pub positions_all : (log : LogValue) (reached : List ℕ) (live : List Live) (a b first both all : List ℕ) → All (IsHeldTerm log a) reached → All (IsHeldAssertion log b) live → All (IsTermStep log reached) a → All (IsAssertionStep log live) b → first ≡ 0 ∷ [] → both ≡ first ++ a → all ≡ both ++ b → ArePositions log reached live all
+positions_all log reached live a b first both all h k only others begun e f =
+    let whole : all ≡ ((0 ∷ []) ++ a) ++ b = f ∙ ap (λ l. l ++ b) (e ∙ ap (λ l. l ++ a) begun) in
     subst (ArePositions log reached live) (sym whole) (record {
-      first = Contains-push (a ++ b) 0;
-      terms = All-weaker (IsHeldTerm log a) (IsHeldTerm log ((a ++ b) ++ 0 ∷ [])) (λ t. term_more log a ((a ++ b) ++ 0 ∷ []) t (λ p q. Contains-append_left (a ++ b) (0 ∷ []) p (Contains-append_left a b p q))) reached h;
-      selectors = All-weaker (IsHeldAssertion log b) (IsHeldAssertion log ((a ++ b) ++ 0 ∷ [])) (λ x. assertion_more log b ((a ++ b) ++ 0 ∷ []) x (λ p q. Contains-append_left (a ++ b) (0 ∷ []) p (Contains-append_right a b p q))) live k;
-      only = All-push (IsStepOf log reached live) (a ++ b) 0
-          (All-append (IsStepOf log reached live) a b
-          (All-weaker (IsTermStep log reached) (IsStepOf log reached live) (λ p q. inr (inl q)) a only)
-          (All-weaker (IsAssertionStep log live) (IsStepOf log reached live) (λ p q. inr (inr q)) b others))
-          (inl refl);
+      first = Contains-append_left ((0 ∷ []) ++ a) b 0 (Contains-append_left (0 ∷ []) a 0 (Contains-push [] 0));
+      terms = All-weaker (IsHeldTerm log a) (IsHeldTerm log (((0 ∷ []) ++ a) ++ b)) (λ t. term_more log a (((0 ∷ []) ++ a) ++ b) t (λ p q. Contains-append_left ((0 ∷ []) ++ a) b p (Contains-append_right (0 ∷ []) a p q))) reached h;
+      selectors = All-weaker (IsHeldAssertion log b) (IsHeldAssertion log (((0 ∷ []) ++ a) ++ b)) (λ x. assertion_more log b (((0 ∷ []) ++ a) ++ b) x (λ p q. Contains-append_right ((0 ∷ []) ++ a) b p q)) live k;
+      only = All-append (IsStepOf log reached live) ((0 ∷ []) ++ a) b
+          (All-append (IsStepOf log reached live) (0 ∷ []) a
+          (All-push (IsStepOf log reached live) [] 0 (All-nil _) (inl refl))
+          (All-weaker (IsTermStep log reached) (IsStepOf log reached live) (λ p q. inr (inl q)) a only))
+          (All-weaker (IsAssertionStep log live) (IsStepOf log reached live) (λ p q. inr (inr q)) b others);
     })

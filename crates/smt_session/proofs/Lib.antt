@@ -4,7 +4,7 @@ pub mod HeldSteps
 pub mod Validity
 pub mod Cubes
 pub mod Ended
-pub mod Reusing
+pub mod Resting
 pub mod Roots
 pub mod Satisfied
 pub mod Modeling

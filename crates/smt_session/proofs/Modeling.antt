@@ -1,6 +1,6 @@
 -- The values of declarations are a model of the live assertions and the assumptions.
-use Rattle.std.proofs.Common.{◌≡◌, ℕ, zero, suc, ◌+◌, ◌^◌, ◌<◌, ◌≤◌, Bool, true, false, List, [], ◌∷◌, ◌++◌, length, get_or, map, take, Some, None, Ok, refl, sym, ap, ◌∙◌, subst, arith}
-use Rattle.std.specs.Prelude.{◌==◌, ◌||◌, not, if◌then◌else◌, All, Contains, Option, IsSome, position, slice_get}
+use Rattle.std.proofs.Common.{◌≡◌, ℕ, zero, suc, ◌+◌, ◌^◌, ◌<◌, Bool, true, false, List, [], ◌∷◌, ◌++◌, length, get_or, map, take, Some, None, Ok, refl, sym, ap, ◌∙◌, subst, arith}
+use Rattle.std.specs.Prelude.{◌==◌, ◌||◌, if◌then◌else◌, All, Contains, Option, IsSome, position, slice_get}
 use Rattle.std.specs.List.{AllByRecursion}
 use Rattle.std.proofs.lemmas.Bool.{eqb-true, eq-eqb}
 use Rattle.std.proofs.lemmas.List.{take_more, map_push}
@@ -10,6 +10,7 @@ use Rattle.cnf_base.specs.Literals.{Literal}
 use Rattle.cnf_base.specs.Clauses.{lit_true, number}
 use Rattle.cnf_base.proofs.Numbers.{number_lt}
 use Rattle.cnf_base.proofs.Lists.{each_append}
+use Rattle.cnf_base.proofs.Options.{some_value}
 use Rattle.smt_words.specs.Words.{WordValue, word}
 use Rattle.smt_terms.specs.declared.sort.Sort.{Sort}
 use Rattle.smt_terms.specs.declared.sort.Sort.TheVariants as sort
@@ -34,16 +35,19 @@ use Rattle.smt_build.specs.declared.symbols.LiveName.{LiveName}
 use Rattle.smt_build.specs.Scoped.{is_live, is_over}
 use Rattle.smt_build.proofs.ScopedValues.{AgreeOn, value_is_over}
 use Rattle.smt_terms.specs.Ranks as ranks
-use Rattle.script_state.specs.States.{StateValue, IsState, assumptions, roots}
-use Rattle.proof_log.specs.Logs.{plain_width, constant_width}
+use Rattle.script_state.specs.States.{StateValue, IsState, IsPlainConstant, assumptions, roots}
+use Rattle.script_state.proofs.Theories.{word_constants}
+use Rattle.proof_log.specs.declared.entry.Entry.TheVariants as step
+use Rattle.proof_log.specs.Logs.{plain_width, constant_width, entry_at}
 use Rattle.proof_log.specs.Stored.{LogValue, Stands}
+use Rattle.proof_log.specs.Words.{IsOfWords}
 use Rattle.proof_log.proofs.Assigned.{terms_valued}
+use Rattle.proof_log.proofs.Leaves.{word_at}
 use Rattle.proof_log.proofs.Settled.{stands_settled}
 use Rattle.proof_text.specs.Records.{written_value, AreWritten}
 use Rattle.proof_text.specs.declared.record.Record.TheVariants.{Sat}
 use Rattle.accepted_proof.specs.Models.{IsModel, value_for, interpretation_of, IsOfSignature, IsWrittenModel}
-use Rattle.local_names.specs.Names.{AreNames, global, number_of, global_values}
-use Rattle.local_names.proofs.Numbers.{literal_value, value_without}
+use Rattle.accepted_proof.proofs.Constants.{to_constant}
 use Rattle.smt_session.specs.Searched.{AreSatisfied, HasTrueBit, HasTrueSelector}
 use Rattle.smt_session.proofs.Roots.{roots_live, roots_assumed}
 use Rattle.smt_session.specs.Modeled.{IsValueIn, IsDeclaredValue, AreDeclaredValues}
@@ -94,6 +98,7 @@ pub unset_value : (nodes : List Node) (log : LogValue) (v : ℕ → Bool) (d : �
     → ((t : ℕ) (b : List Literal) → (node_at nodes t).op ≡ Constant d s → bits_in log.bits t ≡ Some b → ⊥) → IsValueIn nodes log v d s x
 unset_value nodes log v d s x plain means of_sort none = record {
   sorted = subst (HasSort s) (sym means) (default_has_sort s);
+  kind = of_sort;
   written = written_of s x plain of_sort;
   bits = λ t b e q. absurd (none t b e q);
 }
@@ -145,6 +150,7 @@ truth_value v log f d s u row l b terms stands found q bool at means =
     let only = one_literal row l (truth_is s (length row) bool (constant_row v log d s u row terms stands found q)) at in
     record {
       sorted = subst (λ r. HasSort r (of.VBool b)) (sym bool) (b, refl);
+      kind = bool;
       written = refl;
       bits = λ t c e p. subst (λ r. AreBitsOf f r c (of.VBool b)) (sym bool)
           (l, sym (same_bits_there log t u c row (same_constant v log d s u terms stands found t c e p) q p) ∙ only, ap of.VBool means);
@@ -158,6 +164,7 @@ word_value v log f d s n u row w terms stands found q is means =
     let own : meaning (held.Word w) ≡ of.VWord n (number f row) = ap (λ x. of.VWord x.width x.value) means ∙ ap (λ k. of.VWord k (number f row)) width in
     record {
       sorted = subst (λ r. HasSort r (meaning (held.Word w))) (sym is) (number f row, own, subst (λ k. number f row < 2 ^ k) width (number_lt f row));
+      kind = is ∙ ap sort.Word (sym width) ∙ sym (ap (λ (x : WordValue). sort.Word x.width) means);
       written = refl;
       bits = λ t c e p.
           (let same : row ≡ c = same_bits_there log t u c row (same_constant v log d s u terms stands found t c e p) q p in
@@ -188,34 +195,35 @@ items_more s log v live items l x h k = record {
 }
 
 -- a live declaration has its signature
-pub live_declared : (s : StateValue) (k : ℕ) (l : LiveName) → IsState s → slice_get s.symbols.live k ≡ Some l → (g : Signature) × (slice_get s.symbols.signatures l.declaration ≡ Some g) × (g.args ≡ []) × (ranks.is_plain g.value ≡ true) × IsSort g.value
-live_declared s k l h e =
+pub live_declared : (s : StateValue) (k : ℕ) (l : LiveName) → IsState s → s.symbols.theories ≡ false → slice_get s.symbols.live k ≡ Some l → (g : Signature) × (slice_get s.symbols.signatures l.declaration ≡ Some g) × (g.args ≡ []) × (ranks.is_plain g.value ≡ true) × IsSort g.value
+live_declared s k l h words e =
     let none : Signature = constant_signature sort.Bool in
     let within = slice_get_within s.symbols.live k l e in
     let item : Some (get_or s.symbols.live k l) ≡ Some l = sym (slice_get-get_or s.symbols.live k l within) ∙ e in
     let own : get_or s.symbols.live k l ≡ l = cc in
     let lt : l.declaration < length s.symbols.signatures = subst (λ (x : LiveName). x.declaration < length s.symbols.signatures) own (h.live.made k l within) in
-    let plain = h.constants l.declaration (constant_signature sort.Bool) lt in
+    let plain = word_constants s h words l.declaration (constant_signature sort.Bool) lt in
     (get_or s.symbols.signatures l.declaration none, slice_get-get_or s.symbols.signatures l.declaration none lt, plain.constant, plain.sort, plain.widths)
 
 -- the value of the next live declaration
-declared_value : (s : StateValue) (log : LogValue) (v : ℕ → Bool) (k : ℕ) (l : LiveName) (g : Signature) (x : Value) → IsState s → slice_get s.symbols.live k ≡ Some l
+declared_value : (s : StateValue) (log : LogValue) (v : ℕ → Bool) (k : ℕ) (l : LiveName) (g : Signature) (x : Value) → IsState s → s.symbols.theories ≡ false → slice_get s.symbols.live k ≡ Some l
     → slice_get s.symbols.signatures l.declaration ≡ Some g → IsValueIn s.terms.nodes log v l.declaration g.value x → IsDeclaredValue s.symbols.signatures s.terms.nodes log v (l.declaration, x)
-declared_value s log v k l g x state e declared is =
-    let plain = live_declared s k l state e in
+declared_value s log v k l g x state words e declared is =
+    let plain = live_declared s k l state words e in
     let same : Some plain.0 ≡ Some g = sym plain.1 ∙ declared in
     let own : plain.0 ≡ g = cc in
-    record { signature = g; declared = declared; constant = ap (λ y. y.args) (sym own) ∙ plain.2; value = is }
+    let constant : IsPlainConstant plain.0 = record { constant = plain.2; sort = plain.3; widths = plain.4 } in
+    record { signature = g; declared = declared; constant = subst IsPlainConstant own constant; value = is }
 
-pub items_next : (s : StateValue) (log : LogValue) (v : ℕ → Bool) (live : List LiveName) (items : List (ℕ × Value)) (k : ℕ) (l : LiveName) (g : Signature) (x : Value) → IsState s → live ≡ s.symbols.live → k < length live → l ≡ get_or live k l
+pub items_next : (s : StateValue) (log : LogValue) (v : ℕ → Bool) (live : List LiveName) (items : List (ℕ × Value)) (k : ℕ) (l : LiveName) (g : Signature) (x : Value) → IsState s → s.symbols.theories ≡ false → live ≡ s.symbols.live → k < length live → l ≡ get_or live k l
     → slice_get s.symbols.signatures l.declaration ≡ Some g → IsValueIn s.terms.nodes log v l.declaration g.value x → AreDeclaredValues s log v (take k s.symbols.live) items → AreDeclaredValues s log v (take (k + 1) s.symbols.live) (items ++ (l.declaration, x) ∷ [])
-items_next s log v live items k l g x state same lt at declared is h =
+items_next s log v live items k l g x state words same lt at declared is h =
     let within : k < length s.symbols.live = subst (λ ls. k < length ls) same lt in
     let item : l ≡ get_or s.symbols.live k l = subst (λ ls. l ≡ get_or ls k l) same at in
     let found = slice_get_read s.symbols.live (length s.symbols.live) k l refl within item in
     let front : take (k + 1) s.symbols.live ≡ take k s.symbols.live ++ l ∷ [] = take_more s.symbols.live k l within ∙ ap (λ y. take k s.symbols.live ++ y ∷ []) (sym item) in
     subst (λ ls. AreDeclaredValues s log v ls (items ++ (l.declaration, x) ∷ [])) (sym front)
-    (items_more s log v (take k s.symbols.live) items l x h (declared_value s log v k l g x state found declared is))
+    (items_more s log v (take k s.symbols.live) items l x h (declared_value s log v k l g x state words found declared is))
 
 -- ---- the model
 
@@ -273,7 +281,8 @@ value_given v log nodes d (Some g) = value_at v log g.value (position (same_node
 
 -- The values of live declarations, and for each other declaration the one that the assignment gives: under it each assertion
 -- that has a true selector is true, whether its declarations are live or not.
-module _ (s : StateValue) (log : LogValue) (v : ℕ → Bool) (values : List (ℕ × Value)) (state : IsState s) (terms : AreTerms s.terms) (stands : Stands s.terms.nodes log) (items : AreDeclaredValues s log v s.symbols.live values) where
+module _ (s : StateValue) (log : LogValue) (v : ℕ → Bool) (values : List (ℕ × Value)) (state : IsState s) (terms : AreTerms s.terms) (stands : Stands s.terms.nodes log) (words : AllByRecursion (IsOfWords s.terms.nodes) log.entries)
+    (items : AreDeclaredValues s log v s.symbols.live values) where
   abbrev constant_by : Bool → ℕ → of.Value
   constant_by true d = constant_of (value_for values d)
   constant_by false d = value_given v log s.terms.nodes d (slice_get s.symbols.signatures d)
@@ -328,6 +337,12 @@ module _ (s : StateValue) (log : LogValue) (v : ℕ → Bool) (values : List (�
       let bits : AreBitsOf v c.1 b (read_at c.1 (constant_by (is_live s.symbols.live c.0) c.0)) = either_bits c.0 t n c.1 b c.2 c.3 wide declared e (is_live s.symbols.live c.0) refl in
       subst (λ r. AreBitsOf v r b (value given nodes t)) (sym own.1) (subst (AreBitsOf v c.1 b) (sym reads) bits)
 
+  -- so are the bits of each leaf, since it is a declared constant
+  leaf_bits : (t p : ℕ) (b : List Literal) → entry_at log.entries p ≡ Some (step.Leaf t) → bits_in log.bits t ≡ Some b → AreBitsOf v (sort_of s.terms.nodes t) b (value given s.terms.nodes t)
+  leaf_bits t p b there e =
+      let width = some_value (constant_width (node_at s.terms.nodes t).op) (word_at s.terms.nodes log.entries p (step.Leaf t) words there) in
+      constant_bits t width.0 b width.1 e
+
   -- they agree on what is live
   agrees : AgreeOn s.symbols.live given (interpretation_of values)
   agrees = record { constants = λ d live. ap (λ l. constant_by l d) live; functions = λ d vs live. refl }
@@ -351,7 +366,7 @@ module _ (s : StateValue) (log : LogValue) (v : ℕ → Bool) (values : List (�
         first = satisfied.first;
         closed = satisfied.closed;
         steps = satisfied.terms;
-        constants = λ t n b among w e. constant_bits t n b w e;
+        leaves = λ t p b among there e. leaf_bits t p b there e;
       }) in
       record {
         asserted = λ k a lt.
@@ -371,7 +386,7 @@ module _ (s : StateValue) (log : LogValue) (v : ℕ → Bool) (values : List (�
 
   sorted_of : (xs : List (ℕ × Value)) → AllByRecursion (IsDeclaredValue s.symbols.signatures s.terms.nodes log v) xs → All (λ (p : ℕ × Value). IsOfSignature p.1 (slice_get s.symbols.signatures p.0)) xs
   sorted_of [] h k d lt = absurd (omega (arith, lt))
-  sorted_of (p ∷ ps) h zero d lt = subst (IsOfSignature p.1) (sym h.0.declared) (h.0.constant, h.0.value.sorted)
+  sorted_of (p ∷ ps) h zero d lt = subst (IsOfSignature p.1) (sym h.0.declared) (to_constant h.0.signature p.1 h.0.constant h.0.value.sorted h.0.value.kind)
   sorted_of (p ∷ ps) h (suc k) d lt = sorted_of ps h.1 k d (omega (arith, lt))
 
   written_all : (xs : List (ℕ × Value)) → AllByRecursion (IsDeclaredValue s.symbols.signatures s.terms.nodes log v) xs → AreWritten (Sat xs)
@@ -380,15 +395,3 @@ module _ (s : StateValue) (log : LogValue) (v : ℕ → Bool) (values : List (�
 
   pub written_model : AreSatisfied s.terms.nodes log (roots s) s.scopes.live v → All (HasTrueSelector s.terms.nodes log v) s.scopes.live → All (HasTrueBit log v) (assumptions s) → AreWritten (Sat values) × IsWrittenModel s values
   written_model satisfied selected assumed = (written_all values items.each, record { listed = items.listed; sorted = sorted_of values items.each; model = model_of satisfied selected assumed })
-
--- ---- values of literals under the numbers of their variables
-
-pub literal_named : (names : List ℕ) (v : ℕ → Bool) (l near : Literal) → AreNames names → near.variable < length names → global names near ≡ l → lit_true v near ≡ lit_true (global_values names v) l
-literal_named names v l near are lt e = sym (literal_value names v near are.once lt) ∙ ap (lit_true (global_values names v)) e
-
-pub literal_unnamed : (names : List ℕ) (v : ℕ → Bool) (l : Literal) → length names ≤ number_of names l.variable → not l.positive ≡ lit_true (global_values names v) l
-literal_unnamed names v l le = go l.positive
-  where
-    go : (b : Bool) → not b ≡ (if b then global_values names v l.variable else not (global_values names v l.variable))
-    go true = sym (value_without names v l.variable le)
-    go false = sym (ap not (value_without names v l.variable le))

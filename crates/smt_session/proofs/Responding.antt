@@ -115,8 +115,9 @@ check_keeps limits s new_state old new shown h checked e =
     subst (λ q. IsSession q new) (sym e)
     (record {
       state = standing_state s (Some (verdict_of shown)) h.state;
+      theories = h.theories;
       stands = checked.grows.stands;
-      each = more_steps s (concluded s (verdict_of shown)) new.entries (λ a t k. k) (grown_steps s old new h.each checked.grows);
+      each = more_steps s (concluded s (verdict_of shown)) [] new.entries (sym (append-nil s.terms.nodes)) (λ a t k. k) (grown_steps s old new h.each checked.grows);
     })
 
 pub is_answered : (limits : Limits) (chunk : Chunk) (s mid last final : StateValue) (l new : LogValue) (before now : Option Record) (a : Answer) (es : Reading) (r : Response) (w x : Option (List ℕ)) → ReadsAs chunk es → ◌≡◌ {A = Step} (step s es) (a, mid) → Responds limits chunk.line a mid last l new before now r w x

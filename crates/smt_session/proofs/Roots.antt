@@ -1,10 +1,11 @@
 -- The terms of live assertions, and of assumptions.
-use Rattle.std.proofs.Common.{ℕ, map}
+use Rattle.std.proofs.Common.{◌≡◌, ℕ, false, map}
 use Rattle.std.specs.Prelude.{All}
-use Rattle.std.proofs.lemmas.List.Elements.{All-from_recursion, recursion_from_All, All-weaker}
+use Rattle.std.proofs.lemmas.List.Elements.{All-from_recursion, recursion_from_All}
 use Rattle.scope_selectors.specs.declared.live.Live.{Live}
 use Rattle.script_state.specs.declared.answer.Asked.{Asked}
-use Rattle.script_state.specs.States.{StateValue, IsState, IsAssumption, assumptions, roots}
+use Rattle.script_state.specs.States.{StateValue, IsState, assumptions, roots}
+use Rattle.script_state.proofs.Theories.{word_terms, word_assumptions}
 use Rattle.smt_session.specs.Reaching.{IsPlainTerm}
 use Rattle.cnf_base.proofs.Lists.{each_append, each_front, each_behind, each_map, each_mapped}
 
@@ -29,7 +30,7 @@ pub roots_assumed : (P : ℕ → Type 0) (s : StateValue) → All P (roots s) �
 roots_assumed P s h = All-from_recursion (λ (a : Asked). P a.term) (assumptions s) (each_mapped term_asked P (assumptions s) (each_behind P (map term_of s.scopes.live) (map term_asked (assumptions s)) (recursion_from_All P (roots s) h)))
 
 -- they are plain
-pub roots_plain : (s : StateValue) → IsState s → All (IsPlainTerm s.terms.nodes) (roots s)
-roots_plain s is =
-    roots_all (IsPlainTerm s.terms.nodes) s (λ k a lt. (is.held k a lt, is.plain k a lt))
-    (All-weaker (IsAssumption s.terms.nodes s.symbols.live) (λ (a : Asked). IsPlainTerm s.terms.nodes a.term) (λ a h. (h.held, h.plain)) (assumptions s) is.assumed)
+pub roots_plain : (s : StateValue) → IsState s → s.symbols.theories ≡ false → All (IsPlainTerm s.terms.nodes) (roots s)
+roots_plain s is words =
+    roots_all (IsPlainTerm s.terms.nodes) s (λ k a lt. (is.held k a lt, word_terms s is words k a lt))
+    (λ k a lt. ((is.assumed k a lt).held, word_assumptions s is words k a lt))

@@ -1,5 +1,5 @@
 -- A search over the positions that live assertions need finds a model of them.
-use Rattle.std.proofs.Common.{◌≡◌, ℕ, Bool, List, [], ◌∷◌, get_or, map, Some, sym, ◌∙◌, subst}
+use Rattle.std.proofs.Common.{◌≡◌, ℕ, Bool, false, List, [], ◌∷◌, get_or, map, Some, sym, ◌∙◌, subst}
 use Rattle.std.specs.Prelude.{All, Contains, IsSome}
 use Rattle.std.proofs.lemmas.List.Elements.{All-contains, All-nil, All-cons}
 use Rattle.cnf_base.specs.Literals.{Literal}
@@ -42,8 +42,8 @@ satisfied nodes old new from live positions v g h holds = record {
 
 -- ---- the parts of a check
 
-pub roots_found : (s : StateValue) (found : List ℕ) → IsState s → found ≡ roots s → All (IsPlainTerm s.terms.nodes) found
-roots_found s found is e = subst (All (IsPlainTerm s.terms.nodes)) (sym e) (roots_plain s is)
+pub roots_found : (s : StateValue) (found : List ℕ) → IsState s → s.symbols.theories ≡ false → found ≡ roots s → All (IsPlainTerm s.terms.nodes) found
+roots_found s found is words e = subst (All (IsPlainTerm s.terms.nodes)) (sym e) (roots_plain s is words)
 
 -- what is given has bits where all that is reached has
 pub root_bits : (s : StateValue) (log : LogValue) (from reached : List ℕ) → from ≡ roots s → All (Contains reached) from → All (HasBits log) reached → All (HasBits log) (roots s)

@@ -1,6 +1,7 @@
 -- Bits and selectors stay where a log grows.
 use Rattle.std.proofs.Common.{◌≡◌, ℕ, zero, suc, ◌+◌, ◌<◌, false, take, ⊎_elim, List, [], ◌∷◌, ◌++◌, length, get_or, Option, Some, None, refl, sym, ap, ◌∙◌, subst, append_assoc, append-nil, arith}
 use Rattle.std.specs.Prelude.{map, IsSome, is_some, All, Contains}
+use Rattle.std.specs.List.{AllByRecursion}
 use Rattle.std.specs.Option.{option_map}
 use Rattle.std.proofs.lemmas.Bool.{cases_lt}
 use Rattle.std.proofs.lemmas.List.{take_more, map_push}
@@ -17,6 +18,7 @@ use Rattle.proof_log.specs.declared.entry.Entry.{Entry}
 use Rattle.proof_log.specs.Logs.{state_of, IsLog}
 use Rattle.proof_log.specs.Meanings.{StaysLog}
 use Rattle.proof_log.specs.Stored.{LogValue, Stands, IsPushed, selector_in, literal_of}
+use Rattle.proof_log.specs.Words.{IsOfWords}
 use Rattle.proof_log.proofs.Standing.{stands_over, some_literal}
 use Rattle.proof_log.proofs.Staying.{log_stays}
 use Rattle.smt_session.specs.Growing.{IsStepFor, AreStepsFor, Grows, HasBits, AreSelectors}
@@ -42,6 +44,11 @@ grows_more s a b c g h = record {
   each = each_append (IsStepFor s) g.added h.added g.each h.each;
   stands = h.stands;
 }
+
+-- each step is of Bools and words
+pub words_of : (s : StateValue) (es : List Entry) → AreStepsFor s es → AllByRecursion (IsOfWords s.terms.nodes) es
+words_of s [] h = tt
+words_of s (e ∷ es) h = (h.0.2, words_of s es h.1)
 
 -- ---- staying
 

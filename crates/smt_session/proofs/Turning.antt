@@ -17,6 +17,7 @@ use Rattle.proof_log.specs.Logs.{Asserted, LogState, start, clause_at, IsStep, a
 use Rattle.proof_log.specs.Faults.{IsValid, MakesNoTerm}
 use Rattle.proof_log.specs.Stored.{LogValue, Stands, selector_in}
 use Rattle.proof_log.specs.Boards.{IsOfSearch, Grows as Prolongs}
+use Rattle.proof_log.specs.Words.{IsOfWords}
 use Rattle.proof_log.proofs.Growth.{search_step}
 use Rattle.proof_log.proofs.Ordered.{log_is_ordered}
 use Rattle.proof_log.proofs.Standing.{stands_over, some_literal}
@@ -31,12 +32,12 @@ use Rattle.smt_session.proofs.Giving.{bit_of}
 
 -- ---- the steps
 
-lined : (nodes : List Node) (s : LogState) (e : Entry) → MakesNoTerm e → IsStep nodes s e → IsSome (entry_line e)
-lined nodes s (step.Node n) h i = absurd (h refl)
-lined nodes s (step.Rewrite r) h i = absurd i
-lined nodes s (step.Equal t u) h i = absurd i
-lined nodes s (step.Lemma l) h i = absurd i
-lined nodes s e h i = refl
+lined : (nodes : List Node) (s : LogState) (e : Entry) → MakesNoTerm e → IsOfWords nodes e → IsStep nodes s e → IsSome (entry_line e)
+lined nodes s (step.Node n) h w i = absurd (h refl)
+lined nodes s (step.Rewrite r) h w i = absurd i
+lined nodes s (step.Equal t u) h w i = absurd w
+lined nodes s (step.Lemma l) h w i = absurd w
+lined nodes s e h w i = refl
 
 valid : (v : TermsValue) (s : LogState) (e : Entry) → MakesNoTerm e → IsStep v.nodes s e → IsValid v s e
 valid v s (step.Node n) h i = absurd (h refl)
@@ -48,7 +49,7 @@ same_state s e h = refl
 
 all_lined : (s : StateValue) (r : LogState) (es : List Entry) → AreStepsFor s es → AreSteps s.terms.nodes r es → AreLined es
 all_lined s r [] h i = tt
-all_lined s r (e ∷ es) h i = (lined s.terms.nodes r e h.0.0 i.0, all_lined s (after s.terms.nodes r e) es h.1 i.1)
+all_lined s r (e ∷ es) h i = (lined s.terms.nodes r e h.0.0 h.0.2 i.0, all_lined s (after s.terms.nodes r e) es h.1 i.1)
 
 -- each step of a log for the script has a line
 pub log_lined : (s : StateValue) (log : LogValue) → AreStepsFor s log.entries → Stands s.terms.nodes log → AreLined log.entries
@@ -63,7 +64,7 @@ steps_of : (s : StateValue) (log es : List Entry) → AreSteps s.terms.nodes (st
 steps_of s log [] i h = tt
 steps_of s log (e ∷ es) i h =
     let rest = steps_of s (log ++ e ∷ []) es (subst (λ r. AreSteps s.terms.nodes r es) (sym (state_from-append s.terms.nodes start log (e ∷ []))) i.1) h.1 in
-    (valid s.terms (state_of s.terms.nodes log) e h.0.0 i.0, h.0.1, lined s.terms.nodes (state_of s.terms.nodes log) e h.0.0 i.0, subst (λ r. AreStepsOf r (log ++ e ∷ []) es) (sym (same_state s e h.0.0)) rest)
+    (valid s.terms (state_of s.terms.nodes log) e h.0.0 i.0, h.0.1, lined s.terms.nodes (state_of s.terms.nodes log) e h.0.0 h.0.2 i.0, subst (λ r. AreStepsOf r (log ++ e ∷ []) es) (sym (same_state s e h.0.0)) rest)
 
 pub are_steps : (s : StateValue) (old new : LogValue) (g : Grows s old new) → AreStepsOf s old.entries g.added
 are_steps s old new g =
@@ -130,9 +131,8 @@ true_selectors s l v (a ∷ live) (x ∷ given) listed h each known e all =
 
 search_steps : (s : StateValue) (es : List Entry) → AllByRecursion IsOfSearch es → AreStepsFor s es
 search_steps s [] h = tt
-search_steps s (step.Node n ∷ es) h = let q = h.0 in let f : ⊥ = cc in absurd f
-search_steps s (step.Selector a t ∷ es) h = let q = h.0 in let f : ⊥ = cc in absurd f
-search_steps s (e ∷ es) h = ((search_step e h.0, tt), search_steps s es h.1)
+search_steps s (step.Chain c hints ∷ es) h = ((search_step (step.Chain c hints) h.0, tt, tt), search_steps s es h.1)
+search_steps s (e ∷ es) h = let q = h.0 in let f : ⊥ = cc in absurd f
 
 -- a log that searches added to
 pub grows_by_searches : (s : StateValue) (old new : LogValue) → Prolongs old.entries new.entries → Stands s.terms.nodes new → Grows s old new

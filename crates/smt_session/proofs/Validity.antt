@@ -24,6 +24,7 @@ use Rattle.proof_log.specs.declared.entry.Entry.TheVariants as step
 use Rattle.proof_log.specs.Logs.{start, plain_width, constant_width, leaf_after, block_after, selector_after, state_of}
 use Rattle.proof_log.specs.Faults.{IsValid}
 use Rattle.proof_log.specs.Stored.{LogValue, Stands, IsPushed, selector_in, literal_of}
+use Rattle.proof_log.proofs.Leaves.{leaf_of}
 use Rattle.proof_log.proofs.Settled.{stands_settled}
 use Rattle.proof_log.proofs.Standing.{stands_over, no_literal, value_here}
 use Rattle.proof_log.proofs.Staying.{state_from-append}
@@ -74,10 +75,7 @@ module _ (nodes : List Node) (l : LogValue) (all : IsTermList nodes) (h : Stands
 -- ---- steps
 
 pub leaf_valid : (v : TermsValue) (l : LogValue) (t : ℕ) → Stands v.nodes l → t < length v.nodes → bits_in l.bits t ≡ None → IsSome (constant_width (node_at v.nodes t).op) → IsValid v (state_of v.nodes l.entries) (step.Leaf t)
-leaf_valid v l t h lt new w =
-    let k = stands_over v.nodes l h in
-    let n = some_value _ w in
-    record { term = lt; new = sym (k.bits t) ∙ new; width = n.0; constant = n.1 }
+leaf_valid v l t h lt new w = leaf_of v.nodes (state_of v.nodes l.entries) t lt (sym ((stands_over v.nodes l h).bits t) ∙ new) w
 
 pub encode_valid : (v : TermsValue) (l : LogValue) (t : ℕ) → IsTermList v.nodes → Stands v.nodes l → t < length v.nodes → bits_in l.bits t ≡ None → is_fixed (node_at v.nodes t).op ≡ true → All (HasBits l) (node_at v.nodes t).args → IsValid v (state_of v.nodes l.entries) (step.Encode t)
 encode_valid v l t all h lt new fixed has =
@@ -138,10 +136,13 @@ here_op s v t n is same e lt plain =
     let here : n ≡ node_at s.terms.nodes t = e ∙ ap (λ x. node_at x.nodes t) same in
     (here, subst (λ (m : Node). is_plain_op m.op ≡ true) (sym here) (plain_op s.terms.nodes t (is.terms t lt) plain))
 
-pub plain_leaf : (s : StateValue) (v : TermsValue) (l : LogValue) (t : ℕ) (n : Node) → IsState s → v ≡ s.terms → n ≡ node_at v.nodes t → Stands s.terms.nodes l → t < length s.terms.nodes → is_plain s.terms.nodes t ≡ true → bits_in l.bits t ≡ None → (is_plain_op n.op ≡ true → IsSome (constant_width n.op)) → IsValid s.terms (state_of s.terms.nodes l.entries) (step.Leaf t)
-plain_leaf s v l t n is same e h lt plain none width =
+pub plain_word : (s : StateValue) (v : TermsValue) (t : ℕ) (n : Node) → IsState s → v ≡ s.terms → n ≡ node_at v.nodes t → t < length s.terms.nodes → is_plain s.terms.nodes t ≡ true → (is_plain_op n.op ≡ true → IsSome (constant_width n.op)) → IsSome (constant_width (node_at s.terms.nodes t).op)
+plain_word s v t n is same e lt plain width =
     let o = here_op s v t n is same e lt plain in
-    leaf_valid s.terms l t h lt none (subst (λ (m : Node). IsSome (constant_width m.op)) o.0 (width o.1))
+    subst (λ (m : Node). IsSome (constant_width m.op)) o.0 (width o.1)
+
+pub plain_leaf : (s : StateValue) (v : TermsValue) (l : LogValue) (t : ℕ) (n : Node) → IsState s → v ≡ s.terms → n ≡ node_at v.nodes t → Stands s.terms.nodes l → t < length s.terms.nodes → is_plain s.terms.nodes t ≡ true → bits_in l.bits t ≡ None → (is_plain_op n.op ≡ true → IsSome (constant_width n.op)) → IsValid s.terms (state_of s.terms.nodes l.entries) (step.Leaf t)
+plain_leaf s v l t n is same e h lt plain none width = leaf_valid s.terms l t h lt none (plain_word s v t n is same e lt plain width)
 
 pub plain_encode : (s : StateValue) (v : TermsValue) (l : LogValue) (t : ℕ) (n : Node) → IsState s → v ≡ s.terms → n ≡ node_at v.nodes t → Stands s.terms.nodes l → t < length s.terms.nodes → is_plain s.terms.nodes t ≡ true → bits_in l.bits t ≡ None → (is_plain_op n.op ≡ true → is_fixed n.op ≡ true) → All (HasBits l) (node_at s.terms.nodes t).args → IsValid s.terms (state_of s.terms.nodes l.entries) (step.Encode t)
 plain_encode s v l t n is same e h lt plain none fixed has =

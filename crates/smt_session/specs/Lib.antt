@@ -1,7 +1,6 @@
 pub mod Growing
 pub mod Reaching
 pub mod Searched
-pub mod Reused
 pub mod Modeled
 pub mod Tabled
 pub mod Blaming

@@ -1,11 +1,9 @@
 -- What the search of a check's cubes has and finds.
-use Rattle.std.specs.Prelude.{◌≡◌, ◌≤◌, ◌<◌, ◌^◌, ◌⊎◌, ℕ, suc, Bool, true, List, [], ◌∷◌, ◌++◌, Vec, Option, Some, None, All, Contains, length}
-use Rattle.std.specs.declared.alloc.Global.{Global}
+use Rattle.std.specs.Prelude.{◌≡◌, ◌≤◌, ◌<◌, ◌^◌, ◌⊎◌, ℕ, suc, Bool, true, false, List, [], ◌∷◌, ◌++◌, Option, Some, None, All, Contains, length}
 use Rattle.cnf_base.specs.Literals.{Literal}
 use Rattle.cnf_base.specs.Clauses.{lit_true}
 use Rattle.cnf_base.specs.Assignments.{AreBelow}
 use Rattle.hint_chain.specs.Chains.{Lookup}
-use Rattle.local_names.specs.Names.{global_values}
 use Rattle.smt_terms.specs.declared.node.Node.{Node}
 use Rattle.smt_terms.specs.Bits.{bits_in}
 use Rattle.scope_selectors.specs.declared.live.Live.{Live}
@@ -22,7 +20,7 @@ use Rattle.cube_tree.specs.Cubes.{cube_of}
 use Rattle.cube_tree.specs.Closing.{Closes, AreClosing}
 use Rattle.cube_search.specs.Holding.{AreSeparate}
 use Rattle.cube_search.specs.Running.{IsSearch}
-use Rattle.cube_search.specs.Ends.{IsModel, assignment}
+use Rattle.cube_search.specs.Ends.{IsModel}
 use Rattle.cube_search.specs.declared.search.Search.{Search}
 use Rattle.cube_search.specs.declared.ends.End.{End}
 use Rattle.cube_search.specs.declared.ends.End.TheVariants as end
@@ -97,12 +95,13 @@ given_in p cube = cube_of p.variables cube ++ p.assumed
 abbrev pub subject_in : Problem → List Entry → ℕ → ℕ → Subject
 subject_in p log cube start = record { nodes = p.nodes; log = log; given = given_in p cube; from = start }
 
--- The positions are before the searches' own, from which on there are chains alone. Each clause of another step has a variable
--- that stands in no clause of theirs. The literals are those of variables that there are.
+-- The positions are before the searches' own, from which on there are chains alone, and no chains'. Each clause of another step
+-- has a variable that stands in no clause of theirs. The literals are those of variables that there are.
 pub record IsProblem (p : Problem) (log : List Entry) : Type 0 where
   pub positions : (at : ℕ) → Contains p.positions at → at < p.from
   pub begun : 0 < p.from
   pub from : p.from ≤ suc (length log)
+  pub plain : (at : ℕ) → Contains p.positions at → is_chain (entry_at log at) ≡ false
   pub chains : (at : ℕ) (e : Entry) → p.from ≤ at → entry_at log at ≡ Some e → is_chain (Some e) ≡ true
   pub separate : AreSeparate (state_of p.nodes log).clauses log p.positions p.from
   pub variables : All (λ x. x < (state_of p.nodes log).next) p.variables
@@ -129,16 +128,16 @@ pub record IsLowestSpent (p : Problem) (log : List Entry) (d : Diary) : Type 0 w
   pub own : IsSpentCube p log d
   pub lower : (n : ℕ) → n < d.cube → IsClosed p log n
 
--- the assignment, by local number, makes true the clauses of the positions and what is assumed
-abbrev pub IsModelOf : Problem → List Entry → List ℕ → Vec Bool Global → Type 0
-IsModelOf p log names values = IsModel (state_of p.nodes log).clauses p.positions p.assumed (global_values names (assignment values.items))
+-- the assignment makes true the clauses of the positions and what is assumed
+abbrev pub IsModelOf : Problem → List Entry → (ℕ → Bool) → Type 0
+IsModelOf p log v = IsModel (state_of p.nodes log).clauses p.positions p.assumed v
 
--- what the search of a cube came to, over the log then; no other search finds a model meanwhile
-abbrev pub IsEndOf : Problem → List Entry → List ℕ → ℕ → End → Type 0
-IsEndOf p log names cube (end.Closed at) = Closes (look_in p log) p.assumed (cube_of p.variables cube) at
-IsEndOf p log names cube (end.Model values) = IsModelOf p log names values
-IsEndOf p log names cube (end.Spent d) = (d.cube ≡ cube) × IsSpentCube p log d
-IsEndOf p log names cube end.Stopped = ⊥
+-- what the search of a cube came to, over the log and with the values of the variables then; no other search finds a model meanwhile
+abbrev pub IsEndOf : Problem → List Entry → (ℕ → Bool) → ℕ → End → Type 0
+IsEndOf p log v cube (end.Closed at) = Closes (look_in p log) p.assumed (cube_of p.variables cube) at
+IsEndOf p log v cube end.Model = IsModelOf p log v
+IsEndOf p log v cube (end.Spent d) = (d.cube ≡ cube) × IsSpentCube p log d
+IsEndOf p log v cube end.Stopped = ⊥
 
 -- What the cubes below a number came to, where none gave a model: each is closed at its position, or one of them is the lowest
 -- that is spent.
@@ -147,10 +146,10 @@ AreTried p log count closed None = (length closed ≡ count) × AreClosing (look
 AreTried p log count closed (Some d) = IsLowestSpent p log d
 
 -- what is found: a clause of opposites of what is assumed alone, a model, or the diary of the lowest spent cube
-abbrev pub IsFound : Problem → List Entry → List ℕ → Found → Type 0
-IsFound p log names (found.Refuted at) = Closes (look_in p log) p.assumed [] at
-IsFound p log names (found.Model values) = IsModelOf p log names values
-IsFound p log names (found.Spent d) = IsLowestSpent p log d
+abbrev pub IsFound : Problem → List Entry → (ℕ → Bool) → Found → Type 0
+IsFound p log v (found.Refuted at) = Closes (look_in p log) p.assumed [] at
+IsFound p log v found.Model = IsModelOf p log v
+IsFound p log v (found.Spent d) = IsLowestSpent p log d
 
 -- ---- assignments
 

@@ -18,6 +18,8 @@ use Rattle.accepted_proof.specs.Turns.{Turn, IsTurn, IsShown, HasProof, with_ste
 use Rattle.accepted_proof.specs.Answers.{answer_text, is_error, is_refused, last_shown, shown_lines, step_lines, turn_lines, turn_text}
 use Rattle.smt_session.specs.declared.response.Response.{Response}
 use Rattle.smt_session.specs.declared.settings.Settings.{Settings}
+use Rattle.cube_search.specs.declared.search.Search.{Search}
+use Rattle.cube_search.specs.Running.{IsResting}
 use Rattle.smt_session.specs.Growing.{AreStepsFor, Grows}
 
 -- the limits that settings give
@@ -31,11 +33,16 @@ pub record SessionValue : Type 0 where
   pub shown : Option Record
   pub limits : Limits
 
--- the commands left a state, the log stands over its terms, and the steps are for the script
+-- the commands left a state of Bools and words, the log stands over its terms, and the steps are for the script
 pub record IsSession (s : StateValue) (log : LogValue) : Type 0 where
   pub state : IsState s
+  pub theories : s.symbols.theories ≡ false
   pub stands : Stands s.terms.nodes log
   pub each : AreStepsFor s log.entries
+
+-- the search keeps clauses of the log
+abbrev pub RestsBeside : LogValue → Search → Type 0
+RestsBeside log x = IsResting x log.clauses log.entries
 
 -- a text, which may be an error, and with which the run may end
 abbrev pub response : List ℕ → Bool → Bool → Response

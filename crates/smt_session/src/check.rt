@@ -1,9 +1,8 @@
 // A check: its steps, its verdict, and its record.
 
-ghost use Rattle.std.specs.Prelude.{◌≡◌, ◌++◌, ◌-◌, ◌<◌, ◌⊎◌, ℕ, suc, Contains, IfOk, OnOk, drop, length};
+ghost use Rattle.std.specs.Prelude.{◌≡◌, ◌++◌, ◌-◌, ◌<◌, IfOk, OnOk, drop, length};
 ghost use Rattle.std.specs.List.{flat_map, AllByRecursion};
 ghost use Rattle.proof_log.specs.Stored.{Stands};
-ghost use Rattle.reached_steps.specs.Reached.{AddsNoVariable};
 ghost use Rattle.proof_text.specs.Lines.{line_text, IsLine};
 ghost use Rattle.proof_text.specs.Records.{AreWritten, HaveDigits, record_lines};
 ghost use Rattle.accepted_proof.specs.Answers.{step_lines};
@@ -13,11 +12,10 @@ ghost use Rattle.accepted_proof.specs.Turns.{verdict_of};
 ghost use Rattle.check_cubes.specs.Searches.{limits_of};
 ghost use Rattle.smt_session.specs.Growing.{AreGiven, AreLined, Grows};
 ghost use Rattle.smt_session.specs.Searched.{AreEnough};
-ghost use Rattle.smt_session.specs.Sessions.{IsChecked, IsSession};
+ghost use Rattle.smt_session.specs.Sessions.{IsChecked, IsSession, RestsBeside};
 
 use crate::encoding::encode_all;
 use crate::given::give;
-use crate::learnt::add_learnt;
 use crate::model::model;
 use crate::positions::positions;
 use crate::reach::{reach, roots};
@@ -26,7 +24,6 @@ use crate::workspace::Workspace;
 use check_cubes::{Limits, cube_variables};
 use cnf_base::{Lit, Pos};
 use cube_tree::Tree;
-use local_names::LocalNames;
 use proof_log::Log;
 use proof_text::entry::write_entry;
 use proof_text::record::{Record, write_record};
@@ -64,67 +61,38 @@ fn split(
     Tree::split(alloc, variables.as_slice(), limits.cubes)
 }
 
-/// The cubes of a check. Its positions get those of what earlier checks learnt of the variables of its steps.
-fn split_and_reuse(
-    alloc: Global,
-    state: &State,
-    log: &Log,
-    names: &mut LocalNames,
-    positions: &mut Vec<Pos>,
-    limits: Limits,
-    reached: &mut Reached,
-) -> Result<Tree, AllocError>
-    requires limits { AreLimits (limits_of limits) }
-    requires stands { Stands state.now.terms.nodes log.now }
-    ensures variables { IfOk result (λ t. t ≡ cube_variables (limits_of limits) state.now state.now.terms.nodes log.now.entries) }
-    ensures rise { IfOk result (λ t. Rise 2 log.now.next t) }
-    ensures adds { IfOk result (λ _. AddsNoVariable log.now.clauses positions.old.items positions.new.items) }
-    ensures within { IfOk result (λ _. (p : ℕ) → Contains positions.new.items p → Contains positions.old.items p ⊎ (p < suc (length log.now.entries))) }
-{
-    add_learnt(alloc, log, names, positions)?;
-    split(alloc, state, log, limits, reached)
-}
-
-/// Searches the cubes of a check under the selectors of the live assertions and the bits of the assumptions, over these steps
-/// and what earlier checks learnt of their variables, and gives the record that shows what was found.
+/// Searches the cubes of a check under the selectors of the live assertions and the bits of the assumptions, over these steps,
+/// and gives the record that shows what was found.
 fn conclude(
     alloc: Global,
     state: &State,
     workspace: &mut Workspace,
-    steps: Vec<Pos>,
+    steps: &[Pos],
     given: &[Lit],
     limits: Limits,
 ) -> Result<Record, AllocError>
     requires session { IsSession state.now workspace.old.log }
-    requires steps { AreEnough state.now.terms.nodes workspace.old.log (roots state.now) state.now.scopes.live steps.items }
+    requires resting { RestsBeside workspace.old.log workspace.old.search }
+    requires steps { AreEnough state.now.terms.nodes workspace.old.log (roots state.now) state.now.scopes.live steps.now }
     requires given { AreGiven state.now workspace.old.log given.now }
     requires limits { AreLimits (limits_of limits) }
-    ensures { IfOk result (λ r. IsChecked (limits_of limits) state.now workspace.old.log workspace.new.log r) }
+    ensures checked { IfOk result (λ r. IsChecked (limits_of limits) state.now workspace.old.log workspace.new.log r) }
+    ensures resting { OnOk result (RestsBeside workspace.new.log workspace.new.search) }
 {
-    let mut positions = steps;
-    let tree = split_and_reuse(
-        alloc,
-        state,
-        &workspace.log,
-        &mut workspace.names,
-        &mut positions,
-        limits,
-        &mut workspace.reached,
-    )?;
+    let tree = split(alloc, state, &workspace.log, limits, &mut workspace.reached)?;
     let found = solve(
         alloc,
         state.terms(),
         workspace,
-        positions.as_slice(),
+        steps,
         &tree,
         given,
         limits.budget,
     )?;
     match found {
         Found::Refuted(at) => Ok(Record::Unsat(at)),
-        Found::Model(values) => {
-            let values = values.as_slice();
-            let values = model(alloc, state, &workspace.log, &workspace.names, values)?;
+        Found::Model => {
+            let values = model(alloc, state, &workspace.log, &workspace.search)?;
             Ok(Record::Sat(values))
         }
         Found::Spent(diary) => Ok(Record::Unknown(diary)),
@@ -166,12 +134,21 @@ fn check(
     limits: Limits,
 ) -> Result<Record, AllocError>
     requires session { IsSession state.now workspace.old.log }
+    requires resting { RestsBeside workspace.old.log workspace.old.search }
     requires limits { AreLimits (limits_of limits) }
-    ensures { IfOk result (λ r. IsChecked (limits_of limits) state.now workspace.old.log workspace.new.log r) }
+    ensures checked { IfOk result (λ r. IsChecked (limits_of limits) state.now workspace.old.log workspace.new.log r) }
+    ensures resting { OnOk result (RestsBeside workspace.new.log workspace.new.search) }
 {
     let prepared = prepare(alloc, state, &mut workspace.log, &mut workspace.reached)?;
     let Prepared { steps, given } = prepared;
-    conclude(alloc, state, workspace, steps, given.as_slice(), limits)
+    conclude(
+        alloc,
+        state,
+        workspace,
+        steps.as_slice(),
+        given.as_slice(),
+        limits,
+    )
 }
 
 /// Appends the lines of the steps from a position on.
@@ -213,7 +190,9 @@ pub(crate) fn run_check(
     limits: Limits,
 ) -> Result<(Record, Text), AllocError>
     requires session { IsSession state.now workspace.old.log }
+    requires resting { RestsBeside workspace.old.log workspace.old.search }
     requires limits { AreLimits (limits_of limits) }
+    ensures resting { OnOk result (RestsBeside workspace.new.log workspace.new.search) }
     ensures checked { IfOk result (λ r. IsChecked (limits_of limits) state.now workspace.old.log workspace.new.log r.0) }
     ensures text { IfOk result (λ r. r.1 ≡ flat_map line_text (step_lines (drop (length workspace.old.log.entries) workspace.new.log.entries)) ++ flat_map line_text (record_lines r.0)) }
     ensures readable { IfOk result (λ r. AllByRecursion IsLine (step_lines (drop (length workspace.old.log.entries) workspace.new.log.entries) ++ record_lines r.0)) }

@@ -1,8 +1,8 @@
 // The values of the live declarations in an assignment of the log's variables.
 
-ghost use Rattle.std.specs.Prelude.{◌≡◌, true, All, IfOk, length, position};
-ghost use Rattle.cnf_base.specs.Clauses.{lit_true, number};
-ghost use Rattle.local_names.specs.Names.{global_values};
+ghost use Rattle.std.specs.Prelude.{◌≡◌, true, false, All, IfOk, length, position};
+ghost use Rattle.std.specs.List.{AllByRecursion};
+ghost use Rattle.cnf_base.specs.Clauses.{number};
 ghost use Rattle.smt_words.specs.Words.{word};
 ghost use Rattle.smt_terms.specs.declared.node.Op.TheVariants.{Constant};
 ghost use Rattle.smt_terms.specs.Nodes.{leaf};
@@ -11,8 +11,9 @@ ghost use Rattle.smt_terms.specs.Terms.{AreTerms, IsSort};
 ghost use Rattle.bit_blast.specs.Assigned.{IsLongAsWord};
 ghost use Rattle.smt_terms.specs.Ranks as ranks;
 ghost use Rattle.script_state.specs.States.{IsState, assumptions, roots};
-ghost use Rattle.cube_search.specs.Ends.{assignment};
+ghost use Rattle.cube_search.specs.Running.{valuation_of};
 ghost use Rattle.proof_log.specs.Stored.{Stands};
+ghost use Rattle.proof_log.specs.Words.{IsOfWords};
 ghost use Rattle.proof_text.specs.Records.{AreWritten};
 ghost use Rattle.proof_text.specs.declared.record.Record.TheVariants.{Sat};
 ghost use Rattle.accepted_proof.specs.Models.{IsWrittenModel};
@@ -20,7 +21,7 @@ ghost use Rattle.smt_session.specs.Searched.{AreSatisfied, HasTrueBit, HasTrueSe
 ghost use Rattle.smt_session.specs.Modeled.{IsValueIn, AreDeclaredValues};
 
 use cnf_base::Lit;
-use local_names::LocalNames;
+use cube_search::Search;
 use proof_log::Log;
 use proof_text::record::DeclaredValues;
 use script_state::state::State;
@@ -39,33 +40,14 @@ fn constant_term(alloc: Global, terms: &Terms, declaration: DeclId, sort: Sort) 
     terms.find(&node)
 }
 
-/// Whether a literal under the number of its variable is true. Variables past the end are false.
-fn near_value(values: &[bool], near: Lit) -> bool
-    ensures { result ≡ lit_true (assignment values.now) near }
-{
-    let place = near.variable() as usize;
-    let value = values.get(place).copied().unwrap_or(false);
-    value == near.is_positive()
-}
-
-/// Whether a literal is true, where each variable has the value of its number, and one without a number is false.
-fn literal_value(names: &LocalNames, values: &[bool], literal: Lit) -> bool
-    ensures { result ≡ lit_true (global_values names.now (assignment values.now)) literal }
-{
-    match names.find(literal) {
-        Some(near) => near_value(values, near),
-        None => !literal.is_positive(),
-    }
-}
-
 /// The word with these bits.
-fn word_value(names: &LocalNames, values: &[bool], row: &[Lit]) -> Word
+fn word_value(search: &Search, row: &[Lit]) -> Word
     requires { IsLongAsWord row.now }
-    ensures { result ≡ word (length row.now) (number (global_values names.now (assignment values.now)) row.now) }
+    ensures { result ≡ word (length row.now) (number (valuation_of search.now) row.now) }
 {
     let mut value: u128 = 0;
     for i in (0..row.len()).rev() {
-        value = value * 2 + u128::from(literal_value(names, values, row[i]));
+        value = value * 2 + u128::from(search.is_true(row[i]));
     }
     Word::new(row.len() as u32, value).unwrap()
 }
@@ -75,8 +57,7 @@ fn constant_value(
     alloc: Global,
     terms: &Terms,
     log: &Log,
-    names: &LocalNames,
-    values: &[bool],
+    search: &Search,
     declaration: DeclId,
     sort: Sort,
 ) -> Value
@@ -84,7 +65,7 @@ fn constant_value(
     requires stands { Stands terms.now.nodes log.now }
     requires plain { ranks.is_plain sort ≡ true }
     requires widths { IsSort sort }
-    ensures { IsValueIn terms.now.nodes log.now (global_values names.now (assignment values.now)) declaration sort result }
+    ensures { IsValueIn terms.now.nodes log.now (valuation_of search.now) declaration sort result }
 {
     let Some(term) = constant_term(alloc, terms, declaration, sort) else {
         return Value::default(alloc, sort)
@@ -93,8 +74,8 @@ fn constant_value(
         return Value::default(alloc, sort)
     };
     match sort {
-        Sort::Bool => Value::Bool(literal_value(names, values, row[0])),
-        _ => Value::Word(word_value(names, values, row)),
+        Sort::Bool => Value::Bool(search.is_true(row[0])),
+        _ => Value::Word(word_value(search, row)),
     }
 }
 
@@ -103,13 +84,13 @@ fn declared_values(
     alloc: Global,
     state: &State,
     log: &Log,
-    names: &LocalNames,
-    values: &[bool],
+    search: &Search,
 ) -> Result<Vec<(DeclId, Value)>, AllocError>
     requires stands { Stands state.now.terms.nodes log.now }
+    requires words { state.now.symbols.theories ≡ false }
     ensures state { IsState state.now }
     ensures terms { AreTerms state.now.terms }
-    ensures values { IfOk result (λ items. AreDeclaredValues state.now log.now (global_values names.now (assignment values.now)) state.now.symbols.live items.items) }
+    ensures values { IfOk result (λ items. AreDeclaredValues state.now log.now (valuation_of search.now) state.now.symbols.live items.items) }
 {
     let terms = state.terms();
     // The contract of `len` says, beside their number, that no two terms are equal.
@@ -118,7 +99,7 @@ fn declared_values(
     let mut items = Vec::new(alloc);
     for live in state.declared() {
         let sort = state.signature(live.declaration).unwrap().value;
-        let value = constant_value(alloc, terms, log, names, values, live.declaration, sort);
+        let value = constant_value(alloc, terms, log, search, live.declaration, sort);
         items.push((live.declaration, value))?;
     }
     Ok(items)
@@ -130,15 +111,16 @@ pub(crate) fn model(
     alloc: Global,
     state: &State,
     log: &Log,
-    names: &LocalNames,
-    values: &[bool],
+    search: &Search,
 ) -> Result<DeclaredValues, AllocError>
     requires stands { Stands state.now.terms.nodes log.now }
-    requires satisfied { AreSatisfied state.now.terms.nodes log.now (roots state.now) state.now.scopes.live (global_values names.now (assignment values.now)) }
-    requires selectors { All (HasTrueSelector state.now.terms.nodes log.now (global_values names.now (assignment values.now))) state.now.scopes.live }
-    requires assumed { All (HasTrueBit log.now (global_values names.now (assignment values.now))) (assumptions state.now) }
+    requires words { state.now.symbols.theories ≡ false }
+    requires steps { AllByRecursion (IsOfWords state.now.terms.nodes) log.now.entries }
+    requires satisfied { AreSatisfied state.now.terms.nodes log.now (roots state.now) state.now.scopes.live (valuation_of search.now) }
+    requires selectors { All (HasTrueSelector state.now.terms.nodes log.now (valuation_of search.now)) state.now.scopes.live }
+    requires assumed { All (HasTrueBit log.now (valuation_of search.now)) (assumptions state.now) }
     ensures { IfOk result (λ values. AreWritten (Sat values) × IsWrittenModel state.now values) }
 {
-    let items = declared_values(alloc, state, log, names, values)?;
+    let items = declared_values(alloc, state, log, search)?;
     Ok(DeclaredValues::from_vec(items))
 }

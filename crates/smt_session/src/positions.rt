@@ -64,9 +64,11 @@ pub(crate) fn positions(
     requires selectors { All (λ (a : LiveValue). IsSome (selector_in log.now.selectors a.assertion)) live.now }
     ensures { IfOk result (λ p. ArePositions log.now reached.now live.now p.items) }
 {
-    let mut all = of_terms(alloc, terms, log, reached)?;
+    let mut all = Vec::new(alloc);
+    all.push(0)?;
+    let steps = of_terms(alloc, terms, log, reached)?;
+    all.extend_from_slice(steps.as_slice())?;
     let more = of_assertions(alloc, terms, log, live)?;
     all.extend_from_slice(more.as_slice())?;
-    all.push(0)?;
     Ok(all)
 }

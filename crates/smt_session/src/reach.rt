@@ -1,6 +1,6 @@
 // Which terms some terms reach, through all arguments.
 
-ghost use Rattle.std.specs.Prelude.{◌≡◌, All, IfOk, OnOk, Contains};
+ghost use Rattle.std.specs.Prelude.{◌≡◌, false, All, IfOk, OnOk, Contains};
 ghost use Rattle.term_reach.specs.Reach.{arguments, IsReach};
 ghost use Rattle.script_state.specs.States.{roots};
 ghost use Rattle.smt_session.specs.Reaching.{IsPlainTerm, AreOrdered};
@@ -13,6 +13,7 @@ use term_reach::{Reached, reach_by_arguments};
 
 /// The terms of the live assertions, and then those of the assumptions.
 pub(crate) fn roots(alloc: Global, state: &State) -> Result<Vec<TermId>, AllocError>
+    requires { state.now.symbols.theories ≡ false }
     ensures roots { IfOk result (λ r. r.items ≡ roots state.now) }
     ensures plain { IfOk result (λ r. All (IsPlainTerm state.now.terms.nodes) r.items) }
 {

@@ -8,7 +8,7 @@ ghost use Rattle.script_state.specs.States.{no_state, IsState};
 ghost use Rattle.script_state.specs.Steps.{forgotten};
 ghost use Rattle.accepted_proof.specs.Searching.{AreLimits, Limits as LimitsValue};
 ghost use Rattle.check_cubes.specs.Searches as check_cubes;
-ghost use Rattle.smt_session.specs.Sessions.{AreHeld, IsAnswered, IsSession, Responds, asks_values, limits_of};
+ghost use Rattle.smt_session.specs.Sessions.{AreHeld, IsAnswered, IsSession, Responds, RestsBeside, asks_values, limits_of};
 
 use crate::check::{run_check, verdict_of};
 use crate::cores::{assumptions_text, core_text};
@@ -19,7 +19,7 @@ use crate::texts::model_text;
 use crate::values::values_text;
 use crate::workspace::Workspace;
 use check_cubes::Limits;
-use local_names::LocalNames;
+use cube_search::Search;
 use proof_log::Log;
 use script_state::answer::Answer;
 use script_state::state::State;
@@ -42,13 +42,13 @@ pub struct Session {
 impl Model for Session {
     ghost use Rattle.accepted_proof.specs.Searching.{AreLimits};
     ghost use Rattle.check_cubes.specs.Searches.{limits_of};
-    ghost use Rattle.smt_session.specs.Sessions.{SessionValue, IsSession};
+    ghost use Rattle.smt_session.specs.Sessions.{SessionValue, IsSession, RestsBeside};
 
     ghost Value = { SessionValue };
 
     ghost view = { λ s. record { state = s.state; log = s.workspace.log; shown = s.last; limits = limits_of s.limits } };
 
-    ghost invariant = { λ s. IsSession s.state s.workspace.log × AreLimits (limits_of s.limits) };
+    ghost invariant = { λ s. IsSession s.state s.workspace.log × AreLimits (limits_of s.limits) × RestsBeside s.workspace.log s.workspace.search };
 }
 
 /// Writes the lines of a check. The error is that the proof could not be written.
@@ -75,8 +75,10 @@ fn answer_check<Q: Sink>(
     proof: &mut Q,
 ) -> Result<Response, Stop>
     requires session { IsSession state.old workspace.old.log }
+    requires resting { RestsBeside workspace.old.log workspace.old.search }
     requires limits { AreLimits (check_cubes.limits_of limits) }
     ensures session { OnOk result (IsSession state.new workspace.new.log) }
+    ensures resting { OnOk result (RestsBeside workspace.new.log workspace.new.search) }
     ensures response { IfOk result (λ r. Responds (check_cubes.limits_of limits) line Answer.Check state.old state.new workspace.old.log workspace.new.log last.old last.new r (Q.written proof.old) (Q.written proof.new)) }
     ensures written { (bytes : List ℕ) × Appends (Q.written proof.old) (Q.written proof.new) bytes }
     ensures failed { result ≡ Err Stop.Failed → Rose (Q.faults proof.old) (Q.faults proof.new) }
@@ -157,9 +159,11 @@ fn respond<Q: Sink>(
     proof: &mut Q,
 ) -> Result<Response, Stop>
     requires session { IsSession state.old workspace.old.log }
+    requires resting { RestsBeside workspace.old.log workspace.old.search }
     requires held { AreHeld state.old answer }
     requires limits { AreLimits (check_cubes.limits_of limits) }
     ensures session { OnOk result (IsSession state.new workspace.new.log) }
+    ensures resting { OnOk result (RestsBeside workspace.new.log workspace.new.search) }
     ensures still { asks_values answer ≡ true → OnOk result ((state.new ≡ state.old) × (workspace.new.log ≡ workspace.old.log)) }
     ensures response { IfOk result (λ r. Responds (check_cubes.limits_of limits) line answer state.old state.new workspace.old.log workspace.new.log last.old last.new r (Q.written proof.old) (Q.written proof.new)) }
     ensures written { (bytes : List ℕ) × Appends (Q.written proof.old) (Q.written proof.new) bytes }
@@ -190,13 +194,17 @@ impl Session {
         ensures fresh { IfOk result (λ s. (s.state ≡ no_state) × (s.log.entries ≡ []) × (s.shown ≡ None)) }
         ensures limits { IfOk result (λ s. s.limits ≡ limits_of settings) }
     {
-        let names = LocalNames::new(alloc)?;
-        let log = Log::new(alloc)?;
+        let search = Search::new(alloc)?;
+        let Ok(log) = Log::new(alloc) else {
+            drop(search);
+            return Err(AllocError);
+        };
         Ok(Session {
             state: State::new(alloc),
             workspace: Workspace {
                 log,
-                names,
+                search,
+                made: 0,
                 reached: Reached::new(alloc),
             },
             last: Last::new(),

@@ -1,18 +1,20 @@
 // The search of a check's cubes, one after the other (M. Heule, O. Kullmann, S. Wieringa and A. Biere, "Cube and Conquer:
 // Guiding CDCL SAT Solvers by Lookaheads", 2011).
 
-ghost use Rattle.std.specs.Prelude.{◌≡◌, ◌<◌, ◌^◌, ◌+◌, ℕ, List, IfOk, OnOk, MatchOption, length};
+ghost use Rattle.std.specs.Prelude.{◌≡◌, ◌<◌, ◌^◌, ◌+◌, ℕ, Bool, List, IfOk, OnOk, MatchBool, length};
+ghost use Rattle.cnf_base.specs.Literals.{Literal};
 ghost use Rattle.smt_terms.specs.Terms.{IsTermList};
 ghost use Rattle.proof_log.specs.declared.entry.Entry.{Entry as Step};
 ghost use Rattle.proof_log.specs.Boards.{Grows};
 ghost use Rattle.proof_log.specs.Stored.{Stands};
+ghost use Rattle.cube_search.specs.Running.{valuation_of, IsResting};
+ghost use Rattle.smt_session.specs.Sessions.{RestsBeside};
 ghost use Rattle.smt_session.specs.Searched.{Problem, IsProblem, IsSearching, IsEndOf, IsModelOf, AreTried, IsFound, problem_of, problem};
 
 use crate::workspace::Workspace;
 use cnf_base::{Lit, Pos};
 use cube_search::{End, Search};
 use cube_tree::{Tree, join};
-use local_names::LocalNames;
 use proof_log::Log;
 use proof_log::board::LogBoard;
 use proof_log::diary::Diary;
@@ -25,8 +27,8 @@ use std::mem;
 pub(crate) enum Found {
     /// The first clause of the position has only opposites of assumed literals.
     Refuted(Pos),
-    /// The value of each variable, by its local number. Those past the end are false.
-    Model(Vec<bool>),
+    /// Under the values that the search has then, the clauses of the positions and the assumed literals are true.
+    Model,
     /// The lowest cube on which the budget was spent.
     Spent(Diary),
 }
@@ -53,8 +55,8 @@ impl Tried {
 
     /// The next cube is closed.
     fn close(&mut self, at: Pos) -> Result<(), AllocError>
-        ensures { OnOk result ((p : Problem) (log : List Step) (names : List ℕ) (cube : ℕ) → AreTried p log cube self.old.closed.items self.old.spent →
-            IsEndOf p log names cube (End.Closed at) → AreTried p log (cube + 1) self.new.closed.items self.new.spent) }
+        ensures { OnOk result ((p : Problem) (log : List Step) (v : ℕ → Bool) (cube : ℕ) → AreTried p log cube self.old.closed.items self.old.spent →
+            IsEndOf p log v cube (End.Closed at) → AreTried p log (cube + 1) self.new.closed.items self.new.spent) }
     {
         if self.spent.is_some() {
             return Ok(());
@@ -65,27 +67,27 @@ impl Tried {
 
     /// The next cube is spent.
     fn spend(&mut self, diary: Diary)
-        ensures { (p : Problem) (log : List Step) (names : List ℕ) (cube : ℕ) → AreTried p log cube self.old.closed.items self.old.spent →
-            IsEndOf p log names cube (End.Spent diary) → AreTried p log (cube + 1) self.new.closed.items self.new.spent }
+        ensures { (p : Problem) (log : List Step) (v : ℕ → Bool) (cube : ℕ) → AreTried p log cube self.old.closed.items self.old.spent →
+            IsEndOf p log v cube (End.Spent diary) → AreTried p log (cube + 1) self.new.closed.items self.new.spent }
     {
         if self.spent.is_none() {
             self.spent = Some(diary);
         }
     }
 
-    /// Adds what the search of the next cube came to; gives the values of a model.
-    fn add(&mut self, end: End) -> Result<Option<Vec<bool>>, AllocError>
+    /// Adds what the search of the next cube came to; says whether that is a model.
+    fn add(&mut self, end: End) -> Result<bool, AllocError>
         requires { end ≡ End.Stopped → ⊥ }
-        ensures { IfOk result (λ o. (p : Problem) (log : List Step) (names : List ℕ) (cube : ℕ) → AreTried p log cube self.old.closed.items self.old.spent →
-            IsEndOf p log names cube end → MatchOption o (AreTried p log (cube + 1) self.new.closed.items self.new.spent) (IsModelOf p log names)) }
+        ensures { IfOk result (λ found. (p : Problem) (log : List Step) (v : ℕ → Bool) (cube : ℕ) → AreTried p log cube self.old.closed.items self.old.spent →
+            IsEndOf p log v cube end → MatchBool found (IsModelOf p log v) (AreTried p log (cube + 1) self.new.closed.items self.new.spent)) }
     {
         match end {
             End::Closed(at) => self.close(at)?,
-            End::Model(values) => return Ok(Some(values)),
+            End::Model => return Ok(true),
             End::Spent(diary) => self.spend(diary),
             End::Stopped => unreachable!(),
         }
-        Ok(None)
+        Ok(false)
     }
 
     /// What all cubes came to together, of which none gave a model. Where each is closed, the clauses are joined.
@@ -101,8 +103,8 @@ impl Tried {
         requires tried { (p : Problem) × (p.nodes ≡ terms.now.nodes) × (p.variables ≡ tree.now) × AreTried p log.old.entries (2 ^ length tree.now) self.closed.items self.spent }
         ensures stands { Stands terms.now.nodes log.new }
         ensures grows { Grows log.old.entries log.new.entries }
-        ensures found { IfOk result (λ found. (p : Problem) (names : List ℕ) → p.nodes ≡ terms.now.nodes → p.variables ≡ tree.now →
-            AreTried p log.old.entries (2 ^ length tree.now) self.closed.items self.spent → IsFound p log.new.entries names found) }
+        ensures found { IfOk result (λ found. (p : Problem) (v : ℕ → Bool) → p.nodes ≡ terms.now.nodes → p.variables ≡ tree.now →
+            AreTried p log.old.entries (2 ^ length tree.now) self.closed.items self.spent → IsFound p log.new.entries v found) }
     {
         let Tried { closed, spent } = self;
         if let Some(diary) = spent {
@@ -128,14 +130,14 @@ fn search_cube(
     ensures same { problem_of search.new board.new tree.now assumed.now budget ≡ problem_of search.old board.old tree.now assumed.now budget }
     ensures grows { Grows board.old.log.entries board.new.log.entries }
     ensures searching { OnOk result (IsSearching search.new board.new tree.now assumed.now budget) }
-    ensures end { IfOk result (IsEndOf (problem_of search.new board.new tree.now assumed.now budget) board.new.log.entries search.new.names cube) }
+    ensures end { IfOk result (IsEndOf (problem_of search.new board.new tree.now assumed.now budget) board.new.log.entries (valuation_of search.new) cube) }
 {
     let mut given = Vec::from_slice(alloc, tree.cube(cube))?;
     given.extend_from_slice(assumed)?;
     search.run(board, cube, given.as_slice(), budget)
 }
 
-/// Searches the cubes in the order of their numbers, also behind one that is spent, until one gives the values of a model.
+/// Searches the cubes in the order of their numbers, also behind one that is spent, until one gives a model; says whether one did.
 fn search_cubes(
     alloc: Global,
     search: &mut Search,
@@ -144,27 +146,54 @@ fn search_cubes(
     assumed: &[Lit],
     budget: u64,
     tried: &mut Tried,
-) -> Result<Option<Vec<bool>>, AllocError>
+) -> Result<bool, AllocError>
     requires searching { IsSearching search.old board.old tree.now assumed.now budget }
     requires tried { (p : Problem) (log : List Step) → AreTried p log 0 tried.old.closed.items tried.old.spent }
     ensures same { problem_of search.new board.new tree.now assumed.now budget ≡ problem_of search.old board.old tree.now assumed.now budget }
     ensures grows { Grows board.old.log.entries board.new.log.entries }
-    ensures tried { IfOk result (λ o. MatchOption o
-        (AreTried (problem_of search.new board.new tree.now assumed.now budget) board.new.log.entries (2 ^ length tree.now) tried.new.closed.items tried.new.spent)
-        (IsModelOf (problem_of search.new board.new tree.now assumed.now budget) board.new.log.entries search.new.names)) }
+    ensures searching { OnOk result (IsSearching search.new board.new tree.now assumed.now budget) }
+    ensures tried { IfOk result (λ found. MatchBool found
+        (IsModelOf (problem_of search.new board.new tree.now assumed.now budget) board.new.log.entries (valuation_of search.new))
+        (AreTried (problem_of search.new board.new tree.now assumed.now budget) board.new.log.entries (2 ^ length tree.now) tried.new.closed.items tried.new.spent)) }
 {
     'cubes: for cube in 0..tree.leaves() {
         let end = search_cube(alloc, search, board, tree, assumed, cube, budget)?;
-        if let Some(values) = tried.add(end)? {
-            return Ok(Some(values));
+        let found = tried.add(end)?;
+        if found {
+            return Ok(true);
         }
     }
-    Ok(None)
+    Ok(false)
 }
 
-/// Searches the cubes of a check over the steps at these positions: finds a model, a clause of opposites of assumed literals,
-/// or that the budget was spent. The log gains chains alone. The one error is want of memory, or of names; then log and names
-/// are lost.
+/// What a search keeps costs a little at each check. So it is made anew where the log grew by more than this, and by more than so many
+/// times the positions that a check needs.
+const KEPT_AT_LEAST: u64 = 1000;
+const KEPT_FOR_EACH: u64 = 8;
+
+// Makes the search anew where the log grew by far more than this check needs since it was made; gives the length that the log had when
+// the search was made.
+fn make_room(
+    alloc: Global,
+    search: &mut Search,
+    made: Pos,
+    from: Pos,
+    needed: usize,
+) -> Result<Pos, AllocError>
+    ensures { IfOk result (λ made. (rows : List (List (List Literal))) (log : List Step) → IsResting search.old rows log → IsResting search.new rows log) }
+{
+    let kept = (needed as u64).saturating_mul(KEPT_FOR_EACH).saturating_add(KEPT_AT_LEAST);
+    if from.saturating_sub(made) <= kept {
+        return Ok(made);
+    }
+    let fresh = Search::new(alloc)?;
+    *search = fresh;
+    Ok(from)
+}
+
+/// Searches the cubes of a check over the steps at these positions, with the search that the last check left: finds a model, a
+/// clause of opposites of assumed literals, or that the budget was spent. The log gains chains alone. The one error is want of
+/// memory; then the log is lost.
 pub(crate) fn solve(
     alloc: Global,
     terms: &Terms,
@@ -176,37 +205,39 @@ pub(crate) fn solve(
 ) -> Result<Found, AllocError>
     requires listed { IsTermList terms.now.nodes }
     requires stands { Stands terms.now.nodes workspace.old.log }
+    requires resting { RestsBeside workspace.old.log workspace.old.search }
     requires problem { IsProblem (problem terms.now.nodes workspace.old.log.entries positions.now tree.now assumed.now budget) workspace.old.log.entries }
     ensures stands { OnOk result (Stands terms.now.nodes workspace.new.log) }
     ensures grows { OnOk result (Grows workspace.old.log.entries workspace.new.log.entries) }
-    ensures found { IfOk result (λ found. IsFound (problem terms.now.nodes workspace.old.log.entries positions.now tree.now assumed.now budget) workspace.new.log.entries workspace.new.names found) }
+    ensures resting { OnOk result (RestsBeside workspace.new.log workspace.new.search) }
+    ensures found { IfOk result (λ found. IsFound (problem terms.now.nodes workspace.old.log.entries positions.now tree.now assumed.now budget) workspace.new.log.entries (valuation_of workspace.new.search) found) }
 {
     let from = workspace.log.len();
-    let names = mem::replace(&mut workspace.names, LocalNames::new(alloc)?);
+    let made = make_room(alloc, &mut workspace.search, workspace.made, from, positions.len())?;
+    workspace.made = made;
     let log = mem::replace(&mut workspace.log, Log::new(alloc)?);
     let mut board = LogBoard::new(alloc, log, terms);
-    let Ok(mut search) = Search::new(alloc, &board, names, positions, from) else {
+    let Ok(()) = workspace.search.retarget(&board, positions, from) else {
         drop(board);
         return Err(AllocError);
     };
     let mut tried = Tried::new(alloc);
-    let Ok(model) = search_cubes(
+    let Ok(found) = search_cubes(
         alloc,
-        &mut search,
+        &mut workspace.search,
         &mut board,
         tree,
         assumed,
         budget,
         &mut tried,
     ) else {
-        drop((board, search, tried));
+        drop((board, tried));
         return Err(AllocError);
     };
     workspace.log = board.into_log();
-    workspace.names = search.into_names();
-    if let Some(values) = model {
+    if found {
         drop(tried);
-        return Ok(Found::Model(values));
+        return Ok(Found::Model);
     }
     let found = tried.conclude(alloc, terms, &mut workspace.log, tree)?;
     Ok(found)

@@ -2,70 +2,16 @@
 
 ghost use Rattle.std.specs.Prelude.{◌≡◌, ◌++◌, ◌∷◌, [], IfOk, OnOk, codes, slice_get};
 ghost use Rattle.smt_values.specs.Held.{set_for};
-ghost use Rattle.accepted_proof.specs.Answers.{sort_text, value_text, definition_text, definition_by, model_text};
+ghost use Rattle.accepted_proof.specs.Answers.{definition_by, model_text};
 ghost use Rattle.smt_session.specs.Tabled.{definitions_by};
 
 use crate::last::Last;
-use proof_text::record::push_value;
+use accepted_proof::push_definition;
 use script_state::state::State;
 use smt_build::symbols::LiveName;
-use smt_terms::sort::Sort;
-use smt_text::number::push_number;
-use smt_text::print::print_symbol;
 use smt_text::text::Text;
-use smt_values::{Interp, Value};
+use smt_values::Interp;
 use std::alloc::{AllocError, Global};
-
-/// Appends the sort of words of a width.
-fn push_word_sort(width: u32, out: &mut Text) -> Result<(), AllocError>
-    ensures { OnOk result (out.new ≡ out.old ++ sort_text (Sort.Word width)) }
-{
-    out.push_slice(b"(_ BitVec ")?;
-    push_number(out, width as u64)?;
-    out.push(b')')
-}
-
-/// Appends a sort.
-fn push_sort(sort: Sort, out: &mut Text) -> Result<(), AllocError>
-    ensures { OnOk result (out.new ≡ out.old ++ sort_text sort) }
-{
-    match sort {
-        Sort::Bool => out.push_slice(b"Bool"),
-        Sort::Word(width) => push_word_sort(width, out),
-        Sort::Array(index, element) => {
-            out.push_slice(b"(Array ")?;
-            push_word_sort(index, out)?;
-            out.push(b' ')?;
-            push_word_sort(element, out)?;
-            out.push(b')')
-        }
-    }
-}
-
-/// Appends a truth value or a word. No other value has a text.
-fn push_written(value: &Value, out: &mut Text) -> Result<(), AllocError>
-    ensures { OnOk result (out.new ≡ out.old ++ value_text value.now) }
-{
-    match value {
-        Value::Bool(_) => push_value(value, out),
-        Value::Word(_) => push_value(value, out),
-        Value::Array(_) => Ok(()),
-        Value::Fun(_) => Ok(()),
-    }
-}
-
-/// Appends the line of a constant's definition.
-fn push_definition(name: &[u8], sort: Sort, value: &Value, out: &mut Text) -> Result<(), AllocError>
-    ensures { OnOk result (out.new ≡ out.old ++ definition_text name.now sort value.now) }
-{
-    out.push_slice(b"(define-fun ")?;
-    print_symbol(name, out)?;
-    out.push_slice(b" () ")?;
-    push_sort(sort, out)?;
-    out.push(b' ')?;
-    push_written(value, out)?;
-    out.push_slice(b")\n")
-}
 
 /// Appends the line of a live name, where its declaration has a value.
 fn push_live(
@@ -82,7 +28,7 @@ fn push_live(
     let Some(value) = values.value(live.declaration) else {
         return Ok(())
     };
-    push_definition(live.name.as_slice(), signature.value, value, out)
+    push_definition(live.name.as_slice(), signature, value, out)
 }
 
 /// Appends the lines of the live names.

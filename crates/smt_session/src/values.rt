@@ -8,7 +8,7 @@ ghost use Rattle.accepted_proof.specs.Answers.{asked_text, meaning_text, values_
 
 use crate::last::Last;
 use crate::lists::list_text;
-use proof_text::record::push_value;
+use accepted_proof::push_meaning;
 use script_state::answer::Asked;
 use script_state::state::State;
 use smt_eval::values_with;
@@ -27,19 +27,6 @@ fn terms_of(alloc: Global, asked: &[Asked]) -> Result<Vec<TermId>, AllocError>
         terms.push(one.term)?;
     }
     Ok(terms)
-}
-
-/// Appends a truth value or a word. An array has no text.
-fn push_meaning(value: &Value, out: &mut Text) -> Result<(), AllocError>
-    requires { is_table value.now ≡ false }
-    ensures { OnOk result (out.new ≡ out.old ++ meaning_text (meaning value.now)) }
-{
-    match value {
-        Value::Bool(_) => push_value(value, out),
-        Value::Word(_) => push_value(value, out),
-        Value::Array(_) => Ok(()),
-        Value::Fun(_) => unreachable!(),
-    }
 }
 
 /// A term as it was written, and its value.
@@ -63,7 +50,8 @@ fn value_items(
     asked: &[Asked],
     reached: &mut Reached,
 ) -> Result<Vec<Text>, AllocError>
-    requires { All (λ (a : AskedValue). a.term < length state.now.terms.nodes) asked.now }
+    requires held { All (λ (a : AskedValue). a.term < length state.now.terms.nodes) asked.now }
+    requires words { state.now.symbols.theories ≡ false }
     ensures { IfOk result (λ items. items.items ≡ map (asked_text state.now.terms.nodes (interpretation_of values.now)) asked.now) }
 {
     let terms = terms_of(alloc, asked)?;
@@ -84,7 +72,8 @@ pub(crate) fn values_text(
     asked: &[Asked],
     reached: &mut Reached,
 ) -> Result<Text, AllocError>
-    requires { All (λ (a : AskedValue). a.term < length state.now.terms.nodes) asked.now }
+    requires held { All (λ (a : AskedValue). a.term < length state.now.terms.nodes) asked.now }
+    requires words { state.now.symbols.theories ≡ false }
     ensures text { IfOk result (λ t. t ≡ values_text state.now.terms.nodes asked.now last.old) }
     ensures same { last.new ≡ last.old }
 {

@@ -1,13 +1,16 @@
 // What the checks of a session leave to the next one.
 
-use local_names::LocalNames;
+use cnf_base::Pos;
+use cube_search::Search;
 use proof_log::Log;
 use term_reach::Reached;
 
-/// The log of the checks, and two tables that are kept: the numbers of the last search, and the terms that were reached last.
+/// The log of the checks, the search of their cubes, which keeps what it learnt, how long the log was when that was made, and the
+/// terms that were reached last.
 #[derive(Drop)]
 pub(crate) struct Workspace {
     pub(crate) log: Log,
-    pub(crate) names: LocalNames,
+    pub(crate) search: Search,
+    pub(crate) made: Pos,
     pub(crate) reached: Reached,
 }

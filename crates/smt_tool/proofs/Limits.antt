@@ -15,6 +15,7 @@ state_within n m r is = record {
   terms = is.terms;
   scopes = is.scopes;
   live = is.live;
+  theories = is.theories;
   constants = is.constants;
   declared = is.declared;
   bodies = is.bodies;

@@ -26,7 +26,7 @@ returns c =
     is_search s c.args.log.now (stands_over s.terms.nodes c.args.log.now c.requires) (limits_of c.args.limits) c.args.cube c.args.start
     c.as_slice.result.now c.in-Some.given.items c.push_selectors.new.given.items c.push_assumed.new.given.items c.live.result.now c.assumptions.result.now c.live.ensures.live c.assumptions.ensures.assumptions
     (c.as_slice.ensures.value ∙ c.in_ok-variables.ensures.variables) within
-    (MatchBool-at_true _ _ c.if-not-are_chains.false c.are_chains.ensures)
+    (MatchBool-at_true _ _ c.if-not-are_added.false c.are_added.ensures)
     (rw c.in-Some.is at c.in_ok-given.ensures)
     (MatchBool-at_true _ _ c.if-not-branch.false c.in_ok-push_selectors.ensures)
     (MatchBool-at_true _ _ c.if-not-branch-2.false c.in_ok-push_assumed.ensures)

@@ -5,7 +5,7 @@ use Rattle.smt_session.proofs.Showing.{shown_digits}
 use Rattle.smt_session.proofs.check.run_check.Goals as goal
 
 pub lines-requires-clause-lined : goal.lines-requires-clause-lined
-lines-requires-clause-lined c = log_lined c.args.state.now c.check.new.workspace.log (grown_steps c.args.state.now c.args.workspace.now.log c.check.new.workspace.log c.requires.session.each c.in_ok-shown.ensures.grows) c.in_ok-shown.ensures.grows.stands
+lines-requires-clause-lined c = log_lined c.args.state.now c.check.new.workspace.log (grown_steps c.args.state.now c.args.workspace.now.log c.check.new.workspace.log c.requires.session.each c.in_ok-shown.ensures.checked.grows) c.in_ok-shown.ensures.checked.grows.stands
 
 pub lines-requires-clause-digits : goal.lines-requires-clause-digits
-lines-requires-clause-digits c = shown_digits (limits_of c.args.limits) c.args.state.now c.check.new.workspace.log.entries c.in_ok-shown.shown c.requires.session.state c.in_ok-shown.ensures.shown
+lines-requires-clause-digits c = shown_digits (limits_of c.args.limits) c.args.state.now c.check.new.workspace.log.entries c.in_ok-shown.shown c.requires.session.state c.requires.session.theories c.in_ok-shown.ensures.checked.shown

@@ -3,7 +3,7 @@ use Rattle.std.specs.Option.{option_copied}
 use Rattle.smt_terms.specs.Bits.{bits_in}
 use Rattle.proof_log.specs.declared.entry.Entry.TheVariants as step
 use Rattle.smt_session.proofs.Staying.{none_mapped, grows_one}
-use Rattle.smt_session.proofs.Validity.{valid_over, pushed_over, plain_leaf, plain_encode, leaf_leaves, encode_leaves}
+use Rattle.smt_session.proofs.Validity.{valid_over, pushed_over, plain_word, plain_leaf, plain_encode, leaf_leaves, encode_leaves}
 use Rattle.smt_session.proofs.encoding.encode.Goals as goal
 
 pub push-requires-clause-valid : goal.push-requires-clause-valid
@@ -15,7 +15,8 @@ push-requires-clause-valid c =
 
 pub returns-then-is_constant-clause-grows : goal.returns-then-is_constant-clause-grows
 returns-then-is_constant-clause-grows c =
-    grows_one c.args.state.now c.args.log.now c.push.new.self (step.Leaf c.args.term) c.in_ok-push.field-0 ((λ q. let f : ⊥ = cc in f), tt)
+    grows_one c.args.state.now c.args.log.now c.push.new.self (step.Leaf c.args.term) c.in_ok-push.field-0
+    ((λ q. let f : ⊥ = cc in f), tt, plain_word c.args.state.now c.terms-terms.result.now c.args.term c.node.result.now c.terms-terms.ensures.state c.terms-terms.ensures.terms c.node.ensures.node c.requires.held c.requires.plain (c.is_constant.ensures.constant c.if-is_constant.true))
     (pushed_over c.args.state.now c.terms-terms.result.now c.args.log.now c.push.new.self (step.Leaf c.args.term) c.in_ok-push.field-0 c.terms-terms.ensures.terms c.in_ok-push.ensures.pushed)
 
 pub returns-then-is_constant-clause-bits : goal.returns-then-is_constant-clause-bits
@@ -35,7 +36,7 @@ push-requires-2-clause-valid c =
 
 pub returns-clause-grows : goal.returns-clause-grows
 returns-clause-grows c =
-    grows_one c.args.state.now c.args.log.now c.push-2.new.self (step.Encode c.args.term) c.in_ok-push-2.field-0 ((λ q. let f : ⊥ = cc in f), tt)
+    grows_one c.args.state.now c.args.log.now c.push-2.new.self (step.Encode c.args.term) c.in_ok-push-2.field-0 ((λ q. let f : ⊥ = cc in f), tt, tt)
     (pushed_over c.args.state.now c.terms-terms.result.now c.args.log.now c.push-2.new.self (step.Encode c.args.term) c.in_ok-push-2.field-0 c.terms-terms.ensures.terms c.in_ok-push-2.ensures.pushed)
 
 pub returns-clause-bits : goal.returns-clause-bits

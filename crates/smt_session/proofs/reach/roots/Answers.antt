@@ -9,4 +9,4 @@ use Rattle.smt_session.proofs.reach.roots.Goals as goal
 pub returns-clause-plain : goal.returns-clause-plain
 returns-clause-plain c =
     let s = c.args.state.now in
-    IfOk-weaker c.roots.result (λ r. r.items ≡ roots s) (λ r. All (IsPlainTerm s.terms.nodes) r.items) (λ r e. roots_found s r.items c.roots.ensures.state e) c.roots.ensures.roots
+    IfOk-weaker c.roots.result (λ r. r.items ≡ roots s) (λ r. All (IsPlainTerm s.terms.nodes) r.items) (λ r e. roots_found s r.items c.roots.ensures.state c.requires e) c.roots.ensures.roots

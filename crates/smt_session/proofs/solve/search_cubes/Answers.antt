@@ -1,6 +1,7 @@
 use Rattle.std.proofs.Common.{◌+◌, refl, ◌∙◌, subst}
-use Rattle.std.specs.Prelude.{MatchOption}
+use Rattle.std.specs.Prelude.{MatchBool}
 use Rattle.proof_log.proofs.Growth.{grows_same, grows_then}
+use Rattle.cube_search.specs.Running.{valuation_of}
 use Rattle.smt_session.specs.Searched.{IsModelOf, AreTried, problem_of}
 use Rattle.smt_session.proofs.Cubes.{tried_later}
 use Rattle.smt_session.proofs.solve.search_cubes.Goals as goal
@@ -16,19 +17,19 @@ cubes-init c = record {
 pub returns-in_err-end-clause-grows : goal.returns-in_err-end-clause-grows
 returns-in_err-end-clause-grows c = grows_then c.args.board.now.log.entries c.cubes.board.log.entries c.search_cube.new.board.log.entries c.cubes.invariant.grows c.in_err-end.ensures.grows
 
-pub returns-in_err-values-clause-grows : goal.returns-in_err-values-clause-grows
-returns-in_err-values-clause-grows c = grows_then c.args.board.now.log.entries c.cubes.board.log.entries c.search_cube.new.board.log.entries c.cubes.invariant.grows c.in_ok-end.ensures.grows
+pub returns-in_err-found-clause-grows : goal.returns-in_err-found-clause-grows
+returns-in_err-found-clause-grows c = grows_then c.args.board.now.log.entries c.cubes.board.log.entries c.search_cube.new.board.log.entries c.cubes.invariant.grows c.in_ok-end.ensures.grows
 
-pub returns-in-Some-clause-grows : goal.returns-in-Some-clause-grows
-returns-in-Some-clause-grows c = grows_then c.args.board.now.log.entries c.cubes.board.log.entries c.search_cube.new.board.log.entries c.cubes.invariant.grows c.in_ok-end.ensures.grows
+pub returns-then-found-clause-grows : goal.returns-then-found-clause-grows
+returns-then-found-clause-grows c = grows_then c.args.board.now.log.entries c.cubes.board.log.entries c.search_cube.new.board.log.entries c.cubes.invariant.grows c.in_ok-end.ensures.grows
 
-pub returns-in-Some-clause-tried : goal.returns-in-Some-clause-tried
-returns-in-Some-clause-tried c =
+pub returns-then-found-clause-tried : goal.returns-then-found-clause-tried
+returns-then-found-clause-tried c =
     let p = problem_of c.search_cube.new.search c.search_cube.new.board c.args.tree.now c.args.assumed.now c.args.budget in
     let log = c.search_cube.new.board.log.entries in
     let tried = tried_later (problem_of c.cubes.search c.cubes.board c.args.tree.now c.args.assumed.now c.args.budget) p c.cubes.board.log.entries log c.cubes.cube c.cubes.tried.closed.items c.cubes.tried.spent c.in_ok-end.ensures.same c.in_ok-end.ensures.grows c.cubes.invariant.tried in
-    subst (λ o. MatchOption o (AreTried p log (c.cubes.cube + 1) c.add.new.self.closed.items c.add.new.self.spent) (IsModelOf p log c.search_cube.new.search.names)) c.in-Some.is
-    (c.in_ok-values.ensures p log c.search_cube.new.search.names c.cubes.cube tried c.in_ok-end.ensures.end)
+    subst (λ b. MatchBool b (IsModelOf p log (valuation_of c.search_cube.new.search)) (AreTried p log (c.cubes.cube + 1) c.add.new.self.closed.items c.add.new.self.spent)) c.if-found.true
+    (c.in_ok-found.ensures p log (valuation_of c.search_cube.new.search) c.cubes.cube tried c.in_ok-end.ensures.end)
 
 pub cubes-preserved : goal.cubes-preserved
 cubes-preserved c =
@@ -40,6 +41,6 @@ cubes-preserved c =
       grows = grows_then c.args.board.now.log.entries c.cubes.board.log.entries c.search_cube.new.board.log.entries c.cubes.invariant.grows c.in_ok-end.ensures.grows;
       searching = c.in_ok-end.ensures.searching;
       tried =
-          subst (λ o. MatchOption o (AreTried p log (c.cubes.cube + 1) c.add.new.self.closed.items c.add.new.self.spent) (IsModelOf p log c.search_cube.new.search.names)) c.in_default.is
-          (c.in_ok-values.ensures p log c.search_cube.new.search.names c.cubes.cube tried c.in_ok-end.ensures.end);
+          subst (λ b. MatchBool b (IsModelOf p log (valuation_of c.search_cube.new.search)) (AreTried p log (c.cubes.cube + 1) c.add.new.self.closed.items c.add.new.self.spent)) c.if-found.false
+          (c.in_ok-found.ensures p log (valuation_of c.search_cube.new.search) c.cubes.cube tried c.in_ok-end.ensures.end);
     }

@@ -5,15 +5,15 @@ use Rattle.smt_values.specs.Held as set
 use Rattle.smt_eval.specs.Evaluated.{AreSuited}
 use Rattle.smt_session.proofs.Valuing.{terms_held, found_within, found_plain, item_more, read_held}
 use Rattle.smt_session.proofs.values.value_items.Goals as goal
-use Rattle.accepted_proof.proofs.Valuing.{are_suited}
+use Rattle.accepted_proof.proofs.Valuing.{word_suited}
 
 pub values_with-requires-clause-suited : goal.values_with-requires-clause-suited
-values_with-requires-clause-suited c = subst (λ (v : TermsValue). AreSuited v.nodes c.args.values.now) (sym c.terms.ensures.terms) (are_suited c.args.state.now c.terms.ensures.state c.args.values.now)
+values_with-requires-clause-suited c = subst (λ (v : TermsValue). AreSuited v.nodes c.args.values.now) (sym c.terms.ensures.terms) (word_suited c.args.state.now c.terms.ensures.state c.requires.words c.args.values.now)
 
 pub values_with-requires-clause-held : goal.values_with-requires-clause-held
 values_with-requires-clause-held c =
     subst (λ (v : TermsValue). All (λ t. t < length v.nodes) c.as_slice.result.now) (sym c.terms.ensures.terms)
-    (terms_held (length c.args.state.now.terms.nodes) c.args.asked.now c.in_ok-terms.terms.items c.as_slice.result.now c.in_ok-terms.ensures c.as_slice.ensures.value c.requires)
+    (terms_held (length c.args.state.now.terms.nodes) c.args.asked.now c.in_ok-terms.terms.items c.as_slice.result.now c.in_ok-terms.ensures c.as_slice.ensures.value c.requires.held)
 
 pub value_item-requires : goal.value_item-requires
 value_item-requires c =

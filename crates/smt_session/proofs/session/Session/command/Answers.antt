@@ -10,6 +10,7 @@ use Rattle.smt_session.proofs.session.Session.command.Goals as goal
 pub respond-requires : goal.respond-requires
 respond-requires g c = record {
   session = still_session c.self.inside.state c.apply.new.self c.self.inside.workspace.log c.in-Ok.answer c.in-Ok.ensures.0 c.self.invariant.0 c.in-Ok.ensures.2;
+  resting = c.self.invariant.2;
   limits = c.self.invariant.1;
   held = held_of c.self.inside.state c.apply.new.self c.in-Ok.answer c.in-Ok.ensures.0 c.self.invariant.0.state c.in-Ok.ensures.2;
 }
@@ -25,6 +26,7 @@ invariant_of-session g c = (
       c.self.invariant.0 c.in-Ok.ensures.2 c.asks_values-asked.ensures (c.len-len.ensures.length ∙ ap (λ (v : TermsValue). length v.nodes) c.terms.ensures.terms) c.in-Ok-respond.ensures.still
       c.settle.ensures c.in-Ok-respond.ensures.session,
   c.self.invariant.1,
+  c.in-Ok-respond.ensures.resting,
 )
 
 pub returns-clause-answered : goal.returns-clause-answered

@@ -8,7 +8,7 @@ join-requires-clause-clauses c =
     (closing_over t.0 c.args.terms.now.nodes c.args.log.now _ c.args.tree.now c.args.self.closed.items c.as_slice.result.now c.args.self.spent t.1 t.2 c.as_slice.ensures.value c.requires.stands c.in_default.is t.3)
 
 pub returns-clause-found : goal.returns-clause-found
-returns-clause-found c = λ p names nodes variables tried.
+returns-clause-found c = λ p v nodes variables tried.
     joined p c.args.terms.now.nodes c.join.new.log c.in_ok-at.at nodes c.in_ok-at.ensures.stands
     (c.in_ok-at.ensures.closes p.assumed
     (closing_over p c.args.terms.now.nodes c.args.log.now _ c.args.tree.now c.args.self.closed.items c.as_slice.result.now c.args.self.spent nodes variables c.as_slice.ensures.value c.requires.stands c.in_default.is tried))

@@ -1,3 +1,0 @@
-pub mod Numbers
-pub mod Renamed
-pub mod Clauses
