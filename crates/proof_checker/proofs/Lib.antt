@@ -7,6 +7,7 @@ pub mod Keeping
 pub mod Verdicts
 pub mod Passing
 pub mod Fronts
+pub mod RightFronts
 pub mod Moving
 pub mod Blanks
 pub mod Valued

@@ -232,7 +232,9 @@ no_chain_line s log l literals hints stands w none (entry.Chain c names) is =
     none c names (is.written ∙ ap Some w)
     (subst (λ k. AreBelow k c) (sym kept.next) is.valid.0)
     (subst (λ rows. IsChain (clause_at rows) c names) (sym kept.clauses) is.valid.1)
-no_chain_line s log l literals hints stands w none e is = is.valid
+no_chain_line s log l literals hints stands w none (entry.Rewrite r) is = is.valid
+no_chain_line s log l literals hints stands w none (entry.Equal t u) is = is.script
+no_chain_line s log l literals hints stands w none (entry.Lemma a) is = is.script
 
 -- the step that the line of a chain says, where memory may be wanting
 pub chain_told : {E : Type 0} (s : StateValue) (log : LogValue) (l : Line) (literals clause : List WrittenLiteral) (hints names : List WrittenHint) → Stands s.terms.nodes log → l ≡ line.Chain literals hints → clause ≡ literals → names ≡ hints → (r : Result (Option Entry) E)

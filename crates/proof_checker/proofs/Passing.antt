@@ -104,14 +104,14 @@ pub none_some : (r : Refusal) → ◌≡◌ {A = Option Refusal} None (Some r) �
 none_some r e = cc
 
 -- the lines behind the header
-record IsHeaderTold (lines : List (Option Line)) (cs : List Says) (vs : List Verdict) : Type 0 where
+pub record IsHeaderTold (lines : List (Option Line)) (cs : List Says) (vs : List Verdict) : Type 0 where
   pub limits : Limits
   pub allowed : AreLimits limits
   pub rest : List (Option Line)
   pub header : lines ≡ Some (line.Header limits.cubes limits.budget) ∷ rest
   pub told : Tells (no_judging limits) cs rest vs None
 
-header_told : (ls : List (Option Line)) (cs : List Says) (vs : List Verdict) → TellsProof cs ls vs None → IsHeaderTold ls cs vs
+pub header_told : (ls : List (Option Line)) (cs : List Says) (vs : List Verdict) → TellsProof cs ls vs None → IsHeaderTold ls cs vs
 header_told [] cs vs h = absurd (none_some _ h.1)
 header_told (l ∷ ls) cs vs (inl h) = record { limits = h.0; allowed = h.1.allowed; rest = ls; header = ap (λ x. x ∷ ls) h.1.written; told = h.2 }
 header_told (l ∷ ls) cs vs (inr h) = absurd (none_some _ h.2)

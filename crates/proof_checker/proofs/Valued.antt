@@ -10,7 +10,7 @@ use Rattle.std.proofs.Math.Nat.{div-div-eq-div-mul, pow-succ'}
 use Rattle.smt_terms.specs.declared.sort.Sort.TheVariants as sort
 use Rattle.smt_terms.specs.declared.sort.Signature.{Signature}
 use Rattle.smt_terms.specs.Terms.{TermsValue}
-use Rattle.smt_terms.specs.Values.{HasSort, VWord, is_true, value}
+use Rattle.smt_terms.specs.Values.{is_true, value}
 use Rattle.smt_values.specs.declared.value.Value.{Value}
 use Rattle.smt_values.specs.declared.value.Value.TheVariants as kept
 use Rattle.smt_values.specs.Held.{meaning, set_for}
@@ -21,10 +21,9 @@ use Rattle.scope_selectors.specs.declared.live.Live.{Live}
 use Rattle.script_state.specs.declared.answer.Asked.{Asked}
 use Rattle.script_state.specs.States.{StateValue, IsState, IsPlainConstant, assumptions, roots}
 use Rattle.proof_text.specs.declared.line.WrittenValue.TheVariants as written
-use Rattle.proof_text.specs.Records.{binary, written_value}
+use Rattle.proof_text.specs.Records.{binary, digits_of, written_value}
 use Rattle.proof_text.proofs.Appending.{binary_length}
-use Rattle.accepted_proof.specs.Models.{value_for, interpretation_of, IsModel}
-use Rattle.accepted_proof.proofs.Once.{no_word_bool}
+use Rattle.accepted_proof.specs.Models.{value_for, interpretation_of, IsModel, IsOfKind}
 use Rattle.cnf_base.proofs.Lists.{each_slice_get}
 use Rattle.proof_checker.specs.Blanks.{MeansSame}
 use Rattle.proof_checker.proofs.Blanks.{kept_interpretation}
@@ -114,15 +113,14 @@ binary_none x = refl
 
 -- ---- values of sorts
 
-word_width : (n w x : ℕ) → HasSort (sort.Word n) (VWord w x) → w ≡ n
-word_width n w x h = let e : VWord w x ≡ VWord n h.0 = h.1 in let q : w ≡ n = cc in q
-
 -- a word has as many digits as its width
-pub no_width : (n : ℕ) (v : Value) (digits : List Bool) → (length digits ≡ n → ⊥) → HasSort (sort.Word n) (meaning v) → written_value v ≡ Some (written.Word digits) → ⊥
-no_width n (kept.Bool b) digits other h p = no_word_bool n b h
+pub no_width : (n : ℕ) (v : Value) (digits : List Bool) → (length digits ≡ n → ⊥) → IsOfKind (sort.Word n) v → written_value v ≡ Some (written.Word digits) → ⊥
+no_width n (kept.Bool b) digits other h p = let f : ⊥ = cc in f
 no_width n (kept.Word x) digits other h p =
-    let q : Some (written.Word (binary x.width x.value)) ≡ Some (written.Word digits) = p in
-    let same : binary x.width x.value ≡ digits = cc in
-    other (sym (ap length same) ∙ binary_length x.width x.value ∙ word_width n x.width x.value h)
+    let q : Some (written.Word (digits_of x)) ≡ Some (written.Word digits) = p in
+    let same : digits_of x ≡ digits = cc in
+    let e : sort.Word n ≡ sort.Word x.width = h.0 in
+    let width : x.width ≡ n = cc in
+    other (sym (ap length same) ∙ binary_length x.width x.value ∙ width)
 no_width n (kept.Array a) digits other h p = let f : ⊥ = cc in f
 no_width n (kept.Fun t) digits other h p = let f : ⊥ = cc in f

@@ -11,6 +11,8 @@ use Rattle.script_state.specs.declared.answer.Answer.TheVariants as answer
 use Rattle.script_state.specs.declared.answer.Verdict.{Verdict}
 use Rattle.script_state.specs.declared.answer.Verdict.TheVariants as verdict
 use Rattle.script_state.specs.Steps.{step, ends}
+use Rattle.theory_terms.specs.declared.lemma.Lemma.{Lemma}
+use Rattle.theory_terms.specs.declared.lemma.Lemma.TheVariants as lemma
 use Rattle.proof_log.specs.declared.entry.Entry.{Entry}
 use Rattle.proof_log.specs.declared.entry.Entry.TheVariants as entry
 use Rattle.proof_text.specs.declared.line.Head.{Head}
@@ -19,7 +21,7 @@ use Rattle.proof_text.specs.declared.line.Line.TheVariants as line
 use Rattle.proof_text.specs.declared.line.WrittenValue.{WrittenValue}
 use Rattle.proof_text.specs.declared.record.Record.{Record}
 use Rattle.proof_text.specs.declared.record.Record.TheVariants as shown
-use Rattle.proof_text.specs.Entries.{head_of, entry_line}
+use Rattle.proof_text.specs.Entries.{head_of, lemma_line, entry_line}
 use Rattle.proof_text.specs.Records.{written_value, value_lines, diary_line}
 use Rattle.accepted_proof.specs.declared.refusal.Refusal.{Refusal}
 use Rattle.accepted_proof.specs.declared.refusal.RuleName.{RuleName}
@@ -114,6 +116,10 @@ at_step j (line.Leaf t) k h = stepped j _ k h
 at_step j (line.Encode t) k h = stepped j _ k h
 at_step j (line.Selector a) k h = stepped j _ k h
 at_step j (line.Chain c hs) k h = stepped j _ k h
+at_step j (line.Equal t u) k h = inr (at_refused j k _ h)
+at_step j (line.Congruence t u) k h = inr (at_refused j k _ h)
+at_step j (line.Witness t) k h = inr (at_refused j k _ h)
+at_step j (line.Accesses a b) k h = inr (at_refused j k _ h)
 at_step j (line.Sat n) k (inl h) = gone j j.state.symbols.live [] k h.1
 at_step j (line.Sat n) k (inr h) = inr (at_refused j k _ h.1)
 at_step j (line.Value d w) k h = inr (at_refused j k _ h)
@@ -132,6 +138,10 @@ at_value j next left values (line.Leaf t) k h = inr (at_refused j k _ h)
 at_value j next left values (line.Encode t) k h = inr (at_refused j k _ h)
 at_value j next left values (line.Selector a) k h = inr (at_refused j k _ h)
 at_value j next left values (line.Chain c hs) k h = inr (at_refused j k _ h)
+at_value j next left values (line.Equal t u) k h = inr (at_refused j k _ h)
+at_value j next left values (line.Congruence t u) k h = inr (at_refused j k _ h)
+at_value j next left values (line.Witness t) k h = inr (at_refused j k _ h)
+at_value j next left values (line.Accesses a b) k h = inr (at_refused j k _ h)
 at_value j next left values (line.Sat n) k h = inr (at_refused j k _ h)
 at_value j next left values (line.Unsat p) k h = inr (at_refused j k _ h)
 at_value j next left values (line.Unknown cube start count) k h = inr (at_refused j k _ h)
@@ -149,6 +159,10 @@ at_diary j cube start left lines (line.Leaf t) k h = inr (at_refused j k _ h)
 at_diary j cube start left lines (line.Encode t) k h = inr (at_refused j k _ h)
 at_diary j cube start left lines (line.Selector a) k h = inr (at_refused j k _ h)
 at_diary j cube start left lines (line.Chain c hs) k h = inr (at_refused j k _ h)
+at_diary j cube start left lines (line.Equal t u) k h = inr (at_refused j k _ h)
+at_diary j cube start left lines (line.Congruence t u) k h = inr (at_refused j k _ h)
+at_diary j cube start left lines (line.Witness t) k h = inr (at_refused j k _ h)
+at_diary j cube start left lines (line.Accesses a b) k h = inr (at_refused j k _ h)
 at_diary j cube start left lines (line.Sat n) k h = inr (at_refused j k _ h)
 at_diary j cube start left lines (line.Value d w) k h = inr (at_refused j k _ h)
 at_diary j cube start left lines (line.Unsat p) k h = inr (at_refused j k _ h)
@@ -218,8 +232,14 @@ steps_none : (o : Option Head) (args : List ℕ) → flat_map line_verdict (map 
 steps_none None args = refl
 steps_none (Some h) args = refl
 
+lemma_none : (l : Lemma) → flat_map line_verdict (Some (lemma_line l) ∷ []) ≡ []
+lemma_none (lemma.Congruence t u) = refl
+lemma_none (lemma.Witness t) = refl
+lemma_none (lemma.Arrays a b) = refl
+
 step_none : (e : Entry) → flat_map line_verdict (map (λ l. Some l) (option_to_list (entry_line e))) ≡ []
 step_none (entry.Node n) = steps_none (head_of n.op) n.args
+step_none (entry.Lemma l) = lemma_none l
 step_none e = refl
 
 -- the verdicts of these lines

@@ -9,7 +9,7 @@ ghost use Rattle.accepted_proof.specs.declared.refusal.Refusal.{Refusal};
 ghost use Rattle.accepted_proof.specs.Searching.{Limits};
 ghost use Rattle.accepted_proof.specs.Turns.{Turn};
 ghost use Rattle.accepted_proof.specs.Answers.{turn_lines};
-ghost use Rattle.accepted_proof.specs.Accepted.{Accepted};
+ghost use Rattle.accepted_proof.specs.Accepted.{Accepted, AcceptedSoFar};
 ghost use Rattle.accepted_proof.specs.Right.{AreRight};
 ghost use Rattle.proof_checker.specs.Checked.{IsJudged, IsAccepted, IsAcceptedSoFar, verdicts_of};
 
@@ -37,6 +37,13 @@ pub fn what_is_accepted_is_right()
     judged_proofs_are_accepted();
     accepted_proofs_are_right();
 }
+
+/// What is accepted of fronts of a script and of its proof is right: within some limits the proof begins with the accepted proof of
+/// turns of the first commands, which have these verdicts, each `sat` stands beside a model, and where there is an `unsat` there is none.
+pub fn accepted_fronts_are_right()
+    ensures { (script proof : List ℕ) (vs : List Verdict) → IsAcceptedSoFar script proof vs
+        → (limits : Limits) × (turns : List Turn) × AcceptedSoFar limits script proof turns × AreRight no_state turns × (vs ≡ verdicts_of turns) }
+{}
 
 /// A check accepts the accepted proofs whose lines can be read, with the verdicts of their turns.
 pub fn accepted_proofs_pass()

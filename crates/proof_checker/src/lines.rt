@@ -109,6 +109,7 @@ fn op_of(head: Head) -> Option<Op>
         Head::RotateLeft(by) => Some(Op::RotateLeft(by)),
         Head::RotateRight(by) => Some(Op::RotateRight(by)),
         Head::Repeat(copies) => Some(Op::Repeat(copies)),
+        Head::ConstantArray(width) => Some(Op::ConstantArray(width)),
         Head::Apply(_) => None,
     }
 }

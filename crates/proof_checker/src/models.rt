@@ -1,15 +1,16 @@
 // Models.
 
-ghost use Rattle.std.specs.Prelude.{◌≡◌, ◌<◌, ◌≤◌, ◌^◌, length, Some, IfOk, MatchBool, MatchOption};
+ghost use Rattle.std.specs.Prelude.{◌≡◌, ◌<◌, ◌≤◌, ◌^◌, true, length, Some, IfOk, MatchBool, MatchOption};
 ghost use Rattle.std.specs.List.{list_all};
 ghost use Rattle.smt_words.specs.Words.{IsWidth};
 ghost use Rattle.smt_terms.specs.Terms.{IsSort};
-ghost use Rattle.smt_terms.specs.Values.{HasSort, is_true};
+ghost use Rattle.smt_terms.specs.Ranks.{is_plain};
+ghost use Rattle.smt_terms.specs.Values.{is_true};
 ghost use Rattle.smt_values.specs.declared.value.Value.{Value as Held};
 ghost use Rattle.smt_values.specs.Held.{meaning};
 ghost use Rattle.proof_text.specs.Records.{binary, written_value};
 ghost use Rattle.smt_build.specs.declared.symbols.LiveName.{LiveName as Name};
-ghost use Rattle.accepted_proof.specs.Models.{interpretation_of, IsModel};
+ghost use Rattle.accepted_proof.specs.Models.{interpretation_of, IsModel, IsOfKind};
 ghost use Rattle.accepted_proof.specs.Judged.{IsValueOf};
 
 use crate::kept::KeptInterp;
@@ -85,8 +86,8 @@ fn number(digits: &[bool]) -> u128
 fn word_of(width: u32, digits: &[bool]) -> Option<Value>
     requires { IsWidth width }
     ensures { MatchOption result
-        ((v : Held) → HasSort (Sort.Word width) (meaning v) → written_value v ≡ Some (WrittenValue.Word digits.now) → ⊥)
-        (λ v. HasSort (Sort.Word width) (meaning v) × (written_value v ≡ Some (WrittenValue.Word digits.now))) }
+        ((v : Held) → IsOfKind (Sort.Word width) v → written_value v ≡ Some (WrittenValue.Word digits.now) → ⊥)
+        (λ v. IsOfKind (Sort.Word width) v × (written_value v ≡ Some (WrittenValue.Word digits.now))) }
 {
     if digits.len() != width as usize {
         return None;
@@ -96,21 +97,29 @@ fn word_of(width: u32, digits: &[bool]) -> Option<Value>
 
 /// The value of this sort that is written so; nothing where there is none.
 fn value_of(sort: Sort, written: &WrittenValue) -> Option<Value>
-    requires { IsSort sort }
+    requires sort { IsSort sort }
+    requires plain { is_plain sort ≡ true }
     ensures { MatchOption result
-        ((v : Held) → HasSort sort (meaning v) → written_value v ≡ Some written.now → ⊥)
-        (λ v. HasSort sort (meaning v) × (written_value v ≡ Some written.now)) }
+        ((v : Held) → IsOfKind sort v → written_value v ≡ Some written.now → ⊥)
+        (λ v. IsOfKind sort v × (written_value v ≡ Some written.now)) }
 {
-    match sort {
-        Sort::Bool => match written {
-            WrittenValue::Bool(holds) => Some(Value::Bool(*holds)),
-            WrittenValue::Word(_) => None,
+    match written {
+        WrittenValue::Bool(holds) => match sort {
+            Sort::Bool => Some(Value::Bool(*holds)),
+            _ => None,
         },
-        Sort::Word(width) => match written {
-            WrittenValue::Bool(_) => None,
-            WrittenValue::Word(digits) => word_of(width, digits.as_slice()),
+        WrittenValue::Word(digits) => match sort {
+            Sort::Word(width) => word_of(width, digits.as_slice()),
+            _ => None,
         },
-        Sort::Array(_, _) => None,
+        WrittenValue::Array {
+            default: _,
+            entries: _,
+        } => None,
+        WrittenValue::Fun {
+            default: _,
+            values: _,
+        } => None,
     }
 }
 

@@ -89,6 +89,10 @@ impl Checker {
                 clause: _,
                 hints: _,
             } => self.step(alloc, line),
+            Line::Equal(_, _) => Ok(self.refuse(RuleName::Line)),
+            Line::Congruence(_, _) => Ok(self.refuse(RuleName::Line)),
+            Line::Witness(_) => Ok(self.refuse(RuleName::Line)),
+            Line::Accesses(_, _) => Ok(self.refuse(RuleName::Line)),
             Line::Sat(count) => self.begin_values(alloc, *count),
             Line::Value {
                 declaration: _,

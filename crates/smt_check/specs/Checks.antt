@@ -7,7 +7,7 @@ use Rattle.script_state.specs.States.{no_state}
 use Rattle.accepted_proof.specs.declared.refusal.Refusal.{Refusal}
 use Rattle.accepted_proof.specs.Searching.{Limits}
 use Rattle.accepted_proof.specs.Turns.{Turn}
-use Rattle.accepted_proof.specs.Accepted.{Accepted}
+use Rattle.accepted_proof.specs.Accepted.{Accepted, AcceptedSoFar}
 use Rattle.accepted_proof.specs.Right.{AreRight}
 use Rattle.accepted_proof.specs.Answers.{verdict_text}
 use Rattle.proof_checker.specs.Checkings.{Judges, Accepts, IsFed}
@@ -122,11 +122,33 @@ pub record IsFrontOfVerdicts (text lines answered : List ℕ) : Type 0 where
   pub accepted : IsAcceptedSoFar text lines verdicts
   pub report : flat_map verdict_text verdicts ≡ answered ++ rest
 
+-- there are no verdicts yet, or a front of the proof is accepted, and they are those of its records
+abbrev pub AreKnown : List ℕ → List ℕ → List Verdict → Type 0
+AreKnown text lines verdicts = (verdicts ≡ []) ⊎ IsAcceptedSoFar text lines verdicts
+
+-- Within some limits the proof begins with the accepted proof of turns of the first commands. They have these verdicts, and are
+-- right: each `sat` has a model, and where there is an `unsat` there is none.
+pub record AreRightVerdicts (text lines : List ℕ) (verdicts : List Verdict) : Type 0 where
+  pub limits : Limits
+  pub turns : List Turn
+  pub accepted : AcceptedSoFar limits text lines turns
+  pub right : AreRight no_state turns
+  pub verdicts_are : verdicts ≡ verdicts_of turns
+
+-- a front of a report is told, and its verdicts are right, where there are any
+pub record IsRightSoFar (text lines answered : List ℕ) : Type 0 where
+  pub verdicts : List Verdict
+  pub refusal : Option Refusal
+  pub rest : List ℕ
+  pub report : report_text verdicts refusal ≡ answered ++ rest
+  pub right : (verdicts ≡ []) ⊎ AreRightVerdicts text lines verdicts
+
 -- Nothing is told, or verdicts of accepted records alone, or a front of the whole report. Whatever is judged of the two texts, its
--- report begins with what is told.
+-- report begins with what is told. Each verdict that is told is right, whatever is judged behind it.
 pub record IsFrontOfCheck (text lines answered : List ℕ) : Type 0 where
   pub told : (answered ≡ []) ⊎ (IsFrontOfVerdicts text lines answered ⊎ IsFrontOfReport text lines answered)
   pub begins : (verdicts : List Verdict) (refusal : Option Refusal) → IsJudged text lines verdicts refusal → (rest : List ℕ) × (report_text verdicts refusal ≡ answered ++ rest)
+  pub right : IsRightSoFar text lines answered
 
 -- how much was read of both inputs, by the status
 abbrev pub ReadsForStatus : Option (List ℕ) → Option (List ℕ) → Option (List ℕ) → Option (List ℕ) → Status → Type 0

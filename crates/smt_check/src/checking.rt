@@ -8,7 +8,7 @@ ghost use Rattle.accepted_proof.specs.Answers.{verdict_text};
 ghost use Rattle.proof_checker.specs.Checked.{IsJudged};
 ghost use Rattle.proof_checker.specs.Checkings.{verdicts_by};
 ghost use Rattle.smt_check.specs.Runs.{AddsTo, IsLater, HasCause, counts};
-ghost use Rattle.smt_check.specs.Checks.{StopsReading, TakesScript, TakesProof, ReadsBoth, ReadsForStatus, HasCheckCause, status_of, ToldOf, IsEndOfCheck, IsFrontOfCheck};
+ghost use Rattle.smt_check.specs.Checks.{StopsReading, TakesScript, TakesProof, ReadsBoth, ReadsForStatus, HasCheckCause, status_of, ToldOf, IsEndOfCheck, AreKnown, IsFrontOfCheck};
 
 use crate::reading::{INPUT_LIMIT, read_piece};
 use crate::status::Status;
@@ -91,6 +91,7 @@ fn check_texts<S: Source, P: Source, W: Sink>(
 ) -> Result<Judgement, Status>
     requires { 0 < length buffer.old }
     ensures judged { IfOk result (λ j. IfSome (S.left script.old) (λ text. IfSome (P.left proof.old) (λ lines. IsJudged text lines (verdicts_by j.checker) j.refusal))) }
+    ensures known { IfOk result (λ j. IfSome (S.left script.old) (λ text. IfSome (P.left proof.old) (λ lines. AreKnown text lines (verdicts_by j.checker)))) }
     ensures told { IfOk result (λ j. Appends (W.written answers.old) (W.written answers.new) (flat_map verdict_text (verdicts_by j.checker))) }
     ensures front { ToldOf (S.left script.old) (P.left proof.old) (W.written answers.old) (W.written answers.new) IsFrontOfCheck }
     ensures answers { AddsTo (W.written answers.old) (W.written answers.new) }

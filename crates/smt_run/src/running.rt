@@ -128,6 +128,9 @@ pub fn run<S: Source, P: Source, W: Sink, Q: Sink>(
     // The words come first: where they are not taken, nothing is read or written. To read them takes memory.
     ensures usage { result ≡ Status.Usage → ¬ (AreTaken (map (λ w. w.now) words.now)) }
     ensures usage_always { ¬ (AreTaken (map (λ w. w.now) words.now)) → (result ≡ Status.Usage) ⊎ (result ≡ Status.NoMemory) }
+    // Words that are taken ask for one of the two commands.
+    ensures asked { AreTaken (map (λ w. w.now) words.now)
+        → IsToSolve (map (λ w. w.now) words.now) ⊎ IsToCheck (map (λ w. w.now) words.now) }
     ensures untouched { result ≡ Status.Usage → (script.new ≡ script.old) × (proof_in.new ≡ proof_in.old) × (answers.new ≡ answers.old) × (proof_out.new ≡ proof_out.old) }
     // `solve` reads no proof, and `check` writes none.
     ensures unread { IsToSolve (map (λ w. w.now) words.now) → proof_in.new ≡ proof_in.old }
@@ -157,6 +160,7 @@ pub fn run<S: Source, P: Source, W: Sink, Q: Sink>(
     ensures accepted { IsToCheck (map (λ w. w.now) words.now) → result ≡ Status.Done → ToldOf (S.left script.old) (P.left proof_in.old) (W.written answers.old) (W.written answers.new) IsRightlyAccepted }
     // What a check told before a stop are verdicts of records that are accepted, whatever stands behind them, the last line maybe
     // cut off, or a front of the whole report. Whatever is judged of both texts, its report begins with what is told.
+    // Each verdict that was told is right, also where a later line is refused or the run ended before.
     ensures judged_front { IsToCheck (map (λ w. w.now) words.now) → ToldOf (S.left script.old) (P.left proof_in.old) (W.written answers.old) (W.written answers.new) IsFrontOfCheck }
     // Without a fault two texts that are told and not too long are judged, but for want of memory.
     ensures judged_always { IsToCheck (map (λ w. w.now) words.now) → IsShort (S.left script.old) → IsShort (P.left proof_in.old)

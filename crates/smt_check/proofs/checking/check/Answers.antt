@@ -60,7 +60,7 @@ pub returns-in-Ok-write_whole-clause-ended : goal.returns-in-Ok-write_whole-clau
 returns-in-Ok-write_whole-clause-ended g c = λ _. line_ends (g.S.Source.left c.args.script.now) (g.P.Source.left c.args.proof.now) (g.W.Sink.written c.args.answers.now) (g.W.Sink.written c.check_texts.new.answers) (g.W.Sink.written c.write_whole.new.sink) (verdicts_by c.in-Ok.judgement.checker) c.in-Ok.judgement.refusal _ c.in-Ok.ensures.judged c.in-Ok.ensures.told (c.as_slice.ensures ∙ c.in-Ok-end_line.ensures) _ c.in-Ok-write_whole.ensures.bytes c.end_status.ensures
 
 pub returns-in-Ok-write_whole-clause-front : goal.returns-in-Ok-write_whole-clause-front
-returns-in-Ok-write_whole-clause-front g c = whole_front (g.S.Source.left c.args.script.now) (g.P.Source.left c.args.proof.now) (g.W.Sink.written c.args.answers.now) (g.W.Sink.written c.check_texts.new.answers) (g.W.Sink.written c.write_whole.new.sink) (verdicts_by c.in-Ok.judgement.checker) c.in-Ok.judgement.refusal _ c.in-Ok.ensures.judged c.in-Ok.ensures.told (c.as_slice.ensures ∙ c.in-Ok-end_line.ensures) c.in-Ok-write_whole.ensures.bytes
+returns-in-Ok-write_whole-clause-front g c = whole_front (g.S.Source.left c.args.script.now) (g.P.Source.left c.args.proof.now) (g.W.Sink.written c.args.answers.now) (g.W.Sink.written c.check_texts.new.answers) (g.W.Sink.written c.write_whole.new.sink) (verdicts_by c.in-Ok.judgement.checker) c.in-Ok.judgement.refusal _ c.in-Ok.ensures.judged c.in-Ok.ensures.told (c.as_slice.ensures ∙ c.in-Ok-end_line.ensures) c.in-Ok.ensures.known c.in-Ok-write_whole.ensures.bytes
 
 pub returns-in-Ok-write_whole-clause-read : goal.returns-in-Ok-write_whole-clause-read
 returns-in-Ok-write_whole-clause-read g c = rw c.end_status.ensures (end_read _ _ _ _ _ c.in-Ok.ensures.read)
@@ -87,7 +87,7 @@ returns-clause-ended g c = write_end _
 pub returns-clause-front : goal.returns-clause-front
 returns-clause-front g c =
     let b = c.in-Err-write_whole.ensures.bytes in
-    line_front (g.S.Source.left c.args.script.now) (g.P.Source.left c.args.proof.now) (g.W.Sink.written c.args.answers.now) (g.W.Sink.written c.check_texts.new.answers) (g.W.Sink.written c.write_whole.new.sink) (verdicts_by c.in-Ok.judgement.checker) c.in-Ok.judgement.refusal _ c.in-Ok.ensures.judged c.in-Ok.ensures.told (c.as_slice.ensures ∙ c.in-Ok-end_line.ensures) b.0 b.2
+    line_front (g.S.Source.left c.args.script.now) (g.P.Source.left c.args.proof.now) (g.W.Sink.written c.args.answers.now) (g.W.Sink.written c.check_texts.new.answers) (g.W.Sink.written c.write_whole.new.sink) (verdicts_by c.in-Ok.judgement.checker) c.in-Ok.judgement.refusal _ c.in-Ok.ensures.judged c.in-Ok.ensures.told (c.as_slice.ensures ∙ c.in-Ok-end_line.ensures) c.in-Ok.ensures.known b.0 b.2
 
 pub returns-clause-read : goal.returns-clause-read
 returns-clause-read g c = c.in-Ok.ensures.read

@@ -39,6 +39,9 @@ returns-in_err-judgement-clause-cause g c =
 pub returns-in-Done-clause-judged : goal.returns-in-Done-clause-judged
 returns-in-Done-clause-judged g c = way_done _ _ _ _ _ _ _ c.texts.invariant.way c.in-Done.judgement (stops_done _ _ _ _ c.in-Done.is c.in_ok-judgement.ensures).0
 
+pub returns-in-Done-clause-known : goal.returns-in-Done-clause-known
+returns-in-Done-clause-known g c = (telling_same _ _ _ _ _ c.texts.invariant.telling _ (stops_done _ _ _ _ c.in-Done.is c.in_ok-judgement.ensures).1).known
+
 pub returns-in-Done-clause-told : goal.returns-in-Done-clause-told
 returns-in-Done-clause-told g c = (telling_same _ _ _ _ _ c.texts.invariant.telling _ (stops_done _ _ _ _ c.in-Done.is c.in_ok-judgement.ensures).1).told
 

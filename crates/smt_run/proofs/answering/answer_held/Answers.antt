@@ -3,7 +3,7 @@ use Rattle.std.proofs.lemmas.Result.{err_from_is_err_and}
 use Rattle.std.proofs.lemmas.Bool.{not-true}
 use Rattle.smt_text.proofs.Cuts.{first_chunk_shrinks, Begins-push}
 use Rattle.smt_check.specs.Runs.{counts}
-use Rattle.smt_check.proofs.Parts.{adds_more}
+use Rattle.smt_check.proofs.Parts.{adds_more, cause_after}
 use Rattle.smt_run.specs.Adding.{moment_of, streams}
 use Rattle.smt_run.proofs.Written.{Written-none, Written-more}
 use Rattle.smt_run.proofs.Turning.{Advances-none, Advances-trans, held_stop, held_at}
@@ -54,3 +54,8 @@ commands-preserved g c =
           Advances-trans (moment_of c.args.so_far.session) c.args.so_far.refused c.commands.so_far c.in_ok-so_far.so_far start here behind c.commands.invariant.chunks (c.in-Some.chunk ∷ [])
           (not-true c.commands.so_far.ended c.commands-test.true) c.commands.invariant.advances c.in_ok-so_far.ensures.turn;
     }
+
+pub returns-in_err-so_far-clause-cause : goal.returns-in_err-so_far-clause-cause
+returns-in_err-so_far-clause-cause g c =
+    let p = err_from_is_err_and c.from_residual.result c.from_residual.ensures.1 in
+    rw (p.1, p.2) (cause_after _ _ _ _ c.commands.invariant.written.later c.in_err-so_far.ensures.cause)

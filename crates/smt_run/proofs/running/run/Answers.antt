@@ -7,6 +7,7 @@ use Rattle.smt_run.proofs.Written.{within_none}
 use Rattle.smt_run.proofs.Telling.{told_silent, unbegun_beside, unbegun_prefix}
 use Rattle.smt_check.proofs.Reported.{told_nothing}
 use Rattle.smt_run.proofs.Ends.{answered_unless, judged_unless, memory_usage, memory_done, memory_end, memory_long}
+use Rattle.smt_run.proofs.Faultless.{faultless_asks}
 use Rattle.smt_run.proofs.WordsTaken.{asks_solve, asks_check, one_command, same_limits}
 use Rattle.smt_run.proofs.running.run.Goals as goal
 
@@ -18,6 +19,9 @@ returns-in-Solve-clause-usage g c = λ e. absurd (c.solve.ensures.usage e)
 
 pub returns-in-Solve-clause-usage_always : goal.returns-in-Solve-clause-usage_always
 returns-in-Solve-clause-usage_always g c = λ n. absurd (n (asks_solve _ _ _ _ _ c.in-Solve.is c.in-Ok.ensures.asked).1.2.taken)
+
+pub returns-in-Solve-clause-asked : goal.returns-in-Solve-clause-asked
+returns-in-Solve-clause-asked g c = λ t. faultless_asks _ t
 
 pub returns-in-Solve-clause-untouched : goal.returns-in-Solve-clause-untouched
 returns-in-Solve-clause-untouched g c = λ e. absurd (c.solve.ensures.usage e)
@@ -99,6 +103,9 @@ returns-in-Check-clause-usage g c = λ e. absurd (c.check_proof.ensures.usage e)
 pub returns-in-Check-clause-usage_always : goal.returns-in-Check-clause-usage_always
 returns-in-Check-clause-usage_always g c = λ n. absurd (n (asks_check _ _ _ _ _ c.in-Check.is c.in-Ok.ensures.asked).1.2.taken)
 
+pub returns-in-Check-clause-asked : goal.returns-in-Check-clause-asked
+returns-in-Check-clause-asked g c = λ t. faultless_asks _ t
+
 pub returns-in-Check-clause-untouched : goal.returns-in-Check-clause-untouched
 returns-in-Check-clause-untouched g c = λ e. absurd (c.check_proof.ensures.usage e)
 
@@ -171,6 +178,9 @@ returns-in-Err-Usage-clause-usage g c = λ _. c.in-Err-Usage.ensures.asked c.in-
 pub returns-in-Err-Usage-clause-usage_always : goal.returns-in-Err-Usage-clause-usage_always
 returns-in-Err-Usage-clause-usage_always g c = λ _. inl refl
 
+pub returns-in-Err-Usage-clause-asked : goal.returns-in-Err-Usage-clause-asked
+returns-in-Err-Usage-clause-asked g c = λ t. faultless_asks _ t
+
 pub returns-in-Err-Usage-clause-untouched : goal.returns-in-Err-Usage-clause-untouched
 returns-in-Err-Usage-clause-untouched g c = λ _. (refl, refl, refl, refl)
 
@@ -242,6 +252,9 @@ returns-in-Err-NoMemory-clause-usage g c = λ e. absurd (memory_usage e)
 
 pub returns-in-Err-NoMemory-clause-usage_always : goal.returns-in-Err-NoMemory-clause-usage_always
 returns-in-Err-NoMemory-clause-usage_always g c = λ _. inr refl
+
+pub returns-in-Err-NoMemory-clause-asked : goal.returns-in-Err-NoMemory-clause-asked
+returns-in-Err-NoMemory-clause-asked g c = λ t. faultless_asks _ t
 
 pub returns-in-Err-NoMemory-clause-untouched : goal.returns-in-Err-NoMemory-clause-untouched
 returns-in-Err-NoMemory-clause-untouched g c = λ e. absurd (memory_usage e)

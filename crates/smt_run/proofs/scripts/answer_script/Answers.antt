@@ -9,7 +9,7 @@ use Rattle.smt_check.specs.Runs.{counts}
 use Rattle.smt_check.proofs.Parts.{adds_more, cause_after}
 use Rattle.smt_session.specs.Sessions.{limits_of}
 use Rattle.smt_run.specs.Adding.{opening, streams, with_piece}
-use Rattle.smt_run.proofs.Written.{Progress-none, Progress-more, Progress-resize, Written-none, Written-more, within_none, within_more, read_stopped, read_failed, read_whole, at_most, piece_read, script_cause}
+use Rattle.smt_run.proofs.Written.{Progress-none, Progress-more, Progress-resize, Written-none, Written-more, within_none, within_more, read_stopped, read_failed, read_whole, at_most, piece_read, script_cause, sinks_cause}
 use Rattle.smt_run.proofs.Turning.{Advances-none, Advances-trans, Begins-trans, held_none, held_stop, held_more, held_behind}
 use Rattle.smt_run.proofs.Telling.{front_told, rest_told, ended_told, ended_read}
 use Rattle.smt_run.proofs.scripts.answer_script.Goals as goal
@@ -157,3 +157,10 @@ returns-clause-turns g c =
 pub returns-in-Err-clause-cause : goal.returns-in-Err-clause-cause
 returns-in-Err-clause-cause g c =
     cause_after _ _ _ _ c.pieces.invariant.written.later (script_cause (g.S.Source.faults c.pieces.script) (g.S.Source.faults c.read_piece.new.script) (g.W.Sink.faults c.pieces.answers) (g.W.Sink.faults c.pieces.answers) (g.Q.Sink.faults c.pieces.proof) (g.Q.Sink.faults c.pieces.proof) _ c.in-Err.ensures.cause)
+
+pub returns-in_err-so_far-clause-cause : goal.returns-in_err-so_far-clause-cause
+returns-in_err-so_far-clause-cause g c =
+    let p = err_from_is_err_and c.from_residual-in_err-so_far.result c.from_residual-in_err-so_far.ensures.1 in
+    rw (p.1, p.2)
+    (cause_after _ _ _ _ c.pieces.invariant.written.later
+    (sinks_cause (g.S.Source.faults c.pieces.script) (g.S.Source.faults c.read_piece.new.script) _ _ _ _ _ c.in_err-so_far.ensures.cause c.in_err-so_far.ensures.stopped))
