@@ -1,0 +1,9 @@
+pub mod Numbers
+pub mod Known
+pub mod WordRules
+pub mod OtherRules
+pub mod ArgumentRules
+pub mod Keeping
+pub mod Reaching
+pub mod Folded
+pub mod Longer
