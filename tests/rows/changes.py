@@ -19,7 +19,7 @@ HERE = pathlib.Path(__file__).resolve().parent
 CHANGES = [
     # the limits of the header
     (1, 1, "smt_proof 1 cubes 0 budget 0", "accepted"),
-    (1, 1, "smt_proof 1 cubes 1 budget 0", "accepted"),
+    (1, 1, "smt_proof 1 cubes 1 budget 0", "a given literal"),
     (1, 1, "smt_proof 1 cubes 2 budget 0", "a given literal"),
     (1, 1, "smt_proof 1 cubes 0 budget 1", "not spent"),
     (1, 1, "smt_proof 1 cubes 11 budget 0", "header"),
@@ -51,17 +51,17 @@ CHANGES = [
     (16, 1, "- 13", "may be dropped"),
     (16, 1, "+ 13|+ 13", "text after the last record"),
     # the clause that is put
-    (14, 1, "c 3 6 0 7.2 3.2", "c:"),
+    (14, 1, "c 2 5 0 5.2 3.2", "c:"),
     (14, 1, "c 2 -2 0", "a complementary pair"),
-    (14, 1, "c 3 6 4 5 0 7.2 3.2", "a literal of no hint"),
-    (14, 1, "c 3 6 4 0 0.0 7.2 3.2", "a hint of no use"),
+    (14, 1, "c 2 5 4 6 0 5.2 3.2", "a literal of no hint"),
+    (14, 1, "c 2 5 4 0 0.0 5.2 3.2", "a hint of no use"),
     (14, 1, "c -4 -2 0 3.0", "a subset"),
     (14, 1, "c 4 3 2 0 3.2", "a subset"),
     # a second chain, whose hint is the first
-    (14, 3, "c 3 6 4 0 7.2 3.2|c 3 6 -8 0 9.0 13.0|unknown 0 13 1|+ 14", "a hint is not held"),
-    (14, 3, "c 3 6 4 0 7.2 3.2|c 3 6 -8 0 9.0 13.0|unknown 0 13 2|= 13|+ 14", "accepted"),
-    (14, 3, "c 3 6 4 0 7.2 3.2|c 3 6 -8 0 9.0 13.0|unknown 0 13 2|= 14|+ 13", "accepted"),
-    (14, 3, "c 3 6 4 0 7.2 3.2|c 3 6 -8 0 9.0 13.0|unknown 0 14 1|+ 14", "a hint is not held"),
+    (14, 3, "c 2 5 4 0 5.2 3.2|c 2 5 -8 0 9.0 13.0|unknown 0 13 1|+ 14", "a hint is not held"),
+    (14, 3, "c 2 5 4 0 5.2 3.2|c 2 5 -8 0 9.0 13.0|unknown 0 13 2|= 13|+ 14", "accepted"),
+    (14, 3, "c 2 5 4 0 5.2 3.2|c 2 5 -8 0 9.0 13.0|unknown 0 13 2|= 14|+ 13", "accepted"),
+    (14, 3, "c 2 5 4 0 5.2 3.2|c 2 5 -8 0 9.0 13.0|unknown 0 14 1|+ 14", "a hint is not held"),
 ]
 
 # So many first symbols, and so many last ones. A row of DROPS has the lines behind the 2000th put.
