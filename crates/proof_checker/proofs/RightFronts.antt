@@ -23,14 +23,13 @@ use Rattle.proof_checker.proofs.Verdicts.{judged_of, proof_verdicts, line_verdic
 begins_with_lines : (ls : List Line) (later : List (Option Line)) (text : List ℕ) → AreLines text (map (λ l. Some l) ls ++ later) → (rest : List ℕ) × (text ≡ flat_map line_text ls ++ rest)
 begins_with_lines [] later text h = (text, refl)
 begins_with_lines (l ∷ ls) later text (inl h) =
-    let r = begins_with_lines ls later h.0 h.2 in
-    (
+    let r = begins_with_lines ls later h.0 h.2 in (
       r.0,
       h.1.cut
-      ∙ sym (append_assoc h.1.before (10 ∷ []) h.0)
-      ∙ ap (λ x. x ++ h.0) h.1.line_is.1
-      ∙ ap (λ x. line_text l ++ x) r.1
-      ∙ sym (append_assoc (line_text l) (flat_map line_text ls) r.0),
+          ∙ sym (append_assoc h.1.before (10 ∷ []) h.0)
+          ∙ ap (λ x. x ++ h.0) h.1.line_is.1
+          ∙ ap (λ x. line_text l ++ x) r.1
+          ∙ sym (append_assoc (line_text l) (flat_map line_text ls) r.0),
     )
 begins_with_lines (l ∷ ls) later text (inr h) = absurd (line_there l h.1)
   where

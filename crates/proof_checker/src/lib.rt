@@ -27,6 +27,6 @@ mod steps;
 mod values;
 
 pub use check_laws::{
-    accepted_fronts_are_right, accepted_fronts_stay, accepted_proofs_pass, texts_are_judged_one_way,
-    what_is_accepted_is_right,
+    accepted_fronts_are_right, accepted_fronts_stay, accepted_proofs_pass,
+    texts_are_judged_one_way, what_is_accepted_is_right,
 };

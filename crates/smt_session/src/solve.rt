@@ -166,9 +166,10 @@ fn search_cubes(
     Ok(false)
 }
 
-/// What a search keeps costs a little at each check. So it is made anew where the log grew by more than this, and by more than so many
-/// times the positions that a check needs.
+/// By how many steps the log may grow before a search is made anew: what a search keeps costs a little at each check.
 const KEPT_AT_LEAST: u64 = 1000;
+
+/// By how many further steps it may grow for each position that a check needs.
 const KEPT_FOR_EACH: u64 = 8;
 
 // Makes the search anew where the log grew by far more than this check needs since it was made; gives the length that the log had when
@@ -180,9 +181,12 @@ fn make_room(
     from: Pos,
     needed: usize,
 ) -> Result<Pos, AllocError>
-    ensures { IfOk result (λ made. (rows : List (List (List Literal))) (log : List Step) → IsResting search.old rows log → IsResting search.new rows log) }
+    ensures { IfOk result (λ made. (rows : List (List (List Literal))) (log : List Step) →
+        IsResting search.old rows log → IsResting search.new rows log) }
 {
-    let kept = (needed as u64).saturating_mul(KEPT_FOR_EACH).saturating_add(KEPT_AT_LEAST);
+    let kept = (needed as u64)
+        .saturating_mul(KEPT_FOR_EACH)
+        .saturating_add(KEPT_AT_LEAST);
     if from.saturating_sub(made) <= kept {
         return Ok(made);
     }
@@ -213,7 +217,13 @@ pub(crate) fn solve(
     ensures found { IfOk result (λ found. IsFound (problem terms.now.nodes workspace.old.log.entries positions.now tree.now assumed.now budget) workspace.new.log.entries (valuation_of workspace.new.search) found) }
 {
     let from = workspace.log.len();
-    let made = make_room(alloc, &mut workspace.search, workspace.made, from, positions.len())?;
+    let made = make_room(
+        alloc,
+        &mut workspace.search,
+        workspace.made,
+        from,
+        positions.len(),
+    )?;
     workspace.made = made;
     let log = mem::replace(&mut workspace.log, Log::new(alloc)?);
     let mut board = LogBoard::new(alloc, log, terms);
