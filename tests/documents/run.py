@@ -185,7 +185,7 @@ def check_definitions(text):
             source = (CRATES / place.group(1)).read_text()
             for name in codes(row[0]):
                 placed.add(name)
-                if not re.search(r"^(?:abbrev )?pub (?:record |data )?%s\b" % name, source, re.M):
+                if not re.search(r"^ *(?:abbrev )?pub (?:record |data )?%s\b" % name, source, re.M):
                     yield "%s is not defined in %s" % (name, place.group(1))
     running = (CRATES / "smt_run/src/running.rt").read_text()
     imports = re.findall(r"^ghost use Rattle\.(?!std)[a-z_]+\.specs\.[A-Za-z]+\.\{(.*)\};", running, re.M)
