@@ -9,11 +9,7 @@ and keeps what it learnt. Two of three are solved within other limits than the u
 A `sat` must have a model among the values, and that of its record must be one; an `unsat` must have none. The replayer of
 tests/rows and the program's own `check` must accept each proof file with these verdicts. Terms and meanings are those of words.py.
 """
-import pathlib
-import random
 import subprocess
-import sys
-import tempfile
 
 import words
 
@@ -79,20 +75,5 @@ def wrong(program, source, folder):
     return found and "%s\n%s\n%s" % (found, " ".join(session.limits), script.read_text())
 
 
-def main():
-    program = sys.argv[1] if len(sys.argv) > 1 else words.PROGRAM
-    count = int(sys.argv[2]) if len(sys.argv) > 2 else 100
-    source = random.Random(int(sys.argv[3]) if len(sys.argv) > 3 else 1)
-    bad = 0
-    with tempfile.TemporaryDirectory() as folder:
-        for _ in range(count):
-            found = wrong(program, source, pathlib.Path(folder))
-            if found:
-                bad += 1
-                print(found)
-    print("%d sessions, %d different" % (count, bad))
-    sys.exit(1 if bad else 0)
-
-
 if __name__ == "__main__":
-    main()
+    words.compare(wrong, "sessions", 100)

@@ -311,9 +311,10 @@ def wrong(program, source, folder):
     return found and "%s\n%s\n%s" % (found, " ".join(case.limits), script)
 
 
-def main():
+def compare(wrong, kind, usual):
+    """Takes the words of the command line, a program, a count and a seed, and tells how many random scripts are wrong."""
     program = sys.argv[1] if len(sys.argv) > 1 else PROGRAM
-    count = int(sys.argv[2]) if len(sys.argv) > 2 else 500
+    count = int(sys.argv[2]) if len(sys.argv) > 2 else usual
     source = random.Random(int(sys.argv[3]) if len(sys.argv) > 3 else 1)
     bad = 0
     with tempfile.TemporaryDirectory() as folder:
@@ -322,9 +323,9 @@ def main():
             if found:
                 bad += 1
                 print(found)
-    print("%d scripts, %d different" % (count, bad))
+    print("%d %s, %d different" % (count, kind, bad))
     sys.exit(1 if bad else 0)
 
 
 if __name__ == "__main__":
-    main()
+    compare(wrong, "scripts", 500)
