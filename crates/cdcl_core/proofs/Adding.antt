@@ -118,7 +118,7 @@ unit_placed w w2 t t2 s a b c id k name set_b free_a open_a pu =
 pub forced_added : (t t2 : Trail) (a s : ℕ) (c : List Literal) (id : ClauseId) → IsConsistent t → Has (codes c) a → a < length t.stamps.items → get_or t.stamps.items a 0 ≡ 0 → get_or t.stamps.items (neg a) 0 ≡ 0 → ((m : ℕ) → Has (codes c) m → m ≢ a → 0 < get_or t.stamps.items (neg m) 0) → IsPushed t t2 a (t.level + 1) s (literal_of a, t.level, Some id) → IsAdded (literals_of t) (level_of t) id c (literals_of t2)
 forced_added t t2 a s c id k has ha open_a free_a others pu =
     let l : (l : Literal) × (Contains c l × (code_of l ≡ a)) = has_to c a has in
-    let wide : t.len < length t.rows.items = has_row t a k.0 k.1 ha open_a in
+    let wide : t.len < length t.rows.items = has_row t a k.0 k.1 ha open_a free_a in
     inr (
       l.0,
       (

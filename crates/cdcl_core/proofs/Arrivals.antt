@@ -183,6 +183,7 @@ rewound ss es len head level head2 t le after = record {
       ];
   count = t.count;
   size = t.size;
+  few = t.few;
   even = t.even;
   reached = omega (arith, t.reached);
   levels = t.levels;
@@ -198,8 +199,8 @@ hung_unit w w2 t t2 s a b c id p r may has_a has_b differ h idle name free free2
     let x : Row = (literal_of a, t.level, Some id) in
     let two : 2 ≤ a = may.named a has_a in
     let ha : a < length ss = may.within a has_a in
-    let room : t.len < length t.codes.items = has_room ss t.codes.items t.len t.head t.level a p.trail ha free in
-    let wide : t.len < length t.rows.items = has_row t a p.trail p.shown ha free in
+    let room : t.len < length t.codes.items = has_room ss t.codes.items t.len t.head t.level a p.trail ha free free2 in
+    let wide : t.len < length t.rows.items = has_row t a p.trail p.shown ha free free2 in
     let same : t2.level ≡ t.level = omega (arith, pu.level) in
     let lo : 1 ≤ s = r.low in
     let at_a2 : get_or ss2 a 0 ≡ t.level + 1 = get_or-set_same ss a (t.level + 1) 0 ha in

@@ -3,7 +3,6 @@ use Rattle.std.proofs.Common.{ℕ, ◌≡◌, ◌+◌, ◌*◌, ◌<◌, ◌≤�
 use Rattle.std.specs.Prelude.{slice_get, Contains}
 use Rattle.std.proofs.Math.ListN.{get_or}
 use Rattle.std.proofs.lemmas.List.{get_or-map, get_or-take, get_or_default, length-map, length-take-le}
-use Rattle.std.proofs.lemmas.List.Sums.{count_by-le-length}
 use Rattle.std.proofs.lemmas.Option.{slice_get-get_or, get_or_from_slice_get, slice_get_within}
 use Rattle.cnf_base.specs.Literals.{Literal, code_of, literal_of, negated}
 use Rattle.cnf_base.proofs.Codes.{literal_of-code_of, code_of-literal_of, code_of-injective}
@@ -14,7 +13,7 @@ use Rattle.cdcl_core.specs.Search.{literals_of}
 use Rattle.cdcl_core.specs.Stamps.{neg, is_set, codes, Has, IsTrueAt, IsFalse, RestsAt, IsTrail}
 use Rattle.cdcl_core.specs.State.{no_row, IsShown}
 use Rattle.cdcl_core.proofs.Counting.{neg_cases}
-use Rattle.cdcl_core.proofs.Trails.{found_at, true_on_trail, entry_true, trail_len}
+use Rattle.cdcl_core.proofs.Trails.{found_at, true_on_trail, entry_true, half_true, trail_len}
 use Rattle.cdcl_core.proofs.Clauses.{code_in}
 
 neg_of_sign : (v : ℕ) (p : Bool) → 2 * v + (if not p then 0 else 1) ≡ neg (2 * v + (if p then 0 else 1))
@@ -36,7 +35,7 @@ has_to c x h =
     (l, ((f.0, within, get_or_default c f.0 l (literal_of 0) within), sym (get_or-map code_of c f.0 (literal_of 0) 0 within) ∙ f.1.1))
 
 pub rows_len : (t : Trail) → IsTrail t.stamps.items t.codes.items t.len t.head t.level → IsShown t.rows.items t.stamps.items t.codes.items t.len → t.len ≤ length t.rows.items
-rows_len t tr sh = omega (arith, tr.count, count_by-le-length is_set t.stamps.items, sh.width)
+rows_len t tr sh = omega (arith, half_true t.stamps.items t.codes.items t.len t.head t.level tr, sh.width)
 
 -- the row at i
 pub row_is : (t : Trail) (i : ℕ) → IsTrail t.stamps.items t.codes.items t.len t.head t.level → IsShown t.rows.items t.stamps.items t.codes.items t.len → i < t.len → slice_get (literals_of t) i ≡ Some (get_or t.rows.items i no_row)

@@ -3,7 +3,7 @@ use Rattle.std.proofs.Common.{ℕ, ◌≡◌, ◌+◌, ◌-◌, ◌/◌, ◌<◌
 use Rattle.std.proofs.Math.ListN.{get_or, set, length-set}
 use Rattle.std.specs.List.{count_by}
 use Rattle.std.proofs.lemmas.List.{take_more, get_or_past, length-take-le, get_or-take}
-use Rattle.std.proofs.lemmas.List.Sums.{sum_by-set, count_by-le-length}
+use Rattle.std.proofs.lemmas.List.Sums.{sum_by-set}
 use Rattle.std.proofs.lemmas.Bool.{cases_lt}
 use Rattle.cdcl_core.specs.Chains.{times}
 use Rattle.cdcl_core.specs.Stamps.{neg, is_set, IsTrail}
@@ -25,7 +25,7 @@ cut_start ss es len head level j t = record { once = t.once; same = λ l. inl re
 
 pub cut_entry : (ss0 es : List ℕ) (len0 head level j : ℕ) (ss : List ℕ) (n i : ℕ) → IsTrail ss0 es len0 head level → IsCut ss0 es len0 j ss n → i < n → (0 < get_or ss (get_or es i 0) 0) × (get_or ss (get_or es i 0) 0 ≡ get_or ss0 (get_or es i 0) 0)
 cut_entry ss0 es len0 head level j ss n i t c h =
-    let room : n ≤ length es = omega (arith, c.fewer, t.size, t.count, count_by-le-length is_set ss0) in
+    let room : n ≤ length es = omega (arith, c.fewer, trail_len ss0 es len0 head level t) in
     let pos : 0 < get_or ss (get_or es i 0) 0 = one_set (get_or ss (get_or es i 0) 0) (omega (arith, c.once (get_or es i 0), entry_on es n i h room)) in
     elim (c.same (get_or es i 0)) [ inl e ↦ (pos, e) | inr e ↦ absurd (omega (arith, e.0, pos)) ]
 
@@ -35,7 +35,7 @@ cut_more ss0 es len0 head level j ss n l t c pos el high =
     let m : ℕ = n - 1 in
     let nm : m + 1 ≡ n = omega arith in
     let hl : l < length ss = elim (cases_lt l (length ss)) [ inl a ↦ a | inr a ↦ absurd (omega (arith, high, get_or_past ss l 0 a)) ] in
-    let room : m < length es = omega (arith, c.fewer, t.size, t.count, count_by-le-length is_set ss0) in
+    let room : m < length es = omega (arith, c.fewer, trail_len ss0 es len0 head level t) in
     let e : count_by is_set (set ss l 0) + f (get_or ss l 0) ≡ count_by is_set ss + f 0 = sum_by-set f ss l 0 0 hl in
     let split : (q : ℕ) → times q (take n es) ≡ times q (take m es) + bit (eqb l q) = λ q. subst (λ (x : ℕ). times q (take x es) ≡ times q (take m es) + bit (eqb l q)) nm (rw (take_more es m 0 room, ← el) (times_push q l (take m es))) in
     record {
@@ -63,7 +63,7 @@ pub cut_top : (ss0 es : List ℕ) (len0 head level j : ℕ) (ss : List ℕ) (n :
 cut_top ss0 es len0 head level j ss n t c stop l = elim (cases_lt 0 (get_or ss l 0)) [
   | inr a ↦ omega arith
   | inl a ↦
-      let room : n ≤ length es = omega (arith, c.fewer, t.size, t.count, count_by-le-length is_set ss0) in
+      let room : n ≤ length es = omega (arith, c.fewer, trail_len ss0 es len0 head level t) in
       let p : (i : ℕ) × ((i < length (take n es)) × (get_or (take n es) i 0 ≡ l)) = found_at l (take n es) (omega (arith, c.once l, set_one (get_or ss l 0) a)) in
       let hi : p.0 < n = (let z : p.0 < length (take n es) = p.1.0 in rw (length-take-le n es room) at z) in
       let at_l : get_or es p.0 0 ≡ l = rw (get_or-take n es p.0 0 hi) at p.1.1 in
@@ -78,7 +78,7 @@ cut_top ss0 es len0 head level j ss n t c stop l = elim (cases_lt 0 (get_or ss l
 pub cut_trail : (ss0 es : List ℕ) (len0 head level j : ℕ) (ss : List ℕ) (n : ℕ) → IsTrail ss0 es len0 head level → j < level → IsCut ss0 es len0 j ss n → (0 < n → get_or ss (get_or es (n - 1) 0) 0 ≤ j + 1) → IsTrail ss es n n j
 cut_trail ss0 es len0 head level j ss n t lower c stop =
     let top : (l : ℕ) → get_or ss l 0 ≤ j + 1 = cut_top ss0 es len0 head level j ss n t c stop in
-    let room : len0 ≤ length es = omega (arith, t.size, t.count, count_by-le-length is_set ss0) in
+    let room : len0 ≤ length es = trail_len ss0 es len0 head level t in
     let at_last : (0 < len0) × (get_or ss0 (get_or es (len0 - 1) 0) 0 ≡ level + 1) = t.levels.last (omega arith) in
     let shorter : n < len0 = elim (cases_lt n len0) [
       | inl a ↦ a
@@ -115,6 +115,7 @@ cut_trail ss0 es len0 head level j ss n t lower c stop =
       below = λ q a b. omega (arith, c.once q, set_one (get_or ss q 0) a);
       count = c.count;
       size = rw c.size t.size;
+      few = rw c.size t.few;
       even = rw c.size t.even;
       reached = omega arith;
       levels = record {

@@ -32,8 +32,8 @@ pub decide_settles : (w : Watches) (t t2 : Trail) (l : ℕ) → IsSettled w t �
 decide_settles w t t2 l s rest two hl free free2 pu =
     let cs : List (List ℕ) = all_codes w.clauses.items in
     let x : Row = (literal_of l, t.level + 1, None) in
-    let room : t.len < length t.codes.items = has_room t.stamps.items t.codes.items t.len t.head t.level l s.trail hl free in
-    let wide : t.len < length t.rows.items = has_row t l s.trail s.shown hl free in
+    let room : t.len < length t.codes.items = has_room t.stamps.items t.codes.items t.len t.head t.level l s.trail hl free free2 in
+    let wide : t.len < length t.rows.items = has_row t l s.trail s.shown hl free free2 in
     let level : t2.level ≡ t.level + 1 = omega (arith, pu.level) in
     record {
       trail = rw (pu.stamps, pu.codes, pu.len, pu.head, level) (decided_trail t.stamps.items t.codes.items t.len t.head t.level l s.trail rest.0 two hl free free2);

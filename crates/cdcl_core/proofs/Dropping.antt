@@ -2,10 +2,9 @@
 use Rattle.std.proofs.Common.{ℕ, ◌≡◌, ◌≢◌, ◌+◌, ◌*◌, ◌/◌, ◌<◌, ◌≤◌, ◌⊎◌, false, List, [], ◌∷◌, Some, None, length, refl, sym, ap, ◌∙◌, inl, inr, arith}
 use Rattle.std.specs.Prelude.{slice_get, option_and_then}
 use Rattle.std.specs.List.{sum_by}
-use Rattle.std.specs.BTreeMap.{get, is_at, UpdatesBy}
 use Rattle.std.proofs.Math.ListN.{get_or, set, length-set}
 use Rattle.std.proofs.lemmas.List.{get_or-set_other, get_or-set_same, map-set}
-use Rattle.std.proofs.lemmas.Bool.{cases_lt, cases_Bool}
+use Rattle.std.proofs.lemmas.Bool.{cases_lt}
 use Rattle.std.proofs.lemmas.Bool.Decides.{eqb_tells}
 use Rattle.cnf_base.specs.Literals.{Literal}
 use Rattle.cnf_base.specs.declared.clause.ClauseId.{ClauseId}
@@ -16,19 +15,20 @@ use Rattle.cdcl_core.specs.declared.watches.Kind.TheVariants.{Free, Watched}
 use Rattle.cdcl_core.specs.Chains.{times}
 use Rattle.cdcl_core.specs.Lists.{Lists}
 use Rattle.cdcl_core.specs.Levels.{Row}
-use Rattle.cdcl_core.specs.Search.{id_cmp, clause_of, held_of, literals_of}
+use Rattle.cdcl_core.specs.Search.{clause_of, held_of, literals_of}
+use Rattle.cdcl_core.specs.Slots.{slot_in, IsRenamed}
 use Rattle.cdcl_core.specs.Stamps.{codes, Has}
 use Rattle.cdcl_core.specs.Watched.{kind_at, IsPlace, IsWatching}
 use Rattle.cnf_base.specs.Clauses.{no_id}
 use Rattle.cdcl_core.specs.State.{no_row, all_codes, IsSettled, IsPlaced, IsCleared}
 use Rattle.cdcl_core.proofs.Apart.{free_not_fixed}
-use Rattle.cdcl_core.proofs.Held.{held_same}
+use Rattle.cdcl_core.proofs.Held.{held_same, same_or_other}
 use Rattle.cdcl_core.proofs.Counting.{times_nil}
 use Rattle.cdcl_core.proofs.Bridge.{row_is}
 use Rattle.cdcl_core.proofs.Slots.{slot_changed, reasoned_changed, fixed_changed, sum_zero}
 use Rattle.cdcl_core.proofs.Hanging.{freed_change, two_places}
 use Rattle.cdcl_core.proofs.Freeing.{with_first, first_counts}
-use Rattle.cdcl_core.proofs.Naming.{same_id, other_slot, read_other, settled_of}
+use Rattle.cdcl_core.proofs.Naming.{other_slot, read_other, settled_of}
 use Rattle.std.proofs.lemmas.Option.{same_Some}
 
 -- a place of a watched slot stands in the list of its literal alone
@@ -131,12 +131,12 @@ given_up_placed w w3 V t s g =
       calm = λ u. g.calm ∙ st.calm u;
     }
 
--- the steps of a clause that goes: the map forgets it, w2 has its places in no list, and w3 its slot free
+-- the steps of a clause that goes: its name has no slot any more, w2 has its places in no list, and w3 its slot free
 pub record IsGoing (w w2 w3 : Watches) (t : Trail) (s : ℕ) (id : ClauseId) : Type 0 where
   pub settled : IsSettled w t
-  pub found : get id_cmp w.slots id ≡ Some s
+  pub found : slot_in w.slots id ≡ Some s
   pub unused : (i : ℕ) (l : Literal) (level : ℕ) → slice_get (literals_of t) i ≢ Some (l, level, Some id)
-  pub updates : UpdatesBy id_cmp (id_cmp id) w.slots w3.slots None
+  pub named : IsRenamed w.slots w3.slots id None
   pub cleared : IsCleared w.lists w2.lists s
   pub kinds : w3.kinds.items ≡ set w.kinds.items s Free
   pub clauses : w3.clauses.items ≡ set w.clauses.items s []
@@ -152,26 +152,26 @@ unused_apart w w2 w3 t s id g i h pos e =
     let name : row.2 ≡ Some id = g.settled.reasoned.name i h pos ∙ ap Some (ap (λ x. get_or w.ids.items x no_id) e ∙ g.settled.named.name id s g.found) in
     g.unused i row.0 row.1 (row_is t i g.settled.trail g.settled.shown h ∙ ap (λ x. Some (row.0, row.1, x)) name)
 
-gone_cases : (w w2 w3 : Watches) (t : Trail) (s : ℕ) (id q : ClauseId) → IsGoing w w2 w3 t s id → ((id ≡ q) × (get id_cmp w3.slots q ≡ None)) ⊎ ((is_at (id_cmp id) q ≡ false) × (get id_cmp w3.slots q ≡ get id_cmp w.slots q))
-gone_cases w w2 w3 t s id q g = elim (cases_Bool (is_at (id_cmp id) q)) [
-  | inl e ↦ inl (same_id id q e, g.updates.0 q ∙ rw e refl)
-  | inr e ↦ inr (e, g.updates.2 q e)
+gone_cases : (w w2 w3 : Watches) (t : Trail) (s : ℕ) (id q : ClauseId) → IsGoing w w2 w3 t s id → ((id ≡ q) × (slot_in w3.slots q ≡ None)) ⊎ ((q ≢ id) × (slot_in w3.slots q ≡ slot_in w.slots q))
+gone_cases w w2 w3 t s id q g = elim (same_or_other q id) [
+  | inl e ↦ inl (sym e, ap (slot_in w3.slots) e ∙ g.named.here)
+  | inr ne ↦ inr (ne, g.named.others q ne)
 ]
 
 none_is_not : {A : Type 0} (q : ℕ) → None ≡ Some q → A
 none_is_not q e = absurd cc
 
 -- another name stands for another slot
-other_name : (w w2 w3 : Watches) (t : Trail) (s : ℕ) (id q : ClauseId) (r : ℕ) → IsGoing w w2 w3 t s id → get id_cmp w3.slots q ≡ Some r → (get id_cmp w.slots q ≡ Some r) × (r ≢ s)
+other_name : (w w2 w3 : Watches) (t : Trail) (s : ℕ) (id q : ClauseId) (r : ℕ) → IsGoing w w2 w3 t s id → slot_in w3.slots q ≡ Some r → (slot_in w.slots q ≡ Some r) × (r ≢ s)
 other_name w w2 w3 t s id q r g f = elim (gone_cases w w2 w3 t s id q g) [
   | inl a ↦ none_is_not r (sym a.1 ∙ f)
   | inr a ↦
-      let old : get id_cmp w.slots q ≡ Some r = sym a.1 ∙ f in (
+      let old : slot_in w.slots q ≡ Some r = sym a.1 ∙ f in (
         old,
         λ e.
             let same : id ≡ q = sym (g.settled.named.name id s g.found) ∙ (ap (λ x. get_or w.ids.items x no_id) (sym e) ∙ g.settled.named.name q r old) in
-            let mine : get id_cmp w3.slots id ≡ None = g.updates.1 in
-            none_is_not r (sym mine ∙ (ap (get id_cmp w3.slots) same ∙ f)),
+            let mine : slot_in w3.slots id ≡ None = g.named.here in
+            none_is_not r (sym mine ∙ (ap (slot_in w3.slots) same ∙ f)),
       )
 ]
 
@@ -202,9 +202,9 @@ gone_settled w w2 w3 t s id g =
       live = λ q r f e. st.named.live q r (other_name w w2 w3 t s id q r g f).0 (sym (kind r (other_name w w2 w3 t s id q r g f).1) ∙ e);
       held = λ r a b live.
           let ne : r ≢ s = λ e. live (rw e free) in
-          let old : get id_cmp w.slots (get_or w.ids.items r no_id) ≡ Some r = st.named.held r a (rw length-set at b) (λ e. live (kind r ne ∙ e)) in
+          let old : slot_in w.slots (get_or w.ids.items r no_id) ≡ Some r = st.named.held r a (rw length-set at b) (λ e. live (kind r ne ∙ e)) in
           elim (gone_cases w w2 w3 t s id (get_or w.ids.items r no_id) g) [
-            | inl x ↦ absurd (ne (same_Some r s (sym old ∙ (ap (get id_cmp w.slots) (sym x.0) ∙ g.found))))
+            | inl x ↦ absurd (ne (same_Some r s (sym old ∙ (ap (slot_in w.slots) (sym x.0) ∙ g.found))))
             | inr x ↦ x.1 ∙ old
           ];
       rows = rw length-set st.named.rows;
@@ -212,14 +212,14 @@ gone_settled w w2 w3 t s id g =
     }))
 
 pub gone_clause : (w w2 w3 : Watches) (t : Trail) (s : ℕ) (id : ClauseId) → IsGoing w w2 w3 t s id → clause_of w3 id ≡ None
-gone_clause w w2 w3 t s id g = let mine : get id_cmp w3.slots id ≡ None = g.updates.1 in ap (option_and_then (λ i. slice_get w3.clauses.items i)) mine
+gone_clause w w2 w3 t s id g = let mine : slot_in w3.slots id ≡ None = g.named.here in ap (option_and_then (λ i. slice_get w3.clauses.items i)) mine
 
 pub gone_others : (w w2 w3 : Watches) (t : Trail) (s : ℕ) (id q : ClauseId) → IsGoing w w2 w3 t s id → q ≢ id → (clause_of w3 q ≡ clause_of w q) × (held_of w3 q ≡ held_of w q)
 gone_others w w2 w3 t s id q g ne = elim (gone_cases w w2 w3 t s id q g) [
   | inl a ↦ absurd (ne (sym a.0))
   | inr a ↦
-      let apart : (i : ℕ) → get id_cmp w.slots q ≡ Some i → i ≢ s = λ i f. (other_name w w2 w3 t s id q i g (a.1 ∙ f)).1 in
-      let kept : clause_of w3 q ≡ clause_of w q = ap (option_and_then (λ i. slice_get w3.clauses.items i)) a.1 ∙ read_other w3.clauses.items w.clauses.items (get id_cmp w.slots q)
+      let apart : (i : ℕ) → slot_in w.slots q ≡ Some i → i ≢ s = λ i f. (other_name w w2 w3 t s id q i g (a.1 ∙ f)).1 in
+      let kept : clause_of w3 q ≡ clause_of w q = ap (option_and_then (λ i. slice_get w3.clauses.items i)) a.1 ∙ read_other w3.clauses.items w.clauses.items (slot_in w.slots q)
       (λ i f. ap (λ xs. slice_get xs i) g.clauses ∙ other_slot w.clauses.items s i [] (apart i f)) in
       (kept, held_same w w3 q a.1 (λ i f. rw g.kinds (get_or-set_other w.kinds.items s i Free Free (apart i f))) kept)
 ]

@@ -1,7 +1,6 @@
 -- Longer tables change nothing.
-use Rattle.std.proofs.Common.{ℕ, ◌≡◌, ◌+◌, ◌-◌, ◌*◌, ◌/◌, ◌%◌, ◌<◌, ◌≤◌, ◌++◌, zero, suc, List, [], ◌∷◌, Option, Some, None, length, take, replicate, cond, refl, sym, ap, ◌∙◌, inl, inr, arith}
+use Rattle.std.proofs.Common.{ℕ, ◌≡◌, ◌+◌, ◌-◌, ◌*◌, ◌/◌, ◌%◌, ◌^◌, ◌<◌, ◌≤◌, ◌++◌, zero, suc, List, [], ◌∷◌, Option, Some, None, length, take, replicate, cond, refl, sym, ap, ◌∙◌, inl, inr, arith}
 use Rattle.std.specs.Prelude.{slice_get, option_and_then}
-use Rattle.std.specs.BTreeMap.{get}
 use Rattle.std.specs.List.{count_by}
 use Rattle.std.proofs.Math.ListN.{get_or}
 use Rattle.std.proofs.lemmas.List.{get_or_append_left, get_or-append_right, get_or-replicate, get_or_past, length-append, length-replicate, take-append-le, map-append}
@@ -13,7 +12,8 @@ use Rattle.cnf_base.specs.declared.clause.ClauseId.{ClauseId}
 use Rattle.cdcl_core.specs.declared.trail.Trail.{Trail}
 use Rattle.cdcl_core.specs.declared.watches.Watches.{Watches}
 use Rattle.cdcl_core.specs.declared.watches.Kind.{Kind}
-use Rattle.cdcl_core.specs.Search.{id_cmp, literals_of, clause_of, held_of}
+use Rattle.cdcl_core.specs.Search.{literals_of, clause_of, held_of}
+use Rattle.cdcl_core.specs.Slots.{slot_in}
 use Rattle.cdcl_core.specs.Stamps.{neg, is_set, codes, IsTrail}
 use Rattle.cdcl_core.specs.Watched.{kind_at, Kept, IsWatching, IsPlace, IsWatched}
 use Rattle.cnf_base.specs.Clauses.{no_id}
@@ -40,8 +40,8 @@ no_counts : (n : ℕ) → count_by is_set (replicate n 0) ≡ 0
 no_counts zero = refl
 no_counts (suc n) = no_counts n
 
-pub longer_trail : (ss es ys : List ℕ) (len head level m : ℕ) → IsTrail ss es len head level → length ss + m ≤ length (es ++ ys) → (length ss + m) % 2 ≡ 0 → IsTrail (ss ++ replicate m 0) (es ++ ys) len head level
-longer_trail ss es ys len head level m t size even =
+pub longer_trail : (ss es ys : List ℕ) (len head level m : ℕ) → IsTrail ss es len head level → length ss + m ≤ 2 * length (es ++ ys) → length ss + m ≤ 2 ^ 32 → (length ss + m) % 2 ≡ 0 → IsTrail (ss ++ replicate m 0) (es ++ ys) len head level
+longer_trail ss es ys len head level m t size few even =
     let room : len ≤ length es = trail_len ss es len head level t in
     let stamp : (l : ℕ) → get_or (ss ++ replicate m 0) l 0 ≡ get_or ss l 0 = λ l. padded ss m l 0 in
     let code : (i : ℕ) → i < len → get_or (es ++ ys) i 0 ≡ get_or es i 0 = λ i h. get_or_append_left es ys 0 i (omega arith) in
@@ -56,6 +56,7 @@ longer_trail ss es ys len head level m t size even =
       below = λ l a b. rw (front head t.reached) (t.below l (rw stamp at a) (rw stamp at b));
       count = sum_by-append (λ x. cond (is_set x) 1 0) ss (replicate m 0) ∙ omega (arith, t.count, no_counts m);
       size = rw total size;
+      few = rw total few;
       even = rw total even;
       reached = t.reached;
       levels = record {
@@ -101,9 +102,9 @@ longer_watched L ws ks cs ss es ys len head level n m t w room =
       here = λ k on e st out. absurd (omega (arith, e, total, below k on));
     }
 
-pub longer_settled : (w : Watches) (t t2 : Trail) (n m : ℕ) → IsSettled w t → IsLonger t t2 m → length t.stamps.items + m ≤ length t2.codes.items → length t2.codes.items ≤ length t2.reasons.items → length t.stamps.items + m ≤ length t2.rows.items → length t.stamps.items + m ≤ 2 * length t2.spots.items → (length t.stamps.items + m) % 2 ≡ 0 → length t.stamps.items + m + 2 ≤ length w.lists.lists + n →
+pub longer_settled : (w : Watches) (t t2 : Trail) (n m : ℕ) → IsSettled w t → IsLonger t t2 m → length t.stamps.items + m ≤ 2 * length t2.codes.items → length t2.codes.items ≤ length t2.reasons.items → length t.stamps.items + m ≤ 2 * length t2.rows.items → length t.stamps.items + m ≤ 2 * length t2.spots.items → length t.stamps.items + m ≤ 2 ^ 32 → (length t.stamps.items + m) % 2 ≡ 0 → length t.stamps.items + m + 2 ≤ length w.lists.lists + n →
     IsSettled (with_lists w (record { lists = w.lists.lists ++ replicate n []; literals = w.lists.literals })) t2
-longer_settled w t t2 n m s l codes reasons rows spots even room =
+longer_settled w t t2 n m s l codes reasons rows spots few even room =
     let ss : List ℕ = t.stamps.items in
     let es : List ℕ = t.codes.items in
     let len_es : t.len ≤ length es = trail_len ss es t.len t.head t.level s.trail in
@@ -116,7 +117,7 @@ longer_settled w t t2 n m s l codes reasons rows spots even room =
     let front : (i : ℕ) → i ≤ t.len → take i t2.codes.items ≡ take i es = λ i h. rw l.codes.1 (take-append-le i es l.codes.0 (omega arith)) in
     let total : length (ss ++ replicate m 0) ≡ length ss + m = rw (length-append, length-replicate) refl in
     record {
-      trail = rw (l.stamps, l.codes.1, l.len, l.head, l.level) (longer_trail ss es l.codes.0 t.len t.head t.level m s.trail (rw l.codes.1 at codes) even);
+      trail = rw (l.stamps, l.codes.1, l.len, l.head, l.level) (longer_trail ss es l.codes.0 t.len t.head t.level m s.trail (rw l.codes.1 at codes) few even);
       shown = record {
         literal = λ i h. let h2 : i < t.len = rw l.len at h in rw (row i h2, code i h2) (s.shown.literal i h2);
         level = λ i h. let h2 : i < t.len = rw l.len at h in rw (row i h2, code i h2, l.stamps, stamp) (s.shown.level i h2);
@@ -151,7 +152,7 @@ longer_settled w t t2 n m s l codes reasons rows spots even room =
 pub longer_literals : (w : Watches) (t t2 : Trail) (m : ℕ) → IsSettled w t → IsLonger t t2 m → literals_of t2 ≡ literals_of t
 longer_literals w t t2 m s l = rw (l.len, l.rows.1) (take-append-le t.len t.rows.items l.rows.0 (rows_len t s.trail s.shown))
 
-pub longer_sizes : (w : Watches) (t t2 : Trail) (m : ℕ) → IsSettled w t → IsLonger t t2 m → (length t.stamps.items ≤ length t2.codes.items) × (length t.stamps.items ≤ length t2.rows.items) × (length t.stamps.items ≤ 2 * length t2.spots.items)
+pub longer_sizes : (w : Watches) (t t2 : Trail) (m : ℕ) → IsSettled w t → IsLonger t t2 m → (length t.stamps.items ≤ 2 * length t2.codes.items) × (length t.stamps.items ≤ 2 * length t2.rows.items) × (length t.stamps.items ≤ 2 * length t2.spots.items)
 longer_sizes w t t2 m s l = (rw (l.codes.1, length-append) (omega (arith, s.trail.size)), rw (l.rows.1, length-append) (omega (arith, s.shown.width)), rw (l.spots.1, length-append) (omega (arith, s.spots.width)))
 
 -- the tables by slot have more rows
@@ -233,8 +234,8 @@ wider_settled w w2 t s l =
 -- the clauses are read in the front of the table
 pub clause_front : (w w2 : Watches) (t : Trail) (cs : List (List Literal)) (id : ClauseId) → IsSettled w t → w2.slots ≡ w.slots → w2.clauses.items ≡ w.clauses.items ++ cs → clause_of w2 id ≡ clause_of w id
 clause_front w w2 t cs id s e c =
-    ap (λ m. option_and_then (λ q. slice_get w2.clauses.items q) (get id_cmp m id)) e
-    ∙ (ap (λ xs. option_and_then (λ q. slice_get xs q) (get id_cmp w.slots id)) c ∙ front w.clauses.items cs (get id_cmp w.slots id) (λ q f. omega (arith, s.named.high id q f, s.watched.clauses, codes_length w.clauses.items)))
+    ap (λ m. option_and_then (λ q. slice_get w2.clauses.items q) (slot_in m id)) e
+    ∙ (ap (λ xs. option_and_then (λ q. slice_get xs q) (slot_in w.slots id)) c ∙ front w.clauses.items cs (slot_in w.slots id) (λ q f. omega (arith, s.named.high id q f, s.watched.clauses, codes_length w.clauses.items)))
   where
     front : (xs ys : List (List Literal)) (o : Option ℕ) → ((q : ℕ) → o ≡ Some q → q < length xs) → option_and_then (λ q. slice_get (xs ++ ys) q) o ≡ option_and_then (λ q. slice_get xs q) o
     front xs ys None h = refl
@@ -245,4 +246,4 @@ clause_front w w2 t cs id s e c =
 
 -- and each is held or parked as before
 pub held_front : (w w2 : Watches) (t : Trail) (cs : List (List Literal)) (id : ClauseId) → IsSettled w t → w2.slots ≡ w.slots → w2.clauses.items ≡ w.clauses.items ++ cs → ((q : ℕ) → kind_at w2.kinds.items q ≡ kind_at w.kinds.items q) → held_of w2 id ≡ held_of w id
-held_front w w2 t cs id s e c kind = held_same w w2 id (ap (λ m. get id_cmp m id) e) (λ q f. kind q) (clause_front w w2 t cs id s e c)
+held_front w w2 t cs id s e c kind = held_same w w2 id (ap (λ m. slot_in m id) e) (λ q f. kind q) (clause_front w w2 t cs id s e c)

@@ -1,13 +1,13 @@
 -- Which of the clauses that are kept are held.
 use Rattle.std.proofs.Common.{ℕ, ◌≡◌, ◌≢◌, ◌⊎◌, true, false, Bool, List, Option, Some, None, cond, refl, sym, ap, ◌∙◌, inl, inr}
-use Rattle.std.specs.BTreeMap.{get}
 use Rattle.std.proofs.lemmas.Bool.Decides.{eqb_tells}
 use Rattle.cnf_base.specs.Literals.{Literal}
 use Rattle.cnf_base.specs.declared.clause.ClauseId.{ClauseId}
 use Rattle.cdcl_core.specs.declared.watches.Watches.{Watches}
 use Rattle.cdcl_core.specs.declared.watches.Kind.{Kind}
 use Rattle.cdcl_core.specs.declared.watches.Kind.TheVariants.{Free, Fixed, Watched, Parked}
-use Rattle.cdcl_core.specs.Search.{id_cmp, clause_of, held_of, is_held_slot, AreAllHeld}
+use Rattle.cdcl_core.specs.Search.{clause_of, held_of, is_held_slot, AreAllHeld}
+use Rattle.cdcl_core.specs.Slots.{slot_in}
 use Rattle.cdcl_core.specs.Watched.{kind_at, is_held, IsHeld}
 
 -- ---- kinds
@@ -43,14 +43,14 @@ none_picked false o e = refl
 
 -- a held clause is kept
 pub held_kept : (w : Watches) (id : ClauseId) (c : List Literal) → held_of w id ≡ Some c → clause_of w id ≡ Some c
-held_kept w id c e = (picked (is_held_slot w.kinds.items (get id_cmp w.slots id)) (clause_of w id) c e).1
+held_kept w id c e = (picked (is_held_slot w.kinds.items (slot_in w.slots id)) (clause_of w id) c e).1
 
 -- what is not kept is not held
 pub not_held : (w : Watches) (id : ClauseId) → clause_of w id ≡ None → held_of w id ≡ None
-not_held w id e = none_picked (is_held_slot w.kinds.items (get id_cmp w.slots id)) (clause_of w id) e
+not_held w id e = none_picked (is_held_slot w.kinds.items (slot_in w.slots id)) (clause_of w id) e
 
 -- the clause of a slot, by the slot's kind
-pub held_by : (w : Watches) (id : ClauseId) (b : Bool) (o : Option (List Literal)) → is_held_slot w.kinds.items (get id_cmp w.slots id) ≡ b → clause_of w id ≡ o → held_of w id ≡ cond b o None
+pub held_by : (w : Watches) (id : ClauseId) (b : Bool) (o : Option (List Literal)) → is_held_slot w.kinds.items (slot_in w.slots id) ≡ b → clause_of w id ≡ o → held_of w id ≡ cond b o None
 held_by w id b o flag kept = ap (λ (x : Bool). cond x (clause_of w id) None) flag ∙ ap (λ (y : Option (List Literal)). cond b y None) kept
 
 -- the kind of a slot that is found is as before
@@ -59,8 +59,8 @@ slot_same ks ks2 None h = refl
 slot_same ks ks2 (Some q) h = ap is_held (h q refl)
 
 -- the same clause is kept, in a slot of the same kind
-pub held_same : (w w2 : Watches) (id : ClauseId) → get id_cmp w2.slots id ≡ get id_cmp w.slots id → ((q : ℕ) → get id_cmp w.slots id ≡ Some q → kind_at w2.kinds.items q ≡ kind_at w.kinds.items q) → clause_of w2 id ≡ clause_of w id → held_of w2 id ≡ held_of w id
-held_same w w2 id slot kind kept = held_by w2 id (is_held_slot w.kinds.items (get id_cmp w.slots id)) (clause_of w id) (ap (is_held_slot w2.kinds.items) slot ∙ slot_same w.kinds.items w2.kinds.items (get id_cmp w.slots id) kind) kept
+pub held_same : (w w2 : Watches) (id : ClauseId) → slot_in w2.slots id ≡ slot_in w.slots id → ((q : ℕ) → slot_in w.slots id ≡ Some q → kind_at w2.kinds.items q ≡ kind_at w.kinds.items q) → clause_of w2 id ≡ clause_of w id → held_of w2 id ≡ held_of w id
+held_same w w2 id slot kind kept = held_by w2 id (is_held_slot w.kinds.items (slot_in w.slots id)) (clause_of w id) (ap (is_held_slot w2.kinds.items) slot ∙ slot_same w.kinds.items w2.kinds.items (slot_in w.slots id) kind) kept
 
 -- ---- names
 

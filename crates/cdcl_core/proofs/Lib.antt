@@ -2,6 +2,7 @@ pub mod Clauses
 pub mod Counting
 pub mod Apart
 pub mod Held
+pub mod Blocks
 pub mod Moves
 pub mod Places
 pub mod Reasons

@@ -1,14 +1,9 @@
 -- The names of the clauses, as slots are taken and given up.
 use Rattle.std.proofs.Common.{ℕ, zero, suc, ◌≡◌, ◌≢◌, ◌<◌, ◌≤◌, ◌⊎◌, Bool, true, false, List, [], ◌∷◌, Option, Some, None, cond, length, refl, sym, ap, ◌∙◌, inl, inr, arith}
 use Rattle.std.specs.Prelude.{slice_get, option_and_then}
-use Rattle.std.specs.Ordering.{nat_cmp, ordering_then, is_eq, MatchOrdering}
-use Rattle.std.specs.declared.cmp.Ordering.{Ordering}
-use Rattle.std.specs.declared.cmp.Ordering.TheVariants.{Less, Equal, Greater}
-use Rattle.std.specs.BTreeMap.{get, is_at, Updates}
 use Rattle.std.proofs.Math.ListN.{get_or, set, length-set}
 use Rattle.std.proofs.lemmas.List.{get_or-set_other, get_or-set_same}
 use Rattle.std.proofs.lemmas.Option.{slice_get-get_or}
-use Rattle.std.proofs.lemmas.Cmp.{ranked}
 use Rattle.std.proofs.lemmas.Bool.Decides.{eqb_tells}
 use Rattle.cnf_base.specs.Literals.{Literal}
 use Rattle.cnf_base.specs.declared.clause.ClauseId.{ClauseId}
@@ -16,39 +11,20 @@ use Rattle.cdcl_core.specs.declared.trail.Trail.{Trail}
 use Rattle.cdcl_core.specs.declared.watches.Watches.{Watches}
 use Rattle.cdcl_core.specs.declared.watches.Kind.{Kind}
 use Rattle.cdcl_core.specs.declared.watches.Kind.TheVariants.{Free}
-use Rattle.cdcl_core.specs.Search.{id_cmp, clause_of, held_of, is_held_slot}
+use Rattle.cdcl_core.specs.Search.{clause_of, held_of, is_held_slot}
+use Rattle.cdcl_core.specs.Slots.{slot_in, IsRenamed}
 use Rattle.cdcl_core.specs.Watched.{kind_at, is_held}
 use Rattle.cnf_base.specs.Clauses.{no_id}
 use Rattle.cdcl_core.specs.State.{all_codes, IsNamed, IsSettled, IsPlaced, IsWaiting, Holds}
-use Rattle.cdcl_core.proofs.Held.{held_by, held_same}
+use Rattle.cdcl_core.proofs.Held.{held_by, held_same, same_or_other}
 use Rattle.cdcl_core.proofs.Clauses.{codes_length}
 use Rattle.cdcl_core.proofs.Slots.{free_apart}
-use Rattle.std.proofs.lemmas.Bool.{cases_Bool}
 
-both_equal : (o p : Ordering) → is_eq (ordering_then o p) ≡ true → (o ≡ Equal) × (p ≡ Equal)
-both_equal Less p e = absurd cc
-both_equal Equal Less e = absurd cc
-both_equal Equal Equal e = (refl, refl)
-both_equal Equal Greater e = absurd cc
-both_equal Greater p e = absurd cc
-
-equal_numbers : (x y : ℕ) → nat_cmp x y ≡ Equal → x ≡ y
-equal_numbers x y e = let m : MatchOrdering Equal (x < y) (x ≡ y) (y < x) = ranked x y Equal (sym e) in m
-
--- names that compare equal are equal
-pub same_id : (a b : ClauseId) → is_at (id_cmp a) b ≡ true → a ≡ b
-same_id a b e =
-    let p : (nat_cmp a.pos b.pos ≡ Equal) × (nat_cmp a.part b.part ≡ Equal) = both_equal (nat_cmp a.pos b.pos) (nat_cmp a.part b.part) e in
-    same (equal_numbers a.pos b.pos p.0) (equal_numbers a.part b.part p.1)
+-- a name that no clause has has no slot
+pub not_named : (w : Watches) (t : Trail) (id : ClauseId) → IsSettled w t → clause_of w id ≡ None → slot_in w.slots id ≡ None
+not_named w t id s fresh = none (slot_in w.slots id) refl
   where
-    same : {x y u v : ℕ} → x ≡ y → u ≡ v → (let r : ClauseId = record { pos = x; part = u } in r) ≡ (let r : ClauseId = record { pos = y; part = v } in r)
-    same e f = cc
-
--- a name that no clause has is not in the map
-pub not_named : (w : Watches) (t : Trail) (id : ClauseId) → IsSettled w t → clause_of w id ≡ None → get id_cmp w.slots id ≡ None
-not_named w t id s fresh = none (get id_cmp w.slots id) refl
-  where
-    none : (o : Option ℕ) → get id_cmp w.slots id ≡ o → get id_cmp w.slots id ≡ None
+    none : (o : Option ℕ) → slot_in w.slots id ≡ o → slot_in w.slots id ≡ None
     none None e = e
     none (Some q) e =
         let within : q < length w.clauses.items = (let h : q < length w.kinds.items = s.named.high id q e in omega (arith, h, s.watched.clauses, codes_length w.clauses.items)) in
@@ -81,22 +57,22 @@ named_placed w w2 t s id st free e1 e2 e3 e4 e5 = record {
   calm = λ u. e4 ∙ st.calm u;
 }
 
--- the map and the names after a slot was taken
+-- the names after a slot was taken
 pub record IsTaken (w w2 : Watches) (s : ℕ) (id : ClauseId) (k : Kind) : Type 0 where
-  pub updates : Updates id_cmp w.slots w2.slots id (Some s)
+  pub named : IsRenamed w.slots w2.slots id (Some s)
   pub ids : w2.ids.items ≡ set w.ids.items s id
   pub kinds : w2.kinds.items ≡ set w.kinds.items s k
   pub live : k ≢ Free
   pub low : 1 ≤ s
   pub high : s < length w.kinds.items
   pub free : kind_at w.kinds.items s ≡ Free
-  pub fresh : get id_cmp w.slots id ≡ None
+  pub fresh : slot_in w.slots id ≡ None
 
--- what the map gives for a name, before and after
-found_cases : (w w2 : Watches) (s : ℕ) (id : ClauseId) (k : Kind) (q : ClauseId) → IsTaken w w2 s id k → ((id ≡ q) × (get id_cmp w2.slots q ≡ Some s)) ⊎ ((is_at (id_cmp id) q ≡ false) × (get id_cmp w2.slots q ≡ get id_cmp w.slots q))
-found_cases w w2 s id k q u = elim (cases_Bool (is_at (id_cmp id) q)) [
-  | inl e ↦ inl (same_id id q e, u.updates.0 q ∙ rw e refl)
-  | inr e ↦ inr (e, u.updates.2 q e)
+-- the slot of a name, before and after
+found_cases : (w w2 : Watches) (s : ℕ) (id : ClauseId) (k : Kind) (q : ClauseId) → IsTaken w w2 s id k → ((id ≡ q) × (slot_in w2.slots q ≡ Some s)) ⊎ ((q ≢ id) × (slot_in w2.slots q ≡ slot_in w.slots q))
+found_cases w w2 s id k q u = elim (same_or_other q id) [
+  | inl e ↦ inl (sym e, ap (slot_in w2.slots) e ∙ u.named.here)
+  | inr ne ↦ inr (ne, u.named.others q ne)
 ]
 
 pub taken_named : (w w2 : Watches) (t : Trail) (s : ℕ) (id : ClauseId) (k : Kind) → IsSettled w t → IsTaken w w2 s id k → IsNamed w2.slots w2.ids.items w2.kinds.items
@@ -108,7 +84,7 @@ taken_named w w2 t s id k st u =
     let kind_q : (q : ℕ) → q ≢ s → kind_at w2.kinds.items q ≡ kind_at w.kinds.items q = λ q ne. rw u.kinds (get_or-set_other w.kinds.items s q k Free ne) in
     let name_s : get_or w2.ids.items s no_id ≡ id = rw u.ids (get_or-set_same w.ids.items s id no_id (omega (arith, st.named.rows))) in
     let name_q : (q : ℕ) → q ≢ s → get_or w2.ids.items q no_id ≡ get_or w.ids.items q no_id = λ q ne. rw u.ids (get_or-set_other w.ids.items s q id no_id ne) in
-    let other : (p : ClauseId) (q : ℕ) → get id_cmp w.slots p ≡ Some q → q ≢ s = λ p q f e. st.named.live p q f (rw e u.free) in
+    let other : (p : ClauseId) (q : ℕ) → slot_in w.slots p ≡ Some q → q ≢ s = λ p q f e. st.named.live p q f (rw e u.free) in
     record {
       low = λ p q f. elim (found_cases w w2 s id k p u) [
         | inl a ↦ rw (← some_inj s q (sym a.1 ∙ f)) lo
@@ -127,9 +103,9 @@ taken_named w w2 t s id k st u =
         | inr a ↦ λ e. st.named.live p q (sym a.1 ∙ f) (sym (kind_q q (other p q (sym a.1 ∙ f))) ∙ e)
       ];
       held = λ q a b live. elim (eqb_tells q s) [
-        | inl e ↦ rw (e.1, name_s) u.updates.1
+        | inl e ↦ rw (e.1, name_s) u.named.here
         | inr e ↦
-            let old : get id_cmp w.slots (get_or w.ids.items q no_id) ≡ Some q = st.named.held q a (rw size at b) (λ z. live (kind_q q e.1 ∙ z)) in
+            let old : slot_in w.slots (get_or w.ids.items q no_id) ≡ Some q = st.named.held q a (rw size at b) (λ z. live (kind_q q e.1 ∙ z)) in
             elim (found_cases w w2 s id k (get_or w.ids.items q no_id) u) [
               | inl x ↦ absurd (let z : None ≡ Some q = sym u.fresh ∙ rw (← x.0) at old in cc)
               | inr x ↦ rw (name_q q e.1) (x.1 ∙ old)
@@ -153,7 +129,7 @@ pub record IsStored (w w2 w3 : Watches) (t : Trail) (s : ℕ) (id : ClauseId) (c
   pub settled : IsSettled w t
   pub waiting : IsWaiting w s
   pub fresh : clause_of w id ≡ None
-  pub updates : Updates id_cmp w.slots w2.slots id (Some s)
+  pub named : IsRenamed w.slots w2.slots id (Some s)
   pub ids : w2.ids.items ≡ set w.ids.items s id
   pub kinds : w2.kinds ≡ w.kinds
   pub clauses : w2.clauses ≡ w.clauses
@@ -162,7 +138,7 @@ pub record IsStored (w w2 w3 : Watches) (t : Trail) (s : ℕ) (id : ClauseId) (c
 
 stored_taken : (w w2 w3 : Watches) (t : Trail) (s : ℕ) (id : ClauseId) (c : List Literal) (k : Kind) → IsStored w w2 w3 t s id c k → IsTaken w w3 s id k
 stored_taken w w2 w3 t s id c k u = record {
-  updates = rw u.holds.slots u.updates;
+  named = rw u.holds.slots u.named;
   ids = rw u.holds.ids u.ids;
   kinds = u.holds.kinds ∙ ap (λ v. set v.items s k) u.kinds;
   live = u.live;
@@ -192,14 +168,14 @@ pub stored_kept : (w w2 w3 : Watches) (t : Trail) (s : ℕ) (id : ClauseId) (c :
 stored_kept w w2 w3 t s id c k u =
     let m : IsTaken w w3 s id k = stored_taken w w2 w3 t s id c k u in
     let within : s < length w.clauses.items = (let h : s < length w.kinds.items = u.waiting.high in omega (arith, h, u.settled.watched.clauses, codes_length w.clauses.items)) in
-    ap (option_and_then (λ i. slice_get w3.clauses.items i)) m.updates.1 ∙ (ap (λ xs. slice_get xs s) (clauses_now w w2 w3 t s id c k u) ∙ same_slot w.clauses.items s c within)
+    ap (option_and_then (λ i. slice_get w3.clauses.items i)) m.named.here ∙ (ap (λ xs. slice_get xs s) (clauses_now w w2 w3 t s id c k u) ∙ same_slot w.clauses.items s c within)
 
 -- it is held or parked, as the kind of its slot says
 pub stored_held : (w w2 w3 : Watches) (t : Trail) (s : ℕ) (id : ClauseId) (c : List Literal) (k : Kind) (b : Bool) → IsStored w w2 w3 t s id c k → is_held k ≡ b → held_of w3 id ≡ cond b (Some c) None
 stored_held w w2 w3 t s id c k b u is =
     let m : IsTaken w w3 s id k = stored_taken w w2 w3 t s id c k u in
     let kind : kind_at w3.kinds.items s ≡ k = rw m.kinds (get_or-set_same w.kinds.items s k Free u.waiting.high) in
-    held_by w3 id b (Some c) (ap (is_held_slot w3.kinds.items) m.updates.1 ∙ (ap is_held kind ∙ is)) (stored_kept w w2 w3 t s id c k u)
+    held_by w3 id b (Some c) (ap (is_held_slot w3.kinds.items) m.named.here ∙ (ap is_held kind ∙ is)) (stored_kept w w2 w3 t s id c k u)
 
 -- a look-up that finds no changed slot
 pub read_other : (xs ys : List (List Literal)) (o : Option ℕ) → ((q : ℕ) → o ≡ Some q → slice_get xs q ≡ slice_get ys q) → option_and_then (λ i. slice_get xs i) o ≡ option_and_then (λ i. slice_get ys i) o
@@ -209,19 +185,18 @@ read_other xs ys (Some q) h = h q refl
 pub stored_others : (w w2 w3 : Watches) (t : Trail) (s : ℕ) (id : ClauseId) (c : List Literal) (k : Kind) (q : ClauseId) → IsStored w w2 w3 t s id c k → q ≢ id → (clause_of w3 q ≡ clause_of w q) × (held_of w3 q ≡ held_of w q)
 stored_others w w2 w3 t s id c k q u ne =
     let m : IsTaken w w3 s id k = stored_taken w w2 w3 t s id c k u in
-    let apart_of : (i : ℕ) → get id_cmp w.slots q ≡ Some i → i ≢ s = λ i f e. u.settled.named.live q i f (rw e u.waiting.free) in
+    let apart_of : (i : ℕ) → slot_in w.slots q ≡ Some i → i ≢ s = λ i f e. u.settled.named.live q i f (rw e u.waiting.free) in
     elim (found_cases w w3 s id k q m) [
       | inl a ↦ absurd (ne (sym a.0))
       | inr a ↦
-          let kept : clause_of w3 q ≡ clause_of w q = ap (option_and_then (λ i. slice_get w3.clauses.items i)) a.1 ∙ read_other w3.clauses.items w.clauses.items (get id_cmp w.slots q)
+          let kept : clause_of w3 q ≡ clause_of w q = ap (option_and_then (λ i. slice_get w3.clauses.items i)) a.1 ∙ read_other w3.clauses.items w.clauses.items (slot_in w.slots q)
           (λ i f. ap (λ xs. slice_get xs i) (clauses_now w w2 w3 t s id c k u) ∙ other_slot w.clauses.items s i c (apart_of i f)) in
           (kept, held_same w w3 q a.1 (λ i f. rw m.kinds (get_or-set_other w.kinds.items s i k Free (apart_of i f))) kept)
     ]
 
--- the map was asked for memory in vain
-pub unnamed_settled : (w w2 : Watches) (t : Trail) → IsSettled w t → w2.lists ≡ w.lists → w2.kinds ≡ w.kinds → w2.clauses ≡ w.clauses → w2.ids ≡ w.ids → w2.refuted ≡ w.refuted → w2.slots.entries ≡ w.slots.entries → IsSettled w2 t
-unnamed_settled w w2 t st e1 e2 e3 e4 e5 e6 =
-    let same : (p : ClauseId) → get id_cmp w2.slots p ≡ get id_cmp w.slots p = λ p. rw e6 refl in
+-- the table was asked for memory in vain
+pub unnamed_settled : (w w2 : Watches) (t : Trail) → IsSettled w t → w2.lists ≡ w.lists → w2.kinds ≡ w.kinds → w2.clauses ≡ w.clauses → w2.ids ≡ w.ids → w2.refuted ≡ w.refuted → ((q : ClauseId) → slot_in w2.slots q ≡ slot_in w.slots q) → IsSettled w2 t
+unnamed_settled w w2 t st e1 e2 e3 e4 e5 same =
     record {
       trail = st.trail;
       shown = st.shown;
@@ -242,5 +217,8 @@ unnamed_settled w w2 t st e1 e2 e3 e4 e5 e6 =
       calm = λ u. e5 ∙ st.calm u;
     }
 
-pub unnamed_held : (w w2 : Watches) (id : ClauseId) → w2.kinds ≡ w.kinds → w2.clauses ≡ w.clauses → w2.slots.entries ≡ w.slots.entries → held_of w2 id ≡ held_of w id
-unnamed_held w w2 id e1 e2 e3 = rw (e1, e2, e3) refl
+pub unnamed_held : (w w2 : Watches) (id : ClauseId) → w2.kinds ≡ w.kinds → w2.clauses ≡ w.clauses → ((q : ClauseId) → slot_in w2.slots q ≡ slot_in w.slots q) → held_of w2 id ≡ held_of w id
+unnamed_held w w2 id e1 e2 same = rw (e1, e2, same id) refl
+
+pub unnamed_kept : (w w2 : Watches) (id : ClauseId) → w2.clauses ≡ w.clauses → ((q : ClauseId) → slot_in w2.slots q ≡ slot_in w.slots q) → clause_of w2 id ≡ clause_of w id
+unnamed_kept w w2 id e same = rw (e, same id) refl

@@ -1,7 +1,6 @@
 -- Clauses that are parked, and woken again.
 use Rattle.std.proofs.Common.{ℕ, ◌≡◌, ◌≢◌, ◌+◌, ◌/◌, ◌<◌, ◌≤◌, ◌⊎◌, Bool, true, false, IsSome, MatchBool, List, [], ◌∷◌, Option, Some, None, cond, length, refl, sym, ap, ◌∙◌, inl, inr, arith}
 use Rattle.std.specs.Prelude.{slice_get, option_and_then}
-use Rattle.std.specs.BTreeMap.{BTreeMap, get}
 use Rattle.std.proofs.Math.ListN.{get_or, set, length-set}
 use Rattle.std.proofs.lemmas.List.{get_or-set_other, get_or-set_same, get_or_past, get_or-map, set-set, set-get_or, append-nil}
 use Rattle.std.proofs.lemmas.Option.{slice_get-get_or, slice_get_past}
@@ -18,7 +17,8 @@ use Rattle.cdcl_core.specs.declared.watches.Kind.TheVariants.{Free, Fixed, Watch
 use Rattle.cdcl_core.specs.Chains.{times}
 use Rattle.cdcl_core.specs.Lists.{Lists}
 use Rattle.cdcl_core.specs.Levels.{Row, IsExtended, IsAdded}
-use Rattle.cdcl_core.specs.Search.{id_cmp, clause_of, held_of, is_held_slot}
+use Rattle.cdcl_core.specs.Search.{clause_of, held_of, is_held_slot}
+use Rattle.cdcl_core.specs.Slots.{slot_in}
 use Rattle.cdcl_core.specs.Stamps.{codes, Has, IsTrail}
 use Rattle.cdcl_core.specs.Watched.{kind_at, is_held, IsHeld, IsWatching, IsPlace, IsWatched}
 use Rattle.cdcl_core.specs.State.{no_row, all_codes, IsShown, IsReasoned, IsNamed, IsSettled, IsPlaced, MayCome, HoldsSome, IsCleared, IsEmptied, IsParkedFrom}
@@ -31,26 +31,26 @@ use Rattle.cdcl_core.proofs.Naming.{settled_of}
 
 -- ---- look-ups
 
-pub kept_same : (w v : Watches) (id : ClauseId) → get id_cmp v.slots id ≡ get id_cmp w.slots id → v.clauses.items ≡ w.clauses.items → clause_of v id ≡ clause_of w id
-kept_same w v id slot clauses = ap (option_and_then (λ s. slice_get v.clauses.items s)) slot ∙ ap (λ xs. option_and_then (λ s. slice_get xs s) (get id_cmp w.slots id)) clauses
+pub kept_same : (w v : Watches) (id : ClauseId) → slot_in v.slots id ≡ slot_in w.slots id → v.clauses.items ≡ w.clauses.items → clause_of v id ≡ clause_of w id
+kept_same w v id slot clauses = ap (option_and_then (λ s. slice_get v.clauses.items s)) slot ∙ ap (λ xs. option_and_then (λ s. slice_get xs s) (slot_in w.slots id)) clauses
 
 -- no slot, no clause
-pub none_kept : (w : Watches) (id : ClauseId) → get id_cmp w.slots id ≡ None → clause_of w id ≡ None
+pub none_kept : (w : Watches) (id : ClauseId) → slot_in w.slots id ≡ None → clause_of w id ≡ None
 none_kept w id e = ap (option_and_then (λ s. slice_get w.clauses.items s)) e
 
 -- two names of one slot are the same
-pub one_name : (w : Watches) (t : Trail) (p q : ClauseId) (s r : ℕ) → IsSettled w t → get id_cmp w.slots p ≡ Some s → get id_cmp w.slots q ≡ Some r → q ≢ p → r ≢ s
+pub one_name : (w : Watches) (t : Trail) (p q : ClauseId) (s r : ℕ) → IsSettled w t → slot_in w.slots p ≡ Some s → slot_in w.slots q ≡ Some r → q ≢ p → r ≢ s
 one_name w t p q s r st e f ne same = ne (sym (st.named.name q r f) ∙ (ap (λ x. get_or w.ids.items x no_id) same ∙ st.named.name p s e))
 
 -- where the look-up finds a slot past the tables, nothing is held
-pub past_kinds : (w : Watches) (id : ClauseId) (s : ℕ) → get id_cmp w.slots id ≡ Some s → length w.kinds.items ≤ s → held_of w id ≡ None
+pub past_kinds : (w : Watches) (id : ClauseId) (s : ℕ) → slot_in w.slots id ≡ Some s → length w.kinds.items ≤ s → held_of w id ≡ None
 past_kinds w id s e h = held_by w id false (clause_of w id) (ap (is_held_slot w.kinds.items) e ∙ ap is_held (get_or_past w.kinds.items s Free h)) refl
 
-pub past_clauses : (w : Watches) (id : ClauseId) (s : ℕ) → get id_cmp w.slots id ≡ Some s → length w.clauses.items ≤ s → held_of w id ≡ None
+pub past_clauses : (w : Watches) (id : ClauseId) (s : ℕ) → slot_in w.slots id ≡ Some s → length w.clauses.items ≤ s → held_of w id ≡ None
 past_clauses w id s e h = not_held w id (ap (option_and_then (λ i. slice_get w.clauses.items i)) e ∙ slice_get_past w.clauses.items s h)
 
 -- whether it is held, by the kind of its slot
-pub holds_slot : (w : Watches) (id : ClauseId) (s : ℕ) (b : Bool) → get id_cmp w.slots id ≡ Some s → s < length w.clauses.items → is_held (kind_at w.kinds.items s) ≡ b → MatchBool b (IsSome (held_of w id)) (held_of w id ≡ None)
+pub holds_slot : (w : Watches) (id : ClauseId) (s : ℕ) (b : Bool) → slot_in w.slots id ≡ Some s → s < length w.clauses.items → is_held (kind_at w.kinds.items s) ≡ b → MatchBool b (IsSome (held_of w id)) (held_of w id ≡ None)
 holds_slot w id s b e h is = tell b (held_by w id b (Some (get_or w.clauses.items s [])) (ap (is_held_slot w.kinds.items) e ∙ is) (ap (option_and_then (λ i. slice_get w.clauses.items i)) e ∙ slice_get-get_or w.clauses.items s [] h))
   where
     tell : (b : Bool) → held_of w id ≡ cond b (Some (get_or w.clauses.items s [])) None → MatchBool b (IsSome (held_of w id)) (held_of w id ≡ None)
@@ -78,7 +78,7 @@ low_reasoned t cs ks ks2 ids tr sh e r size live = record {
 }
 
 -- another kind of a slot that is not free, which is not free either
-named_again : (slots : BTreeMap ClauseId ℕ) (ids : List ClauseId) (ks ks2 : List Kind) (s : ℕ) (id : ClauseId) → IsNamed slots ids ks → get id_cmp slots id ≡ Some s → length ks2 ≡ length ks → kind_at ks2 s ≢ Free → ((q : ℕ) → q ≢ s → kind_at ks2 q ≡ kind_at ks q) → IsNamed slots ids ks2
+named_again : (slots : List (List ℕ)) (ids : List ClauseId) (ks ks2 : List Kind) (s : ℕ) (id : ClauseId) → IsNamed slots ids ks → slot_in slots id ≡ Some s → length ks2 ≡ length ks → kind_at ks2 s ≢ Free → ((q : ℕ) → q ≢ s → kind_at ks2 q ≡ kind_at ks q) → IsNamed slots ids ks2
 named_again slots ids ks ks2 s id n found size here kind = record {
   low = n.low;
   high = λ p q f. rw size (n.high p q f);
@@ -100,7 +100,7 @@ named_again slots ids ks ks2 s id n found size here kind = record {
 pub record IsTurned (w v : Watches) (t : Trail) (s : ℕ) (id : ClauseId) (k : Kind) : Type 0 where
   pub settled : IsSettled w t
   pub level : t.level ≡ 0
-  pub found : get id_cmp w.slots id ≡ Some s
+  pub found : slot_in w.slots id ≡ Some s
   pub live : k ≢ Free
   pub unwatched : k ≢ Watched
   pub value : k ≡ Fixed → (l : ℕ) × (Has (get_or (all_codes w.clauses.items) s []) l × (get_or t.stamps.items l 0 ≡ 1))
@@ -155,17 +155,17 @@ turned_settled w v t s id k u =
     }
 
 pub turned_kept : (w v : Watches) (t : Trail) (s : ℕ) (id : ClauseId) (k : Kind) (q : ClauseId) → IsTurned w v t s id k → clause_of v q ≡ clause_of w q
-turned_kept w v t s id k q u = kept_same w v q (ap (λ m. get id_cmp m q) u.slots) (ap (λ c. c.items) u.clauses)
+turned_kept w v t s id k q u = kept_same w v q (ap (λ m. slot_in m q) u.slots) (ap (λ c. c.items) u.clauses)
 
 pub turned_held : (w v : Watches) (t : Trail) (s : ℕ) (id : ClauseId) (k : Kind) → IsTurned w v t s id k → held_of v id ≡ cond (is_held k) (clause_of w id) None
 turned_held w v t s id k u =
     let now : kind_at v.kinds.items s ≡ k = rw u.kinds (get_or-set_same w.kinds.items s k Free (u.settled.named.high id s u.found)) in
-    let slot : get id_cmp v.slots id ≡ Some s = ap (λ m. get id_cmp m id) u.slots ∙ u.found in
+    let slot : slot_in v.slots id ≡ Some s = ap (λ m. slot_in m id) u.slots ∙ u.found in
     held_by v id (is_held k) (clause_of w id) (ap (is_held_slot v.kinds.items) slot ∙ ap is_held now) (turned_kept w v t s id k id u)
 
 pub turned_others : (w v : Watches) (t : Trail) (s : ℕ) (id : ClauseId) (k : Kind) (q : ClauseId) → IsTurned w v t s id k → q ≢ id → held_of v q ≡ held_of w q
 turned_others w v t s id k q u ne =
-    held_same w v q (ap (λ m. get id_cmp m q) u.slots) (λ r f. rw u.kinds (get_or-set_other w.kinds.items s r k Free (one_name w t id q s r u.settled u.found f ne))) (turned_kept w v t s id k q u)
+    held_same w v q (ap (λ m. slot_in m q) u.slots) (λ r f. rw u.kinds (get_or-set_other w.kinds.items s r k Free (one_name w t id q s r u.settled u.found f ne))) (turned_kept w v t s id k q u)
 
 -- ---- a parked clause without a true literal is held anew
 
@@ -178,7 +178,7 @@ false_apart w t s st none zero i h pos e =
 -- the steps: w2 has the slot in front of the free ones, and v holds the clause in it
 pub record IsWoken (w w2 v : Watches) (t u : Trail) (s : ℕ) (id : ClauseId) (c : List Literal) : Type 0 where
   pub settled : IsSettled w t
-  pub found : get id_cmp w.slots id ≡ Some s
+  pub found : slot_in w.slots id ≡ Some s
   pub clause : c ≡ get_or w.clauses.items s []
   pub kinds : w2.kinds.items ≡ set w.kinds.items s Free
   pub clauses : w2.clauses.items ≡ set w.clauses.items s []
@@ -214,13 +214,13 @@ module _ (w w2 v : Watches) (t u : Trail) (s : ℕ) (id : ClauseId) (c : List Li
       (λ q ne. rw woken_kinds (get_or-set_other w.kinds.items s q k Free ne))))
 
   pub woken_kept : (q : ClauseId) → clause_of v q ≡ clause_of w q
-  woken_kept q = kept_same w v q (ap (λ x. get id_cmp x q) woken_slots) woken_clauses
+  woken_kept q = kept_same w v q (ap (λ x. slot_in x q) woken_slots) woken_clauses
 
   pub woken_held : held_of v id ≡ clause_of w id
-  woken_held = held_by v id true (clause_of w id) (ap (is_held_slot v.kinds.items) (ap (λ x. get id_cmp x id) woken_slots ∙ m.found) ∙ (ap is_held now ∙ m.holds.1.0)) (woken_kept id)
+  woken_held = held_by v id true (clause_of w id) (ap (is_held_slot v.kinds.items) (ap (λ x. slot_in x id) woken_slots ∙ m.found) ∙ (ap is_held now ∙ m.holds.1.0)) (woken_kept id)
 
   pub woken_others : (q : ClauseId) → q ≢ id → held_of v q ≡ held_of w q
-  woken_others q ne = held_same w v q (ap (λ x. get id_cmp x q) woken_slots) (λ r f. rw woken_kinds (get_or-set_other w.kinds.items s r k Free (one_name w t id q s r m.settled m.found f ne))) (woken_kept q)
+  woken_others q ne = held_same w v q (ap (λ x. slot_in x q) woken_slots) (λ r f. rw woken_kinds (get_or-set_other w.kinds.items s r k Free (one_name w t id q s r m.settled m.found f ne))) (woken_kept q)
 
 -- what a clause that came leaves of the rows is an extension
 pub added_extended : (old new : List Row) (level : ℕ) (id : ClauseId) (c : List Literal) → IsAdded old level id c new → IsExtended old level new
@@ -236,7 +236,7 @@ unparked Fixed a b = refl
 unparked Watched a b = refl
 unparked Parked a b = absurd (b refl)
 
-pub already_held : (w : Watches) (t : Trail) (s : ℕ) (id : ClauseId) → IsSettled w t → get id_cmp w.slots id ≡ Some s → kind_at w.kinds.items s ≢ Parked → held_of w id ≡ clause_of w id
+pub already_held : (w : Watches) (t : Trail) (s : ℕ) (id : ClauseId) → IsSettled w t → slot_in w.slots id ≡ Some s → kind_at w.kinds.items s ≢ Parked → held_of w id ≡ clause_of w id
 already_held w t s id st found ne = held_by w id true (clause_of w id) (ap (is_held_slot w.kinds.items) found ∙ unparked (kind_at w.kinds.items s) (st.named.live id s found) ne) refl
 
 -- the clause of a slot and its codes
@@ -351,14 +351,14 @@ module _ (w v : Watches) (t : Trail) (m : IsAllParked w v t) where
   }
 
   pub all_kept : (q : ClauseId) → clause_of v q ≡ clause_of w q
-  all_kept q = kept_same w v q (ap (λ x. get id_cmp x q) m.slots) (ap (λ x. x.items) m.clauses)
+  all_kept q = kept_same w v q (ap (λ x. slot_in x q) m.slots) (ap (λ x. x.items) m.clauses)
 
   slot_idle : (o : Option ℕ) → is_held_slot v.kinds.items o ≡ false
   slot_idle None = refl
   slot_idle (Some q) = elim (m.kinds q) [ inl a ↦ ap is_held a.1 | inr a ↦ ap is_held a.1 ]
 
   pub none_held : (q : ClauseId) → held_of v q ≡ None
-  none_held q = held_by v q false (clause_of w q) (slot_idle (get id_cmp v.slots q)) (all_kept q)
+  none_held q = held_by v q false (clause_of w q) (slot_idle (slot_in v.slots q)) (all_kept q)
 
 -- ---- kinds, one after the other
 

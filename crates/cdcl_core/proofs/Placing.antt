@@ -1,7 +1,6 @@
 -- Where a literal stands on the trail, and which clause forced it.
 use Rattle.std.proofs.Common.{ℕ, ◌≡◌, ◌/◌, ◌<◌, ◌≤◌, List, [], Option, Some, None, length, take, sym, ap, ◌∙◌, inl, inr, arith}
 use Rattle.std.specs.Prelude.{slice_get, Contains}
-use Rattle.std.specs.BTreeMap.{get}
 use Rattle.std.proofs.Math.ListN.{get_or}
 use Rattle.std.proofs.lemmas.List.{get_or-take, get_or_past, get_or_default, length-take-le}
 use Rattle.std.proofs.lemmas.Option.{get_or_from_slice_get, slice_get_within, same_Some}
@@ -14,7 +13,8 @@ use Rattle.cdcl_core.specs.declared.trail.Trail.{Trail}
 use Rattle.cdcl_core.specs.declared.watches.Watches.{Watches}
 use Rattle.cdcl_core.specs.Chains.{times}
 use Rattle.cdcl_core.specs.Levels.{Row, StandsAt, IsReason}
-use Rattle.cdcl_core.specs.Search.{id_cmp, literals_of}
+use Rattle.cdcl_core.specs.Search.{literals_of}
+use Rattle.cdcl_core.specs.Slots.{slot_in}
 use Rattle.cdcl_core.specs.Stamps.{codes, Has}
 use Rattle.cdcl_core.specs.State.{no_row, all_codes, IsSettled, IsConsistent, KeepsPlaces, HasForced}
 use Rattle.cdcl_core.proofs.Trails.{found_at, true_on_trail, entry_true, trail_len}
@@ -79,7 +79,7 @@ nothing x e = absurd cc
 
 -- a literal with a reason: its slot, which has the name and the literal
 pub record IsFrom (w : Watches) (t : Trail) (l : Literal) (i : ℕ) (id : ClauseId) : Type 0 where
-  pub found : get id_cmp w.slots id ≡ Some (get_or t.reasons.items i 0)
+  pub found : slot_in w.slots id ≡ Some (get_or t.reasons.items i 0)
   pub has : Contains (get_or w.clauses.items (get_or t.reasons.items i 0) []) l
 
 pub forced_from : (w : Watches) (t : Trail) (l : Literal) (i level : ℕ) (id : ClauseId) → IsSettled w t → slice_get (literals_of t) i ≡ Some (l, level, Some id) → IsFrom w t l i id
@@ -102,7 +102,7 @@ forced_from w t l i level id st e =
     }
 
 -- the clause of a slot that forced a literal is the reason
-pub forced_reason : (w : Watches) (t : Trail) (l : Literal) (s : ℕ) (id : ClauseId) → IsSettled w t → get id_cmp w.slots id ≡ Some s → HasForced t s l → IsReason (literals_of t) id
+pub forced_reason : (w : Watches) (t : Trail) (l : Literal) (s : ℕ) (id : ClauseId) → IsSettled w t → slot_in w.slots id ≡ Some s → HasForced t s l → IsReason (literals_of t) id
 forced_reason w t l s id st found f =
     let i : ℕ = f.0 in
     let level : ℕ = f.1.0.0 in
@@ -116,11 +116,11 @@ forced_reason w t l s id st found f =
     (i, l, level, e ∙ ap (λ (x : Option ClauseId). Some (l, level, x)) is)
 
 -- and no clause is the reason without such a literal
-pub reason_forced : (w : Watches) (t : Trail) (s : ℕ) (id : ClauseId) → IsSettled w t → get id_cmp w.slots id ≡ Some s → IsReason (literals_of t) id → (l : Literal) × (Contains (get_or w.clauses.items s []) l × HasForced t s l)
+pub reason_forced : (w : Watches) (t : Trail) (s : ℕ) (id : ClauseId) → IsSettled w t → slot_in w.slots id ≡ Some s → IsReason (literals_of t) id → (l : Literal) × (Contains (get_or w.clauses.items s []) l × HasForced t s l)
 reason_forced w t s id st found r =
     let a : IsFrom w t r.1 r.0 id = forced_from w t r.1 r.0 r.2 id st r.3 in
     let slot : get_or t.reasons.items r.0 0 ≡ s = same_Some (get_or t.reasons.items r.0 0) s (sym a.found ∙ found) in
     (r.1, (rw slot at a.has, (r.0, ((r.2, (Some id, r.3)), slot))))
 
-pub no_reason : (w : Watches) (t : Trail) (id : ClauseId) → IsSettled w t → get id_cmp w.slots id ≡ None → IsReason (literals_of t) id → ⊥
+pub no_reason : (w : Watches) (t : Trail) (id : ClauseId) → IsSettled w t → slot_in w.slots id ≡ None → IsReason (literals_of t) id → ⊥
 no_reason w t id st none r = nothing (get_or t.reasons.items r.0 0) (sym (forced_from w t r.1 r.0 r.2 id st r.3).found ∙ none)

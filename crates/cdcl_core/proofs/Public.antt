@@ -1,7 +1,6 @@
 -- What the public calls promise, from the invariant.
 use Rattle.std.proofs.Common.{ℕ, ◌≡◌, ◌≢◌, ◌+◌, ◌-◌, ◌*◌, ◌<◌, ◌≤◌, ◌++◌, zero, suc, true, false, List, [], ◌∷◌, Option, Some, None, length, take, drop, filter, refl, sym, ap, ◌∙◌, inl, inr, arith}
 use Rattle.std.specs.Prelude.{slice_get, nat_le}
-use Rattle.std.specs.BTreeMap.{BTreeMap, get}
 use Rattle.std.specs.Option.{option_and_then}
 use Rattle.std.proofs.Math.ListN.{get_or}
 use Rattle.std.proofs.lemmas.List.{get_or-take, get_or-drop, get_or_default, length-drop, take-append-drop, take-take}
@@ -13,7 +12,8 @@ use Rattle.cdcl_core.specs.declared.trail.Trail.{Trail}
 use Rattle.cdcl_core.specs.declared.watches.Watches.{Watches}
 use Rattle.cdcl_core.specs.declared.watches.Kind.TheVariants.{Free}
 use Rattle.cdcl_core.specs.Levels.{Row, IsExtended}
-use Rattle.cdcl_core.specs.Search.{id_cmp, literals_of, level_of, clause_of, held_of, is_held_slot, IsAtRest, IsConflict}
+use Rattle.cdcl_core.specs.Search.{literals_of, level_of, clause_of, held_of, is_held_slot, IsAtRest, IsConflict}
+use Rattle.cdcl_core.specs.Slots.{slot_in}
 use Rattle.cdcl_core.specs.Stamps.{codes, Has, IsFalse, RestsAt, IsTrail}
 use Rattle.cdcl_core.specs.Watched.{kind_at, IsHeld, IsWatching}
 use Rattle.cdcl_core.proofs.Counting.{times_nil}
@@ -31,7 +31,7 @@ taken f (Some a) b e = (a, (refl, e))
 
 -- the slot of a held clause
 pub record IsSlot (w : Watches) (id : ClauseId) (c : List Literal) (s : ℕ) : Type 0 where
-  pub found : get id_cmp w.slots id ≡ Some s
+  pub found : slot_in w.slots id ≡ Some s
   pub low : 1 ≤ s
   pub high : s < length w.kinds.items
   pub held : IsHeld (kind_at w.kinds.items s)
@@ -41,8 +41,8 @@ pub record IsSlot (w : Watches) (id : ClauseId) (c : List Literal) (s : ℕ) : T
 
 pub slot_of : (w : Watches) (t : Trail) (id : ClauseId) (c : List Literal) → IsSettled w t → held_of w id ≡ Some c → (s : ℕ) × IsSlot w id c s
 slot_of w t id c st e =
-    let both : (is_held_slot w.kinds.items (get id_cmp w.slots id) ≡ true) × (clause_of w id ≡ Some c) = picked (is_held_slot w.kinds.items (get id_cmp w.slots id)) (clause_of w id) c e in
-    let p : (s : ℕ) × ((get id_cmp w.slots id ≡ Some s) × (slice_get w.clauses.items s ≡ Some c)) = taken (λ s. slice_get w.clauses.items s) (get id_cmp w.slots id) c both.1 in
+    let both : (is_held_slot w.kinds.items (slot_in w.slots id) ≡ true) × (clause_of w id ≡ Some c) = picked (is_held_slot w.kinds.items (slot_in w.slots id)) (clause_of w id) c e in
+    let p : (s : ℕ) × ((slot_in w.slots id ≡ Some s) × (slice_get w.clauses.items s ≡ Some c)) = taken (λ s. slice_get w.clauses.items s) (slot_in w.slots id) c both.1 in
     let s : ℕ = p.0 in
     let within : s < length w.clauses.items = slice_get_within w.clauses.items s c p.1.1 in (
       s,
@@ -152,8 +152,12 @@ nothing_has : (x i : ℕ) → Has (get_or ([] ∷ []) i []) x → ⊥
 unfolding only_nil
 nothing_has x i h = let h2 : Has [] x = rw (nil_at i) at h in omega (arith, h2, times_nil x)
 
-nothing_found : (m : BTreeMap ClauseId ℕ) (id : ClauseId) (s : ℕ) → m.entries ≡ [] → get id_cmp m id ≡ Some s → ⊥
-nothing_found m id s e f = let g : None ≡ Some s = rw e at f in cc
+pub none_in : (id : ClauseId) → slot_in [] id ≡ None
+unfolding slot_in
+none_in id = refl
+
+nothing_found : (m : List (List ℕ)) (id : ClauseId) (s : ℕ) → m ≡ [] → slot_in m id ≡ Some s → ⊥
+nothing_found m id s e f = let g : None ≡ Some s = sym (none_in id) ∙ rw e at f in cc
 
 two_nils : List (List ℕ)
 two_nils = [] ∷ [] ∷ []
@@ -169,7 +173,7 @@ unfolding two_nils
 no_place x i h = let h2 : Has [] x = rw (none_at i) at h in omega (arith, h2, times_nil x)
 
 -- watches without a clause and a trail without a literal
-pub new_settled : (w : Watches) (t : Trail) → IsNew t → w.lists.lists ≡ [] ∷ [] ∷ [] → length w.lists.literals ≡ 2 → length w.kinds.items ≡ 1 → w.clauses.items ≡ [] ∷ [] → length w.ids.items ≡ 1 → w.slots.entries ≡ [] → w.refuted ≡ false → IsSettled w t
+pub new_settled : (w : Watches) (t : Trail) → IsNew t → w.lists.lists ≡ [] ∷ [] ∷ [] → length w.lists.literals ≡ 2 → length w.kinds.items ≡ 1 → w.clauses.items ≡ [] ∷ [] → length w.ids.items ≡ 1 → w.slots ≡ [] → w.refuted ≡ false → IsSettled w t
 new_settled w t n lists literals ks cs ids slots calm =
     let ss : List ℕ = t.stamps.items in
     let all : all_codes w.clauses.items ≡ [] ∷ [] = rw cs refl in
@@ -186,6 +190,7 @@ new_settled w t n lists literals ks cs ids slots calm =
         below = λ l h. absurd (omega (arith, h, none l));
         count = rw (n.stamps, n.len) refl;
         size = omega (arith, size);
+        few = omega (arith, size);
         even = rw size refl;
         reached = omega (arith, n.len, n.head);
         levels = record {

@@ -109,8 +109,8 @@ shorter_shown rows ss es len ss2 n s h size same = record {
 }
 
 -- there is a row for an open literal
-pub has_row : (t : Trail) (l : ℕ) → IsTrail t.stamps.items t.codes.items t.len t.head t.level → IsShown t.rows.items t.stamps.items t.codes.items t.len → l < length t.stamps.items → get_or t.stamps.items l 0 ≡ 0 → t.len < length t.rows.items
-has_row t l tr sh hl free = omega (arith, fewer t.stamps.items t.codes.items t.len t.head t.level l tr hl free, sh.width)
+pub has_row : (t : Trail) (l : ℕ) → IsTrail t.stamps.items t.codes.items t.len t.head t.level → IsShown t.rows.items t.stamps.items t.codes.items t.len → l < length t.stamps.items → get_or t.stamps.items l 0 ≡ 0 → get_or t.stamps.items (neg l) 0 ≡ 0 → t.len < length t.rows.items
+has_row t l tr sh hl free free2 = omega (arith, fewer t.stamps.items t.codes.items t.len t.head t.level l tr hl free free2, sh.width)
 
 -- a stamp that is set stays where an open literal gets one
 one_stays : (ss : List ℕ) (l v q : ℕ) → l < length ss → get_or ss l 0 ≡ 0 → get_or ss q 0 ≡ 1 → get_or (set ss l v) q 0 ≡ 1

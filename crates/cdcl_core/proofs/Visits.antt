@@ -203,7 +203,7 @@ visit_unit w t t2 p stop k o reason v z a pos ek free free2 pu en wide rest =
     let x : Row = (literal_of o, t.level, reason) in
     let ss2 : List ℕ = set t.stamps.items o (t.level + 1) in
     let es2 : List ℕ = set t.codes.items t.len o in
-    let room : t.len < length t.codes.items = has_room t.stamps.items t.codes.items t.len t.head t.level o v.trail a.within free in
+    let room : t.len < length t.codes.items = has_room t.stamps.items t.codes.items t.len t.head t.level o v.trail a.within free free2 in
     let lvl : get_or t.stamps.items (neg p) 0 ≡ t.level + 1 = now w t p stop v in
     let hp : 0 < get_or t.stamps.items (neg p) 0 = omega (arith, lvl) in
     let differs : neg p ≢ o = λ u. let y : get_or t.stamps.items (neg p) 0 ≡ 0 = rw u free in omega (arith, y, hp) in

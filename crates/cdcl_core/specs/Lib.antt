@@ -1,7 +1,9 @@
+pub mod Blocks
 pub mod Chains
 pub mod Levels
 pub mod Lists
 pub mod Search
+pub mod Slots
 pub mod Stamps
 pub mod State
 pub mod Tables

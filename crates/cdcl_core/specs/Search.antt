@@ -1,19 +1,13 @@
 -- The clauses and the trail, as the public calls speak of them.
 use Rattle.std.specs.Prelude.{ℕ, ◌≡◌, ◌<◌, ◌≤◌, ◌≢◌, Bool, false, cond, List, Contains, length, take, Option, Some, None, option_and_then, slice_get}
-use Rattle.std.specs.Ordering.{nat_cmp, ordering_then}
-use Rattle.std.specs.declared.cmp.Ordering.{Ordering}
-use Rattle.std.specs.BTreeMap.{get}
 use Rattle.cnf_base.specs.Literals.{Literal, code_of}
 use Rattle.cnf_base.specs.declared.clause.ClauseId.{ClauseId}
 use Rattle.cdcl_core.specs.declared.trail.Trail.{Trail}
 use Rattle.cdcl_core.specs.declared.watches.Watches.{Watches}
 use Rattle.cdcl_core.specs.declared.watches.Kind.{Kind}
+use Rattle.cdcl_core.specs.Slots.{slot_in}
 use Rattle.cdcl_core.specs.Levels.{Row, IsFalseBy, RestsBy, IsRefutedBy}
 use Rattle.cdcl_core.specs.Watched.{kind_at, is_held}
-
--- the order of clause names
-abbrev pub id_cmp : ClauseId → ClauseId → Ordering
-id_cmp a b = ordering_then (nat_cmp a.pos b.pos) (nat_cmp a.part b.part)
 
 -- the true literals in order
 abbrev pub literals_of : Trail → List Row
@@ -33,7 +27,7 @@ IsKnown t l = code_of l < rows_of t
 
 -- the clause that is kept under this name, held or parked
 abbrev pub clause_of : Watches → ClauseId → Option (List Literal)
-clause_of w id = option_and_then (λ s. slice_get w.clauses.items s) (get id_cmp w.slots id)
+clause_of w id = option_and_then (λ s. slice_get w.clauses.items s) (slot_in w.slots id)
 
 -- whether the clause of this slot is held, where there is a slot
 abbrev pub is_held_slot : List Kind → Option ℕ → Bool
@@ -42,7 +36,7 @@ is_held_slot ks (Some s) = is_held (kind_at ks s)
 
 -- the held clause of this name: the kept one, unless it is parked
 abbrev pub held_of : Watches → ClauseId → Option (List Literal)
-held_of w id = cond (is_held_slot w.kinds.items (get id_cmp w.slots id)) (clause_of w id) None
+held_of w id = cond (is_held_slot w.kinds.items (slot_in w.slots id)) (clause_of w id) None
 
 -- every clause that is kept is held
 abbrev pub AreAllHeld : Watches → Type 0

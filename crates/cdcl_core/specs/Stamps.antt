@@ -1,5 +1,5 @@
 -- The trail as a stamp for each literal's code: 0 where it is not true, else one more than its decision level.
-use Rattle.std.specs.Prelude.{ℕ, ◌≡◌, ◌≢◌, ◌+◌, ◌-◌, ◌%◌, ◌^◌, ◌<◌, ◌≤◌, ◌==◌, ◌⊎◌, zero, suc, Bool, true, false, List, length, take, cond, slice_index, map}
+use Rattle.std.specs.Prelude.{ℕ, ◌≡◌, ◌≢◌, ◌+◌, ◌-◌, ◌*◌, ◌%◌, ◌^◌, ◌<◌, ◌≤◌, ◌==◌, ◌⊎◌, zero, suc, Bool, true, false, List, length, take, cond, slice_index, map}
 use Rattle.std.specs.List.{count_by}
 use Rattle.cnf_base.specs.Literals.{Literal, code_of}
 use Rattle.cdcl_core.specs.Chains.{times}
@@ -48,7 +48,8 @@ pub record IsLevelled (ss es : List ℕ) (len level : ℕ) : Type 0 where
   pub start : 0 < len → slice_index ss (slice_index es 0) ≤ 2
   pub last : 0 < level → (0 < len) × (slice_index ss (slice_index es (len - 1)) ≡ level + 1)
 
--- the first `len` of the codes are the true literals in order, each once; those before `head` were propagated
+-- the first `len` of the codes are the true literals in order, each once; those before `head` were propagated. Of a literal and
+-- its negation at most one is true, so half as many codes as stamps are room enough. There are so few that a stamp, a code and a place take 4 bytes each
 pub record IsTrail (ss es : List ℕ) (len head level : ℕ) : Type 0 where
   pub once : (l : ℕ) → times l (take len es) ≡ cond (is_set (slice_index ss l)) 1 0
   pub apart : (l : ℕ) → 0 < slice_index ss l → slice_index ss (neg l) ≡ 0
@@ -56,7 +57,8 @@ pub record IsTrail (ss es : List ℕ) (len head level : ℕ) : Type 0 where
   pub top : (l : ℕ) → slice_index ss l ≤ level + 1
   pub below : (l : ℕ) → 0 < slice_index ss l → slice_index ss l ≤ level → 0 < times l (take head es)
   pub count : count_by is_set ss ≡ len
-  pub size : length ss ≤ length es
+  pub size : length ss ≤ 2 * length es
+  pub few : length ss ≤ 2 ^ 32
   pub even : length ss % 2 ≡ 0
   pub reached : head ≤ len
   pub levels : IsLevelled ss es len level

@@ -1,6 +1,5 @@
 -- The trail and the watches together.
 use Rattle.std.specs.Prelude.{ℕ, ◌≡◌, ◌≢◌, ◌+◌, ◌*◌, ◌/◌, ◌<◌, ◌≤◌, ◌⊎◌, Bool, true, false, List, [], length, map, take, replicate, ◌++◌, slice_set, slice_index, slice_index_or, Some, None}
-use Rattle.std.specs.BTreeMap.{BTreeMap, get}
 use Rattle.cnf_base.specs.Literals.{Literal, literal_of}
 use Rattle.cnf_base.specs.Clauses.{no_id}
 use Rattle.cnf_base.specs.declared.clause.ClauseId.{ClauseId}
@@ -13,7 +12,8 @@ use Rattle.cdcl_core.specs.Lists.{Lists}
 use Rattle.cdcl_core.specs.Levels.{Row, StandsAt}
 use Rattle.cdcl_core.specs.Stamps.{neg, codes, Has, IsFalse, RestsAt, IsTrail}
 use Rattle.cdcl_core.specs.Watched.{kind_at, IsHeld, IsWatched}
-use Rattle.cdcl_core.specs.Search.{id_cmp, literals_of}
+use Rattle.cdcl_core.specs.Search.{literals_of}
+use Rattle.cdcl_core.specs.Slots.{slot_in}
 
 abbrev pub no_row : Row
 no_row = (literal_of 0, 0, None)
@@ -25,7 +25,7 @@ all_codes cs = map codes cs
 pub record IsShown (rows : List Row) (ss es : List ℕ) (len : ℕ) : Type 0 where
   pub literal : (i : ℕ) → i < len → (slice_index_or rows i no_row).0 ≡ literal_of (slice_index es i)
   pub level : (i : ℕ) → i < len → (slice_index_or rows i no_row).1 + 1 ≡ slice_index ss (slice_index es i)
-  pub width : length ss ≤ length rows
+  pub width : length ss ≤ 2 * length rows
 
 -- by variable the place of its literal, and room for each variable
 pub record IsSpotted (ks ss es : List ℕ) (len : ℕ) : Type 0 where
@@ -48,13 +48,13 @@ pub record IsReasoned (cs : List (List ℕ)) (ks : List Kind) (ids : List Clause
   pub others : (i m : ℕ) → i < len → 0 < slice_index rs i → Has (slice_index_or cs (slice_index rs i) []) m → m ≢ slice_index es i → 0 < times (neg m) (take i es)
   pub width : length es ≤ length rs
 
--- the map names exactly the slots that are not free
-pub record IsNamed (slots : BTreeMap ClauseId ℕ) (ids : List ClauseId) (ks : List Kind) : Type 0 where
-  pub low : (id : ClauseId) (s : ℕ) → get id_cmp slots id ≡ Some s → 1 ≤ s
-  pub high : (id : ClauseId) (s : ℕ) → get id_cmp slots id ≡ Some s → s < length ks
-  pub name : (id : ClauseId) (s : ℕ) → get id_cmp slots id ≡ Some s → slice_index_or ids s no_id ≡ id
-  pub live : (id : ClauseId) (s : ℕ) → get id_cmp slots id ≡ Some s → kind_at ks s ≢ Free
-  pub held : (s : ℕ) → 1 ≤ s → s < length ks → kind_at ks s ≢ Free → get id_cmp slots (slice_index_or ids s no_id) ≡ Some s
+-- the table names exactly the slots that are not free
+pub record IsNamed (slots : List (List ℕ)) (ids : List ClauseId) (ks : List Kind) : Type 0 where
+  pub low : (id : ClauseId) (s : ℕ) → slot_in slots id ≡ Some s → 1 ≤ s
+  pub high : (id : ClauseId) (s : ℕ) → slot_in slots id ≡ Some s → s < length ks
+  pub name : (id : ClauseId) (s : ℕ) → slot_in slots id ≡ Some s → slice_index_or ids s no_id ≡ id
+  pub live : (id : ClauseId) (s : ℕ) → slot_in slots id ≡ Some s → kind_at ks s ≢ Free
+  pub held : (s : ℕ) → 1 ≤ s → s < length ks → kind_at ks s ≢ Free → slot_in slots (slice_index_or ids s no_id) ≡ Some s
   pub rows : length ks ≤ length ids
   pub some : 1 ≤ length ks
 

@@ -6,8 +6,8 @@ ghost use Rattle.cnf_base.specs.declared.clause.ClauseId.{ClauseId};
 ghost use Rattle.cdcl_core.specs.declared.watches.Kind.TheVariants.{Fixed, Watched};
 ghost use Rattle.cdcl_core.specs.Chains.{first_of, rest_of, times};
 ghost use Rattle.cdcl_core.specs.Levels.{RestsBy, IsAdded};
-ghost use Rattle.std.specs.BTreeMap.{Updates};
-ghost use Rattle.cdcl_core.specs.Search.{literals_of, level_of, rows_of, clause_of, held_of, id_cmp, IsKnown};
+ghost use Rattle.cdcl_core.specs.Search.{literals_of, level_of, rows_of, clause_of, held_of, IsKnown};
+ghost use Rattle.cdcl_core.specs.Slots.{slot_in, IsRenamed};
 ghost use Rattle.cdcl_core.specs.Stamps.{neg as neg_of, codes, Has, rank};
 ghost use Rattle.cnf_base.specs.Clauses.{no_id};
 ghost use Rattle.cdcl_core.specs.State.{IsConsistent, IsSettled, IsPlaced, IsPropagated, IsWaiting, MayCome, Holds, HoldsSome};
@@ -21,7 +21,7 @@ use std::alloc::AllocError;
 
 // How late the literal became false: the greatest number where it is not false.
 #[inline(always)]
-pub(crate) fn rank_of(stamps: &[u64], code: usize) -> u64
+pub(crate) fn rank_of(stamps: &[u32], code: usize) -> u64
     ensures { result ≡ rank stamps.now code }
 {
     let stamp = stamp_of(stamps, neg(code));
@@ -29,7 +29,7 @@ pub(crate) fn rank_of(stamps: &[u64], code: usize) -> u64
 }
 
 // Of the literals other than `except`, one that is not false, else one that became false last; 0 where there is none.
-pub(crate) fn latest(clause: &[Lit], stamps: &[u64], except: usize) -> usize
+pub(crate) fn latest(clause: &[Lit], stamps: &[u32], except: usize) -> usize
     ensures none { result ≡ 0 → (l : ℕ) → Has (codes clause.now) l → l ≡ except }
     ensures has { result ≢ 0 → Has (codes clause.now) result }
     ensures other { result ≢ 0 → result ≢ except }
@@ -59,7 +59,7 @@ fn rewind(t: &mut Trail)
     let mut head = t.head;
     'back: while head > 0 {
         let code = t.codes[head - 1];
-        if t.stamps[code] <= t.level {
+        if t.stamps[code as usize] as u64 <= t.level {
             break;
         }
         head -= 1;
@@ -255,10 +255,10 @@ pub(crate) fn name_slot(
     ensures clauses { w.new.clauses ≡ w.old.clauses }
     ensures calm { w.new.refuted ≡ w.old.refuted }
     ensures ids { OnOk result (w.new.ids.items ≡ slice_set w.old.ids.items slot id) }
-    ensures updates { OnOk result (Updates id_cmp w.old.slots w.new.slots id (Some slot)) }
+    ensures named { OnOk result (IsRenamed w.old.slots w.new.slots id (Some slot)) }
     ensures placed { OnOk result (IsPlaced w.new t.now) }
     ensures err_ids { OnErr result (w.new.ids ≡ w.old.ids) }
-    ensures err_slots { OnErr result (w.new.slots.entries ≡ w.old.slots.entries) }
+    ensures err_slots { OnErr result ((q : ClauseId) → slot_in w.new.slots q ≡ slot_in w.old.slots q) }
 {
     if let Err(_) = w.slots.insert(id, slot) {
         return Err(AllocError);

@@ -58,10 +58,10 @@ fn cut_back(w: &Watches, t: &mut Trail, level: u64)
 {
     'entries: while t.len > 0 {
         let code = t.codes[t.len - 1];
-        if t.stamps[code] <= level + 1 {
+        if t.stamps[code as usize] as u64 <= level + 1 {
             break;
         }
-        t.stamps[code] = 0;
+        t.stamps[code as usize] = 0;
         t.len -= 1;
     }
     t.head = t.len;

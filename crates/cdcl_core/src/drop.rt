@@ -136,7 +136,7 @@ impl Watches {
         ensures others_held { (q : ClauseId) → q ≢ id → held_of self.new q ≡ held_of self.old q }
         ensures propagated { IsPropagated self.old trail.now → IsPropagated self.new trail.now }
     {
-        let Some(slot) = self.slots.remove(&id) else {
+        let Some(slot) = self.slots.remove(id) else {
             return;
         };
         clear(self, trail, slot);

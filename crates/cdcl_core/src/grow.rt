@@ -24,20 +24,21 @@ fn lengthen<T: Copy>(table: &mut Vec<T>, count: usize, filler: T) -> Result<(), 
     Ok(())
 }
 
-// Gives the trail tables for as many literals.
+// Gives the trail tables for as many literals, of which at most every other one is true at a time.
 fn lengthen_trail(t: &mut Trail, count: usize) -> Result<(), AllocError>
     requires { length t.old.stamps.items < count }
     ensures ok { OnOk result (IsLonger t.old t.new (count - length t.old.stamps.items)) }
     ensures err { OnErr result (IsLonger t.old t.new 0) }
-    ensures codes { OnOk result (count ≤ length t.new.codes.items) }
+    ensures codes { OnOk result (count ≤ 2 * length t.new.codes.items) }
     ensures reasons { length t.old.codes.items ≤ length t.old.reasons.items → length t.new.codes.items ≤ length t.new.reasons.items }
-    ensures rows { OnOk result (count ≤ length t.new.rows.items) }
+    ensures rows { OnOk result (count ≤ 2 * length t.new.rows.items) }
     ensures spots { OnOk result (count ≤ 2 * length t.new.spots.items) }
 {
-    lengthen(&mut t.rows, count, (Lit::TRUE, 0, None))?;
-    lengthen(&mut t.reasons, count, 0)?;
-    lengthen(&mut t.codes, count, 0)?;
-    lengthen(&mut t.spots, count / 2 + 1, 0)?;
+    let half = count / 2 + 1;
+    lengthen(&mut t.rows, half, (Lit::TRUE, 0, None))?;
+    lengthen(&mut t.reasons, half, 0)?;
+    lengthen(&mut t.codes, half, 0)?;
+    lengthen(&mut t.spots, half, 0)?;
     t.stamps.resize(count, 0)?;
     Ok(())
 }
@@ -55,7 +56,7 @@ impl Watches {
         ensures level { level_of trail.new ≡ level_of trail.old }
         ensures propagated { IsPropagated self.old trail.old → IsPropagated self.new trail.new }
     {
-        if variables > 0x1000_0000_0000_0000 {
+        if variables > 0x8000_0000 {
             return Err(AllocError);
         }
         let count = 2 * variables as usize;

@@ -12,7 +12,7 @@ use crate::watches::Watches;
 use cnf_base::Clause;
 
 // Whether the literal of this code is true at the end of the level.
-fn is_true_by(stamps: &[u64], code: usize, level: u64) -> bool
+fn is_true_by(stamps: &[u32], code: usize, level: u64) -> bool
     requires { level + 1 < 2 ^ 64 }
     ensures { IsTrue result ↔ IsTrueAt stamps.now level code }
 {

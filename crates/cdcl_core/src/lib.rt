@@ -18,6 +18,7 @@ mod level;
 mod lists;
 mod park;
 mod propagate;
+mod slot_table;
 mod trail;
 mod watches;
 

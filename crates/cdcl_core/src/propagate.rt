@@ -17,7 +17,7 @@ use cnf_base::{ClauseId, Lit};
 #[inline(always)]
 fn scan_part(
     clause: &[Lit],
-    stamps: &[u64],
+    stamps: &[u32],
     other: usize,
     start: usize,
     end: usize,
@@ -39,7 +39,7 @@ fn scan_part(
 // A literal of the clause, other than the given one, that is not false, and its place: the search begins at `start`, and goes
 // on with the literals before it.
 #[inline(always)]
-fn scan(clause: &[Lit], stamps: &[u64], other: usize, start: usize) -> Option<(usize, usize)>
+fn scan(clause: &[Lit], stamps: &[u32], other: usize, start: usize) -> Option<(usize, usize)>
     requires within { (l : ℕ) → Has (codes clause.now) l → l < length stamps.now }
     requires even { length stamps.now % 2 ≡ 0 }
     ensures { MatchOption result ((l : ℕ) → Has (codes clause.now) l → IsFalseBut stamps.now other l) (λ found. IsFreeIn stamps.now (codes clause.now) other found.0) }
@@ -174,7 +174,7 @@ fn empty_queue(w: &mut Watches, t: &mut Trail) -> usize
     ensures grown { IsGrown t.old t.new }
 {
     'queue: while t.head < t.len {
-        let p = neg(t.codes[t.head]);
+        let p = neg(t.codes[t.head] as usize);
         let stop = visit(w, t, p);
         if stop != 0 {
             return stop;
@@ -185,7 +185,7 @@ fn empty_queue(w: &mut Watches, t: &mut Trail) -> usize
 }
 
 // Whether a literal of the clause is true at level 0.
-pub(crate) fn is_satisfied(clause: &[Lit], stamps: &[u64]) -> bool
+pub(crate) fn is_satisfied(clause: &[Lit], stamps: &[u32]) -> bool
     requires within { (l : ℕ) → Has (codes clause.now) l → l < length stamps.now }
     ensures satisfied { IsTrue result → (l : ℕ) × (Has (codes clause.now) l × slice_index stamps.now l ≡ 1) }
     ensures not_satisfied { result ≡ false → (l : ℕ) → Has (codes clause.now) l → slice_index stamps.now l ≢ 1 }

@@ -14,14 +14,14 @@ use std::alloc::Global;
 #[derive(Drop)]
 pub struct Trail {
     // by literal: 0 where it is not true, else one more than its level
-    pub(crate) stamps: Vec<u64>,
+    pub(crate) stamps: Vec<u32>,
     // the codes of the true literals in order: those before `head` were propagated
-    pub(crate) codes: Vec<usize>,
+    pub(crate) codes: Vec<u32>,
     // the slot of the clause that forced each, 0 for a decided one
     pub(crate) reasons: Vec<usize>,
     pub(crate) rows: Vec<(Lit, u64, Option<ClauseId>)>,
     // by variable: the place of its literal while that is true
-    pub(crate) spots: Vec<usize>,
+    pub(crate) spots: Vec<u32>,
     pub(crate) len: usize,
     pub(crate) head: usize,
     pub(crate) level: u64,
@@ -89,7 +89,7 @@ impl Trail {
         if stamp_of(self.stamps.as_slice(), code) == 0 {
             return None;
         }
-        Some(self.spots[code / 2])
+        Some(self.spots[code / 2] as usize)
     }
 
     /// Whether the literal is true, false (where its negation is true), or neither.
@@ -120,10 +120,14 @@ pub(crate) fn neg(code: usize) -> usize
 
 // The stamp of a code, 0 where it has no row.
 #[inline(always)]
-pub(crate) fn stamp_of(stamps: &[u64], code: usize) -> u64
+pub(crate) fn stamp_of(stamps: &[u32], code: usize) -> u64
     ensures { result ≡ slice_index stamps.now code }
 {
-    if code < stamps.len() { stamps[code] } else { 0 }
+    if code < stamps.len() {
+        stamps[code] as u64
+    } else {
+        0
+    }
 }
 
 // Makes the literal of this code true at the present level.
@@ -135,7 +139,9 @@ pub(crate) fn enqueue(t: &mut Trail, code: usize, slot: usize, reason: Option<Cl
     requires spots { code / 2 < length t.old.spots.items }
     requires within { code < length t.old.stamps.items }
     requires named { 2 ≤ code }
-    requires level { t.old.level + 1 < 2 ^ 64 }
+    requires few { length t.old.stamps.items ≤ 2 ^ 32 }
+    requires short { t.old.len < 2 ^ 32 }
+    requires level { t.old.level + 1 < 2 ^ 32 }
     ensures stamps { t.new.stamps.items ≡ slice_set t.old.stamps.items code (t.old.level + 1) }
     ensures codes { t.new.codes.items ≡ slice_set t.old.codes.items t.old.len code }
     ensures reasons { t.new.reasons.items ≡ slice_set t.old.reasons.items t.old.len slot }
@@ -145,10 +151,10 @@ pub(crate) fn enqueue(t: &mut Trail, code: usize, slot: usize, reason: Option<Cl
     ensures head { t.new.head ≡ t.old.head }
     ensures same_level { t.new.level ≡ t.old.level }
 {
-    t.stamps[code] = t.level + 1;
-    t.codes[t.len] = code;
+    t.stamps[code] = (t.level + 1) as u32;
+    t.codes[t.len] = code as u32;
     t.reasons[t.len] = slot;
     t.rows[t.len] = (Lit::from_code(code as u64), t.level, reason);
-    t.spots[code / 2] = t.len;
+    t.spots[code / 2] = t.len as u32;
     t.len += 1;
 }

@@ -1,18 +1,18 @@
 //! The clauses and their watches.
 
 ghost use Rattle.std.specs.Prelude.{◌≡◌, None, IfOk};
-ghost use Rattle.std.specs.BTreeMap.{get};
 ghost use Rattle.std.specs.Option.{option_copied};
 ghost use Rattle.cnf_base.specs.declared.clause.ClauseId.{ClauseId};
 ghost use Rattle.cdcl_core.specs.declared.trail.Trail.{Trail};
-ghost use Rattle.cdcl_core.specs.Search.{id_cmp, clause_of, held_of};
+ghost use Rattle.cdcl_core.specs.Search.{clause_of, held_of};
+ghost use Rattle.cdcl_core.specs.Slots.{slot_in};
 ghost use Rattle.cdcl_core.specs.State.{IsNew, IsSettled};
 
 use crate::lists::WatchLists;
+use crate::slot_table::SlotTable;
 use crate::trail::Trail;
 use cnf_base::{Clause, ClauseId};
 use std::alloc::{AllocError, Global};
-use std::collections::BTreeMap;
 
 /// What a slot holds.
 #[derive(Clone, Copy)]
@@ -37,7 +37,7 @@ pub struct Watches {
     pub(crate) kinds: Vec<Kind>,
     pub(crate) clauses: Vec<Clause>,
     pub(crate) ids: Vec<ClauseId>,
-    pub(crate) slots: BTreeMap<ClauseId, usize>,
+    pub(crate) slots: SlotTable,
     // whether a clause that is not watched may be false
     pub(crate) refuted: bool,
 }
@@ -60,24 +60,24 @@ impl Watches {
             kinds: vec![in alloc; Kind::Free; 1]?,
             clauses,
             ids: vec![in alloc; ClauseId { pos: 0, part: 0 }; 1]?,
-            slots: BTreeMap::new(alloc),
+            slots: SlotTable::new(alloc),
             refuted: false,
         })
     }
 
     // The slot of the clause that is kept under this name.
     pub(crate) fn slot(&self, id: ClauseId) -> Option<usize>
-        ensures { result ≡ get id_cmp self.now.slots id }
+        ensures { result ≡ slot_in self.now.slots id }
     {
-        self.slots.get(&id).copied()
+        self.slots.get(id)
     }
 
     /// The clause that is kept under this name, held or not.
     pub fn clause(&self, id: ClauseId) -> Option<&Clause>
         ensures { option_copied result ≡ clause_of self.now id }
     {
-        match self.slots.get(&id) {
-            Some(slot) => self.clauses.get(*slot),
+        match self.slots.get(id) {
+            Some(slot) => self.clauses.get(slot),
             None => None,
         }
     }

@@ -3,7 +3,7 @@ use Rattle.std.proofs.lemmas.List.{get_or_read}
 use Rattle.cnf_base.specs.Literals.{literal_of}
 use Rattle.cdcl_core.specs.Stamps.{neg as neg_of}
 use Rattle.cdcl_core.proofs.Counting.{neg_below}
-use Rattle.cdcl_core.proofs.Trails.{level_len, trail_len, has_room}
+use Rattle.cdcl_core.proofs.Trails.{level_len, trail_len, has_room, few_true, few_levels}
 use Rattle.cdcl_core.proofs.Reasons.{has_row}
 use Rattle.cdcl_core.proofs.Visits.{IsPushed}
 use Rattle.cdcl_core.proofs.Clauses.{codes_length}
@@ -165,31 +165,43 @@ pub enqueue-requires-clause-codes : goal.enqueue-requires-clause-codes
 enqueue-requires-clause-codes c =
     let in_a : c.args.a < length c.args.t.now.stamps.items = c.requires.may_come.within c.args.a c.requires.has_a in
     let in_b : c.args.b < length c.args.t.now.stamps.items = c.requires.may_come.within c.args.b c.requires.has_b in
+    let at_a : c.neg-2.result < length c.args.t.now.stamps.items = rw c.neg-2.ensures (neg_below c.args.a (length c.args.t.now.stamps.items) in_a c.requires.placed.trail.even) in
+    let read_a : c.index-2.result.now ≡ get_or c.args.t.now.stamps.items (neg_of c.args.a) 0 = rw (← c.neg-2.ensures) (get_or_read c.args.t.now.stamps.items c.neg-2.result c.index-2.result.now at_a c.index-2.ensures 0) in
+    let free_a : get_or c.args.t.now.stamps.items (neg_of c.args.a) 0 ≡ 0 = omega (arith, read_a, c.if-index-ne0.false) in
     let read_o : c.index-3.result.now ≡ get_or c.args.t.now.stamps.items c.args.a 0 = get_or_read c.args.t.now.stamps.items c.args.a c.index-3.result.now in_a c.index-3.ensures 0 in
     let open_a : get_or c.args.t.now.stamps.items c.args.a 0 ≡ 0 = omega (arith, read_o, c.if-index-eq0-2.true) in
-    has_room c.args.t.now.stamps.items c.args.t.now.codes.items c.args.t.now.len c.args.t.now.head c.args.t.now.level c.args.a c.requires.placed.trail in_a open_a
+    has_room c.args.t.now.stamps.items c.args.t.now.codes.items c.args.t.now.len c.args.t.now.head c.args.t.now.level c.args.a c.requires.placed.trail in_a open_a free_a
 
 pub enqueue-requires-clause-reasons : goal.enqueue-requires-clause-reasons
 enqueue-requires-clause-reasons c =
     let in_a : c.args.a < length c.args.t.now.stamps.items = c.requires.may_come.within c.args.a c.requires.has_a in
     let in_b : c.args.b < length c.args.t.now.stamps.items = c.requires.may_come.within c.args.b c.requires.has_b in
+    let at_a : c.neg-2.result < length c.args.t.now.stamps.items = rw c.neg-2.ensures (neg_below c.args.a (length c.args.t.now.stamps.items) in_a c.requires.placed.trail.even) in
+    let read_a : c.index-2.result.now ≡ get_or c.args.t.now.stamps.items (neg_of c.args.a) 0 = rw (← c.neg-2.ensures) (get_or_read c.args.t.now.stamps.items c.neg-2.result c.index-2.result.now at_a c.index-2.ensures 0) in
+    let free_a : get_or c.args.t.now.stamps.items (neg_of c.args.a) 0 ≡ 0 = omega (arith, read_a, c.if-index-ne0.false) in
     let read_o : c.index-3.result.now ≡ get_or c.args.t.now.stamps.items c.args.a 0 = get_or_read c.args.t.now.stamps.items c.args.a c.index-3.result.now in_a c.index-3.ensures 0 in
     let open_a : get_or c.args.t.now.stamps.items c.args.a 0 ≡ 0 = omega (arith, read_o, c.if-index-eq0-2.true) in
-    omega (arith, c.requires.placed.reasoned.width, has_room c.args.t.now.stamps.items c.args.t.now.codes.items c.args.t.now.len c.args.t.now.head c.args.t.now.level c.args.a c.requires.placed.trail in_a open_a)
+    omega (arith, c.requires.placed.reasoned.width, has_room c.args.t.now.stamps.items c.args.t.now.codes.items c.args.t.now.len c.args.t.now.head c.args.t.now.level c.args.a c.requires.placed.trail in_a open_a free_a)
 
 pub enqueue-requires-clause-rows : goal.enqueue-requires-clause-rows
 enqueue-requires-clause-rows c =
     let in_a : c.args.a < length c.args.t.now.stamps.items = c.requires.may_come.within c.args.a c.requires.has_a in
     let in_b : c.args.b < length c.args.t.now.stamps.items = c.requires.may_come.within c.args.b c.requires.has_b in
+    let at_a : c.neg-2.result < length c.args.t.now.stamps.items = rw c.neg-2.ensures (neg_below c.args.a (length c.args.t.now.stamps.items) in_a c.requires.placed.trail.even) in
+    let read_a : c.index-2.result.now ≡ get_or c.args.t.now.stamps.items (neg_of c.args.a) 0 = rw (← c.neg-2.ensures) (get_or_read c.args.t.now.stamps.items c.neg-2.result c.index-2.result.now at_a c.index-2.ensures 0) in
+    let free_a : get_or c.args.t.now.stamps.items (neg_of c.args.a) 0 ≡ 0 = omega (arith, read_a, c.if-index-ne0.false) in
     let read_o : c.index-3.result.now ≡ get_or c.args.t.now.stamps.items c.args.a 0 = get_or_read c.args.t.now.stamps.items c.args.a c.index-3.result.now in_a c.index-3.ensures 0 in
     let open_a : get_or c.args.t.now.stamps.items c.args.a 0 ≡ 0 = omega (arith, read_o, c.if-index-eq0-2.true) in
-    has_row c.args.t.now c.args.a c.requires.placed.trail c.requires.placed.shown in_a open_a
+    has_row c.args.t.now c.args.a c.requires.placed.trail c.requires.placed.shown in_a open_a free_a
+
+pub enqueue-requires-clause-few : goal.enqueue-requires-clause-few
+enqueue-requires-clause-few c = c.requires.placed.trail.few
+
+pub enqueue-requires-clause-short : goal.enqueue-requires-clause-short
+enqueue-requires-clause-short c = few_true c.args.t.now.stamps.items c.args.t.now.codes.items c.args.t.now.len c.args.t.now.head c.args.t.now.level c.requires.placed.trail
 
 pub enqueue-requires-clause-level : goal.enqueue-requires-clause-level
-enqueue-requires-clause-level c =
-    let size : length c.args.t.now.codes.items < 2 ^ 63 = search rules in
-    let small : c.args.t.now.level + 2 < 2 ^ 64 = omega (arith, size, level_len c.args.t.now.stamps.items c.args.t.now.codes.items c.args.t.now.len c.args.t.now.head c.args.t.now.level c.requires.placed.trail, trail_len c.args.t.now.stamps.items c.args.t.now.codes.items c.args.t.now.len c.args.t.now.head c.args.t.now.level c.requires.placed.trail) in
-    omega arith
+enqueue-requires-clause-level c = omega (arith, few_levels c.args.t.now.stamps.items c.args.t.now.codes.items c.args.t.now.len c.args.t.now.head c.args.t.now.level c.requires.placed.trail)
 
 pub returns-then-index-eq0-2-clause-placed : goal.returns-then-index-eq0-2-clause-placed
 returns-then-index-eq0-2-clause-placed c =

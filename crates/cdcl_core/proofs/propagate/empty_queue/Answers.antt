@@ -1,10 +1,15 @@
-use Rattle.std.proofs.Common.{◌≡◌, ◌<◌, length, get_or, sym, ap, ◌∙◌}
+use Rattle.std.proofs.Common.{rules, ◌≡◌, ◌<◌, length, get_or, sym, ap, ◌∙◌}
 use Rattle.std.proofs.lemmas.List.{get_or_read}
 use Rattle.cdcl_core.specs.Stamps.{neg as neg_of}
 use Rattle.cdcl_core.proofs.Counting.{neg_below, neg_neg}
 use Rattle.cdcl_core.proofs.Reasons.{grown_more, moved_grown}
 use Rattle.cdcl_core.proofs.Visits.{next_within, codes_size, stopped_settles, visit_settles, with_lists}
 use Rattle.cdcl_core.proofs.propagate.empty_queue.Goals as goal
+
+pub index-requires : goal.index-requires
+index-requires c =
+    let size : c.queue.t.head < length c.queue.t.codes.items = codes_size c.queue.w c.queue.t c.queue.invariant.settled c.queue-test.true in
+    search rules
 
 pub visit-stop-requires-clause-within : goal.visit-stop-requires-clause-within
 visit-stop-requires-clause-within c =

@@ -7,7 +7,7 @@ use Rattle.cdcl_core.specs.Stamps.{neg as neg_of, codes, Has}
 use Rattle.cnf_base.specs.Clauses.{no_id}
 use Rattle.cdcl_core.specs.State.{all_codes}
 use Rattle.cdcl_core.proofs.Clauses.{clause_codes}
-use Rattle.cdcl_core.proofs.Trails.{has_room, level_len}
+use Rattle.cdcl_core.proofs.Trails.{has_room, level_len, few_true, few_levels}
 use Rattle.cdcl_core.proofs.Reasons.{pushed_grown, has_row}
 use Rattle.cdcl_core.proofs.Visits.{AtPlace, at_place, IsPushed, visit_kept, visit_false, visit_moved, visit_unit}
 use Rattle.cdcl_core.proofs.propagate.step.Goals as goal
@@ -96,22 +96,31 @@ pub enqueue-requires-clause-codes : goal.enqueue-requires-clause-codes
 enqueue-requires-clause-codes c =
     let a : AtPlace c.args.w.now c.args.t.now c.args.p c.args.place c.literal-other.result = at_place c.args.w.now c.args.t.now c.args.p 0 c.args.place c.neg-mate.result c.literal-other.result c.requires.visiting c.requires.pending c.requires.first c.neg-mate.ensures c.literal-other.ensures in
     let stamp : c.index.result.now ≡ get_or c.args.t.now.stamps.items c.literal-other.result 0 = get_or_read c.args.t.now.stamps.items c.literal-other.result c.index.result.now a.within c.index.ensures 0 in
-    let room : c.args.t.now.len < length c.args.t.now.codes.items = has_room c.args.t.now.stamps.items c.args.t.now.codes.items c.args.t.now.len c.args.t.now.head c.args.t.now.level c.literal-other.result c.requires.visiting.trail a.within (omega (arith, stamp, c.if-index-ne0.false)) in
+    let against : c.neg-against.result < length c.args.t.now.stamps.items = rw c.neg-against.ensures a.against in
+    let e : c.index-in-None.result.now ≡ get_or c.args.t.now.stamps.items c.neg-against.result 0 = get_or_read c.args.t.now.stamps.items c.neg-against.result c.index-in-None.result.now against c.index-in-None.ensures 0 in
+    let free2 : get_or c.args.t.now.stamps.items (neg_of c.literal-other.result) 0 ≡ 0 = rw (← c.neg-against.ensures) (omega (arith, e, c.if-index-ne0-2.false)) in
+    let room : c.args.t.now.len < length c.args.t.now.codes.items = has_room c.args.t.now.stamps.items c.args.t.now.codes.items c.args.t.now.len c.args.t.now.head c.args.t.now.level c.literal-other.result c.requires.visiting.trail a.within (omega (arith, stamp, c.if-index-ne0.false)) free2 in
     room
 
 pub enqueue-requires-clause-reasons : goal.enqueue-requires-clause-reasons
 enqueue-requires-clause-reasons c =
     let a : AtPlace c.args.w.now c.args.t.now c.args.p c.args.place c.literal-other.result = at_place c.args.w.now c.args.t.now c.args.p 0 c.args.place c.neg-mate.result c.literal-other.result c.requires.visiting c.requires.pending c.requires.first c.neg-mate.ensures c.literal-other.ensures in
     let stamp : c.index.result.now ≡ get_or c.args.t.now.stamps.items c.literal-other.result 0 = get_or_read c.args.t.now.stamps.items c.literal-other.result c.index.result.now a.within c.index.ensures 0 in
-    let room : c.args.t.now.len < length c.args.t.now.codes.items = has_room c.args.t.now.stamps.items c.args.t.now.codes.items c.args.t.now.len c.args.t.now.head c.args.t.now.level c.literal-other.result c.requires.visiting.trail a.within (omega (arith, stamp, c.if-index-ne0.false)) in
+    let against : c.neg-against.result < length c.args.t.now.stamps.items = rw c.neg-against.ensures a.against in
+    let e : c.index-in-None.result.now ≡ get_or c.args.t.now.stamps.items c.neg-against.result 0 = get_or_read c.args.t.now.stamps.items c.neg-against.result c.index-in-None.result.now against c.index-in-None.ensures 0 in
+    let free2 : get_or c.args.t.now.stamps.items (neg_of c.literal-other.result) 0 ≡ 0 = rw (← c.neg-against.ensures) (omega (arith, e, c.if-index-ne0-2.false)) in
+    let room : c.args.t.now.len < length c.args.t.now.codes.items = has_room c.args.t.now.stamps.items c.args.t.now.codes.items c.args.t.now.len c.args.t.now.head c.args.t.now.level c.literal-other.result c.requires.visiting.trail a.within (omega (arith, stamp, c.if-index-ne0.false)) free2 in
     omega (arith, room, c.requires.visiting.reasoned.width)
 
 pub enqueue-requires-clause-rows : goal.enqueue-requires-clause-rows
 enqueue-requires-clause-rows c =
     let a : AtPlace c.args.w.now c.args.t.now c.args.p c.args.place c.literal-other.result = at_place c.args.w.now c.args.t.now c.args.p 0 c.args.place c.neg-mate.result c.literal-other.result c.requires.visiting c.requires.pending c.requires.first c.neg-mate.ensures c.literal-other.ensures in
     let stamp : c.index.result.now ≡ get_or c.args.t.now.stamps.items c.literal-other.result 0 = get_or_read c.args.t.now.stamps.items c.literal-other.result c.index.result.now a.within c.index.ensures 0 in
+    let against : c.neg-against.result < length c.args.t.now.stamps.items = rw c.neg-against.ensures a.against in
+    let e : c.index-in-None.result.now ≡ get_or c.args.t.now.stamps.items c.neg-against.result 0 = get_or_read c.args.t.now.stamps.items c.neg-against.result c.index-in-None.result.now against c.index-in-None.ensures 0 in
+    let free2 : get_or c.args.t.now.stamps.items (neg_of c.literal-other.result) 0 ≡ 0 = rw (← c.neg-against.ensures) (omega (arith, e, c.if-index-ne0-2.false)) in
     let free : get_or c.args.t.now.stamps.items c.literal-other.result 0 ≡ 0 = omega (arith, stamp, c.if-index-ne0.false) in
-    let wide : c.args.t.now.len < length c.args.t.now.rows.items = has_row c.args.t.now c.literal-other.result c.requires.visiting.trail c.requires.visiting.shown a.within free in
+    let wide : c.args.t.now.len < length c.args.t.now.rows.items = has_row c.args.t.now c.literal-other.result c.requires.visiting.trail c.requires.visiting.shown a.within free free2 in
     wide
 
 pub enqueue-requires-clause-spots : goal.enqueue-requires-clause-spots
@@ -129,14 +138,14 @@ enqueue-requires-clause-named c =
     let a : AtPlace c.args.w.now c.args.t.now c.args.p c.args.place c.literal-other.result = at_place c.args.w.now c.args.t.now c.args.p 0 c.args.place c.neg-mate.result c.literal-other.result c.requires.visiting c.requires.pending c.requires.first c.neg-mate.ensures c.literal-other.ensures in
     a.two
 
+pub enqueue-requires-clause-few : goal.enqueue-requires-clause-few
+enqueue-requires-clause-few c = c.requires.visiting.trail.few
+
+pub enqueue-requires-clause-short : goal.enqueue-requires-clause-short
+enqueue-requires-clause-short c = few_true c.args.t.now.stamps.items c.args.t.now.codes.items c.args.t.now.len c.args.t.now.head c.args.t.now.level c.requires.visiting.trail
+
 pub enqueue-requires-clause-level : goal.enqueue-requires-clause-level
-enqueue-requires-clause-level c =
-    let a : AtPlace c.args.w.now c.args.t.now c.args.p c.args.place c.literal-other.result = at_place c.args.w.now c.args.t.now c.args.p 0 c.args.place c.neg-mate.result c.literal-other.result c.requires.visiting c.requires.pending c.requires.first c.neg-mate.ensures c.literal-other.ensures in
-    let stamp : c.index.result.now ≡ get_or c.args.t.now.stamps.items c.literal-other.result 0 = get_or_read c.args.t.now.stamps.items c.literal-other.result c.index.result.now a.within c.index.ensures 0 in
-    let room : c.args.t.now.len < length c.args.t.now.codes.items = has_room c.args.t.now.stamps.items c.args.t.now.codes.items c.args.t.now.len c.args.t.now.head c.args.t.now.level c.literal-other.result c.requires.visiting.trail a.within (omega (arith, stamp, c.if-index-ne0.false)) in
-    let small : length c.args.t.now.codes.items < 2 ^ 64 = search rules in
-    let up : c.args.t.now.level ≤ c.args.t.now.len = level_len c.args.t.now.stamps.items c.args.t.now.codes.items c.args.t.now.len c.args.t.now.head c.args.t.now.level c.requires.visiting.trail in
-    omega (arith, room, small, up)
+enqueue-requires-clause-level c = omega (arith, few_levels c.args.t.now.stamps.items c.args.t.now.codes.items c.args.t.now.len c.args.t.now.head c.args.t.now.level c.requires.visiting.trail)
 
 pub returns-in-Some-clause-visiting : goal.returns-in-Some-clause-visiting
 returns-in-Some-clause-visiting c =
@@ -155,8 +164,8 @@ returns-else-index-ne0-2-clause-visiting c =
     let stamp : c.index.result.now ≡ get_or c.args.t.now.stamps.items c.literal-other.result 0 = get_or_read c.args.t.now.stamps.items c.literal-other.result c.index.result.now a.within c.index.ensures 0 in
     let e : c.index-in-None.result.now ≡ get_or c.args.t.now.stamps.items c.neg-against.result 0 = get_or_read c.args.t.now.stamps.items c.neg-against.result c.index-in-None.result.now against c.index-in-None.ensures 0 in
     let free : get_or c.args.t.now.stamps.items c.literal-other.result 0 ≡ 0 = omega (arith, stamp, c.if-index-ne0.false) in
-    let wide : c.args.t.now.len < length c.args.t.now.rows.items = has_row c.args.t.now c.literal-other.result c.requires.visiting.trail c.requires.visiting.shown a.within free in
     let free2 : get_or c.args.t.now.stamps.items (neg_of c.literal-other.result) 0 ≡ 0 = rw (← c.neg-against.ensures) (omega (arith, e, c.if-index-ne0-2.false)) in
+    let wide : c.args.t.now.len < length c.args.t.now.rows.items = has_row c.args.t.now c.literal-other.result c.requires.visiting.trail c.requires.visiting.shown a.within free free2 in
     let name : Some c.index-name.result.now ≡ Some (get_or c.args.w.now.ids.items (c.args.place / 2) no_id) = ap Some (get_or_read c.args.w.now.ids.items (c.args.place / 2) c.index-name.result.now a.name c.index-name.ensures no_id) in
     let level : c.enqueue.new.t.level + 1 ≡ c.args.t.now.level + 1 = omega (arith, c.enqueue.ensures.same_level) in
     let pu : IsPushed c.args.t.now c.enqueue.new.t c.literal-other.result (c.args.t.now.level + 1) (c.args.place / 2) (literal_of c.literal-other.result, c.args.t.now.level, Some c.index-name.result.now) =
@@ -168,9 +177,12 @@ pub returns-else-index-ne0-2-clause-grown : goal.returns-else-index-ne0-2-clause
 returns-else-index-ne0-2-clause-grown c =
     let a : AtPlace c.args.w.now c.args.t.now c.args.p c.args.place c.literal-other.result = at_place c.args.w.now c.args.t.now c.args.p 0 c.args.place c.neg-mate.result c.literal-other.result c.requires.visiting c.requires.pending c.requires.first c.neg-mate.ensures c.literal-other.ensures in
     let stamp : c.index.result.now ≡ get_or c.args.t.now.stamps.items c.literal-other.result 0 = get_or_read c.args.t.now.stamps.items c.literal-other.result c.index.result.now a.within c.index.ensures 0 in
-    let room : c.args.t.now.len < length c.args.t.now.codes.items = has_room c.args.t.now.stamps.items c.args.t.now.codes.items c.args.t.now.len c.args.t.now.head c.args.t.now.level c.literal-other.result c.requires.visiting.trail a.within (omega (arith, stamp, c.if-index-ne0.false)) in
+    let against : c.neg-against.result < length c.args.t.now.stamps.items = rw c.neg-against.ensures a.against in
+    let e : c.index-in-None.result.now ≡ get_or c.args.t.now.stamps.items c.neg-against.result 0 = get_or_read c.args.t.now.stamps.items c.neg-against.result c.index-in-None.result.now against c.index-in-None.ensures 0 in
+    let free2 : get_or c.args.t.now.stamps.items (neg_of c.literal-other.result) 0 ≡ 0 = rw (← c.neg-against.ensures) (omega (arith, e, c.if-index-ne0-2.false)) in
+    let room : c.args.t.now.len < length c.args.t.now.codes.items = has_room c.args.t.now.stamps.items c.args.t.now.codes.items c.args.t.now.len c.args.t.now.head c.args.t.now.level c.literal-other.result c.requires.visiting.trail a.within (omega (arith, stamp, c.if-index-ne0.false)) free2 in
     let free : get_or c.args.t.now.stamps.items c.literal-other.result 0 ≡ 0 = omega (arith, stamp, c.if-index-ne0.false) in
-    let wide : c.args.t.now.len < length c.args.t.now.rows.items = has_row c.args.t.now c.literal-other.result c.requires.visiting.trail c.requires.visiting.shown a.within free in
+    let wide : c.args.t.now.len < length c.args.t.now.rows.items = has_row c.args.t.now c.literal-other.result c.requires.visiting.trail c.requires.visiting.shown a.within free free2 in
     let pos : 0 < c.args.place / 2 = (let lo : 2 ≤ c.args.place = a.on.low in omega arith) in
     pushed_grown c.args.t.now c.enqueue.new.t c.literal-other.result (c.args.place / 2) (literal_of c.literal-other.result, c.args.t.now.level, Some c.index-name.result.now) pos (omega (arith, room, c.requires.visiting.reasoned.width)) wide refl c.enqueue.ensures.codes c.enqueue.ensures.reasons c.enqueue.ensures.rows c.enqueue.ensures.len
 

@@ -4,6 +4,11 @@ use Rattle.cnf_base.specs.Clauses.{no_id}
 use Rattle.cdcl_core.proofs.Finding.{reason_within, slot_within, clause_within, slot_named}
 use Rattle.cdcl_core.proofs.watches.Watches.clause_at.Goals as goal
 
+pub index-slot-requires : goal.index-slot-requires
+index-slot-requires c =
+    let room : c.args.place < length c.args.trail.now.reasons.items = reason_within c.args.self.now c.args.trail.now c.args.place c.requires c.if-place-trail.true in
+    search rules
+
 pub index-requires : goal.index-requires
 index-requires c =
     let room : c.args.place < length c.args.trail.now.reasons.items = reason_within c.args.self.now c.args.trail.now c.args.place c.requires c.if-place-trail.true in

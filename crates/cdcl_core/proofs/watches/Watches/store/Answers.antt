@@ -1,17 +1,26 @@
-use Rattle.std.proofs.Common.{ℕ, ◌*◌, ◌<◌, ◌≤◌, false, length, refl, ◌∙◌, arith}
+use Rattle.std.proofs.Common.{None, ◌≡◌, rules, ℕ, ◌*◌, ◌<◌, ◌≤◌, false, length, refl, ◌∙◌, arith}
 use Rattle.cnf_base.specs.Literals.{code_of}
 use Rattle.cdcl_core.specs.declared.watches.Kind.TheVariants.{Parked}
 use Rattle.cdcl_core.specs.Stamps.{codes, Has}
+use Rattle.cdcl_core.specs.Search.{clause_of}
 use Rattle.cdcl_core.specs.State.{IsPropagated, IsWaiting}
 use Rattle.cdcl_core.proofs.Apart.{parked_not_free, parked_not_watched, parked_not_fixed}
 use Rattle.cdcl_core.proofs.Clauses.{codes_length}
 use Rattle.cdcl_core.proofs.Bridge.{has_from}
-use Rattle.cdcl_core.proofs.Naming.{IsStored, stored_settled, stored_kept, stored_held, stored_others, unnamed_settled, unnamed_held}
+use Rattle.cdcl_core.proofs.Naming.{IsStored, stored_settled, stored_kept, stored_held, stored_others, unnamed_settled, unnamed_kept, unnamed_held}
 use Rattle.cdcl_core.proofs.Fixing.{seated_placed}
 use Rattle.cdcl_core.proofs.watches.Watches.store.Goals as goal
 
 pub returns-in_err-name_slot-clause-settled : goal.returns-in_err-name_slot-clause-settled
 returns-in_err-name_slot-clause-settled c = unnamed_settled c.free_slot.new.w c.name_slot.new.w c.reserve.new.trail c.free_slot.ensures.settled c.name_slot.ensures.lists c.name_slot.ensures.kinds c.name_slot.ensures.clauses c.in_err-name_slot.ensures.err_ids c.name_slot.ensures.calm c.in_err-name_slot.ensures.err_slots
+
+pub returns-in_err-name_slot-clause-others : goal.returns-in_err-name_slot-clause-others
+returns-in_err-name_slot-clause-others c = λ q ne. unnamed_kept c.free_slot.new.w c.name_slot.new.w q c.name_slot.ensures.clauses c.in_err-name_slot.ensures.err_slots ∙ (c.free_slot.ensures.kept q ∙ c.reserve.ensures.kept q)
+
+pub returns-in_err-name_slot-clause-not_kept : goal.returns-in_err-name_slot-clause-not_kept
+returns-in_err-name_slot-clause-not_kept c =
+    let gone : clause_of c.name_slot.new.w c.args.id ≡ None = unnamed_kept c.free_slot.new.w c.name_slot.new.w c.args.id c.name_slot.ensures.clauses c.in_err-name_slot.ensures.err_slots ∙ (c.free_slot.ensures.kept c.args.id ∙ (c.reserve.ensures.kept c.args.id ∙ c.requires.fresh)) in
+    search rules
 
 pub returns-in_err-name_slot-clause-others_held : goal.returns-in_err-name_slot-clause-others_held
 returns-in_err-name_slot-clause-others_held c = λ q ne. unnamed_held c.free_slot.new.w c.name_slot.new.w q c.name_slot.ensures.kinds c.name_slot.ensures.clauses c.in_err-name_slot.ensures.err_slots ∙ (c.free_slot.ensures.held q ∙ c.reserve.ensures.held q)
@@ -33,7 +42,7 @@ returns-clause-settled c =
       settled = c.free_slot.ensures.settled;
       waiting = c.in_ok-slot.ensures.waiting;
       fresh = c.free_slot.ensures.kept c.args.id ∙ (c.reserve.ensures.kept c.args.id ∙ c.requires.fresh);
-      updates = c.in_ok-name_slot.ensures.updates;
+      named = c.in_ok-name_slot.ensures.named;
       ids = c.in_ok-name_slot.ensures.ids;
       kinds = c.name_slot.ensures.kinds;
       clauses = c.name_slot.ensures.clauses;
@@ -49,7 +58,7 @@ returns-clause-kept c =
       settled = c.free_slot.ensures.settled;
       waiting = c.in_ok-slot.ensures.waiting;
       fresh = c.free_slot.ensures.kept c.args.id ∙ (c.reserve.ensures.kept c.args.id ∙ c.requires.fresh);
-      updates = c.in_ok-name_slot.ensures.updates;
+      named = c.in_ok-name_slot.ensures.named;
       ids = c.in_ok-name_slot.ensures.ids;
       kinds = c.name_slot.ensures.kinds;
       clauses = c.name_slot.ensures.clauses;
@@ -64,7 +73,7 @@ returns-clause-parked c =
       settled = c.free_slot.ensures.settled;
       waiting = c.in_ok-slot.ensures.waiting;
       fresh = c.free_slot.ensures.kept c.args.id ∙ (c.reserve.ensures.kept c.args.id ∙ c.requires.fresh);
-      updates = c.in_ok-name_slot.ensures.updates;
+      named = c.in_ok-name_slot.ensures.named;
       ids = c.in_ok-name_slot.ensures.ids;
       kinds = c.name_slot.ensures.kinds;
       clauses = c.name_slot.ensures.clauses;
@@ -79,7 +88,7 @@ returns-clause-others c =
       settled = c.free_slot.ensures.settled;
       waiting = c.in_ok-slot.ensures.waiting;
       fresh = c.free_slot.ensures.kept c.args.id ∙ (c.reserve.ensures.kept c.args.id ∙ c.requires.fresh);
-      updates = c.in_ok-name_slot.ensures.updates;
+      named = c.in_ok-name_slot.ensures.named;
       ids = c.in_ok-name_slot.ensures.ids;
       kinds = c.name_slot.ensures.kinds;
       clauses = c.name_slot.ensures.clauses;
@@ -94,7 +103,7 @@ returns-clause-others_held c =
       settled = c.free_slot.ensures.settled;
       waiting = c.in_ok-slot.ensures.waiting;
       fresh = c.free_slot.ensures.kept c.args.id ∙ (c.reserve.ensures.kept c.args.id ∙ c.requires.fresh);
-      updates = c.in_ok-name_slot.ensures.updates;
+      named = c.in_ok-name_slot.ensures.named;
       ids = c.in_ok-name_slot.ensures.ids;
       kinds = c.name_slot.ensures.kinds;
       clauses = c.name_slot.ensures.clauses;

@@ -1,11 +1,11 @@
 use Rattle.std.proofs.Common.{ℕ, ◌≡◌, ◌≢◌, ◌*◌, ◌<◌, Some, length, get_or, [], ◌∷◌, sym, ap, ◌∙◌, arith}
-use Rattle.std.specs.BTreeMap.{get}
 use Rattle.std.proofs.Math.ListN.{length-set}
 use Rattle.std.proofs.lemmas.List.{get_or_read, get_or-set_same}
 use Rattle.cdcl_core.specs.declared.watches.Watches.{Watches}
 use Rattle.cdcl_core.specs.declared.watches.Kind.TheVariants.{Free, Fixed, Parked}
 use Rattle.cdcl_core.specs.Chains.{first_of}
-use Rattle.cdcl_core.specs.Search.{id_cmp, literals_of, level_of}
+use Rattle.cdcl_core.specs.Search.{literals_of, level_of}
+use Rattle.cdcl_core.specs.Slots.{slot_in}
 use Rattle.cdcl_core.specs.Stamps.{codes, Has}
 use Rattle.cdcl_core.specs.Watched.{kind_at}
 use Rattle.cdcl_core.specs.State.{all_codes, IsCleared}
@@ -27,7 +27,7 @@ returns-in_default-index-clause-held c =
     let w = c.args.self.now in
     let t = c.args.trail.now in
     let s = c.in-Some.slot in
-    let found : get id_cmp w.slots c.args.id ≡ Some s = sym c.in-Some.ensures in
+    let found : slot_in w.slots c.args.id ≡ Some s = sym c.in-Some.ensures in
     let high : s < length w.kinds.items = c.requires.settled.named.high c.args.id s found in
     let within : s < length w.clauses.items = omega (arith, high, c.requires.settled.watched.clauses, codes_length w.clauses.items) in
     already_held w t s c.args.id c.requires.settled found (λ e. c.in_default-index.not-Parked (get_or_read w.kinds.items s c.index.result.now high c.index.ensures Free ∙ e))
@@ -37,7 +37,7 @@ is_satisfied-requires c =
     let w = c.args.self.now in
     let t = c.args.trail.now in
     let s = c.in-Some.slot in
-    let found : get id_cmp w.slots c.args.id ≡ Some s = sym c.in-Some.ensures in
+    let found : slot_in w.slots c.args.id ≡ Some s = sym c.in-Some.ensures in
     let high : s < length w.kinds.items = c.requires.settled.named.high c.args.id s found in
     let within : s < length w.clauses.items = omega (arith, high, c.requires.settled.watched.clauses, codes_length w.clauses.items) in
     let read : codes c.literals.result.now ≡ get_or (all_codes w.clauses.items) s [] = ap codes c.literals.ensures ∙ clause_codes w.clauses.items s c.index-2.result.now within c.index-2.ensures in
@@ -48,7 +48,7 @@ returns-then-is_satisfied-clause-settled c =
     let w = c.args.self.now in
     let t = c.args.trail.now in
     let s = c.in-Some.slot in
-    let found : get id_cmp w.slots c.args.id ≡ Some s = sym c.in-Some.ensures in
+    let found : slot_in w.slots c.args.id ≡ Some s = sym c.in-Some.ensures in
     let high : s < length w.kinds.items = c.requires.settled.named.high c.args.id s found in
     let within : s < length w.clauses.items = omega (arith, high, c.requires.settled.watched.clauses, codes_length w.clauses.items) in
     let kind : kind_at w.kinds.items s ≡ Parked = sym (get_or_read w.kinds.items s c.index.result.now high c.index.ensures Free) ∙ c.in-Parked.is in
@@ -78,7 +78,7 @@ returns-then-is_satisfied-clause-held c =
     let w = c.args.self.now in
     let t = c.args.trail.now in
     let s = c.in-Some.slot in
-    let found : get id_cmp w.slots c.args.id ≡ Some s = sym c.in-Some.ensures in
+    let found : slot_in w.slots c.args.id ≡ Some s = sym c.in-Some.ensures in
     let high : s < length w.kinds.items = c.requires.settled.named.high c.args.id s found in
     let within : s < length w.clauses.items = omega (arith, high, c.requires.settled.watched.clauses, codes_length w.clauses.items) in
     let kind : kind_at w.kinds.items s ≡ Parked = sym (get_or_read w.kinds.items s c.index.result.now high c.index.ensures Free) ∙ c.in-Parked.is in
@@ -108,7 +108,7 @@ returns-then-is_satisfied-clause-kept c =
     let w = c.args.self.now in
     let t = c.args.trail.now in
     let s = c.in-Some.slot in
-    let found : get id_cmp w.slots c.args.id ≡ Some s = sym c.in-Some.ensures in
+    let found : slot_in w.slots c.args.id ≡ Some s = sym c.in-Some.ensures in
     let high : s < length w.kinds.items = c.requires.settled.named.high c.args.id s found in
     let within : s < length w.clauses.items = omega (arith, high, c.requires.settled.watched.clauses, codes_length w.clauses.items) in
     let kind : kind_at w.kinds.items s ≡ Parked = sym (get_or_read w.kinds.items s c.index.result.now high c.index.ensures Free) ∙ c.in-Parked.is in
@@ -138,7 +138,7 @@ returns-then-is_satisfied-clause-others c =
     let w = c.args.self.now in
     let t = c.args.trail.now in
     let s = c.in-Some.slot in
-    let found : get id_cmp w.slots c.args.id ≡ Some s = sym c.in-Some.ensures in
+    let found : slot_in w.slots c.args.id ≡ Some s = sym c.in-Some.ensures in
     let high : s < length w.kinds.items = c.requires.settled.named.high c.args.id s found in
     let within : s < length w.clauses.items = omega (arith, high, c.requires.settled.watched.clauses, codes_length w.clauses.items) in
     let kind : kind_at w.kinds.items s ≡ Parked = sym (get_or_read w.kinds.items s c.index.result.now high c.index.ensures Free) ∙ c.in-Parked.is in
@@ -168,7 +168,7 @@ give_up-clause-requires-clause-idle c =
     let w = c.args.self.now in
     let t = c.args.trail.now in
     let s = c.in-Some.slot in
-    let found : get id_cmp w.slots c.args.id ≡ Some s = sym c.in-Some.ensures in
+    let found : slot_in w.slots c.args.id ≡ Some s = sym c.in-Some.ensures in
     let high : s < length w.kinds.items = c.requires.settled.named.high c.args.id s found in
     let within : s < length w.clauses.items = omega (arith, high, c.requires.settled.watched.clauses, codes_length w.clauses.items) in
     let kind : kind_at w.kinds.items s ≡ Parked = sym (get_or_read w.kinds.items s c.index.result.now high c.index.ensures Free) ∙ c.in-Parked.is in
@@ -180,7 +180,7 @@ give_up-clause-requires-clause-places c =
     let w = c.args.self.now in
     let t = c.args.trail.now in
     let s = c.in-Some.slot in
-    let found : get id_cmp w.slots c.args.id ≡ Some s = sym c.in-Some.ensures in
+    let found : slot_in w.slots c.args.id ≡ Some s = sym c.in-Some.ensures in
     let high : s < length w.kinds.items = c.requires.settled.named.high c.args.id s found in
     let within : s < length w.clauses.items = omega (arith, high, c.requires.settled.watched.clauses, codes_length w.clauses.items) in
     omega (arith, high, c.requires.settled.watched.slots)
@@ -190,7 +190,7 @@ hold-requires-clause-placed c =
     let w = c.args.self.now in
     let t = c.args.trail.now in
     let s = c.in-Some.slot in
-    let found : get id_cmp w.slots c.args.id ≡ Some s = sym c.in-Some.ensures in
+    let found : slot_in w.slots c.args.id ≡ Some s = sym c.in-Some.ensures in
     let high : s < length w.kinds.items = c.requires.settled.named.high c.args.id s found in
     let within : s < length w.clauses.items = omega (arith, high, c.requires.settled.watched.clauses, codes_length w.clauses.items) in
     let kind : kind_at w.kinds.items s ≡ Parked = sym (get_or_read w.kinds.items s c.index.result.now high c.index.ensures Free) ∙ c.in-Parked.is in
@@ -217,7 +217,7 @@ hold-requires-clause-waiting c =
     let w = c.args.self.now in
     let t = c.args.trail.now in
     let s = c.in-Some.slot in
-    let found : get id_cmp w.slots c.args.id ≡ Some s = sym c.in-Some.ensures in
+    let found : slot_in w.slots c.args.id ≡ Some s = sym c.in-Some.ensures in
     let high : s < length w.kinds.items = c.requires.settled.named.high c.args.id s found in
     let within : s < length w.clauses.items = omega (arith, high, c.requires.settled.watched.clauses, codes_length w.clauses.items) in
     record {
@@ -232,7 +232,7 @@ hold-requires-clause-may_come c =
     let w = c.args.self.now in
     let t = c.args.trail.now in
     let s = c.in-Some.slot in
-    let found : get id_cmp w.slots c.args.id ≡ Some s = sym c.in-Some.ensures in
+    let found : slot_in w.slots c.args.id ≡ Some s = sym c.in-Some.ensures in
     let high : s < length w.kinds.items = c.requires.settled.named.high c.args.id s found in
     let within : s < length w.clauses.items = omega (arith, high, c.requires.settled.watched.clauses, codes_length w.clauses.items) in
     may_wake w t s c.give_up-clause.result c.requires.settled c.requires.level (slot_codes w s c.give_up-clause.result within c.give_up-clause.ensures.clause)
@@ -242,7 +242,7 @@ hold-requires-clause-name c =
     let w = c.args.self.now in
     let t = c.args.trail.now in
     let s = c.in-Some.slot in
-    let found : get id_cmp w.slots c.args.id ≡ Some s = sym c.in-Some.ensures in
+    let found : slot_in w.slots c.args.id ≡ Some s = sym c.in-Some.ensures in
     let high : s < length w.kinds.items = c.requires.settled.named.high c.args.id s found in
     let within : s < length w.clauses.items = omega (arith, high, c.requires.settled.watched.clauses, codes_length w.clauses.items) in
     rw c.give_up-clause.ensures.ids (c.requires.settled.named.name c.args.id s found)
@@ -252,7 +252,7 @@ hold-requires-clause-lists c =
     let w = c.args.self.now in
     let t = c.args.trail.now in
     let s = c.in-Some.slot in
-    let found : get id_cmp w.slots c.args.id ≡ Some s = sym c.in-Some.ensures in
+    let found : slot_in w.slots c.args.id ≡ Some s = sym c.in-Some.ensures in
     let high : s < length w.kinds.items = c.requires.settled.named.high c.args.id s found in
     let within : s < length w.clauses.items = omega (arith, high, c.requires.settled.watched.clauses, codes_length w.clauses.items) in
     rw (c.give_up-clause.ensures.lists, length-set) (omega (arith, c.requires.settled.watched.lists))
@@ -262,7 +262,7 @@ returns-clause-settled c =
     let w = c.args.self.now in
     let t = c.args.trail.now in
     let s = c.in-Some.slot in
-    let found : get id_cmp w.slots c.args.id ≡ Some s = sym c.in-Some.ensures in
+    let found : slot_in w.slots c.args.id ≡ Some s = sym c.in-Some.ensures in
     let high : s < length w.kinds.items = c.requires.settled.named.high c.args.id s found in
     let within : s < length w.clauses.items = omega (arith, high, c.requires.settled.watched.clauses, codes_length w.clauses.items) in
     let m : IsWoken w c.give_up-clause.new.w c.hold.new.w t c.hold.new.t s c.args.id c.give_up-clause.result = record {
@@ -283,7 +283,7 @@ returns-clause-held c =
     let w = c.args.self.now in
     let t = c.args.trail.now in
     let s = c.in-Some.slot in
-    let found : get id_cmp w.slots c.args.id ≡ Some s = sym c.in-Some.ensures in
+    let found : slot_in w.slots c.args.id ≡ Some s = sym c.in-Some.ensures in
     let high : s < length w.kinds.items = c.requires.settled.named.high c.args.id s found in
     let within : s < length w.clauses.items = omega (arith, high, c.requires.settled.watched.clauses, codes_length w.clauses.items) in
     let m : IsWoken w c.give_up-clause.new.w c.hold.new.w t c.hold.new.t s c.args.id c.give_up-clause.result = record {
@@ -304,7 +304,7 @@ returns-clause-kept c =
     let w = c.args.self.now in
     let t = c.args.trail.now in
     let s = c.in-Some.slot in
-    let found : get id_cmp w.slots c.args.id ≡ Some s = sym c.in-Some.ensures in
+    let found : slot_in w.slots c.args.id ≡ Some s = sym c.in-Some.ensures in
     let high : s < length w.kinds.items = c.requires.settled.named.high c.args.id s found in
     let within : s < length w.clauses.items = omega (arith, high, c.requires.settled.watched.clauses, codes_length w.clauses.items) in
     let m : IsWoken w c.give_up-clause.new.w c.hold.new.w t c.hold.new.t s c.args.id c.give_up-clause.result = record {
@@ -325,7 +325,7 @@ returns-clause-others c =
     let w = c.args.self.now in
     let t = c.args.trail.now in
     let s = c.in-Some.slot in
-    let found : get id_cmp w.slots c.args.id ≡ Some s = sym c.in-Some.ensures in
+    let found : slot_in w.slots c.args.id ≡ Some s = sym c.in-Some.ensures in
     let high : s < length w.kinds.items = c.requires.settled.named.high c.args.id s found in
     let within : s < length w.clauses.items = omega (arith, high, c.requires.settled.watched.clauses, codes_length w.clauses.items) in
     let m : IsWoken w c.give_up-clause.new.w c.hold.new.w t c.hold.new.t s c.args.id c.give_up-clause.result = record {
