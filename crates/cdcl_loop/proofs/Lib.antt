@@ -3,4 +3,3 @@ pub mod Agendas
 pub mod Trails
 pub mod Values
 pub mod Assuming
-pub mod Reasons

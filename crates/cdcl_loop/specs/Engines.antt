@@ -1,10 +1,10 @@
 -- An engine: its trail, the clauses that it holds, and its given literals.
-use Rattle.std.specs.Prelude.{◌≡◌, ◌≢◌, ◌+◌, ◌++◌, ℕ, List, [], ◌∷◌, Some, None, Contains, IsSome, slice_get}
+use Rattle.std.specs.Prelude.{◌≡◌, ◌≢◌, ◌+◌, ◌++◌, List, [], ◌∷◌, None, Contains, IsSome}
 use Rattle.cnf_base.specs.Literals.{Literal}
 use Rattle.cnf_base.specs.declared.clause.ClauseId.{ClauseId}
 use Rattle.cdcl_core.specs.declared.trail.Trail.{Trail}
 use Rattle.cdcl_core.specs.declared.watches.Watches.{Watches}
-use Rattle.cdcl_core.specs.Levels.{Row, IsTrueBy, IsOpen}
+use Rattle.cdcl_core.specs.Levels.{IsTrueBy, IsOpen, IsReason}
 use Rattle.cdcl_core.specs.Search.{literals_of, level_of, clause_of, held_of, IsAtRest}
 use Rattle.cdcl_core.specs.State.{IsSettled, IsPropagated}
 use Rattle.cdcl_learn.specs.Rows.{AreDecidedFirst}
@@ -39,10 +39,6 @@ IsOnCourse e = IsCourse (literals_of e.trail) (level_of e.trail) e.base e.given.
 pub record IsSameTask (old new : Engine) : Type 0 where
   pub given : new.given ≡ old.given
   pub listed : new.agenda.list ≡ old.agenda.list
-
--- the clause of this name forced a literal of these
-abbrev pub IsReason : List Row → ClauseId → Type 0
-IsReason rows id = (i : ℕ) × (l : Literal) × (level : ℕ) × (slice_get rows i ≡ Some (l, level, Some id))
 
 -- the clause of this name is kept, and forced no literal of the trail
 pub record IsIdle (e : Engine) (id : ClauseId) : Type 0 where

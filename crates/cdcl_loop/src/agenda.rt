@@ -1,6 +1,6 @@
 //! The variables that are to be decided, in their order.
 
-ghost use Rattle.std.specs.Prelude.{ℕ, ◌≡◌, ◌+◌, ◌<◌, ◌≤◌, [], List, length, filter, nat_le, slice_index, Contains, OnOk, MatchBool, MatchOption};
+ghost use Rattle.std.specs.Prelude.{ℕ, ◌≡◌, ◌+◌, ◌<◌, ◌≤◌, [], List, length, filter, nat_le, slice_index, take, Contains, OnOk, MatchBool, MatchOption};
 ghost use Rattle.cnf_base.specs.Literals.{Literal};
 ghost use Rattle.variable_list.specs.Variables.{IsVariable, IsListed};
 ghost use Rattle.cdcl_core.specs.Levels.{Row, IsOpen};
@@ -66,12 +66,12 @@ impl Agenda {
         self.marks.clear();
     }
 
-    /// Forgets the variables, at level 0.
-    pub(crate) fn clear(&mut self)
-        ensures list { self.new.list ≡ [] }
+    /// Forgets the variables from this place on, at level 0.
+    pub(crate) fn cut(&mut self, count: usize)
+        ensures list { self.new.list ≡ take count self.old.list }
         ensures scanned { (rows : List Row) → IsScanned self.new rows 0 }
     {
-        self.list.clear();
+        self.list.cut(count);
         self.rewind();
     }
 
@@ -83,6 +83,13 @@ impl Agenda {
     {
         self.list.add(variable)?;
         Ok(())
+    }
+
+    /// How many variables there are.
+    pub(crate) fn len(&self) -> usize
+        ensures { result ≡ length self.now.list }
+    {
+        self.list.as_slice().len()
     }
 
     /// Whether the variable is listed.

@@ -1,6 +1,6 @@
 //! An engine, and how it begins, propagates and goes back.
 
-ghost use Rattle.std.specs.Prelude.{◌≡◌, ◌⊎◌, ◌≤◌, [], filter, nat_le, Contains, OnOk, MatchBool, MatchOption};
+ghost use Rattle.std.specs.Prelude.{◌≡◌, ◌⊎◌, ◌≤◌, [], length, take, filter, nat_le, Contains, OnOk, MatchBool, MatchOption};
 ghost use Rattle.std.specs.Option.{option_copied};
 ghost use Rattle.cnf_base.specs.Clauses.{lit_true};
 ghost use Rattle.variable_list.specs.Variables.{IsVariable, IsListed};
@@ -61,6 +61,13 @@ impl Engine {
         self.choices.reserve(variable)?;
         self.agenda.add(variable)?;
         Ok(())
+    }
+
+    /// How many variables are listed.
+    pub fn listed(&self) -> usize
+        ensures { result ≡ length self.now.agenda.list }
+    {
+        self.agenda.len()
     }
 
     /// Whether the variable is listed.
@@ -141,19 +148,19 @@ impl Engine {
         self.given = given;
     }
 
-    /// Begins another check: every decision is taken back, no literal is given, no variable is listed, and what late conflicts had is
-    /// forgotten. The variables keep their signs.
-    pub fn renew(&mut self)
+    /// Begins another check: every decision is taken back, no literal is given, of the listed variables the first `count` stay, and what
+    /// late conflicts had is forgotten. The variables keep their signs.
+    pub fn renew(&mut self, count: usize)
         requires engine { IsEngine self.old }
         ensures watches { self.new.watches ≡ self.old.watches }
         ensures given { self.new.given.items ≡ [] }
-        ensures listed { self.new.agenda.list ≡ [] }
+        ensures listed { self.new.agenda.list ≡ take count self.old.agenda.list }
         ensures engine { IsEngine self.new }
         ensures level { level_of self.new.trail ≡ 0 }
         ensures course { IsOnCourse self.new }
     {
         self.go_back(0);
-        self.agenda.clear();
+        self.agenda.cut(count);
         self.choices.renew();
         self.base = 0;
         self.given.clear();

@@ -6,25 +6,12 @@ ghost use Rattle.hint_chain.specs.Chains.{IsChain};
 ghost use Rattle.cdcl_core.specs.Levels.{RestsBy, IsAdded};
 ghost use Rattle.cdcl_core.specs.Search.{literals_of, level_of, clause_of, held_of, IsConflict};
 ghost use Rattle.cdcl_learn.specs.Puts.{IsClash, AreGiven, IsAgainst, IsGoodPut, IsUnitAfter, StandsIn};
-ghost use Rattle.cdcl_loop.specs.Engines.{IsEngine, IsOnCourse, IsSameTask, IsSameBut, IsReason, IsIdle};
+ghost use Rattle.cdcl_loop.specs.Engines.{IsEngine, IsOnCourse, IsSameTask, IsSameBut, IsIdle};
 
-use crate::choices::Row;
 use crate::engine::Engine;
 use cdcl_learn::{Clash, final_clause, learn};
 use cnf_base::{Clause, ClauseId, Pos};
 use std::alloc::AllocError;
-
-// Whether the clause forced a literal of the trail.
-fn is_reason(rows: &[Row], id: ClauseId) -> bool
-    ensures { MatchBool result (IsReason rows.now id) (IsReason rows.now id → ⊥) }
-{
-    for row in rows {
-        if row.2 == Some(id) {
-            return true;
-        }
-    }
-    false
-}
 
 impl Engine {
     /// A clause with its hints that has only opposites of given literals, where no other literal was decided.
@@ -115,7 +102,7 @@ impl Engine {
         let Some(_) = self.watches.clause(id) else {
             return false;
         };
-        if is_reason(self.trail.literals(), id) {
+        if self.watches.is_reason(&self.trail, id) {
             return false;
         }
         self.watches.drop_clause(&self.trail, id);

@@ -15,7 +15,8 @@ use Rattle.cdcl_core.specs.declared.watches.Watches.{Watches}
 use Rattle.cdcl_core.specs.Search.{clause_of, held_of}
 use Rattle.cdcl_loop.specs.Engines.{IsSameStore, IsSameBut}
 use Rattle.cdcl_learn.proofs.Lists.{front_cases}
-use Rattle.cube_search.specs.Holding.{AreAmong, IsListing, Brings, IsHolding, IsFilling}
+use Rattle.cube_search.specs.Holding.{AreAmong, IsLonger, IsListing, IsBringing, IsBrought, IsHolding, IsFilling}
+use Rattle.cube_search.proofs.Told.{longer_has, longer_same, longer_then, occurs_here, told_more}
 
 pub same_id : (a b : ClauseId) → (a ≡ b) ⊎ (a ≢ b)
 same_id a b = elim (cases_eq a.pos b.pos) [
@@ -29,23 +30,23 @@ same_id a b = elim (cases_eq a.pos b.pos) [
 -- ---- variables that are listed
 
 pub listing_none : (xs : List ℕ) → IsListing xs [] xs
-listing_none xs = record { kept = λ x k. k; only = λ x k. inl k; among = λ l k. absurd (Contains-nil l k) }
+listing_none xs = record { longer = longer_same xs xs refl; only = λ x k. inl k; among = λ l k. absurd (Contains-nil l k) }
 
 pub listing_more : (old xs ys : List ℕ) (c : List Literal) (i : ℕ) (l : Literal) → i < length c → l ≡ get_or c i l → IsListed xs l.variable ys → IsListing old (take i c) xs → IsListing old (take (i + 1) c) ys
 listing_more old xs ys c i l lt is listed h = record {
-  kept = λ x k. still x (h.kept x k);
+  longer = longer_then old xs ys h.longer longer;
   only = λ x k. elim (came x k) [
     | inl a ↦ ⊎_elim (λ b. inl b) (λ m. inr (m.0, front m.0 m.1, m.2)) (h.only x a)
     | inr a ↦ inr (l, here, sym a)
   ];
   among = λ m k. elim (front_cases c i l m lt k) [
-    | inl a ↦ still m.variable (h.among m a)
+    | inl a ↦ longer_has xs ys m.variable longer (h.among m a)
     | inr a ↦ subst (λ (n : Literal). Contains ys n.variable) (is ∙ a) there
   ];
 }
   where
-    still : (x : ℕ) → Contains xs x → Contains ys x
-    still x k = ⊎_elim (λ s. subst (λ (zs : List ℕ). Contains zs x) (sym s.1) k) (λ s. subst (λ (zs : List ℕ). Contains zs x) (sym s.1) (Contains-append_left xs (l.variable ∷ []) x k)) listed
+    longer : IsLonger xs ys
+    longer = ⊎_elim (λ s. longer_same xs ys s.1) (λ s. (l.variable ∷ [], s.1)) listed
 
     there : Contains ys l.variable
     there = ⊎_elim (λ s. subst (λ (zs : List ℕ). Contains zs l.variable) (sym s.1) s.0) (λ s. subst (λ (zs : List ℕ). Contains zs l.variable) (sym s.1) (Contains-push xs l.variable)) listed
@@ -62,59 +63,45 @@ listing_more old xs ys c i l lt is listed h = record {
     here : Contains (take (i + 1) c) l
     here = subst (λ (ls : List Literal). Contains ls l) (sym (take_more c i l lt)) (subst (λ (m : Literal). Contains (take i c ++ get_or c i l ∷ []) m) (sym is) (Contains-push (take i c) (get_or c i l)))
 
--- ---- what is held
+-- ---- one position more
 
-pub nothing_held : (w : Watches) (rows : List (List (List Literal))) (variables : List ℕ) → variables ≡ [] → ((id : ClauseId) (c : List Literal) → clause_of w id ≡ Some c → clause_at rows id ≡ Some c) → ((id : ClauseId) → held_of w id ≡ None) → IsHolding w rows variables [] []
-nothing_held w rows variables e sound none = record {
+pub bringing_start : (w : Watches) (rows : List (List (List Literal))) (variables : List ℕ) (pos : ℕ) → ((id : ClauseId) (c : List Literal) → clause_of w id ≡ Some c → clause_at rows id ≡ Some c) → IsBringing (λ part. part < 0) w w rows variables variables pos
+bringing_start w rows variables pos sound = record {
+  longer = longer_same variables variables refl;
+  only = λ x k. inl k;
+  kept = λ id ne. refl;
+  others = λ id ne. refl;
   sound = sound;
-  among = λ id c h. not_here id c h;
-  covered = λ id c h. not_here id c h;
-  complete = λ id c k h. absurd (Contains-nil id.pos k);
-  waiting = λ id c k h. absurd (Contains-nil id.pos k);
-  occurs = λ x k. absurd (Contains-nil x (subst (λ (xs : List ℕ). Contains xs x) e k));
-}
-  where
-    not_here : {A : Type 0} (id : ClauseId) (c : List Literal) → held_of w id ≡ Some c → A
-    not_here id c h = let q = none id in let f : ⊥ = cc in absurd f
-
-pub filling_start : (w : Watches) (rows : List (List (List Literal))) (variables opening : List ℕ) (pos : ℕ) → IsHolding w rows variables opening [] → IsFilling w rows variables opening pos 0
-filling_start w rows variables opening pos h = record {
-  sound = h.sound;
-  among = h.among;
-  covered = λ id c e. ⊎_elim (λ k. inl k) (λ k. absurd (Contains-nil id.pos k)) (h.covered id c e);
-  complete = h.complete;
-  filled = λ id c p lt e. absurd (omega (arith, lt));
-  occurs = λ x k. inl (h.occurs x k);
+  held = λ id c p lt e. absurd (omega (arith, lt));
+  among = λ id c p lt e. absurd (omega (arith, lt));
 }
 
 -- the next part is held from here on
-pub filling_woken : (w v : Watches) (rows : List (List (List Literal))) (variables more opening : List ℕ) (id : ClauseId) (clause : List Literal) → clause_at rows id ≡ Some clause → clause_of v id ≡ Some clause → held_of v id ≡ Some clause → IsSameBut id w v → IsListing variables clause more → IsFilling w rows variables opening id.pos id.part → IsFilling v rows more opening id.pos (id.part + 1)
-filling_woken w v rows variables more opening id clause at kept held others listing h = record {
+pub bringing_more : (first w v : Watches) (rows : List (List (List Literal))) (variables xs ys : List ℕ) (id : ClauseId) (clause : List Literal) → clause_at rows id ≡ Some clause → clause_of v id ≡ Some clause → held_of v id ≡ Some clause → IsSameBut id w v → IsListing xs clause ys → IsBringing (λ part. part < id.part) first w rows variables xs id.pos → IsBringing (λ part. part < id.part + 1) first v rows variables ys id.pos
+bringing_more first w v rows variables xs ys id clause at kept held others listing h = record {
+  longer = longer_then variables xs ys h.longer listing.longer;
+  only = λ x k. ⊎_elim (λ old. h.only x old) (λ l. inr (occurs_here rows id clause l.0 x at l.1 l.2)) (listing.only x k);
+  kept = λ q ne. others.kept q (λ e. ne (ap (λ (x : ClauseId). x.pos) e)) ∙ h.kept q ne;
+  others = λ q ne. others.held q (λ e. ne (ap (λ (x : ClauseId). x.pos) e)) ∙ h.others q ne;
   sound = λ q c e. elim (same_id q id) [
     | inl a ↦ ap (clause_at rows) a ∙ at ∙ sym (ap (clause_of v) a ∙ kept) ∙ e
     | inr a ↦ h.sound q c (sym (others.kept q a) ∙ e)
   ];
-  among = λ q c e. elim (same_id q id) [
-    | inl a ↦ (let r : Some clause ≡ Some c = sym (ap (held_of v) a ∙ held) ∙ e in let s : clause ≡ c = cc in subst (AreAmong more) s listing.among)
-    | inr a ↦ (λ l k. listing.kept l.variable (h.among q c (sym (others.held q a) ∙ e) l k))
-  ];
-  covered = λ q c e. elim (same_id q id) [
-    | inl a ↦ inr (ap (λ (x : ClauseId). x.pos) a)
-    | inr a ↦ h.covered q c (sym (others.held q a) ∙ e)
-  ];
-  complete = λ q c k e. elim (same_id q id) [
+  held = λ q c p lt e. elim (same_id q id) [
     | inl a ↦ ap (held_of v) a ∙ held ∙ sym at ∙ ap (clause_at rows) (sym a) ∙ e
-    | inr a ↦ others.held q a ∙ h.complete q c k e
+    | inr a ↦ others.held q a ∙ h.held q c p (before q p lt a) e
   ];
-  filled = λ q c p lt e. elim (same_id q id) [
-    | inl a ↦ ap (held_of v) a ∙ held ∙ sym at ∙ ap (clause_at rows) (sym a) ∙ e
-    | inr a ↦ others.held q a ∙ h.filled q c p (⊎_elim (λ less. less) (λ ge. absurd (a (λ i. record { pos = p i; part = (let r : q.part ≡ id.part = omega (arith, lt, ge) in r) i }))) (cases_lt q.part id.part)) e
+  among = λ q c p lt e. elim (same_id q id) [
+    | inl a ↦ (let r : Some clause ≡ Some c = sym at ∙ ap (clause_at rows) (sym a) ∙ e in let s : clause ≡ c = cc in subst (AreAmong ys) s listing.among)
+    | inr a ↦ (λ l k. longer_has xs ys l.variable listing.longer (h.among q c p (before q p lt a) e l k))
   ];
-  occurs = λ x k. ⊎_elim (λ old. h.occurs x old) (λ l. inr (id, clause, l.0, refl, at, l.1, l.2)) (listing.only x k);
 }
+  where
+    before : (q : ClauseId) → q.pos ≡ id.pos → q.part < id.part + 1 → q ≢ id → q.part < id.part
+    before q p lt a = ⊎_elim (λ less. less) (λ ge. absurd (a (λ i. record { pos = p i; part = (let r : q.part ≡ id.part = omega (arith, lt, ge) in r) i }))) (cases_lt q.part id.part)
 
 -- no part has a clause after one that has none
-no_later : (rows : List (List (List Literal))) (pos part k : ℕ) (c : List Literal) → clause_at rows (record { pos = pos; part = part }) ≡ None → part ≤ k → clause_at rows (record { pos = pos; part = k }) ≡ Some c → ⊥
+pub no_later : (rows : List (List (List Literal))) (pos part k : ℕ) (c : List Literal) → clause_at rows (record { pos = pos; part = part }) ≡ None → part ≤ k → clause_at rows (record { pos = pos; part = k }) ≡ Some c → ⊥
 no_later rows pos part k c none le e =
     let r = clause_row rows (record { pos = pos; part = k }) c e in
     let low : k < length (r.0) = slice_get_within r.0 k c r.2 in
@@ -128,24 +115,50 @@ no_later rows pos part k c none le e =
         inside (x ∷ xs) zero n lt = cc
         inside (x ∷ xs) (suc i) n lt = inside xs i n (omega (arith, lt))
 
-pub filling_all : (w : Watches) (rows : List (List (List Literal))) (variables opening : List ℕ) (pos part : ℕ) → clause_at rows (record { pos = pos; part = part }) ≡ None → IsFilling w rows variables opening pos part → IsHolding w rows variables (opening ++ pos ∷ []) []
-filling_all w rows variables opening pos part none h = record {
+pub bringing_all : (first w : Watches) (rows : List (List (List Literal))) (variables xs : List ℕ) (pos part : ℕ) → clause_at rows (record { pos = pos; part = part }) ≡ None → IsBringing (λ k. k < part) first w rows variables xs pos → IsBrought first w rows variables xs pos
+bringing_all first w rows variables xs pos part none h = record {
+  longer = h.longer;
+  only = h.only;
+  kept = h.kept;
+  others = h.others;
   sound = h.sound;
-  among = h.among;
-  covered = λ id c e. ⊎_elim (λ k. inl (Contains-append_left opening (pos ∷ []) id.pos k)) (λ p. inl (subst (Contains (opening ++ pos ∷ [])) (sym p) (Contains-push opening pos))) (h.covered id c e);
-  complete = λ id c k e. ⊎_elim (λ old. h.complete id c old e) (λ p. here id c (sym p) e) (Contains-push_cases opening pos id.pos k);
-  waiting = λ id c k e. absurd (Contains-nil id.pos k);
-  occurs = λ x k. ⊎_elim
-      (λ o. (o.0, o.1, o.2, Contains-append_left opening (pos ∷ []) o.0.pos o.3, o.4, o.5, o.6))
-      (λ o. (o.0, o.1, o.2, subst (Contains (opening ++ pos ∷ [])) (sym o.3) (Contains-push opening pos), o.4, o.5, o.6))
-      (h.occurs x k);
+  held = λ id c p u e. h.held id c p (before id c p e) e;
+  among = λ id c p u e. h.among id c p (before id c p e) e;
 }
   where
-    here : (id : ClauseId) (c : List Literal) → id.pos ≡ pos → clause_at rows id ≡ Some c → held_of w id ≡ Some c
-    here id c p e = ⊎_elim
-        (λ less. h.filled id c p less e)
+    before : (id : ClauseId) (c : List Literal) → id.pos ≡ pos → clause_at rows id ≡ Some c → id.part < part
+    before id c p e = ⊎_elim
+        (λ less. less)
         (λ ge. absurd (no_later rows pos part id.part c none ge (ap (λ n. clause_at rows (record { pos = n; part = id.part })) (sym p) ∙ e)))
         (cases_lt id.part part)
+
+pub brought_same : (first w v : Watches) (rows : List (List (List Literal))) (variables xs ys : List ℕ) (pos : ℕ) → IsSameStore w v → ys ≡ xs → IsBrought first w rows variables xs pos → IsBrought first v rows variables ys pos
+brought_same first w v rows variables xs ys pos same e h = subst (λ (zs : List ℕ). IsBrought first v rows variables zs pos) (sym e) (record {
+  longer = h.longer;
+  only = h.only;
+  kept = λ id ne. same.kept id ∙ h.kept id ne;
+  others = λ id ne. same.held id ∙ h.others id ne;
+  sound = λ id c q. h.sound id c (sym (same.kept id) ∙ q);
+  held = λ id c p u q. same.held id ∙ h.held id c p u q;
+  among = h.among;
+})
+
+-- ---- the positions so far
+
+-- what is kept was kept, or is of the position
+pub brought_kept : (w v : Watches) (rows : List (List (List Literal))) (xs ys : List ℕ) (pos : ℕ) → IsBrought w v rows xs ys pos → (id : ClauseId) (c : List Literal) → clause_of v id ≡ Some c → (clause_of w id ≡ Some c) ⊎ (id.pos ≡ pos)
+brought_kept w v rows xs ys pos h id c e = ⊎_elim (λ p. inr p) (λ ne. inl (sym (h.kept id ne) ∙ e)) (cases_eq id.pos pos)
+
+pub filling_more : (w v : Watches) (rows : List (List (List Literal))) (xs ys opening ends needed taken : List ℕ) (pos : ℕ) → Contains needed pos → IsBrought w v rows xs ys pos → IsFilling w rows xs opening ends needed taken → IsFilling v rows ys (opening ++ pos ∷ []) (ends ++ length xs ∷ []) needed taken
+filling_more w v rows xs ys opening ends needed taken pos has b h = record {
+  sound = b.sound;
+  covered = λ id c e. ⊎_elim (λ p. inl (subst (Contains needed) (sym p) has)) (λ ne. h.covered id c (sym (b.others id ne) ∙ e)) (cases_eq id.pos pos);
+  complete = λ id c k e. ⊎_elim
+      (λ p. b.held id c p tt e)
+      (λ ne. b.others id ne ∙ ⊎_elim (λ old. h.complete id c old e) (λ p. absurd (ne (sym p))) (Contains-push_cases opening pos id.pos k))
+      (cases_eq id.pos pos);
+  told = told_more rows xs opening ends h.told ys pos b.longer b.only (λ id c p e. b.among id c p tt e);
+}
 
 pub holding_same : (w v : Watches) (rows : List (List (List Literal))) (variables variables' opening taken : List ℕ) → IsSameStore w v → variables' ≡ variables → IsHolding w rows variables opening taken → IsHolding v rows variables' opening taken
 holding_same w v rows variables variables' opening taken same e h = subst (λ (xs : List ℕ). IsHolding v rows xs opening taken) (sym e) (record {
@@ -156,20 +169,3 @@ holding_same w v rows variables variables' opening taken same e h = subst (λ (x
   waiting = λ id c k q. ⊎_elim (λ x. inl (same.held id ∙ x)) (λ x. inr x) (h.waiting id c k (sym (same.kept id) ∙ q));
   occurs = h.occurs;
 })
-
--- ---- what is kept
-
-pub brings_none : (w : Watches) (pos : ℕ) → Brings w w pos
-brings_none w pos id c e = inl e
-
-pub brings_one : (w v : Watches) (id : ClauseId) → IsSameBut id w v → Brings w v id.pos
-brings_one w v id others q c e = elim (same_id q id) [
-  | inl a ↦ inr (ap (λ (x : ClauseId). x.pos) a)
-  | inr a ↦ inl (sym (others.kept q a) ∙ e)
-]
-
-pub brings_then : (u v w : Watches) (pos : ℕ) → Brings u v pos → Brings v w pos → Brings u w pos
-brings_then u v w pos h k id c e = ⊎_elim (λ x. h id c x) (λ p. inr p) (k id c e)
-
-pub brings_same : (u v w : Watches) (pos : ℕ) → IsSameStore v w → Brings u v pos → Brings u w pos
-brings_same u v w pos same h id c e = h id c (sym (same.kept id) ∙ e)

@@ -20,10 +20,11 @@ use Rattle.proof_log.proofs.Growing.{below_member}
 use Rattle.cdcl_core.specs.declared.watches.Watches.{Watches}
 use Rattle.cdcl_core.specs.Search.{clause_of, held_of}
 use Rattle.cdcl_learn.specs.Puts.{StandsIn, IsAgainst}
-use Rattle.cube_search.specs.Holding.{AreAmong}
+use Rattle.cube_search.specs.Holding.{AreAmong, IsTold}
 use Rattle.cube_search.specs.Keeping.{IsKept}
 use Rattle.cube_search.specs.declared.keeper.Keeper.{Keeper}
 use Rattle.cube_search.specs.Running.{IsSearchOf}
+use Rattle.cube_search.proofs.Told.{told_agrees}
 
 -- ---- chains
 
@@ -69,6 +70,14 @@ pub search_later : (w : Watches) (variables opening taken : List ℕ) (from seen
 search_later w variables opening taken from seen nodes nodes' log log' known known' l h =
     subst (λ n. IsSearchOf w variables opening taken from seen n log') (sym l.nodes)
     (same_nodes w variables opening taken from seen nodes log log' l.grows (subst (λ n. IsLog n log') l.nodes l.stands) h)
+
+-- the variables that were listed are those of the same positions
+pub told_later : (variables opening ends : List ℕ) (nodes nodes' : List Node) (log log' : List Entry) (known known' : ℕ → Type 0) → IsLater nodes nodes' log log' known known' → ((p : ℕ) → Contains opening p → p ≤ length log) → IsTold (state_of nodes log).clauses variables opening ends → IsTold (state_of nodes' log').clauses variables opening ends
+told_later variables opening ends nodes nodes' log log' known known' l within h =
+    subst (λ n. IsTold (state_of n log').clauses variables opening ends) (sym l.nodes)
+    (told_agrees (state_of nodes log).clauses variables opening ends h (state_of nodes log').clauses
+    (grown_holds nodes log log' l.grows (subst (λ n. IsLog n log') l.nodes l.stands)).clauses
+    (λ id k. clause_stays nodes log log' id l.grows (within id.pos k)))
 
 -- the next variable does not fall
 below_later_same : (nodes : List Node) (log log' : List Entry) (given : List Literal) → Grows log log' → IsLog nodes log' → AreBelow (state_of nodes log).next given → AreBelow (state_of nodes log').next given

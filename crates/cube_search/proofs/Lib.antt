@@ -1,4 +1,6 @@
+pub mod Told
 pub mod Filling
+pub mod Leaving
 pub mod Later
 pub mod Keeping
 pub mod Putting

@@ -22,7 +22,7 @@ use Rattle.cdcl_core.specs.Search.{literals_of, level_of, clause_of, held_of}
 use Rattle.cdcl_learn.specs.Puts.{IsAgainst}
 use Rattle.cube_search.specs.declared.search.Search.{Search}
 use Rattle.proof_log.specs.declared.diary.Diary.{Diary}
-use Rattle.cube_search.specs.Holding.{AreAmong, IsForeign, IsAdmitted}
+use Rattle.cube_search.specs.Holding.{AreAmong, IsForeign, IsTold, IsAdmitted}
 use Rattle.cube_search.specs.declared.keeper.Keeper.{Keeper}
 use Rattle.cube_search.specs.Keeping.{HasLine, IsKept, IsTaken, state_in}
 use Rattle.cube_search.specs.Running.{variables_in, given_in, IsSearch, IsSearchOf, IsRunning, IsWriting, IsUpToDate, IsSameRun, IsLearnt, IsKeptAt, subject_of}
@@ -34,7 +34,7 @@ use Rattle.cdcl_loop.specs.Engines.{IsEngine, IsOnCourse, IsSameStore, IsSameBut
 use Rattle.cdcl_loop.proofs.Courses.{true_later}
 use Rattle.cube_search.proofs.Keeping.{kept_put, kept_take, line_still}
 use Rattle.cube_search.proofs.Putting.{good_put}
-use Rattle.cube_search.proofs.Later.{learnt_among, search_later, below_later, kept_later, chain_within, chain_entry}
+use Rattle.cube_search.proofs.Later.{learnt_among, search_later, told_later, below_later, kept_later, chain_within, chain_entry}
 use Rattle.cube_search.proofs.Moving.{search_moved, kept_moved, search_same, search_held, search_noted, kept_same}
 
 pub running_board : (s : Search) (nodes : List Node) (log : List Entry) (known : ℕ → Type 0) → IsRunning s nodes log → IsLater nodes nodes log log known known
@@ -62,7 +62,20 @@ module _ (s : Search) (nodes nodes' : List Node) (log log' : List Entry) (known 
 
 -- a search that does not run
 pub still_search : (s : Search) (nodes nodes' : List Node) (log log' : List Entry) (known known' : ℕ → Type 0) → IsLater nodes nodes' log log' known known' → IsSearch s nodes log → IsSearch s nodes' log'
-still_search s nodes nodes' log log' known known' later h = (h.0, search_later s.engine.watches (variables_in s) s.opening.items s.taken.items s.from s.seen nodes nodes' log log' known known' later h.1)
+still_search s nodes nodes' log log' known known' later h = (
+  h.0,
+  search_later s.engine.watches (variables_in s) s.opening.items s.taken.items s.from s.seen nodes nodes' log log' known known' later h.1,
+  told_later (variables_in s) s.opening.items s.ends.items nodes nodes' log log' known known' later (λ p k. let low = h.1.placed.before p k in omega (arith, low, h.1.placed.from_seen, h.1.placed.within)) h.2,
+)
+
+-- the variables that were listed stay, and are those of the same positions
+pub told_still : (s t : Search) (nodes nodes' : List Node) (log log' : List Entry) (known known' : ℕ → Type 0) → IsLater nodes nodes' log log' known known' → t.opening ≡ s.opening → t.ends ≡ s.ends → variables_in t ≡ variables_in s → IsSearch s nodes log → IsTold (state_of nodes' log').clauses (variables_in t) t.opening.items t.ends.items
+told_still s t nodes nodes' log log' known known' later opening ends listed h =
+    let rows = (state_of nodes' log').clauses in
+    let told = (still_search s nodes nodes' log log' known known' later h).2 in
+    subst (λ (xs : List ℕ). IsTold rows xs t.opening.items t.ends.items) (sym listed)
+    (subst (λ (os : List ℕ). IsTold rows (variables_in s) os t.ends.items) (sym (ap (λ v. v.items) opening))
+    (subst (λ (es : List ℕ). IsTold rows (variables_in s) s.opening.items es) (sym (ap (λ v. v.items) ends)) told))
 
 -- ---- the same run
 
@@ -232,7 +245,7 @@ kept_seen g w variables k seen n le lined h = record {
 }
 
 pub run_then : (a b c : Search) → IsSameRun a b → IsSameRun b c → IsSameRun a c
-run_then a b c h k = record { opening = k.opening ∙ h.opening; from = k.from ∙ h.from; given = k.given ∙ h.given; listed = k.listed ∙ h.listed }
+run_then a b c h k = record { opening = k.opening ∙ h.opening; ends = k.ends ∙ h.ends; from = k.from ∙ h.from; given = k.given ∙ h.given; listed = k.listed ∙ h.listed }
 
 -- ---- a search whose choices alone changed
 
@@ -240,6 +253,7 @@ module _ (s t u : Search) (e : t ≡ record s { engine = record s.engine { choic
   pub learnt_same : IsSameRun t u → IsSameRun s u
   learnt_same h = record {
     opening = h.opening ∙ ap (λ (x : Search). x.opening) e;
+    ends = h.ends ∙ ap (λ (x : Search). x.ends) e;
     from = h.from ∙ ap (λ (x : Search). x.from) e;
     given = h.given ∙ ap (λ (x : Search). x.engine.given) e;
     listed = h.listed ∙ ap (λ (x : Search). x.engine.agenda.list) e;
@@ -269,7 +283,7 @@ module _ (s t u : Search) (e : t ≡ record s { engine = record s.engine { choic
 
 module _ (s : Search) (n : Engine) (task : IsSameTask s.engine n) where
   pub moved_same : IsSameRun s (record s { engine = n })
-  moved_same = record { opening = refl; from = refl; given = task.given; listed = task.listed }
+  moved_same = record { opening = refl; ends = refl; from = refl; given = task.given; listed = task.listed }
 
   -- it holds the same clauses
   module _ (store : IsSameStore s.engine.watches n.watches) (nodes : List Node) (log : List Entry) where

@@ -1,5 +1,5 @@
 -- Which clauses of a log a search keeps, and which of them it holds.
-use Rattle.std.specs.Prelude.{◌≡◌, ◌≤◌, ◌<◌, ◌⊎◌, ◌++◌, ◌∷◌, [], ℕ, suc, true, false, List, length, Some, None, Contains}
+use Rattle.std.specs.Prelude.{◌≡◌, ◌≢◌, ◌≤◌, ◌<◌, ◌⊎◌, ◌++◌, ◌∷◌, [], ℕ, suc, true, false, List, length, take, slice_index_or, Some, None, Contains}
 use Rattle.cnf_base.specs.Literals.{Literal}
 use Rattle.cnf_base.specs.declared.clause.ClauseId.{ClauseId}
 use Rattle.hint_chain.specs.Chains.{Lookup}
@@ -18,19 +18,30 @@ AreAmong variables c = (l : Literal) → Contains c l → Contains variables l.v
 abbrev pub IsForeign : List ℕ → List Literal → Type 0
 IsForeign variables c = (l : Literal) × Contains c l × (Contains variables l.variable → ⊥)
 
--- the variables of the clause are listed beside the others
+-- the list is the same, or more came behind it
+abbrev pub IsLonger : List ℕ → List ℕ → Type 0
+IsLonger old new = (more : List ℕ) × (new ≡ old ++ more)
+
+-- the variables of the clause are listed behind the others
 pub record IsListing (old : List ℕ) (c : List Literal) (new : List ℕ) : Type 0 where
-  pub kept : (x : ℕ) → Contains old x → Contains new x
+  pub longer : IsLonger old new
   pub only : (x : ℕ) → Contains new x → Contains old x ⊎ ((l : Literal) × Contains c l × (l.variable ≡ x))
   pub among : AreAmong new c
 
--- what is kept was kept before
-abbrev pub IsFewer : Watches → Watches → Type 0
-IsFewer old new = (id : ClauseId) (c : List Literal) → clause_of new id ≡ Some c → clause_of old id ≡ Some c
+-- some chains are kept no longer, the rest is as it was
+pub record IsThinned (log : List Entry) (old new : Watches) : Type 0 where
+  pub kept : (id : ClauseId) (c : List Literal) → clause_of new id ≡ Some c → clause_of old id ≡ Some c
+  pub held : (id : ClauseId) (c : List Literal) → held_of new id ≡ Some c → held_of old id ≡ Some c
+  pub plain : (id : ClauseId) → is_chain (entry_at log id.pos) ≡ false → held_of new id ≡ held_of old id
 
--- or is a clause of this position
-abbrev pub Brings : Watches → Watches → ℕ → Type 0
-Brings old new pos = (id : ClauseId) (c : List Literal) → clause_of new id ≡ Some c → (clause_of old id ≡ Some c) ⊎ (id.pos ≡ pos)
+-- the same is kept, and of what was held some no longer
+pub record IsParking (old new : Watches) : Type 0 where
+  pub kept : (id : ClauseId) → clause_of new id ≡ clause_of old id
+  pub held : (id : ClauseId) (c : List Literal) → held_of new id ≡ Some c → held_of old id ≡ Some c
+
+-- a part of the position that is kept comes behind no other that is not
+abbrev pub IsGapless : Lookup → ℕ → Type 0
+IsGapless look pos = (j k : ℕ) (c : List Literal) → look (record { pos = pos; part = j }) ≡ None → j ≤ k → look (record { pos = pos; part = k }) ≡ Some c → ⊥
 
 -- the variable stands in a clause of one of these positions
 abbrev pub Occurs : List (List (List Literal)) → List ℕ → ℕ → Type 0
@@ -54,14 +65,38 @@ pub record IsHolding (w : Watches) (rows : List (List (List Literal))) (variable
   pub waiting : (id : ClauseId) (c : List Literal) → Contains taken id.pos → clause_of w id ≡ Some c → (held_of w id ≡ Some c) ⊎ IsForeign variables c
   pub occurs : (x : ℕ) → Contains variables x → Occurs rows opening x
 
--- the same while the clauses of one position more are being held, before what was taken: those before this part are
-pub record IsFilling (w : Watches) (rows : List (List (List Literal))) (variables opening : List ℕ) (pos part : ℕ) : Type 0 where
+-- how many variables were listed before the position at this place: all of them, where it is past the last
+abbrev pub listed_before : List ℕ → List ℕ → ℕ → ℕ
+listed_before variables ends k = slice_index_or ends k (length variables)
+
+-- Before each opening position, and after the last, the variables that are listed are those of the clauses at the positions so far.
+pub record IsTold (rows : List (List (List Literal))) (variables opening ends : List ℕ) : Type 0 where
+  pub size : length ends ≡ length opening
+  pub rising : (j k : ℕ) → j ≤ k → listed_before variables ends j ≤ listed_before variables ends k
+  pub among : (k : ℕ) (id : ClauseId) (c : List Literal) → Contains (take k opening) id.pos → clause_at rows id ≡ Some c → AreAmong (take (listed_before variables ends k) variables) c
+  pub occurs : (k x : ℕ) → Contains (take (listed_before variables ends k) variables) x → Occurs rows (take k opening) x
+
+-- The clauses of one position more are held, those of its parts that are done, and their variables are listed behind the others.
+pub record IsBringing (done : ℕ → Type 0) (old new : Watches) (rows : List (List (List Literal))) (variables variables' : List ℕ) (pos : ℕ) : Type 0 where
+  pub longer : IsLonger variables variables'
+  pub only : (x : ℕ) → Contains variables' x → Contains variables x ⊎ Occurs rows (pos ∷ []) x
+  pub kept : (id : ClauseId) → id.pos ≢ pos → clause_of new id ≡ clause_of old id
+  pub others : (id : ClauseId) → id.pos ≢ pos → held_of new id ≡ held_of old id
+  pub sound : (id : ClauseId) (c : List Literal) → clause_of new id ≡ Some c → clause_at rows id ≡ Some c
+  pub held : (id : ClauseId) (c : List Literal) → id.pos ≡ pos → done id.part → clause_at rows id ≡ Some c → held_of new id ≡ Some c
+  pub among : (id : ClauseId) (c : List Literal) → id.pos ≡ pos → done id.part → clause_at rows id ≡ Some c → AreAmong variables' c
+
+-- all its parts are
+abbrev pub IsBrought : Watches → Watches → List (List (List Literal)) → List ℕ → List ℕ → ℕ → Type 0
+IsBrought = IsBringing (λ part. Unit {0})
+
+-- Of the positions that a check needs, those so far are opening: every clause of these is held. What is held besides is of the others,
+-- or was taken.
+pub record IsFilling (w : Watches) (rows : List (List (List Literal))) (variables opening ends needed taken : List ℕ) : Type 0 where
   pub sound : (id : ClauseId) (c : List Literal) → clause_of w id ≡ Some c → clause_at rows id ≡ Some c
-  pub among : (id : ClauseId) (c : List Literal) → held_of w id ≡ Some c → AreAmong variables c
-  pub covered : (id : ClauseId) (c : List Literal) → held_of w id ≡ Some c → Contains opening id.pos ⊎ (id.pos ≡ pos)
+  pub covered : (id : ClauseId) (c : List Literal) → held_of w id ≡ Some c → Contains needed id.pos ⊎ Contains taken id.pos
   pub complete : (id : ClauseId) (c : List Literal) → Contains opening id.pos → clause_at rows id ≡ Some c → held_of w id ≡ Some c
-  pub filled : (id : ClauseId) (c : List Literal) → id.pos ≡ pos → id.part < part → clause_at rows id ≡ Some c → held_of w id ≡ Some c
-  pub occurs : (x : ℕ) → Contains variables x → Occurs rows opening x ⊎ ((id : ClauseId) × (c : List Literal) × (l : Literal) × (id.pos ≡ pos) × (clause_at rows id ≡ Some c) × Contains c l × (l.variable ≡ x))
+  pub told : IsTold rows variables opening ends
 
 -- what is kept is a step's that is no chain, or was taken
 abbrev pub AreStored : Lookup → List Entry → List ℕ → Type 0
@@ -93,9 +128,7 @@ pub record IsAdmitted (old new : Watches) (variables : List ℕ) (at : ℕ) (cla
   pub came : ((clause_of new (record { pos = at; part = 0 }) ≡ Some clause) × (held_of new (record { pos = at; part = 0 }) ≡ Some clause) × AreAmong variables clause)
       ⊎ (IsSameStore old new × IsForeign variables clause)
 
--- a chain at this position that is kept is noted beside the others, and held where all its variables are among these
-abbrev pub IsWoken : Watches → Watches → List ℕ → ℕ → List ℕ → List ℕ → Type 0
-IsWoken old new variables at noted noted' =
-    ((clause_of old (record { pos = at; part = 0 }) ≡ None) × (noted' ≡ noted) × (held_of new (record { pos = at; part = 0 }) ≡ held_of old (record { pos = at; part = 0 })))
-    ⊎ ((c : List Literal) × (clause_of old (record { pos = at; part = 0 }) ≡ Some c) × (noted' ≡ noted ++ at ∷ [])
-    × (((held_of new (record { pos = at; part = 0 }) ≡ Some c) × AreAmong variables c) ⊎ ((held_of new (record { pos = at; part = 0 }) ≡ held_of old (record { pos = at; part = 0 })) × IsForeign variables c)))
+-- The chain at this position, where it is kept, is held where all its variables are among these, and not held else.
+abbrev pub IsSorted : Watches → Watches → List ℕ → ℕ → Type 0
+IsSorted old new variables at = (c : List Literal) → clause_of old (record { pos = at; part = 0 }) ≡ Some c →
+    ((held_of new (record { pos = at; part = 0 }) ≡ Some c) × AreAmong variables c) ⊎ ((held_of new (record { pos = at; part = 0 }) ≡ None) × IsForeign variables c)

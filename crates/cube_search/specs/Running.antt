@@ -18,7 +18,7 @@ use Rattle.cdcl_learn.specs.Puts.{IsGoodPut, IsUnitAfter, StandsIn}
 use Rattle.cdcl_loop.specs.Engines.{IsEngine, IsOnCourse, IsSameBut}
 use Rattle.cdcl_loop.specs.Values.{valuation}
 use Rattle.cube_search.specs.declared.search.Search.{Search}
-use Rattle.cube_search.specs.Holding.{IsHolding, ArePlaced, AreStored}
+use Rattle.cube_search.specs.Holding.{IsTold, IsHolding, ArePlaced, AreStored}
 use Rattle.cube_search.specs.Keeping.{IsKept, AreImported}
 
 -- what is held of a log over its terms
@@ -41,7 +41,8 @@ abbrev pub valuation_of : Search → ℕ → Bool
 valuation_of s = valuation s.engine.trail
 
 -- A search between two checks, beside the clauses and the steps of a log: what it keeps are clauses of the log, of steps that are no chains
--- and of chains that were taken, and what it holds of them is of its opening positions, or was taken.
+-- and of chains that were taken, and what it holds of them is of its opening positions, or was taken. Of its opening positions it holds
+-- every clause, and has listed the variables.
 pub record IsResting (s : Search) (rows : List (List (List Literal))) (log : List Entry) : Type 0 where
   pub engine : IsEngine s.engine
   pub sound : (id : ClauseId) (c : List Literal) → clause_of s.engine.watches id ≡ Some c → clause_at rows id ≡ Some c
@@ -49,12 +50,15 @@ pub record IsResting (s : Search) (rows : List (List (List Literal))) (log : Lis
   pub plain : (p : ℕ) → Contains s.opening.items p → (p ≤ length log) × (is_chain (entry_at log p) ≡ false)
   pub chains : (p : ℕ) → Contains s.taken.items p → is_chain (entry_at log p) ≡ true
   pub stored : AreStored (clause_of s.engine.watches) log s.taken.items
+  pub whole : (id : ClauseId) (c : List Literal) → Contains s.opening.items id.pos → clause_at rows id ≡ Some c → held_of s.engine.watches id ≡ Some c
+  pub told : IsTold rows s.engine.agenda.list s.opening.items s.ends.items
 
 -- a search of a log
 abbrev pub IsSearch : Search → List Node → List Entry → Type 0
 IsSearch s nodes log =
     IsEngine s.engine
     × IsSearchOf s.engine.watches (variables_in s) s.opening.items s.taken.items s.from s.seen nodes log
+    × IsTold (state_of nodes log).clauses (variables_in s) s.opening.items s.ends.items
 
 -- it decides its given literals first
 abbrev pub IsRunning : Search → List Node → List Entry → Type 0
@@ -78,6 +82,7 @@ IsUpToDate s nodes log knows = IsWriting s nodes log × AreImported s.diary.line
 -- what a run leaves as it is
 pub record IsSameRun (old new : Search) : Type 0 where
   pub opening : new.opening ≡ old.opening
+  pub ends : new.ends ≡ old.ends
   pub from : new.from ≡ old.from
   pub given : new.engine.given ≡ old.engine.given
   pub listed : new.engine.agenda.list ≡ old.engine.agenda.list

@@ -12,10 +12,12 @@
 //! search restarts, and which clauses it drops. It stands on `cdcl_loop` for the search, and on `proof_log` for boards and diaries.
 #![tactic(auto)]
 
+mod bring;
 mod ends;
 mod keeper;
 mod learning;
 mod news;
+mod parking;
 mod retarget;
 mod run;
 mod search;

@@ -14,9 +14,9 @@ ghost use Rattle.cube_search.specs.Holding.{AreSeparate, IsAdmitted, AreLeft};
 ghost use Rattle.cube_search.specs.Keeping.{HasLine, IsTaken, NotesTaken};
 ghost use Rattle.cube_search.specs.Running.{variables_in, given_in, IsSearch, IsRunning, IsWriting, IsUpToDate, IsSameRun};
 
+use crate::bring::are_listed;
 use crate::keeper::Keeper;
 use crate::learning::is_chain;
-use crate::retarget::are_listed;
 use crate::search::Search;
 use cdcl_loop::Engine;
 use cnf_base::{Clause, ClauseId, Lit, Pos};
@@ -128,6 +128,8 @@ impl Search {
     pub(crate) fn begin(&mut self, given: &[Lit]) -> Result<(), AllocError>
         requires engine { IsEngine self.old.engine }
         ensures opening { self.new.opening ≡ self.old.opening }
+        ensures ends { self.new.ends ≡ self.old.ends }
+        ensures listed { variables_in self.new ≡ variables_in self.old }
         ensures from { self.new.from ≡ self.old.from }
         ensures given { OnOk result (given_in self.new ≡ given.now) }
         ensures running { OnOk result ((nodes : List Node) (log : List Entry) → IsSearch self.old nodes log → AreBelow (state_of nodes log).next given.now → IsRunning self.new nodes log) }

@@ -11,6 +11,7 @@ use cdcl_core::{Trail, Watches};
 use cdcl_loop::Engine;
 use cnf_base::{Lit, Pos};
 use std::alloc::{AllocError, Global};
+use variable_list::VariableList;
 
 /// A search over the clauses of some positions of a board. It keeps what it learnt from run to run, and from check to check.
 #[derive(Drop)]
@@ -20,8 +21,14 @@ pub struct Search {
     pub(crate) engine: Engine,
     // the positions that it was told, all of whose clauses it holds
     pub(crate) opening: Vec<Pos>,
+    // by opening position: how many variables were listed before it
+    pub(crate) ends: Vec<usize>,
+    // the opening positions, each by one more than its number
+    pub(crate) needed: VariableList,
     // the positions of the chains that it put or took
     pub(crate) taken: Vec<Pos>,
+    // by check: where its own chains began
+    pub(crate) turns: Vec<Pos>,
     // steps from this position on are a search's
     pub(crate) from: Pos,
     // it has seen what stands below this position
@@ -41,7 +48,10 @@ impl Search {
             alloc,
             engine,
             opening: Vec::new(alloc),
+            ends: Vec::new(alloc),
+            needed: VariableList::new(alloc),
             taken: Vec::new(alloc),
+            turns: Vec::new(alloc),
             from: 0,
             seen: 0,
             diary: Keeper::new(alloc, 0),

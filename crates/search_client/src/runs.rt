@@ -286,12 +286,13 @@ fn is_run_over<B: Board>(
     is_run(board, search, given, 0, wanted)
 }
 
-// Whether a search over the whole log ends closed within one put, then has this model over position 0 alone, and then over the whole
-// log again ends closed without any put.
+// Whether a search over the whole log ends closed within one put, then has this model over the positions below the bound alone, and
+// then over the whole log again ends closed without any put.
 fn goes_and_comes<B: Board>(
     alloc: Global,
     board: &mut B,
     search: &mut Search,
+    bound: u64,
     from: u64,
     given: &[Lit],
     model: Ended,
@@ -300,11 +301,11 @@ fn goes_and_comes<B: Board>(
     requires own { search.old.from ≡ from }
     requires listed { IsTermList (B.nodes board.old) }
     requires known { (p : ℕ) → p < from → B.knows board.old p }
-    requires some { 0 < from }
+    requires within { bound ≤ from }
     requires below { AreBelow (state_of (B.nodes board.old) (B.log board.old)).next given.now }
 {
     let is_closed = is_run(board, search, given, 1, Ended::Closed)?;
-    let is_model = is_run_over(alloc, board, search, 1, from, given, model)?;
+    let is_model = is_run_over(alloc, board, search, bound, from, given, model)?;
     let is_kept = is_run_over(alloc, board, search, from, from, given, Ended::Closed)?;
     Ok(is_closed && is_model && is_kept)
 }
@@ -313,6 +314,7 @@ fn goes_and_comes<B: Board>(
 pub(crate) fn comes_back_on<B: Board>(
     alloc: Global,
     board: &mut B,
+    bound: u64,
     from: u64,
     given: &[Lit],
     model: Ended,
@@ -320,11 +322,11 @@ pub(crate) fn comes_back_on<B: Board>(
     requires listed { IsTermList (B.nodes board.old) }
     requires known { (p : ℕ) → p < from → B.knows board.old p }
     requires from { from ≤ suc (length (B.log board.old)) }
-    requires some { 0 < from }
+    requires within { bound ≤ from }
     requires below { AreBelow (state_of (B.nodes board.old) (B.log board.old)).next given.now }
 {
     let mut search = begun(alloc, &*board, from, from)?;
-    let is_so = goes_and_comes(alloc, board, &mut search, from, given, model);
+    let is_so = goes_and_comes(alloc, board, &mut search, bound, from, given, model);
     drop(search);
     is_so
 }

@@ -131,15 +131,23 @@ fn log_closes_twice(alloc: Global, proof: Proof, given: &[Lit]) -> Result<bool, 
 // The model of the clause of position 0 under the selectors.
 const GIVEN: Ended = Ended::ModelOf(&[1, 5, 7, 9, 11]);
 
-// Whether a search over the whole log ends closed within one put, and without any after it went over to position 0 and came back.
-fn log_comes_back(alloc: Global, proof: Proof, given: &[Lit]) -> Result<bool, AllocError>
+// Whether a search over the whole log ends closed within one put, and without any after it went over to the positions below the bound,
+// where it had this model, and came back.
+fn log_comes_back(
+    alloc: Global,
+    proof: Proof,
+    bound: u64,
+    given: &[Lit],
+    model: Ended,
+) -> Result<bool, AllocError>
     requires stands { Stands proof.terms.nodes proof.log }
     requires given { AreBelow proof.log.next given.now }
 {
     let _terms = proof.terms.len();
     let from = proof.log.len();
+    let bound = if bound < from { bound } else { from };
     let mut board = LogBoard::new(alloc, proof.log, &proof.terms);
-    let is_so = comes_back_on(alloc, &mut board, from, given, GIVEN);
+    let is_so = comes_back_on(alloc, &mut board, bound, from, given, model);
     drop(board);
     drop(proof.terms);
     is_so
@@ -216,6 +224,15 @@ fn what_was_learnt_is_held_again_where_its_variables_come_back(
     rt: HostRuntime,
 ) -> Result<(), Fail> {
     let (proof, given) = asserted(rt.alloc(), 4)?;
-    assert!(rt; log_comes_back(rt.alloc(), proof, given.as_slice())?);
+    assert!(rt; log_comes_back(rt.alloc(), proof, 1, given.as_slice(), GIVEN)?);
+    Ok(())
+}
+
+#[test]
+fn the_steps_of_the_first_assertions_stay_where_the_others_go(rt: HostRuntime) -> Result<(), Fail> {
+    // Positions 5 to 10 are of the first three assertions, which p and q alone make true.
+    let (proof, given) = asserted(rt.alloc(), 4)?;
+    let model = Ended::ModelOf(&[1, 2, 3, 5, 7, 9, 11]);
+    assert!(rt; log_comes_back(rt.alloc(), proof, 11, given.as_slice(), model)?);
     Ok(())
 }

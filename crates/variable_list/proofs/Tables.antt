@@ -1,5 +1,5 @@
 -- What a table by variable tells, and one variable more.
-use Rattle.std.proofs.Common.{◌≡◌, ℕ, zero, suc, ◌<◌, ◌≤◌, List, [], ◌∷◌, ◌++◌, length, get_or, Some, refl, sym, ap, ◌∙◌, subst, arith, inl, inr, ⊎_elim}
+use Rattle.std.proofs.Common.{◌≡◌, ℕ, zero, suc, ◌<◌, ◌≤◌, List, [], ◌∷◌, ◌++◌, length, take, get_or, Some, refl, sym, ap, ◌∙◌, subst, arith, inl, inr, ⊎_elim}
 use Rattle.std.specs.Prelude.{◌⊎◌, All, Contains, slice_get, slice_set}
 use Rattle.std.proofs.lemmas.Option.{slice_get-get_or, slice_get_within, slice_get_read, get_or_from_slice_get}
 use Rattle.variable_list.specs.Variables.{IsVariable, IsOnce, IsTable, Keeps}
@@ -49,6 +49,20 @@ table_push places xs y t lt is new = record {
       (λ p. subst (λ z. slice_get (slice_set places y (length xs)) z ≡ Some k) (sym p.1) (set_same places y (length xs) lt ∙ ap Some (sym p.0)))
       (push_cases xs y k x e);
   variables = λ k x e. ⊎_elim (λ p. t.variables k x p) (λ p. subst IsVariable (sym p.1) is) (push_cases xs y k x e);
+}
+
+-- ---- the first variables alone
+
+from_take : (n : ℕ) (xs : List ℕ) (k x : ℕ) → slice_get (take n xs) k ≡ Some x → slice_get xs k ≡ Some x
+from_take zero xs k x e = let q : ⊥ = cc in absurd q
+from_take (suc n) [] k x e = e
+from_take (suc n) (y ∷ ys) zero x e = e
+from_take (suc n) (y ∷ ys) (suc k) x e = from_take n ys k x e
+
+pub table_cut : (places xs : List ℕ) (n : ℕ) → IsTable places xs → IsTable places (take n xs)
+table_cut places xs n t = record {
+  each = λ k x e. t.each k x (from_take n xs k x e);
+  variables = λ k x e. t.variables k x (from_take n xs k x e);
 }
 
 -- ---- what a look into the table shows

@@ -1,6 +1,6 @@
 //! Variables in an order.
 
-ghost use Rattle.std.specs.Prelude.{◌≡◌, ◌<◌, ◌^◌, [], ◌∷◌, ◌++◌, MatchBool, MatchOption, OnOk, OnErr, Some, All, Contains, length, slice_get};
+ghost use Rattle.std.specs.Prelude.{◌≡◌, ◌<◌, ◌^◌, [], ◌∷◌, ◌++◌, MatchBool, MatchOption, OnOk, OnErr, Some, All, Contains, length, slice_get, take};
 ghost use Rattle.variable_list.specs.Variables.{IsVariable, IsOnce, IsListed, Keeps};
 
 use std::alloc::{AllocError, Global};
@@ -70,6 +70,13 @@ impl VariableList {
         ensures { self.new ≡ [] }
     {
         self.variables.clear();
+    }
+
+    /// Forgets the variables from this place on; takes no memory.
+    pub fn cut(&mut self, count: usize)
+        ensures { self.new ≡ take count self.old }
+    {
+        self.variables.truncate(count);
     }
 
     /// The variable is listed from here on: it comes behind the others where it was not among them. An error leaves the list as

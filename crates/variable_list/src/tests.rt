@@ -29,3 +29,18 @@ fn a_cleared_list_has_no_variable(rt: HostRuntime) -> Result<(), Fail> {
     assert_eq!(rt; list.as_slice(), [5].as_slice());
     Ok(())
 }
+
+#[test]
+fn a_cut_list_has_its_first_variables(rt: HostRuntime) -> Result<(), Fail> {
+    let mut list = VariableList::new(rt.alloc());
+    list.add(3)?;
+    list.add(5)?;
+    list.add(4)?;
+    list.cut(2);
+    assert!(rt; list.has(5));
+    assert!(rt; !list.has(4));
+    list.cut(7);
+    list.add(4)?;
+    assert_eq!(rt; list.as_slice(), [3, 5, 4].as_slice());
+    Ok(())
+}

@@ -3,7 +3,7 @@ use Rattle.cube_search.proofs.Later.{below_later}
 use Rattle.search_client.proofs.runs.goes_and_comes.Goals as goal
 
 pub is_run_over-requires-clause-known : goal.is_run_over-requires-clause-known
-is_run_over-requires-clause-known g c = λ p lt. c.is_run.ensures.later.knows p (c.requires.known p (omega (arith, lt, c.requires.some)))
+is_run_over-requires-clause-known g c = λ p lt. c.is_run.ensures.later.knows p (c.requires.known p (omega (arith, lt, c.requires.within)))
 
 pub is_run_over-requires-clause-below : goal.is_run_over-requires-clause-below
 is_run_over-requires-clause-below g c = below_later _ _ _ _ _ _ c.args.given.now c.is_run.ensures.later c.requires.below

@@ -1,10 +1,9 @@
-use Rattle.std.proofs.Common.{List, sym, ap, ◌∙◌}
-use Rattle.std.specs.Prelude.{slice_get, is_some}
-use Rattle.cdcl_core.specs.Levels.{Row}
+use Rattle.std.proofs.Common.{sym, ap}
+use Rattle.std.specs.Prelude.{is_some}
 use Rattle.cdcl_loop.proofs.engine.Engine.drop_idle.Goals as goal
 
 pub drop_clause-requires-clause-free : goal.drop_clause-requires-clause-free
-drop_clause-requires-clause-free c = λ i l level e. c.if-is_reason.ensures (i, l, level, ap (λ (rows : List Row). slice_get rows i) c.literals.ensures ∙ e)
+drop_clause-requires-clause-free c = λ i l level e. c.if-is_reason.ensures (i, l, level, e)
 
 pub returns-clause-engine : goal.returns-clause-engine
 returns-clause-engine c = record {
@@ -17,7 +16,7 @@ pub returns-clause-dropped : goal.returns-clause-dropped
 returns-clause-dropped c = (
   record {
     kept = ap is_some (sym c.in-Some.ensures);
-    free = λ k. c.if-is_reason.ensures (k.0, k.1, k.2, ap (λ (rows : List Row). slice_get rows k.0) c.literals.ensures ∙ k.3);
+    free = c.if-is_reason.ensures;
   },
   c.drop_clause.ensures.gone,
 )

@@ -9,5 +9,5 @@ returns-clause-course c =
     let rows = literals_of c.go_back.new.self.trail in
     let level = level_of c.go_back.new.self.trail in (
       course_begun rows level _ c.go_back.ensures.engine.raised c.go_back.ensures.level,
-      scanned_same c.clear.new.self rows rows 0 level refl c.go_back.ensures.level (c.clear.ensures.scanned rows),
+      scanned_same c.cut.new.self rows rows 0 level refl c.go_back.ensures.level (c.cut.ensures.scanned rows),
     )

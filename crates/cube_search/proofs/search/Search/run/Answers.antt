@@ -4,12 +4,14 @@ use Rattle.std.proofs.lemmas.Option.{MatchOption-at_some}
 use Rattle.proof_log.proofs.Growth.{later_then}
 use Rattle.cdcl_loop.proofs.Assuming.{none_of}
 use Rattle.cube_search.specs.Running.{valuation_of}
-use Rattle.cube_search.proofs.Steps.{same_given, run_end}
+use Rattle.cube_search.proofs.Steps.{same_given, told_still, run_end}
 use Rattle.cube_search.proofs.search.Search.run.Goals as goal
 
 pub steps-init : goal.steps-init
 steps-init g c = record {
   opening = c.in_ok-take_news.ensures.run.opening ∙ c.begin.ensures.opening;
+  ends = c.in_ok-take_news.ensures.run.ends ∙ c.begin.ensures.ends;
+  listed = c.in_ok-take_news.ensures.run.listed ∙ c.begin.ensures.listed;
   from = c.in_ok-take_news.ensures.run.from ∙ c.begin.ensures.from;
   given = same_given c.begin.new.self c.take_news.new.self c.in_ok-take_news.ensures.run ∙ c.in_ok-begin.ensures.given;
   later = c.in_ok-take_news.ensures.later;
@@ -23,6 +25,23 @@ returns-in_err-end-clause-later g c = later_then (g.B.Board.nodes c.args.board.n
 pub returns-in-Some-clause-later : goal.returns-in-Some-clause-later
 returns-in-Some-clause-later g c = later_then (g.B.Board.nodes c.args.board.now) (g.B.Board.nodes c.steps.board) (g.B.Board.nodes c.step.new.board) (g.B.Board.log c.args.board.now) (g.B.Board.log c.steps.board) (g.B.Board.log c.step.new.board) (g.B.Board.knows c.args.board.now) (g.B.Board.knows c.steps.board) (g.B.Board.knows c.step.new.board) c.steps.invariant.later c.step.ensures.later
 
+pub returns-then-branch-clause-search : goal.returns-then-branch-clause-search
+returns-then-branch-clause-search g c = (
+  c.in_ok-take_news.ensures.running.0,
+  c.in_ok-take_news.ensures.running.1,
+  told_still c.args.self.now c.take_news.new.self (g.B.Board.nodes c.args.board.now) (g.B.Board.nodes c.take_news.new.board) (g.B.Board.log c.args.board.now) (g.B.Board.log c.take_news.new.board) (g.B.Board.knows c.args.board.now) (g.B.Board.knows c.take_news.new.board) c.in_ok-take_news.ensures.later
+      (c.in_ok-take_news.ensures.run.opening ∙ c.begin.ensures.opening) (c.in_ok-take_news.ensures.run.ends ∙ c.begin.ensures.ends) (c.in_ok-take_news.ensures.run.listed ∙ c.begin.ensures.listed) c.requires.search,
+)
+
+pub returns-in-Some-clause-search : goal.returns-in-Some-clause-search
+returns-in-Some-clause-search g c = (
+  c.in_ok-end.ensures.running.0,
+  c.in_ok-end.ensures.running.1,
+  told_still c.args.self.now c.step.new.self (g.B.Board.nodes c.args.board.now) (g.B.Board.nodes c.step.new.board) (g.B.Board.log c.args.board.now) (g.B.Board.log c.step.new.board) (g.B.Board.knows c.args.board.now) (g.B.Board.knows c.step.new.board)
+      (later_then (g.B.Board.nodes c.args.board.now) (g.B.Board.nodes c.steps.board) (g.B.Board.nodes c.step.new.board) (g.B.Board.log c.args.board.now) (g.B.Board.log c.steps.board) (g.B.Board.log c.step.new.board) (g.B.Board.knows c.args.board.now) (g.B.Board.knows c.steps.board) (g.B.Board.knows c.step.new.board) c.steps.invariant.later c.step.ensures.later)
+      (c.in_ok-end.ensures.run.opening ∙ c.steps.invariant.opening) (c.in_ok-end.ensures.run.ends ∙ c.steps.invariant.ends) (c.in_ok-end.ensures.run.listed ∙ c.steps.invariant.listed) c.requires.search,
+)
+
 pub returns-in-Some-clause-end : goal.returns-in-Some-clause-end
 returns-in-Some-clause-end g c =
     run_end _ _ c.steps.self (g.B.Board.nodes c.step.new.board) (g.B.Board.log c.step.new.board) (g.B.Board.knows c.step.new.board) (g.B.Board.found c.step.new.board) (valuation_of c.step.new.self) c.args.given.now c.args.self.now.from c.args.self.now.opening.items c.args.cube c.args.budget c.in-Some.end
@@ -32,6 +51,8 @@ returns-in-Some-clause-end g c =
 pub steps-preserved : goal.steps-preserved
 steps-preserved g c = record {
   opening = c.in_ok-end.ensures.run.opening ∙ c.steps.invariant.opening;
+  ends = c.in_ok-end.ensures.run.ends ∙ c.steps.invariant.ends;
+  listed = c.in_ok-end.ensures.run.listed ∙ c.steps.invariant.listed;
   from = c.in_ok-end.ensures.run.from ∙ c.steps.invariant.from;
   given = same_given c.steps.self c.step.new.self c.in_ok-end.ensures.run ∙ c.steps.invariant.given;
   later = later_then (g.B.Board.nodes c.args.board.now) (g.B.Board.nodes c.steps.board) (g.B.Board.nodes c.step.new.board) (g.B.Board.log c.args.board.now) (g.B.Board.log c.steps.board) (g.B.Board.log c.step.new.board) (g.B.Board.knows c.args.board.now) (g.B.Board.knows c.steps.board) (g.B.Board.knows c.step.new.board) c.steps.invariant.later c.step.ensures.later;

@@ -14,7 +14,7 @@ pub news-init : goal.news-init
 news-init g c =
     let write = writing_later c.args.self.now (g.B.Board.nodes c.args.board.now) (g.B.Board.nodes c.sync.new.self) (g.B.Board.log c.args.board.now) (g.B.Board.log c.sync.new.self) (g.B.Board.knows c.args.board.now) (g.B.Board.knows c.sync.new.self) c.in_ok-news.ensures.later c.requires.running in
     record {
-      run = record { opening = refl; from = refl; given = refl; listed = refl };
+      run = record { opening = refl; ends = refl; from = refl; given = refl; listed = refl };
       seen = refl;
       running = running_later c.args.self.now (g.B.Board.nodes c.args.board.now) (g.B.Board.nodes c.sync.new.self) (g.B.Board.log c.args.board.now) (g.B.Board.log c.sync.new.self) (g.B.Board.knows c.args.board.now) (g.B.Board.knows c.sync.new.self) c.in_ok-news.ensures.later c.requires.running;
       writing = write;
