@@ -1,9 +1,9 @@
 -- What became of each cube that was claimed.
 use Rattle.std.proofs.Common.{◌≡◌, ◌≢◌, ℕ, Bool, true, false, List, [], ◌∷◌, Some, refl, sym, ap, ◌∙◌, subst, inl, inr, ⊎_elim, arith}
-use Rattle.std.specs.Prelude.{◌==◌, ◌&&◌, ◌⊎◌, if◌then◌else◌}
+use Rattle.std.specs.Prelude.{◌==◌, ◌&&◌, if◌then◌else◌}
 use Rattle.std.proofs.lemmas.Bool.{eq-eqb, ne_eqb, cases_eq}
 use Rattle.hub_core.specs.declared.events.Call.{Call}
-use Rattle.hub_core.specs.declared.events.Call.TheVariants.{PutChain, Claim, Close, Spend, Found}
+use Rattle.hub_core.specs.declared.events.Call.TheVariants.{Define, PutLemma, PutChain, Claim, Close, Spend, Found}
 use Rattle.hub_core.specs.declared.events.Event.{Event}
 use Rattle.hub_core.specs.Hubs.{HubValue, HubView, opening, has_next, with_open, set_at, claim_after, call_after, run_from, view_of, IsAccounted, AreAccounted}
 use Rattle.std.proofs.Math.Bool.{and-false}
@@ -33,6 +33,8 @@ claim_accounts v n true h c lt =
     (cases_eq c v.claimed)
 
 call_accounts : (law : HubValue) (v : HubView) (n : ℕ) (call : Call) → AreAccounted v → AreAccounted (call_after law v n call)
+call_accounts law v n (Define t u) h d lt = h d lt
+call_accounts law v n (PutLemma lemma) h d lt = h d lt
 call_accounts law v n (PutChain c hints) h d lt = h d lt
 call_accounts law v n Claim h d lt = claim_accounts v n (has_next law v) h d lt
 call_accounts law v n (Close c p) h d lt =

@@ -1,41 +1,50 @@
 -- The log of every history is one of valid steps.
-use Rattle.std.proofs.Common.{◌≡◌, ℕ, Bool, true, false, not, List, length, arith, [], ◌∷◌, ◌++◌, Some, refl, sym, ap, ◌∙◌, subst, inl, inr, ⊎_elim}
+use Rattle.std.proofs.Common.{◌≡◌, ℕ, Bool, true, false, not, List, length, arith, [], ◌∷◌, ◌++◌, Option, Some, None, refl, sym, ap, ◌∙◌, subst, inl, inr, ⊎_elim, append-nil}
 use Rattle.std.specs.Prelude.{◌==◌, ◌&&◌, ◌⊎◌, ltb, if◌then◌else◌}
 use Rattle.std.proofs.lemmas.Bool.{eqb-true, ltb-false}
 use Rattle.smt_terms.specs.declared.node.Node.{Node}
 use Rattle.proof_log.specs.declared.entry.Entry.{Entry}
 use Rattle.proof_log.specs.declared.entry.Entry.TheVariants as step
-use Rattle.proof_log.specs.Logs.{start, state_of, IsStep, IsLog}
-use Rattle.proof_log.specs.Boards.{IsOfSearch, Grows}
-use Rattle.proof_log.proofs.Growth.{grows_same, grows_then, grows_one}
+use Rattle.proof_log.specs.Logs.{start, state_of, IsStep, IsPair, IsLog}
+use Rattle.proof_log.specs.Places.{place_of_pair}
+use Rattle.proof_log.specs.Boards.{IsAdded}
+use Rattle.proof_log.specs.LemmaBoards.{Adds}
+use Rattle.proof_log.proofs.Adding.{adds_same, adds_then, adds_one}
+use Rattle.proof_log.proofs.Equalities.{no_variable}
 use Rattle.proof_log.proofs.Ordered.{log_is_ordered}
 use Rattle.proof_log.proofs.Sound.{log_is_sound}
 use Rattle.proof_log.proofs.Standing.{stands_over}
 use Rattle.proof_log.proofs.Staying.{Holds, steps_append}
 use Rattle.hub_core.specs.declared.events.Call.{Call}
-use Rattle.hub_core.specs.declared.events.Call.TheVariants.{PutChain, Claim, Close, Spend, Found}
+use Rattle.hub_core.specs.declared.events.Call.TheVariants.{Define, PutLemma, PutChain, Claim, Close, Spend, Found}
 use Rattle.hub_core.specs.declared.events.Event.{Event}
-use Rattle.hub_core.specs.Hubs.{IsDone, IsTold, IsAllTold, IsAccounted, AreClosed, IsSoundHistory, HubValue, HubView, IsOpening, opening, has_next, set_at, claim_after, call_after, run_from, view_of, IsClosedAt, may, AreMade, IsHistory}
+use Rattle.hub_core.specs.Hubs.{IsDone, IsTold, IsAllTold, IsAccounted, AreClosed, IsSoundHistory, HubValue, HubView, IsOpening, opening, new_pair, has_next, set_at, claim_after, call_after, run_from, view_of, IsClosedAt, may, AreMade, IsHistory}
 use Rattle.hub_core.specs.Stays.{call_holds, closed_stays}
 use Rattle.hub_core.proofs.Accounts.{history_accounts}
 use Rattle.std.proofs.lemmas.Option.{same_Some}
 
--- the log is valid and grew from the old one by steps of a search
+-- the log is valid and grew from the old one by chains, equalities and lemmas
 pub record GoesOn (nodes : List Node) (old new : List Entry) : Type 0 where
   pub steps : IsLog nodes new
-  pub grows : Grows old new
+  pub grows : Adds old new
 
 same_goes : (nodes : List Node) (log log' : List Entry) → log' ≡ log → IsLog nodes log → GoesOn nodes log log'
-same_goes nodes log log' e h = subst (GoesOn nodes log) (sym e) (record { steps = h; grows = grows_same log })
+same_goes nodes log log' e h = subst (GoesOn nodes log) (sym e) (record { steps = h; grows = adds_same log })
 
-one_goes : (nodes : List Node) (log : List Entry) (e : Entry) → IsOfSearch e → IsLog nodes log → IsStep nodes (state_of nodes log) e → GoesOn nodes log (log ++ e ∷ [])
-one_goes nodes log e k h v = record { steps = steps_append nodes start log (e ∷ []) h (v, tt); grows = grows_one log e k }
+one_goes : (nodes : List Node) (log : List Entry) (e : Entry) → IsAdded e → IsLog nodes log → IsStep nodes (state_of nodes log) e → GoesOn nodes log (log ++ e ∷ [])
+one_goes nodes log e k h v = record { steps = steps_append nodes start log (e ∷ []) h (v, tt); grows = adds_one log e k }
+
+pair_goes : (nodes : List Node) (log : List Entry) (t u : ℕ) (o : Option ℕ) → place_of_pair log t u ≡ o → IsLog nodes log → IsPair nodes (state_of nodes log) t u → GoesOn nodes log (log ++ new_pair o t u)
+pair_goes nodes log t u (Some p) e h m = same_goes nodes log (log ++ []) (append-nil log) h
+pair_goes nodes log t u None e h m = one_goes nodes log (step.Equal t u) refl h (record { pair = m; new = no_variable nodes log t u e })
 
 claim_goes : (nodes : List Node) (v : HubView) (n : ℕ) (b : Bool) → IsLog nodes v.log → GoesOn nodes v.log (claim_after v n b).log
 claim_goes nodes v n true h = same_goes nodes v.log v.log refl h
 claim_goes nodes v n false h = same_goes nodes v.log v.log refl h
 
 pub call_goes : (law : HubValue) (v : HubView) (n : ℕ) (call : Call) → IsLog law.nodes v.log → may law v n call → GoesOn law.nodes v.log (call_after law v n call).log
+call_goes law v n (Define t u) h m = pair_goes law.nodes v.log t u (place_of_pair v.log t u) refl h m
+call_goes law v n (PutLemma lemma) h m = one_goes law.nodes v.log (step.Lemma lemma) refl h m
 call_goes law v n (PutChain c hints) h m = one_goes law.nodes v.log (step.Chain c hints) refl h m
 call_goes law v n Claim h m = claim_goes law.nodes v n (has_next law v) h
 call_goes law v n (Close c p) h m = same_goes law.nodes v.log v.log refl h
@@ -47,7 +56,7 @@ run_goes law v [] h m = same_goes law.nodes v.log v.log refl h
 run_goes law v (e ∷ es) h m =
     let one = call_goes law v e.pass e.call h m.0 in
     let rest = run_goes law (call_after law v e.pass e.call) es one.steps m.1 in
-    record { steps = rest.steps; grows = grows_then _ _ _ one.grows rest.grows }
+    record { steps = rest.steps; grows = adds_then _ _ _ one.grows rest.grows }
 
 -- ---- what is closed
 
@@ -73,6 +82,8 @@ later_closed : (law : HubValue) (v w : HubView) → Holds (state_of law.nodes v.
 later_closed law v w x same all c p e = closed_stays law v.log w.log c p x (all c p (ap (λ f. f c) (sym same) ∙ e))
 
 call_closed : (law : HubValue) (v : HubView) (n : ℕ) (call : Call) → may law v n call → AreClosed law v → AreClosed law (call_after law v n call)
+call_closed law v n (Define t u) m all = later_closed law v (call_after law v n (Define t u)) (call_holds law v n (Define t u)) refl all
+call_closed law v n (PutLemma lemma) m all = later_closed law v (call_after law v n (PutLemma lemma)) (call_holds law v n (PutLemma lemma)) refl all
 call_closed law v n (PutChain c hints) m all = later_closed law v (call_after law v n (PutChain c hints)) (call_holds law v n (PutChain c hints)) refl all
 call_closed law v n Claim m all = later_closed law v (call_after law v n Claim) (call_holds law v n Claim) (claim_closed v n (has_next law v)) all
 call_closed law v n (Close c p) m all = close_closed law v c p m.1 all

@@ -6,13 +6,14 @@ use Rattle.smt_terms.specs.declared.node.Node.{Node}
 use Rattle.smt_terms.specs.Terms.{IsTermList}
 use Rattle.proof_log.specs.declared.entry.Entry.{Entry}
 use Rattle.proof_log.specs.declared.entry.Entry.TheVariants as step
-use Rattle.proof_log.specs.Logs.{clause_at, state_of, IsStep, IsLog}
+use Rattle.proof_log.specs.Logs.{clause_at, state_of, IsStep, IsPair, IsLemma, IsLog}
 use Rattle.proof_log.specs.Meanings.{LogIsSound, LogIsOrdered}
+use Rattle.proof_log.specs.Places.{place_of_pair}
 use Rattle.proof_log.specs.Stored.{LogValue, Stands}
 use Rattle.cube_tree.specs.Closing.{Closes}
-use Rattle.proof_log.specs.Boards.{Grows}
+use Rattle.proof_log.specs.LemmaBoards.{Adds}
 use Rattle.hub_core.specs.declared.events.Call.{Call}
-use Rattle.hub_core.specs.declared.events.Call.TheVariants.{PutChain, Claim, Close, Spend, Found}
+use Rattle.hub_core.specs.declared.events.Call.TheVariants.{Define, PutLemma, PutChain, Claim, Close, Spend, Found}
 use Rattle.hub_core.specs.declared.events.Reply.{Reply}
 use Rattle.hub_core.specs.declared.events.Reply.TheVariants.{At, Cube, Done}
 use Rattle.hub_core.specs.declared.events.Event.{Event}
@@ -48,13 +49,20 @@ opening law = record { log = law.log.entries; claimed = 0; open_for = λ n c. fa
 
 -- ---- what a call does
 
+-- the step that gives the equality of two terms a variable, where no step of the log has
+abbrev pub new_pair : Option ℕ → ℕ → ℕ → List Entry
+new_pair None t u = step.Equal t u ∷ []
+new_pair (Some p) t u = []
+
 -- the steps that a call adds to the log
-abbrev pub added : Call → List Entry
-added (PutChain c hints) = step.Chain c hints ∷ []
-added Claim = []
-added (Close c p) = []
-added (Spend c) = []
-added (Found c) = []
+abbrev pub added : List Entry → Call → List Entry
+added log (Define t u) = new_pair (place_of_pair log t u) t u
+added log (PutLemma lemma) = step.Lemma lemma ∷ []
+added log (PutChain c hints) = step.Chain c hints ∷ []
+added log Claim = []
+added log (Close c p) = []
+added log (Spend c) = []
+added log (Found c) = []
 
 -- whether a claim gives a cube
 abbrev pub has_next : HubValue → HubView → Bool
@@ -74,7 +82,9 @@ claim_after v n false = v
 
 -- what a call of a pass makes of it
 abbrev pub call_after : HubValue → HubView → ℕ → Call → HubView
-call_after law v n (PutChain c hints) = record v { log = v.log ++ added (PutChain c hints) }
+call_after law v n (Define t u) = record v { log = v.log ++ added v.log (Define t u) }
+call_after law v n (PutLemma lemma) = record v { log = v.log ++ added v.log (PutLemma lemma) }
+call_after law v n (PutChain c hints) = record v { log = v.log ++ added v.log (PutChain c hints) }
 call_after law v n Claim = claim_after v n (has_next law v)
 call_after law v n (Close c p) = record v { open_for = with_open v.open_for n c false; closed = set_at v.closed c (Some p) }
 call_after law v n (Spend c) = record v { open_for = with_open v.open_for n c false; spent = set_at v.spent c true }
@@ -94,8 +104,11 @@ view_of law history = run_from law (opening law) history
 abbrev pub IsClosedAt : HubValue → List Entry → ℕ → ℕ → Type 0
 IsClosedAt law log c p = Closes (clause_at (state_of law.nodes log).clauses) law.assumed (slice_index_or law.cubes c []) p
 
--- the pass may make this call: what became of a cube is told once, by the pass that claimed it
+-- The pass may make this call. A pair may be defined again; a lemma and a chain are valid steps; what became of a cube is told
+-- once, by the pass that claimed it.
 abbrev pub may : HubValue → HubView → ℕ → Call → Type 0
+may law v n (Define t u) = IsPair law.nodes (state_of law.nodes v.log) t u
+may law v n (PutLemma lemma) = IsLemma law.nodes (state_of law.nodes v.log) lemma
 may law v n (PutChain c hints) = IsStep law.nodes (state_of law.nodes v.log) (step.Chain c hints)
 may law v n Claim = Unit {0}
 may law v n (Close c p) = (v.open_for n c ≡ true) × IsClosedAt law v.log c p
@@ -125,8 +138,15 @@ abbrev pub claim_reply : Bool → ℕ → Reply
 claim_reply true c = Cube (Some c)
 claim_reply false c = Cube None
 
+-- the position of a pair: that of its step, else the next one
+abbrev pub pair_or : Option ℕ → ℕ → ℕ
+pair_or None next = next
+pair_or (Some p) next = p
+
 -- the answer to a call
 abbrev pub answer : HubValue → HubView → Call → Reply
+answer law v (Define t u) = At (pair_or (place_of_pair v.log t u) (suc (length v.log)))
+answer law v (PutLemma lemma) = At (suc (length v.log))
 answer law v (PutChain c hints) = At (suc (length v.log))
 answer law v Claim = claim_reply (has_next law v) v.claimed
 answer law v (Close c p) = Done
@@ -150,11 +170,11 @@ IsAccounted v c = ((n : ℕ) × (v.open_for n c ≡ true)) ⊎ (((p : ℕ) × (v
 abbrev pub AreAccounted : HubView → Type 0
 AreAccounted v = (c : ℕ) → c < v.claimed → IsAccounted v c
 
--- The steps are a log, which begins with the one that the hub was opened over. Each clause is true in every
+-- The steps are a log: those that the hub was opened over, then chains, lemmas and equalities. Each clause is true in every
 -- interpretation, each variable was made by one step, and hints are of earlier positions.
 pub record IsSoundHistory (law : HubValue) (history : List Event) : Type 0 where
   pub steps : IsLog law.nodes (view_of law history).log
-  pub grows : Grows law.log.entries (view_of law history).log
+  pub grows : Adds law.log.entries (view_of law history).log
   pub sound : LogIsSound law.nodes (view_of law history).log
   pub ordered : LogIsOrdered law.nodes (view_of law history).log
   pub closed : AreClosed law (view_of law history)

@@ -1,22 +1,28 @@
 -- What a pass may do it may still do after events of other passes.
-use Rattle.std.proofs.Common.{◌≡◌, ℕ, ◌≤◌, Bool, true, false, List, [], ◌∷◌, ◌++◌, None, refl, sym, ap, ◌∙◌, subst}
-use Rattle.std.specs.Prelude.{◌==◌, ◌&&◌, if◌then◌else◌}
+use Rattle.std.proofs.Common.{◌≡◌, ℕ, ◌≤◌, Bool, true, false, List, [], ◌∷◌, ◌++◌, Option, Some, None, refl, sym, ap, ◌∙◌, subst, append-nil}
+use Rattle.std.specs.Prelude.{◌==◌, ◌&&◌, if◌then◌else◌, IsSome}
 use Rattle.std.proofs.lemmas.Bool.{eqb-true, eq-eqb}
 use Rattle.cnf_base.specs.Literals.{Literal}
 use Rattle.cnf_base.proofs.Agreeing.{AreBelow-more}
+use Rattle.cnf_base.proofs.Options.{IsSome-from, some_value}
 use Rattle.hint_chain.proofs.Growing.{IsChain-grows}
 use Rattle.smt_terms.specs.declared.node.Node.{Node}
+use Rattle.theory_terms.specs.declared.lemma.Lemma.{Lemma}
+use Rattle.theory_lemmas.specs.Clauses.{clause_of}
+use Rattle.theory_lemmas.proofs.Keeping.{clause_stays}
 use Rattle.proof_log.specs.declared.entry.Entry.{Entry}
 use Rattle.proof_log.specs.declared.entry.Entry.TheVariants as step
-use Rattle.proof_log.specs.Logs.{start, state_of}
+use Rattle.proof_log.specs.Logs.{LogState, start, state_of, IsPair, IsLemma}
+use Rattle.proof_log.specs.Places.{place_of_pair}
+use Rattle.proof_log.proofs.Equalities.{no_variable}
 use Rattle.proof_log.proofs.Growing.{clause_more}
-use Rattle.proof_log.proofs.Staying.{Holds, Holds-refl, Holds-then, state_from-append}
+use Rattle.proof_log.proofs.Staying.{Holds, Holds-refl, Holds-then, equal_holds, lemma_holds, state_from-append}
 use Rattle.shared_history.specs.Events.{of_pass}
 use Rattle.cube_tree.specs.Closing.{first_of}
 use Rattle.hub_core.specs.declared.events.Call.{Call}
-use Rattle.hub_core.specs.declared.events.Call.TheVariants.{PutChain, Claim, Close, Spend, Found}
+use Rattle.hub_core.specs.declared.events.Call.TheVariants.{Define, PutLemma, PutChain, Claim, Close, Spend, Found}
 use Rattle.hub_core.specs.declared.events.Event.{Event}
-use Rattle.hub_core.specs.Hubs.{HubValue, HubView, opening, has_next, with_open, claim_after, call_after, run_from, view_of, IsClosedAt, may, permitted, AreMade, IsHistory, by_of, event}
+use Rattle.hub_core.specs.Hubs.{HubValue, HubView, opening, new_pair, has_next, with_open, claim_after, call_after, run_from, view_of, IsClosedAt, may, permitted, AreMade, IsHistory, by_of, event}
 
 -- ---- the log grows
 
@@ -30,11 +36,27 @@ chain_holds nodes log c hints =
     suc_le : (n : ℕ) → n ≤ n
     suc_le n = (Holds-refl (record { next = n; bits = λ t. None; selectors = λ a. None; equals = λ t u. None; clauses = [] })).next
 
+lemma_step : (nodes : List Node) (log : List Entry) (lemma : Lemma) → Holds (state_of nodes log) (state_of nodes (log ++ step.Lemma lemma ∷ []))
+lemma_step nodes log lemma =
+    let s = state_of nodes log in
+    subst (Holds s) (sym (state_from-append nodes start log (step.Lemma lemma ∷ [])))
+    (lemma_holds s (clause_of nodes (state_of nodes log).bits (state_of nodes log).equals lemma))
+
+-- a pair that has a step gets no second one
+pair_step : (nodes : List Node) (log : List Entry) (t u : ℕ) (o : Option ℕ) → place_of_pair log t u ≡ o → Holds (state_of nodes log) (state_of nodes (log ++ new_pair o t u))
+pair_step nodes log t u (Some p) e = subst (λ l. Holds (state_of nodes log) (state_of nodes l)) (sym (append-nil log)) (Holds-refl (state_of nodes log))
+pair_step nodes log t u None e =
+    let s = state_of nodes log in
+    subst (Holds s) (sym (state_from-append nodes start log (step.Equal t u ∷ [])))
+    (equal_holds s t u ((state_of nodes log).bits t) ((state_of nodes log).bits u) (no_variable nodes log t u e))
+
 claim_log : (v : HubView) (n : ℕ) (b : Bool) → (claim_after v n b).log ≡ v.log
 claim_log v n true = refl
 claim_log v n false = refl
 
 pub call_holds : (law : HubValue) (v : HubView) (n : ℕ) (call : Call) → Holds (state_of law.nodes v.log) (state_of law.nodes (call_after law v n call).log)
+call_holds law v n (Define t u) = pair_step law.nodes v.log t u (place_of_pair v.log t u) refl
+call_holds law v n (PutLemma lemma) = lemma_step law.nodes v.log lemma
 call_holds law v n (PutChain c hints) = chain_holds law.nodes v.log c hints
 call_holds law v n Claim = subst (λ l. Holds (state_of law.nodes v.log) (state_of law.nodes l)) (sym (claim_log v n (has_next law v))) (Holds-refl (state_of law.nodes v.log))
 call_holds law v n (Close c p) = Holds-refl (state_of law.nodes v.log)
@@ -69,6 +91,8 @@ claim_open v m true n d ne = other_open v.open_for m v.claimed true n d ne
 claim_open v m false n d ne = refl
 
 call_open : (law : HubValue) (v : HubView) (m : ℕ) (call : Call) (n d : ℕ) → (m == n) ≡ false → (call_after law v m call).open_for n d ≡ v.open_for n d
+call_open law v m (Define t u) n d ne = refl
+call_open law v m (PutLemma lemma) n d ne = refl
 call_open law v m (PutChain c hints) n d ne = refl
 call_open law v m Claim n d ne = claim_open v m (has_next law v) n d ne
 call_open law v m (Close c p) n d ne = other_open v.open_for m c false n d ne
@@ -94,7 +118,24 @@ run_open law v (e ∷ es) n d none =
 pub closed_stays : (law : HubValue) (log log' : List Entry) (c p : ℕ) → Holds (state_of law.nodes log) (state_of law.nodes log') → IsClosedAt law log c p → IsClosedAt law log' c p
 closed_stays law log log' c p x h = record { clause = h.clause; found = x.clauses (first_of p) h.clause h.found; closing = h.closing }
 
+bits_stay : (f g : ℕ → Option (List Literal)) (t : ℕ) → ((x : ℕ) (b : List Literal) → f x ≡ Some b → g x ≡ Some b) → IsSome (f t) → IsSome (g t)
+bits_stay f g t more h = let k = some_value (f t) h in IsSome-from (g t) k.0 (more t k.0 k.1)
+
+pub pair_stays : (nodes : List Node) (s r : LogState) (t u : ℕ) → Holds s r → IsPair nodes s t u → IsPair nodes r t u
+pair_stays nodes s r t u x h = record {
+  lower = h.lower;
+  term = h.term;
+  sort = h.sort;
+  left = bits_stay s.bits r.bits t x.bits h.left;
+  right = bits_stay s.bits r.bits u x.bits h.right;
+}
+
+pub lemma_stays : (nodes : List Node) (s r : LogState) (lemma : Lemma) → Holds s r → IsLemma nodes s lemma → IsLemma nodes r lemma
+lemma_stays nodes s r lemma x h = record { clause = h.clause; is = clause_stays s.bits r.bits s.equals r.equals x.bits x.equals nodes lemma h.clause h.is }
+
 may_stays : (law : HubValue) (v w : HubView) (n : ℕ) (call : Call) → Holds (state_of law.nodes v.log) (state_of law.nodes w.log) → ((d : ℕ) → w.open_for n d ≡ v.open_for n d) → may law v n call → may law w n call
+may_stays law v w n (Define t u) x o h = pair_stays law.nodes (state_of law.nodes v.log) (state_of law.nodes w.log) t u x h
+may_stays law v w n (PutLemma lemma) x o h = lemma_stays law.nodes (state_of law.nodes v.log) (state_of law.nodes w.log) lemma x h
 may_stays law v w n (PutChain c hints) x o h = (AreBelow-more _ _ x.next c h.0, IsChain-grows _ _ x.clauses c hints h.1)
 may_stays law v w n Claim x o h = tt
 may_stays law v w n (Close c p) x o h = (o c ∙ h.0, closed_stays law v.log w.log c p x h.1)

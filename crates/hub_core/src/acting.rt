@@ -1,12 +1,14 @@
 //! What calls make of the hub's state.
 
 ghost use Rattle.std.specs.Prelude.{◌≡◌, ◌≢◌, ℕ, suc, Bool, true, false, not, ◌&&◌, ◌||◌, ltb, [], ◌∷◌, ◌++◌, length, IfOk, OnErr, MatchOption, Some, None, slice_get};
-ghost use Rattle.hub_core.specs.Standing.{or_else};
+ghost use Rattle.proof_log.specs.Pairs.{found};
+ghost use Rattle.hub_core.specs.Standing.{or_else, IsDrawn, IsDefined};
 ghost use Rattle.hub_core.specs.declared.state.CubeStage.{CubeStage};
 
 use crate::state::{CubeStage, HubState};
 use cnf_base::Pos;
 use shared_history::NoMemory;
+use smt_terms::node::TermId;
 
 /// Draws the next position. The one error is want of positions.
 pub(crate) fn place(state: &mut HubState) -> Result<Pos, NoMemory>
@@ -19,6 +21,40 @@ pub(crate) fn place(state: &mut HubState) -> Result<Pos, NoMemory>
     };
     state.count = count;
     Ok(at)
+}
+
+// Draws the next position for the equality of two terms, for which none is kept.
+fn draw(state: &mut HubState, lower: TermId, upper: TermId) -> Result<Pos, NoMemory>
+    requires { found state.old.pairs lower upper ≡ None }
+    ensures same { OnErr result (state.new ≡ state.old) }
+    ensures drawn { IfOk result (IsDrawn state.old state.new lower upper) }
+{
+    let at = place(state)?;
+    if state.pairs.insert(lower, upper, at).is_err() {
+        state.count = at;
+        return Err(NoMemory);
+    }
+    Ok(at)
+}
+
+/// The position of the equality of two terms: the one that the opening log has, if it has one, else one that was drawn, or
+/// is drawn now.
+pub(crate) fn define(
+    state: &mut HubState,
+    opened: Option<Pos>,
+    lower: TermId,
+    upper: TermId,
+) -> Result<Pos, NoMemory>
+    ensures same { OnErr result (state.new ≡ state.old) }
+    ensures defined { IfOk result (IsDefined (or_else opened (found state.old.pairs lower upper)) state.old state.new lower upper) }
+{
+    if let Some(at) = opened {
+        return Ok(at);
+    }
+    match state.pairs.get(lower, upper) {
+        Some(at) => Ok(at),
+        None => draw(state, lower, upper),
+    }
 }
 
 /// Claims the next cube for a pass, where there is one and no model was found.
@@ -49,6 +85,7 @@ pub(crate) fn claim(state: &mut HubState, cubes: u32, pass: u32) -> Result<Optio
 pub(crate) fn end(state: &mut HubState, cube: u32, closed: Option<Pos>, spent: bool, found: bool)
     requires { (g : CubeStage) × (slice_get state.old.stages cube ≡ Some g) }
     ensures count { state.new.count ≡ state.old.count }
+    ensures pairs { state.new.pairs ≡ state.old.pairs }
     ensures found { state.new.found ≡ (state.old.found || found) }
     ensures len { length state.new.stages ≡ length state.old.stages }
     ensures here { (g : CubeStage) → slice_get state.old.stages cube ≡ Some g →

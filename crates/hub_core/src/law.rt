@@ -8,12 +8,12 @@ ghost use Rattle.hub_core.specs.declared.events.Event.{Event};
 ghost use Rattle.hub_core.specs.Hubs.{HubValue, IsOpening, IsHistory, IsSoundHistory, permitted, reply, event};
 ghost use Rattle.hub_core.specs.Standing.{IsHub};
 
-use crate::acting::{claim, end, place};
+use crate::acting::{claim, define, end, place};
 use crate::events::{Call, Event, Reply};
 use crate::laws::every_history_is_sound;
 use crate::state::{HubState, Stages};
 use cnf_base::{Clause, Lit};
-use proof_log::Log;
+use proof_log::{Log, Pairs};
 use shared_history::{Back, Law, NoMemory};
 use smt_terms::terms::Terms;
 use std::alloc::Global;
@@ -138,6 +138,15 @@ fn answer<'a>(
         (λ _. IsHub law.now state.new history) }
 {
     match call {
+        Call::Define(lower, upper) => {
+            let opened = law.log.equals().place_of(*lower, *upper);
+            let defined = define(state, opened, *lower, *upper)?;
+            Ok(Reply::At(defined))
+        }
+        Call::PutLemma(_) => {
+            let last = place(state)?;
+            Ok(Reply::At(last))
+        }
         Call::PutChain(_, _) => {
             let at = place(state)?;
             Ok(Reply::At(at))
@@ -188,6 +197,7 @@ impl<'a> Law for HubLaw<'a> {
     fn first(&self, alloc: Global) -> Result<HubState, NoMemory> {
         Ok(HubState {
             count: self.log.len(),
+            pairs: Pairs::new(alloc),
             stages: Stages::new(alloc),
             found: false,
         })

@@ -3,6 +3,7 @@
 ghost use Rattle.std.specs.Prelude.{◌≡◌, ◌≢◌, ◌<◌, ℕ, [], ◌∷◌, ◌++◌, length, Some, slice_get, OnOk, OnErr};
 
 use cnf_base::Pos;
+use proof_log::Pairs;
 use std::alloc::{AllocError, Global};
 use std::marker::Model;
 
@@ -83,10 +84,12 @@ impl Stages {
     }
 }
 
-/// How many positions the log has, what became of the claimed cubes, and whether a model was found.
+/// How many positions the log has, the positions of the pairs of terms that were given variables since the opening, what
+/// became of the claimed cubes, and whether a model was found.
 #[derive(Debug, Drop)]
 pub struct HubState {
     pub count: Pos,
+    pub pairs: Pairs<Pos>,
     pub stages: Stages,
     pub found: bool,
 }

@@ -15,4 +15,6 @@ pub mod Leaves
 mod Tried
 mod Worked
 pub mod Growth
+pub mod Equalities
+pub mod Adding
 pub mod Lines

@@ -90,7 +90,7 @@ pairs_more {A} f t u a n x y b e = go ((x == t) && (y == u)) refl
 row_holds : (s : LogState) (row : List (List Literal)) → Holds s (with_row s row)
 row_holds s row = record { next = omega arith; clauses = clause_more s.clauses (row ∷ []); bits = λ u b e. e; selectors = λ a r e. e; equals = λ t u l e. e }
 
-equal_holds : (s : LogState) (t u : ℕ) (o p : Option (List Literal)) → s.equals t u ≡ None → Holds s (equal_after s t u o p)
+pub equal_holds : (s : LogState) (t u : ℕ) (o p : Option (List Literal)) → s.equals t u ≡ None → Holds s (equal_after s t u o p)
 equal_holds s t u None p n = row_holds s []
 equal_holds s t u (Some a) None n = row_holds s []
 equal_holds s t u (Some a) (Some b) n = record {
@@ -101,7 +101,7 @@ equal_holds s t u (Some a) (Some b) n = record {
   equals = pairs_more s.equals t u (equal_bit s.next true_literal a b) n;
 }
 
-lemma_holds : (s : LogState) (o : Result (List Literal) LemmaFault) → Holds s (lemma_after s o)
+pub lemma_holds : (s : LogState) (o : Result (List Literal) LemmaFault) → Holds s (lemma_after s o)
 lemma_holds s (Err f) = row_holds s []
 lemma_holds s (Ok c) = row_holds s (c ∷ [])
 

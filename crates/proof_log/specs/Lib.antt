@@ -8,4 +8,5 @@ pub mod Stored
 pub mod Faults
 pub mod Assigned
 pub mod Boards
+pub mod LemmaBoards
 pub mod Diaries

@@ -1,5 +1,5 @@
--- At which position a step gave a term its bits, or an assertion its selector.
-use Rattle.std.specs.Prelude.{◌≡◌, ◌⊎◌, ℕ, List, Option, Some, None, slice_index_or}
+-- At which position a step gave a term its bits, an assertion its selector, or the equality of two terms its variable.
+use Rattle.std.specs.Prelude.{◌≡◌, ◌⊎◌, ◌==◌, ◌&&◌, ℕ, suc, Bool, false, if◌then◌else◌, List, [], ◌∷◌, Option, Some, None, slice_index_or}
 use Rattle.proof_log.specs.declared.entry.Entry.{Entry}
 use Rattle.proof_log.specs.declared.entry.Entry.TheVariants as step
 use Rattle.proof_log.specs.declared.entry.Role.TheVariants as role
@@ -35,3 +35,17 @@ place_in held n = slice_index_or held n None
 pub record ArePlaces (log : List Entry) (terms assertions : List (Option ℕ)) : Type 0 where
   pub bits : (t : ℕ) → IsPlaceOf (GivesBits log t) (place_in terms t)
   pub selectors : (a : ℕ) → IsPlaceOf (GivesSelector log a) (place_in assertions a)
+
+-- the step gives the equality of these terms its variable
+abbrev pub is_equality : ℕ → ℕ → Entry → Bool
+is_equality t u (step.Equal x y) = (x == t) && (y == u)
+is_equality t u _ = false
+
+-- the position of the first such step, where the first of these steps has this position
+abbrev pub place_from : ℕ → List Entry → ℕ → ℕ → Option ℕ
+place_from p [] t u = None
+place_from p (e ∷ es) t u = if is_equality t u e then Some p else place_from (suc p) es t u
+
+-- the position of the step of a log that gives the equality of these terms its variable, if there is one
+abbrev pub place_of_pair : List Entry → ℕ → ℕ → Option ℕ
+place_of_pair log t u = place_from 1 log t u

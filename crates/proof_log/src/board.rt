@@ -3,9 +3,8 @@
 //! A board has seen a log, over terms that stay, and can show what stands at the positions that are known. It sees more of
 //! the log at each call, where others put clauses on the same log. What it has seen stays, and what is known stays known.
 //!
-//! Of the steps of a log a search puts chains alone. Where equalities and lemmas come, `define` (the variable of the equality
-//! of two terms, drawn where there is none) and `equals` (the pairs with their variables) are one call more each: `define`
-//! with the promise `IsLater` and the position of the pair, `equals` as `bits`.
+//! Of the steps of a log a search puts chains alone. A board that takes equalities and lemmas too is a `LemmaBoard`
+//! (`lemma_board`).
 
 ghost use Rattle.std.specs.Prelude.{◌≡◌, ◌<◌, ℕ, Bool, suc, List, length, IfOk};
 ghost use Rattle.std.specs.Option.{option_copied};
@@ -79,9 +78,9 @@ pub trait Board {
 /// A board of one log alone, on which nobody else puts.
 #[derive(Drop)]
 pub struct LogBoard<'a> {
-    alloc: Global,
-    log: Log,
-    terms: &'a Terms,
+    pub(crate) alloc: Global,
+    pub(crate) log: Log,
+    pub(crate) terms: &'a Terms,
 }
 
 impl<'a> Model for LogBoard<'a> {

@@ -17,6 +17,7 @@ pub mod entry;
 mod equals;
 mod fault;
 mod laws;
+pub mod lemma_board;
 mod log;
 mod pairs;
 mod places;
@@ -35,5 +36,7 @@ pub use laws::{
 pub use log::Log;
 pub use pairs::Pairs;
 
+#[cfg(test)]
+mod lemma_board_tests;
 #[cfg(test)]
 mod tests;

@@ -219,9 +219,20 @@ impl Log {
         requires declared { IsDeclared terms.old entry }
         ensures { Answers terms.old terms.new entry self.old self.new result }
     {
-        let at = self.len();
         match entry {
             Entry::Node(node) => self.node(alloc, terms, node),
+            other => self.try_put(alloc, terms, other),
+        }
+    }
+
+    /// The same of a step that makes no term.
+    pub fn try_put(&mut self, alloc: Global, terms: &Terms, entry: Entry) -> Result<Pos, PushError>
+        requires stands { Stands terms.now.nodes self.old }
+        requires kind { MakesNoTerm entry }
+        ensures { Answers terms.now terms.now entry self.old self.new result }
+    {
+        let at = self.len();
+        match entry {
             Entry::Leaf(term) => told(StepKind::Leaf, at, self.leaf(alloc, terms, term)?),
             Entry::Encode(term) => told(StepKind::Encode, at, self.encode(alloc, terms, term)?),
             Entry::Selector(assertion, term) => told(
@@ -241,6 +252,8 @@ impl Log {
                 self.equal(alloc, terms, lower, upper)?,
             ),
             Entry::Lemma(lemma) => told(StepKind::Lemma, at, self.lemma(alloc, terms, lemma)?),
+            // Excluded by the condition on the kind.
+            Entry::Node(_) => unreachable!(),
         }
     }
 

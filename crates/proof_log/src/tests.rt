@@ -26,13 +26,13 @@ use theory_terms::lemma::{Access, Lemma, Path, Start};
 
 // A log, and the terms that it stands over.
 #[derive(Drop)]
-struct Proof {
-    log: Log,
-    terms: Terms,
+pub(crate) struct Proof {
+    pub(crate) log: Log,
+    pub(crate) terms: Terms,
 }
 
 // No step yet, over one term.
-fn begun(alloc: Global, op: Op) -> Result<Proof, AllocError>
+pub(crate) fn begun(alloc: Global, op: Op) -> Result<Proof, AllocError>
     ensures { IfOk result (λ p. Stands p.terms.nodes p.log) }
 {
     let mut terms = Terms::new(alloc);
@@ -47,7 +47,7 @@ fn begun(alloc: Global, op: Op) -> Result<Proof, AllocError>
 }
 
 // A step is tried; for want of memory it is no step.
-fn answer(
+pub(crate) fn answer(
     proof: &mut Proof,
     alloc: Global,
     entry: Entry,
@@ -65,7 +65,7 @@ fn answer(
 
 // A step.
 #[derive(Clone, Copy)]
-enum Given {
+pub(crate) enum Given {
     // The term true.
     True,
     // The term of an operator over these.
@@ -115,7 +115,7 @@ enum Step {
     See(Seen),
 }
 
-fn is_literal(literal: Lit, parts: (u64, bool)) -> bool {
+pub(crate) fn is_literal(literal: Lit, parts: (u64, bool)) -> bool {
     literal.variable() == parts.0 && literal.is_positive() == parts.1
 }
 
@@ -222,7 +222,7 @@ fn access(alloc: Global, start: Start) -> Access {
     }
 }
 
-fn entry_of(alloc: Global, given: Given) -> Result<Entry, AllocError>
+pub(crate) fn entry_of(alloc: Global, given: Given) -> Result<Entry, AllocError>
     ensures { IfOk result (λ e. (v : TermsValue) → IsDeclared v e) }
 {
     match given {
