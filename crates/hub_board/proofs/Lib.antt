@@ -1,0 +1,5 @@
+mod Chains
+pub mod Filing
+pub mod Seen
+pub mod Stepping
+mod Worked

@@ -1,0 +1,10 @@
+use Rattle.std.proofs.Common.{refl}
+use Rattle.hub_core.specs.declared.events.Call.TheVariants.{Close}
+use Rattle.hub_board.proofs.Stepping.{told_more, closed_idle}
+use Rattle.hub_board.proofs.board.HubBoard.close.Goals as goal
+
+pub returns-clause-told : goal.returns-clause-told
+returns-clause-told g c = told_more c.args.self.now c.step.new.self (Close c.args.cube c.args.at) c.in-Ok.field-0 refl c.in-Ok.ensures.step
+
+pub returns-clause-idle : goal.returns-clause-idle
+returns-clause-idle g c = closed_idle c.args.self.now c.step.new.self c.args.cube c.args.at c.in-Ok.field-0 c.in-Ok.ensures.same.0 c.in-Ok.ensures.same.2.2 c.requires.busy c.in-Ok.ensures.step

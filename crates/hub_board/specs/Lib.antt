@@ -1,0 +1,4 @@
+pub mod Chains
+pub mod Filing
+pub mod Boards
+pub mod Cubes
