@@ -92,7 +92,7 @@ makes_one s r = of_step s (MakesOne s) (record {
 abbrev Known : StateValue → Reading → StateValue → Answer → Type 0
 Known s r new (Refused e) = new ≡ s
 Known s r new Model = (s.standing ≡ Some Sat) × (s.options.produce_models ≡ true)
-Known s r new (Values asked) = (s.standing ≡ Some Sat) × (s.options.produce_models ≡ true) × ((tokens : List Lexeme) × (es : Sexps) × (w : TermsValue) × (asking value_objection s.symbols s.terms tokens [] es ≡ Ok (asked, w)) × (new ≡ (valuing_by s asked w (Some Sat)).1))
+Known s r new (Values asked) = (s.standing ≡ Some Sat) × (s.options.produce_models ≡ true) × ((tokens : List Lexeme) × (es : Sexps) × (w : TermsValue) × (asking (value_objection s.symbols.theories) s.symbols s.terms tokens [] es ≡ Ok (asked, w)) × (new ≡ (valuing_by s asked w (Some Sat)).1))
 Known s r new Core = (s.standing ≡ Some Unsat) × (s.options.produce_unsat_cores ≡ true) × (new ≡ s)
 Known s r new Assumptions = (s.standing ≡ Some Unsat) × ((asked : List Asked) × (s.assumed ≡ Some asked)) × (s.options.produce_unsat_assumptions ≡ true) × (new ≡ s)
 Known s r new Exit = ends r ≡ true

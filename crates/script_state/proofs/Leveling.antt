@@ -20,9 +20,9 @@ use Rattle.smt_build.specs.Names.{SymbolsValue, Meanings, emptied, popped_to, po
 use Rattle.smt_build.proofs.Uses.{bodies_take}
 use Rattle.script_state.specs.declared.answer.Verdict.{Verdict}
 use Rattle.script_state.specs.declared.options.Options.{Options}
-use Rattle.script_state.specs.Plain.{is_plain}
-use Rattle.script_state.specs.States.{StateValue, AreLive, IsPlainConstant, IsPlainName, IsState, no_state}
-use Rattle.script_state.proofs.Asserting.{none_assumed, opted_state}
+use Rattle.script_state.specs.Plain.{is_decided}
+use Rattle.script_state.specs.States.{StateValue, AreLive, IsTaken, IsTakenName, IsState, start_of}
+use Rattle.script_state.proofs.Asserting.{none_assumed, none_decided, none_asked, opted_state}
 use Rattle.script_state.proofs.Closing.{closed_none}
 use Rattle.script_state.proofs.Standing.{within_all, begun, ended, levels_begun, levels_ended}
 
@@ -84,7 +84,6 @@ begun_state v n w is o s e =
       terms = is.terms;
       scopes = more_are v.scopes n is.scopes p.0;
       live = record { rising = is.live.rising; made = is.live.made };
-      theories = is.theories;
       constants = is.constants;
       declared = is.declared;
       bodies = is.bodies;
@@ -92,6 +91,7 @@ begun_state v n w is o s e =
       held = is.held;
       truths = is.truths;
       plain = is.plain;
+      asked = none_decided v.symbols.theories v.terms.nodes;
       closed = is.closed;
       levels = levels_begun v n is o s;
       assumed = none_assumed v.terms.nodes v.symbols.live;
@@ -99,10 +99,10 @@ begun_state v n w is o s e =
 
 -- ---- end
 
-names_take : (k : ℕ) (ms : Meanings Sort) → AllByRecursion IsPlainName ms → AllByRecursion IsPlainName (take k ms)
-names_take zero ms h = tt
-names_take (suc k) [] h = tt
-names_take (suc k) (m ∷ ms) h = (h.0, names_take k ms h.1)
+names_take : (theories : Bool) (k : ℕ) (ms : Meanings Sort) → AllByRecursion (IsTakenName theories) ms → AllByRecursion (IsTakenName theories) (take k ms)
+names_take theories zero ms h = tt
+names_take theories (suc k) [] h = tt
+names_take theories (suc k) (m ∷ ms) h = (h.0, names_take theories k ms h.1)
 
 live_take : (v : SymbolsValue) (n : ℕ) (w : SymbolsValue) → AreLive v → n ≤ length v.live → w.live ≡ take n v.live → w.signatures ≡ v.signatures → AreLive w
 live_take v n w are le live signatures = record {
@@ -121,14 +121,14 @@ to_level v k l is o s le here =
       terms = is.terms;
       scopes = fewer_levels v.scopes.levels k v.scopes.made v.scopes.terms v.scopes.live (made_within k v.scopes.live) is.scopes le refl;
       live = live_take v.symbols l.names _ is.live level.names refl refl;
-      theories = is.theories;
       constants = is.constants;
       declared = is.declared;
       bodies = bodies_take (length v.terms.nodes) l.definitions v.symbols.definitions is.bodies;
-      sorts = names_take l.sorts v.symbols.sorts is.sorts;
+      sorts = names_take v.symbols.theories l.sorts v.symbols.sorts is.sorts;
       held = All-filter (λ (a : Live). nat_le a.level k) (λ (a : Live). a.term < length v.terms.nodes) v.scopes.live is.held;
       truths = All-filter (λ (a : Live). nat_le a.level k) (λ (a : Live). sort_of v.terms.nodes a.term ≡ sort.Bool) v.scopes.live is.truths;
-      plain = All-filter (λ (a : Live). nat_le a.level k) (λ (a : Live). is_plain v.terms.nodes a.term ≡ true) v.scopes.live is.plain;
+      plain = All-filter (λ (a : Live). nat_le a.level k) (λ (a : Live). is_decided v.symbols.theories v.terms.nodes a.term ≡ true) v.scopes.live is.plain;
+      asked = none_decided v.symbols.theories v.terms.nodes;
       closed = level.closed;
       levels = levels_ended v k l is here o s;
       assumed = none_assumed v.terms.nodes (take l.names v.symbols.live);
@@ -154,7 +154,7 @@ left_state v n is o s le =
 
     go : (l : Option Level) → slice_get v.symbols.levels (v.scopes.levels - n) ≡ l → IsState (record { symbols = popped_to v.symbols (v.scopes.levels - n) l; terms = v.terms; scopes = fewer v.scopes n; options = o; standing = s; assumed = None })
     go (Some l) e = to_level v (v.scopes.levels - n) l is o s (omega arith) e
-    go None e = rw (none_ends e, within_all v.scopes.levels v.scopes.live is.scopes.standing) (opted_state v o s None is (none_assumed v.terms.nodes v.symbols.live))
+    go None e = rw (none_ends e, within_all v.scopes.levels v.scopes.live is.scopes.standing) (opted_state v o s None is (none_asked v))
 
 pub ended_state : (v : StateValue) (n : ℕ) (w : ScopesValue) → IsState v → (o : Options) (s : Option Verdict) → popped v.scopes n ≡ Ok w → IsState (record { symbols = symbols_popped v.symbols n; terms = v.terms; scopes = w; options = o; standing = s; assumed = None })
 ended_state v n w is o s e = let p = popped_is v.scopes w n e in rw p.1 (left_state v n is o s p.0)
@@ -180,14 +180,14 @@ emptied_state v o is = record {
     within = omega arith;
   };
   live = record { rising = λ i j d lt within. absurd (omega (arith, within)); made = All-nil (λ (l : LiveName). l.declaration < length v.symbols.signatures) };
-  theories = is.theories;
   constants = is.constants;
   declared = is.declared;
   bodies = tt;
   sorts = tt;
   held = All-nil (λ (a : Live). a.term < length v.terms.nodes);
   truths = All-nil (λ (a : Live). sort_of v.terms.nodes a.term ≡ sort.Bool);
-  plain = All-nil (λ (a : Live). is_plain v.terms.nodes a.term ≡ true);
+  plain = All-nil (λ (a : Live). is_decided v.symbols.theories v.terms.nodes a.term ≡ true);
+  asked = none_decided v.symbols.theories v.terms.nodes;
   closed = closed_none v.terms.nodes;
   levels = record { count = refl; rising = λ i j d lt within. absurd (omega (arith, within)); each = λ k l e. absurd (omega (arith, slice_get_within [] k l e)) };
   assumed = none_assumed v.terms.nodes [];
@@ -195,8 +195,8 @@ emptied_state v o is = record {
 
 -- ---- the first state
 
-pub first_state : IsState no_state
-first_state = record {
+pub first_state : (theories : Bool) → IsState (start_of theories)
+first_state theories = record {
   terms = λ t lt. absurd (omega (arith, lt));
   scopes = record {
     numbered = λ i j d lt within. absurd (omega (arith, within));
@@ -208,14 +208,14 @@ first_state = record {
     within = omega arith;
   };
   live = record { rising = λ i j d lt within. absurd (omega (arith, within)); made = All-nil (λ (l : LiveName). l.declaration < 0) };
-  theories = refl;
-  constants = All-nil IsPlainConstant;
+  constants = All-nil (IsTaken theories);
   declared = record { each = λ t d e. absurd (none_declared t d e) };
   bodies = tt;
   sorts = tt;
   held = All-nil (λ (a : Live). a.term < 0);
   truths = All-nil (λ (a : Live). sort_of [] a.term ≡ sort.Bool);
-  plain = All-nil (λ (a : Live). is_plain [] a.term ≡ true);
+  plain = All-nil (λ (a : Live). is_decided theories [] a.term ≡ true);
+  asked = none_decided theories [];
   closed = closed_none [];
   levels = record { count = refl; rising = λ i j d lt within. absurd (omega (arith, within)); each = λ k l e. absurd (omega (arith, slice_get_within [] k l e)) };
   assumed = none_assumed [] [];

@@ -1,11 +1,11 @@
 -- Whether functions and arrays are read stays from step to step, and where they are not, all is of Bools and words.
-use Rattle.std.proofs.Common.{◌≡◌, true, false, refl, ap}
-use Rattle.std.specs.Prelude.{All}
+use Rattle.std.proofs.Common.{◌≡◌, ℕ, true, false, get_or, refl, ap, subst}
+use Rattle.std.specs.Prelude.{All, ◌||◌}
 use Rattle.scope_selectors.specs.declared.live.Live.{Live}
 use Rattle.smt_build.specs.Names.{SymbolsValue}
 use Rattle.smt_build.proofs.Theories.{declare_theories, sort_theories, define_theories, pop_theories}
 use Rattle.script_state.specs.declared.answer.Asked.{Asked}
-use Rattle.script_state.specs.Plain.{is_plain}
+use Rattle.script_state.specs.Plain.{is_plain, is_decided}
 use Rattle.script_state.specs.Readings.{Reading}
 use Rattle.script_state.specs.States.{StateValue, assumptions, IsState, IsPlainConstant}
 use Rattle.script_state.specs.Steps.{Step, step}
@@ -40,10 +40,13 @@ theories_stay s r = of_step s (Stays s) (record {
 
 module _ (s : StateValue) (is : IsState s) (off : s.symbols.theories ≡ false) where
   pub word_constants : All IsPlainConstant s.symbols.signatures
-  word_constants = is.constants
+  word_constants k d lt = (is.constants k d lt).words off
+
+  plain_here : (t : ℕ) → is_decided s.symbols.theories s.terms.nodes t ≡ true → is_plain s.terms.nodes t ≡ true
+  plain_here t h = subst (λ b. (b || is_plain s.terms.nodes t) ≡ true) off h
 
   pub word_terms : All (λ (a : Live). is_plain s.terms.nodes a.term ≡ true) s.scopes.live
-  word_terms = is.plain
+  word_terms k d lt = plain_here (get_or s.scopes.live k d).term (is.plain k d lt)
 
   pub word_assumptions : All (λ (a : Asked). is_plain s.terms.nodes a.term ≡ true) (assumptions s)
-  word_assumptions k d lt = (is.assumed k d lt).plain
+  word_assumptions k d lt = plain_here (get_or (assumptions s) k d).term (is.asked k d lt)

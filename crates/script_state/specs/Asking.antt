@@ -1,5 +1,5 @@
 -- How terms that a command asks for are answered.
-use Rattle.std.specs.Prelude.{◌≡◌, ℕ, List, [], ◌∷◌, ◌++◌, Option, Result, Ok, Err}
+use Rattle.std.specs.Prelude.{◌≡◌, ℕ, Bool, List, [], ◌∷◌, ◌++◌, Option, Result, Ok, Err}
 use Rattle.smt_terms.specs.declared.node.Node.{Node}
 use Rattle.smt_terms.specs.Terms.{TermsValue}
 use Rattle.script_state.specs.declared.answer.Asked.{Asked}
@@ -11,9 +11,9 @@ use Rattle.script_state.specs.declared.error_text.ErrorText.{ErrorText}
 use Rattle.script_state.specs.Steps.{Asking, objection, value_objection}
 
 -- why a term cannot be asked for
-abbrev pub object_to : Purpose → List Node → ℕ → Option ErrorText
-object_to Assume = objection
-object_to Evaluate = value_objection
+abbrev pub object_to : Bool → Purpose → List Node → ℕ → Option ErrorText
+object_to theories Assume = objection theories
+object_to theories Evaluate = value_objection theories
 
 -- The answer is the term that is asked for behind those found before, with the terms then, or the error.
 abbrev pub AsksOne : Asking → List Asked → List ℕ → Result ℕ AskError → TermsValue → Type 0

@@ -45,6 +45,7 @@ pub(crate) enum AskError {
 
 /// Why a term cannot be asked for, `None` exactly where it can.
 fn object(
+    theories: bool,
     terms: &Terms,
     marks: &mut Vec<bool>,
     term: TermId,
@@ -52,12 +53,12 @@ fn object(
 ) -> Result<Option<ErrorText>, AllocError>
     requires held { term < length terms.now.nodes }
     requires marks { HavePlain terms.now.nodes marks.old.items }
-    ensures objection { IfOk result (λ o. o ≡ object_to purpose terms.now.nodes term) }
+    ensures objection { IfOk result (λ o. o ≡ object_to theories purpose terms.now.nodes term) }
     ensures marks { HavePlain terms.now.nodes marks.new.items }
 {
     match purpose {
-        Purpose::Assume => objection(terms, marks, term),
-        Purpose::Evaluate => value_objection(terms, marks, term),
+        Purpose::Assume => objection(theories, terms, marks, term),
+        Purpose::Evaluate => value_objection(theories, terms, marks, term),
     }
 }
 
@@ -77,7 +78,7 @@ fn ask_one(
     requires marks { HavePlain terms.old.nodes marks.old.items }
     requires stands { (e : Sexp) × Stands (signs_of tokens.now) span e }
     ensures asks { (e : Sexp) → Stands (signs_of tokens.now) span e → (found : List Asked) (text : List ℕ)
-        → AsksOne (asking_built (object_to purpose) found text (term_of symbols.now terms.old e)) found text result terms.new }
+        → AsksOne (asking_built (object_to symbols.now.theories purpose) found text (term_of symbols.now terms.old e)) found text result terms.new }
     ensures grows { Grows symbols.now.signatures terms.old terms.new }
     ensures marks { HavePlain terms.new.nodes marks.new.items }
 {
@@ -86,7 +87,7 @@ fn ask_one(
         Err(BuildError::NoMemory) => return Err(AskError::NoMemory),
         Err(BuildError::Fault(fault)) => return Err(AskError::Refused(build_error(fault))),
     };
-    match object(terms, marks, term, purpose) {
+    match object(symbols.reads_theories(), terms, marks, term, purpose) {
         Ok(None) => Ok(term),
         Ok(Some(error)) => Err(AskError::Refused(error)),
         Err(_) => Err(AskError::NoMemory),
@@ -112,7 +113,7 @@ fn ask_all(
     requires stand { (es : Sexps) × AllStand (signs_of tokens.now) spans.now es }
     requires first { first ≤ length items.now }
     ensures asks { (es : Sexps) → AllStand (signs_of tokens.now) spans.now es
-        → Asks (asking (object_to purpose) symbols.now terms.old (lexemes_of (drop first items.now)) [] es) result terms.new }
+        → Asks (asking (object_to symbols.now.theories purpose) symbols.now terms.old (lexemes_of (drop first items.now)) [] es) result terms.new }
     ensures grows { Grows symbols.now.signatures terms.old terms.new }
     ensures marks { HavePlain terms.new.nodes marks.new.items }
 {
@@ -156,7 +157,7 @@ pub(crate) fn ask(
     requires marks { HavePlain terms.old.nodes marks.old.items }
     requires stands { (es : Sexps) × Stands (signs_of tokens.now) list (group es) }
     ensures asks { (es : Sexps) → Stands (signs_of tokens.now) list (group es)
-        → Asks (asking (object_to purpose) symbols.now terms.old (listed tokens.now) [] es) result terms.new }
+        → Asks (asking (object_to symbols.now.theories purpose) symbols.now terms.old (listed tokens.now) [] es) result terms.new }
     ensures grows { Grows symbols.now.signatures terms.old terms.new }
     ensures marks { HavePlain terms.new.nodes marks.new.items }
 {

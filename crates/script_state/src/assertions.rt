@@ -120,6 +120,7 @@ impl State {
     {
         let len = self.terms.len();
         let count = self.symbols.definition_count();
+        let theories = self.symbols.reads_theories();
         let name = name_at(alloc, tokens, span)?;
         let term = match self
             .symbols
@@ -129,7 +130,7 @@ impl State {
             Err(BuildError::NoMemory) => return Err(AllocError),
             Err(BuildError::Fault(fault)) => return Ok(Answer::Refused(build_error(fault))),
         };
-        match objection(&self.terms, &mut self.plain, term) {
+        match objection(theories, &self.terms, &mut self.plain, term) {
             Ok(None) => {}
             Ok(Some(error)) => {
                 self.symbols.cut_definitions(count);

@@ -10,7 +10,8 @@
 //! once it ends), options and information, `echo`, `get-model`, `get-value`, cores, unsat assumptions and `exit`. A line that
 //! a command says is part of its answer; a model, values, names and assumptions that are to be printed, and `exit`, are
 //! answers of their own, which the session prints and ends by. [`state::State::forget`] forgets the terms whose values were
-//! printed. [`state::State::into_parts`] lends the terms to a log whose steps make terms. The crate stands on `smt_build` and
+//! printed. A state that is made by `with_theories` takes functions with arguments, arrays, and checks of them too.
+//! [`state::State::into_parts`] lends the terms to a log whose steps make terms. The crate stands on `smt_build` and
 //! `scope_selectors`, and on the crates that these stand on.
 #![tactic(auto)]
 
@@ -33,6 +34,8 @@ mod session_tests;
 pub mod state;
 #[cfg(test)]
 mod tests;
+#[cfg(test)]
+mod theory_tests;
 mod whole;
 mod word;
 #[cfg(test)]

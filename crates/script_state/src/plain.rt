@@ -89,15 +89,19 @@ fn extend(marks: &mut Vec<bool>, terms: &Terms) -> Result<(), AllocError>
 
 /// Why a term's value cannot be told, `None` exactly where it can.
 pub(crate) fn value_objection(
+    theories: bool,
     terms: &Terms,
     marks: &mut Vec<bool>,
     term: TermId,
 ) -> Result<Option<ErrorText>, AllocError>
     requires held { term < length terms.now.nodes }
     requires marks { HavePlain terms.now.nodes marks.old.items }
-    ensures objection { IfOk result (λ o. o ≡ value_objection terms.now.nodes term) }
+    ensures objection { IfOk result (λ o. o ≡ value_objection theories terms.now.nodes term) }
     ensures marks { HavePlain terms.now.nodes marks.new.items }
 {
+    if theories {
+        return Ok(None);
+    }
     extend(marks, terms)?;
     if is_marked(marks, term) {
         return Ok(None);
@@ -107,19 +111,20 @@ pub(crate) fn value_objection(
 
 /// Why a term cannot be asserted, `None` exactly where it can.
 pub(crate) fn objection(
+    theories: bool,
     terms: &Terms,
     marks: &mut Vec<bool>,
     term: TermId,
 ) -> Result<Option<ErrorText>, AllocError>
     requires held { term < length terms.now.nodes }
     requires marks { HavePlain terms.now.nodes marks.old.items }
-    ensures objection { IfOk result (λ o. o ≡ objection terms.now.nodes term) }
+    ensures objection { IfOk result (λ o. o ≡ objection theories terms.now.nodes term) }
     ensures marks { HavePlain terms.now.nodes marks.new.items }
 {
     if terms.sort(term) != Sort::Bool {
         return Ok(Some(ErrorText::WrongArguments));
     }
-    value_objection(terms, marks, term)
+    value_objection(theories, terms, marks, term)
 }
 
 /// Forgets the terms from this number on.

@@ -224,13 +224,26 @@ fn first_not_done(
     Ok(None)
 }
 
-/// A session that begins with nothing does each of the steps.
-pub(crate) fn walk(rt: &(impl Abort + AllocGlobal), steps: &[Step]) -> Result<(), Fail> {
-    let mut state = State::new(rt.alloc());
+/// A session that begins with this state does each of the steps.
+fn walk_from(
+    rt: &(impl Abort + AllocGlobal),
+    mut state: State,
+    steps: &[Step],
+) -> Result<(), Fail> {
     let failed = first_not_done(rt.alloc(), &mut state, steps);
     drop(state);
     if let Some(at) = failed? {
         panic!(rt; "step {at}");
     }
     Ok(())
+}
+
+/// A session that begins with nothing does each of the steps.
+pub(crate) fn walk(rt: &(impl Abort + AllocGlobal), steps: &[Step]) -> Result<(), Fail> {
+    walk_from(rt, State::new(rt.alloc()), steps)
+}
+
+/// The same, where functions and arrays are read.
+pub(crate) fn walk_theories(rt: &(impl Abort + AllocGlobal), steps: &[Step]) -> Result<(), Fail> {
+    walk_from(rt, State::with_theories(rt.alloc()), steps)
 }

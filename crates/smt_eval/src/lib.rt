@@ -6,6 +6,8 @@
 //! gives the term. The crate stands on the values and interpretations of `smt_values`, and on `term_reach`.
 #![tactic(auto)]
 
+#[cfg(test)]
+mod application_tests;
 mod arrays;
 pub mod asked;
 mod evaluate;

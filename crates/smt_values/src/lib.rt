@@ -19,5 +19,6 @@ pub mod value;
 
 pub use array::ArrayValue;
 pub use interp::Interp;
+pub use order::compare;
 pub use table::{FunTable, Row, Scalars};
 pub use value::Value;

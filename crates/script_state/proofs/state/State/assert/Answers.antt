@@ -19,7 +19,7 @@ objection-requires-clause-marks c = plain_grows _ _ _ _ c.in-Ok.ensures.grows c.
 pub invariant_of-self-in-Ok-assert : goal.invariant_of-self-in-Ok-assert
 invariant_of-self-in-Ok-assert c =
     let v : StateValue = record { symbols = c.self.inside.symbols; terms = c.self.inside.terms; scopes = c.self.inside.scopes; options = c.self.inside.options; standing = c.self.inside.standing; assumed = c.self.inside.assumed } in
-    let goes = asserted_goes_on v c.self.invariant.0 c.in_ok-name.name _ _ _ _ (c.in-Ok.ensures.asserts c.requires.stands.0 c.requires.stands.1) (sym (rw c.in-Ok-None.field-0-is at c.in-Ok-None.ensures.objection)) in
+    let goes = asserted_goes_on v c.self.invariant.0 c.in_ok-name.name _ _ _ _ (c.in-Ok.ensures.asserts c.requires.stands.0 c.requires.stands.1) (sym (rw (c.in-Ok-None.field-0-is, c.reads_theories-theories.ensures) at c.in-Ok-None.ensures.objection)) in
     (rw c.in-Ok-assert.ensures.ok goes.state, c.objection.ensures.marks)
 
 pub invariant_of-self-in-Ok-Some : goal.invariant_of-self-in-Ok-Some
@@ -47,7 +47,7 @@ returns-in-Ok-Some c = λ e stands.
     let back = cut_back _ _ _ _ _ c.in-Ok.ensures.grows c.len-len.ensures.length c.cut.ensures.terms in
     let names = names_back _ _ _ _ _ _ _ _ (c.in-Ok.ensures.asserts e stands) c.definition_count-count.ensures c.cut_definitions.ensures in
     subst (λ (s : StateValue). ◌≡◌ {A = Step} (asserting s (name_of_assertion e) (assertion s.symbols s.terms e)) (Refused c.in-Ok-Some.error, new)) c.self.view_is
-    (asserting_refused v new (name_of_assertion e) e _ _ _ _ (c.in-Ok.ensures.asserts e stands) (sym (rw c.in-Ok-Some.field-0-is at c.in-Ok-Some.ensures.objection)) (rw (names, back) refl))
+    (asserting_refused v new (name_of_assertion e) e _ _ _ _ (c.in-Ok.ensures.asserts e stands) (sym (rw (c.in-Ok-Some.field-0-is, c.reads_theories-theories.ensures) at c.in-Ok-Some.ensures.objection)) (rw (names, back) refl))
 
 pub returns-in-Err : goal.returns-in-Err
 returns-in-Err c = λ e stands.
