@@ -1,9 +1,9 @@
 -- Answers are right where turns follow one after the other.
-use Rattle.std.proofs.Common.{◌≡◌, List, [], ◌∷◌, ◌++◌, sym, subst, append-nil, Option, Some, None}
+use Rattle.std.proofs.Common.{◌≡◌, Bool, List, [], ◌∷◌, ◌++◌, sym, subst, append-nil, Option, Some, None}
 use Rattle.script_state.specs.declared.answer.Answer.{Answer}
 use Rattle.script_state.specs.declared.answer.Answer.TheVariants.{Done, Refused, Check, Says, Model, Values, Core, Assumptions, Exit}
 use Rattle.script_state.specs.declared.answer.Asked.{Asked}
-use Rattle.script_state.specs.States.{StateValue, no_state}
+use Rattle.script_state.specs.States.{StateValue, start_of, no_state}
 use Rattle.script_state.specs.Steps.{step}
 use Rattle.proof_log.specs.declared.entry.Entry.{Entry}
 use Rattle.proof_text.specs.declared.record.Record.{Record}
@@ -11,7 +11,7 @@ use Rattle.proof_text.specs.declared.record.Record.TheVariants.{Sat, Unsat, Unkn
 use Rattle.accepted_proof.specs.Searching.{Limits}
 use Rattle.accepted_proof.specs.Turns.{Turn, HasProof, IsTurn, AreTurns, AreStepsOf, with_steps, concluded_by, state_after}
 use Rattle.accepted_proof.specs.Right.{IsRight, AreRight}
-use Rattle.accepted_proof.proofs.Reaching.{IsReached, reached_by_command, reached_by_record, reached_by_steps, reached_first}
+use Rattle.accepted_proof.proofs.Reaching.{IsReached, reached_by_command, reached_by_record, reached_by_steps, reached_start, reached_first}
 use Rattle.accepted_proof.proofs.Refuting.{refuted}
 use Rattle.accepted_proof.proofs.Settling.{settled_by}
 
@@ -60,6 +60,9 @@ pub turns_are_right : (limits : Limits) (s : StateValue) (log : List Entry) (tur
 turns_are_right limits s log [] reached are = tt
 turns_are_right limits s log (t ∷ ts) reached are =
     (shows_right limits t.answer (step s t.says).1 log t.steps t.shown (reached_by_command s log t.says reached) are.0.proof, turns_are_right limits (state_after s t) (log ++ t.steps) ts (reached_by_turn limits s log t reached are.0) are.1)
+
+pub start_turns_are_right : (theories : Bool) (limits : Limits) (turns : List Turn) → AreTurns limits (start_of theories) [] turns → AreRight (start_of theories) turns
+start_turns_are_right theories limits turns are = turns_are_right limits (start_of theories) [] turns (reached_start theories) are
 
 pub first_turns_are_right : (limits : Limits) (turns : List Turn) → AreTurns limits no_state [] turns → AreRight no_state turns
 first_turns_are_right limits turns are = turns_are_right limits no_state [] turns reached_first are

@@ -1,24 +1,24 @@
 -- The first lines of a proof, where none is bad, are those of turns of the first commands.
-use Rattle.std.proofs.Common.{◌≡◌, ℕ, List, [], map, Option, Some, None, sym, subst, append-nil}
+use Rattle.std.proofs.Common.{◌≡◌, ℕ, Bool, List, [], map, Option, Some, None, sym, subst, append-nil}
 use Rattle.std.specs.List.{flat_map}
 use Rattle.smt_text.specs.declared.chunk.Chunk.{Chunk}
-use Rattle.script_state.specs.States.{no_state, IsState}
+use Rattle.script_state.specs.States.{start_of, IsState}
 use Rattle.script_state.specs.Readings.{Reading}
 use Rattle.proof_text.specs.declared.line.Line.{Line}
 use Rattle.accepted_proof.specs.Searching.{Limits, AreLimits}
 use Rattle.accepted_proof.specs.Turns.{Turn}
 use Rattle.accepted_proof.specs.Answers.{turn_lines, proof_of}
-use Rattle.accepted_proof.specs.Accepted.{IsFront, AcceptedSoFar}
-use Rattle.accepted_proof.specs.Judged.{no_judging, Judged, ReadEach}
+use Rattle.accepted_proof.specs.Accepted.{IsFront, AcceptedSoFarFrom}
+use Rattle.accepted_proof.specs.Judged.{judging_from, Judged, ReadEach}
 use Rattle.accepted_proof.proofs.Completing.{judged_turns}
 use Rattle.accepted_proof.proofs.Fronts.{front_fewer}
-use Rattle.accepted_proof.proofs.Reaching.{reached_first}
+use Rattle.accepted_proof.proofs.Reaching.{reached_start}
 use Rattle.accepted_proof.proofs.Good.{states_keep}
 
-pub judged_begins : (limits : Limits) (script : List ℕ) (chunks : List Chunk) (says : List Reading) (lines : List (Option Line)) → AreLimits limits → IsFront script chunks → ReadEach chunks says → Judged (no_judging limits) says lines None
-    → (turns : List Turn) × (lines ≡ map (λ l. Some l) (flat_map turn_lines turns)) × AcceptedSoFar limits script (proof_of limits turns) turns
-judged_begins limits script chunks says lines allowed front read h =
-    let t = judged_turns IsState states_keep limits chunks says lines no_state [] 2 reached_first.state read h in (
+pub judged_begins : (theories : Bool) (limits : Limits) (script : List ℕ) (chunks : List Chunk) (says : List Reading) (lines : List (Option Line)) → AreLimits limits → IsFront script chunks → ReadEach chunks says → Judged (judging_from (start_of theories) limits) says lines None
+    → (turns : List Turn) × (lines ≡ map (λ l. Some l) (flat_map turn_lines turns)) × AcceptedSoFarFrom (start_of theories) limits script (proof_of limits turns) turns
+judged_begins theories limits script chunks says lines allowed front read h =
+    let t = judged_turns IsState states_keep limits chunks says lines (start_of theories) [] 2 (reached_start theories).state read h in (
       t.turns,
       t.lines,
       record {

@@ -20,6 +20,8 @@ use Rattle.script_state.specs.declared.answer.Answer.TheVariants as answer
 use Rattle.script_state.specs.declared.answer.Asked.{Asked}
 use Rattle.script_state.specs.States.{StateValue, concluded, all_asked}
 use Rattle.script_state.specs.Steps.{step, settled, ends}
+use Rattle.theory_terms.specs.declared.lemma.Lemma.{Lemma}
+use Rattle.theory_terms.specs.declared.lemma.Lemma.TheVariants as lemma
 use Rattle.proof_log.specs.declared.entry.Entry.{Entry}
 use Rattle.proof_log.specs.declared.entry.Entry.TheVariants as entry
 use Rattle.proof_text.specs.declared.line.Head.{Head}
@@ -27,7 +29,7 @@ use Rattle.proof_text.specs.declared.line.Line.{Line}
 use Rattle.proof_text.specs.declared.line.Line.TheVariants as line
 use Rattle.proof_text.specs.declared.record.Record.{Record}
 use Rattle.proof_text.specs.declared.record.Record.TheVariants as shown
-use Rattle.proof_text.specs.Entries.{head_of, entry_line}
+use Rattle.proof_text.specs.Entries.{head_of, lemma_line, entry_line}
 use Rattle.proof_text.specs.Records.{written_value, value_lines, diary_line, record_lines}
 use Rattle.accepted_proof.specs.declared.refusal.Refusal.{Refusal}
 use Rattle.proof_log.specs.declared.diary.DiaryLine.{DiaryLine}
@@ -38,7 +40,7 @@ use Rattle.proof_log.specs.Diaries as diaries
 use Rattle.script_state.specs.declared.answer.Verdict.TheVariants as verdict
 use Rattle.accepted_proof.specs.Searching.{Limits, IsSearch, IsUnknown, subject_of}
 use Rattle.accepted_proof.specs.Models.{interpretation_of, IsModel, IsOfSignature, IsWrittenModel}
-use Rattle.accepted_proof.specs.Turns.{Turn, AreTurns, IsOfScript, AreStepsOf, IsShown, IsAgainstOne, IsRefutation, HasProof, with_step, with_steps, verdict_of, concluded_by, state_after}
+use Rattle.accepted_proof.specs.Turns.{Turn, AreTurns, AreStepsOf, IsShown, IsAgainstOne, IsRefutation, HasProof, with_step, with_steps, verdict_of, concluded_by, state_after}
 use Rattle.accepted_proof.specs.Answers.{shown_lines, step_lines, turn_lines}
 use Rattle.accepted_proof.specs.Accepted.{EndLast}
 use Rattle.accepted_proof.proofs.Settling.{settled_by}
@@ -174,10 +176,10 @@ is_step (line.Leaf t) = true
 is_step (line.Encode t) = true
 is_step (line.Selector a) = true
 is_step (line.Chain c hs) = true
-is_step (line.Equal t u) = false
-is_step (line.Congruence t u) = false
-is_step (line.Witness t) = false
-is_step (line.Accesses a b) = false
+is_step (line.Equal t u) = true
+is_step (line.Congruence t u) = true
+is_step (line.Witness t) = true
+is_step (line.Accesses a b) = true
 is_step (line.Sat n) = false
 is_step (line.Value d v) = false
 is_step (line.Unsat p) = false
@@ -194,14 +196,18 @@ term_steps : (o : Option Head) (args : List ℕ) → is_step_in (option_map (λ 
 term_steps None args = refl
 term_steps (Some h) args = refl
 
-entry_steps : (s : StateValue) (e : Entry) → IsOfScript s e → is_step_in (entry_line e) ≡ true
-entry_steps s (entry.Node n) i = term_steps (head_of n.op) n.args
-entry_steps s (entry.Equal t u) i = absurd i
-entry_steps s (entry.Lemma l) i = absurd i
-entry_steps s e i = refl
+lemma_steps : (l : Lemma) → is_step (lemma_line l) ≡ true
+lemma_steps (lemma.Congruence t u) = refl
+lemma_steps (lemma.Witness t) = refl
+lemma_steps (lemma.Arrays a b) = refl
 
-pub line_steps : (s : StateValue) (e : Entry) (l : Line) → IsOfScript s e → entry_line e ≡ Some l → is_step l ≡ true
-line_steps s e l i h = ap is_step_in (sym h) ∙ entry_steps s e i
+entry_steps : (e : Entry) → is_step_in (entry_line e) ≡ true
+entry_steps (entry.Node n) = term_steps (head_of n.op) n.args
+entry_steps (entry.Lemma l) = lemma_steps l
+entry_steps e = refl
+
+line_steps : (e : Entry) (l : Line) → entry_line e ≡ Some l → is_step l ≡ true
+line_steps e l h = ap is_step_in (sym h) ∙ entry_steps e
 
 steps_by : (j : Judging) (l : Line) (k : Judging) → is_step l ≡ true → StepsBy j l k → AtStep j l k
 steps_by j (line.Header c b) k e h = let f : ⊥ = cc in absurd f
@@ -210,10 +216,10 @@ steps_by j (line.Leaf t) k e h = h
 steps_by j (line.Encode t) k e h = h
 steps_by j (line.Selector a) k e h = h
 steps_by j (line.Chain c hs) k e h = h
-steps_by j (line.Equal t u) k e h = let f : ⊥ = cc in absurd f
-steps_by j (line.Congruence t u) k e h = let f : ⊥ = cc in absurd f
-steps_by j (line.Witness t) k e h = let f : ⊥ = cc in absurd f
-steps_by j (line.Accesses a b) k e h = let f : ⊥ = cc in absurd f
+steps_by j (line.Equal t u) k e h = h
+steps_by j (line.Congruence t u) k e h = h
+steps_by j (line.Witness t) k e h = h
+steps_by j (line.Accesses a b) k e h = h
 steps_by j (line.Sat n) k e h = let f : ⊥ = cc in absurd f
 steps_by j (line.Value d v) k e h = let f : ⊥ = cc in absurd f
 steps_by j (line.Unsat p) k e h = let f : ⊥ = cc in absurd f
@@ -329,7 +335,7 @@ module _ (limits : Limits) where
       (subst (λ l. Rest (concluded (with_steps s (e ∷ es)) (verdict_of r)) l cs ls) assoc rest) in
       let is_step_of : IsStepOf s log w.0 e = record { written = w.1; script = a.1; valid = a.0 } in
       subst (λ o. Judged j cs (lines_before ls ((option_to_list o ++ step_lines es) ++ record_lines r)) None) (sym w.1)
-      (judged_line j (stepped j e) cs (Some w.0) (lines_before ls (step_lines es ++ record_lines r)) None refl (steps_by j w.0 (stepped j e) (line_steps s e w.0 a.1 w.1) (inl (e, is_step_of, refl))) after)
+      (judged_line j (stepped j e) cs (Some w.0) (lines_before ls (step_lines es ++ record_lines r)) None refl (steps_by j w.0 (stepped j e) (line_steps e w.0 w.1) (inl (e, is_step_of, refl))) after)
 
   -- ---- turns
 

@@ -14,6 +14,8 @@ pub mod Beginning
 pub mod Good
 -- Lemmas of the law on split variables.
 pub mod Splitting
+-- Lemmas of the texts of values.
+pub mod Pieces
 -- Lemmas of the law on what is printed.
 pub mod Standing
 -- Lemmas of the interpretation that values give.

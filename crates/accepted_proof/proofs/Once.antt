@@ -2,7 +2,7 @@
 use Rattle.std.proofs.Common.{◌≡◌, ℕ, zero, suc, ◌+◌, ◌*◌, ◌<◌, ◌/◌, ◌%◌, ◌^◌, Bool, true, false, List, [], ◌∷◌, ◌++◌, length, map, slice_get, Option, Some, None, refl, sym, ap, ap₂, ◌∙◌, subst, arith, one-add, mod-eq_of_lt}
 use Rattle.std.specs.Prelude.{◌==◌}
 use Rattle.std.proofs.Common.{inl, inr}
-use Rattle.std.specs.List.{AllByRecursion}
+use Rattle.std.specs.List.{flat_map, AllByRecursion}
 use Rattle.std.specs.Option.{option_map, option_and_then}
 use Rattle.std.proofs.lemmas.Nat.{mod-pow-add}
 use Rattle.cnf_base.specs.Literals.{Literal}
@@ -15,7 +15,12 @@ use Rattle.smt_terms.specs.declared.sort.Signature.{Signature}
 use Rattle.smt_terms.specs.declared.node.Op.{Op}
 use Rattle.smt_terms.specs.declared.node.Op.TheVariants as op
 use Rattle.smt_terms.specs.declared.node.Node.{Node}
+use Rattle.smt_terms.specs.declared.scalar.Scalar.{Scalar}
+use Rattle.smt_terms.specs.declared.scalar.Scalar.TheVariants as scalar
 use Rattle.smt_values.specs.Arrays.{Entry as Held, ArrayFields, IsOfWidth, IsEntry}
+use Rattle.smt_values.specs.Tables.{TableFields}
+use Rattle.smt_values.specs.Held.{value_of}
+use Rattle.smt_values.specs.declared.table.Row.{Row}
 use Rattle.smt_values.specs.declared.value.Value.{Value}
 use Rattle.smt_values.specs.declared.value.Value.TheVariants as held
 use Rattle.theory_terms.specs.declared.lemma.Move.{Move}
@@ -36,6 +41,7 @@ use Rattle.proof_text.specs.declared.list.Letter.TheVariants as letter
 use Rattle.proof_text.specs.declared.list.WrittenMove.{WrittenMove}
 use Rattle.proof_text.specs.declared.list.WrittenAccess.{WrittenAccess}
 use Rattle.proof_text.specs.declared.list.WrittenEntry.{WrittenEntry}
+use Rattle.proof_text.specs.declared.list.WrittenScalar.{WrittenScalar}
 use Rattle.proof_text.specs.declared.line.Head.{Head}
 use Rattle.proof_text.specs.declared.line.Head.TheVariants as head
 use Rattle.proof_text.specs.declared.line.WrittenValue.{WrittenValue}
@@ -43,15 +49,15 @@ use Rattle.proof_text.specs.declared.line.WrittenValue.TheVariants as written
 use Rattle.proof_text.specs.declared.line.Line.{Line}
 use Rattle.proof_text.specs.declared.line.Line.TheVariants as line
 use Rattle.proof_text.specs.Entries.{head_of, written_literal, written_hint, written_move, written_start, written_access, lemma_line, entry_line}
-use Rattle.proof_text.specs.Records.{binary, digits_of, written_entry, written_value}
+use Rattle.proof_text.specs.Records.{binary, digits_of, written_scalar, written_entry, row_scalars, written_value}
 use Rattle.proof_text.proofs.Appending.{binary_length}
 use Rattle.accepted_proof.specs.declared.refusal.Refusal.{Refusal}
 use Rattle.proof_log.specs.declared.diary.DiaryLine.{DiaryLine}
 use Rattle.proof_log.specs.declared.diary.DiaryLine.TheVariants as diary
 use Rattle.accepted_proof.specs.Searching.{Limits}
-use Rattle.accepted_proof.specs.Models.{IsOfKind, IsOfSignature}
+use Rattle.accepted_proof.specs.Models.{IsOfKind, AreOfKinds, IsRowOf, IsTableOf, IsFunctionOf, IsOfArguments, IsOfSignature}
 use Rattle.accepted_proof.specs.Turns.{IsOfScript}
-use Rattle.accepted_proof.specs.Judged.{Owed, Nothing, Steps, Values, Noted, Over, Judging, stepped, Decides, StepsBy, Goes, Opens, AtStep, AtValue, Notes, AtDiary, MovesBy, reach, no_judging, IsHeader, Judged, JudgedProof}
+use Rattle.accepted_proof.specs.Judged.{Owed, Nothing, Steps, Values, Noted, Over, Judging, stepped, Decides, StepsBy, Goes, Opens, AtStep, AtValue, Notes, AtDiary, MovesBy, reach, judging_from, IsHeader, Judged, JudgedProofFrom}
 
 -- ---- steps
 
@@ -182,17 +188,18 @@ same_lemmas (lemma.Arrays a b) (lemma.Arrays c d) l p q =
     ap₂ lemma.Arrays (access_back a c f) (access_back b d g)
 same_lemmas _ _ l p q = let f : ⊥ = cc in absurd f
 
-abbrev is_lemma : Line → Bool
+-- the line is that of a lemma
+abbrev pub is_lemma : Line → Bool
 is_lemma (line.Congruence t u) = true
 is_lemma (line.Witness t) = true
 is_lemma (line.Accesses a b) = true
 is_lemma _ = false
 
-abbrev is_lemma_in : Option Line → Bool
+abbrev pub is_lemma_in : Option Line → Bool
 is_lemma_in None = false
 is_lemma_in (Some l) = is_lemma l
 
-lemma_is_one : (a : Lemma) → (is_lemma (lemma_line a) ≡ true) × (is_term (lemma_line a) ≡ false)
+pub lemma_is_one : (a : Lemma) → (is_lemma (lemma_line a) ≡ true) × (is_term (lemma_line a) ≡ false)
 lemma_is_one (lemma.Congruence t u) = (refl, refl)
 lemma_is_one (lemma.Witness t) = (refl, refl)
 lemma_is_one (lemma.Arrays a b) = (refl, refl)
@@ -225,7 +232,7 @@ same_entry s l _ _ p q i j = let f : ⊥ = cc in absurd f
 
 -- ---- values
 
-cons_back : {A : Type 0} (a b : A) (xs ys : List A) → a ∷ xs ≡ b ∷ ys → (a ≡ b) × (xs ≡ ys)
+pub cons_back : {A : Type 0} (a b : A) (xs ys : List A) → a ∷ xs ≡ b ∷ ys → (a ≡ b) × (xs ≡ ys)
 cons_back a b xs ys e = let p : a ≡ b = cc in let q : xs ≡ ys = cc in (p, q)
 
 below_two : (m : ℕ) → m % 2 < 2
@@ -250,7 +257,7 @@ small_back : (n x y : ℕ) → x < 2 ^ n → y < 2 ^ n → binary n x ≡ binary
 small_back n x y a b e = sym (mod-eq_of_lt a) ∙ binary_back n x y e ∙ mod-eq_of_lt b
 
 -- a word that fits its width is told by its digits
-word_back : (v w : WordValue) → v.value < 2 ^ v.width → w.value < 2 ^ w.width → digits_of v ≡ digits_of w → v ≡ w
+pub word_back : (v w : WordValue) → v.value < 2 ^ v.width → w.value < 2 ^ w.width → digits_of v ≡ digits_of w → v ≡ w
 word_back v w a b e =
     let width : v.width ≡ w.width = sym (binary_length v.width v.value) ∙ ap length e ∙ binary_length w.width w.value in
     let digits : binary w.width v.value ≡ binary w.width w.value = ap (λ k. binary k v.value) (sym width) ∙ e in
@@ -258,10 +265,10 @@ word_back v w a b e =
     let value = small_back w.width v.value w.value small b digits in
     (λ i. record { width = width i; value = value i })
 
-word_fits : (n : ℕ) (w : WordValue) → IsOfWidth n w → w.value < 2 ^ w.width
+pub word_fits : (n : ℕ) (w : WordValue) → IsOfWidth n w → w.value < 2 ^ w.width
 word_fits n w h = subst (λ k. w.value < 2 ^ k) (sym h.width) h.fits
 
-entries_back : (n m k l : ℕ) (es fs : List Held) → AllByRecursion (IsEntry n m) es → AllByRecursion (IsEntry k l) fs → map written_entry es ≡ map written_entry fs → es ≡ fs
+pub entries_back : (n m k l : ℕ) (es fs : List Held) → AllByRecursion (IsEntry n m) es → AllByRecursion (IsEntry k l) fs → map written_entry es ≡ map written_entry fs → es ≡ fs
 entries_back n m k l [] [] a b e = refl
 entries_back n m k l [] (f ∷ fs) a b e = let q : ⊥ = cc in absurd q
 entries_back n m k l (x ∷ es) [] a b e = let q : ⊥ = cc in absurd q
@@ -271,7 +278,7 @@ entries_back n m k l (x ∷ es) (y ∷ fs) a b e =
     let element = word_back x.1 y.1 (word_fits m x.1 a.0.1) (word_fits l y.1 b.0.1) (ap (λ (w : WrittenEntry). w.element) h.0) in
     ap₂ (λ z zs. z ∷ zs) (ap₂ (λ i d. (i, d)) index element) (entries_back n m k l es fs a.1 b.1 h.1)
 
-array_back : (s : Sort) (a b : ArrayFields) → IsOfKind s (held.Array a) → IsOfKind s (held.Array b) → digits_of a.default ≡ digits_of b.default → map written_entry a.entries ≡ map written_entry b.entries → a ≡ b
+pub array_back : (s : Sort) (a b : ArrayFields) → IsOfKind s (held.Array a) → IsOfKind s (held.Array b) → digits_of a.default ≡ digits_of b.default → map written_entry a.entries ≡ map written_entry b.entries → a ≡ b
 array_back s a b h k e f =
     let sorts : sort.Array a.index a.default.width ≡ sort.Array b.index b.default.width = sym h.0 ∙ k.0 in
     let index : a.index ≡ b.index = cc in
@@ -285,7 +292,7 @@ same_kind s (held.Bool b) (held.Bool c) x a d p q = cc
 same_kind s (held.Word b) (held.Word c) x a d p q =
     let e : written.Word (digits_of b) ≡ written.Word (digits_of c) = same_found (Some x) (written.Word (digits_of b)) (written.Word (digits_of c)) (sym p) (sym q) in
     let f : digits_of b ≡ digits_of c = cc in
-    ap held.Word (word_back b c a.1 d.1 f)
+    ap held.Word (word_back b c a.1.2 d.1.2 f)
 same_kind s (held.Array b) (held.Array c) x a d p q =
     let e : Some (written.Array (digits_of b.default) (map written_entry b.entries)) ≡ Some (written.Array (digits_of c.default) (map written_entry c.entries)) = p ∙ sym q in
     let f : digits_of b.default ≡ digits_of c.default = cc in
@@ -295,9 +302,74 @@ same_kind s (held.Fun b) w x a d p q = absurd a
 same_kind s v (held.Fun b) x a d p q = absurd d
 same_kind s v w x a d p q = let f : ⊥ = cc in absurd f
 
+-- ---- tables of functions
+
+pub scalar_back : (s : Sort) (x y : Scalar) → IsOfKind s (value_of x) → IsOfKind s (value_of y) → written_scalar x ≡ written_scalar y → x ≡ y
+scalar_back s (scalar.Bool b) (scalar.Bool c) h k e = cc
+scalar_back s (scalar.Word v) (scalar.Word w) h k e =
+    let f : digits_of v ≡ digits_of w = cc in
+    ap scalar.Word (word_back v w h.1.2 k.1.2 f)
+scalar_back s x y h k e = let f : ⊥ = cc in absurd f
+
+-- the first row of a list of values, and those behind it
+pub record AreCut (xs ys : List Scalar) (v w : Scalar) (fs gs : List WrittenScalar) : Type 0 where
+  pub args : xs ≡ ys
+  pub value : v ≡ w
+  pub more : fs ≡ gs
+
+pub row_cut : (args : List Sort) (s : Sort) (xs ys : List Scalar) (v w : Scalar) (fs gs : List WrittenScalar) → AreOfKinds args xs → AreOfKinds args ys → IsOfKind s (value_of v) → IsOfKind s (value_of w)
+    → (map written_scalar xs ++ written_scalar v ∷ []) ++ fs ≡ (map written_scalar ys ++ written_scalar w ∷ []) ++ gs → AreCut xs ys v w fs gs
+row_cut [] s [] [] v w fs gs a b h k e =
+    let p = cons_back (written_scalar v) (written_scalar w) fs gs e in
+    record { args = refl; value = scalar_back s v w h k p.0; more = p.1 }
+row_cut [] s [] (y ∷ ys) v w fs gs a b h k e = absurd b
+row_cut [] s (x ∷ xs) ys v w fs gs a b h k e = absurd a
+row_cut (r ∷ args) s [] ys v w fs gs a b h k e = absurd a
+row_cut (r ∷ args) s (x ∷ xs) [] v w fs gs a b h k e = absurd b
+row_cut (r ∷ args) s (x ∷ xs) (y ∷ ys) v w fs gs a b h k e =
+    let p = cons_back (written_scalar x) (written_scalar y) _ _ e in
+    let rest = row_cut args s xs ys v w fs gs a.1 b.1 h k p.1 in
+    record { args = ap₂ (λ z zs. z ∷ zs) (scalar_back r x y a.0 b.0 p.0) rest.args; value = rest.value; more = rest.more }
+
+pub some_row : (xs : List WrittenScalar) (v : WrittenScalar) (fs : List WrittenScalar) → [] ≡ (xs ++ v ∷ []) ++ fs → ⊥
+some_row [] v fs e = let f : ⊥ = cc in f
+some_row (x ∷ xs) v fs e = let f : ⊥ = cc in f
+
+pub rows_back : (args : List Sort) (s : Sort) (rs qs : List Row) → AllByRecursion (IsRowOf args s) rs → AllByRecursion (IsRowOf args s) qs → flat_map row_scalars rs ≡ flat_map row_scalars qs → rs ≡ qs
+rows_back args s [] [] a b e = refl
+rows_back args s [] (q ∷ qs) a b e = absurd (some_row (map written_scalar q.args) (written_scalar q.value) (flat_map row_scalars qs) e)
+rows_back args s (r ∷ rs) [] a b e = absurd (some_row (map written_scalar r.args) (written_scalar r.value) (flat_map row_scalars rs) (sym e))
+rows_back args s (r ∷ rs) (q ∷ qs) a b e =
+    let cut = row_cut args s r.args q.args r.value q.value (flat_map row_scalars rs) (flat_map row_scalars qs) a.0.0 b.0.0 a.0.1 b.0.1 e in
+    let row : r ≡ q = (λ i. record { args = cut.args i; value = cut.value i }) in
+    ap₂ (λ z zs. z ∷ zs) row (rows_back args s rs qs a.1 b.1 cut.more)
+
+table_back : (g : Signature) (t u : TableFields) → IsTableOf g t → IsTableOf g u → written_scalar t.default ≡ written_scalar u.default → flat_map row_scalars t.rows ≡ flat_map row_scalars u.rows → t ≡ u
+table_back g t u h k e f =
+    let other = scalar_back g.value t.default u.default h.default k.default e in
+    let rows = rows_back g.args g.value t.rows u.rows h.rows k.rows f in
+    (λ i. record { default = other i; rows = rows i })
+
+same_function : (g : Signature) (v w : Value) (x : WrittenValue) → IsFunctionOf g v → IsFunctionOf g w → written_value v ≡ Some x → written_value w ≡ Some x → v ≡ w
+same_function g (held.Fun t) (held.Fun u) x a b p q =
+    let e : Some (written.Fun (written_scalar t.default) (flat_map row_scalars t.rows)) ≡ Some (written.Fun (written_scalar u.default) (flat_map row_scalars u.rows)) = p ∙ sym q in
+    let f : written_scalar t.default ≡ written_scalar u.default = cc in
+    let h : flat_map row_scalars t.rows ≡ flat_map row_scalars u.rows = cc in
+    ap held.Fun (table_back g t u a b f h)
+same_function g (held.Bool c) w x a b p q = absurd a
+same_function g (held.Word c) w x a b p q = absurd a
+same_function g (held.Array c) w x a b p q = absurd a
+same_function g v (held.Bool c) x a b p q = absurd b
+same_function g v (held.Word c) x a b p q = absurd b
+same_function g v (held.Array c) x a b p q = absurd b
+
+same_of : (args : List Sort) (g : Signature) (v w : Value) (x : WrittenValue) → IsOfArguments args g v → IsOfArguments args g w → written_value v ≡ Some x → written_value w ≡ Some x → v ≡ w
+same_of [] g v w x a b p q = same_kind g.value v w x a b p q
+same_of (s ∷ ss) g v w x a b p q = same_function g v w x a b p q
+
 pub same_value : (o : Option Signature) (v w : Value) (x : WrittenValue) → IsOfSignature v o → IsOfSignature w o → written_value v ≡ Some x → written_value w ≡ Some x → v ≡ w
 same_value None v w x a b p q = absurd a
-same_value (Some s) v w x a b p q = same_kind s.value v w x a.1 b.1 p q
+same_value (Some g) v w x a b p q = same_of g.args g v w x a b p q
 
 -- ---- lines
 
@@ -336,10 +408,10 @@ at_step_once j (line.Leaf t) k m x y = stepped_once j _ k m x y
 at_step_once j (line.Encode t) k m x y = stepped_once j _ k m x y
 at_step_once j (line.Selector a) k m x y = stepped_once j _ k m x y
 at_step_once j (line.Chain c hs) k m x y = stepped_once j _ k m x y
-at_step_once j (line.Equal t u) k m x y = x ∙ sym y
-at_step_once j (line.Congruence t u) k m x y = x ∙ sym y
-at_step_once j (line.Witness t) k m x y = x ∙ sym y
-at_step_once j (line.Accesses a b) k m x y = x ∙ sym y
+at_step_once j (line.Equal t u) k m x y = stepped_once j _ k m x y
+at_step_once j (line.Congruence t u) k m x y = stepped_once j _ k m x y
+at_step_once j (line.Witness t) k m x y = stepped_once j _ k m x y
+at_step_once j (line.Accesses a b) k m x y = stepped_once j _ k m x y
 at_step_once j (line.Sat n) k m x y = begun_once j n k m x y
 at_step_once j (line.Value d w) k m x y = x ∙ sym y
 at_step_once j (line.Unsat p) k m x y = decided_once _ _ _ k m x y
@@ -396,9 +468,9 @@ same_limits l limits bounds h k =
     (λ i. record { cubes = c i; budget = b i })
 
 -- the same of whole proofs
-pub proof_judged_once : (cs : List Reading) (ls : List (Option Line)) (o p : Option Refusal) → JudgedProof cs ls o → JudgedProof cs ls p → o ≡ p
-proof_judged_once cs [] o p a b = a ∙ sym b
-proof_judged_once cs (l ∷ ls) o p (inl x) (inl y) = judged_once ls (no_judging y.0) cs o p (subst (λ v. Judged (no_judging v) cs ls o) (same_limits l x.0 y.0 x.1 y.1) x.2) y.2
-proof_judged_once cs (l ∷ ls) o p (inl x) (inr y) = absurd (y.0 x.0 x.1)
-proof_judged_once cs (l ∷ ls) o p (inr x) (inl y) = absurd (x.0 y.0 y.1)
-proof_judged_once cs (l ∷ ls) o p (inr x) (inr y) = x.1 ∙ sym y.1
+pub proof_judged_once : (start : StateValue) (cs : List Reading) (ls : List (Option Line)) (o p : Option Refusal) → JudgedProofFrom start cs ls o → JudgedProofFrom start cs ls p → o ≡ p
+proof_judged_once start cs [] o p a b = a ∙ sym b
+proof_judged_once start cs (l ∷ ls) o p (inl x) (inl y) = judged_once ls (judging_from start y.0) cs o p (subst (λ v. Judged (judging_from start v) cs ls o) (same_limits l x.0 y.0 x.1 y.1) x.2) y.2
+proof_judged_once start cs (l ∷ ls) o p (inl x) (inr y) = absurd (y.0 x.0 x.1)
+proof_judged_once start cs (l ∷ ls) o p (inr x) (inl y) = absurd (x.0 y.0 y.1)
+proof_judged_once start cs (l ∷ ls) o p (inr x) (inr y) = x.1 ∙ sym y.1

@@ -1,15 +1,15 @@
 -- States and logs that turns lead to.
-use Rattle.std.proofs.Common.{◌≡◌, ℕ, List, [], ◌∷◌, ◌++◌, refl, sym, ap, ◌∙◌, subst, ⊎_elim, arith, append_assoc, append-nil, Option, Some, None}
+use Rattle.std.proofs.Common.{◌≡◌, ℕ, Bool, false, List, [], ◌∷◌, ◌++◌, refl, sym, ap, ◌∙◌, subst, ⊎_elim, arith, append_assoc, append-nil, Option, Some, None}
 use Rattle.std.specs.Prelude.{Contains, slice_get}
 use Rattle.std.proofs.lemmas.List.Elements.{Contains-append_cases}
 use Rattle.script_state.specs.Readings.{Reading}
 use Rattle.smt_terms.specs.declared.node.Node.{Node}
 use Rattle.smt_terms.specs.Terms.{TermsValue}
-use Rattle.smt_build.proofs.Growth.{none_declared}
-use Rattle.script_state.specs.States.{StateValue, IsState, no_state}
+use Rattle.script_state.specs.States.{StateValue, IsState, start_of, no_state}
 use Rattle.script_state.specs.Steps.{step}
 use Rattle.script_state.proofs.Asserting.{grown_state, standing_state}
 use Rattle.script_state.proofs.Keeping.{step_goes_on}
+use Rattle.script_state.proofs.Leveling.{first_state}
 use Rattle.proof_log.specs.declared.entry.Entry.{Entry}
 use Rattle.proof_log.specs.declared.entry.Entry.TheVariants as entry
 use Rattle.proof_log.specs.Logs.{start, state_of, IsStep, IsLog}
@@ -103,32 +103,13 @@ steps_stay s (e ∷ es) =
 
 -- ---- where a script begins
 
-pub reached_first : IsReached no_state []
-reached_first = record {
-  state = record {
-    terms = λ t lt. absurd (omega (arith, lt));
-    scopes = record {
-      numbered = λ i j d lt below. absurd (omega (arith, below));
-      made = λ k d lt. absurd (omega (arith, lt));
-      counted = refl;
-      known = λ k d lt. absurd (omega (arith, lt));
-      leveled = λ i j d le lt. absurd (omega (arith, lt));
-      standing = λ k d lt. absurd (omega (arith, lt));
-      within = omega arith;
-    };
-    live = record { rising = λ i j d lt below. absurd (omega (arith, below)); made = λ k d lt. absurd (omega (arith, lt)) };
-    theories = refl;
-    constants = λ k d lt. absurd (omega (arith, lt));
-    declared = none_declared [];
-    bodies = tt;
-    sorts = tt;
-    held = λ k d lt. absurd (omega (arith, lt));
-    truths = λ k d lt. absurd (omega (arith, lt));
-    plain = λ k d lt. absurd (omega (arith, lt));
-    closed = record { bodies = tt; terms = λ k d lt. absurd (omega (arith, lt)) };
-    levels = record { count = refl; rising = λ i j d lt below. absurd (omega (arith, below)); each = λ k l e. absurd (let z : ⊥ = cc in z) };
-    assumed = λ k d lt. absurd (omega (arith, lt));
-  };
+-- whether functions and arrays are read or not
+pub reached_start : (theories : Bool) → IsReached (start_of theories) []
+reached_start theories = record {
+  state = first_state theories;
   steps = tt;
   selectors = λ a t c. let past = c.1 in absurd (omega (arith, past));
 }
+
+pub reached_first : IsReached no_state []
+reached_first = reached_start false

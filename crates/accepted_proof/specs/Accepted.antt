@@ -5,7 +5,7 @@ use Rattle.smt_text.specs.declared.chunk.Chunk.{Chunk}
 use Rattle.smt_text.specs.Framing.{Held}
 use Rattle.smt_text.specs.Script.{AreChunks, Begins}
 use Rattle.script_state.specs.Readings.{Reading, ReadsAs}
-use Rattle.script_state.specs.States.{no_state}
+use Rattle.script_state.specs.States.{StateValue, no_state}
 use Rattle.script_state.specs.Steps.{ends}
 use Rattle.accepted_proof.specs.Searching.{Limits, AreLimits}
 use Rattle.accepted_proof.specs.Turns.{Turn, AreTurns}
@@ -39,26 +39,35 @@ has_ended turns = list_any (λ (t : Turn). ends t.says) turns
 abbrev pub AreAll : List ℕ → List Chunk → List Turn → Type 0
 AreAll script chunks turns = AreChunks script chunks ⊎ ((has_ended turns ≡ true) × IsFront script chunks)
 
--- The proof is one of the script: its header, and for each check the lines of valid steps and of a record, and nothing more.
-pub record Accepted (limits : Limits) (script proof : List ℕ) (turns : List Turn) : Type 0 where
+-- The proof is one of the script, whose commands are obeyed from this state on: its header, and for each check the lines of
+-- valid steps and of a record, and nothing more.
+pub record AcceptedFrom (start : StateValue) (limits : Limits) (script proof : List ℕ) (turns : List Turn) : Type 0 where
   pub allowed : AreLimits limits
   pub chunks : List Chunk
   pub cut : AreAll script chunks turns
   pub read : AreRead chunks turns
   pub last : EndLast turns
-  pub run : AreTurns limits no_state [] turns
+  pub run : AreTurns limits start [] turns
   pub lines : proof ≡ proof_of limits turns
 
--- The proof begins with the accepted proof of the first commands of the script, whatever stands behind in either text.
-pub record AcceptedSoFar (limits : Limits) (script proof : List ℕ) (turns : List Turn) : Type 0 where
+-- the same of a script that begins where nothing is declared, and neither functions with arguments nor arrays are read
+abbrev pub Accepted : Limits → List ℕ → List ℕ → List Turn → Type 0
+Accepted limits script proof turns = AcceptedFrom no_state limits script proof turns
+
+-- The proof begins with the accepted proof of the first commands of the script, which are obeyed from this state on, whatever
+-- stands behind in either text.
+pub record AcceptedSoFarFrom (start : StateValue) (limits : Limits) (script proof : List ℕ) (turns : List Turn) : Type 0 where
   pub allowed : AreLimits limits
   pub chunks : List Chunk
   pub rest : List ℕ
   pub front : IsFront script chunks
   pub read : AreRead chunks turns
   pub last : EndLast turns
-  pub run : AreTurns limits no_state [] turns
+  pub run : AreTurns limits start [] turns
   pub lines : proof ≡ proof_of limits turns ++ rest
+
+abbrev pub AcceptedSoFar : Limits → List ℕ → List ℕ → List Turn → Type 0
+AcceptedSoFar limits script proof turns = AcceptedSoFarFrom no_state limits script proof turns
 
 -- a front of the answer to the next command of the script, which is not the whole answer
 pub record IsBegun (limits : Limits) (script : List ℕ) (chunks : List Chunk) (turns : List Turn) (begun : List ℕ) : Type 0 where

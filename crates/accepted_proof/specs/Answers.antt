@@ -1,5 +1,5 @@
 -- The texts of answers and of proofs.
-use Rattle.std.specs.Prelude.{ℕ, Bool, true, false, List, [], ◌∷◌, ◌++◌, codes, map, slice_get, if◌then◌else◌, Option, Some, None, option_to_list}
+use Rattle.std.specs.Prelude.{ℕ, ◌==◌, suc, Bool, true, false, List, [], ◌∷◌, ◌++◌, codes, length, map, slice_get, if◌then◌else◌, Option, Some, None, option_to_list}
 use Rattle.std.specs.List.{flat_map}
 use Rattle.std.specs.Fmt.{decimal}
 use Rattle.script_state.specs.declared.answer.Answer.{Answer}
@@ -16,6 +16,9 @@ use Rattle.smt_text.specs.Printing.{symbol_text}
 use Rattle.smt_terms.specs.declared.sort.Sort.{Sort}
 use Rattle.smt_terms.specs.declared.sort.Sort.TheVariants as sort
 use Rattle.smt_terms.specs.declared.sort.Signature.{Signature}
+use Rattle.smt_terms.specs.declared.scalar.Scalar.{Scalar}
+use Rattle.smt_values.specs.declared.table.Row.{Row}
+use Rattle.smt_values.specs.Held.{meaning}
 use Rattle.smt_values.specs.declared.value.Value.{Value}
 use Rattle.smt_values.specs.declared.value.Value.TheVariants as held
 use Rattle.smt_build.specs.declared.symbols.LiveName.{LiveName}
@@ -28,10 +31,10 @@ use Rattle.proof_text.specs.declared.line.Line.{Line}
 use Rattle.proof_text.specs.declared.line.Line.TheVariants as line
 use Rattle.proof_text.specs.declared.record.Record.{Record}
 use Rattle.proof_text.specs.declared.record.Record.TheVariants.{Sat}
-use Rattle.proof_text.specs.declared.line.WrittenValue.TheVariants as written
-use Rattle.proof_text.specs.Lines.{joined, line_text, value_text as written_text}
+use Rattle.proof_text.specs.declared.list.WrittenScalar.TheVariants as plain
+use Rattle.proof_text.specs.Lines.{digits_text, joined, line_text, scalar_text}
 use Rattle.proof_text.specs.Entries.{entry_line}
-use Rattle.proof_text.specs.Records.{binary, digits_of, record_lines}
+use Rattle.proof_text.specs.Records.{binary, record_lines, written_scalar}
 use Rattle.accepted_proof.specs.Models.{value_for, interpretation_of}
 use Rattle.accepted_proof.specs.Searching.{Limits}
 use Rattle.accepted_proof.specs.Cores.{core_names, blamed_assumptions, refuting_clause}
@@ -52,7 +55,7 @@ abbrev pub shown_text : Option Record → List ℕ
 shown_text None = []
 shown_text (Some r) = verdict_text (verdict_of r)
 
--- ---- models (SMT-LIB 2.6, section 4.2.6)
+-- ---- sorts
 
 abbrev pub word_sort_text : ℕ → List ℕ
 word_sort_text n = codes "(_ BitVec " ++ decimal n ++ codes ")"
@@ -62,19 +65,74 @@ sort_text sort.Bool = codes "Bool"
 sort_text (sort.Word n) = word_sort_text n
 sort_text (sort.Array n m) = codes "(Array " ++ word_sort_text n ++ codes " " ++ word_sort_text m ++ codes ")"
 
--- a truth value, or a word by its digits, as in the lines of a proof; no array and no function is shown yet
-abbrev pub value_text : Value → List ℕ
-value_text (held.Bool b) = written_text (written.Bool b)
-value_text (held.Word w) = written_text (written.Word (digits_of w))
-value_text (held.Array a) = []
-value_text (held.Fun t) = []
+-- ---- values (SMT-LIB 2.6, section 4.2.6)
 
--- the constant of a name, of this sort, with this value
-abbrev pub definition_text : List ℕ → Sort → Value → List ℕ
-definition_text name s v = codes "(define-fun " ++ symbol_text name ++ codes " () " ++ sort_text s ++ codes " " ++ value_text v ++ codes ")" ++ 10 ∷ []
+-- a word by its digits, as in the lines of a proof
+abbrev pub word_text : ℕ → ℕ → List ℕ
+word_text n x = digits_text (binary n x)
+
+-- an array into which an entry is stored, where the array has another element by default
+abbrev pub store_text : ℕ → ℕ → ℕ → ℕ × ℕ → List ℕ → List ℕ
+store_text n m default e inside = if e.1 == default then inside else codes "(store " ++ inside ++ codes " " ++ word_text n e.0 ++ codes " " ++ word_text m e.1 ++ codes ")"
+
+-- one after the other, the first innermost
+abbrev pub stores_text : ℕ → ℕ → ℕ → List (ℕ × ℕ) → List ℕ → List ℕ
+stores_text n m default [] inside = inside
+stores_text n m default (e ∷ es) inside = stores_text n m default es (store_text n m default e inside)
+
+-- the array with this element at every index
+abbrev pub constant_text : ℕ → ℕ → ℕ → List ℕ
+constant_text n m x = codes "((as const " ++ sort_text (sort.Array n m) ++ codes ") " ++ word_text m x ++ codes ")"
+
+-- a truth value, a word, or an array, whose held entries are stored into a constant one
+abbrev pub meaning_text : MeaningValue → List ℕ
+meaning_text (VBool b) = scalar_text (plain.Bool b)
+meaning_text (VWord n x) = word_text n x
+meaning_text (VArray n m a) = stores_text n m a.default a.entries (constant_text n m a.default)
+
+-- ---- models (section 4.2.6)
+
+abbrev pub parameter_name : ℕ → List ℕ
+parameter_name k = codes "x!" ++ decimal k
+
+abbrev pub parameter_text : ℕ → Sort → List ℕ
+parameter_text k s = codes "(" ++ parameter_name k ++ codes " " ++ sort_text s ++ codes ")"
+
+abbrev pub shown_scalar : Scalar → List ℕ
+shown_scalar v = scalar_text (written_scalar v)
+
+-- the parameter has this value
+abbrev pub equality_text : ℕ → Scalar → List ℕ
+equality_text k v = codes "(= " ++ parameter_name k ++ codes " " ++ shown_scalar v ++ codes ")"
+
+-- each by its number, which are counted from this one
+abbrev pub numbered : {A : Type 0} → (ℕ → A → List ℕ) → ℕ → List A → List (List ℕ)
+numbered text k [] = []
+numbered text k (x ∷ xs) = text k x ∷ numbered text (suc k) xs
+
+abbrev pub listed : {A : Type 0} → (ℕ → A → List ℕ) → List A → List ℕ
+listed text xs = joined (numbered text 0 xs)
+
+-- the parameters have these values
+abbrev pub condition_text : List Scalar → List ℕ
+condition_text args = if length args == 1 then listed equality_text args else codes "(and " ++ listed equality_text args ++ codes ")"
+
+-- the value of the row whose arguments the parameters are, the first of them outermost; the default where there is none
+abbrev pub rows_text : Scalar → List Row → List ℕ
+rows_text default [] = shown_scalar default
+rows_text default (r ∷ rs) = codes "(ite " ++ condition_text r.args ++ codes " " ++ shown_scalar r.value ++ codes " " ++ rows_text default rs ++ codes ")"
+
+-- the value of a constant, or of a function at its parameters
+abbrev pub value_text : Value → List ℕ
+value_text (held.Fun t) = rows_text t.default t.rows
+value_text v = meaning_text (meaning v)
+
+-- the constant or function of a name, with this value
+abbrev pub definition_text : List ℕ → Signature → Value → List ℕ
+definition_text name g v = codes "(define-fun " ++ symbol_text name ++ codes " (" ++ listed parameter_text g.args ++ codes ") " ++ sort_text g.value ++ codes " " ++ value_text v ++ codes ")" ++ 10 ∷ []
 
 abbrev pub definition_by : List ℕ → Option Signature → Option Value → List ℕ
-definition_by name (Some s) (Some v) = definition_text name s.value v
+definition_by name (Some g) (Some v) = definition_text name g v
 definition_by name _ _ = []
 
 -- the live names in the order of their declarations, each with its value
@@ -85,13 +143,7 @@ abbrev pub model_text : StateValue → Option Record → List ℕ
 model_text s (Some (Sat values)) = codes "(" ++ 10 ∷ [] ++ definitions_text s values ++ codes ")" ++ 10 ∷ []
 model_text s _ = []
 
--- ---- values (SMT-LIB 2.6, section 4.2.6)
-
--- a truth value, or a word by its digits; no term of an array is asked for
-abbrev pub meaning_text : MeaningValue → List ℕ
-meaning_text (VBool b) = written_text (written.Bool b)
-meaning_text (VWord n x) = written_text (written.Word (binary n x))
-meaning_text (VArray n m f) = []
+-- ---- terms that are asked for (section 4.2.6)
 
 -- the term as it was written, and its value
 abbrev pub asked_text : List Node → Interpretation → Asked → List ℕ

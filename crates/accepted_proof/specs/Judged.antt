@@ -51,9 +51,12 @@ pub record Judging : Type 0 where
   pub owed : Owed
   pub line : ℕ
 
--- behind the header, which is line 1
+-- behind the header, which is line 1, where the commands are obeyed from this state on
+abbrev pub judging_from : StateValue → Limits → Judging
+judging_from start limits = record { limits = limits; state = start; log = []; owed = Nothing; line = 2 }
+
 abbrev pub no_judging : Limits → Judging
-no_judging limits = record { limits = limits; state = no_state; log = []; owed = Nothing; line = 2 }
+no_judging limits = judging_from no_state limits
 
 -- ---- where it goes
 
@@ -95,6 +98,10 @@ rule_of (line.Leaf t) = rule.Leaf
 rule_of (line.Encode t) = rule.Encode
 rule_of (line.Selector a) = rule.Selector
 rule_of (line.Chain clause hints) = rule.Chain
+rule_of (line.Equal t u) = rule.Equal
+rule_of (line.Congruence t u) = rule.Lemma
+rule_of (line.Witness t) = rule.Lemma
+rule_of (line.Accesses a b) = rule.Lemma
 rule_of _ = rule.Line
 
 -- the line is that of a step which is valid here
@@ -116,7 +123,7 @@ abbrev pub Opens : Judging → ℕ → ℕ → ℕ → Judging → Type 0
 Opens j cube start zero k = k ≡ refused j rule.Diary
 Opens j cube start (suc left) k = Decides (IsSearch j.limits j.state j.state.terms.nodes j.log cube start) (noted j cube start left []) (refused j rule.Diary) k
 
--- a line of a check, before its record's end; those of equalities and lemmas are not taken yet
+-- a line of a check, before its record's end
 abbrev pub AtStep : Judging → Line → Judging → Type 0
 AtStep j (line.Header cubes budget) k = k ≡ refused j rule.Line
 AtStep j (line.Term head args) k = StepsBy j (line.Term head args) k
@@ -124,10 +131,10 @@ AtStep j (line.Leaf t) k = StepsBy j (line.Leaf t) k
 AtStep j (line.Encode t) k = StepsBy j (line.Encode t) k
 AtStep j (line.Selector a) k = StepsBy j (line.Selector a) k
 AtStep j (line.Chain clause hints) k = StepsBy j (line.Chain clause hints) k
-AtStep j (line.Equal t u) k = k ≡ refused j rule.Line
-AtStep j (line.Congruence t u) k = k ≡ refused j rule.Line
-AtStep j (line.Witness t) k = k ≡ refused j rule.Line
-AtStep j (line.Accesses a b) k = k ≡ refused j rule.Line
+AtStep j (line.Equal t u) k = StepsBy j (line.Equal t u) k
+AtStep j (line.Congruence t u) k = StepsBy j (line.Congruence t u) k
+AtStep j (line.Witness t) k = StepsBy j (line.Witness t) k
+AtStep j (line.Accesses a b) k = StepsBy j (line.Accesses a b) k
 AtStep j (line.Sat count) k = ((count ≡ length j.state.symbols.live) × Goes j j.state.symbols.live [] k) ⊎ ((count ≡ length j.state.symbols.live → ⊥) × (k ≡ refused j rule.Sat))
 AtStep j (line.Value d w) k = k ≡ refused j rule.Line
 AtStep j (line.Unsat p) k = Decides (IsRefutation j.state j.state.terms.nodes j.log p) (closed j (shown.Unsat p)) (refused j rule.Unsat) k
@@ -214,10 +221,13 @@ pub record IsHeader (l : Option Line) (limits : Limits) : Type 0 where
 abbrev pub bad_header : Refusal
 bad_header = record { line = 1; rule = rule.Header }
 
--- what is judged of all lines of a proof, where these are the commands of the script
+-- what is judged of all lines of a proof, where these are the commands of the script, from this state on
+abbrev pub JudgedProofFrom : StateValue → List Reading → List (Option Line) → Option Refusal → Type 0
+JudgedProofFrom start cs [] o = o ≡ Some bad_header
+JudgedProofFrom start cs (l ∷ ls) o = ((limits : Limits) × IsHeader l limits × Judged (judging_from start limits) cs ls o) ⊎ (((limits : Limits) → IsHeader l limits → ⊥) × (o ≡ Some bad_header))
+
 abbrev pub JudgedProof : List Reading → List (Option Line) → Option Refusal → Type 0
-JudgedProof cs [] o = o ≡ Some bad_header
-JudgedProof cs (l ∷ ls) o = ((limits : Limits) × IsHeader l limits × Judged (no_judging limits) cs ls o) ⊎ (((limits : Limits) → IsHeader l limits → ⊥) × (o ≡ Some bad_header))
+JudgedProof cs ls o = JudgedProofFrom no_state cs ls o
 
 -- each chunk reads as this
 abbrev pub ReadEach : List Chunk → List Reading → Type 0

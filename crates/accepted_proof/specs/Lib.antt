@@ -4,5 +4,6 @@ pub mod Turns
 pub mod Cores
 pub mod Right
 pub mod Answers
+pub mod Printed
 pub mod Accepted
 pub mod Judged

@@ -28,13 +28,10 @@ use Rattle.accepted_proof.specs.Searching.{Limits, IsUnknown}
 
 -- ---- steps of a check
 
--- What a step names of the script is as the script has it: an assertion with its term, a declaration with its signature. No
--- check has an equality or a lemma yet.
+-- what a step names of the script is as the script has it: an assertion with its term, a declaration with its signature
 abbrev pub IsOfScript : StateValue → Entry → Type 0
 IsOfScript s (entry.Node n) = IsDeclared s.symbols.signatures n.op
 IsOfScript s (entry.Selector a t) = slice_get s.scopes.terms a ≡ Some t
-IsOfScript s (entry.Equal t u) = ⊥
-IsOfScript s (entry.Lemma l) = ⊥
 IsOfScript s _ = Unit {0}
 
 -- the terms after a step

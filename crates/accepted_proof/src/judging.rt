@@ -1,44 +1,45 @@
 //! What judging a proof line by line comes to.
 
-ghost use Rattle.std.specs.Prelude.{◌≡◌, ℕ, List, [], ◌∷◌, map, false, true, Option, Some, None};
+ghost use Rattle.std.specs.Prelude.{◌≡◌, ℕ, Bool, List, [], ◌∷◌, map, false, true, Option, Some, None};
 ghost use Rattle.std.specs.List.{flat_map};
 ghost use Rattle.smt_text.specs.declared.chunk.Chunk.{Chunk};
 ghost use Rattle.script_state.specs.Readings.{Reading};
+ghost use Rattle.script_state.specs.States.{StateValue, start_of};
 ghost use Rattle.script_state.specs.Steps.{ends};
 ghost use Rattle.proof_text.specs.declared.line.Line.{Line};
 ghost use Rattle.accepted_proof.specs.declared.refusal.Refusal.{Refusal};
 ghost use Rattle.accepted_proof.specs.Searching.{Limits, AreLimits};
 ghost use Rattle.accepted_proof.specs.Turns.{Turn};
 ghost use Rattle.accepted_proof.specs.Answers.{turn_lines, proof_of};
-ghost use Rattle.accepted_proof.specs.Accepted.{Accepted, AcceptedSoFar, IsFront};
-ghost use Rattle.accepted_proof.specs.Judged.{Judging, no_judging, is_idle, commanded, Moves, Judged, JudgedProof, ReadEach, AreAllSaid};
+ghost use Rattle.accepted_proof.specs.Accepted.{AcceptedFrom, AcceptedSoFarFrom, IsFront};
+ghost use Rattle.accepted_proof.specs.Judged.{Judging, judging_from, is_idle, commanded, Moves, Judged, JudgedProofFrom, ReadEach, AreAllSaid};
 
-/// An accepted proof is judged to have no bad line.
+/// An accepted proof is judged to have no bad line, whether functions and arrays are read or not.
 pub fn accepted_proofs_are_judged()
-    ensures { (limits : Limits) (script proof : List ℕ) (turns : List Turn) → Accepted limits script proof turns
-        → Judged (no_judging limits) (map (λ (t : Turn). t.says) turns) (map (λ l. Some l) (flat_map turn_lines turns)) None }
+    ensures { (theories : Bool) (limits : Limits) (script proof : List ℕ) (turns : List Turn) → AcceptedFrom (start_of theories) limits script proof turns
+        → Judged (judging_from (start_of theories) limits) (map (λ (t : Turn). t.says) turns) (map (λ l. Some l) (flat_map turn_lines turns)) None }
 {}
 
 /// A proof without a bad line is accepted; what stands in the script behind a command that ends the run need not be read.
 pub fn judged_proofs_are_accepted()
-    ensures { (limits : Limits) (script : List ℕ) (chunks : List Chunk) (says : List Reading) (lines : List (Option Line))
-        → AreLimits limits → AreAllSaid script chunks says → ReadEach chunks says → Judged (no_judging limits) says lines None
-        → (turns : List Turn) × (lines ≡ map (λ l. Some l) (flat_map turn_lines turns)) × Accepted limits script (proof_of limits turns) turns }
+    ensures { (theories : Bool) (limits : Limits) (script : List ℕ) (chunks : List Chunk) (says : List Reading) (lines : List (Option Line))
+        → AreLimits limits → AreAllSaid script chunks says → ReadEach chunks says → Judged (judging_from (start_of theories) limits) says lines None
+        → (turns : List Turn) × (lines ≡ map (λ l. Some l) (flat_map turn_lines turns)) × AcceptedFrom (start_of theories) limits script (proof_of limits turns) turns }
 {}
 
 /// The first lines of a proof, where none is bad with the first commands of a script, are those of turns of these.
 pub fn judged_fronts_are_accepted()
-    ensures { (limits : Limits) (script : List ℕ) (chunks : List Chunk) (says : List Reading) (lines : List (Option Line))
-        → AreLimits limits → IsFront script chunks → ReadEach chunks says → Judged (no_judging limits) says lines None
-        → (turns : List Turn) × (lines ≡ map (λ l. Some l) (flat_map turn_lines turns)) × AcceptedSoFar limits script (proof_of limits turns) turns }
+    ensures { (theories : Bool) (limits : Limits) (script : List ℕ) (chunks : List Chunk) (says : List Reading) (lines : List (Option Line))
+        → AreLimits limits → IsFront script chunks → ReadEach chunks says → Judged (judging_from (start_of theories) limits) says lines None
+        → (turns : List Turn) × (lines ≡ map (λ l. Some l) (flat_map turn_lines turns)) × AcceptedSoFarFrom (start_of theories) limits script (proof_of limits turns) turns }
 {}
 
-/// One thing at most is judged of a proof.
+/// One thing at most is judged of a proof, from whatever state its script begins.
 pub fn proofs_are_judged_one_way()
     ensures rest { (judging : Judging) (says : List Reading) (lines : List (Option Line)) (o p : Option Refusal)
         → Judged judging says lines o → Judged judging says lines p → o ≡ p }
-    ensures whole { (says : List Reading) (lines : List (Option Line)) (o p : Option Refusal)
-        → JudgedProof says lines o → JudgedProof says lines p → o ≡ p }
+    ensures whole { (start : StateValue) (says : List Reading) (lines : List (Option Line)) (o p : Option Refusal)
+        → JudgedProofFrom start says lines o → JudgedProofFrom start says lines p → o ≡ p }
 {}
 
 /// What is judged of the rest, behind a line or a command, is judged of the whole. Behind a command that ends the run no

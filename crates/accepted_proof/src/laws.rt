@@ -1,14 +1,14 @@
 //! What follows from the definitions alone.
 
-ghost use Rattle.std.specs.Prelude.{◌≡◌, ℕ, List, [], None};
-ghost use Rattle.script_state.specs.States.{no_state};
+ghost use Rattle.std.specs.Prelude.{◌≡◌, ℕ, Bool, List, [], None};
+ghost use Rattle.script_state.specs.States.{no_state, start_of};
 ghost use Rattle.smt_terms.specs.declared.node.Node.{Node};
 ghost use Rattle.proof_log.specs.declared.entry.Entry.{Entry};
 ghost use Rattle.proof_log.specs.Logs.{state_of, IsLog};
 ghost use Rattle.accepted_proof.specs.Searching.{Limits, Rise, split_variables};
 ghost use Rattle.accepted_proof.specs.Turns.{Turn, AreTurns};
 ghost use Rattle.accepted_proof.specs.Right.{AreRight, ArePrinted};
-ghost use Rattle.accepted_proof.specs.Accepted.{Accepted, StandsBeside, readings_of};
+ghost use Rattle.accepted_proof.specs.Accepted.{Accepted, AcceptedFrom, StandsBeside, readings_of};
 
 /// Where turns follow one after the other, each `sat` stands beside a model of the assertions that are live there under the
 /// assumptions of the check, and where there is an `unsat` they have none.
@@ -23,9 +23,9 @@ pub fn what_is_printed_is_right()
     ensures { (limits : Limits) (turns : List Turn) → AreTurns limits no_state [] turns → ArePrinted no_state [] None turns }
 {}
 
-/// What an accepted proof shows is right, whoever wrote it.
+/// What an accepted proof shows is right, whoever wrote it, and whether functions and arrays are read or not.
 pub fn accepted_proofs_are_right()
-    ensures { (limits : Limits) (script proof : List ℕ) (turns : List Turn) → Accepted limits script proof turns → AreRight no_state turns }
+    ensures { (theories : Bool) (limits : Limits) (script proof : List ℕ) (turns : List Turn) → AcceptedFrom (start_of theories) limits script proof turns → AreRight (start_of theories) turns }
 {}
 
 /// What stands beside answers is right, also where a run ended early.

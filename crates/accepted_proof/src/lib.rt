@@ -17,6 +17,8 @@
 mod judging;
 mod laws;
 mod printing;
+#[cfg(test)]
+mod printing_tests;
 pub mod refusal;
 mod values;
 

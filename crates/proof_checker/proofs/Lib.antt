@@ -1,5 +1,6 @@
 pub mod Against
 pub mod Lining
+pub mod Naming
 pub mod Splits
 pub mod Chunking
 pub mod Telling
@@ -11,5 +12,7 @@ pub mod RightFronts
 pub mod Moving
 pub mod Blanks
 pub mod Valued
+pub mod WrittenArrays
+pub mod WrittenTables
 pub mod Noting
 pub mod Heading

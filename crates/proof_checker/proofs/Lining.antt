@@ -1,30 +1,24 @@
 -- Which steps lines say.
-use Rattle.std.proofs.Common.{◌≡◌, ℕ, zero, suc, ◌<◌, ◌≤◌, ◌^◌, List, [], ◌∷◌, ◌++◌, length, map, get_or, slice_get, All, Bool, true, false, MatchBool, MatchOption, Option, Some, None, Result, Ok, Err, position, refl, sym, ap, ◌∙◌, subst, arith, ⊎_elim, length-append}
+use Rattle.std.proofs.Common.{◌≡◌, ℕ, zero, suc, ◌<◌, ◌≤◌, ◌^◌, List, [], ◌∷◌, ◌++◌, length, map, get_or, slice_get, Bool, true, false, MatchBool, MatchOption, Option, Some, None, Result, Ok, Err, refl, sym, ap, ◌∙◌, subst, arith, ⊎_elim, length-append}
 use Rattle.std.specs.List.{AllByRecursion}
 use Rattle.std.specs.Prelude.{IfOk, OnErr}
+use Rattle.std.proofs.lemmas.Bool.{false≢true}
 use Rattle.std.proofs.lemmas.List.{length-map}
-use Rattle.std.proofs.lemmas.List.Elements.{recursion_from_All}
 use Rattle.cnf_base.specs.Literals.{Literal, negated}
 use Rattle.cnf_base.specs.Assignments.{AreBelow}
 use Rattle.cnf_base.specs.Clauses.{no_id}
 use Rattle.cnf_base.specs.declared.clause.ClauseId.{ClauseId}
 use Rattle.cnf_base.proofs.Options.{same_found}
-use Rattle.cnf_base.proofs.Lists.{each_slice_get}
 use Rattle.hint_chain.specs.Chains.{Lookup, ChainFrom, IsChain}
-use Rattle.smt_terms.specs.declared.sort.Sort.{Sort}
 use Rattle.smt_terms.specs.declared.sort.Signature.{Signature}
-use Rattle.smt_terms.specs.declared.fault.MakeFault.{MakeFault}
-use Rattle.smt_terms.specs.Same.{same_node}
 use Rattle.smt_terms.specs.declared.node.Op.{Op}
 use Rattle.smt_terms.specs.declared.node.Op.TheVariants as op
 use Rattle.smt_terms.specs.declared.node.Node.{Node}
-use Rattle.smt_terms.specs.Nodes.{node_of}
-use Rattle.smt_terms.specs.Ranks.{ranked, application, and_then}
-use Rattle.smt_terms.specs.Terms.{TermsValue, IsTermList, held_sort, node_sort, numbered, make, with_node}
+use Rattle.smt_terms.specs.Terms.{TermsValue, IsTermList, with_node}
 use Rattle.smt_terms.proofs.Growing.{node_last}
 use Rattle.smt_build.specs.Names.{IsDeclared}
 use Rattle.smt_build.proofs.Longer.{list_made}
-use Rattle.script_state.specs.States.{StateValue, RestValue, with_terms, IsState, IsPlainConstant, Fit}
+use Rattle.script_state.specs.States.{StateValue, RestValue, with_terms, IsState, Fit}
 use Rattle.script_state.proofs.Keeping.{fit_more}
 use Rattle.proof_log.specs.declared.entry.Entry.{Entry}
 use Rattle.proof_log.specs.declared.entry.Entry.TheVariants as entry
@@ -43,7 +37,7 @@ use Rattle.proof_text.specs.Entries.{head_of, written_literal, written_hint, ent
 use Rattle.accepted_proof.specs.Turns.{IsOfScript}
 use Rattle.accepted_proof.specs.Judged.{IsStepOf}
 use Rattle.accepted_proof.proofs.Good.{step_grows, step_list}
-use Rattle.accepted_proof.proofs.Once.{same_entry, term_line}
+use Rattle.accepted_proof.proofs.Once.{is_lemma, is_lemma_in, lemma_is_one, same_entry, term_line}
 use Rattle.proof_checker.specs.Checkers.{IsChainOf, IsTaken, IsTried}
 
 -- ---- steps
@@ -94,36 +88,37 @@ module _ {E : Type 0} (t w : TermsValue) (r : RestValue) (log longer : LogValue)
 
 -- ---- terms
 
--- no arguments are taken by a constant's application
-no_rank : (s : Signature) (args : List (Option Sort)) (t : Sort) → s.args ≡ [] → ranked (application s.args s.value) 0 args ≡ Ok t → ⊥
-no_rank s args t e r = none args (subst (λ ss. ranked (application ss s.value) 0 args ≡ Ok t) e r) where
-  none : (args : List (Option Sort)) → ranked (application [] s.value) 0 args ≡ Ok t → ⊥
-  none [] r = let f : ⊥ = cc in f
-  none (a ∷ args) r = let f : ⊥ = cc in f
+-- no operator is an application of a declaration that was not made
+pub no_apply : (d : ℕ) (signatures : List Signature) (o : Op) → slice_get signatures d ≡ None → IsDeclared signatures o → head_of o ≡ Some (head.Apply d) → ⊥
+no_apply d signatures (op.Plain o) n i e = let f : ⊥ = cc in f
+no_apply d signatures (op.Word m x) n i e = let f : ⊥ = cc in f
+no_apply d signatures (op.Extract k j) n i e = let f : ⊥ = cc in f
+no_apply d signatures (op.ZeroExtend k) n i e = let f : ⊥ = cc in f
+no_apply d signatures (op.SignExtend k) n i e = let f : ⊥ = cc in f
+no_apply d signatures (op.RotateLeft k) n i e = let f : ⊥ = cc in f
+no_apply d signatures (op.RotateRight k) n i e = let f : ⊥ = cc in f
+no_apply d signatures (op.Repeat k) n i e = let f : ⊥ = cc in f
+no_apply d signatures (op.ConstantArray k) n i e = let f : ⊥ = cc in f
+no_apply d signatures (op.Constant k s) n i e = let f : ⊥ = cc in f
+no_apply d signatures (op.Param k s) n i e = let f : ⊥ = cc in f
+no_apply d signatures (op.Apply k s) n i e =
+    let same : k ≡ d = cc in
+    let found : slice_get signatures d ≡ Some s = subst (λ x. slice_get signatures x ≡ Some s) same (i.each k refl) in
+    let f : ⊥ = cc in f
 
-made_sort : (v : TermsValue) (n : Node) (p : ℕ × TermsValue) → make v n ≡ Ok p → (t : Sort) × (node_sort v.nodes n ≡ Ok t)
-unfolding make
-made_sort v n p e = go (node_sort v.nodes n) refl e where
-  go : (r : Result Sort MakeFault) → node_sort v.nodes n ≡ r → and_then r (λ _. numbered v n (position (same_node n) v.nodes)) ≡ Ok p → (t : Sort) × (node_sort v.nodes n ≡ Ok t)
-  go (Ok t) q e = (t, q)
-  go (Err f) q e = let z : ⊥ = cc in absurd z
+-- an application of a declaration that was made
+pub an_apply : (d k : ℕ) (signatures : List Signature) (s : Signature) → k ≡ d → slice_get signatures d ≡ Some s → (head_of (op.Apply k s) ≡ Some (head.Apply d)) × IsDeclared signatures (op.Apply k s)
+an_apply d k signatures s e found = (
+  ap (λ x. Some (head.Apply x)) e,
+  record { each = λ x h. let same : k ≡ x = cc in subst (λ y. slice_get signatures y ≡ Some s) (sym e ∙ same) found },
+)
 
-pub no_apply : (d : ℕ) (signatures : List Signature) (o : Op) (v : TermsValue) (args : List ℕ) → All IsPlainConstant signatures → IsDeclared signatures o → head_of o ≡ Some (head.Apply d) → IsNewNode v (node_of o args) → ⊥
-no_apply d signatures (op.Plain o) v args all i e h = let f : ⊥ = cc in f
-no_apply d signatures (op.Word n x) v args all i e h = let f : ⊥ = cc in f
-no_apply d signatures (op.Extract k j) v args all i e h = let f : ⊥ = cc in f
-no_apply d signatures (op.ZeroExtend k) v args all i e h = let f : ⊥ = cc in f
-no_apply d signatures (op.SignExtend k) v args all i e h = let f : ⊥ = cc in f
-no_apply d signatures (op.RotateLeft k) v args all i e h = let f : ⊥ = cc in f
-no_apply d signatures (op.RotateRight k) v args all i e h = let f : ⊥ = cc in f
-no_apply d signatures (op.Repeat k) v args all i e h = let f : ⊥ = cc in f
-no_apply d signatures (op.ConstantArray k) v args all i e h = let f : ⊥ = cc in f
-no_apply d signatures (op.Constant k s) v args all i e h = let f : ⊥ = cc in f
-no_apply d signatures (op.Param k s) v args all i e h = let f : ⊥ = cc in f
-no_apply d signatures (op.Apply k s) v args all i e h =
-    let plain = each_slice_get IsPlainConstant signatures k s (recursion_from_All IsPlainConstant signatures all) (i.each k refl) in
-    let sort = made_sort v (node_of (op.Apply k s) args) _ h.made in
-    no_rank s (map (held_sort v.nodes) args) sort.0 plain.constant sort.1
+-- where a place is past the end, so are those behind it
+pub past_end : {A : Type 0} (xs : List A) (k n : ℕ) → slice_get xs k ≡ None → k ≤ n → slice_get xs n ≡ None
+past_end [] k n e le = refl
+past_end (x ∷ xs) zero n e le = let f : ⊥ = cc in absurd f
+past_end (x ∷ xs) (suc k) zero e le = absurd (omega arith)
+past_end (x ∷ xs) (suc k) (suc n) e le = past_end xs k n e (omega arith)
 
 -- a new node is over held terms
 pub new_args : (v : TermsValue) (n : Node) → IsTermList v.nodes → IsNewNode v n → AllByRecursion (λ a. a < length v.nodes) n.args
@@ -233,8 +228,8 @@ no_chain_line s log l literals hints stands w none (entry.Chain c names) is =
     (subst (λ k. AreBelow k c) (sym kept.next) is.valid.0)
     (subst (λ rows. IsChain (clause_at rows) c names) (sym kept.clauses) is.valid.1)
 no_chain_line s log l literals hints stands w none (entry.Rewrite r) is = is.valid
-no_chain_line s log l literals hints stands w none (entry.Equal t u) is = is.script
-no_chain_line s log l literals hints stands w none (entry.Lemma a) is = is.script
+no_chain_line s log l literals hints stands w none (entry.Equal t u) is = let p : Some (line.Equal t u) ≡ Some l = is.written in let f : ⊥ = cc in f
+no_chain_line s log l literals hints stands w none (entry.Lemma a) is = false≢true (sym (ap is_lemma w) ∙ sym (ap is_lemma_in is.written) ∙ (lemma_is_one a).0)
 
 -- the step that the line of a chain says, where memory may be wanting
 pub chain_told : {E : Type 0} (s : StateValue) (log : LogValue) (l : Line) (literals clause : List WrittenLiteral) (hints names : List WrittenHint) → Stands s.terms.nodes log → l ≡ line.Chain literals hints → clause ≡ literals → names ≡ hints → (r : Result (Option Entry) E)

@@ -1,6 +1,6 @@
 -- How a checker moves.
 use Rattle.std.proofs.Common.{◌≡◌, ℕ, suc, Bool, true, false, ◌+◌, ◌<◌, ◌≤◌, List, [], ◌∷◌, ◌++◌, length, drop, get_or, Some, None, Result, Ok, Err, IfOk, MatchResult, length-append, length-drop, drop-cons, refl, sym, ap, ap₂, ◌∙◌, subst, inl, inr, arith}
-use Rattle.std.specs.Prelude.{MatchBool}
+use Rattle.std.specs.Prelude.{MatchBool, slice_get}
 use Rattle.std.proofs.Math.ListN.{drop_of_length-le}
 use Rattle.std.proofs.lemmas.Bool.{false_from_ne_true}
 use Rattle.std.specs.declared.alloc.AllocError.{AllocError}
@@ -21,13 +21,15 @@ use Rattle.proof_text.specs.declared.line.WrittenValue.{WrittenValue}
 use Rattle.proof_text.specs.declared.line.Line.TheVariants as line
 use Rattle.accepted_proof.specs.declared.refusal.Refusal.{Refusal}
 use Rattle.accepted_proof.specs.declared.refusal.RuleName.TheVariants as rule
+use Rattle.cnf_base.proofs.Lists.{each_append}
+use Rattle.accepted_proof.specs.Models.{IsOfSignature}
 use Rattle.accepted_proof.specs.Judged as judged
 use Rattle.accepted_proof.specs.Judged.{Owed, refused, commanded, owed_by, ending, IsValueOf, Goes, MovesBy}
 use Rattle.accepted_proof.specs.Searching.{Limits}
 use Rattle.accepted_proof.proofs.Settling.{settled_by}
 use Rattle.proof_checker.specs.declared.due.Due.{Due}
 use Rattle.proof_checker.specs.declared.due.Due.TheVariants as due
-use Rattle.proof_checker.specs.Checkers.{Says, CheckerValue, GoesTo, IsOwedValues, IsOpen, judged_so, answer_by, at_end, owed_of, values_owed}
+use Rattle.proof_checker.specs.Checkers.{Says, CheckerValue, GoesTo, IsOwedValues, IsOpen, AreOfSignatures, AreKept, judged_so, answer_by, at_end, owed_of, values_owed}
 
 -- a checker's value by its parts
 abbrev pub held : Limits → StateValue → List Entry → Owed → ℕ → List Verdict → CheckerValue
@@ -184,3 +186,11 @@ pub value_pushed : (limits : Limits) (s : StateValue) (log : List Entry) (e : Du
     → IfOk r (λ to. GoesTo (MovesBy (owed_of e s.symbols.live values) (held limits s log (owed_of e s.symbols.live values) n told).judging (Some (line.Value d w))) (held limits s log (owed_of e s.symbols.live values) n told) to)
 value_pushed limits s log e n told values longer next d w v (Ok to) h at is more goes = value_taken limits s log e n told values longer next d w v to h at is more goes
 value_pushed limits s log e n told values longer next d w v (Err x) h at is more goes = tt
+
+-- a value more that its declaration may have
+pub one_more_kept : (s : StateValue) (e : Due) (values longer : List (ℕ × Value)) (next : LiveName) (d : ℕ) (w : WrittenValue) (v : Value) → IsOwedValues (owed_of e s.symbols.live values) → AreKept e s.symbols.signatures values
+    → IsValueOf s next d w v → longer ≡ values ++ (next.declaration, v) ∷ [] → AreOfSignatures s.symbols.signatures longer
+one_more_kept s e values longer next d w v h kept is more =
+    let all : AreOfSignatures s.symbols.signatures values = subst (λ x. AreKept x s.symbols.signatures values) (are_left e s.symbols.live values h).0 kept in
+    let one : IsOfSignature v (slice_get s.symbols.signatures next.declaration) = subst (λ n. IsOfSignature v (slice_get s.symbols.signatures n)) is.declaration is.sorted in
+    subst (AreOfSignatures s.symbols.signatures) (sym more) (each_append (λ (p : ℕ × Value). IsOfSignature p.1 (slice_get s.symbols.signatures p.0)) values ((next.declaration, v) ∷ []) all (one, tt))

@@ -1,21 +1,21 @@
 -- What is accepted of fronts of two texts is right.
-use Rattle.std.proofs.Common.{◌≡◌, ℕ, List, [], ◌∷◌, ◌++◌, map, Option, Some, None, refl, sym, ap, ◌∙◌, subst, inl, inr, append_assoc}
+use Rattle.std.proofs.Common.{◌≡◌, ℕ, Bool, false, List, [], ◌∷◌, ◌++◌, map, Option, Some, None, refl, sym, ap, ◌∙◌, subst, inl, inr, append_assoc}
 use Rattle.std.specs.List.{flat_map}
 use Rattle.script_state.specs.declared.answer.Verdict.{Verdict}
-use Rattle.script_state.specs.States.{no_state}
+use Rattle.script_state.specs.States.{start_of, no_state}
 use Rattle.proof_text.specs.declared.line.Line.{Line}
 use Rattle.proof_text.specs.declared.line.Line.TheVariants as line
 use Rattle.proof_text.specs.Lines.{line_text}
 use Rattle.accepted_proof.specs.Searching.{Limits}
 use Rattle.accepted_proof.specs.Turns.{Turn}
 use Rattle.accepted_proof.specs.Answers.{turn_lines}
-use Rattle.accepted_proof.specs.Accepted.{AcceptedSoFar}
+use Rattle.accepted_proof.specs.Accepted.{AcceptedSoFarFrom, AcceptedSoFar}
 use Rattle.accepted_proof.specs.Right.{AreRight}
-use Rattle.accepted_proof.specs.Judged.{no_judging}
-use Rattle.accepted_proof.proofs.Answering.{first_turns_are_right}
+use Rattle.accepted_proof.specs.Judged.{judging_from}
+use Rattle.accepted_proof.proofs.Answering.{start_turns_are_right}
 use Rattle.accepted_proof.proofs.Beginning.{judged_begins}
 use Rattle.accepted_proof.proofs.Fronts.{front_fewer}
-use Rattle.proof_checker.specs.Checked.{AreLines, IsAcceptedSoFar, verdicts_of}
+use Rattle.proof_checker.specs.Checked.{AreLines, IsAcceptedSoFarOver, IsAcceptedSoFar, verdicts_of}
 use Rattle.proof_checker.proofs.Passing.{header_told}
 use Rattle.proof_checker.proofs.Verdicts.{judged_of, proof_verdicts, line_verdict, of_turns}
 
@@ -36,12 +36,17 @@ begins_with_lines (l ∷ ls) later text (inr h) = absurd (line_there l h.1)
     line_there : (l : Line) → ◌≡◌ {A = Option Line} (Some l) None → ⊥
     line_there l e = cc
 
-pub fronts_right : (script proof : List ℕ) (vs : List Verdict) → IsAcceptedSoFar script proof vs → (limits : Limits) × (turns : List Turn) × AcceptedSoFar limits script proof turns × AreRight no_state turns × (vs ≡ verdicts_of turns)
-fronts_right script proof vs h =
-    let m = header_told h.lines h.says vs h.told in
-    let t = judged_begins m.limits script h.chunks h.says m.rest m.allowed (front_fewer script h.chunks h.behind (inr h.cut)) h.read (judged_of m.rest (no_judging m.limits) h.says vs None m.told) in
+pub fronts_right_over : (theories : Bool) (script proof : List ℕ) (vs : List Verdict) → IsAcceptedSoFarOver (start_of theories) script proof vs
+    → (limits : Limits) × (turns : List Turn) × AcceptedSoFarFrom (start_of theories) limits script proof turns × AreRight (start_of theories) turns × (vs ≡ verdicts_of turns)
+fronts_right_over theories script proof vs h =
+    let start = start_of theories in
+    let m = header_told start h.lines h.says vs h.told in
+    let t = judged_begins theories m.limits script h.chunks h.says m.rest m.allowed (front_fewer script h.chunks h.behind (inr h.cut)) h.read (judged_of m.rest (judging_from start m.limits) h.says vs None m.told) in
     let header : Line = line.Header m.limits.cubes m.limits.budget in
     let lines : h.lines ≡ map (λ l. Some l) (header ∷ flat_map turn_lines t.0) = m.header ∙ ap (λ ls. Some header ∷ ls) t.1 in
     let text = begins_with_lines (header ∷ flat_map turn_lines t.0) h.later proof (subst (λ ls. AreLines proof (ls ++ h.later)) lines h.split) in
-    let begun : AcceptedSoFar m.limits script proof t.0 = record { allowed = t.2.allowed; chunks = t.2.chunks; rest = text.0; front = t.2.front; read = t.2.read; last = t.2.last; run = t.2.run; lines = text.1 } in
-    (m.limits, t.0, begun, first_turns_are_right m.limits t.0 t.2.run, proof_verdicts m.limits m.rest h.says vs m.told ∙ ap (flat_map line_verdict) t.1 ∙ of_turns t.0)
+    let begun : AcceptedSoFarFrom start m.limits script proof t.0 = record { allowed = t.2.allowed; chunks = t.2.chunks; rest = text.0; front = t.2.front; read = t.2.read; last = t.2.last; run = t.2.run; lines = text.1 } in
+    (m.limits, t.0, begun, start_turns_are_right theories m.limits t.0 t.2.run, proof_verdicts start m.limits m.rest h.says vs m.told ∙ ap (flat_map line_verdict) t.1 ∙ of_turns t.0)
+
+pub fronts_right : (script proof : List ℕ) (vs : List Verdict) → IsAcceptedSoFar script proof vs → (limits : Limits) × (turns : List Turn) × AcceptedSoFar limits script proof turns × AreRight no_state turns × (vs ≡ verdicts_of turns)
+fronts_right script proof vs h = fronts_right_over false script proof vs h

@@ -1,13 +1,11 @@
 -- Values that are written, and models of them.
-use Rattle.std.proofs.Common.{◌≡◌, ℕ, zero, suc, ◌+◌, ◌*◌, ◌/◌, ◌%◌, ◌^◌, ◌<◌, Bool, true, false, List, [], ◌∷◌, ◌++◌, length, take, get_or, slice_get, Option, Some, refl, sym, ap, ◌∙◌, subst, arith, add-one}
-use Rattle.std.specs.Prelude.{◌==◌, ◌&&◌, MatchBool, map}
+use Rattle.std.proofs.Common.{◌≡◌, ℕ, zero, suc, ◌+◌, ◌*◌, ◌/◌, ◌%◌, ◌^◌, ◌<◌, Bool, true, false, List, [], ◌∷◌, ◌++◌, length, take, get_or, slice_get, Option, Some, None, refl, sym, ap, ◌∙◌, subst, inl, inr, arith, add-one}
+use Rattle.std.specs.Prelude.{◌⊎◌, ◌==◌, ◌&&◌, MatchBool, map}
 use Rattle.std.specs.List.{list_all}
 use Rattle.std.proofs.lemmas.List.{take_more}
-use Rattle.std.proofs.lemmas.List.Elements.{recursion_from_All}
 use Rattle.std.proofs.lemmas.List.Folds.{list_all-append, list_all-map}
 use Rattle.std.proofs.lemmas.List.Sums.{AllPass-from_list_all, list_all-from_AllPass}
 use Rattle.std.proofs.Math.Nat.{div-div-eq-div-mul, pow-succ'}
-use Rattle.smt_terms.specs.declared.sort.Sort.TheVariants as sort
 use Rattle.smt_terms.specs.declared.sort.Signature.{Signature}
 use Rattle.smt_terms.specs.Terms.{TermsValue}
 use Rattle.smt_terms.specs.Values.{is_true, value}
@@ -19,21 +17,28 @@ use Rattle.smt_eval.specs.Evaluated.{held_value}
 use Rattle.smt_eval.specs.Asked.{AreValuesOf}
 use Rattle.scope_selectors.specs.declared.live.Live.{Live}
 use Rattle.script_state.specs.declared.answer.Asked.{Asked}
-use Rattle.script_state.specs.States.{StateValue, IsState, IsPlainConstant, assumptions, roots}
-use Rattle.proof_text.specs.declared.line.WrittenValue.TheVariants as written
-use Rattle.proof_text.specs.Records.{binary, digits_of, written_value}
-use Rattle.proof_text.proofs.Appending.{binary_length}
-use Rattle.accepted_proof.specs.Models.{value_for, interpretation_of, IsModel, IsOfKind}
-use Rattle.cnf_base.proofs.Lists.{each_slice_get}
+use Rattle.script_state.specs.States.{StateValue, assumptions, roots}
+use Rattle.proof_text.specs.Records.{binary}
+use Rattle.accepted_proof.specs.Models.{value_for, interpretation_of, IsModel, IsOfSignature}
+use Rattle.accepted_proof.proofs.Valuing.{IsHeldFor, value_among}
 use Rattle.proof_checker.specs.Blanks.{MeansSame}
+use Rattle.proof_checker.specs.Checkers.{AreOfSignatures}
 use Rattle.proof_checker.proofs.Blanks.{kept_interpretation}
 
 -- ---- models
 
-module _ (s : StateValue) (h : IsState s) where
-  -- a declaration is a constant, and a Bool or a word
-  pub plain_at : (d : ℕ) (g : Signature) → slice_get s.symbols.signatures d ≡ Some g → IsPlainConstant g
-  plain_at d g e = each_slice_get IsPlainConstant s.symbols.signatures d g (recursion_from_All IsPlainConstant s.symbols.signatures h.constants) e
+-- a value that is set is one that its declaration may have, or a blank
+pub held_for : (signatures : List Signature) (values : List (ℕ × Value)) (table : List (Option Value)) → AreOfSignatures signatures values → ((d : ℕ) → MeansSame (set_for table d) (value_for values d))
+    → (d : ℕ) (v : Value) → set_for table d ≡ Some v → IsHeldFor v (slice_get signatures d)
+held_for signatures values table all same d v e = by (same d)
+  where
+    by : MeansSame (set_for table d) (value_for values d) → IsHeldFor v (slice_get signatures d)
+    by (inl k) = inr (value_among (λ x n. IsOfSignature x (slice_get signatures n)) values d v all (sym k ∙ e))
+    by (inr k) = blank k.0
+      where
+        blank : (set_for table d ≡ None) ⊎ (set_for table d ≡ Some (kept.Bool false)) → IsHeldFor v (slice_get signatures d)
+        blank (inl n) = let f : ⊥ = cc in absurd f
+        blank (inr b) = let q : v ≡ kept.Bool false = cc in inl q
 
 -- values of terms that are as true as the terms
 all_alike : (q : Value → Bool) (p : ℕ → Bool) (found : List Value) (ts : List ℕ) → length found ≡ length ts → ((k : ℕ) → k < length ts → q (held_value found k) ≡ p (get_or ts k 0)) → list_all q found ≡ list_all p ts
@@ -110,17 +115,3 @@ number_more digits i x b lt small same fits told =
 pub binary_none : (x : ℕ) → binary 0 x ≡ []
 unfolding binary
 binary_none x = refl
-
--- ---- values of sorts
-
--- a word has as many digits as its width
-pub no_width : (n : ℕ) (v : Value) (digits : List Bool) → (length digits ≡ n → ⊥) → IsOfKind (sort.Word n) v → written_value v ≡ Some (written.Word digits) → ⊥
-no_width n (kept.Bool b) digits other h p = let f : ⊥ = cc in f
-no_width n (kept.Word x) digits other h p =
-    let q : Some (written.Word (digits_of x)) ≡ Some (written.Word digits) = p in
-    let same : digits_of x ≡ digits = cc in
-    let e : sort.Word n ≡ sort.Word x.width = h.0 in
-    let width : x.width ≡ n = cc in
-    other (sym (ap length same) ∙ binary_length x.width x.value ∙ width)
-no_width n (kept.Array a) digits other h p = let f : ⊥ = cc in f
-no_width n (kept.Fun t) digits other h p = let f : ⊥ = cc in f

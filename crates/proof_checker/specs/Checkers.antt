@@ -1,5 +1,7 @@
 -- What contracts see of a checker, and of the lines that it is given.
-use Rattle.std.specs.Prelude.{◌≡◌, ◌<◌, ◌==◌, ℕ, zero, suc, Bool, true, false, List, [], ◌∷◌, ◌++◌, ◌+◌, drop, length, map, Option, Some, None, Result, Ok, Err}
+use Rattle.std.specs.Prelude.{◌≡◌, ◌<◌, ◌==◌, ℕ, zero, suc, Bool, true, false, List, [], ◌∷◌, ◌++◌, ◌+◌, drop, length, map, slice_get, Option, Some, None, Result, Ok, Err}
+use Rattle.std.specs.List.{AllByRecursion}
+use Rattle.smt_terms.specs.declared.sort.Signature.{Signature}
 use Rattle.smt_values.specs.declared.value.Value.{Value}
 use Rattle.cnf_base.specs.Literals.{Literal, negated, code_of}
 use Rattle.smt_terms.specs.Bits.{TermBits, bits_in}
@@ -8,7 +10,7 @@ use Rattle.scope_selectors.specs.declared.live.Live.{Live}
 use Rattle.script_state.specs.declared.answer.Asked.{Asked}
 use Rattle.script_state.specs.declared.answer.Verdict.{Verdict}
 use Rattle.script_state.specs.Readings.{Reading}
-use Rattle.script_state.specs.States.{StateValue, concluded}
+use Rattle.script_state.specs.States.{StateValue, no_state, concluded}
 use Rattle.proof_log.specs.Logs.{state_of}
 use Rattle.proof_log.specs.Faults.{IsValid, terms_after}
 use Rattle.proof_log.specs.Stored.{LogValue, Stands, selector_in}
@@ -26,7 +28,8 @@ use Rattle.accepted_proof.specs.declared.refusal.Refusal.{Refusal}
 use Rattle.accepted_proof.specs.declared.refusal.RuleName.TheVariants as rule
 use Rattle.proof_text.specs.declared.record.Record.TheVariants as shown
 use Rattle.accepted_proof.specs.Judged as judged
-use Rattle.accepted_proof.specs.Judged.{Owed, Judging, no_judging, refused, noted, closed, Decides, Notes, subject_at}
+use Rattle.accepted_proof.specs.Judged.{Owed, Judging, judging_from, refused, noted, closed, Decides, Notes, subject_at}
+use Rattle.accepted_proof.specs.Models.{IsOfSignature}
 use Rattle.accepted_proof.specs.Searching as searching
 use Rattle.accepted_proof.specs.Searching.{AreLimits, IsSearch, given_literals, subject_of}
 use Rattle.check_cubes.specs.Searches.{only}
@@ -78,9 +81,12 @@ answer_by (judged.Values next left values) = Ok tt
 answer_by (judged.Noted cube start left lines) = Ok tt
 answer_by (judged.Over r) = Err r
 
--- nothing is judged yet
+-- nothing is judged yet, and the commands are obeyed from this state on
+abbrev pub records_over : StateValue → searching.Limits → CheckerValue
+records_over start limits = record { judging = judging_from start limits; verdicts = [] }
+
 abbrev pub no_records : searching.Limits → CheckerValue
-no_records limits = record { judging = no_judging limits; verdicts = [] }
+no_records limits = records_over no_state limits
 
 -- it is judged otherwise, with the same verdicts
 abbrev pub judged_so : CheckerValue → Judging → CheckerValue
@@ -137,6 +143,15 @@ is_against_bit bits a q = is_code (only (bits_in bits a.term)) q
 abbrev pub IsOpen : Due → List LiveName → List (ℕ × Value) → Type 0
 IsOpen Values live values = length values < length live
 IsOpen _ live values = Unit {0}
+
+-- each value is one that its declaration may have
+abbrev pub AreOfSignatures : List Signature → List (ℕ × Value) → Type 0
+AreOfSignatures signatures values = AllByRecursion (λ (p : ℕ × Value). IsOfSignature p.1 (slice_get signatures p.0)) values
+
+-- where values are owed, those so far are such ones
+abbrev pub AreKept : Due → List Signature → List (ℕ × Value) → Type 0
+AreKept Values signatures values = AreOfSignatures signatures values
+AreKept _ signatures values = Unit {0}
 
 -- the next line, with all else the same
 abbrev pub gone_on : Judging → Judging

@@ -3,3 +3,5 @@ pub mod Checked
 pub mod Checkings
 pub mod Reports
 pub mod Blanks
+pub mod Written
+pub mod Naming

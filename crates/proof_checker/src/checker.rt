@@ -5,7 +5,7 @@ ghost use Rattle.proof_text.specs.Lines.{IsLine};
 ghost use Rattle.accepted_proof.specs.Judged.{is_idle, ending, refused, Moves};
 ghost use Rattle.check_cubes.specs.Searches.{limits_of};
 ghost use Rattle.proof_checker.specs.Checked.{shown_at};
-ghost use Rattle.proof_checker.specs.Checkers.{GoesTo, line_in, IsRead, judged_so, answer_by, at_end, closed_with, gone_on, owed_of, IsOpen, IsNoted};
+ghost use Rattle.proof_checker.specs.Checkers.{GoesTo, line_in, IsRead, judged_so, answer_by, at_end, closed_with, gone_on, owed_of, IsOpen, IsNoted, AreKept};
 
 use crate::due::Due;
 use crate::kept::KeptInterp;
@@ -43,7 +43,7 @@ pub struct Checker {
 
 impl Model for Checker {
     ghost use Rattle.check_cubes.specs.Searches.{limits_of};
-    ghost use Rattle.proof_checker.specs.Checkers.{CheckerValue, owed_of, IsOpen, IsNoted};
+    ghost use Rattle.proof_checker.specs.Checkers.{CheckerValue, owed_of, IsOpen, IsNoted, AreKept};
     ghost use Rattle.accepted_proof.specs.Searching.{AreLimits};
     ghost use Rattle.proof_log.specs.Stored.{Stands};
 
@@ -51,7 +51,7 @@ impl Model for Checker {
 
     ghost view = { λ c. record { judging = record { limits = limits_of c.limits; state = c.state.value; log = c.log.value.entries; owed = owed_of c.due c.state.value.symbols.live c.values.items; line = c.line }; verdicts = c.verdicts.items } };
 
-    ghost invariant = { λ c. Stands c.state.value.terms.nodes c.log.value × IsOpen c.due c.state.value.symbols.live c.values.items × IsNoted (limits_of c.limits) c.state.value c.log.value.entries c.due × AreLimits (limits_of c.limits) };
+    ghost invariant = { λ c. Stands c.state.value.terms.nodes c.log.value × IsOpen c.due c.state.value.symbols.live c.values.items × IsNoted (limits_of c.limits) c.state.value c.log.value.entries c.due × AreLimits (limits_of c.limits) × AreKept c.due c.state.value.symbols.signatures c.values.items };
 }
 
 impl Checker {

@@ -1,6 +1,7 @@
 // The commands of a script.
 
 ghost use Rattle.std.specs.Prelude.{◌≡◌, ◌+◌, ◌<◌, ◌^◌, ℕ, List, true, not, IfOk, OnErr, MatchBool};
+ghost use Rattle.smt_terms.specs.declared.sort.Signature.{Signature};
 ghost use Rattle.smt_values.specs.declared.value.Value.{Value as Held};
 ghost use Rattle.smt_build.specs.declared.symbols.LiveName.{LiveName as Name};
 ghost use Rattle.script_state.specs.Readings.{ReadsAs};
@@ -9,7 +10,7 @@ ghost use Rattle.accepted_proof.specs.Searching as searching;
 ghost use Rattle.accepted_proof.specs.Judged.{commanded, owed_by, is_idle};
 ghost use Rattle.script_state.specs.States.{IsState, StateValue};
 ghost use Rattle.proof_log.specs.declared.entry.Entry.{Entry as Step};
-ghost use Rattle.proof_checker.specs.Checkers.{Says, judged_so, owed_of, IsOpen, IsNoted};
+ghost use Rattle.proof_checker.specs.Checkers.{Says, judged_so, owed_of, IsOpen, IsNoted, AreKept};
 
 use crate::checker::Checker;
 use crate::due::Due;
@@ -23,6 +24,7 @@ fn due_by(answer: Answer) -> Due
     ensures owed { (live : List Name) (values : List (ℕ × Held)) → owed_of result live values ≡ owed_by answer }
     ensures open { (live : List Name) (values : List (ℕ × Held)) → IsOpen result live values }
     ensures noted { (limits : searching.Limits) (s : StateValue) (log : List Step) → IsNoted limits s log result }
+    ensures kept { (signatures : List Signature) (values : List (ℕ × Held)) → AreKept result signatures values }
 {
     match answer {
         Answer::Check => Due::Steps,

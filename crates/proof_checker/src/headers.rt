@@ -4,7 +4,7 @@ ghost use Rattle.std.specs.Prelude.{◌≡◌, IfOk, MatchOption, MatchResult};
 ghost use Rattle.accepted_proof.specs.Searching as searching;
 ghost use Rattle.accepted_proof.specs.Judged.{IsHeader, bad_header};
 ghost use Rattle.check_cubes.specs.Searches.{limits_of};
-ghost use Rattle.proof_checker.specs.Checkers.{line_in, no_records};
+ghost use Rattle.proof_checker.specs.Checkers.{line_in, no_records, records_over};
 
 use crate::checker::Checker;
 use crate::due::Due;
@@ -40,13 +40,26 @@ impl Checker {
             (λ c. (limits : searching.Limits) × IsHeader (line_in first.now) limits × (c ≡ no_records limits))
             (λ f. ((limits : searching.Limits) → IsHeader (line_in first.now) limits → ⊥) × (f ≡ bad_header))) }
     {
+        Checker::over(alloc, first, State::new(alloc))
+    }
+
+    /// The same for a script whose commands are obeyed from a state on.
+    pub fn over(
+        alloc: Global,
+        first: &Result<Line, LineFault>,
+        state: State,
+    ) -> Result<Result<Checker, Refusal>, AllocError>
+        ensures { IfOk result (λ r. MatchResult r
+            (λ c. (limits : searching.Limits) × IsHeader (line_in first.now) limits × (c ≡ records_over state limits))
+            (λ f. ((limits : searching.Limits) → IsHeader (line_in first.now) limits → ⊥) × (f ≡ bad_header))) }
+    {
         let Some(limits) = header_limits(first) else {
             return Ok(Err(Refusal {
                 line: 1,
                 rule: RuleName::Header,
             }));
         };
-        let state = Box::new(alloc, State::new(alloc))?;
+        let state = Box::new(alloc, state)?;
         let log = Box::new(alloc, Log::new(alloc)?)?;
         Ok(Ok(Checker {
             limits,

@@ -20,13 +20,21 @@ mod inputs;
 mod kept;
 mod lines;
 mod models;
+mod named;
 mod records;
 mod refutations;
 pub mod report;
 mod steps;
+#[cfg(test)]
+mod theory_tests;
 mod values;
+mod written;
 
 pub use check_laws::{
     accepted_fronts_are_right, accepted_fronts_stay, accepted_proofs_pass,
-    texts_are_judged_one_way, what_is_accepted_is_right,
+    accepted_proofs_pass_over, texts_are_judged_one_way, what_is_accepted_is_right,
+    what_is_accepted_over_is_right,
 };
+
+#[cfg(test)]
+mod lemma_tests;

@@ -8,7 +8,6 @@ ghost use Rattle.cnf_base.specs.declared.clause.ClauseId.{ClauseId as Name};
 ghost use Rattle.hint_chain.specs.Chains.{IsChain};
 ghost use Rattle.smt_terms.specs.declared.node.Op.{Op as OpValue};
 ghost use Rattle.smt_terms.specs.declared.node.Node.{Node as NodeValue};
-ghost use Rattle.smt_terms.specs.declared.sort.Signature.{Signature};
 ghost use Rattle.smt_terms.specs.Nodes.{node_of};
 ghost use Rattle.smt_terms.specs.Terms.{TermsValue};
 ghost use Rattle.smt_build.specs.Names.{IsDeclared};
@@ -21,10 +20,10 @@ ghost use Rattle.proof_log.specs.Stored.{Stands};
 ghost use Rattle.proof_text.specs.declared.line.Line.TheVariants as line;
 ghost use Rattle.proof_text.specs.Lines.{IsLiteral, IsLine};
 ghost use Rattle.proof_text.specs.Entries.{head_of, written_literal, written_hint, entry_line};
-ghost use Rattle.script_state.specs.States.{IsPlainConstant};
 ghost use Rattle.accepted_proof.specs.Turns.{IsOfScript};
 ghost use Rattle.accepted_proof.specs.Judged.{IsStepOf};
 
+use crate::named::{lemma_of, pair_of, term_of};
 use cnf_base::{Clause, ClauseId, Lit, Pos};
 use proof_log::Log;
 use proof_log::entry::{Entry, Hints};
@@ -33,6 +32,7 @@ use proof_text::list::{WrittenHint, WrittenLiteral};
 use script_state::state::State;
 use smt_terms::list::Arguments;
 use smt_terms::node::{Node, Op, TermId};
+use smt_terms::sort::{DeclId, Signature};
 use std::alloc::{AllocError, Global};
 
 /// The clause that is written, where each of its variables was made.
@@ -94,24 +94,58 @@ fn hints_of(alloc: Global, log: &Log, hints: &[WrittenHint]) -> Result<Option<Hi
     Ok(Some(named))
 }
 
-/// The operator that is written, but for the application of a declared function.
-fn op_of(head: Head) -> Option<Op>
-    ensures { MatchOption result
-        ((signatures : List Signature) (op : OpValue) (v : TermsValue) (args : List ℕ) → All IsPlainConstant signatures → IsDeclared signatures op → head_of op ≡ Some head → IsNewNode v (node_of op args) → ⊥)
-        (λ op. (head_of op ≡ Some head) × ((signatures : List Signature) → IsDeclared signatures op)) }
+/// The declaration of this number and its signature, if it was made.
+fn signature_of(state: &State, number: u64) -> Result<Option<(DeclId, Signature)>, AllocError>
+    ensures { IfOk result (λ o. MatchOption o (slice_get state.now.symbols.signatures number ≡ None)
+        (λ p. (p.0 ≡ number) × (slice_get state.now.symbols.signatures number ≡ Some p.1))) }
 {
-    match head {
-        Head::Plain(operator) => Some(Op::Plain(operator)),
-        Head::Word { width, value } => Some(Op::Word { width, value }),
-        Head::Extract { high, low } => Some(Op::Extract { high, low }),
-        Head::ZeroExtend(by) => Some(Op::ZeroExtend(by)),
-        Head::SignExtend(by) => Some(Op::SignExtend(by)),
-        Head::RotateLeft(by) => Some(Op::RotateLeft(by)),
-        Head::RotateRight(by) => Some(Op::RotateRight(by)),
-        Head::Repeat(copies) => Some(Op::Repeat(copies)),
-        Head::ConstantArray(width) => Some(Op::ConstantArray(width)),
-        Head::Apply(_) => None,
+    if number > u32::MAX as u64 {
+        return match state.signature(u32::MAX) {
+            Some(_) => Err(AllocError),
+            None => Ok(None),
+        };
     }
+    let declaration = number as u32;
+    match state.signature(declaration) {
+        Some(signature) => Ok(Some((declaration, signature.clone()?))),
+        None => Ok(None),
+    }
+}
+
+/// The application of the declaration of this number, if it was made.
+fn application_of(state: &State, number: u64) -> Result<Option<Op>, AllocError>
+    ensures { IfOk result (λ o. MatchOption o
+        ((op : OpValue) → IsDeclared state.now.symbols.signatures op → head_of op ≡ Some (Head.Apply number) → ⊥)
+        (λ op. (head_of op ≡ Some (Head.Apply number)) × IsDeclared state.now.symbols.signatures op)) }
+{
+    match signature_of(state, number)? {
+        Some((declaration, signature)) => Ok(Some(Op::Apply {
+            declaration,
+            signature,
+        })),
+        None => Ok(None),
+    }
+}
+
+/// The operator that is written.
+fn op_of(state: &State, head: Head) -> Result<Option<Op>, AllocError>
+    ensures { IfOk result (λ o. MatchOption o
+        ((op : OpValue) → IsDeclared state.now.symbols.signatures op → head_of op ≡ Some head → ⊥)
+        (λ op. (head_of op ≡ Some head) × IsDeclared state.now.symbols.signatures op)) }
+{
+    let op = match head {
+        Head::Plain(operator) => Op::Plain(operator),
+        Head::Word { width, value } => Op::Word { width, value },
+        Head::Extract { high, low } => Op::Extract { high, low },
+        Head::ZeroExtend(by) => Op::ZeroExtend(by),
+        Head::SignExtend(by) => Op::SignExtend(by),
+        Head::RotateLeft(by) => Op::RotateLeft(by),
+        Head::RotateRight(by) => Op::RotateRight(by),
+        Head::Repeat(copies) => Op::Repeat(copies),
+        Head::ConstantArray(width) => Op::ConstantArray(width),
+        Head::Apply(declaration) => return application_of(state, declaration),
+    };
+    Ok(Some(op))
 }
 
 /// The arguments that are written, where each is a held term.
@@ -140,23 +174,13 @@ fn node_of(
         (λ n. (entry_line (step.Node n) ≡ Some (line.Term head numbers.now)) × IsDeclared state.now.symbols.signatures n.op)) }
 {
     let held = state.terms().len();
-    let Some(op) = op_of(head) else {
+    let Some(op) = op_of(state, head)? else {
         return Ok(None)
     };
     match args_of(alloc, held, numbers)? {
         Some(args) => Ok(Some(Node { op, args })),
         None => Ok(None),
     }
-}
-
-/// The term of this number, if it is held.
-fn term_of(held: u32, number: u64) -> Option<TermId>
-    ensures { MatchOption result (held ≤ number) (λ t. (t ≡ number) × (t < held)) }
-{
-    if number >= held as u64 {
-        return None;
-    }
-    Some(number as u32)
 }
 
 /// The assertion's number and its term, if it was made.
@@ -208,16 +232,17 @@ pub fn entry_of(
         ((e : Step) → IsStepOf state.now log.now.entries line.now e → ⊥)
         (λ e. (entry_line e ≡ Some line.now) × IsOfScript state.now e)) }
 {
+    let held = state.terms().len();
     match line {
         Line::Term { head, args } => match node_of(alloc, state, *head, args.as_slice())? {
             Some(node) => Ok(Some(Entry::Node(node))),
             None => Ok(None),
         },
-        Line::Leaf(number) => match term_of(state.terms().len(), *number) {
+        Line::Leaf(number) => match term_of(held, *number) {
             Some(term) => Ok(Some(Entry::Leaf(term))),
             None => Ok(None),
         },
-        Line::Encode(number) => match term_of(state.terms().len(), *number) {
+        Line::Encode(number) => match term_of(held, *number) {
             Some(term) => Ok(Some(Entry::Encode(term))),
             None => Ok(None),
         },
@@ -226,6 +251,16 @@ pub fn entry_of(
             None => Ok(None),
         },
         Line::Chain { clause, hints } => chain_of(alloc, log, clause.as_slice(), hints.as_slice()),
+        Line::Equal(lower, upper) => match pair_of(held, *lower, *upper) {
+            Some((lower, upper)) => Ok(Some(Entry::Equal(lower, upper))),
+            None => Ok(None),
+        },
+        Line::Congruence(_, _) | Line::Witness(_) | Line::Accesses(_, _) => {
+            match lemma_of(alloc, held, line)? {
+                Some(lemma) => Ok(Some(Entry::Lemma(lemma))),
+                None => Ok(None),
+            }
+        }
         _ => Ok(None),
     }
 }

@@ -1,25 +1,22 @@
 // Models.
 
-ghost use Rattle.std.specs.Prelude.{◌≡◌, ◌<◌, ◌≤◌, ◌^◌, true, length, Some, IfOk, MatchBool, MatchOption};
+ghost use Rattle.std.specs.Prelude.{◌≡◌, IfOk, MatchBool, MatchOption};
 ghost use Rattle.std.specs.List.{list_all};
-ghost use Rattle.smt_words.specs.Words.{IsWidth};
-ghost use Rattle.smt_terms.specs.Terms.{IsSort};
-ghost use Rattle.smt_terms.specs.Ranks.{is_plain};
 ghost use Rattle.smt_terms.specs.Values.{is_true};
 ghost use Rattle.smt_values.specs.declared.value.Value.{Value as Held};
 ghost use Rattle.smt_values.specs.Held.{meaning};
-ghost use Rattle.proof_text.specs.Records.{binary, written_value};
 ghost use Rattle.smt_build.specs.declared.symbols.LiveName.{LiveName as Name};
-ghost use Rattle.accepted_proof.specs.Models.{interpretation_of, IsModel, IsOfKind};
+ghost use Rattle.accepted_proof.specs.Models.{interpretation_of, IsModel};
 ghost use Rattle.accepted_proof.specs.Judged.{IsValueOf};
+ghost use Rattle.proof_checker.specs.Checkers.{AreOfSignatures};
 
 use crate::kept::KeptInterp;
+use crate::written::value_of;
 use proof_text::line::WrittenValue;
 use script_state::state::State;
 use smt_eval::values_with;
-use smt_terms::sort::{DeclId, Sort};
+use smt_terms::sort::DeclId;
 use smt_values::Value;
-use smt_words::Word;
 use std::alloc::{AllocError, Global};
 use term_reach::Reached;
 
@@ -56,6 +53,7 @@ pub fn is_model(
     reached: &mut Reached,
     kept: KeptInterp,
 ) -> Result<(bool, KeptInterp), AllocError>
+    requires { AreOfSignatures state.now.symbols.signatures values.now }
     ensures { IfOk result (λ r. MatchBool r.0
         (IsModel state.now (interpretation_of values.now))
         (IsModel state.now (interpretation_of values.now) → ⊥)) }
@@ -69,77 +67,23 @@ pub fn is_model(
     Ok((holds, kept))
 }
 
-/// The number of these binary digits, the highest first.
-fn number(digits: &[bool]) -> u128
-    requires { length digits.now ≤ 128 }
-    ensures small { result < 2 ^ length digits.now }
-    ensures digits { binary (length digits.now) result ≡ digits.now }
-{
-    let mut number = 0u128;
-    for digit in digits {
-        number = 2 * number + if *digit { 1 } else { 0 };
-    }
-    number
-}
-
-/// The word of this width that is written so; nothing where it has more digits or fewer.
-fn word_of(width: u32, digits: &[bool]) -> Option<Value>
-    requires { IsWidth width }
-    ensures { MatchOption result
-        ((v : Held) → IsOfKind (Sort.Word width) v → written_value v ≡ Some (WrittenValue.Word digits.now) → ⊥)
-        (λ v. IsOfKind (Sort.Word width) v × (written_value v ≡ Some (WrittenValue.Word digits.now))) }
-{
-    if digits.len() != width as usize {
-        return None;
-    }
-    Some(Value::Word(Word::new(width, number(digits)).unwrap()))
-}
-
-/// The value of this sort that is written so; nothing where there is none.
-fn value_of(sort: Sort, written: &WrittenValue) -> Option<Value>
-    requires sort { IsSort sort }
-    requires plain { is_plain sort ≡ true }
-    ensures { MatchOption result
-        ((v : Held) → IsOfKind sort v → written_value v ≡ Some written.now → ⊥)
-        (λ v. IsOfKind sort v × (written_value v ≡ Some written.now)) }
-{
-    match written {
-        WrittenValue::Bool(holds) => match sort {
-            Sort::Bool => Some(Value::Bool(*holds)),
-            _ => None,
-        },
-        WrittenValue::Word(digits) => match sort {
-            Sort::Word(width) => word_of(width, digits.as_slice()),
-            _ => None,
-        },
-        WrittenValue::Array {
-            default: _,
-            entries: _,
-        } => None,
-        WrittenValue::Fun {
-            default: _,
-            values: _,
-        } => None,
-    }
-}
-
 /// The value that is written for a declaration, where it is the next one.
 pub fn declared_value(
+    alloc: Global,
     state: &State,
     next: DeclId,
     declaration: u64,
     written: &WrittenValue,
-) -> Option<Value>
-    ensures { MatchOption result
+) -> Result<Option<Value>, AllocError>
+    ensures { IfOk result (λ o. MatchOption o
         ((name : Name) (v : Held) → name.declaration ≡ next → IsValueOf state.now name declaration written.now v → ⊥)
-        (λ v. (name : Name) → name.declaration ≡ next → IsValueOf state.now name declaration written.now v) }
+        (λ v. (name : Name) → name.declaration ≡ next → IsValueOf state.now name declaration written.now v)) }
 {
-    let _live = state.live();
     if declaration != next as u64 {
-        return None;
+        return Ok(None);
     }
     match state.signature(next) {
-        Some(signature) => value_of(signature.value, written),
-        None => None,
+        Some(signature) => value_of(alloc, signature, written),
+        None => Ok(None),
     }
 }

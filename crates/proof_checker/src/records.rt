@@ -30,6 +30,8 @@ fn rule_of(line: &Line) -> RuleName
             clause: _,
             hints: _,
         } => RuleName::Chain,
+        Line::Equal(_, _) => RuleName::Equal,
+        Line::Congruence(_, _) | Line::Witness(_) | Line::Accesses(_, _) => RuleName::Lemma,
         _ => RuleName::Line,
     }
 }
@@ -89,10 +91,10 @@ impl Checker {
                 clause: _,
                 hints: _,
             } => self.step(alloc, line),
-            Line::Equal(_, _) => Ok(self.refuse(RuleName::Line)),
-            Line::Congruence(_, _) => Ok(self.refuse(RuleName::Line)),
-            Line::Witness(_) => Ok(self.refuse(RuleName::Line)),
-            Line::Accesses(_, _) => Ok(self.refuse(RuleName::Line)),
+            Line::Equal(_, _) => self.step(alloc, line),
+            Line::Congruence(_, _) => self.step(alloc, line),
+            Line::Witness(_) => self.step(alloc, line),
+            Line::Accesses(_, _) => self.step(alloc, line),
             Line::Sat(count) => self.begin_values(alloc, *count),
             Line::Value {
                 declaration: _,

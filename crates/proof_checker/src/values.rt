@@ -4,7 +4,7 @@ ghost use Rattle.std.specs.Prelude.{◌≡◌, ◌+◌, ◌<◌, ◌^◌, [], dr
 ghost use Rattle.proof_text.specs.declared.line.Line.TheVariants as line;
 ghost use Rattle.accepted_proof.specs.Models.{interpretation_of, IsModel};
 ghost use Rattle.accepted_proof.specs.Judged.{Goes, AtStep, MovesBy};
-ghost use Rattle.proof_checker.specs.Checkers.{GoesTo, IsOwedValues};
+ghost use Rattle.proof_checker.specs.Checkers.{GoesTo, IsOwedValues, AreOfSignatures};
 
 use crate::checker::Checker;
 use crate::due::Due;
@@ -23,6 +23,7 @@ impl Checker {
     fn owe_values(self, values: Vec<(DeclId, Value)>) -> Checker
         requires more { self.judging.line + 1 < 2 ^ 64 }
         requires left { length values.items < length self.judging.state.symbols.live }
+        requires kept { AreOfSignatures self.judging.state.symbols.signatures values.items }
         ensures { GoesTo (Goes self.judging (drop (length values.items) self.judging.state.symbols.live) values.items) self result }
     {
         let mut checker = self;
@@ -34,6 +35,7 @@ impl Checker {
 
     // Whether these values are a model; the tables serve the next record too.
     fn holds(&mut self, alloc: Global, values: &[(DeclId, Value)]) -> Result<bool, AllocError>
+        requires { AreOfSignatures self.old.judging.state.symbols.signatures values.now }
         ensures same { self.new ≡ self.old }
         ensures holds { IfOk result (λ b. MatchBool b
             (IsModel self.old.judging.state (interpretation_of values.now))
@@ -48,6 +50,7 @@ impl Checker {
     // The values of a model are all there, and are judged.
     fn judge_model(self, alloc: Global, values: &[(DeclId, Value)]) -> Result<Checker, AllocError>
         requires more { self.judging.line + 1 < 2 ^ 64 }
+        requires kept { AreOfSignatures self.judging.state.symbols.signatures values.now }
         ensures { IfOk result (λ c. GoesTo (Goes self.judging [] values.now) self c) }
     {
         let mut checker = self;
@@ -68,6 +71,7 @@ impl Checker {
         values: Vec<(DeclId, Value)>,
     ) -> Result<Checker, AllocError>
         requires more { self.judging.line + 1 < 2 ^ 64 }
+        requires kept { AreOfSignatures self.judging.state.symbols.signatures values.items }
         ensures { IfOk result (λ c. GoesTo (Goes self.judging (drop (length values.items) self.judging.state.symbols.live) values.items) self c) }
     {
         if values.len() < self.state.declared().len() {
@@ -100,7 +104,10 @@ impl Checker {
         ensures { IfOk result (λ c. GoesTo (MovesBy self.judging.owed self.judging (Some (line.Value declaration written.now))) self c) }
     {
         let next = self.state.declared()[self.values.len()].declaration;
-        let Some(value) = declared_value(&self.state, next, declaration, written) else {
+        let Ok(found) = declared_value(alloc, &self.state, next, declaration, written) else {
+            return Err(self.release());
+        };
+        let Some(value) = found else {
             return Ok(self.refuse(RuleName::Sat))
         };
         let mut checker = self;

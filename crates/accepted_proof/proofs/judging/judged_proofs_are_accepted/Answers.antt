@@ -1,12 +1,12 @@
 use Rattle.std.proofs.Common.{refl, []}
-use Rattle.script_state.specs.States.{no_state, IsState}
+use Rattle.script_state.specs.States.{start_of, IsState}
 use Rattle.accepted_proof.proofs.Completing.{judged_turns}
 use Rattle.accepted_proof.proofs.Reading.{all_of_turns}
-use Rattle.accepted_proof.proofs.Reaching.{reached_first}
+use Rattle.accepted_proof.proofs.Reaching.{reached_start}
 use Rattle.accepted_proof.proofs.Good.{states_keep}
 use Rattle.accepted_proof.proofs.judging.judged_proofs_are_accepted.Goals as goal
 
 pub returns : goal.returns
-returns c = λ limits script chunks says lines allowed all read h.
-    let t = judged_turns IsState states_keep limits chunks says lines no_state [] 2 reached_first.state read h in
+returns c = λ theories limits script chunks says lines allowed all read h.
+    let t = judged_turns IsState states_keep limits chunks says lines (start_of theories) [] 2 (reached_start theories).state read h in
     (t.turns, t.lines, record { allowed = allowed; chunks = t.first; cut = all_of_turns script chunks t.first t.behind says t.turns t.cut all read t.read t.all; read = t.read; last = t.last; run = t.run; lines = refl })

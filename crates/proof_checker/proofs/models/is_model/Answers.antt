@@ -3,12 +3,12 @@ use Rattle.std.specs.Prelude.{All}
 use Rattle.smt_terms.specs.Terms.{TermsValue}
 use Rattle.smt_eval.specs.Evaluated.{AreSuited}
 use Rattle.accepted_proof.proofs.Valuing.{are_suited}
-use Rattle.proof_checker.proofs.Valued.{judged}
+use Rattle.proof_checker.proofs.Valued.{judged, held_for}
 use Rattle.proof_checker.proofs.models.is_model.Goals as goal
 
 pub values_with-requires : goal.values_with-requires
 values_with-requires c = record {
-  suited = subst (λ (v : TermsValue). AreSuited v.nodes c.in_ok-interp.interp) (sym c.terms.ensures.terms) (are_suited c.args.state.now c.terms.ensures.state c.in_ok-interp.interp);
+  suited = subst (λ (v : TermsValue). AreSuited v.nodes c.in_ok-interp.interp) (sym c.terms.ensures.terms) (are_suited c.args.state.now c.terms.ensures.state c.in_ok-interp.interp (held_for c.args.state.now.symbols.signatures c.args.values.now c.in_ok-interp.interp c.requires c.in_ok-interp.ensures));
   held = rw c.as_slice.ensures.value (subst (λ (v : TermsValue). All (λ t. t < length v.nodes) c.in_ok-asked.asked.items) (sym c.terms.ensures.terms) c.in_ok-asked.ensures.held);
 }
 

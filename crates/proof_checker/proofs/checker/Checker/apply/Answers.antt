@@ -14,6 +14,7 @@ invariant_of-checker-2 c =
       c.due_by.ensures.open new.symbols.live before.values.items,
       c.due_by.ensures.noted (limits_of before.limits) new before.log.value.entries,
       c.checker.invariant.3,
+      c.due_by.ensures.kept new.symbols.signatures before.values.items,
     )
 
 pub returns : goal.returns

@@ -9,4 +9,5 @@ invariant_of-checker c = (
   tt,
   subst (λ (x : CheckerValue). IsNoted x.judging.limits x.judging.state x.judging.log (Noted c.args.noting)) (sym c.checker.view_is) c.requires.noted,
   c.checker.invariant.3,
+  tt,
 )

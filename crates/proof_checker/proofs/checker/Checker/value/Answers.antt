@@ -6,11 +6,11 @@ use Rattle.accepted_proof.specs.Judged.{refused, MovesBy}
 use Rattle.accepted_proof.specs.declared.refusal.RuleName.TheVariants as rule
 use Rattle.check_cubes.specs.Searches.{limits_of}
 use Rattle.proof_checker.specs.Checkers.{CheckerValue, GoesTo, IsOwedValues, judged_so}
-use Rattle.proof_checker.proofs.Moving.{value_refused, value_pushed}
+use Rattle.proof_checker.proofs.Moving.{value_refused, value_pushed, one_more_kept}
 use Rattle.proof_checker.proofs.checker.Checker.value.Goals as goal
 
-pub returns-in_default : goal.returns-in_default
-returns-in_default c =
+pub returns-in_default-found : goal.returns-in_default-found
+returns-in_default-found c =
     let before = c.self.inside in
     let next = c.index-declared-len.result in
     let live = c.declared.ensures ∙ ap (λ (x : StateValue). x.symbols.live) c.deref.ensures in
@@ -19,7 +19,7 @@ returns-in_default c =
     subst (λ (x : CheckerValue). GoesTo (MovesBy x.judging.owed x.judging (Some (line.Value c.args.declaration c.args.written.now))) x c.refuse.result) c.self.view_is
     (value_refused (limits_of before.limits) before.state.value before.log.value.entries before.due before.line before.verdicts.items before.values.items next c.args.declaration c.args.written.now c.refuse.result
     (subst (λ (x : CheckerValue). IsOwedValues x.judging.owed) (sym c.self.view_is) c.requires.values) at
-    (λ v is. (rw c.deref-2.ensures at c.in_default.ensures) next v (ap (λ (x : LiveName). x.declaration) c.index-declared-len.is) is)
+    (λ v is. (rw (c.deref-2.ensures, c.in_default-found.is) at c.in-Ok.ensures) next v (ap (λ (x : LiveName). x.declaration) c.index-declared-len.is) is)
     (subst (λ (x : CheckerValue). c.refuse.result ≡ judged_so x (refused x.judging rule.Sat)) (sym c.self.view_is) c.refuse.ensures))
 
 pub returns : goal.returns
@@ -33,6 +33,16 @@ returns c =
     subst (λ (x : CheckerValue). IfOk c.go_to_values.result (λ to. GoesTo (MovesBy x.judging.owed x.judging (Some (line.Value c.args.declaration c.args.written.now))) x to)) c.self.view_is
     (value_pushed (limits_of before.limits) before.state.value before.log.value.entries before.due before.line before.verdicts.items before.values.items c.push.new.self.items next c.args.declaration c.args.written.now c.in-Some.value c.go_to_values.result
     (subst (λ (x : CheckerValue). IsOwedValues x.judging.owed) (sym c.self.view_is) c.requires.values) at
-    ((rw c.deref-2.ensures at c.in-Some.ensures) next named)
-    (c.in-Ok.ensures.items ∙ ap (λ n. before.values.items ++ (n, c.in-Some.value) ∷ []) (sym named))
+    ((rw (c.deref-2.ensures, c.in-Some.is) at c.in-Ok.ensures) next named)
+    (c.in-Ok-push.ensures.items ∙ ap (λ n. before.values.items ++ (n, c.in-Some.value) ∷ []) (sym named))
     c.go_to_values.ensures)
+
+pub go_to_values-requires-clause-kept : goal.go_to_values-requires-clause-kept
+go_to_values-requires-clause-kept c =
+    let before = c.self.inside in
+    let next = c.index-declared-len.result in
+    let named = ap (λ (x : LiveName). x.declaration) c.index-declared-len.is in
+    one_more_kept before.state.value before.due before.values.items c.push.new.self.items next c.args.declaration c.args.written.now c.in-Some.value
+    (subst (λ (x : CheckerValue). IsOwedValues x.judging.owed) (sym c.self.view_is) c.requires.values) c.self.invariant.4
+    ((rw (c.deref-2.ensures, c.in-Some.is) at c.in-Ok.ensures) next named)
+    (c.in-Ok-push.ensures.items ∙ ap (λ n. before.values.items ++ (n, c.in-Some.value) ∷ []) (sym named))

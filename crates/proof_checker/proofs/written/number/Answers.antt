@@ -2,8 +2,8 @@ use Rattle.std.proofs.Common.{◌≤◌, ◌^◌, arith, ap, sym, ◌∙◌}
 use Rattle.std.specs.Prelude.{◌==◌}
 use Rattle.std.proofs.Math.Pow.{pow_mono}
 use Rattle.proof_checker.proofs.Valued.{number_more, binary_none}
-use Rattle.proof_checker.proofs.models.number.Goals as goal
-use Rattle.proof_checker.proofs.models.number.Goals.{then-digit, else-digit}
+use Rattle.proof_checker.proofs.written.number.Goals as goal
+use Rattle.proof_checker.proofs.written.number.Goals.{then-digit, else-digit}
 
 pub loop-digit-init : goal.loop-digit-init
 loop-digit-init c = (omega arith, binary_none 0)

@@ -1,0 +1,13 @@
+use Rattle.std.proofs.Common.{[], ◌∷◌, ◌++◌, ap, ◌∙◌, codes}
+use Rattle.std.proofs.lemmas.Result.{on_ok_weaker}
+use Rattle.smt_terms.specs.declared.sort.Sort.TheVariants.{Array}
+use Rattle.accepted_proof.specs.Answers.{sort_text, word_text}
+use Rattle.accepted_proof.proofs.Pieces.{five_parts}
+use Rattle.accepted_proof.proofs.printing.push_constant.Goals as goal
+
+pub returns : goal.returns
+returns c =
+    on_ok_weaker c.push.result
+    (five_parts c.args.out.now _ _ _ _ c.push.new.self (codes "((as const ") (sort_text (Array c.args.index c.args.element.width)) (codes ") ") (word_text c.args.element.width c.args.element.value) (41 ∷ [])
+    c.in_ok-push_slice.ensures.ok (c.in_ok-push_sort.ensures ∙ ap (λ w. c.push_slice.new.self ++ sort_text (Array c.args.index w)) c.width.ensures) c.in_ok-push_slice-2.ensures.ok c.in_ok-push_word.ensures.ok)
+    c.push.ensures.ok
