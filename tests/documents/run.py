@@ -12,9 +12,9 @@ usage: run.py    (reads README.md, docs/ and the sources; no program is run)
   from which the others of crates.txt follow. A row that ends in a file of specs/ names definitions of that file, and those of
   `run`'s contract all have one. The table of files has every file of src/.
 - In the tables of docs/CLAIMS.md, what follows `CALL`: is a clause of that call, by its label or by a definition that it
-  names; and `IsSomething.part` is a part of that record.
-- The scripts and the proofs that docs/PROOFS.md goes through are those of examples and of rows, and the replayer of tests/rows
-  accepts the proofs; a clause that the page names there is the one of the replayed log.
+  names; and `Record.part` is a part of that record.
+- The scripts and the proofs that docs/PROOFS.md goes through are those of examples and of rows, or of the table of
+  crates/theory_rows, and the replayer of tests/rows accepts the proofs; a clause that the page names there is the one of the replayed log.
 - The head of a crate's root file names crates that it stands on by crates.txt.
 """
 import pathlib
@@ -26,6 +26,7 @@ CRATES = ROOT / "crates"
 DOCUMENTS = [path.relative_to(ROOT).as_posix() for path in [ROOT / "README.md", *sorted((ROOT / "docs").glob("*.md"))]]
 FILE_ENDINGS = (".md", ".py", ".smt2", ".txt", ".rt", ".row", ".antt", ".dialogue")
 sys.path.insert(0, str(ROOT / "tests/rows"))
+import lemmas
 import reference
 import run as rows_of_answers
 
@@ -121,8 +122,8 @@ def check_names(text, sources, crates):
             for name in re.findall(NAME, code):
                 if name not in known and not name.isupper():
                     yield "nothing is named %s in `%s`" % (name, code)
-    for record, part in re.findall(r"`(Is[A-Za-z]+|Are[A-Za-z]+)\.([a-z_]+)`", text):
-        if part not in sources.parts.get(record, ()):
+    for record, part in re.findall(r"`([A-Z][A-Za-z]+)\.([a-z_]+)`", text):
+        if part not in sources.parts.get(record, {part} if record in known else ()):
             yield "%s has no part %s" % (record, part)
 
 
@@ -195,26 +196,40 @@ def check_definitions(text):
             yield "the contract of run names %s, which has no row" % name
 
 
-# Each script that docs/PROOFS.md goes through, with its proof behind it: the example and the row that have it.
+# Each script that docs/PROOFS.md goes through, with its proof behind it: the example and the row that have it, or the base
+# of the table and its verdicts.
 WORKED = [("proof.smt2", "proof_that_is_explained.row"), ("unknown.smt2", "diary_that_is_explained.row")]
+WORKED_BASES = [("store_that_is_read_back", ["unsat"])]
+
+
+def worked_proofs():
+    """The name, script, proof and verdicts of each proof that is gone through, and whether its script has theories."""
+    for example, row in WORKED:
+        asked = [line for line in (ROOT / "examples" / example).read_text().splitlines() if not line.startswith(";")]
+        held = rows_of_answers.sections(ROOT / "tests/rows" / row)
+        script = held["script"] if held["script"].splitlines() == asked else None
+        yield example, script, held["proof"], held["answers"].splitlines(), False
+    bases = {base[0]: base for base in lemmas.bases((lemmas.TABLE / "stdin").read_text())}
+    for name, verdicts in WORKED_BASES:
+        _, script, proof, _ = bases[name]
+        yield name, lemmas.text_of(script), lemmas.text_of(proof), verdicts, True
 
 
 def check_worked_proofs(text):
     parts = [part for part in re.split(r"^## ", text, flags=re.M) if re.search(r"^    ", part, re.M)]
-    if len(parts) != len(WORKED):
+    worked = list(worked_proofs())
+    if len(parts) != len(worked):
         yield "there are %d worked proofs" % len(parts)
-    for part, (example, row) in zip(parts, WORKED):
+    for part, (name, held_script, held_proof, wanted, theories) in zip(parts, worked):
         script, proof = (re.sub(r"^    ", "", block, flags=re.M) for block in re.findall(r"(?:^    .*\n)+", part, re.M))
-        asked = [line for line in (ROOT / "examples" / example).read_text().splitlines() if not line.startswith(";")]
-        held = rows_of_answers.sections(ROOT / "tests/rows" / row)
-        if script.splitlines() != asked or script != held["script"] or proof != held["proof"]:
-            yield "the script or the proof is not that of %s or of %s" % (example, row)
-        verdicts, log = reference.replay(script, proof)
-        if "\n".join(verdicts) + "\n" != held["answers"]:
-            yield "the replayer tells other verdicts of " + example
+        if script != held_script or proof != held_proof:
+            yield "the script or the proof is not that of " + name
+        verdicts, log = reference.replay(script, proof, theories)
+        if verdicts != wanted:
+            yield "the replayer tells other verdicts of " + name
         for pos, k, clause in re.findall(r"(\d+)\.(\d+) \{([^}]*)\}", part):
             if log.clause(int(pos), int(k)) != [int(l) for l in clause.split()]:
-                yield "%s.%s is not {%s} in the proof of %s" % (pos, k, clause, example)
+                yield "%s.%s is not {%s} in the proof of %s" % (pos, k, clause, name)
 
 
 def check_heads(crates):

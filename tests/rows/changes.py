@@ -12,7 +12,7 @@ import sys
 
 import reference
 import run
-from terms import Refused
+from operators import Refused
 
 HERE = pathlib.Path(__file__).resolve().parent
 
@@ -39,8 +39,8 @@ CHANGES = [
     (15, 2, "unknown 0 13 2|= 3|+ 13", "accepted"),
     (15, 2, "unknown 0 13 2|= 0|+ 13", "accepted"),
     (15, 2, "unknown 0 13 2|= 13|+ 13", "a subset"),
-    (15, 2, "unknown 0 13 2|+ 13|= 13", "spent before its end"),
-    (15, 2, "unknown 0 13 2|+ 13|- 13", "spent before its end"),
+    (15, 2, "unknown 0 13 2|+ 13|= 13", "not spent"),
+    (15, 2, "unknown 0 13 2|+ 13|- 13", "may be dropped"),
     (15, 2, "unknown 0 13 2|- 13|+ 13", "may be dropped"),
     (15, 2, "unknown 0 13 2|= 14|+ 13", "no such entry"),
     (15, 2, "unknown 0 13 2|e 0|+ 13", "no line of a diary"),
@@ -107,8 +107,8 @@ def with_drops(lines):
     next(terms.checks())
     log, steps = reference.Log(terms), []
     for t, (op, _, _) in enumerate(terms.terms.nodes):
-        log.leaf(t) if op == "const" else log.encode(t)
-        steps.append("%s %d" % ("f" if op == "const" else "e", t))
+        log.leaf(t) if op == "declared" else log.encode(t)
+        steps.append("%s %d" % ("f" if op == "declared" else "e", t))
     gates = [(at, row[2]) for at, row in enumerate(log.rows) if len(row) == 3]
     for a in range(len(terms.asserted)):
         log.selector(a)

@@ -3,7 +3,7 @@
 A diary says which clauses a search held, line by line: `= P` holds the clauses of entry P, `+ P` puts the chain P, which is
 then held, `- P` drops a held chain. It is spent where it has one put more than the budget, the last line being the last put.
 """
-from terms import need
+from operators import need
 
 # Chains are dropped right behind a number of puts that is a multiple of this one.
 PUTS_BETWEEN_DROPS = 2000
@@ -43,7 +43,7 @@ class Diary:
 
     def __init__(self, log, literals, start):
         need(start <= len(log.rows), "diary: no such start")
-        need(all(p in log.chains for p in range(start, len(log.rows))), "diary: a step behind the start is no chain")
+        need(log.built < start, "diary: a step behind the start is no chain, equality or lemma")
         self.log, self.given = log, literals
         self.held = {p for p in range(start) if p not in log.chains}
         self.puts, self.may_drop = 0, 0

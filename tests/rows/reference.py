@@ -1,69 +1,139 @@
 #!/usr/bin/env python3
 """A slow second reader of proof files, written apart from the program.
 
-usage: reference.py SCRIPT PROOF
+usage: reference.py SCRIPT PROOF [theories]
 
-Reads a script over Bools and words (declare-const, assert, push, pop, reset, check-sat, check-sat-assuming, exit, with all
-operators of Core and of words, `let` and `:named`) and the
+Reads a script over Bools and words (declare-const, declare-fun, assert, push, pop, reset, check-sat, check-sat-assuming, exit,
+with all operators of Core and of words, `let` and `:named`), with the third word over functions and arrays too, and the
 proof file that the solver wrote for it, and replays every line by the rules of the format. Prints the verdict of each
 record and `accepted N`, or `refused line L: why`. It shares no code with the solver or its checker. terms.py reads the
-script and has the values of terms, circuits.py has the gates of each operator, diaries.py has the diaries of searches.
+script, operators.py has the sorts and values of terms, circuits.py the gates of each operator, accesses.py the lemmas on
+functions and arrays, diaries.py the diaries of searches.
 """
-import collections
+import re
 import sys
 
-from circuits import CIRCUITS, Circuit
+import accesses
+from circuits import CIRCUITS, TRUE, Circuit
 from diaries import Diary, given
-from terms import BOOL, NUMERAL, Refused, Script, need
+from operators import BOOL, NUMBERS, SORTS, Array, Refused, Table, is_array, need, zero_of
+from terms import NUMERAL, Script
+
+# By which rule a line of this kind is refused, but for those that are no lines.
+RULES = {
+    "t": "node", "f": "leaf", "e": "encode", "s": "selector", "q": "equal", "l": "lemma", "c": "chain",
+    "sat": "sat", "unsat": "unsat", "unknown": "diary",
+}
+
+
+class BadLine(Refused):
+    """The first bad line, and the rule by which it is one."""
+
+    def __init__(self, line, rule, why):
+        super().__init__("line %d: %s" % (line, why))
+        self.line, self.rule = line, rule
 
 
 # ---- the log
 
 class Log:
-    """The clauses of each entry, the bits of terms and the selectors of assertions."""
+    """The clauses of each entry, the bits of terms, the equalities of terms and the selectors of assertions."""
 
     def __init__(self, script):
         self.script, self.terms = script, script.terms
-        self.next, self.bits, self.selectors = 2, {}, {}
+        self.next, self.bits, self.equalities, self.selectors = 2, {}, {}, {}
         self.rows = [[[1]]]
-        # the terms with `f` lines, and the hints of each chain by its position
-        self.leaves, self.chains = [], {}
+        # the declared constants with `f` lines, the hints of each chain by its position, and the last position of a step that
+        # is none of a search
+        self.leaves, self.chains, self.built = [], {}, -1
 
     def node(self, t):
-        need(t < len(self.terms.nodes) and t not in self.bits, "no such term, or it has bits")
+        need(t < len(self.terms.nodes), "no such term")
         return self.terms.nodes[t]
 
+    def new_node(self, t):
+        need(t not in self.bits, "it has bits")
+        return self.node(t)
+
+    def build(self, clauses):
+        """One position more, of a step that is none of a search."""
+        self.built = len(self.rows)
+        self.rows.append(clauses)
+
+    # ---- terms, bits and selectors
+
+    def term(self, op, numbers, args):
+        for a in args:
+            self.node(a)
+        held = len(self.terms.nodes)
+        t = self.script.applied(*numbers, args) if op == "apply" else self.terms.apply(op, numbers, args)
+        need(t == held, "t: a term that is held")
+        self.build([])
+
     def leaf(self, t):
-        op, _, _ = self.node(t)
-        need(op == "const", "f: no constant")
-        width = 1 if self.terms.sorts[t] == BOOL else self.terms.sorts[t]
-        self.leaves.append(t)
+        op, _, args = self.new_node(t)
+        sort = self.terms.sorts[t]
+        of_arrays = op == "=" and is_array(self.terms.sorts[args[0]])
+        need(op in ("declared", "select", "apply", "witness") or of_arrays, "f: a term that has a circuit, or has none")
+        need(not is_array(sort), "f: an array")
+        width = 1 if sort == BOOL else sort
+        if op == "declared":
+            self.leaves.append(t)
         self.bits[t] = list(range(self.next, self.next + width))
         self.next += width
-        self.rows.append([])
+        self.build([])
 
     def encode(self, t):
-        op, numbers, args = self.node(t)
+        op, numbers, args = self.new_node(t)
         need(op in CIRCUITS and all(a in self.bits for a in args), "e: no circuit, or arguments without bits")
         circuit = Circuit(self.next)
         self.bits[t] = CIRCUITS[op](circuit, *numbers, *(self.bits[a] for a in args))
         self.next = circuit.next
-        self.rows.append(circuit.clauses)
+        self.build(circuit.clauses)
 
     def selector(self, a):
         need(a < len(self.script.asserted), "s: no such assertion")
         t = self.script.asserted[a]
         need(t in self.bits and a not in self.selectors.values(), "s: no bit, or a selector twice")
         self.selectors[self.next] = a
-        self.rows.append([[-self.next, self.bits[t][0]]])
+        self.build([[-self.next, self.bits[t][0]]])
         self.next += 1
+
+    # ---- equalities and lemmas
+
+    def equal(self, t, u):
+        self.node(u)
+        need(t < u and self.terms.sorts[t] == self.terms.sorts[u], "q: no lower term first, or two sorts")
+        need(t in self.bits and u in self.bits, "q: a term without bits")
+        need((t, u) not in self.equalities, "q: an equality twice")
+        circuit = Circuit(self.next)
+        self.equalities[t, u] = circuit.equal(self.bits[t], self.bits[u])
+        self.next = circuit.next
+        self.rows.append(circuit.clauses)
+
+    def equality(self, t, u):
+        """The literal that tells whether two terms are equal."""
+        if t == u:
+            return TRUE
+        need((min(t, u), max(t, u)) in self.equalities, "l: no equality of %d and %d" % (t, u))
+        return self.equalities[min(t, u), max(t, u)]
+
+    def truth(self, t):
+        """The literal of a Bool."""
+        need(t in self.bits and self.terms.sorts[t] == BOOL, "l: %d has no truth value" % t)
+        return self.bits[t][0]
+
+    def lemma(self, clause):
+        self.rows.append([clause])
+
+    # ---- chains
 
     def clause(self, pos, part):
         need(pos < len(self.rows) and part < len(self.rows[pos]), "no such clause")
         return self.rows[pos][part]
 
     def chain(self, clause, hints):
-        need(all(l != 0 and abs(l) < self.next for l in clause), "c: no such variable")
+        need(all(abs(l) < self.next for l in clause), "c: no such variable")
         if any(-l in clause for l in clause):
             need(not hints, "c: hints beside a complementary pair")
         else:
@@ -92,27 +162,80 @@ class Log:
 
 # ---- the proof
 
-def numbers_of(words, count):
+class Lines:
+    """The lines of a proof, and the number of the one that was taken last."""
+
+    def __init__(self, text):
+        *self.whole, self.rest = text.split("\n")
+        self.at = 0
+
+    def are_left(self):
+        return self.at < len(self.whole) or (self.at == len(self.whole) and self.rest != "")
+
+    def take(self):
+        there = self.are_left()
+        self.at += 1
+        need(there, "end")
+        need(self.at <= len(self.whole), "line: it is unfinished")
+        return self.whole[self.at - 1]
+
+
+def numbers_of(words, count, bits=64):
     need(len(words) == count and all(NUMERAL.fullmatch(w) for w in words), "line: other numbers are due")
-    return [int(w) for w in words]
+    numbers = [int(w) for w in words]
+    need(all(n < 1 << bits for n in numbers), "line: too great a number")
+    return numbers
 
 
 def literals_of(words):
-    numbers_of([w.removeprefix("-") for w in words], len(words))
-    return [int(w) for w in words]
+    variables = numbers_of([w.removeprefix("-") for w in words], len(words))
+    need(0 not in variables, "line: no variable")
+    return [-x if w.startswith("-") else x for w, x in zip(words, variables)]
 
 
 def step(log, kind, words):
     """A line that adds to the log."""
-    if kind == "c":
-        need("0" in words, "line: a clause without an end")
-        end = words.index("0")
-        log.chain(literals_of(words[:end]), [numbers_of(w.split("."), 2) for w in words[end + 1:]])
-    else:
-        steps = {"f": log.leaf, "e": log.encode, "s": log.selector}
-        need(kind in steps, "line: unknown kind")
-        steps[kind](*numbers_of(words, 1))
+    need(kind in RULES, "line: unknown kind")
+    match kind, words:
+        case "t", [op, *rest]:
+            new_term(log, op, rest)
+        case "c", _:
+            need("0" in words, "line: a clause without an end")
+            end = words.index("0")
+            log.chain(literals_of(words[:end]), [numbers_of(w.split("."), 2) for w in words[end + 1:]])
+        case "q", _:
+            log.equal(*numbers_of(words, 2))
+        case "l", ["c", *terms]:
+            log.lemma(accesses.congruence(log, *numbers_of(terms, 2)))
+        case "l", ["w", *terms]:
+            log.lemma(accesses.difference(log, *numbers_of(terms, 1)))
+        case "l", ["a", *both]:
+            need(both.count("/") == 1, "line: not two accesses")
+            end = both.index("/")
+            log.lemma(accesses.agreement(log, *(access_of(path) for path in (both[:end], both[end + 1:]))))
+        case "f" | "e" | "s", _:
+            {"f": log.leaf, "e": log.encode, "s": log.selector}[kind](*numbers_of(words, 1))
+        case _:
+            raise Refused("line: other words are due")
 
+
+def new_term(log, op, rest):
+    need(op == "apply" or op in SORTS, "line: unknown operator")
+    count = 1 if op == "apply" else NUMBERS.get(op, 0)
+    numbers = numbers_of(rest[:count], count, 128 if op == "word" else 64)
+    log.term(op, numbers, numbers_of(rest[count:], len(rest) - count))
+
+
+def access_of(words):
+    """The numbers of a start, and the moves, each a letter and a number."""
+    need(words, "line: no access")
+    start, *moves = words
+    need(len(moves) % 2 == 0 and set(moves[::2]) <= set("wteq"), "line: no moves")
+    parts = start.split("@")
+    return numbers_of(parts, min(len(parts), 2)), list(zip(moves[::2], numbers_of(moves[1::2], len(moves) // 2)))
+
+
+# ---- records
 
 def record(log, limits, kind, words, lines):
     if kind == "unknown":
@@ -125,25 +248,70 @@ def record(log, limits, kind, words, lines):
         need(all(l in against or l < 0 and log.selectors.get(-l) in live for l in log.clause(n, 0)), "unsat: another literal")
 
 
+DIGITS = re.compile(r"#b[01]+")
+
+
+def need_form(words):
+    """The words have the form of a value."""
+    kind, *rest = words
+    if kind == "a":
+        need(len(rest) % 2 == 1 and all(DIGITS.fullmatch(w) for w in rest), "line: no array")
+    else:
+        need(rest if kind == "f" else not rest, "line: no value")
+        scalars = rest if kind == "f" else words
+        need(all(w in ("true", "false") or DIGITS.fullmatch(w) for w in scalars), "line: no value")
+
+
 def value_of(word, sort):
     if sort == BOOL:
         need(word in ("true", "false"), "sat: no truth value")
         return int(word == "true")
-    need(word.startswith("#b") and len(word) == sort + 2 and set(word[2:]) <= {"0", "1"}, "sat: no word of its width")
+    need(DIGITS.fullmatch(word) and len(word) == sort + 2, "sat: no word of its width")
     return int(word[2:], 2)
+
+
+def rising(rows):
+    """The rows, each a key and a value, whose keys rise."""
+    need(all(a < b for (a, _), (b, _) in zip(rows, rows[1:])), "sat: rows that do not rise")
+    return rows
+
+
+def array_of(words, sort):
+    need(words[0] == "a", "sat: no array")
+    default, *rest = words[1:]
+    entries = [(value_of(i, sort.index), value_of(v, sort.element)) for i, v in zip(rest[::2], rest[1::2])]
+    return Array(sort.index, value_of(default, sort.element), rising(entries))
+
+
+def table_of(words, args, sort):
+    need(words[0] == "f", "sat: no function")
+    default, *rest = words[1:]
+    size = len(args) + 1
+    need(len(rest) % size == 0, "sat: too few values in a row")
+    rows = [[value_of(*cell) for cell in zip(rest[k:k + size], [*args, sort])] for k in range(0, len(rest), size)]
+    return Table(value_of(default, sort), rising([(tuple(given), v) for *given, v in rows]))
+
+
+def meaning_of(words, args, sort):
+    if args:
+        return table_of(words, args, sort)
+    if is_array(sort):
+        return array_of(words, sort)
+    need(len(words) == 1, "sat: no truth value and no word")
+    return value_of(words[0], sort)
 
 
 def sat_record(script, count, lines):
     live = sorted(script.names.values())
     need(count == len(live), "sat: not every live declaration")
-    model = [0] * len(script.sorts)
+    model = [zero_of(*signature) for signature in script.signatures]
     for d in live:
-        sort = script.sorts[d]
-        need(lines, "end")
-        n, line = lines.popleft()
-        beginning = "v %d " % d
-        need(line.startswith(beginning), "sat: another value is due, line %d" % n)
-        model[d] = value_of(line.removeprefix(beginning), sort)
+        kind, *words = lines.take().split(" ")
+        need(kind == "v" and len(words) > 1, "line: a value is due")
+        (declared,) = numbers_of(words[:1], 1)
+        need_form(words[1:])
+        need(declared == d, "sat: another value is due")
+        model[d] = meaning_of(words[1:], *script.signatures[d])
     values = script.terms.values(model)
     need(all(values[script.asserted[a]] == 1 for a in script.live), "sat: an assertion is false")
     need(all(values[t] == 1 for t in script.assumed), "sat: an assumption is false")
@@ -152,15 +320,15 @@ def sat_record(script, count, lines):
 def unknown_record(log, limits, n, start, count, lines):
     depth, budget = limits
     diary = Diary(log, given(log, depth, n), start)
-    for k in range(count):
-        need(lines, "end")
-        at, line = lines.popleft()
-        kind, *words = line.split(" ")
-        need(kind in ("=", "+", "-"), "line: no line of a diary, line %d" % at)
+    need(count > 0, "diary: not spent")
+    for _ in range(count):
+        kind, *words = lines.take().split(" ")
+        need(kind in ("=", "+", "-"), "line: no line of a diary")
         diary.line(kind, *numbers_of(words, 1))
-        need(diary.puts <= budget or k + 1 == count, "diary: spent before its end, line %d" % at)
-    need(count > 0 and kind == "+" and diary.puts == budget + 1, "diary: not spent")
+    need(kind == "+" and diary.puts == budget + 1, "diary: not spent")
 
+
+# ---- whole proofs
 
 def limits_of(header):
     """The most split variables and the budget."""
@@ -172,40 +340,48 @@ def limits_of(header):
     raise Refused("header")
 
 
-def replay(script_text, proof):
+def judged(lines, rule, judge):
+    """What a part of the proof gives, or its bad line. What has no form of a line is refused by another rule than the part's."""
+    try:
+        return judge()
+    except Refused as why:
+        told = str(why).partition(":")[0]
+        raise BadLine(lines.at, rule if rule == "header" or told not in ("line", "end") else told, why) from why
+
+
+def one_check(log, limits, lines):
+    """The verdict of the next record, behind its steps."""
+    while True:
+        kind, *words = judged(lines, "line", lines.take).split(" ")
+        rule = RULES.get(kind, "line")
+        if kind in ("sat", "unsat", "unknown"):
+            judged(lines, rule, lambda: record(log, limits, kind, words, lines))
+            return kind
+        judged(lines, rule, lambda: step(log, kind, words))
+
+
+def replay(script_text, proof, theories=False):
     """The verdicts of a proof's records and the log behind them, where it is accepted."""
-    need(proof.endswith("\n"), "an unfinished line")
-    lines = collections.deque(enumerate(proof[:-1].split("\n"), 1))
-    limits = limits_of(lines.popleft()[1])
-    script = Script(script_text)
+    lines = Lines(proof)
+    limits = judged(lines, "header", lambda: limits_of(lines.take()))
+    script = Script(script_text, theories)
     log, verdicts = Log(script), []
     for _ in script.checks():
-        kind = None
-        while kind not in ("sat", "unsat", "unknown"):
-            need(lines, "end")
-            n, line = lines.popleft()
-            kind, *words = line.split(" ")
-            try:
-                if kind in ("sat", "unsat", "unknown"):
-                    record(log, limits, kind, words, lines)
-                else:
-                    step(log, kind, words)
-            except Refused as why:
-                raise Refused("line %d: %s" % (n, why)) from why
-        verdicts.append(kind)
-    need(not lines, "text after the last record")
+        verdicts.append(one_check(log, limits, lines))
+    if lines.are_left():
+        raise BadLine(lines.at + 1, "end", "text after the last record")
     return verdicts, log
 
 
-def check(script_text, proof):
+def check(script_text, proof, theories=False):
     """The verdicts of a proof's records, where it is accepted."""
-    return replay(script_text, proof)[0]
+    return replay(script_text, proof, theories)[0]
 
 
 def main():
     script, proof = (open(p, encoding="latin-1", newline="").read() for p in sys.argv[1:3])
     try:
-        verdicts = check(script, proof)
+        verdicts = check(script, proof, sys.argv[3:] == ["theories"])
     except Refused as why:
         print("refused", why)
         return 1

@@ -1,7 +1,8 @@
 """Scripts as the replayer reads them: tokens, commands, the term list and the values of terms.
 
-Read are `declare-const` of Bools and words, `assert`, levels, `check-sat` and `check-sat-assuming`, with all operators of
-Core and of words, `let`, and the names that `:named` gives. Any other chunk, and any with a fault, leaves everything as it
+Read are `declare-const` and `declare-fun` of Bools and words, `assert`, levels, `check-sat` and `check-sat-assuming`, with all
+operators of Core and of words, `let`, and the names that `:named` gives. Where functions and arrays are asked for, functions
+with arguments, array sorts, `select` and `store` are read too. Any other chunk, and any with a fault, leaves everything as it
 was.
 """
 import functools
@@ -9,17 +10,10 @@ import itertools
 import re
 import sys
 
+from operators import BOOL, MOST, SORTS, VALUES, Indexed, Refused, is_array, need, sort_of
+
 sys.setrecursionlimit(100000)
 sys.set_int_max_str_digits(0)
-
-
-class Refused(Exception):
-    pass
-
-
-def need(holds, why):
-    if not holds:
-        raise Refused(why)
 
 
 # ---- chunks and tokens
@@ -79,106 +73,13 @@ def expression(pieces):
     return stack[0][0]
 
 
-# ---- operators: sorts
-
-BOOL = 0  # as a sort; a word's sort is its width
-BINARY = "bvadd bvsub bvmul bvand bvor bvxor bvnand bvnor bvxnor bvudiv bvurem bvsdiv bvsrem bvsmod bvshl bvlshr bvashr"
-ORDERS = "bvult bvule bvugt bvuge bvslt bvsle bvsgt bvsge"
-
-# from a name's numbers and the sorts of its arguments to the sort of its result, None where it does not take them
-SORTS = {name: sort for names, sort in {
-    "true false": lambda: BOOL,
-    "not": lambda p: BOOL if p == BOOL else None,
-    "and or xor =>": lambda p, q: BOOL if p == q == BOOL else None,
-    "ite": lambda p, a, b: a if p == BOOL and a == b else None,
-    "=": lambda a, b: BOOL if a == b else None,
-    "bvnot bvneg": lambda a: a or None,
-    BINARY: lambda a, b: a if a == b != BOOL else None,
-    ORDERS: lambda a, b: BOOL if a == b != BOOL else None,
-    "bvcomp": lambda a, b: 1 if a == b != BOOL else None,
-    "concat": lambda a, b: a + b if BOOL not in (a, b) else None,
-    "extract": lambda i, j, a: i - j + 1 if a > i >= j else None,
-    "zero_extend sign_extend": lambda i, a: a + i if a != BOOL else None,
-    "rotate_left rotate_right": lambda i, a: a or None,
-    "repeat": lambda i, a: a * i or None,
-}.items() for name in names.split()}
-NUMBERS = {"extract": 2, "zero_extend": 1, "sign_extend": 1, "rotate_left": 1, "rotate_right": 1, "repeat": 1}
-GROUPED = set("and or xor bvand bvor bvxor bvadd bvmul concat => = distinct".split())
-TAKEN = RESERVED | set(SORTS) | {"distinct", "select", "store"}
-
-
-def sort_of(op, numbers, sorts):
-    need(op in SORTS and len(numbers) == NUMBERS.get(op, 0), "no operator " + op)
-    need(len(numbers) + len(sorts) == SORTS[op].__code__.co_argcount, "number of arguments of " + op)
-    sort = SORTS[op](*numbers, *sorts)
-    need(sort is not None and 0 <= sort <= 128, "sorts of arguments, or width, of " + op)
-    return sort
-
-
-# ---- operators: values (a truth value is 0 or 1)
-
-def signed(n, a):
-    return a - (1 << n) if a >> n - 1 else a
-
-
-def quotient(n, a, b):
-    return a // b if b else (1 << n) - 1
-
-
-def remainder(n, a, b):
-    return a % b if b else a
-
-
-def signed_quotient(n, a, b):
-    q = quotient(n, abs(signed(n, a)), abs(signed(n, b)))
-    return q if a >> n - 1 == b >> n - 1 else -q
-
-
-def signed_remainder(n, a, b):
-    u = remainder(n, abs(signed(n, a)), abs(signed(n, b)))
-    return -u if a >> n - 1 else u
-
-
-def modulus(n, a, b):
-    """The remainder of the absolute values, moved to where the divisor's sign is."""
-    u = remainder(n, abs(signed(n, a)), abs(signed(n, b)))
-    if u == 0:
-        return u
-    return {(0, 0): u, (1, 0): -u + b, (0, 1): u + b, (1, 1): -u}[a >> n - 1, b >> n - 1]
-
-
-def turned(n, i, a):
-    return a << i % n | a >> n - i % n
-
-
-# from the width of the last argument, the numbers of the name and the arguments, to a number that counts modulo 2 to
-# the result's width
-VALUES = {
-    "true": lambda n: 1, "false": lambda n: 0, "not": lambda n, p: 1 - p,
-    "and": lambda n, p, q: p & q, "or": lambda n, p, q: p | q, "xor": lambda n, p, q: p ^ q,
-    "=>": lambda n, p, q: 1 - p | q,
-    "ite": lambda n, p, a, b: a if p else b, "=": lambda n, a, b: a == b,
-    "bvnot": lambda n, a: ~a, "bvneg": lambda n, a: -a,
-    "bvadd": lambda n, a, b: a + b, "bvsub": lambda n, a, b: a - b, "bvmul": lambda n, a, b: a * b,
-    "bvand": lambda n, a, b: a & b, "bvor": lambda n, a, b: a | b, "bvxor": lambda n, a, b: a ^ b,
-    "bvnand": lambda n, a, b: ~(a & b), "bvnor": lambda n, a, b: ~(a | b), "bvxnor": lambda n, a, b: ~(a ^ b),
-    "bvudiv": quotient, "bvurem": remainder,
-    "bvsdiv": signed_quotient, "bvsrem": signed_remainder, "bvsmod": modulus,
-    "bvshl": lambda n, a, b: a << min(b, n), "bvlshr": lambda n, a, b: a >> min(b, n),
-    "bvashr": lambda n, a, b: signed(n, a) >> min(b, n),
-    "bvult": lambda n, a, b: a < b, "bvule": lambda n, a, b: a <= b,
-    "bvugt": lambda n, a, b: a > b, "bvuge": lambda n, a, b: a >= b,
-    "bvslt": lambda n, a, b: signed(n, a) < signed(n, b), "bvsle": lambda n, a, b: signed(n, a) <= signed(n, b),
-    "bvsgt": lambda n, a, b: signed(n, a) > signed(n, b), "bvsge": lambda n, a, b: signed(n, a) >= signed(n, b),
-    "bvcomp": lambda n, a, b: a == b, "concat": lambda n, a, b: a << n | b,
-    "extract": lambda n, i, j, a: a >> j,
-    "zero_extend": lambda n, i, a: a, "sign_extend": lambda n, i, a: signed(n, a),
-    "rotate_left": turned, "rotate_right": lambda n, i, a: turned(n, -i, a),
-    "repeat": lambda n, i, a: sum(a << n * k for k in range(i)),
-}
-
-
 # ---- terms
+
+GROUPED = set("and or xor bvand bvor bvxor bvadd bvmul concat => = distinct".split())
+# operators of proofs alone: in scripts these are names like others
+UNWRITTEN = {"word", "const", "witness"}
+TAKEN = RESERVED | set(SORTS) - UNWRITTEN | {"distinct"}
+
 
 class Terms:
     """Different nodes, each numbered by its place: (operator, numbers, arguments)."""
@@ -209,11 +110,14 @@ class Terms:
         """The value of each term, where the model gives that of each declaration."""
         held = []
         for (op, numbers, args), sort in zip(self.nodes, self.sorts):
-            if op in ("const", "word"):
-                held.append(model[numbers[0]] if op == "const" else numbers[1])
+            given = tuple(held[a] for a in args)
+            if op == "declared":
+                held.append(model[numbers[0]])
+            elif op == "apply":
+                held.append(model[numbers[0]].at(given))
             else:
-                width = self.sorts[args[-1]] if args else 0
-                held.append(VALUES[op](width, *numbers, *(held[a] for a in args)) % (1 << max(sort, 1)))
+                value = VALUES[op](self.sorts[args[-1]] if args else 0, *numbers, *given)
+                held.append(value if is_array(sort) else value % (1 << max(sort, 1)))
         return held
 
 
@@ -226,7 +130,7 @@ def number(text):
 
 def width_of(text):
     n = number(text)
-    need(1 <= n <= 128, "width")
+    need(1 <= n <= MOST, "width")
     return n
 
 
@@ -247,9 +151,10 @@ def levels_meant(count):
 class Script:
     """The commands, one at a time. What has a fault or is not read is skipped, as the session does."""
 
-    def __init__(self, text):
-        self.text = text
-        self.terms, self.names, self.sorts, self.asserted = Terms(), {}, [], []
+    def __init__(self, text, theories=False):
+        self.text, self.theories = text, theories
+        # of each declaration the sorts of its arguments and its own
+        self.terms, self.names, self.signatures, self.asserted = Terms(), {}, [], []
         self.live, self.levels = [], []
         # the terms of names that `:named` gave, whether such may be given now, and the variables of `let`
         self.defined, self.may_name, self.bound = {}, False, {}
@@ -264,7 +169,9 @@ class Script:
             try:
                 match expression(pieces):
                     case ["declare-const", name, sort]:
-                        self.declare(name, sort)
+                        self.declare(name, [], sort)
+                    case ["declare-fun", name, [*args], sort]:
+                        self.declare(name, args, sort)
                     case ["assert", e]:
                         self.may_name = True
                         t = self.truth(e)
@@ -301,17 +208,25 @@ class Script:
             self.names, self.defined, self.live = dict(names), dict(defined), self.live[:live]
             del self.levels[-n:]
 
-    def declare(self, name, sort):
+    def declare(self, name, args, sort):
         self.need_new(name)
-        match sort:
+        taken, given = [self.sort(a) for a in args], self.sort(sort)
+        need(self.theories or not args, "a function with arguments")
+        need(not any(map(is_array, taken)) and not (args and is_array(given)), "a function of arrays")
+        self.names[name] = len(self.signatures)
+        self.signatures.append((taken, given))
+
+    def sort(self, e):
+        match e:
             case "Bool":
-                declared = BOOL
+                return BOOL
             case ["_", "BitVec", width]:
-                declared = width_of(width)
-            case _:
-                raise Refused("sort")
-        self.names[name] = len(self.sorts)
-        self.sorts.append(declared)
+                return width_of(width)
+            case ["Array", index, element] if self.theories:
+                parts = [self.sort(index), self.sort(element)]
+                need(not any(p == BOOL or is_array(p) for p in parts), "an array of no words")
+                return Indexed(*parts)
+        raise Refused("sort")
 
     def need_new(self, name):
         need_symbol(name)
@@ -348,8 +263,9 @@ class Script:
         if e in self.bound or e in self.defined:
             return self.bound[e] if e in self.bound else self.defined[e]
         need(e in self.names, "unknown symbol " + e)
-        d = self.names[e]
-        return self.terms.leaf("const", (d, self.sorts[d]), self.sorts[d])
+        args, sort = self.signatures[self.names[e]]
+        need(not args, "a function alone")
+        return self.terms.leaf("declared", (self.names[e],), sort)
 
     def under(self, bindings, body):
         outer, new = self.bound, {}
@@ -378,16 +294,20 @@ class Script:
 
     def word(self, n, x):
         need(x < 1 << n, "literal too wide")
-        return self.terms.leaf("word", (n, x), n)
+        return self.terms.apply("word", (n, x), ())
 
     def indexed(self, name, numbers, args):
-        need(numbers, "no index")
-        if name.startswith("rotate_") and numbers[0] >= 1 << 64:
-            numbers = [numbers[0] % (self.terms.sorts[args[0]] or 1), *numbers[1:]]
+        need(numbers and name not in UNWRITTEN, "no index, or an unknown symbol")
+        turned = self.terms.sorts[args[0]]
+        if name.startswith("rotate_") and numbers[0] >= 1 << 64 and not is_array(turned):
+            numbers = [numbers[0] % (turned or 1), *numbers[1:]]
         return self.terms.apply(name, numbers, args)
 
     def application(self, name, args):
-        """The term of an operator, grouped by twos where it takes any number of arguments from two on."""
+        """The term of a function or an operator, which is grouped by twos where it takes any number of arguments from two on."""
+        if name in self.names and name not in self.bound and name not in self.defined:
+            return self.applied(self.names[name], args)
+        need(name not in UNWRITTEN, "unknown symbol " + name)
         if name not in GROUPED:
             return self.terms.apply(name, (), args)
         need(len(args) > 1, "number of arguments of " + name)
@@ -398,6 +318,13 @@ class Script:
         if name == "distinct":
             return self.from_the_left("and", [self.apart(a, b) for a, b in itertools.combinations(args, 2)])
         return self.from_the_left(name, args)
+
+    def applied(self, d, args):
+        """The term of a declared function."""
+        need(d < len(self.signatures), "no declaration")
+        taken, sort = self.signatures[d]
+        need(taken and taken == [self.terms.sorts[a] for a in args], "a function of other arguments")
+        return self.terms.hold(("apply", (d,), tuple(args)), sort)
 
     def two(self, name, a, b):
         return self.terms.apply(name, (), (a, b))
