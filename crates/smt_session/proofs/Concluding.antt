@@ -1,9 +1,9 @@
 -- What the search of its cubes shows of a check.
 use Rattle.std.proofs.Common.{◌≡◌, ℕ, zero, suc, ◌<◌, ◌≤◌, ◌^◌, Bool, true, false, List, [], ◌∷◌, ◌++◌, length, map, flat_map, take, Option, Some, refl, sym, ap, ◌∙◌, subst, inl, inr, ⊎_elim, append_assoc, arith}
-use Rattle.std.specs.Prelude.{◌&&◌, is_some, if◌then◌else◌, All, Contains, option_to_list, slice_get}
+use Rattle.std.specs.Prelude.{◌⊎◌, ◌&&◌, is_some, if◌then◌else◌, All, Contains, option_to_list, slice_get}
 use Rattle.std.specs.List.{AllByRecursion}
-use Rattle.std.proofs.lemmas.List.Elements.{All-contains, All-cons, All-from_recursion, All-nil, recursion_from_All}
-use Rattle.cnf_base.specs.Literals.{Literal}
+use Rattle.std.proofs.lemmas.List.Elements.{All-contains, All-cons, All-from_recursion, All-nil, All-weaker, Contains-append_left, Contains-append_right, recursion_from_All}
+use Rattle.cnf_base.specs.Literals.{Literal, negated}
 use Rattle.cnf_base.specs.Clauses.{lit_true}
 use Rattle.cnf_base.specs.Assignments.{AreBelow}
 use Rattle.cnf_base.proofs.Options.{same_found}
@@ -39,7 +39,8 @@ use Rattle.reached_steps.proofs.Separate.{reached_are_separate}
 use Rattle.smt_session.specs.Growing.{Grows, IsStepFor, AreBits, AreGiven, AreSelectors}
 use Rattle.smt_session.specs.declared.solve.Found.{Found}
 use Rattle.smt_session.specs.declared.solve.Found.TheVariants as found
-use Rattle.smt_session.specs.Searched.{IsTermStep, IsAssertionStep, IsStepOf, AreEnough, AreSatisfied, HasTrueSelector, HasTrueBit, IsProblem, IsLowestSpent, IsFound, problem}
+use Rattle.smt_session.specs.Searched.{IsTermStep, IsAssertionStep, IsStepOf, AreEnough, AreSatisfied, HasTrueSelector, HasTrueBit, IsProblem, IsSpentCube, IsClosed, IsLowestSpent, IsFound, problem}
+use Rattle.smt_session.specs.Thorough.{IsClosedCube, AreOthersSearched}
 use Rattle.smt_session.specs.Sessions.{IsSession, IsChecked}
 use Rattle.smt_session.proofs.Cubes.{grown_chain}
 use Rattle.smt_session.proofs.Giving.{given_below, given_stays, selectors_true, true_bits}
@@ -195,35 +196,62 @@ have_bits nodes log (a ∷ asked) (x ∷ xs) h e =
     let rest : map (λ (y : Asked). bits_in log.bits y.term) asked ≡ map (λ l. Some (l ∷ [])) xs = cc in
     All-cons (HasBit (state_of nodes log.entries)) a asked (x, sym ((stands_over nodes log h).bits a.term) ∙ first) (have_bits nodes log asked xs h rest)
 
--- the diary of the lowest spent cube shows that the answer is not known
-pub unknown : (limits : Limits) (s : StateValue) (old new : LogValue) (positions variables : List ℕ) (given : List Literal) (d : Diary) → Stands s.terms.nodes old → Stands s.terms.nodes new → Prolongs old.entries new.entries → Grows s old new
-    → variables ≡ cube_variables limits s s.terms.nodes old.entries → AreGiven s old given → IsLowestSpent (problem s.terms.nodes old.entries positions variables given limits.budget) new.entries d → IsUnknown limits s s.terms.nodes new.entries d
-unknown limits s old new positions variables given d before after prolongs grows split are h =
-    let nodes = s.terms.nodes in
-    let now = given_stays s old new given before grows are in
-    let same : cube_variables limits s s.terms.nodes new.entries ≡ variables = variables_stay limits s s.terms.nodes old.entries new.entries prolongs ∙ sym split in
-    let literals : given_literals limits s s.terms.nodes new.entries d.cube ≡ cube_of variables d.cube ++ given =
-    ap (λ xs. cube_of xs d.cube ++ flat_map (selector_literals (state_of s.terms.nodes new.entries)) s.scopes.live ++ flat_map (λ (a : Asked). bits_or_none ((state_of s.terms.nodes new.entries).bits a.term)) (assumptions s)) same
-    ∙ ap (λ xs. cube_of variables d.cube ++ xs ++ flat_map (λ (a : Asked). bits_or_none ((state_of s.terms.nodes new.entries).bits a.term)) (assumptions s)) (selectors_given s.terms.nodes new s.scopes.live now.selectors after now.chosen)
-    ∙ ap (λ xs. cube_of variables d.cube ++ now.selectors ++ xs) (bits_given s.terms.nodes new (assumptions s) now.bits after now.assumed)
-    ∙ append_assoc (cube_of variables d.cube) now.selectors now.bits
-    ∙ ap (λ xs. cube_of variables d.cube ++ xs) (sym now.all) in
-    record {
-      search = record {
-        cube_of_check = subst (λ (xs : List ℕ). d.cube < 2 ^ length xs) (sym same) h.own.cube;
-        selectors = have_selectors s.terms.nodes new s.scopes.live now.selectors after now.chosen;
-        bits = have_bits s.terms.nodes new (assumptions s) now.bits after now.assumed;
-        within = h.own.within;
-        added = λ p e le q. (let start = h.own.start in chain_is_added e (grown_chain old.entries new.entries p e prolongs (omega (arith, start, le)) q));
-      };
-      spent = subst (λ xs. IsSpent (record { nodes = s.terms.nodes; log = new.entries; given = xs; from = d.start }) limits.budget d.lines) (sym literals) h.own.spent;
-    }
+module _ (limits : Limits) (s : StateValue) (old new : LogValue) (positions variables : List ℕ) (given : List Literal) (before : Stands s.terms.nodes old) (after : Stands s.terms.nodes new) (prolongs : Prolongs old.entries new.entries) (grows : Grows s old new)
+    (split : variables ≡ cube_variables limits s s.terms.nodes old.entries) (are : AreGiven s old given) where
+  now : AreGiven s new given
+  now = given_stays s old new given before grows are
+
+  same : cube_variables limits s s.terms.nodes new.entries ≡ variables
+  same = variables_stay limits s s.terms.nodes old.entries new.entries prolongs ∙ sym split
+
+  literals : (n : ℕ) → given_literals limits s s.terms.nodes new.entries n ≡ cube_of variables n ++ given
+  literals n =
+      ap (λ xs. cube_of xs n ++ flat_map (selector_literals (state_of s.terms.nodes new.entries)) s.scopes.live ++ flat_map (λ (a : Asked). bits_or_none ((state_of s.terms.nodes new.entries).bits a.term)) (assumptions s)) same
+      ∙ ap (λ xs. cube_of variables n ++ xs ++ flat_map (λ (a : Asked). bits_or_none ((state_of s.terms.nodes new.entries).bits a.term)) (assumptions s)) (selectors_given s.terms.nodes new s.scopes.live now.selectors after now.chosen)
+      ∙ ap (λ xs. cube_of variables n ++ now.selectors ++ xs) (bits_given s.terms.nodes new (assumptions s) now.bits after now.assumed)
+      ∙ append_assoc (cube_of variables n) now.selectors now.bits
+      ∙ ap (λ xs. cube_of variables n ++ xs) (sym now.all)
+
+  -- the diary of a spent cube shows that the answer is not known
+  pub unknown : (d : Diary) → IsSpentCube (problem s.terms.nodes old.entries positions variables given limits.budget) new.entries d → IsUnknown limits s s.terms.nodes new.entries d
+  unknown d h = record {
+    search = record {
+      cube_of_check = subst (λ (xs : List ℕ). d.cube < 2 ^ length xs) (sym same) h.cube;
+      selectors = have_selectors s.terms.nodes new s.scopes.live now.selectors after now.chosen;
+      bits = have_bits s.terms.nodes new (assumptions s) now.bits after now.assumed;
+      within = h.within;
+      added = λ p e le q. (let start = h.start in chain_is_added e (grown_chain old.entries new.entries p e prolongs (omega (arith, start, le)) q));
+    };
+    spent = subst (λ xs. IsSpent (record { nodes = s.terms.nodes; log = new.entries; given = xs; from = d.start }) limits.budget d.lines) (sym (literals d.cube)) h.spent;
+  }
+
+  -- what closes a cube has opposites of what its search takes as true
+  closed_cube : (n : ℕ) → IsClosed (problem s.terms.nodes old.entries positions variables given limits.budget) new.entries n → IsClosedCube limits s s.terms.nodes new.entries n
+  closed_cube n h = record {
+    at = h.0;
+    clause = h.1.clause;
+    stands = h.1.found;
+    against =
+        subst (λ gs. All (λ l. Contains gs (negated l)) h.1.clause) (sym (literals n))
+        (All-weaker (λ l. Contains (cube_of variables n) (negated l) ⊎ Contains given (negated l)) (λ l. Contains (cube_of variables n ++ given) (negated l))
+        (λ l. ⊎_elim (Contains-append_left (cube_of variables n) given (negated l)) (Contains-append_right (cube_of variables n) given (negated l))) h.1.clause h.1.closing);
+  }
+
+  pub others_searched : (d : Diary) → IsLowestSpent (problem s.terms.nodes old.entries positions variables given limits.budget) new.entries (2 ^ length variables) d → AreOthersSearched limits s s.terms.nodes new.entries d
+  others_searched d h = record {
+    lower = λ n lt. closed_cube n (h.lower n lt);
+    later = λ n gt lt.
+        ⊎_elim
+        (λ (c : IsClosed (problem s.terms.nodes old.entries positions variables given limits.budget) new.entries n). inl (closed_cube n c))
+        (λ (e : (f : Diary) × (f.cube ≡ n) × IsSpentCube (problem s.terms.nodes old.entries positions variables given limits.budget) new.entries f). inr (e.0, e.1, unknown e.0 e.2))
+        (h.later n gt (subst (λ (xs : List ℕ). n < 2 ^ length xs) same lt));
+  }
 
 -- ---- what a check comes to
 
 -- steps before the search
 pub checked_more : (limits : Limits) (s : StateValue) (old mid new : LogValue) (r : Record) → Grows s old mid → IsChecked limits s mid new r → IsChecked limits s old new r
-checked_more limits s old mid new r g h = record { grows = grows_more s old mid new g h.grows; shown = h.shown }
+checked_more limits s old mid new r g h = record { grows = grows_more s old mid new g h.grows; shown = h.shown; cubes = h.cubes }
 
 module _ (s : StateValue) (terms : TermsValue) (old new : LogValue) (places variables : List ℕ) (given : List Literal) (budget : ℕ) (v : ℕ → Bool) (f : Found)
     (own : terms ≡ s.terms) (session : IsSession s old) (are : AreGiven s old given) (prolongs : Prolongs old.entries new.entries) (after : Stands terms.nodes new)
@@ -241,18 +269,20 @@ module _ (s : StateValue) (terms : TermsValue) (old new : LogValue) (places vari
   found_as g e = subst (IsFound (problem s.terms.nodes old.entries places variables given budget) new.entries v) e found_in
 
   pub refuted_checked : (limits : Limits) (at : ℕ) → f ≡ found.Refuted at → IsChecked limits s old new (Unsat at)
-  refuted_checked limits at e = record { grows = grows; shown = refutation s old new given at session.stands grows are (found_as (found.Refuted at) e) }
+  refuted_checked limits at e = record { grows = grows; shown = refutation s old new given at session.stands grows are (found_as (found.Refuted at) e); cubes = tt }
 
   pub unknown_checked : (limits : Limits) (d : Diary) → budget ≡ limits.budget → variables ≡ cube_variables limits s s.terms.nodes old.entries → f ≡ found.Spent d → IsChecked limits s old new (Unknown d)
-  unknown_checked limits d b split e = record {
-    grows = grows;
-    shown =
-        unknown limits s old new places variables given d session.stands stands prolongs grows split are
-        (subst (λ n. IsLowestSpent (problem s.terms.nodes old.entries places variables given n) new.entries d) b (found_as (found.Spent d) e));
-  }
+  unknown_checked limits d b split e =
+      let spent : IsLowestSpent (problem s.terms.nodes old.entries places variables given limits.budget) new.entries (2 ^ length variables) d =
+      subst (λ n. IsLowestSpent (problem s.terms.nodes old.entries places variables given n) new.entries (2 ^ length variables) d) b (found_as (found.Spent d) e) in
+      record {
+        grows = grows;
+        shown = unknown limits s old new places variables given session.stands stands prolongs grows split are d spent.own;
+        cubes = others_searched limits s old new places variables given session.stands stands prolongs grows split are d spent;
+      }
 
   pub model_checked : (limits : Limits) (values : List (ℕ × Value)) → AreWritten (Sat values) × IsWrittenModel s values → IsChecked limits s old new (Sat values)
-  model_checked limits values shown = record { grows = grows; shown = shown }
+  model_checked limits values shown = record { grows = grows; shown = shown; cubes = tt }
 
   module _ (model : f ≡ found.Model) where
     is_model : IsModel (state_of s.terms.nodes new.entries).clauses places given v

@@ -1,6 +1,6 @@
 -- The search of a check's cubes, one after the other, over a log that grows by chains.
 use Rattle.std.proofs.Common.{◌≡◌, ℕ, zero, suc, ◌+◌, ◌/◌, ◌<◌, ◌≤◌, true, false, List, [], ◌∷◌, ◌++◌, length, Option, Some, None, refl, sym, ap, ◌∙◌, subst, inl, inr, ⊎_elim, arith, length-append}
-use Rattle.std.specs.Prelude.{◌⊎◌, Contains, slice_get}
+use Rattle.std.specs.Prelude.{◌⊎◌, ◌^◌, Contains, IsSome, slice_get}
 use Rattle.std.specs.List.{AllByRecursion}
 use Rattle.std.proofs.lemmas.Bool.{cases_lt}
 use Rattle.std.proofs.lemmas.List.Elements.{All-weaker, Contains-append_cases, recursion_from_All}
@@ -24,7 +24,7 @@ use Rattle.hint_chain.specs.Chains.{Lookup}
 use Rattle.cube_tree.specs.Closing.{IsClosing, Closes, AreClosing, HaveClauses, first_of}
 use Rattle.cube_tree.proofs.Resolving.{members}
 use Rattle.cube_search.specs.Holding.{AreSeparate, Occurs}
-use Rattle.smt_session.specs.Searched.{Problem, look_in, given_in, subject_in, IsProblem, IsSpentCube, IsClosed, IsLowestSpent, AreTried}
+use Rattle.smt_session.specs.Searched.{Problem, look_in, given_in, subject_in, IsProblem, IsSpentCube, IsClosed, IsSearchedCube, IsLowestSpent, AreTried}
 
 -- ---- a log that grew by chains
 
@@ -62,12 +62,15 @@ module _ (p : Problem) (log log' : List Entry) (grows : Grows log log') where
         spent = record { stand = all.0; puts = ap (λ s. s.puts) all.1 ∙ h.spent.puts; last = h.spent.last };
       }
 
-  lowest_stays : (d : Diary) → IsLowestSpent p log d → IsLowestSpent p log' d
-  lowest_stays d h = record { own = spent_stays d h.own; lower = λ n lt. closed_stays n (h.lower n lt) }
+  searched_stays : (n : ℕ) → IsSearchedCube p log n → IsSearchedCube p log' n
+  searched_stays n h = ⊎_elim (λ (c : IsClosed p log n). inl (closed_stays n c)) (λ (s : (d : Diary) × (d.cube ≡ n) × IsSpentCube p log d). inr (s.0, s.1, spent_stays s.0 s.2)) h
+
+  lowest_stays : (count : ℕ) (d : Diary) → IsLowestSpent p log count d → IsLowestSpent p log' count d
+  lowest_stays count d h = record { own = spent_stays d h.own; lower = λ n lt. closed_stays n (h.lower n lt); later = λ n gt lt. searched_stays n (h.later n gt lt) }
 
   pub tried_stays : (count : ℕ) (closed : List ℕ) (spent : Option Diary) → AreTried p log count closed spent → AreTried p log' count closed spent
   tried_stays count closed None h = (h.0, λ n at e. closes_stays (cube_of p.variables n) at (h.1 n at e))
-  tried_stays count closed (Some d) h = lowest_stays d h
+  tried_stays count closed (Some d) h = lowest_stays count d h
 
   module _ (stands : IsLog p.nodes log') (h : IsProblem p log) where
     clause_back : (id : ClauseId) → id.pos < p.from → look_in p log' id ≡ look_in p log id
@@ -144,19 +147,34 @@ closed_more p log cube at closed new spent none e h here =
           (slice_get-push_cases closed at place n q),
     ))
 
--- where one was spent before, the next changes nothing
-pub still_spent : (p : Problem) (log : List Entry) (cube more : ℕ) (closed : List ℕ) (spent : Option Diary) (d : Diary) → spent ≡ Some d → AreTried p log cube closed spent → AreTried p log more closed spent
-still_spent p log cube more closed spent d e h =
-    subst (λ o. AreTried p log more closed o) (sym e) (let old : IsLowestSpent p log d = subst (λ o. AreTried p log cube closed o) e h in old)
+-- where one was spent before, the next is one more that was searched
+pub still_spent : (p : Problem) (log : List Entry) (cube : ℕ) (closed : List ℕ) (spent : Option Diary) → IsSome spent → AreTried p log cube closed spent → IsSearchedCube p log cube → AreTried p log (cube + 1) closed spent
+still_spent p log cube closed None some h one = let f : ⊥ = cc in absurd f
+still_spent p log cube closed (Some d) some h one = record {
+  own = h.own;
+  lower = h.lower;
+  later = λ n gt lt.
+      ⊎_elim
+      (λ (low : n < cube). h.later n gt low)
+      (λ (last : cube ≤ n). (let same : cube ≡ n = omega (arith, last, lt) in subst (IsSearchedCube p log) same one))
+      (cases_lt n cube);
+}
 
 -- the next is the lowest that is spent, where all before are closed
-pub spent_next : (p : Problem) (log : List Entry) (cube : ℕ) (closed : List ℕ) (spent : Option Diary) (d : Diary) → spent ≡ None → AreTried p log cube closed spent → d.cube ≡ cube → IsSpentCube p log d → IsLowestSpent p log d
+pub spent_next : (p : Problem) (log : List Entry) (cube : ℕ) (closed : List ℕ) (spent : Option Diary) (d : Diary) → spent ≡ None → AreTried p log cube closed spent → d.cube ≡ cube → IsSpentCube p log d → IsLowestSpent p log (cube + 1) d
 spent_next p log cube closed spent d none h e own =
     let old : (length closed ≡ cube) × AreClosing (look_in p log) p.assumed p.variables closed = subst (λ o. AreTried p log cube closed o) none h in
     record {
       own = own;
       lower = λ n lt. (let at = slice_get-there closed n (omega (arith, lt, e, old.0)) in (at.0, old.1 n at.0 at.1));
+      later = λ n gt lt. absurd (omega (arith, gt, lt, e));
     }
+
+-- of all cubes it is the lowest that is spent
+pub lowest_found : (p : Problem) (log : List Entry) (variables closed : List ℕ) (spent : Option Diary) (d : Diary) → p.variables ≡ variables → spent ≡ Some d → AreTried p log (2 ^ length variables) closed spent → IsLowestSpent p log (2 ^ length p.variables) d
+lowest_found p log variables closed spent d e is h =
+    let own : IsLowestSpent p log (2 ^ length variables) d = subst (λ o. AreTried p log (2 ^ length variables) closed o) is h in
+    subst (λ (xs : List ℕ). IsLowestSpent p log (2 ^ length xs) d) (sym e) own
 
 -- ---- all cubes
 

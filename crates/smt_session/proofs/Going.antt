@@ -22,8 +22,6 @@ use Rattle.smt_session.specs.Sessions.{IsSession}
 more_for : (old new : StateValue) → ((a t : ℕ) → slice_get old.scopes.terms a ≡ Some t → slice_get new.scopes.terms a ≡ Some t) → (e : Entry) → MakesNoTerm e → IsOfScript old e → IsOfScript new e
 more_for old new more (entry.Node n) k i = absurd (k refl)
 more_for old new more (entry.Selector a t) k i = more a t i
-more_for old new more (entry.Equal t u) k i = absurd i
-more_for old new more (entry.Lemma l) k i = absurd i
 more_for old new more e k i = tt
 
 -- steps for a script are for one with more assertions and more terms

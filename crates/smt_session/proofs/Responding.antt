@@ -24,11 +24,12 @@ use Rattle.accepted_proof.specs.Turns.{IsShown, HasProof, with_steps, concluded_
 use Rattle.accepted_proof.specs.Answers.{answer_text, error_text, verdict_text, done_text, model_text, values_text, core_text, assumptions_text, is_error, step_lines}
 use Rattle.accepted_proof.specs.Cores.{refuting_clause}
 use Rattle.smt_session.specs.declared.response.Response.{Response}
+use Rattle.smt_session.specs.Thorough.{AreSearched, IsThorough}
 use Rattle.smt_session.specs.Sessions.{IsSession, IsChecked, Responds, IsAnswered, response, asks_values, is_end}
 use Rattle.smt_session.proofs.Ending.{ends_is}
 use Rattle.smt_session.proofs.Going.{more_steps}
 use Rattle.smt_session.proofs.Staying.{grown_steps}
-use Rattle.smt_session.proofs.Turning.{are_steps, same_after}
+use Rattle.smt_session.proofs.Turning.{are_steps, make_no_term, same_after}
 
 -- an answer without steps and a record
 module _ (limits : Limits) (line : ℕ) (a : Answer) (s : StateValue) (l : LogValue) (last : Option Record) (r : Response) (w : Option (List ℕ)) where
@@ -38,6 +39,7 @@ module _ (limits : Limits) (line : ℕ) (a : Answer) (s : StateValue) (l : LogVa
     steps = [];
     shown = None;
     proof = proof;
+    thorough = record { terms = tt; cubes = tt };
     state = refl;
     log = sym (append-nil l.entries);
     kept = refl;
@@ -96,9 +98,11 @@ check_responds limits line s new_state old new shown text r w x last checked pri
     let added : drop (length old.entries) new.entries ≡ checked.grows.added = ap (drop (length old.entries)) g.entries ∙ drop_at old.entries g.added (length old.entries) refl in
     let same : s ≡ with_steps s checked.grows.added = sym (same_after s g.added g.each) in
     let nodes : IsShown limits s (with_steps s checked.grows.added).terms.nodes new.entries shown = subst (λ q. IsShown limits s q.terms.nodes new.entries shown) same checked.shown in
+    let cubes : AreSearched limits s (with_steps s checked.grows.added).terms.nodes new.entries (Some shown) = subst (λ q. AreSearched limits s q.terms.nodes new.entries (Some shown)) same checked.cubes in
     record {
       steps = g.added;
       shown = Some shown;
+      thorough = record { terms = make_no_term s g.added g.each; cubes = subst (λ es. AreSearched limits s (with_steps s g.added).terms.nodes es (Some shown)) g.entries cubes };
       proof = (are_steps s old new g, subst (λ es. IsShown limits s (with_steps s g.added).terms.nodes es shown) g.entries nodes);
       state = stands ∙ ap (λ q. concluded q (verdict_of shown)) same;
       log = g.entries;
@@ -129,6 +133,7 @@ is_answered limits chunk s mid last final l new before now a es r w x reads e h 
       turn = record { line = chunk.line; says = es; answer = a; steps = h.steps; shown = h.shown };
       line = refl;
       reads = reads;
+      thorough = subst (λ q. IsThorough limits q l.entries h.steps h.shown) there h.thorough;
       stands = record { answer = own; proof = subst (λ q. HasProof limits a q l.entries h.steps h.shown) there h.proof };
       state = settles ∙ ap (settled s a) (h.state ∙ ap (λ q. concluded_by (with_steps q h.steps) h.shown) there);
       log = h.log;

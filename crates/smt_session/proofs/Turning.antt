@@ -60,6 +60,10 @@ pub same_after : (s : StateValue) (es : List Entry) → AreStepsFor s es → wit
 same_after s [] h = refl
 same_after s (e ∷ es) h = ap (λ r. with_steps r es) (same_state s e h.0.0) ∙ same_after s es h.1
 
+pub make_no_term : (s : StateValue) (es : List Entry) → AreStepsFor s es → AllByRecursion MakesNoTerm es
+make_no_term s [] h = tt
+make_no_term s (e ∷ es) h = (h.0.0, make_no_term s es h.1)
+
 steps_of : (s : StateValue) (log es : List Entry) → AreSteps s.terms.nodes (state_of s.terms.nodes log) es → AreStepsFor s es → AreStepsOf s log es
 steps_of s log [] i h = tt
 steps_of s log (e ∷ es) i h =

@@ -4,4 +4,6 @@ pub mod Searched
 pub mod Modeled
 pub mod Tabled
 pub mod Blaming
+pub mod Thorough
 pub mod Sessions
+pub mod Parts

@@ -123,10 +123,15 @@ pub record IsSpentCube (p : Problem) (log : List Entry) (d : Diary) : Type 0 whe
 abbrev pub IsClosed : Problem → List Entry → ℕ → Type 0
 IsClosed p log cube = (at : ℕ) × Closes (look_in p log) p.assumed (cube_of p.variables cube) at
 
--- no lower cube is spent
-pub record IsLowestSpent (p : Problem) (log : List Entry) (d : Diary) : Type 0 where
+-- the search of the cube came to an end without a model: the cube is closed, or spent
+abbrev pub IsSearchedCube : Problem → List Entry → ℕ → Type 0
+IsSearchedCube p log n = IsClosed p log n ⊎ ((d : Diary) × (d.cube ≡ n) × IsSpentCube p log d)
+
+-- of the cubes below a number no lower one is spent, and each later one was searched too
+pub record IsLowestSpent (p : Problem) (log : List Entry) (count : ℕ) (d : Diary) : Type 0 where
   pub own : IsSpentCube p log d
   pub lower : (n : ℕ) → n < d.cube → IsClosed p log n
+  pub later : (n : ℕ) → d.cube < n → n < count → IsSearchedCube p log n
 
 -- the assignment makes true the clauses of the positions and what is assumed
 abbrev pub IsModelOf : Problem → List Entry → (ℕ → Bool) → Type 0
@@ -140,16 +145,16 @@ IsEndOf p log v cube (end.Spent d) = (d.cube ≡ cube) × IsSpentCube p log d
 IsEndOf p log v cube end.Stopped = ⊥
 
 -- What the cubes below a number came to, where none gave a model: each is closed at its position, or one of them is the lowest
--- that is spent.
+-- that is spent, and the later ones were searched too.
 abbrev pub AreTried : Problem → List Entry → ℕ → List ℕ → Option Diary → Type 0
 AreTried p log count closed None = (length closed ≡ count) × AreClosing (look_in p log) p.assumed p.variables closed
-AreTried p log count closed (Some d) = IsLowestSpent p log d
+AreTried p log count closed (Some d) = IsLowestSpent p log count d
 
 -- what is found: a clause of opposites of what is assumed alone, a model, or the diary of the lowest spent cube
 abbrev pub IsFound : Problem → List Entry → (ℕ → Bool) → Found → Type 0
 IsFound p log v (found.Refuted at) = Closes (look_in p log) p.assumed [] at
 IsFound p log v found.Model = IsModelOf p log v
-IsFound p log v (found.Spent d) = IsLowestSpent p log d
+IsFound p log v (found.Spent d) = IsLowestSpent p log (2 ^ length p.variables) d
 
 -- ---- assignments
 

@@ -1,5 +1,5 @@
 -- What contracts see of a session.
-use Rattle.std.specs.Prelude.{◌≡◌, ℕ, ◌<◌, Bool, true, false, List, ◌++◌, length, All, Option}
+use Rattle.std.specs.Prelude.{◌≡◌, ℕ, ◌<◌, Bool, true, false, List, ◌++◌, length, All, Option, Some}
 use Rattle.std.specs.List.{flat_map, AllByRecursion}
 use Rattle.std.specs.Io.KnownBytes.{Appends}
 use Rattle.smt_text.specs.declared.chunk.Chunk.{Chunk}
@@ -8,7 +8,7 @@ use Rattle.script_state.specs.declared.answer.Answer.TheVariants.{Values, Exit}
 use Rattle.script_state.specs.declared.answer.Asked.{Asked}
 use Rattle.script_state.specs.Readings.{ReadsAs}
 use Rattle.script_state.specs.States.{StateValue, IsState}
-use Rattle.script_state.specs.Steps.{ends}
+use Rattle.script_state.specs.Steps.{ends, step}
 use Rattle.proof_log.specs.declared.entry.Entry.{Entry}
 use Rattle.proof_log.specs.Stored.{LogValue, Stands}
 use Rattle.proof_text.specs.declared.record.Record.{Record}
@@ -21,6 +21,7 @@ use Rattle.smt_session.specs.declared.settings.Settings.{Settings}
 use Rattle.cube_search.specs.declared.search.Search.{Search}
 use Rattle.cube_search.specs.Running.{IsResting}
 use Rattle.smt_session.specs.Growing.{AreStepsFor, Grows}
+use Rattle.smt_session.specs.Thorough.{AreSearched, IsThorough}
 
 -- the limits that settings give
 abbrev pub limits_of : Settings → Limits
@@ -63,10 +64,11 @@ abbrev pub AreHeld : StateValue → Answer → Type 0
 AreHeld s (Values asked) = All (λ (a : Asked). a.term < length s.terms.nodes) asked
 AreHeld s _ = Unit {0}
 
--- the log grew by the steps of a check, which the record may end within these limits
+-- the log grew by the steps of a check, which the record may end within these limits, and all cubes were searched
 pub record IsChecked (limits : Limits) (s : StateValue) (old new : LogValue) (r : Record) : Type 0 where
   pub grows : Grows s old new
   pub shown : IsShown limits s s.terms.nodes new.entries r
+  pub cubes : AreSearched limits s s.terms.nodes new.entries (Some r)
 
 -- How what the state says of a command is answered within these limits, which begins on this line, where the last check
 -- before has a record; and what the state, before terms are forgotten, the log and the record of the last check are then.
@@ -74,6 +76,7 @@ pub record Responds (limits : Limits) (line : ℕ) (answer : Answer) (s s' : Sta
   pub steps : List Entry
   pub shown : Option Record
   pub proof : HasProof limits answer s old.entries steps shown
+  pub thorough : IsThorough limits s old.entries steps shown
   pub state : s' ≡ concluded_by (with_steps s steps) shown
   pub log : new.entries ≡ old.entries ++ steps
   pub kept : now ≡ last_shown last shown
@@ -84,12 +87,13 @@ pub record Responds (limits : Limits) (line : ℕ) (answer : Answer) (s s' : Sta
   pub ends : r.ends ≡ is_end answer
 
 -- The command is applied, and what is answered and written is that of a turn which may follow within the limits, which stay.
--- Each line that is written can be read.
+-- Each line that is written can be read. No step makes a term, and a spent cube does not stop the later ones.
 pub record IsAnswered (chunk : Chunk) (old new : SessionValue) (r : Response) (written written' : Option (List ℕ)) : Type 0 where
   pub turn : Turn
   pub line : turn.line ≡ chunk.line
   pub reads : ReadsAs chunk turn.says
   pub stands : IsTurn old.limits old.state old.log.entries turn
+  pub thorough : IsThorough old.limits (step old.state turn.says).1 old.log.entries turn.steps turn.shown
   pub state : new.state ≡ state_after old.state turn
   pub log : new.log.entries ≡ old.log.entries ++ turn.steps
   pub shown : new.shown ≡ last_shown old.shown turn.shown

@@ -9,6 +9,7 @@ ghost use Rattle.script_state.specs.Steps.{forgotten};
 ghost use Rattle.accepted_proof.specs.Searching.{AreLimits, Limits as LimitsValue};
 ghost use Rattle.check_cubes.specs.Searches as check_cubes;
 ghost use Rattle.smt_session.specs.Sessions.{AreHeld, IsAnswered, IsSession, Responds, RestsBeside, asks_values, limits_of};
+ghost use Rattle.smt_session.specs.Parts.{AreParts, seen_of};
 
 use crate::check::{run_check, verdict_of};
 use crate::cores::{assumptions_text, core_text};
@@ -32,23 +33,28 @@ use term_reach::Reached;
 
 /// The state of a script's commands, the log of its checks, the record of the last one, and the limits of each.
 #[derive(Drop)]
-pub struct Session {
+struct Parts {
     state: State,
     workspace: Workspace,
     last: Last,
     limits: Limits,
 }
 
+/// A session. Its parts are in one place, so that it costs a pointer to pass it on.
+#[derive(Drop)]
+pub struct Session {
+    parts: Box<Parts>,
+}
+
 impl Model for Session {
-    ghost use Rattle.accepted_proof.specs.Searching.{AreLimits};
-    ghost use Rattle.check_cubes.specs.Searches.{limits_of};
-    ghost use Rattle.smt_session.specs.Sessions.{SessionValue, IsSession, RestsBeside};
+    ghost use Rattle.smt_session.specs.Sessions.{SessionValue};
+    ghost use Rattle.smt_session.specs.Parts.{AreParts, seen_of};
 
     ghost Value = { SessionValue };
 
-    ghost view = { λ s. record { state = s.state; log = s.workspace.log; shown = s.last; limits = limits_of s.limits } };
+    ghost view = { λ s. seen_of s.parts.value };
 
-    ghost invariant = { λ s. IsSession s.state s.workspace.log × AreLimits (limits_of s.limits) × RestsBeside s.workspace.log s.workspace.search };
+    ghost invariant = { λ s. AreParts s.parts.value };
 }
 
 /// Writes the lines of a check. The error is that the proof could not be written.
@@ -186,6 +192,45 @@ fn respond<Q: Sink>(
     Ok(response)
 }
 
+impl Parts {
+    /// Does what a command says, and gives its response. After an error the parts are no session any more.
+    fn command<Q: Sink>(
+        &mut self,
+        alloc: Global,
+        chunk: &Chunk,
+        proof: &mut Q,
+    ) -> Result<Response, Stop>
+        requires { AreParts self.old }
+        ensures parts { OnOk result (AreParts self.new) }
+        ensures answered { IfOk result (λ r. IsAnswered chunk.now (seen_of self.old) (seen_of self.new) r
+            (Q.written proof.old) (Q.written proof.new)) }
+        ensures written { (lines : List ℕ) × Appends (Q.written proof.old) (Q.written proof.new) lines }
+        ensures failed { result ≡ Err Stop.Failed → Rose (Q.faults proof.old) (Q.faults proof.new) }
+        ensures later { Q.faults proof.old ≤ Q.faults proof.new }
+    {
+        if self.state.assertions_made() == u32::MAX {
+            return Err(Stop::NoMemory);
+        }
+        let len = self.state.terms().len();
+        let Ok(answer) = self.state.apply(alloc, chunk) else {
+            return Err(Stop::NoMemory)
+        };
+        let asked = asks_values(&answer);
+        let response = respond(
+            alloc,
+            chunk.line,
+            answer,
+            &mut self.state,
+            &mut self.workspace,
+            &mut self.last,
+            self.limits,
+            proof,
+        )?;
+        settle(&mut self.state, asked, len);
+        Ok(response)
+    }
+}
+
 impl Session {
     /// A session before its first command, each of whose checks is searched within the limits of these settings. The one
     /// error is want of memory.
@@ -199,7 +244,7 @@ impl Session {
             drop(search);
             return Err(AllocError);
         };
-        Ok(Session {
+        let parts = Parts {
             state: State::new(alloc),
             workspace: Workspace {
                 log,
@@ -209,7 +254,9 @@ impl Session {
             },
             last: Last::new(),
             limits: settings.limits(),
-        })
+        };
+        let parts = Box::new(alloc, parts)?;
+        Ok(Session { parts })
     }
 
     /// Does what a command says: gives the session behind it, and its response. A check's lines and record are written before
@@ -226,45 +273,13 @@ impl Session {
         ensures failed { result ≡ Err Stop.Failed → Rose (Q.faults proof.old) (Q.faults proof.new) }
         ensures later { Q.faults proof.old ≤ Q.faults proof.new }
     {
-        if self.state.assertions_made() == u32::MAX {
-            drop(self);
-            return Err(Stop::NoMemory);
-        }
-        let Session {
-            mut state,
-            mut workspace,
-            mut last,
-            limits,
-        } = self;
-        let len = state.terms().len();
-        let Ok(answer) = state.apply(alloc, chunk) else {
-            drop((state, workspace, last));
-            return Err(Stop::NoMemory);
-        };
-        let asked = asks_values(&answer);
-        let response = match respond(
-            alloc,
-            chunk.line,
-            answer,
-            &mut state,
-            &mut workspace,
-            &mut last,
-            limits,
-            proof,
-        ) {
-            Ok(response) => response,
+        let Session { mut parts } = self;
+        match parts.command(alloc, chunk, proof) {
+            Ok(response) => Ok((Session { parts }, response)),
             Err(stop) => {
-                drop((state, workspace, last));
-                return Err(stop);
+                drop(parts);
+                Err(stop)
             }
-        };
-        settle(&mut state, asked, len);
-        let session = Session {
-            state,
-            workspace,
-            last,
-            limits,
-        };
-        Ok((session, response))
+        }
     }
 }

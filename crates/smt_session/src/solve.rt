@@ -166,8 +166,8 @@ fn search_cubes(
     Ok(false)
 }
 
-/// By how many steps the log may grow before a search is made anew: what a search keeps costs a little at each check.
-const KEPT_AT_LEAST: u64 = 1000;
+/// By how many steps the log may grow before a search is made anew: what a search keeps takes memory.
+const KEPT_AT_LEAST: u64 = 20_000;
 
 /// By how many further steps it may grow for each position that a check needs.
 const KEPT_FOR_EACH: u64 = 8;

@@ -1,4 +1,4 @@
-use Rattle.std.proofs.Common.{◌+◌, refl, ◌∙◌, subst}
+use Rattle.std.proofs.Common.{◌≡◌, ◌+◌, ◌^◌, length, refl, ◌∙◌, subst, arith}
 use Rattle.std.specs.Prelude.{MatchBool}
 use Rattle.proof_log.proofs.Growth.{grows_same, grows_then}
 use Rattle.cube_search.specs.Running.{valuation_of}
@@ -44,3 +44,11 @@ cubes-preserved c =
           subst (λ b. MatchBool b (IsModelOf p log (valuation_of c.search_cube.new.search)) (AreTried p log (c.cubes.cube + 1) c.add.new.self.closed.items c.add.new.self.spent)) c.if-found.false
           (c.in_ok-found.ensures p log (valuation_of c.search_cube.new.search) c.cubes.cube tried c.in_ok-end.ensures.end);
     }
+
+pub returns-clause-tried : goal.returns-clause-tried
+returns-clause-tried c =
+    let count = c.leaves-cube-end.ensures.count in
+    let last = c.cubes-test.false in
+    let within = c.cubes.auto.cube-end in
+    let all : c.cubes.cube ≡ 2 ^ length c.args.tree.now = omega (arith, count, last, within) in
+    subst (λ n. AreTried (problem_of c.cubes.search c.cubes.board c.args.tree.now c.args.assumed.now c.args.budget) c.cubes.board.log.entries n c.cubes.tried.closed.items c.cubes.tried.spent) all c.cubes.invariant.tried

@@ -1,0 +1,36 @@
+use Rattle.std.proofs.Common.{length, ap, ◌∙◌}
+use Rattle.smt_terms.specs.Terms.{TermsValue}
+use Rattle.check_cubes.specs.Searches.{limits_of}
+use Rattle.smt_session.proofs.Going.{still_session}
+use Rattle.smt_session.proofs.Responding.{is_answered}
+use Rattle.smt_session.proofs.Settling.{held_of, can_forget, settled_is, settled_session}
+use Rattle.smt_session.proofs.session.Parts.command.Goals as goal
+
+pub respond-requires : goal.respond-requires
+respond-requires g c = record {
+  session = still_session c.args.self.now.state c.apply.new.self c.args.self.now.workspace.log c.in-Ok.answer c.in-Ok.ensures.0 c.requires.0 c.in-Ok.ensures.2;
+  resting = c.requires.2;
+  limits = c.requires.1;
+  held = held_of c.args.self.now.state c.apply.new.self c.in-Ok.answer c.in-Ok.ensures.0 c.requires.0.state c.in-Ok.ensures.2;
+}
+
+pub settle-requires : goal.settle-requires
+settle-requires g c =
+    can_forget c.args.self.now.state c.apply.new.self c.respond.new.state c.respond.new.state c.args.self.now.workspace.log c.respond.new.workspace.log c.in-Ok.answer c.in-Ok.ensures.0 c.asks_values-asked.result c.len-len.result
+    c.requires.0 c.in-Ok.ensures.2 c.asks_values-asked.ensures (c.len-len.ensures.length ∙ ap (λ (v : TermsValue). length v.nodes) c.terms.ensures.terms) c.in_ok-response.ensures.still
+
+pub returns-clause-parts : goal.returns-clause-parts
+returns-clause-parts g c = (
+  settled_session c.args.self.now.state c.apply.new.self c.respond.new.state c.settle.new.state c.args.self.now.workspace.log c.respond.new.workspace.log c.in-Ok.answer c.in-Ok.ensures.0 c.asks_values-asked.result c.len-len.result
+      c.requires.0 c.in-Ok.ensures.2 c.asks_values-asked.ensures (c.len-len.ensures.length ∙ ap (λ (v : TermsValue). length v.nodes) c.terms.ensures.terms) c.in_ok-response.ensures.still
+      c.settle.ensures c.in_ok-response.ensures.session,
+  c.requires.1,
+  c.in_ok-response.ensures.resting,
+)
+
+pub returns-clause-answered : goal.returns-clause-answered
+returns-clause-answered g c =
+    is_answered (limits_of c.args.self.now.limits) c.args.chunk.now c.args.self.now.state c.apply.new.self c.respond.new.state c.settle.new.state c.args.self.now.workspace.log c.respond.new.workspace.log c.args.self.now.last c.respond.new.last c.in-Ok.answer c.in-Ok.ensures.0 c.in_ok-response.response
+    (g.Q.Sink.written c.args.proof.now) (g.Q.Sink.written c.respond.new.proof) c.in-Ok.ensures.1 c.in-Ok.ensures.2 c.in_ok-response.ensures.response
+    (settled_is c.args.self.now.state c.apply.new.self c.respond.new.state c.settle.new.state c.args.self.now.workspace.log c.respond.new.workspace.log c.in-Ok.answer c.in-Ok.ensures.0 c.asks_values-asked.result c.len-len.result
+    c.requires.0 c.in-Ok.ensures.2 c.asks_values-asked.ensures (c.len-len.ensures.length ∙ ap (λ (v : TermsValue). length v.nodes) c.terms.ensures.terms) c.in_ok-response.ensures.still c.settle.ensures)
