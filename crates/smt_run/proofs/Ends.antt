@@ -1,6 +1,6 @@
 -- Of the end of a run.
 use Rattle.std.proofs.Common.{◌≡◌, ◌≢◌, ℕ, ◌+◌, List, length, Option, Some, None, refl, sym, ap, ◌∙◌, inl, inr, ⊎_elim, arith, length-append}
-use Rattle.std.specs.Prelude.{◌⊎◌}
+use Rattle.std.specs.Prelude.{◌⊎◌, Bool, true, false, if◌then◌else◌}
 use Rattle.script_state.specs.declared.answer.Verdict.{Verdict}
 use Rattle.script_state.specs.States.{no_state}
 use Rattle.accepted_proof.specs.declared.refusal.Refusal.{Refusal}
@@ -14,6 +14,7 @@ use Rattle.smt_check.specs.declared.status.Status.{Status}
 use Rattle.smt_check.specs.declared.status.Status.TheVariants.{Done, Refused, Usage, ReadFault, WriteFault, NoMemory, TooLong}
 use Rattle.smt_check.specs.Runs.{ReadsBytes, Counts, HasCause, input_limit}
 use Rattle.smt_check.specs.Checks.{status_of, ToldOf, IsEndOfCheck, IsRightlyAccepted, ReadsForStatus, HasCheckCause}
+use Rattle.smt_run.specs.Solving.{FailsToRead}
 use Rattle.smt_run.specs.Beside.{IsShort, IsWithoutFault}
 
 -- what is accepted is right
@@ -74,3 +75,12 @@ answered_unless s s' a b ReadFault u r h x z = absurd (z.script h)
 answered_unless s s' a b WriteFault u r h x z = absurd (⊎_elim (λ q. z.answers q) (λ q. z.proof q) h)
 answered_unless s s' a b NoMemory u r h x z = inr (inr refl)
 answered_unless s s' a b TooLong u r h x z = absurd (not_too_long s s' x (r refl))
+
+-- a run that came to its end did not fail to read
+pub end_reads : (refused : Bool) (t : Status) → t ≡ (if refused then Refused else Done) → FailsToRead t → ⊥
+end_reads true t e k = ⊎_elim (λ d. let z : ⊥ = cc in z) (λ d. let z : ⊥ = cc in z) k
+end_reads false t e k = ⊎_elim (λ d. let z : ⊥ = cc in z) (λ d. let z : ⊥ = cc in z) k
+
+-- want of memory is no read that failed
+pub memory_reads : FailsToRead NoMemory → ⊥
+memory_reads k = ⊎_elim (λ d. let z : ⊥ = cc in z) (λ d. let z : ⊥ = cc in z) k

@@ -34,6 +34,7 @@ module _ (chunk : Chunk) (old new : SessionValue) (r : Response) (p p' : Option 
           answers = subst (Appends a a') (sym (append-nil (answers_at (moment_of old) (w.turn ∷ [])) ∙ one_text)) t;
           proof = subst (Appends p p') (sym (append-nil (lines_of (w.turn ∷ [])) ∙ one_proof)) w.lines;
           readable = subst (AllByRecursion IsLine) (sym (append-nil (turn_lines w.turn))) w.readable;
+          thorough = (w.thorough, tt);
         };
         after_is = (λ i. record { state = w.state i; log = w.log i; shown = w.shown i; limits = w.limits i });
         refused_is = b ∙ ap (λ x. so_far.refused || x) (w.error ∙ or_false (is_refused w.turn));
@@ -50,7 +51,7 @@ module _ (chunk : Chunk) (old new : SessionValue) (r : Response) (p p' : Option 
           turns = [];
           begun = take n r.text;
           more = flat_map line_text (turn_lines w.turn);
-          adds = record { follow = Follow-none (moment_of old); answers = t; proof = w.lines; readable = tt };
+          adds = record { follow = Follow-none (moment_of old); answers = t; proof = w.lines; readable = tt; thorough = tt };
           going = refl;
           coming = w.turn ∷ [];
           rest = drop n r.text;
@@ -69,7 +70,7 @@ command_breaks m chunks a p p' lines h = record {
     turns = [];
     begun = [];
     more = lines;
-    adds = record { follow = Follow-none m; answers = Appends-nil a; proof = h; readable = tt };
+    adds = record { follow = Follow-none m; answers = Appends-nil a; proof = h; readable = tt; thorough = tt };
     going = refl;
     coming = [];
     rest = [];

@@ -17,10 +17,12 @@ use Rattle.accepted_proof.specs.Answers.{answers_of, turn_lines, is_refused, hea
 use Rattle.accepted_proof.specs.Accepted.{AreRead, AreAll, Accepted, IsFront, IsBegun, has_error}
 use Rattle.proof_checker.specs.Checked.{IsAccepted, verdicts_of}
 use Rattle.smt_check.specs.declared.status.Status.{Status}
-use Rattle.smt_check.specs.declared.status.Status.TheVariants.{Done, Refused}
+use Rattle.smt_check.specs.declared.status.Status.TheVariants.{Done, Refused, Usage, ReadFault, WriteFault, NoMemory, TooLong}
+use Rattle.smt_check.specs.Runs.{ReadsBytes, ReadsPiece}
+use Rattle.smt_run.specs.Solving.{StopsWriting, FailsToRead, untaken}
 use Rattle.smt_run.specs.declared.answering.Answered.{Answered}
-use Rattle.smt_run.specs.Adding.{moment_of, opening, Follow, Streams, streams, lines_of, Advances, IsBegunOf, Breaks, BreaksAt, BreaksWithin, AddsLast, AnswersAll, AnswersFront}
-use Rattle.smt_run.specs.Beside.{Told, IsBesideProof, IsBeside, IsAllAnswered, IsPrefix, IsReadOut}
+use Rattle.smt_run.specs.Adding.{moment_of, opening, Follow, Streams, streams, lines_of, Advances, IsBegunOf, Breaks, BreaksAt, BreaksWithin, AddsLast, AnswersAll, AnswersFront, AnswersRead}
+use Rattle.smt_run.specs.Beside.{Told, IsBesideProof, IsBeside, IsAllAnswered, IsPrefix, IsAnsweredToRead, IsReadOut}
 use Rattle.smt_run.proofs.Turning.{Follow-append, answers-append, Adds-trans, Advances-breaks}
 
 -- what answers to turns that follow one another are
@@ -145,6 +147,46 @@ module _ (limits : Limits) where
       one next (t ∷ u ∷ coming) f h read e is lt = let q : ⊥ = cc in absurd q
       one (c ∷ []) (t ∷ []) f h read e is lt = record { next = c; turn = t; rest = rest; front = f; read = h.read; last = h.last; run = h.run; texts = e; unfinished = lt }
 
+  -- a read that failed, behind answers to all that was read before
+  over_read : (left : ℕ) (b c : Option (List ℕ)) (t : Status) → ReadsPiece left b c (Err t) → ReadsBytes (untaken t) b c
+  over_read left b c Done q = absurd q
+  over_read left b c Refused q = absurd q
+  over_read left b c Usage q = absurd q
+  over_read left b c ReadFault q = q
+  over_read left b c WriteFault q = absurd q
+  over_read left b c NoMemory q = absurd q
+  over_read left b c TooLong q = q.1
+
+  pub read_told : (s m s' : Option (List ℕ)) (text : List ℕ) (left : ℕ) (cur : Answered) (a b : Streams) (chunks : List Chunk) (rest : Held) (t : Status) → cur.ended ≡ false → Consumes s m text → ReadsPiece left m s' (Err t) → Begins (record { line = 1; bytes = text }) chunks rest → first_chunk rest ≡ None → Advances (opening limits) false cur a b chunks → IfSome s (λ x. AnswersRead limits t s' x a b)
+  read_told None m s' text left cur a b chunks rest t g k r f e p = tt
+  read_told (Some x) None s' text left cur a b chunks rest t g k r f e p = absurd k
+  read_told (Some x) (Some y) None text left cur a b chunks rest t g k r f e p = let o = over_read left (Some y) None t r in absurd o.1
+  read_told (Some x) (Some y) (Some z) text left cur a b chunks rest t g k r f e p =
+      let o = over_read left (Some y) (Some z) t r in
+      record {
+        read = text;
+        over = o.0;
+        rest = z;
+        left_is = refl;
+        text_is = k ∙ ap (λ l. text ++ l) o.1;
+        size = o.2;
+        held = rest;
+        chunks = chunks;
+        whole = f;
+        no_more = e;
+        turns = p.turns;
+        adds = p.adds;
+        going = sym p.ended_is ∙ g;
+      }
+
+  -- a run that stops for another reason
+  pub no_read : (t : Status) → StopsWriting t → FailsToRead t → ⊥
+  no_read t h k = ⊎_elim (λ e. ⊎_elim (λ d. let z : ⊥ = cc in z) (λ d. let z : ⊥ = cc in z) k) (λ e. ⊎_elim (λ d. let z : ⊥ = cc in z) (λ d. let z : ⊥ = cc in z) k) h
+
+  pub rest_read : (r : Result Bool Status) (P : Status → Type 0) → IfErr r StopsWriting → IfErr r (λ t. FailsToRead t → P t)
+  rest_read (Ok x) P h = tt
+  rest_read (Err t) P h = λ k. absurd (no_read t h k)
+
   -- ---- what is told
 
   pub unbegun_beside : (bytes rest : List ℕ) → header_text limits ≡ bytes ++ rest → (text : List ℕ) → IsBeside limits text [] bytes
@@ -191,6 +233,7 @@ module _ (limits : Limits) where
               texts = refl;
               unfinished = begun_of x w.chunks w.next b.turns b.coming b.begun b.rest w.all all b.follow.read texts b.unfinished;
             };
+            thorough = b.adds.thorough;
             right = (law b.turns b.adds.follow.run).0;
             printed = (law b.turns b.adds.follow.run).1;
           },
@@ -224,11 +267,45 @@ module _ (limits : Limits) where
           turns = w.turns;
           whole = record { accepted = accepted; texts = refl };
           checked = pass x (header_text limits ++ lines_of w.turns) w.turns accepted w.adds.readable;
+          thorough = w.adds.thorough;
           right = (law w.turns w.adds.follow.run).0;
           printed = (law w.turns w.adds.follow.run).1;
           status_is = e ∙ ap (λ r. if r then Refused else Done) w.refused_is;
         },
       )
+
+  pub told_read : (s s' a a' p m p' : Option (List ℕ)) (status : Status) → Appends p m (header_text limits) → IfSome s (λ t. AnswersRead limits status s' t (streams a m) (streams a' p')) → Told s a a' p p' (IsAnsweredToRead limits status s')
+  told_read None s' a a' p m p' status h w = tt
+  told_read (Some x) s' None a' p m p' status h w = tt
+  told_read (Some x) s' (Some y) a' None m p' status h w = tt
+  told_read (Some x) s' (Some y) a' (Some z) None p' status h w = absurd h
+  told_read (Some x) s' (Some y) None (Some z) (Some m) p' status h w = absurd w.adds.answers
+  told_read (Some x) s' (Some y) (Some y') (Some z) (Some m) None status h w = absurd w.adds.proof
+  told_read (Some x) s' (Some y) (Some y') (Some z) (Some m) (Some z') status h w = (
+    answers_of w.turns,
+    header_text limits ++ lines_of w.turns,
+    ap Some (rw append-nil at w.adds.answers),
+    ap Some (added_proof z m z' _ h (rw append-nil at w.adds.proof)),
+    record {
+      read = w.read;
+      over = w.over;
+      rest = w.rest;
+      left_is = w.left_is;
+      text_is = w.text_is;
+      size = w.size;
+      held = w.held;
+      chunks = w.chunks;
+      whole = w.whole;
+      no_more = w.no_more;
+      turns = w.turns;
+      commands = w.adds.follow.read;
+      going = w.going;
+      run = w.adds.follow.run;
+      thorough = w.adds.thorough;
+      answers = refl;
+      proof = refl;
+    },
+  )
 
   -- where all is answered, what was answered stands beside the proof
   pub all_beside : (status : Status) (text answered proved : List ℕ) → IsAllAnswered limits status text answered proved → IsBeside limits text answered proved
@@ -247,6 +324,7 @@ module _ (limits : Limits) where
       texts = k.whole.texts ∙ sym (append-nil (answers_of k.turns));
       unfinished = inl refl;
     };
+    thorough = k.thorough;
     right = k.right;
     printed = k.printed;
   })

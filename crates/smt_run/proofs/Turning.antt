@@ -17,6 +17,7 @@ use Rattle.accepted_proof.specs.Turns.{Turn, AreTurns}
 use Rattle.accepted_proof.specs.Answers.{turn_text, turn_lines, is_refused}
 use Rattle.accepted_proof.specs.Accepted.{AreRead, EndLast, has_ended, has_error}
 use Rattle.smt_check.specs.declared.status.Status.{Status}
+use Rattle.smt_session.specs.Thorough.{AreThorough}
 use Rattle.smt_run.specs.declared.answering.Answered.{Answered}
 use Rattle.smt_run.specs.Adding.{Moment, moment_of, behind, after, answers_at, Follow, Streams, lines_of, Adds, Advances, Breaks, BreaksAt, AdvancesWithin, BreaksWithin, AddsLast, with_piece}
 use Rattle.cnf_base.proofs.Lists.{each_append}
@@ -34,6 +35,10 @@ read-append (c ∷ cs) ds (t ∷ ts) us p q = (p.0, p.1, read-append cs ds ts us
 run-append : (m : Moment) (ts us : List Turn) → AreTurns m.limits m.state m.log ts → AreTurns (after m ts).limits (after m ts).state (after m ts).log us → AreTurns m.limits m.state m.log (ts ++ us)
 run-append m [] us p q = q
 run-append m (t ∷ ts) us p q = (p.0, run-append (behind m t) ts us p.1 q)
+
+thorough-append : (m : Moment) (ts us : List Turn) → AreThorough m.limits m.state m.log ts → AreThorough (after m ts).limits (after m ts).state (after m ts).log us → AreThorough m.limits m.state m.log (ts ++ us)
+thorough-append m [] us p q = q
+thorough-append m (t ∷ ts) us p q = (p.0, thorough-append (behind m t) ts us p.1 q)
 
 last-append : (ts us : List Turn) → has_ended ts ≡ false → EndLast ts → EndLast us → EndLast (ts ++ us)
 last-append [] us g p q = q
@@ -67,7 +72,7 @@ lines-append ts us = ap (flat_map line_text) (flat_map-append turn_lines ts us) 
 -- ---- what is added
 
 pub Adds-none : (m : Moment) (s : Streams) → Adds m s s [] [] [] []
-Adds-none m s = record { follow = Follow-none m; answers = Appends-nil s.answers; proof = Appends-nil s.proof; readable = tt }
+Adds-none m s = record { follow = Follow-none m; answers = Appends-nil s.answers; proof = Appends-nil s.proof; readable = tt; thorough = tt }
 
 -- what stands behind a whole text
 joined : (xs ys zs begun : List ℕ) → zs ≡ xs ++ ys → (xs ++ []) ++ (ys ++ begun) ≡ zs ++ begun
@@ -83,6 +88,7 @@ Adds-trans m a b c cs ds ts us begun more g p q = record {
       subst (Appends a.proof c.proof) (joined (lines_of ts) (lines_of us) (lines_of (ts ++ us)) more (lines-append ts us))
       (Appends-trans a.proof b.proof c.proof _ _ p.proof q.proof);
   readable = subst (AllByRecursion IsLine) (sym (flat_map-append turn_lines ts us)) (each_append IsLine (flat_map turn_lines ts) (flat_map turn_lines us) p.readable q.readable);
+  thorough = thorough-append m ts us p.thorough q.thorough;
 }
 
 -- ---- advances

@@ -1,5 +1,5 @@
 -- What a run adds to the answers and to the proof, one turn after another.
-use Rattle.std.specs.Prelude.{◌≡◌, ◌⊎◌, ℕ, ◌<◌, Bool, false, ◌||◌, List, [], ◌∷◌, ◌++◌, length, Option, None}
+use Rattle.std.specs.Prelude.{◌≡◌, ◌⊎◌, ℕ, ◌<◌, Bool, false, ◌||◌, List, [], ◌∷◌, ◌++◌, length, Option, Some, None}
 use Rattle.std.specs.List.{flat_map, AllByRecursion}
 use Rattle.std.specs.Io.KnownBytes.{Appends}
 use Rattle.smt_text.specs.declared.chunk.Chunk.{Chunk}
@@ -14,6 +14,9 @@ use Rattle.accepted_proof.specs.Turns.{Turn, AreTurns, state_after}
 use Rattle.accepted_proof.specs.Answers.{answers_from, last_shown, turn_lines}
 use Rattle.accepted_proof.specs.Accepted.{AreRead, AreAll, EndLast, IsFront, has_ended, has_error}
 use Rattle.smt_session.specs.Sessions.{SessionValue}
+use Rattle.smt_session.specs.Thorough.{AreThorough}
+use Rattle.smt_check.specs.declared.status.Status.{Status}
+use Rattle.smt_run.specs.Solving.{untaken}
 use Rattle.smt_run.specs.declared.answering.Answered.{Answered}
 
 -- ---- turns
@@ -65,12 +68,14 @@ streams a p = record { answers = a; proof = p }
 abbrev pub lines_of : List Turn → List ℕ
 lines_of turns = flat_map line_text (flat_map turn_lines turns)
 
--- the answers and the lines of the turns are added, and behind them begun and more; each line can be read
+-- the answers and the lines of the turns are added, and behind them begun and more; each line can be read, no check made a
+-- term, and all cubes of one that is not known were searched
 pub record Adds (m : Moment) (from to : Streams) (chunks : List Chunk) (turns : List Turn) (begun more : List ℕ) : Type 0 where
   pub follow : Follow m chunks turns
   pub answers : Appends from.answers to.answers (answers_at m turns ++ begun)
   pub proof : Appends from.proof to.proof (lines_of turns ++ more)
   pub readable : AllByRecursion IsLine (flat_map turn_lines turns)
+  pub thorough : AreThorough m.limits m.state m.log turns
 
 -- the chunks are answered whole
 pub record Advances (m : Moment) (refused : Bool) (new : Answered) (from to : Streams) (chunks : List Chunk) : Type 0 where
@@ -148,3 +153,19 @@ pub record AnswersFront (limits : Limits) (text : List ℕ) (from to : Streams) 
   pub front : IsFront text chunks
   pub all : IsFront text (chunks ++ next)
   pub breaks : Breaks (opening limits) from to chunks next
+
+-- Before the read that failed each whole chunk of what was read is answered, and nothing else.
+pub record AnswersRead (limits : Limits) (status : Status) (left : Option (List ℕ)) (text : List ℕ) (from to : Streams) : Type 0 where
+  pub read : List ℕ
+  pub over : List ℕ
+  pub rest : List ℕ
+  pub left_is : left ≡ Some rest
+  pub text_is : text ≡ read ++ (over ++ rest)
+  pub size : length over ≡ untaken status
+  pub held : Held
+  pub chunks : List Chunk
+  pub whole : Begins (record { line = 1; bytes = read }) chunks held
+  pub no_more : first_chunk held ≡ None
+  pub turns : List Turn
+  pub adds : Adds (opening limits) from to chunks turns [] []
+  pub going : has_ended turns ≡ false

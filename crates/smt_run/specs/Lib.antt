@@ -2,3 +2,4 @@ pub mod Words
 pub mod Solving
 pub mod Adding
 pub mod Beside
+pub mod Commands

@@ -13,6 +13,15 @@ BeginsWith front old new = (rest : List ℕ) × Appends old new (front ++ rest)
 abbrev pub StopsWriting : Status → Type 0
 StopsWriting s = (s ≡ WriteFault) ⊎ (s ≡ NoMemory)
 
+-- why a run ends while it reads its script
+abbrev pub FailsToRead : Status → Type 0
+FailsToRead s = (s ≡ ReadFault) ⊎ (s ≡ TooLong)
+
+-- how many bytes of the script were read and not taken: the one that made it too long
+abbrev pub untaken : Status → ℕ
+untaken TooLong = 1
+untaken _ = 0
+
 -- how much a script was read: at most as much as may be read, and one byte more only where it is too long
 abbrev pub IsRead : Option (List ℕ) → Option (List ℕ) → Result Bool Status → Type 0
 IsRead old new (Ok refused) = ReadsWithin old new

@@ -7,8 +7,9 @@ ghost use Rattle.accepted_proof.specs.Answers.{header_text};
 ghost use Rattle.smt_session.specs.Sessions.{limits_of};
 ghost use Rattle.smt_run.specs.Words.{IsToSolve, IsToSolveWithin, IsToCheck, AreTaken};
 ghost use Rattle.smt_check.specs.Runs.{AddsTo, ReadsBytes, ReadsWithin, IsLater, HasCause, counts, input_limit};
-ghost use Rattle.smt_run.specs.Solving.{BeginsWith, StopsWriting};
-ghost use Rattle.smt_run.specs.Beside.{Told, IsBeside, IsAllAnswered, IsPrefix, IsReadOut, IsShort, IsWithoutFault};
+ghost use Rattle.smt_run.specs.Solving.{BeginsWith, StopsWriting, FailsToRead};
+ghost use Rattle.smt_run.specs.Beside.{Told, IsBeside, IsAllAnswered, IsPrefix, IsAnsweredToRead, IsReadOut};
+ghost use Rattle.smt_run.specs.Commands.{files, stream, IsEnd, Solves, Checks, AddsToFiles};
 ghost use Rattle.smt_check.specs.Checks.{ReadsForStatus, HasCheckCause, ToldOf, IsEndOfCheck, IsFrontOfCheck, IsRightlyAccepted};
 
 use crate::answering::end_status;
@@ -28,7 +29,8 @@ use std::alloc::{AllocError, Global};
 /// Writes the first line of a proof, which has the limits of its checks.
 fn open_proof<Q: Sink>(alloc: Global, settings: &Settings, proof: &mut Q) -> Result<(), Status>
     ensures ok { OnOk result (Appends (Q.written proof.old) (Q.written proof.new) (header_text (limits_of settings.now))) }
-    ensures added { (bytes : List ℕ) × (rest : List ℕ) × Appends (Q.written proof.old) (Q.written proof.new) bytes × (header_text (limits_of settings.now) ≡ bytes ++ rest) }
+    ensures added { (bytes : List ℕ) × (rest : List ℕ)
+        × Appends (Q.written proof.old) (Q.written proof.new) bytes × (header_text (limits_of settings.now) ≡ bytes ++ rest) }
     ensures later { IsLater (counts 0 0 (Q.faults proof.old)) (counts 0 0 (Q.faults proof.new)) }
     ensures stopped { IfErr result StopsWriting }
     ensures cause { IfErr result (HasCause (counts 0 0 (Q.faults proof.old)) (counts 0 0 (Q.faults proof.new))) }
@@ -61,17 +63,25 @@ fn solve<S: Source, W: Sink, Q: Sink>(
 ) -> Status
     requires { AreLimits (limits_of settings) }
     ensures usage { result ≢ Status.Usage }
-    ensures beside { Told (S.left script.old) (W.written answers.old) (W.written answers.new) (Q.written proof.old) (Q.written proof.new) (IsBeside (limits_of settings)) }
-    ensures whole { (result ≡ Status.Done) ⊎ (result ≡ Status.Refused) → Told (S.left script.old) (W.written answers.old) (W.written answers.new) (Q.written proof.old) (Q.written proof.new) (IsAllAnswered (limits_of settings) result) }
-    ensures prefix { Told (S.left script.old) (W.written answers.old) (W.written answers.new) (Q.written proof.old) (Q.written proof.new) (λ text answered proved. IsPrefix (limits_of settings) text answered) }
-    ensures at_end { (result ≡ Status.Done) ⊎ (result ≡ Status.Refused) → IsReadOut (S.left script.old) (S.left script.new) }
+    ensures beside { Told (S.left script.old) (W.written answers.old) (W.written answers.new)
+        (Q.written proof.old) (Q.written proof.new) (IsBeside (limits_of settings)) }
+    ensures whole { IsEnd result → Told (S.left script.old) (W.written answers.old) (W.written answers.new)
+        (Q.written proof.old) (Q.written proof.new) (IsAllAnswered (limits_of settings) result) }
+    ensures prefix { Told (S.left script.old) (W.written answers.old) (W.written answers.new)
+        (Q.written proof.old) (Q.written proof.new) (λ text answered proved. IsPrefix (limits_of settings) text answered) }
+    ensures answered { FailsToRead result → Told (S.left script.old) (W.written answers.old) (W.written answers.new)
+        (Q.written proof.old) (Q.written proof.new) (IsAnsweredToRead (limits_of settings) result (S.left script.new)) }
+    ensures at_end { IsEnd result → IsReadOut (S.left script.old) (S.left script.new) }
     ensures within { result ≢ Status.TooLong → ReadsWithin (S.left script.old) (S.left script.new) }
     ensures too_long { result ≡ Status.TooLong → ReadsBytes (input_limit + 1) (S.left script.old) (S.left script.new) }
     ensures answers { AddsTo (W.written answers.old) (W.written answers.new) }
     ensures proof { AddsTo (Q.written proof.old) (Q.written proof.new) }
-    ensures header { result ≢ Status.WriteFault → result ≢ Status.NoMemory → BeginsWith (header_text (limits_of settings)) (Q.written proof.old) (Q.written proof.new) }
-    ensures later { IsLater (counts (S.faults script.old) (W.faults answers.old) (Q.faults proof.old)) (counts (S.faults script.new) (W.faults answers.new) (Q.faults proof.new)) }
-    ensures cause { HasCause (counts (S.faults script.old) (W.faults answers.old) (Q.faults proof.old)) (counts (S.faults script.new) (W.faults answers.new) (Q.faults proof.new)) result }
+    ensures header { result ≢ Status.WriteFault → result ≢ Status.NoMemory
+        → BeginsWith (header_text (limits_of settings)) (Q.written proof.old) (Q.written proof.new) }
+    ensures later { IsLater (counts (S.faults script.old) (W.faults answers.old) (Q.faults proof.old))
+        (counts (S.faults script.new) (W.faults answers.new) (Q.faults proof.new)) }
+    ensures cause { HasCause (counts (S.faults script.old) (W.faults answers.old) (Q.faults proof.old))
+        (counts (S.faults script.new) (W.faults answers.new) (Q.faults proof.new)) result }
 {
     answers_are_right();
     what_is_printed_is_right();
@@ -98,13 +108,19 @@ fn check_proof<S: Source, P: Source, W: Sink>(
     answers: &mut W,
 ) -> Status
     ensures usage { result ≢ Status.Usage }
-    ensures ended { (result ≡ Status.Done) ⊎ (result ≡ Status.Refused) → ToldOf (S.left script.old) (P.left proof.old) (W.written answers.old) (W.written answers.new) (IsEndOfCheck result) }
-    ensures right { result ≡ Status.Done → ToldOf (S.left script.old) (P.left proof.old) (W.written answers.old) (W.written answers.new) IsRightlyAccepted }
-    ensures front { ToldOf (S.left script.old) (P.left proof.old) (W.written answers.old) (W.written answers.new) IsFrontOfCheck }
-    ensures read { ReadsForStatus (S.left script.old) (S.left script.new) (P.left proof.old) (P.left proof.new) result }
+    ensures ended { IsEnd result → ToldOf (S.left script.old) (P.left proof.old)
+        (W.written answers.old) (W.written answers.new) (IsEndOfCheck result) }
+    ensures right { result ≡ Status.Done → ToldOf (S.left script.old) (P.left proof.old)
+        (W.written answers.old) (W.written answers.new) IsRightlyAccepted }
+    ensures front { ToldOf (S.left script.old) (P.left proof.old)
+        (W.written answers.old) (W.written answers.new) IsFrontOfCheck }
+    ensures read { ReadsForStatus (S.left script.old) (S.left script.new)
+        (P.left proof.old) (P.left proof.new) result }
     ensures answers { AddsTo (W.written answers.old) (W.written answers.new) }
-    ensures later { IsLater (counts (S.faults script.old) (W.faults answers.old) (P.faults proof.old)) (counts (S.faults script.new) (W.faults answers.new) (P.faults proof.new)) }
-    ensures cause { HasCheckCause (counts (S.faults script.old) (W.faults answers.old) (P.faults proof.old)) (counts (S.faults script.new) (W.faults answers.new) (P.faults proof.new)) result }
+    ensures later { IsLater (counts (S.faults script.old) (W.faults answers.old) (P.faults proof.old))
+        (counts (S.faults script.new) (W.faults answers.new) (P.faults proof.new)) }
+    ensures cause { HasCheckCause (counts (S.faults script.old) (W.faults answers.old) (P.faults proof.old))
+        (counts (S.faults script.new) (W.faults answers.new) (P.faults proof.new)) result }
 {
     what_is_accepted_is_right();
     let mut buffer = match zeros(alloc, PIECE) {
@@ -115,8 +131,8 @@ fn check_proof<S: Source, P: Source, W: Sink>(
 }
 
 /// Does what the words ask for. `solve` answers the script on `answers`, each check within the limits that the words give, and
-/// writes its proof to `proof_out`, each check's lines and record before its answer. `check` reads the script and the proof `proof_in`, and tells on `answers` the
-/// verdict of each record as soon as it is accepted, and then what is judged of them.
+/// writes its proof to `proof_out`, each check's lines and record before its answer. `check` reads the script and the proof
+/// `proof_in`, and tells on `answers` the verdict of each record as soon as it is accepted, and then what is judged of them.
 pub fn run<S: Source, P: Source, W: Sink, Q: Sink>(
     alloc: Global,
     words: &[&str],
@@ -128,62 +144,42 @@ pub fn run<S: Source, P: Source, W: Sink, Q: Sink>(
     // The words come first: where they are not taken, nothing is read or written. To read them takes memory.
     ensures usage { result ≡ Status.Usage → ¬ (AreTaken (map (λ w. w.now) words.now)) }
     ensures usage_always { ¬ (AreTaken (map (λ w. w.now) words.now)) → (result ≡ Status.Usage) ⊎ (result ≡ Status.NoMemory) }
+    ensures untouched { result ≡ Status.Usage → (script.new ≡ script.old) × (proof_in.new ≡ proof_in.old)
+        × (answers.new ≡ answers.old) × (proof_out.new ≡ proof_out.old) }
     // Words that are taken ask for one of the two commands.
     ensures asked { AreTaken (map (λ w. w.now) words.now)
         → IsToSolve (map (λ w. w.now) words.now) ⊎ IsToCheck (map (λ w. w.now) words.now) }
-    ensures untouched { result ≡ Status.Usage → (script.new ≡ script.old) × (proof_in.new ≡ proof_in.old) × (answers.new ≡ answers.old) × (proof_out.new ≡ proof_out.old) }
-    // `solve` reads no proof, and `check` writes none.
-    ensures unread { IsToSolve (map (λ w. w.now) words.now) → proof_in.new ≡ proof_in.old }
-    ensures unwritten { IsToCheck (map (λ w. w.now) words.now) → proof_out.new ≡ proof_out.old }
 
-    // After every status the answers that were written whole stand beside a proof that is accepted to the last of their
-    // checks, and they are right: each `sat` has a model, and where there is an `unsat` there is none. An `unknown` stands beside
-    // the diary of one of its cubes, on which the budget of the words was spent. What is printed is right too: a model and values
-    // are those of the record of the check that stands; the assertions of a core with all that have no name and the assumptions
-    // of that check have no model; assumptions that cannot hold have none with all live assertions.
-    ensures beside { (limits : Limits) → IsToSolveWithin limits (map (λ w. w.now) words.now) → Told (S.left script.old) (W.written answers.old) (W.written answers.new) (Q.written proof_out.old) (Q.written proof_out.new) (IsBeside limits) }
-    // At the end of a run all is answered, the proof is accepted, and the status tells whether an error is among the answers.
-    // `check` over the same script and the bytes that were added to the proof then gives `Done`, as `judged` says, since one
-    // thing at most is judged of two texts.
-    ensures whole { (limits : Limits) → IsToSolveWithin limits (map (λ w. w.now) words.now) → (result ≡ Status.Done) ⊎ (result ≡ Status.Refused) → Told (S.left script.old) (W.written answers.old) (W.written answers.new) (Q.written proof_out.old) (Q.written proof_out.new) (IsAllAnswered limits result) }
-    // What was answered before a stop is a front of the answers to the first commands.
-    ensures prefix { (limits : Limits) → IsToSolveWithin limits (map (λ w. w.now) words.now) → Told (S.left script.old) (W.written answers.old) (W.written answers.new) (Q.written proof_out.old) (Q.written proof_out.new) (λ text answered proved. IsPrefix limits text answered) }
-    // Without a fault a script that is told and not too long is answered whole, but for want of memory.
-    ensures complete { IsToSolve (map (λ w. w.now) words.now) → IsShort (S.left script.old)
-        → IsWithoutFault (counts (S.faults script.old) (W.faults answers.old) (Q.faults proof_out.old)) (counts (S.faults script.new) (W.faults answers.new) (Q.faults proof_out.new))
-        → (result ≡ Status.Done) ⊎ ((result ≡ Status.Refused) ⊎ (result ≡ Status.NoMemory)) }
+    // `solve` reads no proof, answers the script, and writes a proof that is accepted.
+    ensures solves { (limits : Limits) → IsToSolveWithin limits (map (λ w. w.now) words.now)
+        → (proof_in.new ≡ proof_in.old)
+        × Solves limits result
+        (files (stream (S.left script.old) (S.faults script.old))
+        (stream (W.written answers.old) (W.faults answers.old))
+        (stream (Q.written proof_out.old) (Q.faults proof_out.old)))
+        (files (stream (S.left script.new) (S.faults script.new))
+        (stream (W.written answers.new) (W.faults answers.new))
+        (stream (Q.written proof_out.new) (Q.faults proof_out.new))) }
+    // `check` writes no proof, and judges the script and the proof that it reads.
+    ensures checks { IsToCheck (map (λ w. w.now) words.now)
+        → (proof_out.new ≡ proof_out.old)
+        × Checks result
+        (files (stream (S.left script.old) (S.faults script.old))
+        (stream (W.written answers.old) (W.faults answers.old))
+        (stream (P.left proof_in.old) (P.faults proof_in.old)))
+        (files (stream (S.left script.new) (S.faults script.new))
+        (stream (W.written answers.new) (W.faults answers.new))
+        (stream (P.left proof_in.new) (P.faults proof_in.new))) }
 
-    // At the end of a check this is judged of both texts, `Done` exactly where the proof is accepted.
-    ensures judged { IsToCheck (map (λ w. w.now) words.now) → (result ≡ Status.Done) ⊎ (result ≡ Status.Refused) → ToldOf (S.left script.old) (P.left proof_in.old) (W.written answers.old) (W.written answers.new) (IsEndOfCheck result) }
-    // What is accepted is right, whoever wrote the proof: within some limits there are turns of the script that make an accepted
-    // proof and have the verdicts that are told, each `sat` has a model, and where there is an `unsat` there is none.
-    ensures accepted { IsToCheck (map (λ w. w.now) words.now) → result ≡ Status.Done → ToldOf (S.left script.old) (P.left proof_in.old) (W.written answers.old) (W.written answers.new) IsRightlyAccepted }
-    // What a check told before a stop are verdicts of records that are accepted, whatever stands behind them, the last line maybe
-    // cut off, or a front of the whole report. Whatever is judged of both texts, its report begins with what is told.
-    // Each verdict that was told is right, also where a later line is refused or the run ended before.
-    ensures judged_front { IsToCheck (map (λ w. w.now) words.now) → ToldOf (S.left script.old) (P.left proof_in.old) (W.written answers.old) (W.written answers.new) IsFrontOfCheck }
-    // Without a fault two texts that are told and not too long are judged, but for want of memory.
-    ensures judged_always { IsToCheck (map (λ w. w.now) words.now) → IsShort (S.left script.old) → IsShort (P.left proof_in.old)
-        → IsWithoutFault (counts (S.faults script.old) (W.faults answers.old) (P.faults proof_in.old)) (counts (S.faults script.new) (W.faults answers.new) (P.faults proof_in.new))
-        → (result ≡ Status.Done) ⊎ ((result ≡ Status.Refused) ⊎ (result ≡ Status.NoMemory)) }
-
-    // A run of `solve` comes to its end only at the end of the script or at a command that ends the run. It reads 2^32 bytes of
-    // the script, and one more where there is one. Of both inputs of a check no more is read.
-    ensures at_end { IsToSolve (map (λ w. w.now) words.now) → (result ≡ Status.Done) ⊎ (result ≡ Status.Refused) → IsReadOut (S.left script.old) (S.left script.new) }
-    ensures within { IsToSolve (map (λ w. w.now) words.now) → result ≢ Status.TooLong → ReadsWithin (S.left script.old) (S.left script.new) }
-    ensures too_long { IsToSolve (map (λ w. w.now) words.now) → result ≡ Status.TooLong → ReadsBytes (input_limit + 1) (S.left script.old) (S.left script.new) }
-    ensures both_within { IsToCheck (map (λ w. w.now) words.now) → ReadsForStatus (S.left script.old) (S.left script.new) (P.left proof_in.old) (P.left proof_in.new) result }
-
-    // What is written stays, and the proof begins with its header, which has the limits of the words.
-    ensures answers { AddsTo (W.written answers.old) (W.written answers.new) }
-    ensures proof { AddsTo (Q.written proof_out.old) (Q.written proof_out.new) }
-    ensures header { (limits : Limits) → IsToSolveWithin limits (map (λ w. w.now) words.now) → result ≢ Status.WriteFault → result ≢ Status.NoMemory → BeginsWith (header_text limits) (Q.written proof_out.old) (Q.written proof_out.new) }
-
-    // A fault is told only where a count rose.
-    ensures later { IsLater (counts (S.faults script.old) (W.faults answers.old) (Q.faults proof_out.old)) (counts (S.faults script.new) (W.faults answers.new) (Q.faults proof_out.new)) }
-    ensures later_proof { P.faults proof_in.old ≤ P.faults proof_in.new }
-    ensures cause { IsToSolve (map (λ w. w.now) words.now) → HasCause (counts (S.faults script.old) (W.faults answers.old) (Q.faults proof_out.old)) (counts (S.faults script.new) (W.faults answers.new) (Q.faults proof_out.new)) result }
-    ensures cause_of_check { IsToCheck (map (λ w. w.now) words.now) → HasCheckCause (counts (S.faults script.old) (W.faults answers.old) (P.faults proof_in.old)) (counts (S.faults script.new) (W.faults answers.new) (P.faults proof_in.new)) result }
+    // Whatever the words ask for, what is written stays, and no count of faults falls.
+    ensures stays { AddsToFiles
+        (files (stream (S.left script.old) (S.faults script.old))
+        (stream (W.written answers.old) (W.faults answers.old))
+        (stream (Q.written proof_out.old) (Q.faults proof_out.old)))
+        (files (stream (S.left script.new) (S.faults script.new))
+        (stream (W.written answers.new) (W.faults answers.new))
+        (stream (Q.written proof_out.new) (Q.faults proof_out.new))) }
+    ensures later { P.faults proof_in.old ≤ P.faults proof_in.new }
 {
     match plan(alloc, words) {
         Ok(plan) => match plan.command {

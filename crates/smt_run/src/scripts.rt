@@ -4,8 +4,8 @@ ghost use Rattle.std.specs.Prelude.{◌<◌, IfOk, IfErr, IfSome, MatchResult, l
 ghost use Rattle.accepted_proof.specs.Searching.{AreLimits};
 ghost use Rattle.smt_session.specs.Sessions.{limits_of};
 ghost use Rattle.smt_check.specs.Runs.{AddsTo, IsLater, HasCause, counts};
-ghost use Rattle.smt_run.specs.Solving.{IsRead};
-ghost use Rattle.smt_run.specs.Adding.{streams, AnswersAll, AnswersFront};
+ghost use Rattle.smt_run.specs.Solving.{IsRead, FailsToRead};
+ghost use Rattle.smt_run.specs.Adding.{streams, AnswersAll, AnswersFront, AnswersRead};
 ghost use Rattle.smt_run.specs.Beside.{IsReadOut};
 
 use crate::answering::{Answered, answer_piece, answer_rest};
@@ -34,6 +34,9 @@ pub(crate) fn answer_script<S: Source, W: Sink, Q: Sink>(
     ensures turns { IfSome (S.left script.old) (λ text. MatchResult result
         (λ refused. AnswersAll (limits_of settings) text (streams (W.written answers.old) (Q.written proof.old)) (streams (W.written answers.new) (Q.written proof.new)) refused)
         (λ _. AnswersFront (limits_of settings) text (streams (W.written answers.old) (Q.written proof.old)) (streams (W.written answers.new) (Q.written proof.new)))) }
+    ensures answered { IfErr result (λ t. FailsToRead t → IfSome (S.left script.old) (λ text.
+        AnswersRead (limits_of settings) t (S.left script.new) text
+        (streams (W.written answers.old) (Q.written proof.old)) (streams (W.written answers.new) (Q.written proof.new)))) }
     ensures answers { AddsTo (W.written answers.old) (W.written answers.new) }
     ensures proof { AddsTo (Q.written proof.old) (Q.written proof.new) }
     ensures later { IsLater (counts (S.faults script.old) (W.faults answers.old) (Q.faults proof.old)) (counts (S.faults script.new) (W.faults answers.new) (Q.faults proof.new)) }

@@ -1,6 +1,9 @@
 use Rattle.smt_check.proofs.Parts.{adds_more}
+use Rattle.std.proofs.Common.{⊎_elim, inr, refl}
 use Rattle.smt_run.proofs.Written.{begins_with}
-use Rattle.smt_run.proofs.Telling.{told_silent, unbegun_beside, unbegun_prefix, front_beside, front_prefix, whole_all, whole_beside, whole_prefix}
+use Rattle.smt_run.proofs.Ends.{end_reads}
+use Rattle.smt_run.proofs.Telling.{told_silent, unbegun_beside, unbegun_prefix, front_beside, front_prefix, whole_all, whole_beside, whole_prefix, told_read, no_read}
+use Rattle.smt_session.specs.Sessions.{limits_of}
 use Rattle.smt_run.proofs.running.solve.Goals as goal
 
 pub returns-in-Err-clause-beside : goal.returns-in-Err-clause-beside
@@ -41,3 +44,15 @@ returns-clause-proof g c = let a = c.open_proof.ensures.added in adds_more _ _ _
 
 pub returns-clause-header : goal.returns-clause-header
 returns-clause-header g c = λ _ _. begins_with _ _ _ _ c.in-Ok.ensures.ok c.answer_script.ensures.proof
+
+pub returns-in-Err-clause-answered : goal.returns-in-Err-clause-answered
+returns-in-Err-clause-answered g c = λ k. absurd (no_read (limits_of c.args.settings) _ c.in-Err.ensures.stopped k)
+
+pub returns-in-Err-zeros-clause-answered : goal.returns-in-Err-zeros-clause-answered
+returns-in-Err-zeros-clause-answered g c = λ k. absurd (no_read (limits_of c.args.settings) _ (inr refl) k)
+
+pub returns-in-Ok-answer_script-clause-answered : goal.returns-in-Ok-answer_script-clause-answered
+returns-in-Ok-answer_script-clause-answered g c = λ k. absurd (end_reads _ _ c.end_status.ensures k)
+
+pub returns-clause-answered : goal.returns-clause-answered
+returns-clause-answered g c = λ k. told_read _ _ _ _ _ _ _ _ _ c.in-Ok.ensures.ok (c.in-Err-answer_script.ensures.answered k)

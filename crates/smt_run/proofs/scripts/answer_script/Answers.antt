@@ -11,7 +11,7 @@ use Rattle.smt_session.specs.Sessions.{limits_of}
 use Rattle.smt_run.specs.Adding.{opening, streams, with_piece}
 use Rattle.smt_run.proofs.Written.{Progress-none, Progress-more, Progress-resize, Written-none, Written-more, within_none, within_more, read_stopped, read_failed, read_whole, at_most, piece_read, script_cause, sinks_cause}
 use Rattle.smt_run.proofs.Turning.{Advances-none, Advances-trans, Begins-trans, held_none, held_stop, held_more, held_behind}
-use Rattle.smt_run.proofs.Telling.{front_told, rest_told, ended_told, ended_read}
+use Rattle.smt_run.proofs.Telling.{front_told, rest_told, ended_told, ended_read, read_told, rest_read, no_read}
 use Rattle.smt_run.proofs.scripts.answer_script.Goals as goal
 
 pub returns-in_err-session-clause-read : goal.returns-in_err-session-clause-read
@@ -164,3 +164,25 @@ returns-in_err-so_far-clause-cause g c =
     rw (p.1, p.2)
     (cause_after _ _ _ _ c.pieces.invariant.written.later
     (sinks_cause (g.S.Source.faults c.pieces.script) (g.S.Source.faults c.read_piece.new.script) _ _ _ _ _ c.in_err-so_far.ensures.cause c.in_err-so_far.ensures.stopped))
+
+pub returns-in_err-session-clause-answered : goal.returns-in_err-session-clause-answered
+returns-in_err-session-clause-answered g c =
+    let p = err_from_is_err_and c.from_residual.result c.from_residual.ensures.1 in
+    rw p.1 (λ k. absurd (no_read (limits_of c.args.settings) p.0 (inr p.2) k))
+
+pub returns-in-Err-clause-answered : goal.returns-in-Err-clause-answered
+returns-in-Err-clause-answered g c =
+    let inv = c.pieces.invariant in
+    let going = not-true c.pieces.so_far.ended c.pieces-test.true in
+    let start = streams (g.W.Sink.written c.args.answers.now) (g.Q.Sink.written c.args.proof.now) in
+    let here = streams (g.W.Sink.written c.pieces.answers) (g.Q.Sink.written c.pieces.proof) in
+    λ _. read_told (limits_of c.args.settings) (g.S.Source.left c.args.script.now) (g.S.Source.left c.pieces.script) (g.S.Source.left c.read_piece.new.script) inv.text c.pieces.left c.pieces.so_far start here inv.chunks c.pieces.framer c.in-Err.status
+    going inv.consumed c.in-Err.ensures.read inv.begins (inv.ends going) inv.advances
+
+pub returns-in_err-so_far-clause-answered : goal.returns-in_err-so_far-clause-answered
+returns-in_err-so_far-clause-answered g c =
+    let p = err_from_is_err_and c.from_residual-in_err-so_far.result c.from_residual-in_err-so_far.ensures.1 in
+    rw (p.1, p.2) (λ k. absurd (no_read (limits_of c.args.settings) _ c.in_err-so_far.ensures.stopped k))
+
+pub returns-then-size-eq0-clause-answered : goal.returns-then-size-eq0-clause-answered
+returns-then-size-eq0-clause-answered g c = rest_read (limits_of c.args.settings) c.answer_rest.result _ c.answer_rest.ensures.stopped
