@@ -161,7 +161,7 @@ module _ (nodes : List Node) (terms : IsTermList nodes) (t : ℕ) (lt : t < leng
   k : Context
   k = record { M = any_interpretation; nodes = nodes; v = value any_interpretation nodes; terms = terms; evaluation = value_is_evaluation any_interpretation nodes terms }
 
-  folded_sort : has_literals nodes t ≡ true → HasSort (sort_of nodes t) (folded_value nodes t)
+  pub folded_sort : has_literals nodes t ≡ true → HasSort (sort_of nodes t) (folded_value nodes t)
   unfolding k
   folded_sort h =
       let args = (node_at nodes t).args in
@@ -303,7 +303,7 @@ is_some : (o : Option Shape) → (o ≡ None → ⊥) → IsSome o
 is_some (Some s) h = refl
 is_some None h = absurd (h refl)
 
-not_inner : (nodes : List Node) (t : ℕ) (rule : Rule) (s : Shape) → becomes nodes rule t ≡ Some s → rule ≡ Inner → ⊥
+pub not_inner : (nodes : List Node) (t : ℕ) (rule : Rule) (s : Shape) → becomes nodes rule t ≡ Some s → rule ≡ Inner → ⊥
 not_inner nodes t rule s e q = let p : None ≡ Some s = sym (ap (λ r. becomes nodes r t) q) ∙ e in let z : ⊥ = cc in z
 
 pub made : (nodes : List Node) (images : ℕ → Option ℕ) (rule : Rule) (t u : ℕ) (s : Shape) → IsTermList nodes → t < length nodes → u < length nodes → is_plain (sort_of nodes t) ≡ true → sort_of nodes u ≡ sort_of nodes t → becomes nodes rule t ≡ Some s → has_shape nodes s u ≡ true → matches nodes images rule t u ≡ true

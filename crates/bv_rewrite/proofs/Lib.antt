@@ -1,2 +1,7 @@
 pub mod Fitting
 pub mod Numbered
+pub mod Ranking
+pub mod Lighter
+pub mod Made
+pub mod Lasting
+pub mod Following

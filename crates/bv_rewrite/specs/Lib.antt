@@ -1,2 +1,5 @@
 pub mod Shapes
 pub mod Becoming
+pub mod Weights
+pub mod Making
+pub mod Simplifying

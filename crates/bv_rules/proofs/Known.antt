@@ -169,7 +169,7 @@ pub record Two (k : Context) (d : Demand) (e : Sort → Demand) (g : Sort → So
   pub right : allows (e (sort_of k.nodes (arg k.nodes 0 t))) (sort_of k.nodes (arg k.nodes 1 t)) ≡ true
   pub gives : g (sort_of k.nodes (arg k.nodes 0 t)) (sort_of k.nodes (arg k.nodes 1 t)) ≡ Ok (sort_of k.nodes t)
 
-pub record Three (k : Context) (d : Demand) (e : Sort → Demand) (f : Sort → Sort → Demand) (t : ℕ) : Type 0 where
+pub record Three (k : Context) (d : Demand) (e : Sort → Demand) (f : Sort → Sort → Demand) (g : Sort → Sort → Sort → Result Sort MakeFault) (t : ℕ) : Type 0 where
   pub args : (node_at k.nodes t).args ≡ arg k.nodes 0 t ∷ arg k.nodes 1 t ∷ arg k.nodes 2 t ∷ []
   pub first : arg k.nodes 0 t < length k.nodes
   pub second : arg k.nodes 1 t < length k.nodes
@@ -177,6 +177,7 @@ pub record Three (k : Context) (d : Demand) (e : Sort → Demand) (f : Sort → 
   pub left : allows d (sort_of k.nodes (arg k.nodes 0 t)) ≡ true
   pub middle : allows (e (sort_of k.nodes (arg k.nodes 0 t))) (sort_of k.nodes (arg k.nodes 1 t)) ≡ true
   pub right : allows (f (sort_of k.nodes (arg k.nodes 0 t)) (sort_of k.nodes (arg k.nodes 1 t))) (sort_of k.nodes (arg k.nodes 2 t)) ≡ true
+  pub gives : g (sort_of k.nodes (arg k.nodes 0 t)) (sort_of k.nodes (arg k.nodes 1 t)) (sort_of k.nodes (arg k.nodes 2 t)) ≡ Ok (sort_of k.nodes t)
 
 -- what a function of a word's width and number gives for a value
 abbrev pub on_word : (ℕ → ℕ → Value) → Value → Value
@@ -232,7 +233,7 @@ module _ (k : Context) where
         gives = (λ i. g (w.1 i) (w.2 i)) ∙ h.5;
       }
 
-  pub three_at : (d : Demand) (f : Sort → Demand) (j : Sort → Sort → Demand) (g : Sort → Sort → Sort → Result Sort MakeFault) (o : Op) (t : ℕ) → rank_of o ≡ (Takes d λ p. Takes (f p) λ q. Takes (j p q) λ x. Gives (g p q x)) → t < length k.nodes → op_at k.nodes t ≡ o → Three k d f j t
+  pub three_at : (d : Demand) (f : Sort → Demand) (j : Sort → Sort → Demand) (g : Sort → Sort → Sort → Result Sort MakeFault) (o : Op) (t : ℕ) → rank_of o ≡ (Takes d λ p. Takes (f p) λ q. Takes (j p q) λ x. Gives (g p q x)) → t < length k.nodes → op_at k.nodes t ≡ o → Three k d f j g t
   three_at d f j g o t r lt e =
       let args = (node_at k.nodes t).args in
       let h = three_taken d f j g (map (sort_of k.nodes) args) (sort_of k.nodes t) (ap (λ x. ranked x 0 (map Some (map (sort_of k.nodes) args))) (sym r) ∙ rank_by o t lt e) in
@@ -246,6 +247,7 @@ module _ (k : Context) where
         left = ap (allows d) w.1 ∙ h.4;
         middle = (λ i. allows (f (w.1 i)) (w.2 i)) ∙ h.5;
         right = (λ i. allows (j (w.1 i) (w.2 i)) (w.3 i)) ∙ h.6;
+        gives = (λ i. g (w.1 i) (w.2 i) (w.3 i)) ∙ h.7;
       }
 
   -- an operator on one word

@@ -30,7 +30,7 @@ use Rattle.bv_rules.proofs.Keeping.{matched}
 
 -- ---- ways
 
-reaches_more : (images : ℕ → Option ℕ) (n m a b : ℕ) → reaches images n a b ≡ true → reaches images (n + m) a b ≡ true
+pub reaches_more : (images : ℕ → Option ℕ) (n m a b : ℕ) → reaches images n a b ≡ true → reaches images (n + m) a b ≡ true
 reaches_more images zero m a b h = let e : m ≡ 0 + m = omega arith in subst (λ k. reaches images k a b ≡ true) e (at_once m) where
   or_true : (b c : Bool) → b ≡ true → (b || c) ≡ true
   or_true b c e = ap (λ d. d || c) e
@@ -71,23 +71,23 @@ module _ (nodes more : List Node) (terms : IsTermList nodes) where
   argument_in n zero (a ∷ args) lt h = omega (arith, lt, h.0)
   argument_in n (suc k) (a ∷ args) lt h = argument_in n k args lt h.1
 
-  arg_held : (k t : ℕ) → t < length nodes → arg nodes k t < length nodes
+  pub arg_held : (k t : ℕ) → t < length nodes → arg nodes k t < length nodes
   arg_held k t lt = argument_in t k (node_at nodes t).args lt (terms t lt).earlier
 
-  op_longer : (t : ℕ) → t < length nodes → op_at (nodes ++ more) t ≡ op_at nodes t
+  pub op_longer : (t : ℕ) → t < length nodes → op_at (nodes ++ more) t ≡ op_at nodes t
   op_longer t lt = ap (λ n. n.op) (node_longer nodes more t lt)
 
-  arg_longer : (k t : ℕ) → t < length nodes → arg (nodes ++ more) k t ≡ arg nodes k t
+  pub arg_longer : (k t : ℕ) → t < length nodes → arg (nodes ++ more) k t ≡ arg nodes k t
   arg_longer k t lt = ap (λ n. slice_index_or n.args k 0) (node_longer nodes more t lt)
 
-  width_longer : (t : ℕ) → t < length nodes → width_at (nodes ++ more) t ≡ width_at nodes t
+  pub width_longer : (t : ℕ) → t < length nodes → width_at (nodes ++ more) t ≡ width_at nodes t
   width_longer t lt = ap width_of (sort_longer nodes more t lt)
 
-  is_longer : (o : Operator) (t : ℕ) → t < length nodes → is (nodes ++ more) o t ≡ is nodes o t
+  pub is_longer : (o : Operator) (t : ℕ) → t < length nodes → is (nodes ++ more) o t ≡ is nodes o t
   is_longer o t lt = ap (λ p. same_op p (Plain o)) (op_longer t lt)
 
   -- a test of operators alone
-  by_op : (f : Op → Bool) (t : ℕ) → t < length nodes → f (op_at (nodes ++ more) t) ≡ f (op_at nodes t)
+  pub by_op : (f : Op → Bool) (t : ℕ) → t < length nodes → f (op_at (nodes ++ more) t) ≡ f (op_at nodes t)
   by_op f t lt = ap f (op_longer t lt)
 
   on_longer : (o : Operator) (p q : ℕ → ℕ → Bool) (t : ℕ) → t < length nodes → ((x y : ℕ) → x < length nodes → y < length nodes → p x y ≡ q x y) → on (nodes ++ more) o p t ≡ on nodes o q t
@@ -101,19 +101,19 @@ module _ (nodes more : List Node) (terms : IsTermList nodes) where
   with_longer : (o : Operator) (x : ℕ) (p q : ℕ → Bool) (t : ℕ) → t < length nodes → ((z : ℕ) → z < length nodes → p z ≡ q z) → with_term (nodes ++ more) o x p t ≡ with_term nodes o x q t
   with_longer o x p q t lt same = on_longer o (λ y z. (y == x) && p z) (λ y z. (y == x) && q z) t lt (λ y z ly lz. ap (λ b. (y == x) && b) (same z lz))
 
-  of_longer : (o : Operator) (x t : ℕ) → t < length nodes → of_term (nodes ++ more) o x t ≡ of_term nodes o x t
+  pub of_longer : (o : Operator) (x t : ℕ) → t < length nodes → of_term (nodes ++ more) o x t ≡ of_term nodes o x t
   of_longer o x t lt = (λ i. is_longer o t lt i && (arg_longer 0 t lt i == x))
 
   of_two_longer : (o : Operator) (x y t : ℕ) → t < length nodes → of_terms (nodes ++ more) o x y t ≡ of_terms nodes o x y t
   of_two_longer o x y t lt = (λ i. is_longer o t lt i && ((arg_longer 0 t lt i == x) && (arg_longer 1 t lt i == y)))
 
-  inner_longer : (j k t : ℕ) → t < length nodes → arg (nodes ++ more) j (arg (nodes ++ more) k t) ≡ arg nodes j (arg nodes k t)
+  pub inner_longer : (j k t : ℕ) → t < length nodes → arg (nodes ++ more) j (arg (nodes ++ more) k t) ≡ arg nodes j (arg nodes k t)
   inner_longer j k t lt = ap (arg (nodes ++ more) j) (arg_longer k t lt) ∙ arg_longer j (arg nodes k t) (arg_held k t lt)
 
-  inner_is : (o : Operator) (k t : ℕ) → t < length nodes → is (nodes ++ more) o (arg (nodes ++ more) k t) ≡ is nodes o (arg nodes k t)
+  pub inner_is : (o : Operator) (k t : ℕ) → t < length nodes → is (nodes ++ more) o (arg (nodes ++ more) k t) ≡ is nodes o (arg nodes k t)
   inner_is o k t lt = ap (is (nodes ++ more) o) (arg_longer k t lt) ∙ is_longer o (arg nodes k t) (arg_held k t lt)
 
-  inner_op : (k t : ℕ) → t < length nodes → op_at (nodes ++ more) (arg (nodes ++ more) k t) ≡ op_at nodes (arg nodes k t)
+  pub inner_op : (k t : ℕ) → t < length nodes → op_at (nodes ++ more) (arg (nodes ++ more) k t) ≡ op_at nodes (arg nodes k t)
   inner_op k t lt = ap (op_at (nodes ++ more)) (arg_longer k t lt) ∙ op_longer (arg nodes k t) (arg_held k t lt)
 
   twice_longer : (o : Operator) (x t : ℕ) → t < length nodes → twice (nodes ++ more) o x t ≡ twice nodes o x t
@@ -183,11 +183,11 @@ module _ (nodes more : List Node) (terms : IsTermList nodes) where
         let selects = ap (λ y. of_terms (nodes ++ more) plain.Select y j u) a ∙ of_two_longer plain.Select (arg nodes 0 s) j u lu in
         (λ z. ((i z == j) && (u == x z)) || (unequal z && selects z))
 
-    literals_longer : (n : ℕ) (args : List ℕ) → n < length nodes → AllByRecursion (λ a. a < n) args → list_all (λ a. is_literal (op_at (nodes ++ more) a)) args ≡ list_all (λ a. is_literal (op_at nodes a)) args
+    pub literals_longer : (n : ℕ) (args : List ℕ) → n < length nodes → AllByRecursion (λ a. a < n) args → list_all (λ a. is_literal (op_at (nodes ++ more) a)) args ≡ list_all (λ a. is_literal (op_at nodes a)) args
     literals_longer n [] l h = refl
     literals_longer n (a ∷ args) l h = (λ i. by_op is_literal a (omega (arith, l, h.0)) i && literals_longer n args l h.1 i)
 
-    values_longer : (n : ℕ) (args : List ℕ) → n < length nodes → AllByRecursion (λ a. a < n) args → map (literal_at (nodes ++ more)) args ≡ map (literal_at nodes) args
+    pub values_longer : (n : ℕ) (args : List ℕ) → n < length nodes → AllByRecursion (λ a. a < n) args → map (literal_at (nodes ++ more)) args ≡ map (literal_at nodes) args
     values_longer n [] l h = refl
     values_longer n (a ∷ args) l h = (λ i. op_value any_interpretation (op_longer a (omega (arith, l, h.0)) i) [] ∷ values_longer n args l h.1 i)
 
