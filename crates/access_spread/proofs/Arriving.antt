@@ -1,0 +1,153 @@
+-- One row more.
+use Rattle.std.proofs.Common.{◌≡◌, ℕ, ◌<◌, ◌≤◌, List, [], ◌∷◌, ◌++◌, length, Option, Some, None, refl, sym, ap, ◌∙◌, subst, ⊎_elim, arith, length-append}
+use Rattle.std.specs.Prelude.{◌⊎◌, slice_get, slice_set}
+use Rattle.std.proofs.lemmas.Option.{slice_get_within}
+use Rattle.std.proofs.lemmas.List.{length-set}
+use Rattle.access_spread.specs.declared.graph.Gate.{Gate}
+use Rattle.access_spread.specs.declared.graph.Graph.{Graph}
+use Rattle.access_spread.specs.declared.spreading.Start.{Start}
+use Rattle.access_spread.specs.declared.spreading.Link.{Link}
+use Rattle.access_spread.specs.declared.spreading.Row.{Row}
+use Rattle.access_spread.specs.declared.spreading.State.{State}
+use Rattle.access_spread.specs.Spreads.{index_in, value_in, AreStartsOf, CameBy, IsFrom, AreDerived, IsStanding, NoneStands, Fits, IsClash, HasArrived}
+use Rattle.access_spread.proofs.Lists.{set_same, set_other, eq_or_not, get_front, get_last, get_push}
+
+module _ (g : Graph) (gates : List Gate) (starts : List Start) where
+  came_longer : (rows more : List Row) (p : ℕ) (r : Row) (o : Option Link) → CameBy g gates starts rows p r o → CameBy g gates starts (rows ++ more) p r o
+  came_longer rows more p r None h = h
+  came_longer rows more p r (Some l) h = (h.0, h.1, h.2, get_front rows more l.row h.1 h.3, h.4, h.5, h.6, h.7, h.8)
+
+  pub derived_push : (rows : List Row) (row : Row) → AreDerived g gates starts rows → IsFrom g gates starts rows (length rows) row → AreDerived g gates starts (rows ++ row ∷ [])
+  derived_push rows row d f p r e =
+      ⊎_elim
+      (λ h.
+      let own : IsFrom g gates starts (rows ++ row ∷ []) (length rows) row = came_longer rows (row ∷ []) (length rows) row row.from f in
+      let here : IsFrom g gates starts (rows ++ row ∷ []) p row = subst (λ q. IsFrom g gates starts (rows ++ row ∷ []) q row) (sym h.0) own in
+      subst (IsFrom g gates starts (rows ++ row ∷ []) p) h.1 here)
+      (λ old. came_longer rows (row ∷ []) p r r.from (d p r old))
+      (get_push rows row r p e)
+
+  pub started_push : (rows : List Row) (row : Row) → AreStartsOf starts rows → row.start < length starts → AreStartsOf starts (rows ++ row ∷ [])
+  started_push rows row d lt p r e =
+      ⊎_elim
+      (λ h. subst (λ z. z.start < length starts) h.1 lt)
+      (λ old. d p r old)
+      (get_push rows row r p e)
+
+  module _ (st : State) (row : Row) (fits : Fits g gates starts st) (within : row.array < length g.fans.items) (start : row.start < length starts) (index : index_in starts row ≡ st.index) (from : IsFrom g gates starts st.rows.items (length st.rows.items) row) where
+    pub clash_is : (rows : List Row) (p : ℕ) → rows ≡ st.rows.items ++ row ∷ [] → IsStanding starts st row.array (index_in starts row) p → ((r : Row) → slice_get st.rows.items p ≡ Some r → value_in starts r ≡ value_in starts row → ⊥) → IsClash g gates starts rows p
+    clash_is rows p e stands ne =
+        let l = fits.last row.array p stands.0 in
+        let same : l.0 ≡ stands.1 = let x = l.1 in let y = stands.2 in cc in
+        rw e (record {
+          derived = derived_push st.rows.items row fits.derived from;
+          started = started_push st.rows.items row fits.started start;
+          last = length st.rows.items;
+          more = omega (arith, length-append st.rows.items (row ∷ []));
+          left = stands.1;
+          right = row;
+          at_left = get_front st.rows.items (row ∷ []) p stands.1 stands.2;
+          at_right = get_last st.rows.items row;
+          array = ap (λ r. r.array) (sym same) ∙ l.2;
+          index = stands.3;
+          value = ne stands.1 stands.2;
+        })
+
+    pub stands_has : (p : ℕ) → IsStanding starts st row.array (index_in starts row) p → ((r : Row) → slice_get st.rows.items p ≡ Some r → value_in starts r ≡ value_in starts row) → HasArrived g gates starts st st row
+    stands_has p stands eq =
+        let l = fits.last row.array p stands.0 in
+        let same : l.0 ≡ stands.1 = let x = l.1 in let y = stands.2 in cc in
+        record {
+          fits = fits;
+          grows = record { rows = λ q r e. e; begun = refl; index = refl };
+          has = (p, stands.1, stands.2, ap (λ r. r.array) (sym same) ∙ l.2, stands.3, eq stands.1 stands.2);
+        }
+
+    module _ (new : State) (none : NoneStands starts st row.array (index_in starts row)) (rows : new.rows.items ≡ st.rows.items ++ row ∷ []) (last : new.last.items ≡ slice_set st.last.items row.array (Some (length st.rows.items))) (begun : new.begun ≡ st.begun) (now : new.index ≡ st.index) where
+      cases : (p : ℕ) (r : Row) → slice_get new.rows.items p ≡ Some r → ((p ≡ length st.rows.items) × (row ≡ r)) ⊎ (slice_get st.rows.items p ≡ Some r)
+      cases p r e = get_push st.rows.items row r p (ap (λ xs. slice_get xs p) (sym rows) ∙ e)
+
+      old_at : (p : ℕ) (r : Row) → slice_get st.rows.items p ≡ Some r → slice_get new.rows.items p ≡ Some r
+      old_at p r e = ap (λ xs. slice_get xs p) rows ∙ get_front st.rows.items (row ∷ []) p r e
+
+      new_at : slice_get new.rows.items (length st.rows.items) ≡ Some row
+      new_at = ap (λ xs. slice_get xs (length st.rows.items)) rows ∙ get_last st.rows.items row
+
+      last_here : slice_get new.last.items row.array ≡ Some (Some (length st.rows.items))
+      last_here = ap (λ xs. slice_get xs row.array) last ∙ set_same st.last.items row.array (Some (length st.rows.items)) (omega (arith, fits.count, within))
+
+      last_there : (a : ℕ) → (a ≡ row.array → ⊥) → slice_get new.last.items a ≡ slice_get st.last.items a
+      last_there a ne = ap (λ xs. slice_get xs a) last ∙ set_other st.last.items row.array a (Some (length st.rows.items)) ne
+
+      -- rows of this array have lower indexes
+      lower : (p : ℕ) (r : Row) → slice_get st.rows.items p ≡ Some r → r.array ≡ row.array → index_in starts r < index_in starts row
+      lower p r e same =
+          let l = fits.latest row.array p r e same in
+          let t = fits.last row.array l.0 l.1 in
+          let ne : index_in starts t.0 ≡ index_in starts row → ⊥ = none l.0 t.0 l.1 t.1 in
+          let top : index_in starts t.0 ≤ st.index = fits.below l.0 t.0 t.1 in
+          ⊎_elim
+          (λ q.
+          let is : r ≡ t.0 = let x : Some r ≡ Some t.0 = sym e ∙ ap (slice_get st.rows.items) q ∙ t.1 in cc in
+          let k : index_in starts r ≡ index_in starts t.0 = ap (index_in starts) is in
+          let other : index_in starts r ≡ index_in starts row → ⊥ = λ z. ne (sym k ∙ z) in
+          omega (arith, k, top, index, other))
+          (λ q.
+          let less = fits.rising p l.0 r t.0 (omega (arith, q, l.2)) e t.1 (same ∙ sym t.2) in
+          omega (arith, less, top, index))
+          (eq_or_not p l.0)
+
+      pub new_fits : Fits g gates starts new
+      new_fits = record {
+        count = ap length last ∙ length-set st.last.items row.array (Some (length st.rows.items)) ∙ fits.count;
+        within = λ p r e. ⊎_elim (λ h. subst (λ z. z.array < length g.fans.items) h.1 within) (λ old. fits.within p r old) (cases p r e);
+        started = subst (AreStartsOf starts) (sym rows) (started_push st.rows.items row fits.started start);
+        derived = subst (AreDerived g gates starts) (sym rows) (derived_push st.rows.items row fits.derived from);
+        last = λ a p e.
+            ⊎_elim
+            (λ same.
+            let x : Some (Some p) ≡ Some (Some (length st.rows.items)) = sym e ∙ ap (slice_get new.last.items) same ∙ last_here in
+            let y : p ≡ length st.rows.items = cc in
+            (row, ap (slice_get new.rows.items) y ∙ new_at, sym same))
+            (λ ne. let l = fits.last a p (sym (last_there a ne) ∙ e) in (l.0, old_at p l.0 l.1, l.2))
+            (eq_or_not a row.array);
+        latest = λ a q s e same.
+            ⊎_elim
+            (λ h. (length st.rows.items, ap (slice_get new.last.items) (sym same ∙ ap (λ z. z.array) (sym h.1)) ∙ last_here, omega (arith, h.0)))
+            (λ old.
+            ⊎_elim
+            (λ here. (length st.rows.items, ap (slice_get new.last.items) here ∙ last_here, let lt = slice_get_within st.rows.items q s old in omega arith))
+            (λ ne. let l = fits.latest a q s old same in (l.0, last_there a ne ∙ l.1, l.2))
+            (eq_or_not a row.array))
+            (cases q s e);
+        rising = λ p q r s lt e f same.
+            ⊎_elim
+            (λ h.
+            ⊎_elim
+            (λ k. let z : ⊥ = omega (arith, h.0, k.0, lt) in absurd z)
+            (λ old. subst (λ z. index_in starts r < index_in starts z) h.1 (lower p r old (same ∙ ap (λ z. z.array) (sym h.1))))
+            (cases p r e))
+            (λ old.
+            ⊎_elim
+            (λ k. let within' = slice_get_within st.rows.items q s old in let z : ⊥ = omega (arith, k.0, lt, within') in absurd z)
+            (λ older. fits.rising p q r s lt older old same)
+            (cases p r e))
+            (cases q s f);
+        below = λ p r e.
+            ⊎_elim
+            (λ h. subst (λ z. index_in starts z ≤ new.index) h.1 (omega (arith, index, now)))
+            (λ old. let b = fits.below p r old in omega (arith, b, now))
+            (cases p r e);
+        present = λ p r le e.
+            ⊎_elim
+            (λ h. ap (index_in starts) (sym h.1) ∙ index ∙ sym now)
+            (λ old. fits.present p r (omega (arith, le, begun)) old ∙ sym now)
+            (cases p r e);
+      }
+
+      pub new_has : HasArrived g gates starts st new row
+      new_has = record {
+        fits = new_fits;
+        grows = record { rows = old_at; begun = begun; index = now };
+        has = (length st.rows.items, row, new_at, refl, refl, refl);
+      }

@@ -1,0 +1,12 @@
+use Rattle.std.proofs.Common.{◌≤◌, length}
+use Rattle.access_spread.specs.Spreads.{Fits, Grows, AreVisited}
+use Rattle.access_spread.proofs.spreading.drain.Given as goal
+
+abbrev pub invariant-loop-at : goal.invariant-loop-at
+invariant-loop-at l = record {
+  fits : Fits l.graph l.gates l.starts l.state;
+  grows : Grows l.fn.state l.state;
+  within : l.at ≤ length l.state.rows.items;
+  begun : l.fn.state.begun ≤ l.at;
+  visited : AreVisited l.graph l.gates l.starts l.state.rows.items l.at;
+}

@@ -1,0 +1,14 @@
+use Rattle.std.proofs.Common.{◌≡◌, slice_get, Some}
+use Rattle.access_spread.specs.Spreads.{Fits, Grows, index_in}
+use Rattle.access_spread.proofs.Visiting.{LeadBefore}
+use Rattle.access_spread.proofs.spreading.visit.Given as goal
+
+abbrev pub invariant-loop-place : goal.invariant-loop-place
+invariant-loop-place l = record {
+  fits : Fits l.graph l.gates l.starts l.state;
+  grows : Grows l.fn.state l.state;
+  fan : slice_get l.graph.fans.items l.row.array ≡ Some l.place-items;
+  row : slice_get l.fn.state.rows.items l.here ≡ Some l.row;
+  index : l.index ≡ index_in l.starts l.row;
+  leads : LeadBefore l.graph l.gates l.starts l.place-items l.place-index l.state.rows.items l.row;
+}

@@ -1,0 +1,141 @@
+-- Rows of accesses, and when they are all.
+use Rattle.std.specs.Prelude.{◌≡◌, ◌≤◌, ◌<◌, ◌+◌, ℕ, true, List, length, Option, Some, None, slice_get, slice_index_or}
+use Rattle.access_spread.specs.declared.graph.Edge.{Edge}
+use Rattle.access_spread.specs.declared.graph.Gate.{Gate}
+use Rattle.access_spread.specs.declared.graph.Graph.{Graph}
+use Rattle.access_spread.specs.declared.spreading.Start.{Start}
+use Rattle.access_spread.specs.declared.spreading.Link.{Link}
+use Rattle.access_spread.specs.declared.spreading.Row.{Row}
+use Rattle.access_spread.specs.declared.spreading.State.{State}
+use Rattle.access_spread.specs.Graphs.{passes, gate_at, IsTrail}
+
+abbrev pub no_start : Start
+no_start = record { array = 0; index = 0; value = 0 }
+
+abbrev pub start_at : List Start → ℕ → Start
+start_at starts s = slice_index_or starts s no_start
+
+-- the numbers of the index of a row and of the value there
+abbrev pub index_in : List Start → Row → ℕ
+index_in starts r = (start_at starts r.start).index
+
+abbrev pub value_in : List Start → Row → ℕ
+value_in starts r = (start_at starts r.start).value
+
+-- the starts rise by their indexes
+abbrev pub AreRising : List Start → Type 0
+AreRising starts = (i j : ℕ) → i ≤ j → j < length starts → (start_at starts i).index ≤ (start_at starts j).index
+
+-- each row is of a start
+abbrev pub AreStartsOf : List Start → List Row → Type 0
+AreStartsOf starts rows = (p : ℕ) (r : Row) → slice_get rows p ≡ Some r → r.start < length starts
+
+-- some row is at this array with an index and a value of these numbers
+abbrev pub HasRow : List Start → List Row → ℕ → ℕ → ℕ → Type 0
+HasRow starts rows a k x = (p : ℕ) × (r : Row) × (slice_get rows p ≡ Some r) × (r.array ≡ a) × (index_in starts r ≡ k) × (value_in starts r ≡ x)
+
+-- the row stands at its start, or came from an earlier one over an edge through which it passes
+abbrev pub CameBy : Graph → List Gate → List Start → List Row → ℕ → Row → Option Link → Type 0
+CameBy g gates starts rows p r None = r.array ≡ (start_at starts r.start).array
+CameBy g gates starts rows p r (Some l) =
+    (l.row < p) × (q : Row) × (e : Edge) × (slice_get rows l.row ≡ Some q) × (q.start ≡ r.start) × (slice_get g.edges.items l.edge ≡ Some e)
+    × (e.from ≡ q.array) × (e.to ≡ r.array) × (passes (gate_at gates e.gate) (index_in starts r) ≡ true)
+
+abbrev pub IsFrom : Graph → List Gate → List Start → List Row → ℕ → Row → Type 0
+IsFrom g gates starts rows p r = CameBy g gates starts rows p r r.from
+
+-- so it is with each
+abbrev pub AreDerived : Graph → List Gate → List Start → List Row → Type 0
+AreDerived g gates starts rows = (p : ℕ) (r : Row) → slice_get rows p ≡ Some r → IsFrom g gates starts rows p r
+
+-- the path leads from the start of the row at a place to its array
+abbrev pub IsWayOf : Graph → List Gate → List Start → List Row → ℕ → List ℕ → Type 0
+IsWayOf g gates starts rows p path = (r : Row) → slice_get rows p ≡ Some r → IsTrail g.edges.items gates (index_in starts r) (start_at starts r.start).array path r.array
+
+-- the place is that of a row at the array with this index
+abbrev pub IsStanding : List Start → State → ℕ → ℕ → ℕ → Type 0
+IsStanding starts st a k p = (slice_get st.last.items a ≡ Some (Some p)) × (r : Row) × (slice_get st.rows.items p ≡ Some r) × (index_in starts r ≡ k)
+
+-- the last row at the array has another index, if it has one
+abbrev pub NoneStands : List Start → State → ℕ → ℕ → Type 0
+NoneStands starts st a k = (p : ℕ) (r : Row) → slice_get st.last.items a ≡ Some (Some p) → slice_get st.rows.items p ≡ Some r → index_in starts r ≡ k → ⊥
+
+-- Each array has at most one row for each index, the last one by its place; the rows came by edges; those from a place on have the
+-- present index, and those before none above it.
+pub record Fits (g : Graph) (gates : List Gate) (starts : List Start) (st : State) : Type 0 where
+  pub count : length st.last.items ≡ length g.fans.items
+  pub within : (p : ℕ) (r : Row) → slice_get st.rows.items p ≡ Some r → r.array < length g.fans.items
+  pub started : AreStartsOf starts st.rows.items
+  pub derived : AreDerived g gates starts st.rows.items
+  pub last : (a p : ℕ) → slice_get st.last.items a ≡ Some (Some p) → (r : Row) × (slice_get st.rows.items p ≡ Some r) × (r.array ≡ a)
+  pub latest : (a q : ℕ) (s : Row) → slice_get st.rows.items q ≡ Some s → s.array ≡ a → (p : ℕ) × (slice_get st.last.items a ≡ Some (Some p)) × (q ≤ p)
+  pub rising : (p q : ℕ) (r s : Row) → p < q → slice_get st.rows.items p ≡ Some r → slice_get st.rows.items q ≡ Some s → r.array ≡ s.array → index_in starts r < index_in starts s
+  pub below : (p : ℕ) (r : Row) → slice_get st.rows.items p ≡ Some r → index_in starts r ≤ st.index
+  pub present : (p : ℕ) (r : Row) → st.begun ≤ p → slice_get st.rows.items p ≡ Some r → index_in starts r ≡ st.index
+
+-- rows stay at their places
+pub record Grows (old new : State) : Type 0 where
+  pub rows : (p : ℕ) (r : Row) → slice_get old.rows.items p ≡ Some r → slice_get new.rows.items p ≡ Some r
+  pub begun : new.begun ≡ old.begun
+  pub index : new.index ≡ old.index
+
+-- the last row and the one at this place are at one array with one index and have different values
+pub record IsClash (g : Graph) (gates : List Gate) (starts : List Start) (rows : List Row) (p : ℕ) : Type 0 where
+  pub derived : AreDerived g gates starts rows
+  pub started : AreStartsOf starts rows
+  pub last : ℕ
+  pub more : length rows ≡ last + 1
+  pub left : Row
+  pub right : Row
+  pub at_left : slice_get rows p ≡ Some left
+  pub at_right : slice_get rows last ≡ Some right
+  pub array : left.array ≡ right.array
+  pub index : index_in starts left ≡ index_in starts right
+  pub value : value_in starts left ≡ value_in starts right → ⊥
+
+-- each edge through which the row passes leads to a row with its index and value
+abbrev pub LeadOn : Graph → List Gate → List Start → List Row → Row → Type 0
+LeadOn g gates starts rows r =
+    (j : ℕ) (e : Edge) → slice_get g.edges.items j ≡ Some e → e.from ≡ r.array → passes (gate_at gates e.gate) (index_in starts r) ≡ true
+    → HasRow starts rows e.to (index_in starts r) (value_in starts r)
+
+-- so it is with the rows before a place
+abbrev pub AreVisited : Graph → List Gate → List Start → List Row → ℕ → Type 0
+AreVisited g gates starts rows at = (p : ℕ) (r : Row) → p < at → slice_get rows p ≡ Some r → LeadOn g gates starts rows r
+
+-- a row with the index and value of this one is at its array, and what stood stands
+pub record HasArrived (g : Graph) (gates : List Gate) (starts : List Start) (old new : State) (row : Row) : Type 0 where
+  pub fits : Fits g gates starts new
+  pub grows : Grows old new
+  pub has : HasRow starts new.rows.items row.array (index_in starts row) (value_in starts row)
+
+pub record IsVisited (g : Graph) (gates : List Gate) (starts : List Start) (old new : State) (here : ℕ) : Type 0 where
+  pub fits : Fits g gates starts new
+  pub grows : Grows old new
+  pub leads : (r : Row) → slice_get new.rows.items here ≡ Some r → LeadOn g gates starts new.rows.items r
+
+pub record IsDrained (g : Graph) (gates : List Gate) (starts : List Start) (old new : State) : Type 0 where
+  pub fits : Fits g gates starts new
+  pub grows : Grows old new
+  pub visited : AreVisited g gates starts new.rows.items (length new.rows.items)
+
+pub record HasBegun (g : Graph) (gates : List Gate) (starts : List Start) (old new : State) (start : ℕ) : Type 0 where
+  pub fits : Fits g gates starts new
+  pub kept : (p : ℕ) (r : Row) → slice_get old.rows.items p ≡ Some r → slice_get new.rows.items p ≡ Some r
+  pub visited : AreVisited g gates starts new.rows.items (length new.rows.items)
+  pub index : new.index ≡ (start_at starts start).index
+  pub has : HasRow starts new.rows.items (start_at starts start).array (start_at starts start).index (start_at starts start).value
+
+-- All starts have rows, the rows are closed under the edges through which they pass and came by them, and no two are at one array with
+-- one index.
+pub record IsTable (g : Graph) (gates : List Gate) (starts : List Start) (rows : List Row) : Type 0 where
+  pub starts_have : (s : ℕ) → s < length starts → HasRow starts rows (start_at starts s).array (start_at starts s).index (start_at starts s).value
+  pub closed : (p : ℕ) (r : Row) → slice_get rows p ≡ Some r → LeadOn g gates starts rows r
+  pub single : (p q : ℕ) (r s : Row) → slice_get rows p ≡ Some r → slice_get rows q ≡ Some s → r.array ≡ s.array → index_in starts r ≡ index_in starts s → p ≡ q
+  pub derived : AreDerived g gates starts rows
+  pub started : AreStartsOf starts rows
+
+-- the rows of all starts, or a clash
+abbrev pub IsSpread : Graph → List Gate → List Start → List Row → Option ℕ → Type 0
+IsSpread g gates starts rows None = IsTable g gates starts rows
+IsSpread g gates starts rows (Some p) = IsClash g gates starts rows p
