@@ -12,10 +12,17 @@ pub fn push_number(out: &mut Text, n: u64) -> Result<(), AllocError>
     ensures ok { OnOk result (out.new ≡ out.old ++ decimal n) }
     ensures err { OnErr result (take (length out.old) out.new ≡ out.old) }
 {
-    if n >= 10 {
-        push_number(out, n / 10)?;
+    let mut digits = [0u8; 20];
+    let mut at = digits.len();
+    let mut rest = n;
+    'digits: while rest >= 10 {
+        at -= 1;
+        digits[at] = b'0' + (rest % 10) as u8;
+        rest /= 10;
     }
-    out.push(b'0' + (n % 10) as u8)
+    at -= 1;
+    digits[at] = b'0' + rest as u8;
+    out.push_slice(&digits[at..])
 }
 
 /// The same of a number that may need more than 64 bits.
