@@ -18,12 +18,12 @@ use Rattle.smt_terms.specs.Same.{same_op, op_same, sort_same}
 use Rattle.smt_terms.specs.Nodes.{node_at}
 use Rattle.smt_terms.specs.Ranks.{is_array, is_plain, index_sort, width_of, truth}
 use Rattle.smt_terms.specs.Scalars.{is_fixed}
-use Rattle.smt_terms.specs.Terms.{sort_of, AreDifferent}
+use Rattle.smt_terms.specs.Terms.{sort_of}
 use Rattle.smt_terms.specs.Values.{Value, VBool, VWord, VArray, HasSort, same_value, Interpretation, applied, meaning_of, op_value}
 use Rattle.smt_terms.specs.Evaluations.{is_witness}
 use Rattle.bv_rules.specs.Reading.{op_at, arg, commutes}
 use Rattle.bv_rules.specs.Arguments.{is_literal, any_interpretation, at_some, reaches, commutes_in, literal_at, has_literals, folded_value, folds, leads, has_reached}
-use Rattle.bv_rules.specs.Matches.{AreImages}
+use Rattle.bv_rules.specs.Matches.{KeepValues}
 use Rattle.bv_rules.proofs.Known.{Context, or_cases, never, word_is, word_at, value_by, two_at, OnWords}
 use Rattle.bv_rules.proofs.WordRules.{and_words, or_words, xor_words, add_words, mul_words}
 use Rattle.bv_rules.proofs.OtherRules.{bool_at, OnTruths, and_truths, or_truths}
@@ -212,7 +212,11 @@ module _ (k : Context) (t : ℕ) (lt : t < length k.nodes) where
   turns_op (Plain o) c e = turns_case o c e
   turns_op _ c e = let q : ⊥ = cc in absurd q
 
-module _ (k : Context) (images : ℕ → Option ℕ) (good : AreImages k.nodes images) where
+-- terms that are the same node have one value
+abbrev pub AreAlike : Context → Type 0
+AreAlike k = (t u : ℕ) → t < length k.nodes → u < length k.nodes → node_at k.nodes t ≡ node_at k.nodes u → k.v t ≡ k.v u
+
+module _ (k : Context) (images : ℕ → Option ℕ) (good : KeepValues k.nodes k.v images) where
   reaches_keeps : (n a b : ℕ) → reaches images n a b ≡ true → k.v b ≡ k.v a
   reaches_keeps zero a b h = sym (ap k.v (eqb-true a b h))
   reaches_keeps (suc n) a b h =
@@ -222,7 +226,7 @@ module _ (k : Context) (images : ℕ → Option ℕ) (good : AreImages k.nodes i
     where
       step : (o : Option ℕ) → ((c : ℕ) → reaches images n c b ≡ true → k.v b ≡ k.v c) → images a ≡ o → at_some o (λ c. reaches images n c b) ≡ true → k.v b ≡ k.v a
       step None ih p e = never e
-      step (Some c) ih p e = ih c e ∙ (good a c p).value k.M k.v k.evaluation
+      step (Some c) ih p e = ih c e ∙ (good a c p).1
 
   -- an array has no image
   reaches_array : (n a b : ℕ) → is_plain (sort_of k.nodes a) ≡ false → reaches images n a b ≡ true → a ≡ b
@@ -234,7 +238,7 @@ module _ (k : Context) (images : ℕ → Option ℕ) (good : AreImages k.nodes i
     where
       step : (o : Option ℕ) → images a ≡ o → at_some o (λ c. reaches images n c b) ≡ true → a ≡ b
       step None p e = never e
-      step (Some c) p e = never (sym s ∙ (good a c p).plain)
+      step (Some c) p e = never (sym s ∙ (good a c p).0)
 
   each_keeps : (n : ℕ) (as' bs : List ℕ) → pointwise (reaches images n) as' bs ≡ true → map k.v bs ≡ map k.v as'
   each_keeps n [] [] h = refl
@@ -266,8 +270,8 @@ module _ (k : Context) (images : ℕ → Option ℕ) (good : AreImages k.nodes i
   witness_is (Plain o) e = ap Plain (operator_same o plain.Witness e)
   witness_is _ e = let q : ⊥ = cc in absurd q
 
-  pub reached : AreDifferent k.nodes → (t u : ℕ) → t < length k.nodes → u < length k.nodes → has_reached k.nodes images t u ≡ true → k.v u ≡ k.v t
-  reached different t u lt lu h =
+  pub reached : AreAlike k → (t u : ℕ) → t < length k.nodes → u < length k.nodes → has_reached k.nodes images t u ≡ true → k.v u ≡ k.v t
+  reached alike t u lt lu h =
       let n = length k.nodes in
       let ta = (node_at k.nodes t).args in
       let ua = (node_at k.nodes u).args in
@@ -300,7 +304,7 @@ module _ (k : Context) (images : ℕ → Option ℕ) (good : AreImages k.nodes i
           let sa = array_not_plain (sort_of k.nodes a) q.left in
           let sb : is_plain (sort_of k.nodes b) ≡ false = ap is_plain (sym same) ∙ sa in
           let args = each_array (length k.nodes) a b (node_at k.nodes u).args sa sb (subst (λ l. pointwise (leads k.nodes images) l (node_at k.nodes u).args ≡ true) q.args e) in
-          ap k.v (sym (different t u lt lu (node_by (node_at k.nodes t) (node_at k.nodes u) op (q.args ∙ sym args)))))
+          sym (alike t u lt lu (node_by (node_at k.nodes t) (node_at k.nodes u) op (q.args ∙ sym args))))
           (λ e. let c = and_parts (commutes_in (op_at k.nodes t)) (leads k.nodes images (arg k.nodes 0 t) (arg k.nodes 1 u) && leads k.nodes images (arg k.nodes 1 t) (arg k.nodes 0 u)) e in never (ap commutes_in (sym is) ∙ c.0))
       go false w op g =
           or_cases (pointwise (leads k.nodes images) (node_at k.nodes t).args (node_at k.nodes u).args) (commutes_in (op_at k.nodes t) && (leads k.nodes images (arg k.nodes 0 t) (arg k.nodes 1 u) && leads k.nodes images (arg k.nodes 1 t) (arg k.nodes 0 u))) g

@@ -1,5 +1,5 @@
 -- Each rule keeps each evaluation.
-use Rattle.std.proofs.Common.{◌≡◌, ℕ, ◌<◌, ◌-◌, ◌^◌, Bool, true, false, List, length, refl, sym, Option}
+use Rattle.std.proofs.Common.{◌≡◌, ℕ, ◌<◌, ◌-◌, ◌^◌, Bool, true, false, List, length, map, refl, sym, ap, ◌∙◌, Option}
 use Rattle.std.specs.Prelude.{◌==◌, ◌&&◌, ◌||◌, nat_lt}
 use Rattle.std.proofs.lemmas.Bool.{and_parts, ltb-true}
 use Rattle.std.specs.Int.Bits.{and_self, and_zero_r, or_self, or_zero_r, xor_self, xor_zero_r}
@@ -7,24 +7,27 @@ use Rattle.smt_words.specs.Words.{not_of, neg_of, and_of, or_of, xor_of, add_of,
 use Rattle.smt_words.proofs.Numbers.{shl_past, shr_past}
 use Rattle.smt_terms.specs.declared.operator.Operator.TheVariants as plain
 use Rattle.smt_terms.specs.declared.node.Node.{Node}
+use Rattle.smt_terms.specs.Nodes.{node_at}
 use Rattle.smt_terms.specs.Same.{same_sort, sort_same}
 use Rattle.smt_terms.specs.Ranks.{is_plain}
 use Rattle.smt_terms.specs.Terms.{sort_of, IsTermList, AreDifferent}
-use Rattle.smt_terms.specs.Values.{Value, Interpretation}
+use Rattle.smt_terms.specs.Values.{Value, Interpretation, op_value, value}
 use Rattle.smt_terms.specs.Evaluations.{IsEvaluation}
+use Rattle.smt_terms.proofs.Evaluating.{value_is_evaluation}
+use Rattle.smt_terms.proofs.Typing.{value_is}
 use Rattle.bv_rules.specs.declared.reading.Constant.TheVariants.{Zero, One, Ones}
 use Rattle.bv_rules.specs.declared.rule.Rule.{Rule}
 use Rattle.bv_rules.specs.declared.rule.Rule.TheVariants.{BvnotTwice, BvnegTwice, AndSame, AndZero, AndOnes, OrSame, OrZero, OrOnes, XorSame, XorZero, XorOnes, AddZero, AddOpposite, Subtract, AddSame, MultiplyZero, MultiplyOne, MultiplyPower, DivideOne, DivideZero, DividePower, RemainderZero, RemainderOne, RemainderPower, ShiftZero, ShiftPast, ExtractAll, ExtractExtract, ExtractConcat, Idle, Less, AtMost, Greater, EqualSame, NotTwice, Connective, Choice, SelectStore, Fold, Inner}
 use Rattle.bv_rules.specs.Reading.{op_at, is_constant, is_past}
 use Rattle.bv_rules.specs.Rules.{is, on, turned, takes}
-use Rattle.bv_rules.specs.Matches.{matches, IsImage, AreImages}
+use Rattle.bv_rules.specs.Matches.{matches, IsImage, KeepValues, AreImages}
 use Rattle.bv_rules.proofs.Numbers as law
 use Rattle.bv_rules.proofs.Known.{Context, or_cases}
 use Rattle.bv_rules.proofs.WordRules.{and_words, or_words, xor_words, add_words, mul_words, udiv_words, urem_words, shl_words, lshr_words, ashr_words, ult_words, ule_words, slt_words, sle_words, ugt_words, uge_words, sgt_words, sge_words, not_word, neg_word, twice, gives_term, gives_word, same_gives_term, same_gives_word, by_power, past_gives_zero, xor_with_ones, add_negated, subtracted, doubled, not_less, at_most, turned_order}
 use Rattle.bv_rules.proofs.OtherRules.{whole_extract, inner_extract, concat_extract, idle, and_truths, or_truths, and_neutral, or_neutral, equal_same, negated_twice, connected, chosen, read_stored}
-use Rattle.bv_rules.proofs.ArgumentRules.{folded, reached}
+use Rattle.bv_rules.proofs.ArgumentRules.{AreAlike, folded, reached}
 
-module _ (k : Context) (images : ℕ → Option ℕ) (good : AreImages k.nodes images) (different : AreDifferent k.nodes) (t u : ℕ) (lt : t < length k.nodes) (lu : u < length k.nodes) (same : sort_of k.nodes u ≡ sort_of k.nodes t) where
+module _ (k : Context) (images : ℕ → Option ℕ) (good : KeepValues k.nodes k.v images) (alike : AreAlike k) (t u : ℕ) (lt : t < length k.nodes) (lu : u < length k.nodes) (same : sort_of k.nodes u ≡ sort_of k.nodes t) where
   shifted_none : takes k.nodes images ShiftZero t u ≡ true → k.v u ≡ k.v t
   shifted_none h =
       let p : ℕ → ℕ → Bool = λ x c. is_constant Zero (op_at k.nodes c) && (u == x) in
@@ -103,7 +106,7 @@ module _ (k : Context) (images : ℕ → Option ℕ) (good : AreImages k.nodes i
   takes_keeps Choice h = chosen k t u lt lu h
   takes_keeps SelectStore h = read_stored k t u lt lu h
   takes_keeps Fold h = folded k t u lt lu h
-  takes_keeps Inner h = reached k images good different t u lt lu h
+  takes_keeps Inner h = reached k images good alike t u lt lu h
 
 pub record Matched (nodes : List Node) (images : ℕ → Option ℕ) (rule : Rule) (t u : ℕ) : Type 0 where
   pub from : t < length nodes
@@ -123,10 +126,24 @@ matched nodes images rule t u h =
     let s = and_parts same by r.1 in
     record { from = ltb-true t (length nodes) p.0; to = ltb-true u (length nodes) q.0; plain = r.0; sort = sym (sort_same (sort_of nodes t) (sort_of nodes u) s.0); same = s.0; takes = s.1 }
 
+same_node_value : (M : Interpretation) (nodes : List Node) (v : ℕ → Value) (a b : ℕ) → node_at nodes a ≡ node_at nodes b → op_value M (node_at nodes a).op (map v (node_at nodes a).args) ≡ op_value M (node_at nodes b).op (map v (node_at nodes b).args)
+same_node_value M nodes v a b q = ap (λ (n : Node). op_value M n.op (map v n.args)) q
+
+-- where what has an image has its value, and terms that are the same node have one
+keeps_by : (M : Interpretation) (nodes : List Node) (v : ℕ → Value) (images : ℕ → Option ℕ) (rule : Rule) (t u : ℕ) → IsTermList nodes → IsEvaluation M nodes v → KeepValues nodes v images
+    → ((a b : ℕ) → a < length nodes → b < length nodes → node_at nodes a ≡ node_at nodes b → v a ≡ v b) → matches nodes images rule t u ≡ true → v u ≡ v t
+keeps_by M nodes v images rule t u terms e good alike h =
+    let m = matched nodes images rule t u h in
+    takes_keeps (record { M = M; nodes = nodes; v = v; terms = terms; evaluation = e }) images good alike t u m.from m.to m.sort rule m.takes
+
 pub keeps_evaluations : (nodes : List Node) (images : ℕ → Option ℕ) (rule : Rule) (t u : ℕ) → IsTermList nodes → AreDifferent nodes → AreImages nodes images → matches nodes images rule t u ≡ true → (M : Interpretation) (v : ℕ → Value) → IsEvaluation M nodes v → v u ≡ v t
 keeps_evaluations nodes images rule t u terms different good h M v e =
-    let m = matched nodes images rule t u h in
-    takes_keeps (record { M = M; nodes = nodes; v = v; terms = terms; evaluation = e }) images good different t u m.from m.to m.sort rule m.takes
+    keeps_by M nodes v images rule t u terms e (λ a b q. let i = good a b q in (i.plain, i.value M v e)) (λ a b la lb q. ap v (different a b la lb q)) h
+
+-- and the value in an interpretation, of whose images no more is known
+pub keeps_values : (M : Interpretation) (nodes : List Node) (images : ℕ → Option ℕ) (rule : Rule) (t u : ℕ) → IsTermList nodes → KeepValues nodes (value M nodes) images → matches nodes images rule t u ≡ true → value M nodes u ≡ value M nodes t
+keeps_values M nodes images rule t u terms good h =
+    keeps_by M nodes (value M nodes) images rule t u terms (value_is_evaluation M nodes terms) good (λ a b la lb q. value_is M nodes a (terms a la) ∙ same_node_value M nodes (value M nodes) a b q ∙ sym (value_is M nodes b (terms b lb))) h
 
 pub keeps_sorts : (nodes : List Node) (images : ℕ → Option ℕ) (rule : Rule) (t u : ℕ) → matches nodes images rule t u ≡ true → sort_of nodes u ≡ sort_of nodes t
 keeps_sorts nodes images rule t u h = (matched nodes images rule t u h).sort

@@ -23,6 +23,10 @@ pub record IsImage (nodes : List Node) (t u : ℕ) : Type 0 where
   pub sort : sort_of nodes u ≡ sort_of nodes t
   pub value : (M : Interpretation) (v : ℕ → Value) → IsEvaluation M nodes v → v u ≡ v t
 
+-- what has an image is a Bool or a word, and has the image's value
+abbrev pub KeepValues : List Node → (ℕ → Value) → (ℕ → Option ℕ) → Type 0
+KeepValues nodes v images = (t u : ℕ) → images t ≡ Some u → (is_plain (sort_of nodes t) ≡ true) × (v u ≡ v t)
+
 -- each image is one
 abbrev pub AreImages : List Node → (ℕ → Option ℕ) → Type 0
 AreImages nodes images = (t u : ℕ) → images t ≡ Some u → IsImage nodes t u

@@ -3,16 +3,22 @@
 ghost use Rattle.std.specs.Prelude.{◌≡◌, ◌++◌, ℕ, List, Option, true};
 ghost use Rattle.smt_terms.specs.declared.node.Node.{Node};
 ghost use Rattle.smt_terms.specs.Terms.{IsTermList, AreDifferent, sort_of};
-ghost use Rattle.smt_terms.specs.Values.{Value, Interpretation};
+ghost use Rattle.smt_terms.specs.Values.{Value, Interpretation, value};
 ghost use Rattle.smt_terms.specs.Evaluations.{IsEvaluation};
 ghost use Rattle.bv_rules.specs.declared.rule.Rule.{Rule};
-ghost use Rattle.bv_rules.specs.Matches.{matches, IsImage, AreImages};
+ghost use Rattle.bv_rules.specs.Matches.{matches, IsImage, KeepValues, AreImages};
 
 /// Each rule takes a term to one of the same value, in every evaluation, over images that are such terms.
 pub fn rules_keep_evaluations()
     ensures { (nodes : List Node) (images : ℕ → Option ℕ) (rule : Rule) (t u : ℕ) → IsTermList nodes → AreDifferent nodes
         → AreImages nodes images → matches nodes images rule t u ≡ true
         → (M : Interpretation) (v : ℕ → Value) → IsEvaluation M nodes v → v u ≡ v t }
+{}
+
+/// Each rule takes a term to one of the same value in an interpretation, over images of which it is so.
+pub fn rules_keep_values()
+    ensures { (M : Interpretation) (nodes : List Node) (images : ℕ → Option ℕ) (rule : Rule) (t u : ℕ) → IsTermList nodes
+        → KeepValues nodes (value M nodes) images → matches nodes images rule t u ≡ true → value M nodes u ≡ value M nodes t }
 {}
 
 /// Each rule takes a term to one of the same sort.
