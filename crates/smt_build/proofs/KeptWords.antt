@@ -5,6 +5,7 @@ use Rattle.std.specs.Prelude.{◌==◌, nat_le, nat_lt, slice_get, if◌then◌e
 use Rattle.std.specs.Str.{bytes_eq}
 use Rattle.smt_text.specs.declared.token.TokenKind.{TokenKind}
 use Rattle.smt_text.specs.declared.token.TokenKind.TheVariants as kind
+use Rattle.smt_syntax.specs.Shapes.{is_word_name}
 use Rattle.smt_terms.specs.declared.sort.Sort.{Sort}
 use Rattle.smt_terms.specs.declared.sort.Signature.{Signature}
 use Rattle.smt_terms.specs.declared.node.Op.{Op}
@@ -26,7 +27,7 @@ use Rattle.smt_build.specs.Scoped.{is_live, names_live}
 use Rattle.smt_build.specs.Definitions.{used}
 use Rattle.smt_build.specs.Building.{Built, made, constant, declared_at, declared, function, called_at, called}
 use Rattle.smt_build.specs.Applying.{symbol_by, symbol_term, word_term, application_by, application, indexed_term}
-use Rattle.smt_build.specs.Indices.{Indices, one, two, many, Head, plain, indexed, is_word_name, word_by, word_in, word_of, known, with_indices, first_width, indexed_by, indexed_application}
+use Rattle.smt_build.specs.Indices.{Indices, one, two, many, Head, plain, indexed, word_by, word_in, word_of, known, with_indices, first_width, indexed_by, indexed_application}
 use Rattle.smt_build.specs.Binding.{misused}
 use Rattle.smt_build.proofs.Growth.{constant_declared, function_declared}
 use Rattle.smt_build.proofs.KeptTerms as kept_terms

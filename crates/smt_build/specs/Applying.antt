@@ -2,6 +2,7 @@
 use Rattle.std.specs.Prelude.{ℕ, List, [], ◌∷◌, Option, Some, None, Err, if◌then◌else◌}
 use Rattle.smt_text.specs.declared.token.TokenKind.{TokenKind}
 use Rattle.smt_text.specs.declared.token.TokenKind.TheVariants as kind
+use Rattle.smt_syntax.specs.Shapes.{is_word_name}
 use Rattle.smt_terms.specs.Terms.{TermsValue}
 use Rattle.smt_build.specs.declared.fault.BuildFault.TheVariants.{WrongSort, NotSupported}
 use Rattle.smt_build.specs.declared.operators.Arity.TheVariants.{Ranked}
@@ -13,7 +14,7 @@ use Rattle.smt_build.specs.Names.{SymbolsValue, declaration_of, meaning_in}
 use Rattle.smt_build.specs.Definitions.{used}
 use Rattle.smt_build.specs.Building.{Built, binary, hexadecimal, declared, called}
 use Rattle.smt_build.specs.Grouping.{operation}
-use Rattle.smt_build.specs.Indices.{Head, plain, indexed, is_word_name, word_of, known, indexed_application}
+use Rattle.smt_build.specs.Indices.{Head, plain, indexed, word_of, known, indexed_application}
 
 -- the term of an operator's name and its arguments
 abbrev pub applied : SymbolsValue → TermsValue → Named → List ℕ → Built

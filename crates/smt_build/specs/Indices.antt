@@ -1,6 +1,5 @@
 -- Names with indices (SMT-LIB 2.6, section 3.3, and the logic QF_BV): `(_ bvX n)`, and operators as `(_ extract i j)`.
-use Rattle.std.specs.Prelude.{ℕ, ◌==◌, ◌^◌, Bool, false, ◌&&◌, ◌||◌, is_some, max, nat_lt, List, [], ◌∷◌, Option, Some, None, Result, Ok, Err, if◌then◌else◌}
-use Rattle.smt_text.specs.Lexicon.{is_numeral}
+use Rattle.std.specs.Prelude.{ℕ, ◌^◌, ◌||◌, is_some, max, nat_lt, List, [], ◌∷◌, Option, Some, None, Result, Ok, Err, if◌then◌else◌}
 use Rattle.smt_text.specs.declared.token.TokenKind.TheVariants as kind
 use Rattle.smt_syntax.specs.Sexps.{Sexps, atom, none, more}
 use Rattle.smt_terms.specs.declared.node.Op.{Op}
@@ -52,11 +51,6 @@ head_in _ = Err NotSupported
 
 -- ---- literals
 
--- `bv` and a numeral
-abbrev pub is_word_name : List ℕ → Bool
-is_word_name (b ∷ v ∷ digits) = (b == 98 && v == 118) && is_numeral digits
-is_word_name _ = false
-
 -- the word of a value in a width
 abbrev pub word_by : TermsValue → ℕ → Option ℕ → Built
 word_by terms n None = Err LiteralTooWide
@@ -73,7 +67,7 @@ word_of terms _ is = Err WrongSort
 
 -- a name that stands for something takes other indices
 abbrev pub known : SymbolsValue → List ℕ → BuildFault
-known symbols f = if is_word_name f || (is_some (operator_named f) || is_taken symbols f) then WrongSort else UnknownSymbol
+known symbols f = if is_some (operator_named f) || is_taken symbols f then WrongSort else UnknownSymbol
 
 -- ---- operators
 

@@ -240,7 +240,7 @@ const REFUSED: [(&[u8], BuildFault); 20] = [
         BuildFault::WrongSort,
     ),
     (
-        b"(define-fun f ((v Bool)) Bool (_ v 1))",
+        b"(define-fun f ((v Bool)) Bool ((_ v 1) p))",
         BuildFault::WrongSort,
     ),
     (

@@ -4,7 +4,7 @@ ghost use Rattle.std.specs.Prelude.{◌≡◌, ◌^◌, ◌≤◌, List, nat_lt,
 ghost use Rattle.smt_terms.specs.declared.sort.Signature.{Signature as SignatureValue};
 ghost use Rattle.smt_build.specs.Building.{Means, Builds, Grows};
 ghost use Rattle.smt_build.specs.Operators.{operator_named};
-ghost use Rattle.smt_build.specs.Indices.{with_index, is_word_name, word_by, word_in, word_of, known, with_indices, first_width, indexed_by, indexed_application};
+ghost use Rattle.smt_build.specs.Indices.{with_index, word_by, word_in, word_of, known, with_indices, first_width, indexed_by, indexed_application};
 ghost use Rattle.smt_build.specs.Views.{indices_of};
 
 use crate::fault::{BuildError, BuildFault};
@@ -16,7 +16,6 @@ use crate::symbols::Symbols;
 use smt_terms::list::Arguments;
 use smt_terms::node::{Node, Op, TermId};
 use smt_terms::terms::Terms;
-use smt_text::lexicon::is_numeral;
 use std::alloc::Global;
 
 /// The numerals behind a name; no name takes more than two.
@@ -41,16 +40,6 @@ pub fn with_index<'a>(indices: Indices<'a>, index: &'a [u8]) -> Indices<'a>
     match indices {
         Indices::One(first) => Indices::Two(first, index),
         _ => Indices::Many,
-    }
-}
-
-/// Whether the name is `bv` and a numeral.
-pub fn is_word_name(name: &[u8]) -> bool
-    ensures { result ≡ is_word_name name.now }
-{
-    match name {
-        [b, v, digits @ ..] => *b == b'b' && *v == b'v' && is_numeral(digits),
-        _ => false,
     }
 }
 
@@ -121,9 +110,6 @@ pub fn word_of(
 pub fn known(symbols: &Symbols, name: &[u8]) -> BuildFault
     ensures { result ≡ known symbols.now name.now }
 {
-    if is_word_name(name) {
-        return BuildFault::WrongSort;
-    }
     if operator_named(name).is_some() || symbols.is_taken(name) {
         BuildFault::WrongSort
     } else {

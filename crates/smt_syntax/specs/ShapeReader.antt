@@ -4,7 +4,7 @@ use Rattle.std.specs.Str.{bytes_eq}
 use Rattle.smt_text.specs.declared.token.TokenKind.{TokenKind}
 use Rattle.smt_text.specs.declared.token.TokenKind.TheVariants as kind
 use Rattle.smt_syntax.specs.Walk.{Reader}
-use Rattle.smt_syntax.specs.Shapes.{is_foreign, is_term_word, is_name, is_symbol, is_numeral, is_keyword, is_string, is_named, is_option, is_boolean}
+use Rattle.smt_syntax.specs.Shapes.{is_foreign, is_term_word, is_name, is_symbol, is_numeral, is_keyword, is_string, is_named, is_option, is_boolean, is_word_name, is_const}
 use Rattle.smt_syntax.specs.declared.shape.Want.{Want}
 use Rattle.smt_syntax.specs.declared.shape.Want.TheVariants as want
 use Rattle.smt_syntax.specs.declared.shape.Place.{Place}
@@ -31,6 +31,7 @@ head_part k = part_if (is_foreign k) part.Foreign
 -- the first word of the list of an indexed head
 abbrev pub index_head_part : TokenKind → Option Part
 index_head_part kind.Underscore = Some part.Underscore
+index_head_part kind.As = Some part.As
 index_head_part k = part_if (is_foreign k) part.Foreign
 
 -- the first word of a sort's list
@@ -47,6 +48,8 @@ word_part want.Sort k x = part_if (is_symbol k || is_foreign k) part.Sort
 word_part want.SortHead k x = sort_head_part k x
 word_part want.BitVec k x = part_if (is_symbol k && bytes_eq x (codes "BitVec")) part.Symbol
 word_part want.Name k x = part_if (is_name k) part.Name
+word_part want.WordName k x = part_if (is_symbol k && is_word_name x) part.Symbol
+word_part want.Const k x = Some (if is_const k x then part.Const else part.Value)
 word_part want.Symbol k x = part_if (is_symbol k) part.Symbol
 word_part want.Numeral k x = part_if (is_numeral k) part.Numeral
 word_part want.String k x = part_if (is_string k) part.Value
@@ -77,6 +80,7 @@ opened want.Binding = Some frame.BindingStarted
 opened want.AttributeValue = Some frame.Unread
 opened want.Value = Some frame.Unread
 opened want.Anything = Some frame.Unread
+opened want.Const = Some frame.Unread
 opened want.Empty = Some frame.EmptyList
 opened want.Sorts = Some frame.SortList
 opened want.Parameters = Some frame.ParameterList
@@ -101,9 +105,15 @@ context frame.KeywordRead = want.AttributeValue
 context frame.NamedRead = want.Name
 context frame.ValueRead = want.Attribute
 context frame.HeadStarted = want.IndexHead
-context (frame.IndexStarted p) = want.Symbol
-context (frame.IndexNamed p) = want.Numeral
-context (frame.Indexed p) = want.Numeral
+context frame.IndexStarted = want.Symbol
+context frame.IndexNamed = want.Numeral
+context frame.Indexed = want.Numeral
+context frame.WordStarted = want.WordName
+context frame.WordNamed = want.Numeral
+context frame.AsStarted = want.Const
+context frame.ConstRead = want.Anything
+context frame.ConstSorted = want.Anything
+context frame.ForeignHead = want.Anything
 context frame.SortStarted = want.SortHead
 context frame.BitVecStarted = want.BitVec
 context frame.BitVecNamed = want.Numeral
@@ -123,8 +133,10 @@ unfoldable pub taken : Frame → Part → Option Frame
 taken frame.TermStarted part.Head = Some frame.Headed
 taken frame.TermStarted part.Let = Some frame.LetStarted
 taken frame.TermStarted part.Bang = Some frame.BangStarted
-taken frame.TermStarted part.Underscore = Some (frame.IndexStarted place.Term)
+taken frame.TermStarted part.Underscore = Some frame.WordStarted
 taken frame.TermStarted part.Foreign = Some (frame.Foreign place.Term)
+taken frame.TermStarted part.ForeignHead = Some (frame.Foreign place.Term)
+taken frame.TermStarted part.ConstantArray = Some frame.Applied
 taken frame.Headed part.Term = Some frame.Applied
 taken frame.Applied part.Term = Some frame.Applied
 taken frame.LetStarted part.Bindings = Some frame.LetBound
@@ -142,11 +154,19 @@ taken frame.KeywordRead part.Value = Some frame.ValueRead
 taken frame.NamedRead part.Name = Some frame.ValueRead
 taken frame.ValueRead part.Keyword = Some frame.KeywordRead
 taken frame.ValueRead part.Named = Some frame.NamedRead
-taken frame.HeadStarted part.Underscore = Some (frame.IndexStarted place.Head)
-taken frame.HeadStarted part.Foreign = Some (frame.Foreign place.Head)
-taken (frame.IndexStarted p) part.Symbol = Some (frame.IndexNamed p)
-taken (frame.IndexNamed p) part.Numeral = Some (frame.Indexed p)
-taken (frame.Indexed p) part.Numeral = Some (frame.Indexed p)
+taken frame.HeadStarted part.Underscore = Some frame.IndexStarted
+taken frame.HeadStarted part.As = Some frame.AsStarted
+taken frame.HeadStarted part.Foreign = Some frame.ForeignHead
+taken frame.IndexStarted part.Symbol = Some frame.IndexNamed
+taken frame.IndexNamed part.Numeral = Some frame.Indexed
+taken frame.Indexed part.Numeral = Some frame.Indexed
+taken frame.WordStarted part.Symbol = Some frame.WordNamed
+taken frame.WordNamed part.Numeral = Some frame.WordDone
+taken frame.AsStarted part.Const = Some frame.ConstRead
+taken frame.AsStarted part.Value = Some frame.ForeignHead
+taken frame.ConstRead part.Value = Some frame.ConstSorted
+taken frame.ConstSorted part.Value = Some frame.ForeignHead
+taken frame.ForeignHead part.Value = Some frame.ForeignHead
 taken frame.SortStarted part.Underscore = Some frame.BitVecStarted
 taken frame.SortStarted part.Foreign = Some (frame.Foreign place.Sort)
 taken frame.SortStarted part.Array = Some frame.ArrayStarted
@@ -166,7 +186,6 @@ taken _ _ = None
 
 abbrev pub at_place : Place → Part
 at_place place.Term = part.Term
-at_place place.Head = part.Head
 at_place place.Sort = part.Sort
 
 unfoldable pub closed : Frame → Option Part
@@ -176,7 +195,12 @@ closed frame.SomeBindings = Some part.Bindings
 closed frame.BindingDone = Some part.Binding
 closed frame.KeywordRead = Some part.Term
 closed frame.ValueRead = Some part.Term
-closed (frame.Indexed p) = Some (at_place p)
+closed frame.Indexed = Some part.Head
+closed frame.WordDone = Some part.Term
+closed frame.AsStarted = Some part.ForeignHead
+closed frame.ConstRead = Some part.ForeignHead
+closed frame.ConstSorted = Some part.ConstantArray
+closed frame.ForeignHead = Some part.ForeignHead
 closed frame.BitVecDone = Some part.Sort
 closed frame.ArrayDone = Some part.Sort
 closed (frame.Foreign p) = Some (at_place p)

@@ -1,6 +1,7 @@
 -- The shapes of the parts of commands (SMT-LIB 2.6, sections 3.3 to 3.6 and 3.9), as tests on S-expressions.
-use Rattle.std.specs.Prelude.{ℕ, Bool, true, false, ◌&&◌, List, ◌||◌, if◌then◌else◌, codes}
+use Rattle.std.specs.Prelude.{ℕ, ◌==◌, Bool, true, false, not, ◌&&◌, List, ◌∷◌, ◌||◌, if◌then◌else◌, codes}
 use Rattle.std.specs.Str.{bytes_eq}
+use Rattle.smt_text.specs.Lexicon as lexicon
 use Rattle.smt_text.specs.declared.token.TokenKind.{TokenKind}
 use Rattle.smt_text.specs.declared.token.TokenKind.TheVariants.{Numeral, Decimal, Hexadecimal, Binary, String, Keyword, Symbol, Underscore, Bang, As, Exists, Forall, Let, Match, Command, Reserved}
 use Rattle.smt_syntax.specs.Sexps.{Sexp, Sexps, atom, group, none, more}
@@ -66,15 +67,33 @@ is_indexed none = false
 is_indexed (more (atom k f) es) = is_symbol k && are_some_numerals es
 is_indexed (more (group xs) es) = false
 
-abbrev pub is_head_form : TokenKind → Sexps → Bool
-is_head_form Underscore es = is_indexed es
-is_head_form k es = is_foreign k
+-- `bv` and a numeral
+abbrev pub is_word_name : List ℕ → Bool
+is_word_name (b ∷ v ∷ digits) = (b == 98 && v == 118) && lexicon.is_numeral digits
+is_word_name _ = false
 
--- a list in the place of an operator: indexed, or not judged
-abbrev pub is_head : Sexps → Bool
-is_head none = false
-is_head (more (atom k x) es) = is_head_form k es
-is_head (more (group xs) es) = false
+-- behind the underscore of a whole term: the value of a word and its width
+abbrev pub is_word_value : Sexps → Bool
+is_word_value (more (atom k f) (more (atom l n) none)) = (is_symbol k && is_word_name f) && is_numeral l
+is_word_value _ = false
+
+abbrev pub is_const : TokenKind → List ℕ → Bool
+is_const k c = is_symbol k && bytes_eq c (codes "const")
+
+-- behind `as`: `const` and whatever stands in the place of its sort
+abbrev pub is_constant_array : Sexps → Bool
+is_constant_array (more (atom k c) (more s none)) = is_const k c
+is_constant_array _ = false
+
+-- a list in the place of an operator, where what follows it is some terms, or all of it terms: a name with indices and its
+-- arguments, the form of constant arrays, whose arguments are counted with its sort, or a form that is not judged
+abbrev pub is_headed : Sexps → (some all : Bool) → Bool
+is_headed (more (atom Underscore l) hs) some all = is_indexed hs && some
+is_headed (more (atom As l) hs) some all = not (is_constant_array hs) || all
+is_headed (more (atom Exists l) hs) some all = true
+is_headed (more (atom Forall l) hs) some all = true
+is_headed (more (atom Match l) hs) some all = true
+is_headed _ some all = false
 
 abbrev pub is_named : List ℕ → Bool
 is_named keyword = bytes_eq keyword (codes ":named")
@@ -107,12 +126,12 @@ unfoldable mutual
   is_term (group (more (atom Symbol f) es)) = are_some_terms es
   is_term (group (more (atom Let l) es)) = is_let es
   is_term (group (more (atom Bang l) es)) = is_annotated es
-  is_term (group (more (atom Underscore l) es)) = is_indexed es
+  is_term (group (more (atom Underscore l) es)) = is_word_value es
   is_term (group (more (atom As l) es)) = true
   is_term (group (more (atom Exists l) es)) = true
   is_term (group (more (atom Forall l) es)) = true
   is_term (group (more (atom Match l) es)) = true
-  is_term (group (more (group h) es)) = is_head h && are_some_terms es
+  is_term (group (more (group h) es)) = is_headed h (are_some_terms es) (are_terms es)
   is_term (group _) = false
 
   pub are_terms : Sexps → Bool

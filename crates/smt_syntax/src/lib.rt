@@ -16,4 +16,4 @@ mod shape;
 pub mod span;
 #[cfg(test)]
 mod tests;
-mod words;
+pub mod words;

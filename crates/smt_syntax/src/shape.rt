@@ -24,6 +24,10 @@ pub enum Want {
     Binding,
     /// A symbol, or a reserved word in its place: a new name.
     Name,
+    /// The value of a word: `bv` and a numeral.
+    WordName,
+    /// `const`, or whatever else follows `as`.
+    Const,
     /// A symbol.
     Symbol,
     /// A numeral.
@@ -62,11 +66,10 @@ pub enum Want {
     Nothing,
 }
 
-/// Where an identifier with indices stands, or a form that is not judged.
+/// Where a form stands that is not judged.
 #[derive(Clone, Copy, Debug, PartialEq, Eq)]
 pub enum Place {
     Term,
-    Head,
     Sort,
 }
 
@@ -90,9 +93,16 @@ pub enum Frame {
     NamedRead,
     ValueRead,
     HeadStarted,
-    IndexStarted(Place),
-    IndexNamed(Place),
-    Indexed(Place),
+    IndexStarted,
+    IndexNamed,
+    Indexed,
+    WordStarted,
+    WordNamed,
+    WordDone,
+    AsStarted,
+    ConstRead,
+    ConstSorted,
+    ForeignHead,
     SortStarted,
     BitVecStarted,
     BitVecNamed,
@@ -120,7 +130,11 @@ pub enum Part {
     Let,
     Bang,
     Underscore,
+    As,
+    Const,
+    ConstantArray,
     Foreign,
+    ForeignHead,
     Array,
     Bindings,
     Binding,
@@ -146,7 +160,7 @@ pub fn opened(want: Want) -> Option<Frame>
         Want::Sort => Some(Frame::SortStarted),
         Want::Bindings => Some(Frame::NoBindings),
         Want::Binding => Some(Frame::BindingStarted),
-        Want::AttributeValue | Want::Value | Want::Anything => Some(Frame::Unread),
+        Want::AttributeValue | Want::Value | Want::Anything | Want::Const => Some(Frame::Unread),
         Want::Empty => Some(Frame::EmptyList),
         Want::Sorts => Some(Frame::SortList),
         Want::Parameters => Some(Frame::ParameterList),
@@ -177,14 +191,20 @@ pub fn context(frame: Frame) -> Want
         Frame::BangTerm | Frame::ValueRead => Want::Attribute,
         Frame::KeywordRead => Want::AttributeValue,
         Frame::HeadStarted => Want::IndexHead,
-        Frame::IndexStarted(_) => Want::Symbol,
-        Frame::IndexNamed(_) | Frame::Indexed(_) | Frame::BitVecNamed => Want::Numeral,
+        Frame::IndexStarted => Want::Symbol,
+        Frame::IndexNamed | Frame::Indexed | Frame::WordNamed | Frame::BitVecNamed => Want::Numeral,
+        Frame::WordStarted => Want::WordName,
+        Frame::AsStarted => Want::Const,
         Frame::SortStarted => Want::SortHead,
         Frame::BitVecStarted => Want::BitVec,
         Frame::ArrayStarted | Frame::ArrayIndexed | Frame::SortList | Frame::ParameterNamed => {
             Want::Sort
         }
-        Frame::Foreign(_) | Frame::Unread => Want::Anything,
+        Frame::Foreign(_)
+        | Frame::ForeignHead
+        | Frame::ConstRead
+        | Frame::ConstSorted
+        | Frame::Unread => Want::Anything,
         Frame::ParameterList => Want::Parameter,
         _ => Want::Nothing,
     }
@@ -199,8 +219,11 @@ pub fn taken(frame: Frame, part: Part) -> Option<Frame>
         (Frame::TermStarted, Part::Head) => Some(Frame::Headed),
         (Frame::TermStarted, Part::Let) => Some(Frame::LetStarted),
         (Frame::TermStarted, Part::Bang) => Some(Frame::BangStarted),
-        (Frame::TermStarted, Part::Underscore) => Some(Frame::IndexStarted(Place::Term)),
-        (Frame::TermStarted, Part::Foreign) => Some(Frame::Foreign(Place::Term)),
+        (Frame::TermStarted, Part::Underscore) => Some(Frame::WordStarted),
+        (Frame::TermStarted, Part::Foreign | Part::ForeignHead) => Some(Frame::Foreign(
+            Place::Term,
+        )),
+        (Frame::TermStarted, Part::ConstantArray) => Some(Frame::Applied),
         (Frame::Headed | Frame::Applied, Part::Term) => Some(Frame::Applied),
         (Frame::LetStarted, Part::Bindings) => Some(Frame::LetBound),
         (Frame::LetBound, Part::Term) => Some(Frame::LetDone),
@@ -214,11 +237,17 @@ pub fn taken(frame: Frame, part: Part) -> Option<Frame>
         (Frame::KeywordRead | Frame::ValueRead, Part::Named) => Some(Frame::NamedRead),
         (Frame::KeywordRead, Part::Value) => Some(Frame::ValueRead),
         (Frame::NamedRead, Part::Name) => Some(Frame::ValueRead),
-        (Frame::HeadStarted, Part::Underscore) => Some(Frame::IndexStarted(Place::Head)),
-        (Frame::HeadStarted, Part::Foreign) => Some(Frame::Foreign(Place::Head)),
-        (Frame::IndexStarted(place), Part::Symbol) => Some(Frame::IndexNamed(place)),
-        (Frame::IndexNamed(place) | Frame::Indexed(place), Part::Numeral) => {
-            Some(Frame::Indexed(place))
+        (Frame::HeadStarted, Part::Underscore) => Some(Frame::IndexStarted),
+        (Frame::HeadStarted, Part::As) => Some(Frame::AsStarted),
+        (Frame::HeadStarted, Part::Foreign) => Some(Frame::ForeignHead),
+        (Frame::IndexStarted, Part::Symbol) => Some(Frame::IndexNamed),
+        (Frame::IndexNamed | Frame::Indexed, Part::Numeral) => Some(Frame::Indexed),
+        (Frame::WordStarted, Part::Symbol) => Some(Frame::WordNamed),
+        (Frame::WordNamed, Part::Numeral) => Some(Frame::WordDone),
+        (Frame::AsStarted, Part::Const) => Some(Frame::ConstRead),
+        (Frame::ConstRead, Part::Value) => Some(Frame::ConstSorted),
+        (Frame::AsStarted | Frame::ConstSorted | Frame::ForeignHead, Part::Value) => {
+            Some(Frame::ForeignHead)
         }
         (Frame::SortStarted, Part::Underscore) => Some(Frame::BitVecStarted),
         (Frame::SortStarted, Part::Foreign) => Some(Frame::Foreign(Place::Sort)),
@@ -243,7 +272,6 @@ fn at_place(place: Place) -> Part
 {
     match place {
         Place::Term => Part::Term,
-        Place::Head => Part::Head,
         Place::Sort => Part::Sort,
     }
 }
@@ -254,10 +282,14 @@ pub fn closed(frame: Frame) -> Option<Part>
     ensures { result ≡ closed frame }
 {
     match frame {
-        Frame::Applied | Frame::LetDone | Frame::KeywordRead | Frame::ValueRead => Some(Part::Term),
+        Frame::Applied | Frame::LetDone | Frame::KeywordRead | Frame::ValueRead | Frame::WordDone =>
+            Some(Part::Term),
+        Frame::Indexed => Some(Part::Head),
+        Frame::AsStarted | Frame::ConstRead | Frame::ForeignHead => Some(Part::ForeignHead),
+        Frame::ConstSorted => Some(Part::ConstantArray),
         Frame::SomeBindings => Some(Part::Bindings),
         Frame::BindingDone => Some(Part::Binding),
-        Frame::Indexed(place) | Frame::Foreign(place) => Some(at_place(place)),
+        Frame::Foreign(place) => Some(at_place(place)),
         Frame::BitVecDone | Frame::ArrayDone => Some(Part::Sort),
         Frame::Unread => Some(Part::Value),
         Frame::EmptyList | Frame::SortList | Frame::ParameterList | Frame::TermList => {

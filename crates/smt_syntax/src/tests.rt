@@ -62,7 +62,7 @@ fn commands_name_their_arguments(rt: HostRuntime) -> Result<(), Fail> {
 
 #[test]
 fn shapes_are_judged_before_names(rt: HostRuntime) -> Result<(), Fail> {
-    let malformed: [&[u8]; 14] = [
+    let malformed: [&[u8]; 26] = [
         b"(assert (and nope (let () p)))",
         b"(assert (f))",
         b"(assert let)",
@@ -77,6 +77,18 @@ fn shapes_are_judged_before_names(rt: HostRuntime) -> Result<(), Fail> {
         b"(set-option :print-success)",
         b"(get-value ())",
         b"(set-logic 5)",
+        b"(assert (_ extract 3 0))",
+        b"(assert (_ foo 3))",
+        b"(assert (_ BitVec 2))",
+        b"(assert (_ bv1 8 8))",
+        b"(assert (_ bv 8))",
+        b"(assert (_ bv01 8))",
+        b"(assert (_ bv1 p))",
+        b"(assert (_ bv1))",
+        b"(assert ((_ let 1) x))",
+        b"(assert ((_ bv3) x))",
+        b"(assert ((_ bv3 8)))",
+        b"(assert ((as const (Array Bool Bool)) let))",
     ];
     for text in malformed {
         let fault = SyntaxError::Fault(SyntaxFault::Malformed);
@@ -87,7 +99,7 @@ fn shapes_are_judged_before_names(rt: HostRuntime) -> Result<(), Fail> {
 
 #[test]
 fn known_shapes_wait_for_their_names(rt: HostRuntime) -> Result<(), Fail> {
-    let formed: [&[u8]; 9] = [
+    let formed: [&[u8]; 19] = [
         b"(assert (forall () ()))",
         b"(assert ((as const (Array Int Int)) 0))",
         b"(assert (let ((x 1) (let p)) (! x :named n :hidden (5 \"s\"))))",
@@ -97,6 +109,16 @@ fn known_shapes_wait_for_their_names(rt: HostRuntime) -> Result<(), Fail> {
         b"(set-option :produce-models true)",
         b"(check-sat-assuming ())",
         b"(define-fun f () (Array (_ BitVec 8) (_ BitVec 8)) (_ bv5 8))",
+        b"(assert (_ |bv0| 8))",
+        b"(assert ((_ bv3 8) x))",
+        b"(assert ((forall x) let))",
+        b"(assert ((match)))",
+        b"(assert ((as const) let))",
+        b"(assert ((as const () ()) let))",
+        b"(assert ((as x Bool) let))",
+        b"(assert ((as const ())))",
+        b"(assert ((as (const) Bool) let))",
+        b"(assert (as const (Array)))",
     ];
     for text in formed {
         assert!(rt; read(&rt, text)?.is_ok());

@@ -1,10 +1,11 @@
 // What a word is where something is wanted.
 
 ghost use Rattle.std.specs.Prelude.{◌≡◌};
-ghost use Rattle.smt_syntax.specs.Shapes.{is_term_word, is_foreign, is_name, is_option, is_boolean, is_keyword, is_symbol};
+ghost use Rattle.smt_syntax.specs.Shapes.{is_term_word, is_foreign, is_name, is_option, is_boolean, is_keyword, is_symbol, is_word_name, is_const};
 ghost use Rattle.smt_syntax.specs.ShapeReader.{part_if, keyword_part, head_part, index_head_part, sort_head_part, word_part};
 
 use crate::shape::{Part, Want};
+use smt_text::lexicon::is_numeral;
 use smt_text::token::TokenKind;
 
 /// Whether a word is a term, or the beginning of a form of terms that is not supported.
@@ -83,6 +84,22 @@ fn is_symbol(kind: TokenKind) -> bool
     matches!(kind, TokenKind::Symbol)
 }
 
+/// Whether the name is `bv` and a numeral.
+pub fn is_word_name(name: &[u8]) -> bool
+    ensures { result ≡ is_word_name name.now }
+{
+    match name {
+        [b, v, digits @ ..] => *b == b'b' && *v == b'v' && is_numeral(digits),
+        _ => false,
+    }
+}
+
+fn is_const(kind: TokenKind, text: &[u8]) -> bool
+    ensures { result ≡ is_const kind text.now }
+{
+    is_symbol(kind) && text == b"const".as_slice()
+}
+
 fn part_if(holds: bool, part: Part) -> Option<Part>
     ensures { result ≡ part_if holds part }
 {
@@ -116,6 +133,7 @@ fn index_head_part(kind: TokenKind) -> Option<Part>
 {
     match kind {
         TokenKind::Underscore => Some(Part::Underscore),
+        TokenKind::As => Some(Part::As),
         _ => part_if(is_foreign(kind), Part::Foreign),
     }
 }
@@ -146,6 +164,12 @@ pub fn word_part(want: Want, kind: TokenKind, text: &[u8]) -> Option<Part>
             Part::Symbol,
         ),
         Want::Name => part_if(is_name(kind), Part::Name),
+        Want::WordName => part_if(is_symbol(kind) && is_word_name(text), Part::Symbol),
+        Want::Const => Some(if is_const(kind, text) {
+            Part::Const
+        } else {
+            Part::Value
+        }),
         Want::Symbol => part_if(is_symbol(kind), Part::Symbol),
         Want::Numeral => part_if(matches!(kind, TokenKind::Numeral), Part::Numeral),
         Want::String => part_if(matches!(kind, TokenKind::String), Part::Value),
