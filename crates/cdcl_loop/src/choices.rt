@@ -3,7 +3,7 @@
 ghost use Rattle.std.specs.Prelude.{IfSome, Contains};
 ghost use Rattle.cdcl_core.specs.Levels.{IsOpen};
 ghost use Rattle.cdcl_core.specs.Search.{literals_of, level_of};
-ghost use Rattle.cdcl_core.specs.State.{IsConsistent};
+ghost use Rattle.cdcl_core.specs.State.{IsConsistent, IsSettled};
 
 use cdcl_core::{Trail, Watches};
 use cnf_base::{ClauseId, Lit, Pos};
@@ -31,7 +31,7 @@ pub struct Choices {
     // how many rows of the trail were seen
     seen: usize,
     conflicts: u64,
-    // the chains that may be dropped, with their worth: those that were learnt, and those that were taken
+    // the chains that may be dropped, mostly in order, with their worth: those that were learnt, and those that were taken
     chains: Vec<Pos>,
     learnt: Vec<Learnt>,
 }
@@ -116,6 +116,45 @@ impl Choices {
         }
     }
 
+    fn meet_all(&mut self, literals: &[Lit]) {
+        for literal in literals {
+            self.meet(*literal);
+        }
+    }
+
+    // Raises the activities of the variables on which the literals of a learnt clause rest, where they are above the base (J. H.
+    // Liang and others, "Learning rate based branching heuristic for SAT solvers", 2016).
+    fn meet_reasons(&mut self, watches: &Watches, trail: &Trail, clause: &[Lit], base: u64)
+        requires { IsSettled watches.now trail.now }
+    {
+        let rows = trail.literals();
+        for literal in clause {
+            if let Some(place) = trail.place(literal.negated()) {
+                if let Some(&(_, level, Some(id))) = rows.get(place) {
+                    if level > base {
+                        if let Some(found) = watches.clause_at(trail, place, id) {
+                            self.meet_all(found.literals());
+                        }
+                    }
+                }
+            }
+        }
+    }
+
+    // Tells the glue of a learnt clause anew, from which a conflict came: where it is less now, it counts.
+    fn tell_anew(&mut self, id: ClauseId, literals: &[Lit], base: u64) {
+        let Ok(place) = self.chains.as_slice().binary_search(&id.pos) else {
+            return;
+        };
+        if place >= self.learnt.len() || self.learnt[place].glue <= 2 {
+            return;
+        }
+        let worth = self.worth(literals, base);
+        if place < self.learnt.len() && worth.glue < self.learnt[place].glue {
+            self.learnt[place].glue = worth.glue;
+        }
+    }
+
     // Whether a literal of the clause got its value at the level.
     fn reaches(&self, literals: &[Lit], level: u64) -> bool {
         for literal in literals {
@@ -128,33 +167,35 @@ impl Choices {
     }
 
     /// Weighs a clause that was learnt from a conflict at this level, and of its hints those that have a literal of the level:
-    /// the others made the clause shorter.
+    /// the others made the clause shorter. Up to the base the levels are of given literals, which stay, so the literals of these
+    /// levels weigh nothing.
     pub(crate) fn weigh(
         &mut self,
         watches: &Watches,
+        trail: &Trail,
         clause: &[Lit],
         hints: &[ClauseId],
         level: u64,
-    ) -> Result<(), AllocError> {
+        base: u64,
+    ) -> Result<(), AllocError>
+        requires { IsSettled watches.now trail.now }
+    {
         self.conflicts = self.conflicts.wrapping_add(1);
         for hint in hints {
             if let Some(found) = watches.clause(*hint) {
-                let literals = found.literals();
-                if self.reaches(literals, level) {
-                    for literal in literals {
-                        self.meet(*literal);
-                    }
+                if self.reaches(found.literals(), level) {
+                    self.meet_all(found.literals());
+                    self.tell_anew(*hint, found.literals(), base);
                 }
             }
         }
+        self.meet_reasons(watches, trail, clause, base);
         self.order.decay();
-        let glue = self.glue(clause)?;
-        self.restarts.meet(glue);
-        let size = clause.len() % (1 << 32);
-        self.learnt.push(Learnt {
-            glue: (glue % (1 << 32)) as u32,
-            size: size as u32,
-        })?;
+        let worth = self.worth(clause, base);
+        self.restarts.meet(u64::from(worth.glue));
+        // where the clause that was weighed before was not kept, it has no name
+        self.learnt.truncate(self.chains.len());
+        self.learnt.push(worth)?;
         Ok(())
     }
 
@@ -172,16 +213,19 @@ impl Choices {
         Ok(())
     }
 
-    // The number of levels of the literals.
-    fn glue(&mut self, literals: &[Lit]) -> Result<u64, AllocError> {
-        let mut levels: Vec<u64> = Vec::new(self.alloc);
+    // The number of those literals that got their values above the base, and that of their levels.
+    fn worth(&mut self, literals: &[Lit], base: u64) -> Learnt {
+        let mut size = 0u32;
+        self.counter.begin();
         for literal in literals {
             let variable = literal.variable() as usize;
-            if variable < self.levels.len() {
-                levels.push(self.levels[variable])?;
+            if variable < self.levels.len() && self.levels[variable] > base {
+                size = size.wrapping_add(1);
+                self.counter.meet(self.levels[variable]);
             }
         }
-        Ok(self.counter.glue(levels.as_slice()))
+        let glue = (self.counter.glue() % (1 << 32)) as u32;
+        Learnt { glue, size }
     }
 
     /// Whether the search is to restart now; then it counts one.

@@ -40,9 +40,11 @@ impl Engine {
         let (clause, hints, level) = learn(self.alloc, &self.watches, &self.trail, conflict)?;
         self.choices.weigh(
             &self.watches,
+            &self.trail,
             clause.literals(),
             hints.as_slice(),
             self.trail.level(),
+            self.base,
         )?;
         Ok((clause, hints, level))
     }

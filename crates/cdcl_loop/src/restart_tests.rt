@@ -51,50 +51,82 @@ fn learn_often(engine: &mut Engine, conflict: ClauseId, times: u64) -> Result<()
     Ok(())
 }
 
-// The same of the clause that is false where these literals are decided.
-fn learn_under(engine: &mut Engine, given: &[i64], times: u64) -> Result<(), AllocError>
+// Decides a listed variable, where nothing contradicts the decisions before.
+fn decide_next(engine: &mut Engine) -> Result<(), AllocError>
+    requires engine { IsEngine engine.old }
+    requires course { IsOnCourse engine.old }
+    ensures engine { OnOk result (IsEngine engine.new) }
+    ensures course { OnOk result (IsOnCourse engine.new) }
+{
+    assume(engine)?;
+    if !engine.decide()? {
+        return Err(AllocError);
+    }
+    Ok(())
+}
+
+// The same of the clause that is false where these literals are given, and so many variables decided behind them.
+fn learn_under(
+    engine: &mut Engine,
+    given: &[i64],
+    decisions: u64,
+    times: u64,
+) -> Result<(), AllocError>
     requires { IsEngine engine.old }
     ensures { OnOk result (IsEngine engine.new) }
 {
     let given = literals(engine.alloc, given)?;
     engine.begin(given);
-    if let Some(_) = engine.propagate() {
-        return Err(AllocError);
+    'decisions: for _ in 0..decisions {
+        decide_next(engine)?;
     }
-    let Some(Clash::Held(id)) = engine.assume()? else {
+    let Some(id) = engine.propagate() else {
         return Err(AllocError);
     };
     learn_often(engine, id, times)
 }
 
-// The level behind a decision and a restart, where so many conflicts of one level came, and then so many of four.
-fn restarted(engine: &mut Engine, low: u64, high: u64) -> Result<u64, AllocError>
+// The level behind a decision and a restart, where sixty conflicts of one level came, and then so many under these literals.
+fn restarted(
+    engine: &mut Engine,
+    given: &[i64],
+    decisions: u64,
+    times: u64,
+) -> Result<u64, AllocError>
     requires { IsEngine engine.old }
 {
     list_below(engine, 9)?;
-    learn_under(engine, &[1], low)?;
-    learn_under(engine, &[3, 4, 5, 6], high)?;
+    learn_under(engine, &[], 1, 60)?;
+    learn_under(engine, given, decisions, times)?;
     let none = Vec::new(engine.alloc);
     engine.begin(none);
-    assume(engine)?;
-    if !engine.decide()? {
-        return Err(AllocError);
-    }
+    decide_next(engine)?;
     engine.restart();
     Ok(engine.level())
 }
 
-fn level_behind(alloc: Global, low: u64, high: u64) -> Result<u64, AllocError> {
-    let wide: [&[i64]; 2] = [&[-3, -4, -5, -6, 7], &[-3, -4, -5, -6, -7]];
-    let mut engine = begun(alloc, &[&[-1, 2], &[-1, -2], wide[0], wide[1]], &[])?;
-    let level = restarted(&mut engine, low, high);
+fn level_behind(
+    alloc: Global,
+    given: &[i64],
+    decisions: u64,
+    times: u64,
+) -> Result<u64, AllocError> {
+    let wide: [&[i64]; 2] = [&[3, 4, 5, 6, 7], &[3, 4, 5, 6, -7]];
+    let mut engine = begun(alloc, &[&[1, 2], &[1, -2], wide[0], wide[1]], &[])?;
+    let level = restarted(&mut engine, given, decisions, times);
     drop(engine);
     level
 }
 
 #[test]
 fn a_search_restarts_where_conflicts_span_more_levels(rt: HostRuntime) -> Result<(), Fail> {
-    assert_eq!(rt; level_behind(rt.alloc(), 60, 0)?, 1);
-    assert_eq!(rt; level_behind(rt.alloc(), 60, 30)?, 0);
+    assert_eq!(rt; level_behind(rt.alloc(), &[1], 5, 0)?, 1);
+    assert_eq!(rt; level_behind(rt.alloc(), &[1], 5, 30)?, 0);
+    Ok(())
+}
+
+#[test]
+fn levels_of_given_literals_count_for_nothing(rt: HostRuntime) -> Result<(), Fail> {
+    assert_eq!(rt; level_behind(rt.alloc(), &[1, -3, -4, -5], 2, 30)?, 1);
     Ok(())
 }

@@ -9,6 +9,7 @@ pub struct GlueCounter {
     // by level, the number of the last count that met it
     seen: Vec<u64>,
     count: u64,
+    glue: u64,
 }
 
 impl GlueCounter {
@@ -17,6 +18,7 @@ impl GlueCounter {
         GlueCounter {
             seen: Vec::new(alloc),
             count: 0,
+            glue: 0,
         }
     }
 
@@ -28,16 +30,22 @@ impl GlueCounter {
         Ok(())
     }
 
-    /// The number of different levels in the row.
-    pub fn glue(&mut self, levels: &[u64]) -> u64 {
+    /// Begins a count.
+    pub fn begin(&mut self) {
         self.count = self.count.wrapping_add(1);
-        let mut glue = 0u64;
-        for level in levels {
-            if at(&self.seen, *level) != self.count {
-                put(&mut self.seen, *level, self.count);
-                glue = glue.wrapping_add(1);
-            }
+        self.glue = 0;
+    }
+
+    /// Meets a level.
+    pub fn meet(&mut self, level: u64) {
+        if at(&self.seen, level) != self.count {
+            put(&mut self.seen, level, self.count);
+            self.glue = self.glue.wrapping_add(1);
         }
-        glue
+    }
+
+    /// How many different levels this count has met.
+    pub fn glue(&self) -> u64 {
+        self.glue
     }
 }

@@ -56,8 +56,15 @@ fn a_phase_is_kept(rt: HostRuntime) -> Result<(), Fail> {
 fn glue_counts_levels_once(rt: HostRuntime) -> Result<(), Fail> {
     let mut counter = GlueCounter::new(rt.alloc());
     counter.reserve(9)?;
-    assert_eq!(rt; counter.glue(&[8, 3, 3, 8, 1]), 3);
-    assert_eq!(rt; counter.glue(&[3, 3]), 1);
+    counter.begin();
+    for level in [8, 3, 3, 8, 1] {
+        counter.meet(level);
+    }
+    assert_eq!(rt; counter.glue(), 3);
+    counter.begin();
+    counter.meet(3);
+    counter.meet(3);
+    assert_eq!(rt; counter.glue(), 1);
     Ok(())
 }
 
