@@ -4,6 +4,7 @@ use Rattle.std.specs.Prelude.{◌&&◌, ltb, slice_get}
 use Rattle.std.proofs.lemmas.Bool.{cases_lt, lt-ltb, ltb-true}
 use Rattle.cnf_base.specs.Literals.{Literal}
 use Rattle.cnf_base.specs.declared.clause.ClauseId.{ClauseId}
+use Rattle.proof_log.specs.declared.board.Sync.{Sync}
 use Rattle.proof_log.specs.declared.diary.Diary.{Diary}
 use Rattle.proof_log.specs.declared.diary.DiaryLine.{DiaryLine}
 use Rattle.proof_log.specs.declared.diary.DiaryLine.TheVariants.{Take, Put, Drop}
@@ -83,8 +84,8 @@ entry_here log (suc p) one le = go log p (omega (arith, le))
     go (e ∷ es) (suc k) lt = go es k (omega (arith, lt))
 
 -- A diary of a search has spent its budget from its own start on, where from the search's position on there are chains alone.
-pub spent_from_start : (g : Subject) (knows : ℕ → Type 0) (budget : ℕ) (d : Diary) → 0 < g.from → ((at : ℕ) (e : Entry) → g.from ≤ at → entry_at g.log at ≡ Some e → is_chain (Some e) ≡ true) → IsSpentDiary g knows budget d → IsSpent (record { nodes = g.nodes; log = g.log; given = g.given; from = d.start }) budget d.lines
-spent_from_start g knows budget d one chains h = spent_from g d.start budget d.lines h.start here h.spent
+pub spent_from_start : (g : Subject) (knows : ℕ → Type 0) (told : Sync) (budget : ℕ) (d : Diary) → 0 < g.from → ((at : ℕ) (e : Entry) → g.from ≤ at → entry_at g.log at ≡ Some e → is_chain (Some e) ≡ true) → IsSpentDiary g knows told budget d → IsSpent (record { nodes = g.nodes; log = g.log; given = g.given; from = d.start }) budget d.lines
+spent_from_start g knows told budget d one chains h = spent_from g d.start budget d.lines h.start here h.spent
   where
     here : (p : ℕ) → g.from ≤ p → p < d.start → is_chain (entry_at g.log p) ≡ true
     here p ge lt = let q = entry_here g.log p (omega (arith, one, ge)) (omega (arith, lt, h.within)) in ap is_chain q.1 ∙ chains p q.0 ge q.1

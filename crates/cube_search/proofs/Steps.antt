@@ -1,32 +1,36 @@
 -- What a call leaves of a search.
-use Rattle.std.proofs.Common.{◌≡◌, ℕ, suc, ◌+◌, ◌<◌, ◌≤◌, Bool, true, List, [], ◌∷◌, ◌++◌, length, Option, Some, None, Result, Ok, Err, refl, sym, ap, ◌∙◌, subst, inl, inr, ⊎_elim, arith}
+use Rattle.std.proofs.Common.{◌≡◌, ℕ, suc, ◌+◌, ◌-◌, ◌<◌, ◌≤◌, Bool, true, List, [], ◌∷◌, ◌++◌, length, Option, Some, None, Result, Ok, Err, refl, sym, ap, ◌∙◌, subst, inl, inr, ⊎_elim, arith}
 use Rattle.std.specs.Prelude.{◌⊎◌, Contains, IfOk, OnOk, MatchOption}
 use Rattle.std.specs.declared.alloc.AllocError.{AllocError}
+use Rattle.std.proofs.lemmas.List.{length_push, take_at}
 use Rattle.std.proofs.lemmas.List.Elements.{Contains-push, Contains-push_cases}
 use Rattle.cnf_base.specs.Literals.{Literal}
 use Rattle.cnf_base.specs.Assignments.{AreBelow}
 use Rattle.cnf_base.specs.declared.clause.ClauseId.{ClauseId}
 use Rattle.smt_terms.specs.declared.node.Node.{Node}
+use Rattle.proof_log.specs.declared.board.Sync.{Sync}
 use Rattle.proof_log.specs.declared.entry.Entry.{Entry}
 use Rattle.proof_log.specs.declared.entry.Entry.TheVariants as step
 use Rattle.proof_log.specs.declared.diary.DiaryLine.{DiaryLine}
-use Rattle.proof_log.specs.declared.diary.DiaryLine.TheVariants.{Take, Put}
+use Rattle.proof_log.specs.declared.diary.DiaryLine.TheVariants.{Take, Put, Drop}
 use Rattle.proof_log.specs.Logs.{clause_at, entry_at, state_of}
-use Rattle.proof_log.specs.Boards.{IsLater, IsPutAt, KnowsOneMore}
-use Rattle.proof_log.specs.Diaries.{Subject, is_chain, allowed, IsLine, IsSpent}
-use Rattle.proof_log.proofs.Growth.{later_same, entry_stays, chain_clause, chain_part, put_entry, put_clause, put_is_new}
+use Rattle.proof_log.specs.Boards.{Grows, IsLater, IsPutAt, KnowsOneMore}
+use Rattle.proof_log.specs.Diaries.{Subject, DiaryState, is_chain, allowed, blank, IsLine, AreLines, line_after, IsSpent}
+use Rattle.proof_log.proofs.Growth.{later_same, grown_length, entry_within, entry_stays, chain_clause, chain_part, put_entry, put_clause, put_is_new}
 use Rattle.proof_log.proofs.Lines.{spent}
 use Rattle.cdcl_core.specs.Levels.{IsTrueBy}
 use Rattle.cdcl_core.specs.declared.watches.Watches.{Watches}
 use Rattle.cdcl_core.specs.Search.{literals_of, level_of, clause_of, held_of}
 use Rattle.cdcl_learn.specs.Puts.{IsAgainst}
+use Rattle.cdcl_learn.proofs.Lists.{member_cases}
+use Rattle.cnf_base.proofs.Lists.{Contains-nil}
 use Rattle.cube_search.specs.declared.search.Search.{Search}
 use Rattle.proof_log.specs.declared.diary.Diary.{Diary}
 use Rattle.cube_search.specs.Holding.{AreAmong, IsForeign, IsTold, IsAdmitted}
 use Rattle.cube_search.specs.declared.keeper.Keeper.{Keeper}
 use Rattle.cube_search.specs.Keeping.{HasLine, IsKept, IsTaken, state_in}
-use Rattle.cube_search.specs.Running.{variables_in, given_in, IsSearch, IsSearchOf, IsRunning, IsWriting, IsUpToDate, IsSameRun, IsLearnt, IsKeptAt, subject_of}
-use Rattle.cube_search.specs.Ends.{IsClosing, IsSpentDiary, IsEnd}
+use Rattle.cube_search.specs.Running.{variables_in, given_in, IsSearch, IsSearchOf, IsRunning, IsWriting, IsUpToDate, IsCaughtUp, HasLooked, IsSameRun, IsLearnt, IsKeptAt, subject_of}
+use Rattle.cube_search.specs.Ends.{IsClosing, IsEarlierPut, IsSpentDiary, IsEnd}
 use Rattle.cube_search.specs.declared.ends.End.{End}
 use Rattle.cube_search.specs.declared.ends.End.TheVariants.{Closed, Model, Spent, Stopped}
 use Rattle.cdcl_loop.specs.declared.engine.Engine.{Engine}
@@ -82,6 +86,38 @@ told_still s t nodes nodes' log log' known known' later opening ends listed h =
 pub same_given : (s t : Search) → IsSameRun s t → given_in t ≡ given_in s
 same_given s t h = ap (λ v. v.items) h.given
 
+-- ---- what the board told
+
+-- where it told all that it has seen, it told of each chain that is kept
+pub looked_now : (s : Search) (nodes : List Node) (log : List Entry) (told : Sync) → IsCaughtUp told log → IsRunning s nodes log → HasLooked s log told
+looked_now s nodes log told e h = record {
+  before = omega (arith, e);
+  kept = λ p c. let le = chain_within log p (h.1.placed.chains p c) in omega (arith, e, le);
+}
+
+-- nothing more was told, and no chain is kept besides
+pub looked_still : (s t : Search) (log : List Entry) (told told' : Sync) → told' ≡ told → t.taken ≡ s.taken → HasLooked s log told → HasLooked t log told'
+looked_still s t log told told' e f h = record {
+  before = subst (λ (u : Sync). length log < u.upto) (sym e) h.before;
+  kept = λ p c. subst (λ (u : Sync). p < u.upto) (sym e) (h.kept p (subst (λ (ls : List ℕ). Contains ls p) (ap (λ v. v.items) f) c));
+}
+
+-- it told of the shorter log
+pub looked_before : (s : Search) (log log' : List Entry) (told : Sync) → Grows log log' → HasLooked s log' told → HasLooked s log told
+looked_before s log log' told grows h = record { before = let le = grown_length log log' grows in omega (arith, le, h.before); kept = h.kept }
+
+put_within : (g : Subject) (s : DiaryState) (ls : List DiaryLine) → AreLines g s ls → (p : ℕ) → Contains ls (Put p) → p ≤ length g.log
+put_within g s [] h p c = absurd (Contains-nil (Put p) c)
+put_within g s (Take q ∷ ls) h p c = ⊎_elim (λ e. let f : ⊥ = cc in absurd f) (λ k. put_within g (line_after g s (Take q)) ls h.1 p k) (member_cases (Take q) (Put p) ls c)
+put_within g s (Put q ∷ ls) h p c = ⊎_elim
+    (λ e. let same : q ≡ p = cc in let le = entry_within g.log q (step.Chain h.0.0 h.0.1) h.0.2 in omega (arith, same, le))
+    (λ k. put_within g (line_after g s (Put q)) ls h.1 p k)
+    (member_cases (Put q) (Put p) ls c)
+put_within g s (Drop q ∷ ls) h p c = ⊎_elim (λ e. let f : ⊥ = cc in absurd f) (λ k. put_within g (line_after g s (Drop q)) ls h.1 p k) (member_cases (Drop q) (Put p) ls c)
+
+earlier_put : (ls : List DiaryLine) (l : DiaryLine) (p : ℕ) → IsEarlierPut (ls ++ l ∷ []) p → Contains ls (Put p)
+earlier_put ls l p c = subst (λ (ks : List DiaryLine). Contains ks (Put p)) (take_at ls (l ∷ []) (length (ls ++ l ∷ []) - 1) (let n = length_push ls l in omega (arith, n))) c
+
 -- ---- a learnt clause that is kept
 
 module _ (s t : Search) (nodes nodes' : List Node) (log log' : List Entry) (known known' : ℕ → Type 0) (later : IsLater nodes nodes' log log' known known') (clause : List Literal) (level at : ℕ) (run : IsRunning s nodes log) (above : s.engine.base < level_of s.engine.trail) (learnt : IsLearnt s.engine.watches s.engine.trail log log' clause level at) where
@@ -132,8 +168,8 @@ module _ (s t : Search) (nodes nodes' : List Node) (log log' : List Entry) (know
       (writing_later s nodes nodes' log log' known known' later run w) k.lines k.puts k.chains k.left (learnt_line w) (omega (arith, w.begun, unseen)) k.held)
 
   -- the last put
-  pub spent_diary : (d : Diary) (budget : ℕ) → KnowsOneMore known at known' → s.diary.puts ≡ budget → d.start ≡ s.diary.start → d.lines ≡ s.diary.lines.items ++ Put at ∷ [] → IsUpToDate s nodes log known → IsSpentDiary (subject_of s nodes' log') known' budget d
-  spent_diary d budget more full start lines h =
+  pub spent_diary : (d : Diary) (budget : ℕ) (told : Sync) → IsCaughtUp told log → KnowsOneMore known at known' → s.diary.puts ≡ budget → d.start ≡ s.diary.start → d.lines ≡ s.diary.lines.items ++ Put at ∷ [] → IsUpToDate s nodes log known → IsSpentDiary (subject_of s nodes' log') known' told budget d
+  spent_diary d budget told all more full start lines h =
       let w = writing_later s nodes nodes' log log' known known' later run h.0 in
       record {
         spent = subst (IsSpent (subject_of s nodes' log') budget) (sym lines)
@@ -148,6 +184,10 @@ module _ (s t : Search) (nodes nodes' : List Node) (log log' : List Entry) (know
             (λ old. omega (arith, start, w.later p old))
             (λ q. let r : at ≡ p = cc in omega (arith, r, start, w.begun, unseen))
             (Contains-push_cases s.diary.lines.items (Put at) (Put p) (subst (λ (ls : List DiaryLine). Contains ls (Put p)) lines c));
+        looked = λ p c.
+            let k = earlier_put s.diary.lines.items (Put at) p (subst (λ (ls : List DiaryLine). IsEarlierPut ls p) lines c) in
+            let le = put_within (subject_of s nodes log) (blank (subject_of s nodes log)) s.diary.lines.items h.0.stand p k in
+            omega (arith, all, le);
       }
 
 -- ---- calls that end in another
@@ -310,11 +350,11 @@ same_store w v e = record { kept = λ id. ap (λ (x : Watches). clause_of x id) 
 
 -- ---- an end under another condition
 
-pub end_where : (P Q : Type 0) (g : Subject) (known : ℕ → Type 0) (found : Bool) (positions : List ℕ) (v : ℕ → Bool) (cube budget : ℕ) (e : End) → (Q → P) → IsEnd P g known found positions v cube budget e → IsEnd Q g known found positions v cube budget e
-end_where P Q g known found positions v cube budget (Closed p) f h = h
-end_where P Q g known found positions v cube budget Model f h = h
-end_where P Q g known found positions v cube budget (Spent d) f h = (h.0, (λ q. h.1 (f q)))
-end_where P Q g known found positions v cube budget Stopped f h = h
+pub end_where : (P Q : Type 0) (g : Subject) (known : ℕ → Type 0) (found : Bool) (told : Sync) (positions : List ℕ) (v : ℕ → Bool) (cube budget : ℕ) (e : End) → (Q → P) → IsEnd P g known found told positions v cube budget e → IsEnd Q g known found told positions v cube budget e
+end_where P Q g known found told positions v cube budget (Closed p) f h = h
+end_where P Q g known found told positions v cube budget Model f h = h
+end_where P Q g known found told positions v cube budget (Spent d) f h = (h.0, (λ q. h.1 (f q)))
+end_where P Q g known found told positions v cube budget Stopped f h = h
 
 -- ---- after a conflict: a clause was learnt, it is kept, and the engine may have restarted
 
@@ -336,17 +376,17 @@ module _ (s t u : Search) (n : Engine) (nodes nodes' : List Node) (log log' : Li
     pub conflict_same : IsSameRun s (record u { engine = n })
     conflict_same = run_then s u (record u { engine = n }) (learnt_same s t u e same) (moved_same u n task)
 
-pub end_from : (s : Search) (n : Engine) (new : Search) (task : IsSameTask s.engine n) (nodes nodes' : List Node) (log log' : List Entry) (known known' : ℕ → Type 0) (found : Bool) (v : ℕ → Bool) (cube budget : ℕ) (r : Result (Option End) AllocError) → (IsUpToDate s nodes log known → IsUpToDate (record s { engine = n }) nodes log known) → IfOk r (λ o. MatchOption o (IsUpToDate (record s { engine = n }) nodes log known → IsUpToDate new nodes' log' known') (IsEnd (IsUpToDate (record s { engine = n }) nodes log known) (subject_of (record s { engine = n }) nodes' log') known' found s.opening.items v cube budget)) → IfOk r (λ o. MatchOption o (IsUpToDate s nodes log known → IsUpToDate new nodes' log' known') (IsEnd (IsUpToDate s nodes log known) (subject_of s nodes' log') known' found s.opening.items v cube budget))
-end_from s n new task nodes nodes' log log' known known' found v cube budget (Err x) w h = tt
-end_from s n new task nodes nodes' log log' known known' found v cube budget (Ok None) w h = λ u. h (w u)
-end_from s n new task nodes nodes' log log' known known' found v cube budget (Ok (Some x)) w h =
-    end_where (IsUpToDate (record s { engine = n }) nodes log known) (IsUpToDate s nodes log known) (subject_of s nodes' log') known' found s.opening.items v cube budget x w
-    (subst (λ (l : List Literal). IsEnd (IsUpToDate (record s { engine = n }) nodes log known) (record { nodes = nodes'; log = log'; given = l; from = s.from }) known' found s.opening.items v cube budget x) (ap (λ v. v.items) task.given) h)
+pub end_from : (s : Search) (n : Engine) (new : Search) (task : IsSameTask s.engine n) (nodes nodes' : List Node) (log log' : List Entry) (known known' : ℕ → Type 0) (found : Bool) (told : Sync) (v : ℕ → Bool) (cube budget : ℕ) (r : Result (Option End) AllocError) → (IsUpToDate s nodes log known → IsUpToDate (record s { engine = n }) nodes log known) → IfOk r (λ o. MatchOption o (IsUpToDate (record s { engine = n }) nodes log known → IsUpToDate new nodes' log' known') (IsEnd (IsUpToDate (record s { engine = n }) nodes log known) (subject_of (record s { engine = n }) nodes' log') known' found told s.opening.items v cube budget)) → IfOk r (λ o. MatchOption o (IsUpToDate s nodes log known → IsUpToDate new nodes' log' known') (IsEnd (IsUpToDate s nodes log known) (subject_of s nodes' log') known' found told s.opening.items v cube budget))
+end_from s n new task nodes nodes' log log' known known' found told v cube budget (Err x) w h = tt
+end_from s n new task nodes nodes' log log' known known' found told v cube budget (Ok None) w h = λ u. h (w u)
+end_from s n new task nodes nodes' log log' known known' found told v cube budget (Ok (Some x)) w h =
+    end_where (IsUpToDate (record s { engine = n }) nodes log known) (IsUpToDate s nodes log known) (subject_of s nodes' log') known' found told s.opening.items v cube budget x w
+    (subst (λ (l : List Literal). IsEnd (IsUpToDate (record s { engine = n }) nodes log known) (record { nodes = nodes'; log = log'; given = l; from = s.from }) known' found told s.opening.items v cube budget x) (ap (λ v. v.items) task.given) h)
 
 -- the end of a run says the same of its beginning
-pub run_end : (P Q : Type 0) (s : Search) (nodes : List Node) (log : List Entry) (known : ℕ → Type 0) (found : Bool) (v : ℕ → Bool) (given : List Literal) (from : ℕ) (opening : List ℕ) (cube budget : ℕ) (x : End) → (Q → P) → given_in s ≡ given → s.from ≡ from → s.opening.items ≡ opening → IsEnd P (subject_of s nodes log) known found s.opening.items v cube budget x → IsEnd Q (record { nodes = nodes; log = log; given = given; from = from }) known found opening v cube budget x
-run_end P Q s nodes log known found v given from opening cube budget x w a b c h =
-    end_where P Q (record { nodes = nodes; log = log; given = given; from = from }) known found opening v cube budget x w
-    (subst (λ (o : List ℕ). IsEnd P (record { nodes = nodes; log = log; given = given; from = from }) known found o v cube budget x) c
-    (subst (λ (f : ℕ). IsEnd P (record { nodes = nodes; log = log; given = given; from = f }) known found s.opening.items v cube budget x) b
-    (subst (λ (l : List Literal). IsEnd P (record { nodes = nodes; log = log; given = l; from = s.from }) known found s.opening.items v cube budget x) a h)))
+pub run_end : (P Q : Type 0) (s : Search) (nodes : List Node) (log : List Entry) (known : ℕ → Type 0) (found : Bool) (told : Sync) (v : ℕ → Bool) (given : List Literal) (from : ℕ) (opening : List ℕ) (cube budget : ℕ) (x : End) → (Q → P) → given_in s ≡ given → s.from ≡ from → s.opening.items ≡ opening → IsEnd P (subject_of s nodes log) known found told s.opening.items v cube budget x → IsEnd Q (record { nodes = nodes; log = log; given = given; from = from }) known found told opening v cube budget x
+run_end P Q s nodes log known found told v given from opening cube budget x w a b c h =
+    end_where P Q (record { nodes = nodes; log = log; given = given; from = from }) known found told opening v cube budget x w
+    (subst (λ (o : List ℕ). IsEnd P (record { nodes = nodes; log = log; given = given; from = from }) known found told o v cube budget x) c
+    (subst (λ (f : ℕ). IsEnd P (record { nodes = nodes; log = log; given = given; from = f }) known found told s.opening.items v cube budget x) b
+    (subst (λ (l : List Literal). IsEnd P (record { nodes = nodes; log = log; given = l; from = s.from }) known found told s.opening.items v cube budget x) a h)))

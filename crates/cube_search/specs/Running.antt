@@ -1,10 +1,11 @@
 -- A search: between checks, between its runs, and in the midst of one.
-use Rattle.std.specs.Prelude.{◌≡◌, ◌<◌, ◌≤◌, ◌⊎◌, ◌+◌, ◌++◌, ◌∷◌, [], ℕ, Bool, true, false, List, length, Some, Contains}
+use Rattle.std.specs.Prelude.{◌≡◌, ◌<◌, ◌≤◌, ◌⊎◌, ◌+◌, ◌++◌, ◌∷◌, [], ℕ, suc, Bool, true, false, List, length, Some, Contains}
 use Rattle.cnf_base.specs.Literals.{Literal}
 use Rattle.cnf_base.specs.Assignments.{AreBelow}
 use Rattle.cnf_base.specs.declared.clause.ClauseId.{ClauseId}
 use Rattle.smt_terms.specs.declared.node.Node.{Node}
 use Rattle.smt_terms.specs.Terms.{IsTermList}
+use Rattle.proof_log.specs.declared.board.Sync.{Sync}
 use Rattle.proof_log.specs.declared.entry.Entry.{Entry}
 use Rattle.proof_log.specs.Logs.{clause_at, entry_at, state_of, IsLog}
 use Rattle.proof_log.specs.declared.entry.Entry.TheVariants as step
@@ -78,6 +79,15 @@ IsWriting s nodes log = IsKept (subject_of s nodes log) s.engine.watches (variab
 -- and each chain that is known, which was seen, has a line in it
 abbrev pub IsUpToDate : Search → List Node → List Entry → (ℕ → Type 0) → Type 0
 IsUpToDate s nodes log knows = IsWriting s nodes log × AreImported s.diary.lines.items log knows s.diary.start × ((p : ℕ) → knows p → p ≤ length log)
+
+-- the board told all that it has seen
+abbrev pub IsCaughtUp : Sync → List Entry → Type 0
+IsCaughtUp told log = told.upto ≡ suc (length log)
+
+-- The search has looked: the board told it of this log, and of each chain that the search kept.
+pub record HasLooked (s : Search) (log : List Entry) (told : Sync) : Type 0 where
+  pub before : length log < told.upto
+  pub kept : (p : ℕ) → Contains s.taken.items p → p < told.upto
 
 -- what a run leaves as it is
 pub record IsSameRun (old new : Search) : Type 0 where

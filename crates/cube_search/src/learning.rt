@@ -32,6 +32,7 @@ impl Search {
         requires clash { IsClash self.now.engine.watches self.now.engine.trail clash }
         requires given { AreGiven self.now.engine.given.items (literals_of self.now.engine.trail) clash }
         ensures later { IsLater (B.nodes board.old) (B.nodes board.new) (B.log board.old) (B.log board.new) (B.knows board.old) (B.knows board.new) }
+        ensures told { B.told board.new ≡ B.told board.old }
         ensures closing { IfOk result (IsClosing (state_of (B.nodes board.new) (B.log board.new)).clauses (given_in self.now)) }
     {
         let (clause, hints) = self.engine.final_clause(clash)?;
@@ -51,6 +52,7 @@ impl Search {
         requires above { self.old.engine.base < level_of self.old.engine.trail }
         ensures same { self.new ≡ record self.old { engine = record self.old.engine { choices = self.new.engine.choices } } }
         ensures later { IsLater (B.nodes board.old) (B.nodes board.new) (B.log board.old) (B.log board.new) (B.knows board.old) (B.knows board.new) }
+        ensures told { B.told board.new ≡ B.told board.old }
         ensures learnt { IfOk result (λ r. IsLearnt self.old.engine.watches self.old.engine.trail (B.log board.old) (B.log board.new) r.0 r.1 r.2) }
         ensures known { IfOk result (λ r. KnowsOneMore (B.knows board.old) r.2 (B.knows board.new)) }
     {

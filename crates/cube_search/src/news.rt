@@ -12,7 +12,7 @@ ghost use Rattle.proof_log.specs.Boards.{IsLater};
 ghost use Rattle.proof_log.specs.Diaries.{is_chain};
 ghost use Rattle.cube_search.specs.Holding.{AreSeparate, IsAdmitted, AreLeft};
 ghost use Rattle.cube_search.specs.Keeping.{HasLine, IsTaken, NotesTaken};
-ghost use Rattle.cube_search.specs.Running.{variables_in, given_in, IsSearch, IsRunning, IsWriting, IsUpToDate, IsSameRun};
+ghost use Rattle.cube_search.specs.Running.{variables_in, given_in, IsSearch, IsRunning, IsWriting, IsUpToDate, IsCaughtUp, IsSameRun};
 
 use crate::bring::are_listed;
 use crate::keeper::Keeper;
@@ -110,7 +110,8 @@ impl Search {
         ensures run { IsSameRun self.old self.new }
         ensures later { IsLater (B.nodes board.old) (B.nodes board.new) (B.log board.old) (B.log board.new) (B.knows board.old) (B.knows board.new) }
         ensures running { OnOk result (IsRunning self.new (B.nodes board.new) (B.log board.new)) }
-        ensures news { IfOk result (λ found. MatchBool found (B.found board.new ≡ true)
+        ensures told { OnOk result (IsCaughtUp (B.told board.new) (B.log board.new)) }
+        ensures news { IfOk result (λ found. MatchBool found ((B.found board.new ≡ true) × ((B.told board.new).found ≡ true))
             (IsWriting self.old (B.nodes board.old) (B.log board.old) → IsUpToDate self.new (B.nodes board.new) (B.log board.new) (B.knows board.new))) }
     {
         let news = board.sync()?;

@@ -6,7 +6,7 @@ ghost use Rattle.proof_log.specs.Logs.{state_of};
 ghost use Rattle.proof_log.specs.Boards.{IsLater};
 ghost use Rattle.cdcl_core.specs.Search.{IsConflict};
 ghost use Rattle.cube_search.specs.Holding.{AreSeparate};
-ghost use Rattle.cube_search.specs.Running.{IsSearch, IsRunning, IsUpToDate, IsSameRun, subject_of, valuation_of};
+ghost use Rattle.cube_search.specs.Running.{IsSearch, IsRunning, IsUpToDate, IsCaughtUp, HasLooked, IsSameRun, subject_of, valuation_of};
 ghost use Rattle.cube_search.specs.Ends.{IsEnd};
 
 use crate::ends::End;
@@ -27,12 +27,15 @@ impl Search {
     ) -> Result<Option<End>, AllocError>
         requires running { IsRunning self.old (B.nodes board.old) (B.log board.old) }
         requires conflict { IsConflict self.old.engine.watches self.old.engine.trail conflict }
+        requires told { IsCaughtUp (B.told board.old) (B.log board.old) }
         ensures run { IsSameRun self.old self.new }
         ensures later { IsLater (B.nodes board.old) (B.nodes board.new) (B.log board.old) (B.log board.new) (B.knows board.old) (B.knows board.new) }
         ensures running { OnOk result (IsRunning self.new (B.nodes board.new) (B.log board.new)) }
+        ensures looked { OnOk result (HasLooked self.new (B.log board.old) (B.told board.new)) }
+        ensures told { IfOk result (λ o. MatchOption o (IsCaughtUp (B.told board.new) (B.log board.new)) (λ e. Unit {0})) }
         ensures end { IfOk result (λ o. MatchOption o
             (IsUpToDate self.old (B.nodes board.old) (B.log board.old) (B.knows board.old) → IsUpToDate self.new (B.nodes board.new) (B.log board.new) (B.knows board.new))
-            (IsEnd (IsUpToDate self.old (B.nodes board.old) (B.log board.old) (B.knows board.old)) (subject_of self.old (B.nodes board.new) (B.log board.new)) (B.knows board.new) (B.found board.new) self.old.opening.items (valuation_of self.new) cube budget)) }
+            (IsEnd (IsUpToDate self.old (B.nodes board.old) (B.log board.old) (B.knows board.old)) (subject_of self.old (B.nodes board.new) (B.log board.new)) (B.knows board.new) (B.found board.new) (B.told board.new) self.old.opening.items (valuation_of self.new) cube budget)) }
     {
         if self.engine.level() == self.engine.base() {
             return Ok(Some(End::Closed(self.close(board, Clash::Held(conflict))?)));
@@ -58,12 +61,15 @@ impl Search {
         budget: u64,
     ) -> Result<Option<End>, AllocError>
         requires running { IsRunning self.old (B.nodes board.old) (B.log board.old) }
+        requires told { IsCaughtUp (B.told board.old) (B.log board.old) }
         ensures run { IsSameRun self.old self.new }
         ensures later { IsLater (B.nodes board.old) (B.nodes board.new) (B.log board.old) (B.log board.new) (B.knows board.old) (B.knows board.new) }
         ensures running { OnOk result (IsRunning self.new (B.nodes board.new) (B.log board.new)) }
+        ensures looked { OnOk result (HasLooked self.new (B.log board.old) (B.told board.new)) }
+        ensures told { IfOk result (λ o. MatchOption o (IsCaughtUp (B.told board.new) (B.log board.new)) (λ e. Unit {0})) }
         ensures end { IfOk result (λ o. MatchOption o
             (IsUpToDate self.old (B.nodes board.old) (B.log board.old) (B.knows board.old) → IsUpToDate self.new (B.nodes board.new) (B.log board.new) (B.knows board.new))
-            (IsEnd (IsUpToDate self.old (B.nodes board.old) (B.log board.old) (B.knows board.old)) (subject_of self.old (B.nodes board.new) (B.log board.new)) (B.knows board.new) (B.found board.new) self.old.opening.items (valuation_of self.new) cube budget)) }
+            (IsEnd (IsUpToDate self.old (B.nodes board.old) (B.log board.old) (B.knows board.old)) (subject_of self.old (B.nodes board.new) (B.log board.new)) (B.knows board.new) (B.found board.new) (B.told board.new) self.old.opening.items (valuation_of self.new) cube budget)) }
     {
         if let Some(id) = self.engine.propagate() {
             return self.settle(board, id, cube, budget);
@@ -78,7 +84,7 @@ impl Search {
     }
 
     /// Searches under the given literals, those of the cube of this number among them, until the answer is known, or one more clause was
-    /// put than the budget allows.
+    /// put than the budget allows. It looks at what others put before its first decision, and after each put but one that ends it.
     pub fn run<B: Board>(
         &mut self,
         board: &mut B,
@@ -92,9 +98,10 @@ impl Search {
         ensures search { OnOk result (IsSearch self.new (B.nodes board.new) (B.log board.new)) }
         ensures opening { self.new.opening ≡ self.old.opening }
         ensures from { self.new.from ≡ self.old.from }
+        ensures looked { OnOk result (HasLooked self.new (B.log board.old) (B.told board.new)) }
         ensures end { IfOk result (IsEnd (AreSeparate (state_of (B.nodes board.old) (B.log board.old)).clauses (B.log board.old) self.old.opening.items self.old.from)
             (record { nodes = B.nodes board.new; log = B.log board.new; given = given.now; from = self.old.from })
-            (B.knows board.new) (B.found board.new) self.old.opening.items (valuation_of self.new) cube budget) }
+            (B.knows board.new) (B.found board.new) (B.told board.new) self.old.opening.items (valuation_of self.new) cube budget) }
     {
         self.begin(given)?;
         if self.take_news(board)? {

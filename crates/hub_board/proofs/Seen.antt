@@ -316,7 +316,7 @@ all_known b upto h all is =
 
 -- ---- what a turn leaves of a board
 
-pub board_on : (b : BoardValue) (pass : Known HubValue Event) → IsBoard b → IsSamePass b.pass pass → of_pass by_of pass.number pass.seen ≡ pass.mine → StartsWith pass.seen b.pass.seen → IsHistory b.hist.law pass.seen → AddChains pass.seen → IsBoard (record { hist = b.hist; pass = pass; table = b.table })
+pub board_on : (b : BoardValue) (pass : Known HubValue Event) → IsBoard b → IsSamePass b.pass pass → of_pass by_of pass.number pass.seen ≡ pass.mine → StartsWith pass.seen b.pass.seen → IsHistory b.hist.law pass.seen → AddChains pass.seen → IsBoard (record b { pass = pass })
 board_on b pass h same mine (more, is) made chains = record {
   own = (same.0 ∙ h.own.0, same.1 ∙ h.own.1);
   opened = h.opened;
@@ -331,7 +331,7 @@ pub board_stepped : (b : BoardValue) (pass : Known HubValue Event) (call : Call)
     (λ answer. (between : List Event) × (of_pass by_of b.pass.number between ≡ [])
     × ((answer ≡ reply b.hist.law (b.pass.seen ++ between) call) × (pass.seen ≡ (b.pass.seen ++ between) ++ event b.pass.number call ∷ []) × (pass.mine ≡ b.pass.mine ++ event b.pass.number call ∷ [])))
     (λ back. (back.kept ≡ call) × (pass ≡ b.pass))
-    → IfOk r (λ answer. (s : HubState) × IsChainHub b.hist.law s pass.seen) → IsBoard (record { hist = b.hist; pass = pass; table = b.table })
+    → IfOk r (λ answer. (s : HubState) × IsChainHub b.hist.law s pass.seen) → IsBoard (record b { pass = pass })
 board_stepped b pass call (Ok answer) h same mine turn stands =
     board_on b pass h same mine (turn.0 ++ event b.pass.number call ∷ [], turn.2.1 ∙ append_assoc b.pass.seen turn.0 (event b.pass.number call ∷ [])) stands.1.hub.made stands.1.chains
 board_stepped b pass call (Err back) h same mine turn stands =
@@ -339,7 +339,7 @@ board_stepped b pass call (Err back) h same mine turn stands =
 
 pub board_read : {B : Type 0} (b : BoardValue) (pass : Known HubValue Event) (r : Result (List Event) B) → IsBoard b → IsSamePass b.pass pass → of_pass by_of pass.number pass.seen ≡ pass.mine
     → MatchResult r (λ events. StartsWith pass.seen b.pass.seen × (events ≡ drop b.pass.got pass.seen) × (pass.got ≡ length pass.seen)) (λ x. pass ≡ b.pass)
-    → IfOk r (λ answer. (s : HubState) × IsChainHub b.hist.law s pass.seen) → IsBoard (record { hist = b.hist; pass = pass; table = b.table })
+    → IfOk r (λ answer. (s : HubState) × IsChainHub b.hist.law s pass.seen) → IsBoard (record b { pass = pass })
 board_read b pass (Ok answer) h same mine turn stands = board_on b pass h same mine turn.0 stands.1.hub.made stands.1.chains
 board_read b pass (Err back) h same mine turn stands =
     board_on b pass h same mine ([], ap (λ p. p.seen) turn ∙ sym (append-nil b.pass.seen)) (subst (λ (p : Known HubValue Event). IsHistory b.hist.law p.seen) (sym turn) h.made) (subst (λ (p : Known HubValue Event). AddChains p.seen) (sym turn) h.chains)

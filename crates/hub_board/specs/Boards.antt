@@ -2,6 +2,7 @@
 use Rattle.std.specs.Prelude.{◌≡◌, ◌≤◌, ◌<◌, ◌-◌, ◌⊎◌, ℕ, suc, Bool, false, List, [], ◌∷◌, ◌++◌, length}
 use Rattle.shared_history.specs.Events.{of_pass, StartsWith}
 use Rattle.shared_history.specs.Known.{Story, Known, IsPassOf}
+use Rattle.proof_log.specs.declared.board.Sync.{Sync}
 use Rattle.hub_core.specs.declared.events.Call.{Call}
 use Rattle.hub_core.specs.declared.events.Call.TheVariants.{Define, PutLemma, PutChain, Claim, Close, Spend, Found}
 use Rattle.hub_core.specs.declared.events.Reply.{Reply}
@@ -11,11 +12,12 @@ use Rattle.hub_board.specs.declared.table.Table.{Table}
 use Rattle.hub_board.specs.Chains.{AddChains}
 use Rattle.hub_board.specs.Filing.{IsThere, IsFiled}
 
--- the history, the pass, and what is filed
+-- the history, the pass, what is filed, and what was told last
 pub record BoardValue : Type 0 where
   pub hist : Story HubValue
   pub pass : Known HubValue Event
   pub table : Table
+  pub news : Sync
 
 -- The pass is one of the history, whose law is that of an opened hub. What it has seen was permitted, has chains alone, and has its
 -- own events.

@@ -3,7 +3,7 @@
 //! What the board has read lies in its table, by position. A put of its own may stand behind steps of others that were
 //! not read yet, so the table has gaps until the next `sync`.
 
-ghost use Rattle.std.specs.Prelude.{◌≡◌, ◌≢◌, ◌<◌, ◌≤◌, ◌⊎◌, ◌+◌, ◌-◌, [], ◌∷◌, ℕ, suc, List, Some, length, drop, slice_get, IfOk, OnOk, MatchResult};
+ghost use Rattle.std.specs.Prelude.{◌≡◌, ◌≢◌, ◌<◌, ◌≤◌, ◌⊎◌, ◌+◌, ◌-◌, [], ◌∷◌, ℕ, suc, false, List, Some, length, drop, slice_get, IfOk, OnOk, MatchResult};
 ghost use Rattle.std.specs.Option.{option_copied};
 ghost use Rattle.cnf_base.specs.Literals.{Literal};
 ghost use Rattle.cnf_base.specs.declared.clause.ClauseId.{ClauseId as Name};
@@ -39,6 +39,8 @@ pub struct HubBoard<'h, 'a, R: Wait> {
     hist: &'h Hist<ChainHub<'a>>,
     pass: Pass<ChainHub<'a>>,
     table: Table,
+    // what `sync` answered last
+    news: Sync,
 }
 
 impl<'h, 'a, R: Wait> Model for HubBoard<'h, 'a, R> {
@@ -46,9 +48,9 @@ impl<'h, 'a, R: Wait> Model for HubBoard<'h, 'a, R> {
 
     ghost Value = { BoardValue };
 
-    ghost view = { λ b. record { hist = b.hist.now; pass = b.pass; table = b.table } };
+    ghost view = { λ b. record { hist = b.hist.now; pass = b.pass; table = b.table; news = b.news } };
 
-    ghost invariant = { λ b. IsBoard (record { hist = b.hist.now; pass = b.pass; table = b.table }) };
+    ghost invariant = { λ b. IsBoard (record { hist = b.hist.now; pass = b.pass; table = b.table; news = b.news }) };
 }
 
 // Files events, in order.
@@ -68,7 +70,7 @@ fn file(table: &mut Table, alloc: Global, events: &Pieces<Event>) -> Result<(), 
 }
 
 impl<'h, 'a, R: Wait> HubBoard<'h, 'a, R> {
-    /// The board over a pass that has read nothing.
+    /// The board over a pass that has read nothing. It has told nothing.
     pub fn new(
         rt: &'h R,
         alloc: Global,
@@ -80,6 +82,7 @@ impl<'h, 'a, R: Wait> HubBoard<'h, 'a, R> {
         requires chains { AddChains pass.seen }
         ensures hist { result.hist ≡ hist.entry.now }
         ensures pass { result.pass ≡ pass.entry }
+        ensures news { result.news ≡ record { upto = 0; found = false } }
     {
         // Tells that the log stands over the terms.
         let _opening = hist.law().log();
@@ -90,6 +93,10 @@ impl<'h, 'a, R: Wait> HubBoard<'h, 'a, R> {
             hist,
             pass,
             table: Table::new(alloc),
+            news: Sync {
+                upto: 0,
+                found: false,
+            },
         }
     }
 
@@ -119,6 +126,7 @@ impl<'h, 'a, R: Wait> HubBoard<'h, 'a, R> {
         requires chains { AddsChains call }
         requires permitted { permitted self.old.hist.law self.old.pass.seen self.old.pass.number call }
         ensures same { (self.new.hist ≡ self.old.hist) × (self.new.table ≡ self.old.table) × IsSamePass self.old.pass self.new.pass × (self.new.pass.got ≡ self.old.pass.got) }
+        ensures news { self.new.news ≡ self.old.news }
         ensures step { MatchResult result
             (λ r. IsStepped self.old.hist.law self.old.pass self.new.pass call r)
             (λ back. (back.kept ≡ call) × (self.new.pass ≡ self.old.pass)) }
@@ -134,6 +142,7 @@ impl<'h, 'a, R: Wait> HubBoard<'h, 'a, R> {
         requires behind { base_of self.old ≤ at }
         requires there { slice_get (chains_of self.old.pass.seen) (at - base_of self.old) ≡ Some step }
         ensures same { (self.new.hist ≡ self.old.hist) × (self.new.pass ≡ self.old.pass) }
+        ensures news { self.new.news ≡ self.old.news }
         ensures kept { (i : ℕ) → IsThere self.old.table.rows.items i → IsThere self.new.table.rows.items i }
         ensures only { (i : ℕ) → IsThere self.new.table.rows.items i → IsThere self.old.table.rows.items i ⊎ (i ≡ at - base_of self.old) }
         ensures there { OnOk result (IsThere self.new.table.rows.items (at - base_of self.old)) }
@@ -150,6 +159,7 @@ impl<'h, 'a, R: Wait> HubBoard<'h, 'a, R> {
         ensures later { IsLater self.old.hist.law.nodes self.new.hist.law.nodes (view_in self.old).log (view_in self.new).log (Knows self.old) (Knows self.new) }
         ensures put { IfOk result (λ p. IsPutAt (view_in self.old).log (step.Chain clause hints) p (view_in self.new).log) }
         ensures known { IfOk result (λ p. KnowsOneMore (Knows self.old) p (Knows self.new)) }
+        ensures news { self.new.news ≡ self.old.news }
     {
         let kept = Entry::Chain(clause.copy(self.alloc)?, hints.copy(self.alloc)?);
         let Ok(reply) = self.step(Call::PutChain(clause, hints)) else {
@@ -163,6 +173,7 @@ impl<'h, 'a, R: Wait> HubBoard<'h, 'a, R> {
     // Reads the events that were not read yet.
     fn pull(&mut self) -> Result<Pieces<Event>, AllocError>
         ensures same { (self.new.hist ≡ self.old.hist) × (self.new.table ≡ self.old.table) × IsSamePass self.old.pass self.new.pass × (self.new.pass.mine ≡ self.old.pass.mine) }
+        ensures news { self.new.news ≡ self.old.news }
         ensures read { MatchResult result
             (λ events. StartsWith self.new.pass.seen self.old.pass.seen × (events ≡ drop self.old.pass.got self.new.pass.seen) × (self.new.pass.got ≡ length self.new.pass.seen))
             (λ _. self.new.pass ≡ self.old.pass) }
@@ -180,6 +191,7 @@ impl<'h, 'a, R: Wait> HubBoard<'h, 'a, R> {
     fn file(&mut self, events: &Pieces<Event>) -> Result<(), AllocError>
         requires { events.now ≡ drop self.old.table.filed self.old.pass.seen }
         ensures same { (self.new.hist ≡ self.old.hist) × (self.new.pass ≡ self.old.pass) }
+        ensures news { self.new.news ≡ self.old.news }
         ensures kept { (i : ℕ) → IsThere self.old.table.rows.items i → IsThere self.new.table.rows.items i }
         ensures all { OnOk result (self.new.table.filed ≡ length self.new.pass.seen) }
         ensures board { IsBoard self.new }
@@ -188,7 +200,7 @@ impl<'h, 'a, R: Wait> HubBoard<'h, 'a, R> {
     }
 
     // What is filed.
-    fn told(&self) -> Result<Sync, AllocError>
+    fn filed(&self) -> Result<Sync, AllocError>
         ensures { IfOk result (λ s. (s.upto ≡ base_of self.now + self.now.table.next) × (s.found ≡ self.now.table.found)) }
     {
         match self.hist.law().log().len().checked_add(self.table.next) {
@@ -200,7 +212,15 @@ impl<'h, 'a, R: Wait> HubBoard<'h, 'a, R> {
         }
     }
 
-    /// Sees and reads what was put.
+    // Keeps what is told.
+    fn tell(&mut self, news: Sync)
+        ensures same { self.new ≡ record self.old { news = news } }
+        ensures board { IsBoard self.new }
+    {
+        self.news = news;
+    }
+
+    /// Sees and reads what was put, and tells it. For want of memory nothing is told.
     pub fn read_news(&mut self) -> Result<Sync, AllocError>
         ensures moved { IsMoved (footing_of self.old) self.new }
         ensures later { IsLater self.old.hist.law.nodes self.new.hist.law.nodes (view_in self.old).log (view_in self.new).log (Knows self.old) (Knows self.new) }
@@ -208,6 +228,7 @@ impl<'h, 'a, R: Wait> HubBoard<'h, 'a, R> {
         ensures known { IfOk result (λ s. (p : ℕ) → p < s.upto → Knows self.new p) }
         ensures only { IfOk result (λ s. (p : ℕ) → Knows self.new p → p < s.upto) }
         ensures found { IfOk result (λ s. s.found ≡ (view_in self.new).found) }
+        ensures news { MatchResult result (λ s. self.new.news ≡ s) (λ e. self.new.news ≡ self.old.news) }
 
         // All was read that was seen.
         ensures got { OnOk result (self.new.pass.got ≡ length self.new.pass.seen) }
@@ -217,7 +238,9 @@ impl<'h, 'a, R: Wait> HubBoard<'h, 'a, R> {
         }
         let events = self.pull()?;
         self.file(&events)?;
-        self.told()
+        let news = self.filed()?;
+        self.tell(news);
+        Ok(news)
     }
 
     // The step behind the opening log at a position, if it can be read.
@@ -259,6 +282,8 @@ impl<'h, 'a, R: Wait> Board for HubBoard<'h, 'a, R> {
     ghost knows = { Knows };
 
     ghost found = { λ b. (view_in b).found };
+
+    ghost told = { λ b. b.news };
 
     fn put(&mut self, entry: Entry) -> Result<Pos, AllocError> {
         match entry {

@@ -18,6 +18,7 @@ impl<'h, 'a, R: Wait> HubBoard<'h, 'a, R> {
         requires idle { IsIdle self.old }
         ensures on { IsOn self.old self.new }
         ensures told { IsToldMore self.old self.new call.Claim }
+        ensures news { self.new.news ≡ self.old.news }
         ensures claimed { IfOk result (λ o. MatchOption o
             (IsIdle self.new × (has_next self.new.hist.law (view_in self.new) ≡ false))
             (λ c. (c < length self.new.hist.law.cubes) × IsBusy self.new c)) }
@@ -37,6 +38,7 @@ impl<'h, 'a, R: Wait> HubBoard<'h, 'a, R> {
         requires closed { IsClosedAt self.old.hist.law (view_in self.old).log cube at }
         ensures on { IsOn self.old self.new }
         ensures told { IsToldMore self.old self.new (call.Close cube at) }
+        ensures news { self.new.news ≡ self.old.news }
         ensures idle { OnOk result (IsIdle self.new) }
     {
         let Ok(_) = self.step(Call::Close(cube, at)) else {
@@ -50,6 +52,7 @@ impl<'h, 'a, R: Wait> HubBoard<'h, 'a, R> {
         requires busy { IsBusy self.old cube }
         ensures on { IsOn self.old self.new }
         ensures told { IsToldMore self.old self.new (call.Spend cube) }
+        ensures news { self.new.news ≡ self.old.news }
         ensures idle { OnOk result (IsIdle self.new) }
     {
         let Ok(_) = self.step(Call::Spend(cube)) else {
@@ -63,6 +66,7 @@ impl<'h, 'a, R: Wait> HubBoard<'h, 'a, R> {
         requires busy { IsBusy self.old cube }
         ensures on { IsOn self.old self.new }
         ensures told { IsToldMore self.old self.new (call.Found cube) }
+        ensures news { self.new.news ≡ self.old.news }
         ensures found { OnOk result ((view_in self.new).found ≡ true) }
     {
         let Ok(_) = self.step(Call::Found(cube)) else {

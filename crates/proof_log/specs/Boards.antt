@@ -6,6 +6,7 @@ use Rattle.cnf_base.specs.declared.clause.ClauseId.{ClauseId}
 use Rattle.smt_terms.specs.declared.node.Node.{Node}
 use Rattle.smt_terms.specs.Terms.{TermsValue}
 use Rattle.smt_terms.specs.Bits.{TermBits, bits_in}
+use Rattle.proof_log.specs.declared.board.Sync.{Sync}
 use Rattle.proof_log.specs.declared.entry.Entry.{Entry}
 use Rattle.proof_log.specs.declared.entry.Role.TheVariants as role
 use Rattle.proof_log.specs.Roles.{role_of}
@@ -58,7 +59,8 @@ IsEntryOf log knows at (Some e) = entry_at log at ≡ Some e
 abbrev pub AreBitsIn : List Node → List Entry → List TermBits → Type 0
 AreBitsIn nodes log bits = (t : ℕ) → bits_in bits t ≡ (state_of nodes log).bits t
 
--- a log alone, over its terms
+-- a log alone, over its terms, and what was told of it last
 pub record LogBoardValue : Type 0 where
   pub terms : TermsValue
   pub log : LogValue
+  pub told : Sync

@@ -2,13 +2,15 @@
 //!
 //! A board has seen a log, over terms that stay, and can show what stands at the positions that are known. It sees more of
 //! the log at each call, where others put clauses on the same log. What it has seen stays, and what is known stays known.
+//! What it told a search of others is what `sync` answered last: no other call changes that.
 //!
 //! Of the steps of a log a search puts chains alone. A board that takes equalities and lemmas too is a `LemmaBoard`
 //! (`lemma_board`).
 
-ghost use Rattle.std.specs.Prelude.{◌≡◌, ◌<◌, ℕ, Bool, suc, List, length, IfOk};
+ghost use Rattle.std.specs.Prelude.{◌≡◌, ◌<◌, ℕ, Bool, suc, false, List, length, IfOk, MatchResult};
 ghost use Rattle.std.specs.Option.{option_copied};
 ghost use Rattle.smt_terms.specs.declared.node.Node.{Node};
+ghost use Rattle.proof_log.specs.declared.board.Sync.{Sync as Told};
 ghost use Rattle.proof_log.specs.declared.entry.Entry.{Entry};
 ghost use Rattle.proof_log.specs.Logs.{state_of, IsStep, IsLog};
 ghost use Rattle.proof_log.specs.Stored.{Stands};
@@ -45,21 +47,26 @@ pub trait Board {
     /// The board has seen that a model was found.
     ghost found: { Self → Bool };
 
-    /// Puts a step that is valid; gives its position.
+    /// What `sync` answered last.
+    ghost told: { Self → Told };
+
+    /// Puts a step that is valid; gives its position. What was told stays.
     fn put(&mut self, entry: Entry) -> Result<Pos, AllocError>
         requires kind { IsOfSearch entry }
         requires valid { IsStep (nodes self.old) (state_of (nodes self.old) (log self.old)) entry }
         ensures later { IsLater (nodes self.old) (nodes self.new) (log self.old) (log self.new) (knows self.old) (knows self.new) }
         ensures put { IfOk result (λ p. IsPutAt (log self.old) entry p (log self.new)) }
-        ensures known { IfOk result (λ p. KnowsOneMore (knows self.old) p (knows self.new)) };
+        ensures known { IfOk result (λ p. KnowsOneMore (knows self.old) p (knows self.new)) }
+        ensures told { told self.new ≡ told self.old };
 
-    /// Sees and reads what others put.
+    /// Sees and reads what others put, and tells it. For want of memory nothing is told.
     fn sync(&mut self) -> Result<Sync, AllocError>
         ensures later { IsLater (nodes self.old) (nodes self.new) (log self.old) (log self.new) (knows self.old) (knows self.new) }
         ensures upto { IfOk result (λ s. s.upto ≡ suc (length (log self.new))) }
         ensures known { IfOk result (λ s. (p : ℕ) → p < s.upto → knows self.new p) }
         ensures only { IfOk result (λ s. (p : ℕ) → knows self.new p → p < s.upto) }
-        ensures found { IfOk result (λ s. s.found ≡ found self.new) };
+        ensures found { IfOk result (λ s. s.found ≡ found self.new) }
+        ensures told { MatchResult result (λ s. told self.new ≡ s) (λ e. told self.new ≡ told self.old) };
 
     /// The clause of a name, where its position is known; takes no memory.
     fn clause(&self, id: ClauseId) -> Option<&Clause>
@@ -81,6 +88,8 @@ pub struct LogBoard<'a> {
     pub(crate) alloc: Global,
     pub(crate) log: Log,
     pub(crate) terms: &'a Terms,
+    // what `sync` answered last
+    pub(crate) told: Sync,
 }
 
 impl<'a> Model for LogBoard<'a> {
@@ -89,19 +98,29 @@ impl<'a> Model for LogBoard<'a> {
 
     ghost Value = { LogBoardValue };
 
-    ghost view = { λ b. record { terms = b.terms.now; log = b.log } };
+    ghost view = { λ b. record { terms = b.terms.now; log = b.log; told = b.told } };
 
     ghost invariant = { λ b. Stands b.terms.now.nodes b.log };
 }
 
 impl<'a> LogBoard<'a> {
-    /// The board of a log that stands over these terms.
+    /// The board of a log that stands over these terms, which has told nothing.
     pub fn new(alloc: Global, log: Log, terms: &'a Terms) -> LogBoard<'a>
         requires { Stands terms.now.nodes log }
         ensures terms { result.terms ≡ terms.now }
         ensures log { result.log ≡ log }
+        ensures told { result.told ≡ record { upto = 0; found = false } }
     {
-        LogBoard { alloc, log, terms }
+        let told = Sync {
+            upto: 0,
+            found: false,
+        };
+        LogBoard {
+            alloc,
+            log,
+            terms,
+            told,
+        }
     }
 
     /// The log with what was put.
@@ -124,15 +143,18 @@ impl<'a> Board for LogBoard<'a> {
 
     ghost found = { λ b. false };
 
+    ghost told = { λ b. b.told };
+
     fn put(&mut self, entry: Entry) -> Result<Pos, AllocError> {
         self.log.push(self.alloc, self.terms, entry)
     }
 
     fn sync(&mut self) -> Result<Sync, AllocError> {
-        Ok(Sync {
+        self.told = Sync {
             upto: self.log.len(),
             found: false,
-        })
+        };
+        Ok(self.told)
     }
 
     fn clause(&self, id: ClauseId) -> Option<&Clause> {

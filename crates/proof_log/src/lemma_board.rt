@@ -27,14 +27,16 @@ pub trait LemmaBoard: Board {
         requires pair { IsPair (Self.nodes self.old) (state_of (Self.nodes self.old) (Self.log self.old)) lower upper }
         ensures later { IsLaterByMore (Self.nodes self.old) (Self.nodes self.new) (Self.log self.old) (Self.log self.new) (Self.knows self.old) (Self.knows self.new) }
         ensures defined { IfOk result (λ p. entry_at (Self.log self.new) p ≡ Some (step.Equal lower upper)) }
-        ensures known { IfOk result (λ p. Self.knows self.new p) };
+        ensures known { IfOk result (λ p. Self.knows self.new p) }
+        ensures told { Self.told self.new ≡ Self.told self.old };
 
     /// Puts the clause of a lemma; gives its position.
     fn put_lemma(&mut self, lemma: Lemma) -> Result<Pos, AllocError>
         requires valid { IsLemma (Self.nodes self.old) (state_of (Self.nodes self.old) (Self.log self.old)) lemma }
         ensures later { IsLaterByMore (Self.nodes self.old) (Self.nodes self.new) (Self.log self.old) (Self.log self.new) (Self.knows self.old) (Self.knows self.new) }
         ensures put { IfOk result (λ p. IsPutAt (Self.log self.old) (step.Lemma lemma) p (Self.log self.new)) }
-        ensures known { IfOk result (λ p. Self.knows self.new p) };
+        ensures known { IfOk result (λ p. Self.knows self.new p) }
+        ensures told { Self.told self.new ≡ Self.told self.old };
 
     /// The variables of equalities, as far as their steps are known; takes no memory.
     fn equals(&self) -> &Equals

@@ -45,6 +45,8 @@ impl<'a> Board for FirstPut<'a> {
 
     ghost found = { λ b. false };
 
+    ghost told = { λ b. b.told };
+
     fn put(&mut self, entry: Entry) -> Result<Pos, AllocError> {
         self.board.put(entry)
     }

@@ -4,7 +4,7 @@ use Rattle.std.proofs.lemmas.Option.{MatchOption-at_some}
 use Rattle.proof_log.proofs.Growth.{later_then}
 use Rattle.cdcl_loop.proofs.Assuming.{none_of}
 use Rattle.cube_search.specs.Running.{valuation_of}
-use Rattle.cube_search.proofs.Steps.{same_given, told_still, run_end}
+use Rattle.cube_search.proofs.Steps.{same_given, told_still, looked_now, looked_before, run_end}
 use Rattle.cube_search.proofs.search.Search.run.Goals as goal
 
 pub steps-init : goal.steps-init
@@ -16,6 +16,7 @@ steps-init g c = record {
   given = same_given c.begin.new.self c.take_news.new.self c.in_ok-take_news.ensures.run ∙ c.in_ok-begin.ensures.given;
   later = c.in_ok-take_news.ensures.later;
   running = c.in_ok-take_news.ensures.running;
+  told = c.in_ok-take_news.ensures.told;
   upto = λ separate. MatchBool-at_false _ _ c.if-branch.false c.in_ok-take_news.ensures.news (c.in_ok-begin.ensures.writing (g.B.Board.nodes c.args.board.now) (g.B.Board.log c.args.board.now) c.requires.search separate);
 }
 
@@ -42,9 +43,18 @@ returns-in-Some-clause-search g c = (
       (c.in_ok-end.ensures.run.opening ∙ c.steps.invariant.opening) (c.in_ok-end.ensures.run.ends ∙ c.steps.invariant.ends) (c.in_ok-end.ensures.run.listed ∙ c.steps.invariant.listed) c.requires.search,
 )
 
+pub returns-then-branch-clause-looked : goal.returns-then-branch-clause-looked
+returns-then-branch-clause-looked g c =
+    looked_before c.take_news.new.self (g.B.Board.log c.args.board.now) (g.B.Board.log c.take_news.new.board) (g.B.Board.told c.take_news.new.board) c.in_ok-take_news.ensures.later.grows
+    (looked_now c.take_news.new.self (g.B.Board.nodes c.take_news.new.board) (g.B.Board.log c.take_news.new.board) (g.B.Board.told c.take_news.new.board) c.in_ok-take_news.ensures.told c.in_ok-take_news.ensures.running)
+
+pub returns-in-Some-clause-looked : goal.returns-in-Some-clause-looked
+returns-in-Some-clause-looked g c =
+    looked_before c.step.new.self (g.B.Board.log c.args.board.now) (g.B.Board.log c.steps.board) (g.B.Board.told c.step.new.board) c.steps.invariant.later.grows c.in_ok-end.ensures.looked
+
 pub returns-in-Some-clause-end : goal.returns-in-Some-clause-end
 returns-in-Some-clause-end g c =
-    run_end _ _ c.steps.self (g.B.Board.nodes c.step.new.board) (g.B.Board.log c.step.new.board) (g.B.Board.knows c.step.new.board) (g.B.Board.found c.step.new.board) (valuation_of c.step.new.self) c.args.given.now c.args.self.now.from c.args.self.now.opening.items c.args.cube c.args.budget c.in-Some.end
+    run_end _ _ c.steps.self (g.B.Board.nodes c.step.new.board) (g.B.Board.log c.step.new.board) (g.B.Board.knows c.step.new.board) (g.B.Board.found c.step.new.board) (g.B.Board.told c.step.new.board) (valuation_of c.step.new.self) c.args.given.now c.args.self.now.from c.args.self.now.opening.items c.args.cube c.args.budget c.in-Some.end
     c.steps.invariant.upto c.steps.invariant.given c.steps.invariant.from (ap (λ v. v.items) c.steps.invariant.opening)
     (MatchOption-at_some _ _ c.in-Some.end c.in-Some.is c.in_ok-end.ensures.end)
 
@@ -57,6 +67,7 @@ steps-preserved g c = record {
   given = same_given c.steps.self c.step.new.self c.in_ok-end.ensures.run ∙ c.steps.invariant.given;
   later = later_then (g.B.Board.nodes c.args.board.now) (g.B.Board.nodes c.steps.board) (g.B.Board.nodes c.step.new.board) (g.B.Board.log c.args.board.now) (g.B.Board.log c.steps.board) (g.B.Board.log c.step.new.board) (g.B.Board.knows c.args.board.now) (g.B.Board.knows c.steps.board) (g.B.Board.knows c.step.new.board) c.steps.invariant.later c.step.ensures.later;
   running = c.in_ok-end.ensures.running;
+  told = none_of _ c.in_ok-end.field-0 c.in_default.not-Some c.in_ok-end.ensures.told;
   upto = λ separate. none_of _ c.in_ok-end.field-0 c.in_default.not-Some c.in_ok-end.ensures.end (c.steps.invariant.upto separate);
 }
 

@@ -2,7 +2,7 @@ use Rattle.std.proofs.Common.{◌≡◌}
 use Rattle.proof_log.specs.Logs.{state_of}
 use Rattle.proof_log.specs.Boards.{IsLater}
 use Rattle.cube_search.specs.Holding.{AreSeparate}
-use Rattle.cube_search.specs.Running.{variables_in, given_in, IsRunning, IsUpToDate}
+use Rattle.cube_search.specs.Running.{variables_in, given_in, IsRunning, IsUpToDate, IsCaughtUp}
 use Rattle.cube_search.proofs.search.Search.run.Given as goal
 
 abbrev pub invariant-steps : goal.invariant-steps
@@ -14,5 +14,6 @@ invariant-steps g l = record {
   given : given_in l.self ≡ l.given;
   later : IsLater (g.B.Board.nodes l.fn.board) (g.B.Board.nodes l.board) (g.B.Board.log l.fn.board) (g.B.Board.log l.board) (g.B.Board.knows l.fn.board) (g.B.Board.knows l.board);
   running : IsRunning l.self (g.B.Board.nodes l.board) (g.B.Board.log l.board);
+  told : IsCaughtUp (g.B.Board.told l.board) (g.B.Board.log l.board);
   upto : AreSeparate (state_of (g.B.Board.nodes l.fn.board) (g.B.Board.log l.fn.board)).clauses (g.B.Board.log l.fn.board) l.fn.self.opening.items l.fn.self.from → IsUpToDate l.self (g.B.Board.nodes l.board) (g.B.Board.log l.board) (g.B.Board.knows l.board);
 }

@@ -1,4 +1,5 @@
-use Rattle.std.proofs.Common.{◌≡◌, ◌++◌, ◌∷◌, [], None, sym, ap, subst, arith}
+use Rattle.std.proofs.Common.{◌≡◌, ◌++◌, ◌∷◌, [], None, refl, sym, ap, ◌∙◌, subst, arith}
+use Rattle.proof_log.specs.declared.board.Sync.{Sync}
 use Rattle.proof_log.specs.declared.diary.DiaryLine.TheVariants.{Put}
 use Rattle.std.proofs.lemmas.Bool.{MatchBool-at_false}
 use Rattle.proof_log.proofs.Growth.{later_then}
@@ -10,7 +11,7 @@ use Rattle.cube_search.specs.Running.{variables_in}
 use Rattle.cdcl_loop.proofs.Courses.{decides_given}
 use Rattle.cdcl_loop.proofs.Trails.{levels_below}
 use Rattle.cube_search.proofs.Later.{put_is_fresh}
-use Rattle.cube_search.proofs.Steps.{running_later, spent_diary, learnt_running, conflict_course, conflict_running, conflict_writing}
+use Rattle.cube_search.proofs.Steps.{running_later, looked_now, looked_still, looked_before, spent_diary, learnt_running, conflict_course, conflict_running, conflict_writing}
 use Rattle.cube_search.proofs.search.Search.settle.Goals as goal
 
 pub close-requires-clause-given : goal.close-requires-clause-given
@@ -26,12 +27,34 @@ returns-then-self-budget-clause-running g c =
     learnt_running c.args.self.now c.learn.new.self c.learn.new.self c.in_ok-clause.ensures.same (g.B.Board.nodes c.learn.new.board) (g.B.Board.log c.learn.new.board)
     (running_later c.args.self.now (g.B.Board.nodes c.args.board.now) (g.B.Board.nodes c.learn.new.board) (g.B.Board.log c.args.board.now) (g.B.Board.log c.learn.new.board) (g.B.Board.knows c.args.board.now) (g.B.Board.knows c.learn.new.board) c.in_ok-clause.ensures.later c.requires.running)
 
+pub returns-then-level-base-clause-looked : goal.returns-then-level-base-clause-looked
+returns-then-level-base-clause-looked g c =
+    looked_still c.args.self.now c.args.self.now (g.B.Board.log c.args.board.now) (g.B.Board.told c.args.board.now) (g.B.Board.told c.close.new.board) c.in_ok-close.ensures.told refl
+    (looked_now c.args.self.now (g.B.Board.nodes c.args.board.now) (g.B.Board.log c.args.board.now) (g.B.Board.told c.args.board.now) c.requires.told c.requires.running)
+
+pub returns-then-self-budget-clause-looked : goal.returns-then-self-budget-clause-looked
+returns-then-self-budget-clause-looked g c =
+    looked_still c.args.self.now c.learn.new.self (g.B.Board.log c.args.board.now) (g.B.Board.told c.args.board.now) (g.B.Board.told c.learn.new.board) c.in_ok-clause.ensures.told (ap (λ (x : Search). x.taken) c.in_ok-clause.ensures.same)
+    (looked_now c.args.self.now (g.B.Board.nodes c.args.board.now) (g.B.Board.log c.args.board.now) (g.B.Board.told c.args.board.now) c.requires.told c.requires.running)
+
+pub returns-then-branch-clause-looked : goal.returns-then-branch-clause-looked
+returns-then-branch-clause-looked g c =
+    looked_before c.take_news.new.self (g.B.Board.log c.args.board.now) (g.B.Board.log c.take_news.new.board) (g.B.Board.told c.take_news.new.board)
+    (later_then (g.B.Board.nodes c.args.board.now) (g.B.Board.nodes c.learn.new.board) (g.B.Board.nodes c.take_news.new.board) (g.B.Board.log c.args.board.now) (g.B.Board.log c.learn.new.board) (g.B.Board.log c.take_news.new.board) (g.B.Board.knows c.args.board.now) (g.B.Board.knows c.learn.new.board) (g.B.Board.knows c.take_news.new.board) c.in_ok-clause.ensures.later c.take_news.ensures.later).grows
+    (looked_now c.take_news.new.self (g.B.Board.nodes c.take_news.new.board) (g.B.Board.log c.take_news.new.board) (g.B.Board.told c.take_news.new.board) c.in_ok-take_news.ensures.told c.in_ok-take_news.ensures.running)
+
+pub returns-clause-looked : goal.returns-clause-looked
+returns-clause-looked g c =
+    looked_before c.take_news.new.self (g.B.Board.log c.args.board.now) (g.B.Board.log c.take_news.new.board) (g.B.Board.told c.take_news.new.board)
+    (later_then (g.B.Board.nodes c.args.board.now) (g.B.Board.nodes c.learn.new.board) (g.B.Board.nodes c.take_news.new.board) (g.B.Board.log c.args.board.now) (g.B.Board.log c.learn.new.board) (g.B.Board.log c.take_news.new.board) (g.B.Board.knows c.args.board.now) (g.B.Board.knows c.learn.new.board) (g.B.Board.knows c.take_news.new.board) c.in_ok-clause.ensures.later c.take_news.ensures.later).grows
+    (looked_now c.take_news.new.self (g.B.Board.nodes c.take_news.new.board) (g.B.Board.log c.take_news.new.board) (g.B.Board.told c.take_news.new.board) c.in_ok-take_news.ensures.told c.in_ok-take_news.ensures.running)
+
 pub returns-then-self-budget-clause-end : goal.returns-then-self-budget-clause-end
 returns-then-self-budget-clause-end g c = (
   c.in_ok-finish.ensures.cube,
   (λ h.
       spent_diary c.args.self.now c.args.self.now (g.B.Board.nodes c.args.board.now) (g.B.Board.nodes c.learn.new.board) (g.B.Board.log c.args.board.now) (g.B.Board.log c.learn.new.board) (g.B.Board.knows c.args.board.now) (g.B.Board.knows c.learn.new.board) c.in_ok-clause.ensures.later c.in_ok-clause.clause c.in_ok-clause.level c.in_ok-clause.at c.requires.running (omega (arith, c.requires.running.2.0.lower)) c.in_ok-clause.ensures.learnt
-      c.in_ok-finish.field-0 c.args.budget c.in_ok-clause.ensures.known
+      c.in_ok-finish.field-0 c.args.budget (g.B.Board.told c.learn.new.board) (ap (λ (t : Sync). t.upto) c.in_ok-clause.ensures.told ∙ c.requires.told) c.in_ok-clause.ensures.known
       (subst (λ (x : Search). x.diary.puts ≡ c.args.budget) c.in_ok-clause.ensures.same c.if-self-budget.true)
       (subst (λ (x : Search). c.in_ok-finish.field-0.start ≡ x.diary.start) c.in_ok-clause.ensures.same c.in_ok-finish.ensures.start)
       (subst (λ (x : Search). c.in_ok-finish.field-0.lines ≡ x.diary.lines.items ++ Put c.in_ok-clause.at ∷ []) c.in_ok-clause.ensures.same c.in_ok-finish.ensures.lines)

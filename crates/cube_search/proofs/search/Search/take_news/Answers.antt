@@ -1,5 +1,6 @@
-use Rattle.std.proofs.Common.{ℕ, ◌≡◌, ◌<◌, ◌≤◌, true, ⊎_elim, refl, sym, ◌∙◌, subst, arith}
+use Rattle.std.proofs.Common.{ℕ, ◌≡◌, ◌<◌, ◌≤◌, true, ⊎_elim, refl, sym, ap, ◌∙◌, subst, arith}
 use Rattle.std.proofs.lemmas.Bool.{cases_lt}
+use Rattle.proof_log.specs.declared.board.Sync.{Sync}
 use Rattle.proof_log.specs.Logs.{entry_at}
 use Rattle.proof_log.specs.Diaries.{is_chain}
 use Rattle.cube_search.specs.Keeping.{HasLine}
@@ -9,6 +10,12 @@ use Rattle.cube_search.proofs.search.Search.take_news.Goals as goal
 
 pub returns-then-news-clause-running : goal.returns-then-news-clause-running
 returns-then-news-clause-running g c = running_later c.args.self.now (g.B.Board.nodes c.args.board.now) (g.B.Board.nodes c.sync.new.self) (g.B.Board.log c.args.board.now) (g.B.Board.log c.sync.new.self) (g.B.Board.knows c.args.board.now) (g.B.Board.knows c.sync.new.self) c.in_ok-news.ensures.later c.requires.running
+
+pub returns-then-news-clause-told : goal.returns-then-news-clause-told
+returns-then-news-clause-told g c = ap (λ (t : Sync). t.upto) c.in_ok-news.ensures.told ∙ c.in_ok-news.ensures.upto
+
+pub returns-clause-told : goal.returns-clause-told
+returns-clause-told g c = ap (λ (t : Sync). t.upto) c.in_ok-news.ensures.told ∙ c.in_ok-news.ensures.upto
 
 pub news-init : goal.news-init
 news-init g c =

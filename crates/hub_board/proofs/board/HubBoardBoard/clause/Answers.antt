@@ -8,7 +8,7 @@ use Rattle.hub_board.proofs.board.HubBoardBoard.clause.Goals as goal
 
 pub returns-then-id-len : goal.returns-then-id-len
 returns-then-id-len g c =
-    let b : BoardValue = record { hist = c.self.inside.hist.now; pass = c.self.inside.pass; table = c.self.inside.table } in
+    let b : BoardValue = record { hist = c.self.inside.hist.now; pass = c.self.inside.pass; table = c.self.inside.table; news = c.self.inside.news } in
     let log = c.log-log.ensures.log ∙ ap (λ l. l.log) c.law.ensures in
     subst (λ (v : BoardValue). IsClauseOf v.hist.law.nodes (view_in v).log (Knows v) c.args.id (option_copied c.clause.result)) c.self.view_is
     (shown_old_clause b c.args.id (option_copied c.clause.result) c.self.invariant

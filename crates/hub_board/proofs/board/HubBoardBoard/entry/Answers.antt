@@ -8,7 +8,7 @@ use Rattle.hub_board.proofs.board.HubBoardBoard.entry.Goals as goal
 
 pub returns-then-at-len : goal.returns-then-at-len
 returns-then-at-len g c =
-    let b : BoardValue = record { hist = c.self.inside.hist.now; pass = c.self.inside.pass; table = c.self.inside.table } in
+    let b : BoardValue = record { hist = c.self.inside.hist.now; pass = c.self.inside.pass; table = c.self.inside.table; news = c.self.inside.news } in
     let log = c.log-log.ensures.log ∙ ap (λ l. l.log) c.law.ensures in
     subst (λ (v : BoardValue). IsEntryOf (view_in v).log (Knows v) c.args.at (option_copied c.entry.result)) c.self.view_is
     (shown_old_entry b c.args.at (option_copied c.entry.result) c.self.invariant

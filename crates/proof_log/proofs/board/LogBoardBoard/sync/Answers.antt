@@ -6,6 +6,6 @@ use Rattle.proof_log.proofs.board.LogBoardBoard.sync.Goals as goal
 pub returns-clause-later : goal.returns-clause-later
 returns-clause-later c =
     subst
-    (λ (v : LogBoardValue). IsLater v.terms.nodes v.terms.nodes v.log.entries v.log.entries (λ p. p < suc (length v.log.entries)) (λ p. p < suc (length v.log.entries)))
+    (λ (v : LogBoardValue). IsLater v.terms.nodes c.self.inside.terms.now.nodes v.log.entries c.self.inside.log.entries (λ p. p < suc (length v.log.entries)) (λ p. p < suc (length c.self.inside.log.entries)))
     c.self.view_is
     (board_same c.self.inside.terms.now.nodes c.self.inside.log c.self.invariant)
