@@ -1,6 +1,6 @@
 // A source and a sink in memory, which fail at chosen calls.
 
-ghost use Rattle.std.specs.Prelude.{◌≡◌, ◌<◌, ◌≤◌, ◌⊎◌, true, false, [], min, length, take, drop, IfOk, OnErr};
+ghost use Rattle.std.specs.Prelude.{◌≡◌, ◌<◌, ◌≤◌, true, false, [], min, length, take, drop, IfOk, OnErr, MatchBool};
 ghost use Rattle.std.specs.Io.{ReadsAtMost};
 ghost use Rattle.std.specs.Io.KnownBytes.{ReadConsumes, WriteAppends};
 ghost use Rattle.smt_desk.specs.Faults.{HasCause};
@@ -88,7 +88,8 @@ impl<'a> Source for MemSource<'a> {
     }
 }
 
-/// Bytes taken in pieces and kept in memory, with failures at chosen calls.
+/// Bytes taken in pieces and kept in memory, with failures at chosen calls. Where memory is wanting a call fails too, and that is
+/// counted apart: so a failure is told by `refused`.
 #[derive(Drop)]
 pub struct MemSink<'a> {
     written: Vec<u8>,
@@ -131,6 +132,13 @@ impl<'a> MemSink<'a> {
         self.written.as_slice()
     }
 
+    /// How often a call failed for want of memory; all other failures are of calls that were listed.
+    pub fn refused(&self) -> u64
+        ensures { result ≡ self.now.refused }
+    {
+        self.refused
+    }
+
     /// The bytes that were written, given away.
     pub fn into_bytes(self) -> Vec<u8>
         ensures { result.items ≡ self.entry.written }
@@ -155,10 +163,10 @@ impl<'a> Sink for MemSink<'a> {
         ensures ok { IfOk result (λ n. (fails self.old.failing self.old.calls ≡ false)
             × (n ≡ min self.old.piece (length piece.now))
             × (self.new ≡ after_write self.old n piece.now)) }
-        // Want of memory is the one failure that no list names.
-        ensures err { OnErr result (
-            ((fails self.old.failing self.old.calls ≡ true) × (self.new ≡ after_write self.old 0 piece.now))
-            ⊎ (self.new ≡ after_refusal self.old)) }
+        // A call that is not listed fails for want of memory alone, and that is counted.
+        ensures err { OnErr result (MatchBool (fails self.old.failing self.old.calls)
+            (self.new ≡ after_write self.old 0 piece.now)
+            (self.new ≡ after_refusal self.old)) }
     {
         let failing = fails(self.failing, self.calls);
         self.calls = self.calls.saturating_add(1);
