@@ -17,8 +17,7 @@ use Rattle.proof_log.specs.declared.diary.Diary.{Diary}
 use Rattle.proof_log.specs.Diaries.{IsSpent}
 use Rattle.accepted_proof.specs.Searching.{Limits, subject_of}
 use Rattle.accepted_proof.specs.Models.{interpretation_of, IsModel, IsOfSignature}
-use Rattle.accepted_proof.specs.Turns.{IsShown, with_step, with_steps, verdict_of}
-use Rattle.accepted_proof.specs.Answers.{step_lines}
+use Rattle.accepted_proof.specs.Turns.{IsShown, with_step, with_steps, verdict_of, step_lines}
 use Rattle.accepted_proof.specs.Judged.{Owed, Nothing, Steps, Values, Noted, Over, Judging, is_idle, ending, StepsBy, Goes, Opens, AtStep, Notes, AtDiary, MovesBy, Judged}
 use Rattle.std.proofs.lemmas.List.Elements.{All-cons, All-nil}
 use Rattle.smt_text.specs.declared.chunk.Chunk.{Chunk}

@@ -40,8 +40,7 @@ use Rattle.proof_log.specs.Diaries as diaries
 use Rattle.script_state.specs.declared.answer.Verdict.TheVariants as verdict
 use Rattle.accepted_proof.specs.Searching.{Limits, IsSearch, IsUnknown, subject_of}
 use Rattle.accepted_proof.specs.Models.{interpretation_of, IsModel, IsOfSignature, IsWrittenModel}
-use Rattle.accepted_proof.specs.Turns.{Turn, AreTurns, AreStepsOf, IsShown, IsAgainstOne, IsRefutation, HasProof, with_step, with_steps, verdict_of, concluded_by, state_after}
-use Rattle.accepted_proof.specs.Answers.{shown_lines, step_lines, turn_lines}
+use Rattle.accepted_proof.specs.Turns.{Turn, AreTurns, AreStepsOf, IsShown, IsAgainstOne, IsRefutation, HasProof, with_step, with_steps, verdict_of, concluded_by, state_after, shown_lines, step_lines, turn_lines}
 use Rattle.accepted_proof.specs.Accepted.{EndLast}
 use Rattle.accepted_proof.proofs.Settling.{settled_by}
 use Rattle.accepted_proof.specs.Judged.{Owed, Nothing, Steps, Values, Noted, Judging, stepped, valued, noted, closed, owed_by, commanded, is_idle, reach, ending, IsStepOf, StepsBy, Goes, AtStep, IsValueOf, Notes, AtDiary, Moves, Judged}

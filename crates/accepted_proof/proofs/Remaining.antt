@@ -12,6 +12,8 @@ use Rattle.script_state.specs.declared.answer.Answer.TheVariants as answer
 use Rattle.script_state.specs.States.{StateValue, concluded}
 use Rattle.script_state.specs.Steps.{step, settled, ends}
 use Rattle.proof_log.specs.declared.entry.Entry.{Entry}
+use Rattle.cnf_base.proofs.Lists.{each_front, each_behind}
+use Rattle.proof_text.specs.Lines.{IsLine}
 use Rattle.proof_text.specs.declared.line.Line.{Line}
 use Rattle.proof_text.specs.declared.record.Record.{Record}
 use Rattle.proof_text.specs.declared.record.Record.TheVariants as shown
@@ -21,18 +23,38 @@ use Rattle.proof_log.specs.Diaries.{IsSpent}
 use Rattle.script_state.specs.declared.answer.Verdict.TheVariants as verdict
 use Rattle.accepted_proof.specs.Searching.{Limits, subject_of}
 use Rattle.accepted_proof.specs.Models.{interpretation_of, IsModel, IsOfSignature}
-use Rattle.accepted_proof.specs.Turns.{Turn, AreTurns, AreStepsOf, IsShown, HasProof, with_steps, verdict_of}
-use Rattle.accepted_proof.specs.Answers.{step_lines, turn_lines}
+use Rattle.accepted_proof.specs.Turns.{Turn, AreTurns, AreStepsOf, IsShown, HasProof, with_steps, verdict_of, state_after, step_lines, turn_lines}
 use Rattle.accepted_proof.specs.Judged.{Owed, Nothing, Steps, Values, Noted, Over, Judging, owed_by, commanded, is_idle, Judged}
 use Rattle.smt_text.specs.declared.chunk.Chunk.{Chunk}
 use Rattle.script_state.specs.Readings.{Reading, ReadsAs}
 use Rattle.accepted_proof.specs.Accepted.{AreRead, EndLast, has_ended}
-use Rattle.accepted_proof.specs.Judged.{ReadEach}
+use Rattle.accepted_proof.specs.Judged.{ReadEach, AreReadable}
 use Rattle.accepted_proof.proofs.Following.{lines_before, Keeping, shown_back, reach_past, reach_last, From, from_judged, judged_from}
 use Rattle.accepted_proof.proofs.Settling.{settled_by}
 use Rattle.script_state.proofs.Deciding.{ends_by_exit}
 
 -- ---- what is still to come
+
+-- the turns may follow one after the other, but for the bounds of their lines
+abbrev pub Proceed : Limits → StateValue → List Entry → List Turn → Type 0
+Proceed limits s log [] = Unit {0}
+Proceed limits s log (t ∷ ts) = (t.answer ≡ (step s t.says).0) × HasProof limits t.answer (step s t.says).1 log t.steps t.shown × Proceed limits (state_after s t) (log ++ t.steps) ts
+
+-- turns that were read may follow
+pub readable_turns : (limits : Limits) (turns : List Turn) (s : StateValue) (log : List Entry) → Proceed limits s log turns → AllByRecursion IsLine (flat_map turn_lines turns) → AreTurns limits s log turns
+readable_turns limits [] s log p r = tt
+readable_turns limits (t ∷ ts) s log p r = (
+  record { answer = p.0; proof = p.1; readable = each_front IsLine (turn_lines t) (flat_map turn_lines ts) r },
+  readable_turns limits ts (state_after s t) (log ++ t.steps) p.2 (each_behind IsLine (turn_lines t) (flat_map turn_lines ts) r),
+)
+
+-- lines, of which none is missing, that can be read
+pub readable_lines : (lines : List Line) (all : List (Option Line)) → all ≡ map Some lines → AreReadable all → AllByRecursion IsLine lines
+readable_lines lines all e r = each lines (subst AreReadable e r)
+  where
+    each : (lines : List Line) → AreReadable (map Some lines) → AllByRecursion IsLine lines
+    each [] r = tt
+    each (l ∷ ls) r = (r.0, each ls r.1)
 
 -- turns of the first chunks that may follow, and their lines; chunks are left behind one that ends the run alone
 pub record Ends (limits : Limits) (s : StateValue) (log : List Entry) (chunks : List Chunk) (ls : List (Option Line)) : Type 0 where
@@ -43,7 +65,7 @@ pub record Ends (limits : Limits) (s : StateValue) (log : List Entry) (chunks : 
   pub read : AreRead first turns
   pub last : EndLast turns
   pub all : (behind ≡ []) ⊎ (has_ended turns ≡ true)
-  pub run : AreTurns limits s log turns
+  pub run : Proceed limits s log turns
   pub lines : ls ≡ map Some (flat_map turn_lines turns)
 
 -- steps and a record, and then turns
@@ -112,7 +134,7 @@ passed_turn limits s log says c chunks ls a e go_on p r h =
       read = (refl, r, h.read);
       last = last_behind t go_on h.turns h.last;
       all = more_ended t h.turns h.behind h.all;
-      run = (record { answer = e; proof = p }, subst (λ l. AreTurns limits (settled s a (step s says).1) l h.turns) (sym (append-nil log)) h.run);
+      run = (e, p, subst (λ l. Proceed limits (settled s a (step s says).1) l h.turns) (sym (append-nil log)) h.run);
       lines = h.lines;
     }
 
@@ -127,7 +149,7 @@ checked_turn Good keeps limits s log says c chunks ls e go_on g r h =
       read = (refl, r, h.further.read);
       last = last_behind t go_on h.further.turns h.further.last;
       all = more_ended t h.further.turns h.further.behind h.further.all;
-      run = (record { answer = e; proof = (h.valid, shown_back Good keeps limits (step s says).1 log h.steps _ _ h.shown g h.valid h.ends) }, h.further.run);
+      run = (e, (h.valid, shown_back Good keeps limits (step s says).1 log h.steps _ _ h.shown g h.valid h.ends), h.further.run);
       lines = h.lines ∙ ap (λ x. map Some (step_lines h.steps ++ record_lines h.shown) ++ x) h.further.lines ∙ sym (map-append Some (step_lines h.steps ++ record_lines h.shown) (flat_map turn_lines h.further.turns));
     }
 
@@ -156,7 +178,7 @@ last_turn j says c chunks ls e r none = record {
   read = (refl, r, tt);
   last = (λ _. refl, tt);
   all = inr (ap (λ b. b || false) e);
-  run = (record { answer = sym ((ends_by_exit j.state says).1 e); proof = (refl, refl) }, tt);
+  run = (sym ((ends_by_exit j.state says).1 e), (refl, refl), tt);
   lines = none;
 }
 

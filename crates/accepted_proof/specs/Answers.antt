@@ -1,5 +1,5 @@
 -- The texts of answers and of proofs.
-use Rattle.std.specs.Prelude.{ℕ, ◌==◌, suc, Bool, true, false, List, [], ◌∷◌, ◌++◌, codes, length, map, slice_get, if◌then◌else◌, Option, Some, None, option_to_list}
+use Rattle.std.specs.Prelude.{ℕ, ◌==◌, suc, Bool, true, false, List, [], ◌∷◌, ◌++◌, codes, length, map, slice_get, if◌then◌else◌, Option, Some, None}
 use Rattle.std.specs.List.{flat_map}
 use Rattle.std.specs.Fmt.{decimal}
 use Rattle.script_state.specs.declared.answer.Answer.{Answer}
@@ -27,18 +27,16 @@ use Rattle.smt_terms.specs.declared.node.Node.{Node}
 use Rattle.smt_terms.specs.Values.{Value as MeaningValue, VBool, VWord, VArray, Interpretation, value}
 use Rattle.proof_log.specs.declared.entry.Entry.{Entry}
 use Rattle.proof_log.specs.Logs.{LogState, state_of}
-use Rattle.proof_text.specs.declared.line.Line.{Line}
 use Rattle.proof_text.specs.declared.line.Line.TheVariants as line
 use Rattle.proof_text.specs.declared.record.Record.{Record}
 use Rattle.proof_text.specs.declared.record.Record.TheVariants.{Sat}
 use Rattle.proof_text.specs.declared.list.WrittenScalar.TheVariants as plain
 use Rattle.proof_text.specs.Lines.{digits_text, joined, line_text, scalar_text}
-use Rattle.proof_text.specs.Entries.{entry_line}
-use Rattle.proof_text.specs.Records.{binary, record_lines, written_scalar}
+use Rattle.proof_text.specs.Records.{binary, written_scalar}
 use Rattle.accepted_proof.specs.Models.{value_for, interpretation_of}
 use Rattle.accepted_proof.specs.Searching.{Limits}
 use Rattle.accepted_proof.specs.Cores.{core_names, blamed_assumptions, refuting_clause}
-use Rattle.accepted_proof.specs.Turns.{Turn, verdict_of, state_after}
+use Rattle.accepted_proof.specs.Turns.{Turn, verdict_of, state_after, turn_lines}
 
 -- ---- answers (SMT-LIB 2.6, section 4.1.1)
 
@@ -213,17 +211,6 @@ abbrev pub is_refused : Turn → Bool
 is_refused t = is_error t.answer
 
 -- ---- proofs
-
-abbrev pub shown_lines : Option Record → List Line
-shown_lines None = []
-shown_lines (Some r) = record_lines r
-
-abbrev pub step_lines : List Entry → List Line
-step_lines steps = flat_map (λ e. option_to_list (entry_line e)) steps
-
--- the lines of a check: its steps, then its record
-abbrev pub turn_lines : Turn → List Line
-turn_lines t = step_lines t.steps ++ shown_lines t.shown
 
 abbrev pub header_text : Limits → List ℕ
 header_text limits = line_text (line.Header limits.cubes limits.budget)

@@ -1,6 +1,6 @@
 -- What is judged of the lines of a proof, one after the other: the first bad line and its rule, or that there is none.
-use Rattle.std.specs.Prelude.{◌≡◌, ◌⊎◌, ◌+◌, ℕ, zero, suc, Bool, true, false, if◌then◌else◌, List, [], ◌∷◌, ◌++◌, length, slice_get, Option, Some, None}
-use Rattle.std.specs.List.{list_any}
+use Rattle.std.specs.Prelude.{◌≡◌, ◌⊎◌, ◌+◌, ℕ, zero, suc, Bool, true, false, if◌then◌else◌, List, [], ◌∷◌, ◌++◌, length, slice_get, Option, Some, None, IfSome}
+use Rattle.std.specs.List.{list_any, AllByRecursion}
 use Rattle.smt_text.specs.declared.chunk.Chunk.{Chunk}
 use Rattle.smt_text.specs.Script.{AreChunks}
 use Rattle.smt_values.specs.declared.value.Value.{Value}
@@ -20,6 +20,7 @@ use Rattle.proof_log.specs.Faults.{IsValid}
 use Rattle.proof_text.specs.declared.line.WrittenValue.{WrittenValue}
 use Rattle.proof_text.specs.declared.line.Line.{Line}
 use Rattle.proof_text.specs.declared.line.Line.TheVariants as line
+use Rattle.proof_text.specs.Lines.{IsLine}
 use Rattle.proof_text.specs.Entries.{entry_line}
 use Rattle.proof_text.specs.declared.record.Record.{Record}
 use Rattle.proof_text.specs.declared.record.Record.TheVariants as shown
@@ -228,6 +229,10 @@ JudgedProofFrom start cs (l ∷ ls) o = ((limits : Limits) × IsHeader l limits 
 
 abbrev pub JudgedProof : List Reading → List (Option Line) → Option Refusal → Type 0
 JudgedProof cs ls o = JudgedProofFrom no_state cs ls o
+
+-- each is a line that can be read, or none
+abbrev pub AreReadable : List (Option Line) → Type 0
+AreReadable lines = AllByRecursion (λ l. IfSome l IsLine) lines
 
 -- each chunk reads as this
 abbrev pub ReadEach : List Chunk → List Reading → Type 0

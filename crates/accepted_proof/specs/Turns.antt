@@ -1,8 +1,8 @@
 -- A command with its answer (SMT-LIB 2.6, sections 4.1.1 and 4.2), and for a check the steps and the record that stand in
 -- the proof. A step adds what later ones may name; chains are those of LRAT (Cruz-Filipe, Heule, Hunt, Kaufmann and
 -- Schneider-Kamp 2017) without deletions.
-use Rattle.std.specs.Prelude.{◌≡◌, ◌⊎◌, ℕ, List, [], ◌∷◌, ◌++◌, slice_get, Contains, Option, Some, None, IsSome}
-use Rattle.std.specs.List.{AllByRecursion}
+use Rattle.std.specs.Prelude.{◌≡◌, ◌⊎◌, ℕ, List, [], ◌∷◌, ◌++◌, slice_get, Contains, Option, Some, None, IsSome, option_to_list}
+use Rattle.std.specs.List.{flat_map, AllByRecursion}
 use Rattle.cnf_base.specs.Literals.{Literal, negated}
 use Rattle.smt_terms.specs.declared.node.Node.{Node}
 use Rattle.script_state.specs.Readings.{Reading}
@@ -19,8 +19,10 @@ use Rattle.proof_log.specs.declared.entry.Entry.{Entry}
 use Rattle.proof_log.specs.declared.entry.Entry.TheVariants as entry
 use Rattle.proof_log.specs.Logs.{Asserted, clause_at, state_of}
 use Rattle.proof_log.specs.Faults.{IsValid, terms_after}
+use Rattle.proof_text.specs.declared.line.Line.{Line}
+use Rattle.proof_text.specs.Lines.{IsLine}
 use Rattle.proof_text.specs.Entries.{entry_line}
-use Rattle.proof_text.specs.Records.{AreWritten}
+use Rattle.proof_text.specs.Records.{AreWritten, record_lines}
 use Rattle.proof_text.specs.declared.record.Record.{Record}
 use Rattle.proof_text.specs.declared.record.Record.TheVariants.{Sat, Unsat, Unknown}
 use Rattle.accepted_proof.specs.Models.{IsWrittenModel}
@@ -96,16 +98,29 @@ pub record Turn : Type 0 where
   pub steps : List Entry
   pub shown : Option Record
 
+abbrev pub step_lines : List Entry → List Line
+step_lines steps = flat_map (λ e. option_to_list (entry_line e)) steps
+
+abbrev pub shown_lines : Option Record → List Line
+shown_lines None = []
+shown_lines (Some r) = record_lines r
+
+-- the lines of a check: its steps, then its record
+abbrev pub turn_lines : Turn → List Line
+turn_lines t = step_lines t.steps ++ shown_lines t.shown
+
 -- a check has steps and a record, and no other command has
 abbrev pub HasProof : Limits → Answer → StateValue → List Entry → List Entry → Option Record → Type 0
 HasProof limits Check s log steps None = ⊥
 HasProof limits Check s log steps (Some r) = AreStepsOf s log steps × IsShown limits s (with_steps s steps).terms.nodes (log ++ steps) r
 HasProof limits _ s log steps shown = (steps ≡ []) × (shown ≡ None)
 
--- the turn may follow in this state, with this log, within these limits
+-- The turn may follow in this state, with this log, within these limits. Each of its lines can be read: a step may be valid
+-- whose numbers are too large for a line, such as a rotation by 2^64, and no check takes it.
 pub record IsTurn (limits : Limits) (s : StateValue) (log : List Entry) (t : Turn) : Type 0 where
   pub answer : t.answer ≡ (step s t.says).0
   pub proof : HasProof limits t.answer (step s t.says).1 log t.steps t.shown
+  pub readable : AllByRecursion IsLine (turn_lines t)
 
 -- a check that has a record stands with its verdict
 abbrev pub concluded_by : StateValue → Option Record → StateValue

@@ -9,10 +9,10 @@ ghost use Rattle.script_state.specs.Steps.{ends};
 ghost use Rattle.proof_text.specs.declared.line.Line.{Line};
 ghost use Rattle.accepted_proof.specs.declared.refusal.Refusal.{Refusal};
 ghost use Rattle.accepted_proof.specs.Searching.{Limits, AreLimits};
-ghost use Rattle.accepted_proof.specs.Turns.{Turn};
-ghost use Rattle.accepted_proof.specs.Answers.{turn_lines, proof_of};
+ghost use Rattle.accepted_proof.specs.Turns.{Turn, turn_lines};
+ghost use Rattle.accepted_proof.specs.Answers.{proof_of};
 ghost use Rattle.accepted_proof.specs.Accepted.{AcceptedFrom, AcceptedSoFarFrom, IsFront};
-ghost use Rattle.accepted_proof.specs.Judged.{Judging, judging_from, is_idle, commanded, Moves, Judged, JudgedProofFrom, ReadEach, AreAllSaid};
+ghost use Rattle.accepted_proof.specs.Judged.{Judging, judging_from, is_idle, commanded, Moves, Judged, JudgedProofFrom, AreReadable, ReadEach, AreAllSaid};
 
 /// An accepted proof is judged to have no bad line, whether functions and arrays are read or not.
 pub fn accepted_proofs_are_judged()
@@ -20,17 +20,17 @@ pub fn accepted_proofs_are_judged()
         → Judged (judging_from (start_of theories) limits) (map (λ (t : Turn). t.says) turns) (map (λ l. Some l) (flat_map turn_lines turns)) None }
 {}
 
-/// A proof without a bad line is accepted; what stands in the script behind a command that ends the run need not be read.
+/// A proof without a bad line, whose lines were read, is accepted; what stands in the script behind a command that ends the run need not be read.
 pub fn judged_proofs_are_accepted()
     ensures { (theories : Bool) (limits : Limits) (script : List ℕ) (chunks : List Chunk) (says : List Reading) (lines : List (Option Line))
-        → AreLimits limits → AreAllSaid script chunks says → ReadEach chunks says → Judged (judging_from (start_of theories) limits) says lines None
+        → AreLimits limits → AreAllSaid script chunks says → ReadEach chunks says → AreReadable lines → Judged (judging_from (start_of theories) limits) says lines None
         → (turns : List Turn) × (lines ≡ map (λ l. Some l) (flat_map turn_lines turns)) × AcceptedFrom (start_of theories) limits script (proof_of limits turns) turns }
 {}
 
-/// The first lines of a proof, where none is bad with the first commands of a script, are those of turns of these.
+/// The first lines of a proof, where each was read and none is bad with the first commands of a script, are those of turns of these.
 pub fn judged_fronts_are_accepted()
     ensures { (theories : Bool) (limits : Limits) (script : List ℕ) (chunks : List Chunk) (says : List Reading) (lines : List (Option Line))
-        → AreLimits limits → IsFront script chunks → ReadEach chunks says → Judged (judging_from (start_of theories) limits) says lines None
+        → AreLimits limits → IsFront script chunks → ReadEach chunks says → AreReadable lines → Judged (judging_from (start_of theories) limits) says lines None
         → (turns : List Turn) × (lines ≡ map (λ l. Some l) (flat_map turn_lines turns)) × AcceptedSoFarFrom (start_of theories) limits script (proof_of limits turns) turns }
 {}
 

@@ -1,6 +1,6 @@
 // The texts of values and of definitions (SMT-LIB 2.6, section 4.2.6).
 
-ghost use Rattle.std.specs.Prelude.{◌≡◌, ◌++◌, ◌==◌, [], OnOk, Some, codes, false, if◌then◌else◌, replicate};
+ghost use Rattle.std.specs.Prelude.{◌≡◌, ◌++◌, ◌==◌, [], OnOk, OnErr, Some, codes, false, if◌then◌else◌, length, replicate, take};
 ghost use Rattle.std.specs.List.{flat_map};
 ghost use Rattle.smt_eval.specs.Evaluated.{is_table};
 ghost use Rattle.smt_values.specs.Arrays.{array_value};
@@ -20,7 +20,8 @@ use std::alloc::AllocError;
 
 /// Appends the sort of words of a width.
 fn push_word_sort(width: u32, out: &mut Text) -> Result<(), AllocError>
-    ensures { OnOk result (out.new ≡ out.old ++ sort_text (Sort.Word width)) }
+    ensures ok { OnOk result (out.new ≡ out.old ++ sort_text (Sort.Word width)) }
+    ensures err { OnErr result (take (length out.old) out.new ≡ out.old) }
 {
     out.push_slice(b"(_ BitVec ")?;
     push_number(out, width as u64)?;
@@ -29,7 +30,8 @@ fn push_word_sort(width: u32, out: &mut Text) -> Result<(), AllocError>
 
 /// Appends a sort.
 fn push_sort(sort: Sort, out: &mut Text) -> Result<(), AllocError>
-    ensures { OnOk result (out.new ≡ out.old ++ sort_text sort) }
+    ensures ok { OnOk result (out.new ≡ out.old ++ sort_text sort) }
+    ensures err { OnErr result (take (length out.old) out.new ≡ out.old) }
 {
     match sort {
         Sort::Bool => out.push_slice(b"Bool"),
@@ -48,7 +50,8 @@ fn push_sort(sort: Sort, out: &mut Text) -> Result<(), AllocError>
 
 /// Appends the array with an element at every index.
 fn push_constant(index: u32, element: Word, out: &mut Text) -> Result<(), AllocError>
-    ensures { OnOk result (out.new ≡ out.old ++ constant_text index element.width element.value) }
+    ensures ok { OnOk result (out.new ≡ out.old ++ constant_text index element.width element.value) }
+    ensures err { OnErr result (take (length out.old) out.new ≡ out.old) }
 {
     out.push_slice(b"((as const ")?;
     push_sort(Sort::Array(index, element.width()), out)?;
@@ -59,7 +62,8 @@ fn push_constant(index: u32, element: Word, out: &mut Text) -> Result<(), AllocE
 
 /// Appends what stands before an array into which an element is stored, if it is not the default.
 fn push_opening(element: Word, default: u128, out: &mut Text) -> Result<(), AllocError>
-    ensures { OnOk result (out.new ≡ out.old ++ store_opening default element) }
+    ensures ok { OnOk result (out.new ≡ out.old ++ store_opening default element) }
+    ensures err { OnErr result (take (length out.old) out.new ≡ out.old) }
 {
     if element.value() == default {
         return Ok(());
@@ -69,7 +73,8 @@ fn push_opening(element: Word, default: u128, out: &mut Text) -> Result<(), Allo
 
 /// Appends what stands behind it.
 fn push_ending(index: Word, element: Word, default: u128, out: &mut Text) -> Result<(), AllocError>
-    ensures { OnOk result (out.new ≡ out.old ++ store_ending default (index, element)) }
+    ensures ok { OnOk result (out.new ≡ out.old ++ store_ending default (index, element)) }
+    ensures err { OnErr result (take (length out.old) out.new ≡ out.old) }
 {
     if element.value() == default {
         return Ok(());
@@ -82,7 +87,8 @@ fn push_ending(index: Word, element: Word, default: u128, out: &mut Text) -> Res
 }
 
 fn push_openings(entries: &[(Word, Word)], default: u128, out: &mut Text) -> Result<(), AllocError>
-    ensures { OnOk result (out.new ≡ out.old ++ flat_map (λ e. store_opening default e.1) entries.now) }
+    ensures ok { OnOk result (out.new ≡ out.old ++ flat_map (λ e. store_opening default e.1) entries.now) }
+    ensures err { OnErr result (take (length out.old) out.new ≡ out.old) }
 {
     for entry in entries {
         push_opening(entry.1, default, out)?;
@@ -91,7 +97,8 @@ fn push_openings(entries: &[(Word, Word)], default: u128, out: &mut Text) -> Res
 }
 
 fn push_endings(entries: &[(Word, Word)], default: u128, out: &mut Text) -> Result<(), AllocError>
-    ensures { OnOk result (out.new ≡ out.old ++ flat_map (store_ending default) entries.now) }
+    ensures ok { OnOk result (out.new ≡ out.old ++ flat_map (store_ending default) entries.now) }
+    ensures err { OnErr result (take (length out.old) out.new ≡ out.old) }
 {
     for entry in entries {
         push_ending(entry.0, entry.1, default, out)?;
@@ -101,7 +108,8 @@ fn push_endings(entries: &[(Word, Word)], default: u128, out: &mut Text) -> Resu
 
 /// Appends an array: the held entries that are not its default, stored into a constant array.
 fn push_array(array: &ArrayValue, out: &mut Text) -> Result<(), AllocError>
-    ensures { OnOk result (out.new ≡ out.old ++ meaning_text (array_value array.now)) }
+    ensures ok { OnOk result (out.new ≡ out.old ++ meaning_text (array_value array.now)) }
+    ensures err { OnErr result (take (length out.old) out.new ≡ out.old) }
 {
     let index = array.index_width();
     let default = array.default();
@@ -114,7 +122,8 @@ fn push_array(array: &ArrayValue, out: &mut Text) -> Result<(), AllocError>
 
 /// Appends a space in front of each of a list but the first.
 fn push_gap(place: usize, out: &mut Text) -> Result<(), AllocError>
-    ensures { OnOk result (out.new ≡ out.old ++ (if place == 0 then [] else codes " ")) }
+    ensures ok { OnOk result (out.new ≡ out.old ++ (if place == 0 then [] else codes " ")) }
+    ensures err { OnErr result (take (length out.old) out.new ≡ out.old) }
 {
     if place == 0 {
         return Ok(());
@@ -124,7 +133,8 @@ fn push_gap(place: usize, out: &mut Text) -> Result<(), AllocError>
 
 /// Appends the name of a parameter.
 fn push_name(place: usize, out: &mut Text) -> Result<(), AllocError>
-    ensures { OnOk result (out.new ≡ out.old ++ parameter_name place) }
+    ensures ok { OnOk result (out.new ≡ out.old ++ parameter_name place) }
+    ensures err { OnErr result (take (length out.old) out.new ≡ out.old) }
 {
     out.push_slice(b"x!")?;
     push_number(out, place as u64)
@@ -132,7 +142,8 @@ fn push_name(place: usize, out: &mut Text) -> Result<(), AllocError>
 
 /// Appends a parameter with its sort.
 fn push_parameter(place: usize, sort: Sort, out: &mut Text) -> Result<(), AllocError>
-    ensures { OnOk result (out.new ≡ out.old ++ parameter_text place sort) }
+    ensures ok { OnOk result (out.new ≡ out.old ++ parameter_text place sort) }
+    ensures err { OnErr result (take (length out.old) out.new ≡ out.old) }
 {
     out.push(b'(')?;
     push_name(place, out)?;
@@ -142,7 +153,8 @@ fn push_parameter(place: usize, sort: Sort, out: &mut Text) -> Result<(), AllocE
 }
 
 fn push_parameters(sorts: &[Sort], out: &mut Text) -> Result<(), AllocError>
-    ensures { OnOk result (out.new ≡ out.old ++ listed parameter_text sorts.now) }
+    ensures ok { OnOk result (out.new ≡ out.old ++ listed parameter_text sorts.now) }
+    ensures err { OnErr result (take (length out.old) out.new ≡ out.old) }
 {
     for place in 0..sorts.len() {
         push_gap(place, out)?;
@@ -153,7 +165,8 @@ fn push_parameters(sorts: &[Sort], out: &mut Text) -> Result<(), AllocError>
 
 /// Appends that a parameter has a value.
 fn push_equality(place: usize, value: Scalar, out: &mut Text) -> Result<(), AllocError>
-    ensures { OnOk result (out.new ≡ out.old ++ equality_text place value) }
+    ensures ok { OnOk result (out.new ≡ out.old ++ equality_text place value) }
+    ensures err { OnErr result (take (length out.old) out.new ≡ out.old) }
 {
     out.push_slice(b"(= ")?;
     push_name(place, out)?;
@@ -163,7 +176,8 @@ fn push_equality(place: usize, value: Scalar, out: &mut Text) -> Result<(), Allo
 }
 
 fn push_equalities(values: &[Scalar], out: &mut Text) -> Result<(), AllocError>
-    ensures { OnOk result (out.new ≡ out.old ++ listed equality_text values.now) }
+    ensures ok { OnOk result (out.new ≡ out.old ++ listed equality_text values.now) }
+    ensures err { OnErr result (take (length out.old) out.new ≡ out.old) }
 {
     for place in 0..values.len() {
         push_gap(place, out)?;
@@ -174,7 +188,8 @@ fn push_equalities(values: &[Scalar], out: &mut Text) -> Result<(), AllocError>
 
 /// Appends that the parameters have these values.
 fn push_condition(values: &[Scalar], out: &mut Text) -> Result<(), AllocError>
-    ensures { OnOk result (out.new ≡ out.old ++ condition_text values.now) }
+    ensures ok { OnOk result (out.new ≡ out.old ++ condition_text values.now) }
+    ensures err { OnErr result (take (length out.old) out.new ≡ out.old) }
 {
     if values.len() == 1 {
         return push_equalities(values, out);
@@ -186,7 +201,8 @@ fn push_condition(values: &[Scalar], out: &mut Text) -> Result<(), AllocError>
 
 /// Appends a row, up to the value where it does not apply.
 fn push_row(row: &Row, out: &mut Text) -> Result<(), AllocError>
-    ensures { OnOk result (out.new ≡ out.old ++ row_opening row.now) }
+    ensures ok { OnOk result (out.new ≡ out.old ++ row_opening row.now) }
+    ensures err { OnErr result (take (length out.old) out.new ≡ out.old) }
 {
     out.push_slice(b"(ite ")?;
     push_condition(row.args.as_slice(), out)?;
@@ -196,7 +212,8 @@ fn push_row(row: &Row, out: &mut Text) -> Result<(), AllocError>
 }
 
 fn push_rows(rows: &[Row], out: &mut Text) -> Result<(), AllocError>
-    ensures { OnOk result (out.new ≡ out.old ++ flat_map row_opening rows.now) }
+    ensures ok { OnOk result (out.new ≡ out.old ++ flat_map row_opening rows.now) }
+    ensures err { OnErr result (take (length out.old) out.new ≡ out.old) }
 {
     for row in rows {
         push_row(row, out)?;
@@ -206,7 +223,8 @@ fn push_rows(rows: &[Row], out: &mut Text) -> Result<(), AllocError>
 
 /// Appends so many closing parentheses.
 fn push_closings(count: usize, out: &mut Text) -> Result<(), AllocError>
-    ensures { OnOk result (out.new ≡ out.old ++ replicate count 41) }
+    ensures ok { OnOk result (out.new ≡ out.old ++ replicate count 41) }
+    ensures err { OnErr result (take (length out.old) out.new ≡ out.old) }
 {
     for _ in 0..count {
         out.push(b')')?;
@@ -216,7 +234,8 @@ fn push_closings(count: usize, out: &mut Text) -> Result<(), AllocError>
 
 /// Appends the value of a function at its parameters.
 fn push_table(table: &FunTable, out: &mut Text) -> Result<(), AllocError>
-    ensures { OnOk result (out.new ≡ out.old ++ rows_text table.now.default table.now.rows) }
+    ensures ok { OnOk result (out.new ≡ out.old ++ rows_text table.now.default table.now.rows) }
+    ensures err { OnErr result (take (length out.old) out.new ≡ out.old) }
 {
     let rows = table.rows();
     push_rows(rows, out)?;
@@ -228,7 +247,8 @@ fn push_table(table: &FunTable, out: &mut Text) -> Result<(), AllocError>
 
 /// Appends the value of a constant, or of a function at its parameters.
 fn push_body(value: &Value, out: &mut Text) -> Result<(), AllocError>
-    ensures { OnOk result (out.new ≡ out.old ++ value_text value.now) }
+    ensures ok { OnOk result (out.new ≡ out.old ++ value_text value.now) }
+    ensures err { OnErr result (take (length out.old) out.new ≡ out.old) }
 {
     match value {
         Value::Bool(holds) => push_scalar(Scalar::Bool(*holds), out),
@@ -238,14 +258,15 @@ fn push_body(value: &Value, out: &mut Text) -> Result<(), AllocError>
     }
 }
 
-/// Appends the line of the definition of a declared name.
+/// Appends the line of the definition of a declared name. An error may leave the first bytes of it.
 pub fn push_definition(
     name: &[u8],
     signature: &Signature,
     value: &Value,
     out: &mut Text,
 ) -> Result<(), AllocError>
-    ensures { OnOk result (out.new ≡ out.old ++ definition_by name.now (Some signature.now) (Some value.now)) }
+    ensures ok { OnOk result (out.new ≡ out.old ++ definition_by name.now (Some signature.now) (Some value.now)) }
+    ensures err { OnErr result (take (length out.old) out.new ≡ out.old) }
 {
     out.push_slice(b"(define-fun ")?;
     print_symbol(name, out)?;
@@ -258,10 +279,11 @@ pub fn push_definition(
     out.push_slice(b")\n")
 }
 
-/// Appends the value of a term.
+/// Appends the value of a term. An error may leave the first bytes of it.
 pub fn push_meaning(value: &Value, out: &mut Text) -> Result<(), AllocError>
     requires { is_table value.now ≡ false }
-    ensures { OnOk result (out.new ≡ out.old ++ meaning_text (meaning value.now)) }
+    ensures ok { OnOk result (out.new ≡ out.old ++ meaning_text (meaning value.now)) }
+    ensures err { OnErr result (take (length out.old) out.new ≡ out.old) }
 {
     match value {
         Value::Bool(holds) => push_scalar(Scalar::Bool(*holds), out),

@@ -1,6 +1,8 @@
 -- Lines that are taken and refused, and what follows for the lines of a diary.
 use Rattle.std.proofs.Common.{◌≡◌, ℕ, suc, ◌+◌, ◌-◌, ◌<◌, ◌≤◌, Bool, true, false, not, List, [], ◌∷◌, ◌++◌, length, Option, Some, sym, ap, ◌∙◌, subst, arith, add-one}
-use Rattle.std.specs.Prelude.{◌≢◌, ◌↔◌, ◌&&◌, ltb, MatchBool, Result, Ok, Err, IfOk}
+use Rattle.std.specs.Prelude.{◌≢◌, ◌↔◌, ◌&&◌, ltb, Contains, MatchBool, MatchResult, Result, Ok, Err}
+use Rattle.std.specs.Result.{IsErrAnd}
+use Rattle.std.proofs.lemmas.Result.{err_from_is_err_and}
 use Rattle.cnf_base.specs.Literals.{Literal}
 use Rattle.cnf_base.specs.declared.clause.ClauseId.{ClauseId}
 use Rattle.hint_chain.specs.Chains.{Lookup}
@@ -12,9 +14,9 @@ use Rattle.proof_log.specs.Logs.{clause_at, entry_at}
 use Rattle.proof_log.specs.Stored.{LogValue}
 use Rattle.proof_log.specs.Diaries.{Subject, DiaryState, look_of, is_chain, blank, with_held, count_new, allowed, IsGoodPut, IsLine, line_after, lines_after, EndsInPut, IsSpent}
 use Rattle.proof_log.proofs.Lines.{are_lines_snoc, lines_after_snoc, ends_in_put}
-use Rattle.diary_checker.specs.Tables.{IsSetOf, bit_in}
+use Rattle.diary_checker.specs.Tables.{IsSetOf, bit_in, filed_under}
 use Rattle.diary_checker.specs.Uses.{AreFiled}
-use Rattle.diary_checker.specs.Readers.{ReaderValue, state_in, IsAbout, IsSetUp, HasRead, is_put, IsTaken, IsDecided}
+use Rattle.diary_checker.specs.Readers.{ReaderValue, state_in, IsAbout, IsSetUp, HasRead, is_put, IsTaken, IsDecided, IsUndecided}
 
 -- ---- the start
 
@@ -133,6 +135,34 @@ drop_not_chain g log at old about no_chain p =
     not_both : false ≡ true → ⊥
     not_both h = cc
 
+-- ---- memory was wanting
+
+-- what is said of an error holds where one is answered
+pub wanting : {E P : Type 0} (F : Bool → Type 0) (Q : E → Type 0) (r : Result Bool E) → IsErrAnd r Q → P → MatchResult r F (λ e. P)
+wanting F Q r is p = let q = err_from_is_err_and r is in rw q.1 p
+
+-- the reader is what it was
+pub undecided_same : (g : Subject) (v old : ReaderValue) → v ≡ old → IsSetUp g old → IsUndecided g old v
+undecided_same g v old e h = record { set_up = subst (IsSetUp g) (sym e) h; state = ap state_in e; ended = ap (λ (r : ReaderValue). r.ended) e }
+
+-- no position came or went, and what was filed stays
+pub undecided_held : (g : Subject) (v old new : ReaderValue) → v ≡ old → IsSetUp g old → new.given ≡ v.given → ((p : ℕ) → bit_in new.held p ≡ bit_in v.held p) →
+    ((k : Option Literal) (i : ClauseId) → Contains (filed_under v.filed k) i → Contains (filed_under new.filed k) i) →
+    new.chains ≡ v.chains → new.puts ≡ v.puts → new.drops ≡ v.drops → new.ended ≡ v.ended → IsUndecided g old new
+undecided_held g v old new e h given held kept chains puts drops ended =
+    subst (λ (o : ReaderValue). IsUndecided g o new) e
+    (record {
+      set_up = record { given = subst (λ t. IsSetOf t g.given) (sym given) before.given; filed = filed };
+      state = λ i. record { held = λ p. held p i; chains = chains i; puts = puts i; drops = drops i };
+      ended = ended;
+    })
+  where
+    before : IsSetUp g v
+    before = subst (IsSetUp g) (sym e) h
+
+    filed : AreFiled (look_of g) (bit_in new.held) new.filed
+    filed id c is_held is = let f = before.filed id c (sym (held id.pos) ∙ is_held) is in (f.0, f.1, kept f.0 id f.2)
+
 -- ---- the lines of a diary
 
 ends_not_take : (ls : List DiaryLine) (p : ℕ) → EndsInPut (ls ++ Take p ∷ []) → ⊥
@@ -170,11 +200,16 @@ read_more g lines old new l r t =
       },
     )
 
-pub read_line : {E : Type 0} (g : Subject) (lines : List DiaryLine) (old new : ReaderValue) (l : DiaryLine) (r : Result Bool E) → HasRead g lines old → IfOk r (IsDecided g old new l) →
-    IfOk r (λ taken. MatchBool taken (IsLine g (lines_after g (blank g) lines) l × HasRead g (lines ++ l ∷ []) new) ((¬ (IsLine g (lines_after g (blank g) lines) l)) × (new ≡ old)))
+pub read_line : {E : Type 0} (g : Subject) (lines : List DiaryLine) (old new : ReaderValue) (l : DiaryLine) (r : Result Bool E) → HasRead g lines old → MatchResult r (IsDecided g old new l) (λ e. IsUndecided g old new) →
+    MatchResult r (λ taken. MatchBool taken (IsLine g (lines_after g (blank g) lines) l × HasRead g (lines ++ l ∷ []) new) ((¬ (IsLine g (lines_after g (blank g) lines) l)) × (new ≡ old))) (λ e. HasRead g lines new)
 read_line g lines old new l (Ok true) read h = read_more g lines old new l read h
 read_line g lines old new l (Ok false) read h = ((λ k. h.invalid (subst (λ (s : DiaryState). IsLine g s l) (sym read.state) k)), h.same)
-read_line g lines old new l (Err e) read h = tt
+read_line g lines old new l (Err e) read h = record {
+  set_up = h.set_up;
+  stand = read.stand;
+  state = h.state ∙ read.state;
+  ended = subst (λ (b : Bool). (b ≡ true) ↔ EndsInPut lines) (sym h.ended) read.ended;
+}
 
 -- ---- the budget
 

@@ -60,3 +60,9 @@ pub record IsRefused (g : Subject) (old new : ReaderValue) (l : DiaryLine) : Typ
 -- the line was taken, or refused
 abbrev pub IsDecided : Subject → ReaderValue → ReaderValue → DiaryLine → Bool → Type 0
 IsDecided g old new l taken = MatchBool taken (IsTaken g old new l) (IsRefused g old new l)
+
+-- memory was wanting: the same is held, and its clauses are filed
+pub record IsUndecided (g : Subject) (old new : ReaderValue) : Type 0 where
+  pub set_up : IsSetUp g new
+  pub state : state_in new ≡ state_in old
+  pub ended : new.ended ≡ old.ended

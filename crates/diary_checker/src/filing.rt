@@ -1,6 +1,6 @@
 //! What is held, with its clauses filed.
 
-ghost use Rattle.std.specs.Prelude.{◌≡◌, ◌≤◌, ◌⊎◌, ◌&&◌, ◌+◌, not, ltb, true, false, ℕ, List, Option, Some, Contains, OnOk, length};
+ghost use Rattle.std.specs.Prelude.{◌≡◌, ◌≤◌, ◌⊎◌, ◌&&◌, ◌+◌, not, ltb, true, false, ℕ, List, Option, Some, Contains, OnOk, OnErr, length};
 ghost use Rattle.cnf_base.specs.Literals.{Literal};
 ghost use Rattle.cnf_base.specs.declared.clause.ClauseId.{ClauseId};
 ghost use Rattle.proof_log.specs.Logs.{clause_at, entry_at};
@@ -68,7 +68,7 @@ fn file(watches: &mut Watches, log: &Log, at: Pos) -> Result<(), AllocError>
     Err(AllocError)
 }
 
-// Holds a position, and files its clauses unless they are.
+// Holds a position, and files its clauses unless they are. For want of memory the same is held, and what was filed stays.
 pub(crate) fn hold(
     held: &mut Positions,
     watches: &mut Watches,
@@ -77,6 +77,8 @@ pub(crate) fn hold(
 ) -> Result<(), AllocError>
     ensures held { OnOk result ((p : ℕ) → bit_in held.new p ≡ with_held (bit_in held.old) at true p) }
     ensures filed { OnOk result (AreFiled (clause_at log.now.clauses) (bit_in held.old) watches.old → AreFiled (clause_at log.now.clauses) (bit_in held.new) watches.new) }
+    ensures kept { (k : Option Literal) (i : ClauseId) → Contains (filed_under watches.old k) i → Contains (filed_under watches.new k) i }
+    ensures err { OnErr result ((p : ℕ) → bit_in held.new p ≡ bit_in held.old p) }
 {
     if held.has(at) {
         return Ok(());

@@ -1,6 +1,6 @@
 //! The reader of a diary.
 
-ghost use Rattle.std.specs.Prelude.{◌≡◌, ◌≢◌, ◌+◌, ◌++◌, ◌∷◌, [], suc, ℕ, Bool, List, Option, Some, IfOk, IfSome, MatchBool, MatchOption};
+ghost use Rattle.std.specs.Prelude.{◌≡◌, ◌≢◌, ◌+◌, ◌++◌, ◌∷◌, [], suc, ℕ, Bool, List, Option, Some, IfOk, IfSome, MatchBool, MatchOption, MatchResult};
 ghost use Rattle.cnf_base.specs.Literals.{Literal};
 ghost use Rattle.cnf_base.specs.declared.clause.ClauseId.{ClauseId};
 ghost use Rattle.proof_log.specs.declared.entry.Entry.TheVariants as step;
@@ -8,7 +8,7 @@ ghost use Rattle.proof_log.specs.declared.diary.DiaryLine.{DiaryLine};
 ghost use Rattle.proof_log.specs.declared.diary.DiaryLine.TheVariants as row;
 ghost use Rattle.proof_log.specs.Logs.{entry_at};
 ghost use Rattle.proof_log.specs.Diaries.{Subject, blank, lines_after, count_new, allowed, IsLine, IsSpent};
-ghost use Rattle.diary_checker.specs.Readers.{IsAbout, IsSetUp, HasRead, IsDecided};
+ghost use Rattle.diary_checker.specs.Readers.{IsAbout, IsSetUp, HasRead, IsDecided, IsUndecided};
 
 use crate::conditions::insert;
 use crate::filing::{hold, hold_start, is_chain_at};
@@ -73,11 +73,13 @@ impl DiaryReader {
     }
 
     /// Takes one line more and answers true exactly where it may stand after those that were taken, else all is as before.
-    /// The log is the one that the reader was made over. After want of memory the reader is of no use.
+    /// The log is the one that the reader was made over. For want of memory the lines that were taken are as before.
     pub fn line(&mut self, log: &Log, line: DiaryLine) -> Result<bool, AllocError>
-        ensures { (g : Subject) (lines : List DiaryLine) → IsAbout g log.now → HasRead g lines self.old → IfOk result (λ taken. MatchBool taken
+        ensures { (g : Subject) (lines : List DiaryLine) → IsAbout g log.now → HasRead g lines self.old → MatchResult result
+            (λ taken. MatchBool taken
             (IsLine g (lines_after g (blank g) lines) line × HasRead g (lines ++ line ∷ []) self.new)
-            ((¬ (IsLine g (lines_after g (blank g) lines) line)) × (self.new ≡ self.old))) }
+            ((¬ (IsLine g (lines_after g (blank g) lines) line)) × (self.new ≡ self.old)))
+            (λ e. HasRead g lines self.new) }
     {
         self.decide(log, line)
     }
@@ -90,7 +92,8 @@ impl DiaryReader {
     }
 
     fn decide(&mut self, log: &Log, line: DiaryLine) -> Result<bool, AllocError>
-        ensures { (g : Subject) → IsAbout g log.now → IsSetUp g self.old → IfOk result (IsDecided g self.old self.new line) }
+        ensures { (g : Subject) → IsAbout g log.now → IsSetUp g self.old →
+            MatchResult result (IsDecided g self.old self.new line) (λ e. IsUndecided g self.old self.new) }
     {
         match line {
             DiaryLine::Take(at) => self.take(log, at),
@@ -100,7 +103,8 @@ impl DiaryReader {
     }
 
     fn take(&mut self, log: &Log, at: Pos) -> Result<bool, AllocError>
-        ensures { (g : Subject) → IsAbout g log.now → IsSetUp g self.old → IfOk result (IsDecided g self.old self.new (row.Take at)) }
+        ensures { (g : Subject) → IsAbout g log.now → IsSetUp g self.old →
+            MatchResult result (IsDecided g self.old self.new (row.Take at)) (λ e. IsUndecided g self.old self.new) }
     {
         if log.len() <= at {
             return Ok(false);
@@ -116,7 +120,8 @@ impl DiaryReader {
     }
 
     fn put(&mut self, log: &Log, at: Pos) -> Result<bool, AllocError>
-        ensures { (g : Subject) → IsAbout g log.now → IsSetUp g self.old → IfOk result (IsDecided g self.old self.new (row.Put at)) }
+        ensures { (g : Subject) → IsAbout g log.now → IsSetUp g self.old →
+            MatchResult result (IsDecided g self.old self.new (row.Put at)) (λ e. IsUndecided g self.old self.new) }
     {
         let Some((clause, hints)) = chain_at(log, at) else {
             return Ok(false);
@@ -147,7 +152,8 @@ impl DiaryReader {
     }
 
     fn give_up(&mut self, log: &Log, at: Pos) -> Result<bool, AllocError>
-        ensures { (g : Subject) → IsAbout g log.now → IsSetUp g self.old → IfOk result (IsDecided g self.old self.new (row.Drop at)) }
+        ensures { (g : Subject) → IsAbout g log.now → IsSetUp g self.old →
+            MatchResult result (IsDecided g self.old self.new (row.Drop at)) (λ e. IsUndecided g self.old self.new) }
     {
         if self.drops == 0 {
             return Ok(false);

@@ -10,18 +10,20 @@ use Rattle.script_state.specs.declared.answer.Verdict.{Verdict}
 use Rattle.script_state.specs.States.{StateValue, no_state}
 use Rattle.script_state.specs.Steps.{ends}
 use Rattle.script_state.proofs.Deciding.{reads_one_way}
+use Rattle.cnf_base.proofs.Lists.{each_append}
+use Rattle.proof_log.specs.declared.entry.Entry.{Entry}
 use Rattle.proof_text.specs.declared.line.Line.{Line}
 use Rattle.proof_text.specs.declared.line.Line.TheVariants as line
 use Rattle.proof_text.specs.Lines.{joined, words_of, line_text, IsLine}
 use Rattle.proof_text.proofs.Exact.{line_free}
 use Rattle.accepted_proof.specs.declared.refusal.Refusal.{Refusal}
 use Rattle.accepted_proof.specs.Searching.{Limits, AreLimits}
-use Rattle.accepted_proof.specs.Turns.{Turn}
-use Rattle.accepted_proof.specs.Answers.{turn_lines, proof_of}
+use Rattle.accepted_proof.specs.Turns.{Turn, AreTurns, state_after, turn_lines}
+use Rattle.accepted_proof.specs.Answers.{proof_of}
 use Rattle.accepted_proof.specs.Accepted.{AreRead, has_ended, AreAll, AcceptedFrom}
 use Rattle.accepted_proof.specs.Right.{AreRight}
 use Rattle.accepted_proof.proofs.Fronts.{front_fewer}
-use Rattle.accepted_proof.specs.Judged.{judging_from, Judged, ReadEach, AreAllSaid}
+use Rattle.accepted_proof.specs.Judged.{judging_from, Judged, AreReadable, ReadEach, AreAllSaid}
 use Rattle.script_state.specs.Readings.{ReadsAs}
 use Rattle.script_state.specs.declared.error_text.ErrorText.TheVariants.{UnfinishedCommand}
 use Rattle.proof_checker.specs.Checkers.{Says}
@@ -132,9 +134,21 @@ text_of_lines (l ∷ ls) text (inr h) = absurd (line_there l h.1)
     line_there : (l : Line) → ◌≡◌ {A = Option Line} (Some l) None → ⊥
     line_there l e = cc
 
+-- the lines of a text are within bounds
+pub lines_readable : (ls : List (Option Line)) (text : List ℕ) → AreLines text ls → AreReadable ls
+lines_readable [] text h = tt
+lines_readable (None ∷ ls) text (inl h) = (tt, lines_readable ls h.0 h.2)
+lines_readable (Some l ∷ ls) text (inl h) = (h.1.line_is.0, lines_readable ls h.0 h.2)
+lines_readable (l ∷ ls) text (inr h) = subst (λ x. AreReadable (x ∷ ls)) (sym h.1) (subst (λ x. AreReadable (None ∷ x)) (sym h.2) (tt, tt))
+
+-- so are those of turns
+pub turns_readable : (limits : Limits) (turns : List Turn) (s : StateValue) (log : List Entry) → AreTurns limits s log turns → AllByRecursion IsLine (flat_map turn_lines turns)
+turns_readable limits [] s log h = tt
+turns_readable limits (t ∷ ts) s log h = each_append IsLine (turn_lines t) (flat_map turn_lines ts) h.0.readable (turns_readable limits ts (state_after s t) (log ++ t.steps) h.1)
+
 abbrev pub JudgedLaw : StateValue → Type 0
 JudgedLaw start = (limits : Limits) (script : List ℕ) (chunks : List Chunk) (says : List Says) (lines : List (Option Line))
-    → AreLimits limits → AreAllSaid script chunks says → ReadEach chunks says → Judged (judging_from start limits) says lines None
+    → AreLimits limits → AreAllSaid script chunks says → ReadEach chunks says → AreReadable lines → Judged (judging_from start limits) says lines None
     → (turns : List Turn) × (lines ≡ map (λ l. Some l) (flat_map turn_lines turns)) × AcceptedFrom start limits script (proof_of limits turns) turns
 
 abbrev pub RightLaw : StateValue → Type 0
@@ -176,7 +190,8 @@ all_told start script proof vs h (inr ended) =
 pub accepted_right : (start : StateValue) → JudgedLaw start → RightLaw start → (script proof : List ℕ) (vs : List Verdict) → IsAcceptedOver start script proof vs → (limits : Limits) × (turns : List Turn) × AcceptedFrom start limits script proof turns × AreRight start turns × (vs ≡ verdicts_of turns)
 accepted_right start law right script proof vs h =
     let m = all_told start script proof vs h (h.whole refl) in
-    let t = law m.limits script h.chunks h.says m.rest m.allowed m.all h.read (judged_of m.rest (judging_from start m.limits) h.says vs None m.told) in
+    let readable : AreReadable m.rest = (subst AreReadable m.header (lines_readable h.lines proof h.split)).1 in
+    let t = law m.limits script h.chunks h.says m.rest m.allowed m.all h.read readable (judged_of m.rest (judging_from start m.limits) h.says vs None m.told) in
     let header : Line = line.Header m.limits.cubes m.limits.budget in
     let lines : h.lines ≡ map (λ l. Some l) (header ∷ flat_map turn_lines t.0) = m.header ∙ ap (λ ls. Some header ∷ ls) t.1 in
     let text : proof ≡ proof_of m.limits t.0 = text_of_lines (header ∷ flat_map turn_lines t.0) proof (subst (AreLines proof) lines h.split) in
@@ -227,8 +242,8 @@ told_behind : (start : StateValue) (limits : Limits) (lines : List (Option Line)
 told_behind start limits lines says rest behind vs (inl none) n h = subst (λ x. Tells (judging_from start limits) x lines vs None) (sym (ap (λ x. says ++ x) (nil_from_length rest (n ∙ ap length none)) ∙ append-nil says)) h
 told_behind start limits lines says rest behind vs (inr ended) n h = tells_more lines rest None (judging_from start limits) says vs ended h
 
-pub accepted_pass : (start : StateValue) → TurnsLaw start → (limits : Limits) (script proof : List ℕ) (turns : List Turn) → AcceptedFrom start limits script proof turns → AllByRecursion IsLine (flat_map turn_lines turns) → IsAcceptedOver start script proof (verdicts_of turns)
-accepted_pass start law limits script proof turns h each =
+pub accepted_pass : (start : StateValue) → TurnsLaw start → (limits : Limits) (script proof : List ℕ) (turns : List Turn) → AcceptedFrom start limits script proof turns → IsAcceptedOver start script proof (verdicts_of turns)
+accepted_pass start law limits script proof turns h =
     let says = map (λ (t : Turn). t.says) turns in
     let lines = map (λ l. Some l) (flat_map turn_lines turns) in
     let header = line.Header limits.cubes limits.budget in
@@ -243,7 +258,7 @@ accepted_pass start law limits script proof turns h each =
       lines = Some header ∷ lines;
       cut = k.cut;
       read = read_says h.chunks turns h.read;
-      split = subst (λ (x : List ℕ). AreLines x (Some header ∷ lines)) (sym h.lines) (line_first header _ lines (omega (arith, h.allowed.cubes), omega (arith, h.allowed.budget)) (lines_printed (flat_map turn_lines turns) each));
+      split = subst (λ (x : List ℕ). AreLines x (Some header ∷ lines)) (sym h.lines) (line_first header _ lines (omega (arith, h.allowed.cubes), omega (arith, h.allowed.budget)) (lines_printed (flat_map turn_lines turns) (turns_readable limits turns start [] h.run)));
       told = λ rest n. inl (limits, record { written = refl; allowed = h.allowed }, told_behind start limits lines says rest k.behind (verdicts_of turns) k.none n told);
       whole = λ z. k.none;
     }

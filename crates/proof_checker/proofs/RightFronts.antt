@@ -1,22 +1,23 @@
 -- What is accepted of fronts of two texts is right.
 use Rattle.std.proofs.Common.{◌≡◌, ℕ, Bool, false, List, [], ◌∷◌, ◌++◌, map, Option, Some, None, refl, sym, ap, ◌∙◌, subst, inl, inr, append_assoc}
+use Rattle.std.specs.Prelude.{IfSome}
 use Rattle.std.specs.List.{flat_map}
+use Rattle.cnf_base.proofs.Lists.{each_front}
 use Rattle.script_state.specs.declared.answer.Verdict.{Verdict}
 use Rattle.script_state.specs.States.{start_of, no_state}
 use Rattle.proof_text.specs.declared.line.Line.{Line}
 use Rattle.proof_text.specs.declared.line.Line.TheVariants as line
-use Rattle.proof_text.specs.Lines.{line_text}
+use Rattle.proof_text.specs.Lines.{line_text, IsLine}
 use Rattle.accepted_proof.specs.Searching.{Limits}
-use Rattle.accepted_proof.specs.Turns.{Turn}
-use Rattle.accepted_proof.specs.Answers.{turn_lines}
+use Rattle.accepted_proof.specs.Turns.{Turn, turn_lines}
 use Rattle.accepted_proof.specs.Accepted.{AcceptedSoFarFrom, AcceptedSoFar}
 use Rattle.accepted_proof.specs.Right.{AreRight}
-use Rattle.accepted_proof.specs.Judged.{judging_from}
+use Rattle.accepted_proof.specs.Judged.{judging_from, AreReadable}
 use Rattle.accepted_proof.proofs.Answering.{start_turns_are_right}
 use Rattle.accepted_proof.proofs.Beginning.{judged_begins}
 use Rattle.accepted_proof.proofs.Fronts.{front_fewer}
 use Rattle.proof_checker.specs.Checked.{AreLines, IsAcceptedSoFarOver, IsAcceptedSoFar, verdicts_of}
-use Rattle.proof_checker.proofs.Passing.{header_told}
+use Rattle.proof_checker.proofs.Passing.{header_told, lines_readable}
 use Rattle.proof_checker.proofs.Verdicts.{judged_of, proof_verdicts, line_verdict, of_turns}
 
 -- a text begins with its first lines, where these can be read
@@ -41,7 +42,8 @@ pub fronts_right_over : (theories : Bool) (script proof : List ℕ) (vs : List V
 fronts_right_over theories script proof vs h =
     let start = start_of theories in
     let m = header_told start h.lines h.says vs h.told in
-    let t = judged_begins theories m.limits script h.chunks h.says m.rest m.allowed (front_fewer script h.chunks h.behind (inr h.cut)) h.read (judged_of m.rest (judging_from start m.limits) h.says vs None m.told) in
+    let readable : AreReadable m.rest = (subst AreReadable m.header (each_front (λ l. IfSome l IsLine) h.lines h.later (lines_readable (h.lines ++ h.later) proof h.split))).1 in
+    let t = judged_begins theories m.limits script h.chunks h.says m.rest m.allowed (front_fewer script h.chunks h.behind (inr h.cut)) h.read readable (judged_of m.rest (judging_from start m.limits) h.says vs None m.told) in
     let header : Line = line.Header m.limits.cubes m.limits.budget in
     let lines : h.lines ≡ map (λ l. Some l) (header ∷ flat_map turn_lines t.0) = m.header ∙ ap (λ ls. Some header ∷ ls) t.1 in
     let text = begins_with_lines (header ∷ flat_map turn_lines t.0) h.later proof (subst (λ ls. AreLines proof (ls ++ h.later)) lines h.split) in

@@ -26,8 +26,7 @@ use Rattle.proof_text.specs.Entries.{head_of, lemma_line, entry_line}
 use Rattle.proof_text.specs.Records.{written_value, value_lines, diary_line}
 use Rattle.accepted_proof.specs.declared.refusal.Refusal.{Refusal}
 use Rattle.accepted_proof.specs.declared.refusal.RuleName.{RuleName}
-use Rattle.accepted_proof.specs.Turns.{Turn, verdict_of}
-use Rattle.accepted_proof.specs.Answers.{shown_lines, step_lines, turn_lines}
+use Rattle.accepted_proof.specs.Turns.{Turn, verdict_of, shown_lines, step_lines, turn_lines}
 use Rattle.accepted_proof.specs.Judged as judged
 use Rattle.accepted_proof.specs.Judged.{Owed, Judging, refused, owed_by, commanded, is_idle, reach, ending, StepsBy, Goes, Opens, Notes, AtStep, AtValue, AtDiary, Moves, MovesBy, Judged}
 use Rattle.accepted_proof.proofs.Once.{moved_once, same_limits}

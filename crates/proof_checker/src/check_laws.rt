@@ -1,14 +1,11 @@
 //! What is judged of two texts.
 
 ghost use Rattle.std.specs.Prelude.{◌≡◌, ◌++◌, ℕ, Bool, List, Option};
-ghost use Rattle.std.specs.List.{flat_map, AllByRecursion};
 ghost use Rattle.script_state.specs.declared.answer.Verdict.{Verdict};
 ghost use Rattle.script_state.specs.States.{StateValue, no_state, start_of};
-ghost use Rattle.proof_text.specs.Lines.{IsLine};
 ghost use Rattle.accepted_proof.specs.declared.refusal.Refusal.{Refusal};
 ghost use Rattle.accepted_proof.specs.Searching.{Limits};
 ghost use Rattle.accepted_proof.specs.Turns.{Turn};
-ghost use Rattle.accepted_proof.specs.Answers.{turn_lines};
 ghost use Rattle.accepted_proof.specs.Accepted.{Accepted, AcceptedFrom, AcceptedSoFarFrom};
 ghost use Rattle.accepted_proof.specs.Right.{AreRight};
 ghost use Rattle.proof_checker.specs.Checked.{IsJudgedOver, IsAccepted, IsAcceptedOver, IsAcceptedSoFarOver, verdicts_of};
@@ -55,16 +52,16 @@ pub fn accepted_fronts_are_right()
         → (limits : Limits) × (turns : List Turn) × AcceptedSoFarFrom (start_of theories) limits script proof turns × AreRight (start_of theories) turns × (vs ≡ verdicts_of turns) }
 {}
 
-/// A check accepts the accepted proofs whose lines can be read, with the verdicts of their turns.
+/// A check accepts each accepted proof, with the verdicts of its turns.
 pub fn accepted_proofs_pass()
-    ensures { (limits : Limits) (script proof : List ℕ) (turns : List Turn) → Accepted limits script proof turns → AllByRecursion IsLine (flat_map turn_lines turns) → IsAccepted script proof (verdicts_of turns) }
+    ensures { (limits : Limits) (script proof : List ℕ) (turns : List Turn) → Accepted limits script proof turns → IsAccepted script proof (verdicts_of turns) }
 {
     accepted_proofs_are_judged();
 }
 
 /// The same, whether functions with arguments and arrays are read in the script or not.
 pub fn accepted_proofs_pass_over()
-    ensures { (theories : Bool) (limits : Limits) (script proof : List ℕ) (turns : List Turn) → AcceptedFrom (start_of theories) limits script proof turns → AllByRecursion IsLine (flat_map turn_lines turns) → IsAcceptedOver (start_of theories) script proof (verdicts_of turns) }
+    ensures { (theories : Bool) (limits : Limits) (script proof : List ℕ) (turns : List Turn) → AcceptedFrom (start_of theories) limits script proof turns → IsAcceptedOver (start_of theories) script proof (verdicts_of turns) }
 {
     accepted_proofs_are_judged();
 }

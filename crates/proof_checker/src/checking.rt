@@ -1,6 +1,6 @@
 // A check of a script and a proof that come in pieces.
 
-ghost use Rattle.std.specs.Prelude.{◌≡◌, ◌++◌, [], ℕ, List, Option, Some, None, OnOk, IfOk, false, true, length};
+ghost use Rattle.std.specs.Prelude.{◌≡◌, ◌++◌, [], ℕ, List, Option, Some, None, OnOk, OnErr, IfOk, false, true, length};
 ghost use Rattle.script_state.specs.declared.answer.Verdict.{Verdict};
 ghost use Rattle.script_state.specs.States.{start_of};
 ghost use Rattle.accepted_proof.specs.declared.refusal.Refusal.{Refusal};
@@ -232,21 +232,25 @@ impl Checking {
         Checking::unfed(alloc, true)
     }
 
-    /// Takes the next piece of the script. Want of memory is also the answer where its lines could not be counted.
+    /// Takes the next piece of the script. Want of memory is also the answer where its lines could not be counted; then all is as
+    /// before.
     pub fn feed_script(&mut self, piece: &[u8]) -> Result<(), AllocError>
         ensures judged { OnOk result ((script proof : List ℕ) (vs : List Verdict) (o : Option Refusal) → Judges self.new script proof vs o → Judges self.old (piece.now ++ script) proof vs o) }
         ensures accepted { OnOk result ((script proof : List ℕ) (vs : List Verdict) → Accepts self.new script proof vs → Accepts self.old (piece.now ++ script) proof vs) }
         ensures fed { IsFed self.old self.new (length piece.now) }
+        ensures err { OnErr result (self.new ≡ self.old) }
         ensures ended { AreEnded self.new self.old.inputs.script_ended self.old.inputs.proof_ended }
     {
         self.inputs.framer.feed(piece)
     }
 
-    /// Takes the next piece of the proof. Want of memory is also the answer where its lines could not be counted.
+    /// Takes the next piece of the proof. Want of memory is also the answer where its lines could not be counted; then all is as
+    /// before.
     pub fn feed_proof(&mut self, piece: &[u8]) -> Result<(), AllocError>
         ensures judged { OnOk result ((script proof : List ℕ) (vs : List Verdict) (o : Option Refusal) → Judges self.new script proof vs o → Judges self.old script (piece.now ++ proof) vs o) }
         ensures accepted { OnOk result ((script proof : List ℕ) (vs : List Verdict) → Accepts self.new script proof vs → Accepts self.old script (piece.now ++ proof) vs) }
         ensures fed { IsFed self.old self.new (length piece.now) }
+        ensures err { OnErr result (self.new ≡ self.old) }
         ensures ended { AreEnded self.new self.old.inputs.script_ended self.old.inputs.proof_ended }
     {
         self.inputs.reader.feed(piece)

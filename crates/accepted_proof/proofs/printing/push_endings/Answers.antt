@@ -9,4 +9,4 @@ pub loop-entry-preserved : goal.loop-entry-preserved
 loop-entry-preserved c =
     text_more (λ (xs : List Entry). flat_map (store_ending c.args.default) xs) (store_ending c.args.default) refl (λ _ _. refl)
     c.args.entries.now c.loop-entry.entry-index c.entry-item.result _ _ _ c.loop-entry-test.true c.loop-entry.invariant
-    (c.in_ok-push_ending.ensures ∙ ap (λ (e : Entry). c.loop-entry.out ++ store_ending c.args.default e) c.entry-item.is)
+    (c.in_ok-push_ending.ensures.ok ∙ ap (λ (e : Entry). c.loop-entry.out ++ store_ending c.args.default e) c.entry-item.is)

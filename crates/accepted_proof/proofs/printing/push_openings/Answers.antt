@@ -9,4 +9,4 @@ pub loop-entry-preserved : goal.loop-entry-preserved
 loop-entry-preserved c =
     text_more (λ (xs : List Entry). flat_map (λ (e : Entry). store_opening c.args.default e.1) xs) (λ (e : Entry). store_opening c.args.default e.1) refl (λ _ _. refl)
     c.args.entries.now c.loop-entry.entry-index c.entry-item.result _ _ _ c.loop-entry-test.true c.loop-entry.invariant
-    (c.in_ok-push_opening.ensures ∙ ap (λ (e : Entry). c.loop-entry.out ++ store_opening c.args.default e.1) c.entry-item.is)
+    (c.in_ok-push_opening.ensures.ok ∙ ap (λ (e : Entry). c.loop-entry.out ++ store_opening c.args.default e.1) c.entry-item.is)

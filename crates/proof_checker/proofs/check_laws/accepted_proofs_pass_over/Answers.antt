@@ -3,4 +3,4 @@ use Rattle.proof_checker.proofs.Passing.{accepted_pass}
 use Rattle.proof_checker.proofs.check_laws.accepted_proofs_pass_over.Goals as goal
 
 pub returns : goal.returns
-returns c = λ theories limits script proof turns h each. accepted_pass (start_of theories) (c.accepted_proofs_are_judged.ensures theories) limits script proof turns h each
+returns c = λ theories limits script proof turns h. accepted_pass (start_of theories) (c.accepted_proofs_are_judged.ensures theories) limits script proof turns h

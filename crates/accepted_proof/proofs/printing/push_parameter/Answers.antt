@@ -1,0 +1,10 @@
+use Rattle.proof_text.proofs.Appending.{kept_front, on_err}
+use Rattle.accepted_proof.proofs.printing.push_parameter.Goals as goal
+
+pub returns-in_err-push_sort-clause-err : goal.returns-in_err-push_sort-clause-err
+returns-in_err-push_sort-clause-err c =
+    on_err c.from_residual-in_err-push_sort.result
+    (kept_front _ _ _ _ c.in_ok-push.ensures.ok
+    (kept_front _ _ _ _ c.in_ok-push_name.ensures.ok
+    (kept_front _ _ _ _ c.in_ok-push-2.ensures.ok
+    c.in_err-push_sort.ensures.err)))
