@@ -16,6 +16,7 @@ use Rattle.smt_check.specs.Runs.{ReadsBytes, Counts, HasCause, input_limit}
 use Rattle.smt_check.specs.Checks.{status_of, ToldOf, IsEndOfCheck, IsRightlyAccepted, ReadsForStatus, HasCheckCause}
 use Rattle.smt_run.specs.Solving.{FailsToRead}
 use Rattle.smt_run.specs.Beside.{IsShort, IsWithoutFault}
+use Rattle.smt_run.specs.Commands.{IsNoProof}
 
 -- what is accepted is right
 abbrev pub AcceptedLaw : Type 0
@@ -33,6 +34,27 @@ right_told None p a a' t law e h = tt
 right_told (Some x) None a a' t law e h = tt
 right_told (Some x) (Some y) None a' t law e h = tt
 right_told (Some x) (Some y) (Some z) a' t law e h = (h.0, h.1, right_end x y h.0 t law e h.2)
+
+-- each accepted proof passes
+abbrev pub PassesLaw : Type 0
+PassesLaw = (limits : Limits) (script proof : List ℕ) (turns : List Turn) → Accepted limits script proof turns → IsAccepted script proof (verdicts_of turns)
+
+-- one thing at most is judged
+abbrev pub OneWayLaw : Type 0
+OneWayLaw = (script proof : List ℕ) (vs us : List Verdict) (o q : Option Refusal) → IsJudged script proof vs o → IsJudged script proof us q → (vs ≡ us) × (o ≡ q)
+
+refused_end : (text lines answered : List ℕ) (t : Status) → PassesLaw → OneWayLaw → t ≡ Refused → IsEndOfCheck t text lines answered → IsNoProof text lines answered
+refused_end text lines answered t pass one e k = λ limits turns accepted. go k.refusal k.judged (sym e ∙ k.status_is) turns (pass limits text lines turns accepted)
+  where
+    go : (o : Option Refusal) → IsJudged text lines k.verdicts o → Refused ≡ status_of o → (turns : List Turn) → IsAccepted text lines (verdicts_of turns) → ⊥
+    go None j d turns h = let z : ⊥ = cc in z
+    go (Some x) j d turns h = let same : ◌≡◌ {A = Option Refusal} (Some x) None = (one text lines k.verdicts (verdicts_of turns) (Some x) None j h).1 in let z : ⊥ = cc in z
+
+pub refused_told : (s p a a' : Option (List ℕ)) (t : Status) → PassesLaw → OneWayLaw → t ≡ Refused → ToldOf s p a a' (IsEndOfCheck t) → ToldOf s p a a' IsNoProof
+refused_told None p a a' t pass one e h = tt
+refused_told (Some x) None a a' t pass one e h = tt
+refused_told (Some x) (Some y) None a' t pass one e h = tt
+refused_told (Some x) (Some y) (Some z) a' t pass one e h = (h.0, h.1, refused_end x y h.0 t pass one e h.2)
 
 -- ---- the status of an end
 
@@ -63,6 +85,9 @@ memory_long = λ e. let z : ⊥ = cc in z
 
 pub memory_end : (P : Type 0) → (NoMemory ≡ Done) ⊎ (NoMemory ≡ Refused) → P
 memory_end P k = absurd (⊎_elim (λ e. let z : ⊥ = cc in z) (λ e. let z : ⊥ = cc in z) k)
+
+pub memory_refused : (P : Type 0) → NoMemory ≡ Refused → P
+memory_refused P e = let z : ⊥ = cc in absurd z
 
 pub memory_done : (P : Type 0) → NoMemory ≡ Done → P
 memory_done P e = let z : ⊥ = cc in absurd z

@@ -6,3 +6,4 @@ pub mod Ends
 pub mod OneValue
 pub mod Faultless
 pub mod WordsTaken
+pub mod Cutting

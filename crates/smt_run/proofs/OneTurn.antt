@@ -1,15 +1,19 @@
 -- One command and its answer.
 use Rattle.std.proofs.Common.{◌≡◌, ℕ, ◌<◌, List, [], ◌∷◌, length, take, drop, Option, refl, sym, ap, ◌∙◌, subst, append-nil, inl, inr, take-append-drop, arith, length-drop}
 use Rattle.std.specs.Prelude.{◌||◌}
-use Rattle.std.specs.List.{flat_map, AllByRecursion}
+use Rattle.std.specs.List.{flat_map}
 use Rattle.std.specs.Io.KnownBytes.{Appends}
 use Rattle.std.proofs.KnownBytes.{Appends-nil}
 use Rattle.smt_text.specs.declared.chunk.Chunk.{Chunk}
-use Rattle.proof_text.specs.Lines.{line_text, IsLine}
+use Rattle.proof_text.specs.Lines.{line_text}
 use Rattle.script_state.specs.Steps.{ends}
-use Rattle.accepted_proof.specs.Answers.{turn_text, turn_lines, is_refused}
+use Rattle.accepted_proof.specs.Turns.{turn_lines}
+use Rattle.accepted_proof.specs.Answers.{turn_text, is_refused}
 use Rattle.smt_session.specs.declared.response.Response.{Response}
-use Rattle.smt_session.specs.Sessions.{SessionValue, IsAnswered}
+use Rattle.smt_session.specs.declared.response.Stop.{Stop}
+use Rattle.smt_session.specs.declared.response.Stop.TheVariants.{Failed, NoMemory}
+use Rattle.smt_session.specs.Sessions.{SessionValue, IsAnswered, CutsTurn, Leaves}
+use Rattle.smt_check.specs.Runs.{AddsTo}
 use Rattle.smt_run.specs.declared.answering.Answered.{Answered}
 use Rattle.smt_run.specs.Adding.{Moment, moment_of, answers_at, Follow, streams, lines_of, Advances, BreaksAt}
 use Rattle.smt_run.proofs.Turning.{Follow-none, or_false}
@@ -33,7 +37,6 @@ module _ (chunk : Chunk) (old new : SessionValue) (r : Response) (p p' : Option 
           follow = turn_follows;
           answers = subst (Appends a a') (sym (append-nil (answers_at (moment_of old) (w.turn ∷ [])) ∙ one_text)) t;
           proof = subst (Appends p p') (sym (append-nil (lines_of (w.turn ∷ [])) ∙ one_proof)) w.lines;
-          readable = subst (AllByRecursion IsLine) (sym (append-nil (turn_lines w.turn))) w.readable;
           thorough = (w.thorough, tt);
         };
         after_is = (λ i. record { state = w.state i; log = w.log i; shown = w.shown i; limits = w.limits i });
@@ -51,31 +54,69 @@ module _ (chunk : Chunk) (old new : SessionValue) (r : Response) (p p' : Option 
           turns = [];
           begun = take n r.text;
           more = flat_map line_text (turn_lines w.turn);
-          adds = record { follow = Follow-none (moment_of old); answers = t; proof = w.lines; readable = tt; thorough = tt };
+          adds = record { follow = Follow-none (moment_of old); answers = t; proof = w.lines; thorough = tt };
           going = refl;
           coming = w.turn ∷ [];
           rest = drop n r.text;
+          left = [];
           follow = turn_follows;
-          front = one_text ∙ sym (take-append-drop n r.text);
-          unfinished = inr (w.turn, refl, omega (arith, h, length-drop n r.text));
+          answer = one_text ∙ sym (take-append-drop n r.text);
+          lines = one_proof ∙ sym (append-nil (flat_map line_text (turn_lines w.turn)));
+          unfinished = inr (record { turn = w.turn; one = refl; unfinished = inr (refl, omega (arith, h, length-drop n r.text)) });
         };
       })
 
--- a command that was not answered
-pub command_breaks : (m : Moment) (chunks : List Chunk) (a p p' : Option (List ℕ)) (lines : List ℕ) → Appends p p' lines → BreaksAt m (streams a p) (streams a p') chunks
-command_breaks m chunks a p p' lines h = record {
+-- what is left in the proof where a write failed, and where memory is wanting
+pub left_at_failure : (stop : Stop) (front : Type 0) (p p' : Option (List ℕ)) → stop ≡ Failed → Leaves stop front p p' → front
+left_at_failure stop front p p' e h = subst (λ s. Leaves s front p p') e h
+
+pub left_at_want : (stop : Stop) (front : Type 0) (p p' : Option (List ℕ)) → stop ≡ NoMemory → Leaves stop front p p' → Appends p p' []
+left_at_want stop front p p' e h = subst (λ s. Leaves s front p p') e h
+
+-- a command of which nothing was written
+pub silent_breaks : (m : Moment) (chunks : List Chunk) (a p p' : Option (List ℕ)) → Appends p p' [] → BreaksAt m (streams a p) (streams a p') chunks
+silent_breaks m chunks a p p' h = record {
   next = [];
   next_is = inl refl;
   breaks = record {
     turns = [];
     begun = [];
-    more = lines;
-    adds = record { follow = Follow-none m; answers = Appends-nil a; proof = h; readable = tt; thorough = tt };
+    more = [];
+    adds = record { follow = Follow-none m; answers = Appends-nil a; proof = h; thorough = tt };
     going = refl;
     coming = [];
     rest = [];
+    left = [];
     follow = Follow-none m;
-    front = refl;
-    unfinished = inl refl;
+    answer = refl;
+    lines = refl;
+    unfinished = inl (refl, refl);
   };
 }
+
+-- a command of whose lines a front was written
+pub cut_breaks : (old : SessionValue) (chunk : Chunk) (a p p' : Option (List ℕ)) → CutsTurn chunk old p p' → BreaksAt (moment_of old) (streams a p) (streams a p') (chunk ∷ [])
+cut_breaks old chunk a p p' w = record {
+  next = chunk ∷ [];
+  next_is = inr refl;
+  breaks = record {
+    turns = [];
+    begun = [];
+    more = w.lines.front;
+    adds = record { follow = Follow-none (moment_of old); answers = Appends-nil a; proof = w.lines.added; thorough = tt };
+    going = refl;
+    coming = w.turn ∷ [];
+    rest = answers_at (moment_of old) (w.turn ∷ []);
+    left = w.lines.left;
+    follow = record { read = (w.line, w.reads, tt); last = (λ e. refl, tt); run = (w.stands, tt) };
+    answer = refl;
+    lines = ap (flat_map line_text) (append-nil (turn_lines w.turn)) ∙ w.lines.parts;
+    unfinished = inr (record { turn = w.turn; one = refl; unfinished = inl (refl, w.lines.unfinished) });
+  };
+}
+
+pub cut_adds : (old : SessionValue) (chunk : Chunk) (p p' : Option (List ℕ)) → CutsTurn chunk old p p' → AddsTo p p'
+cut_adds old chunk p p' w = (w.lines.front, w.lines.added)
+
+pub answer_adds : (chunk : Chunk) (old new : SessionValue) (r : Response) (p p' : Option (List ℕ)) → IsAnswered chunk old new r p p' → AddsTo p p'
+answer_adds chunk old new r p p' w = (flat_map line_text (turn_lines w.turn), w.lines)

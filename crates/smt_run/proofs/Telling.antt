@@ -1,8 +1,8 @@
 -- What was added, where bytes are told.
-use Rattle.std.proofs.Common.{◌≡◌, ℕ, ◌<◌, Bool, true, false, List, [], ◌∷◌, ◌++◌, length, Option, Some, None, refl, sym, ap, ◌∙◌, subst, append_assoc, append-nil, inl, inr, ⊎_elim}
-use Rattle.std.specs.List.{flat_map, AllByRecursion}
+use Rattle.std.proofs.Common.{◌≡◌, ℕ, Bool, true, false, List, [], ◌∷◌, ◌++◌, Option, Some, None, refl, sym, ap, ◌∙◌, subst, append_assoc, append-nil, inl, inr, ⊎_elim}
 use Rattle.std.specs.Prelude.{◌⊎◌, ◌||◌, Result, Ok, Err, IfOk, IfErr, MatchResult, IfSome, if◌then◌else◌, option_to_list}
 use Rattle.std.specs.Io.KnownBytes.{Appends, Consumes, IsAtEnd}
+use Rattle.std.specs.List.{flat_map}
 use Rattle.std.proofs.lemmas.List.Folds.{list_any-append}
 use Rattle.smt_text.specs.declared.chunk.Chunk.{Chunk}
 use Rattle.smt_text.specs.Framing.{Held, first_chunk, last_chunk}
@@ -10,19 +10,20 @@ use Rattle.smt_text.specs.Script.{Begins, AreChunks}
 use Rattle.smt_text.proofs.Cuts.{Begins-append}
 use Rattle.script_state.specs.States.{no_state}
 use Rattle.accepted_proof.specs.Searching.{Limits, AreLimits}
-use Rattle.accepted_proof.specs.Turns.{Turn, AreTurns}
+use Rattle.proof_text.specs.Lines.{line_text}
+use Rattle.accepted_proof.specs.Turns.{Turn, AreTurns, turn_lines}
 use Rattle.accepted_proof.specs.Right.{AreRight, ArePrinted}
-use Rattle.proof_text.specs.Lines.{IsLine}
-use Rattle.accepted_proof.specs.Answers.{answers_of, turn_lines, is_refused, header_text, proof_of}
-use Rattle.accepted_proof.specs.Accepted.{AreRead, AreAll, Accepted, IsFront, IsBegun, has_error}
+use Rattle.accepted_proof.specs.Answers.{answers_of, is_refused, header_text, proof_of}
+use Rattle.accepted_proof.specs.Accepted.{AreRead, AreAll, Accepted, EndLast, IsFront, IsBegun, has_error}
 use Rattle.proof_checker.specs.Checked.{IsAccepted, verdicts_of}
 use Rattle.smt_check.specs.declared.status.Status.{Status}
 use Rattle.smt_check.specs.declared.status.Status.TheVariants.{Done, Refused, Usage, ReadFault, WriteFault, NoMemory, TooLong}
 use Rattle.smt_check.specs.Runs.{ReadsBytes, ReadsPiece}
 use Rattle.smt_run.specs.Solving.{StopsWriting, FailsToRead, untaken}
 use Rattle.smt_run.specs.declared.answering.Answered.{Answered}
-use Rattle.smt_run.specs.Adding.{moment_of, opening, Follow, Streams, streams, lines_of, Advances, IsBegunOf, Breaks, BreaksAt, BreaksWithin, AddsLast, AnswersAll, AnswersFront, AnswersRead}
-use Rattle.smt_run.specs.Beside.{Told, IsBesideProof, IsBeside, IsAllAnswered, IsPrefix, IsAnsweredToRead, IsReadOut}
+use Rattle.smt_run.specs.Adding.{moment_of, opening, Follow, Streams, streams, lines_of, Advances, IsNothing, IsBegunOf, Breaks, BreaksAt, BreaksWithin, AddsLast, AnswersAll, AnswersFront, AnswersRead}
+use Rattle.smt_run.specs.Beside.{Told, IsAcceptedCut, IsBegunBehind, IsBesideProof, IsBeside, IsAllAnswered, IsPrefix, IsAnsweredToRead, IsReadOut}
+use Rattle.smt_run.proofs.Cutting.{front_parts}
 use Rattle.smt_run.proofs.Turning.{Follow-append, answers-append, Adds-trans, Advances-breaks}
 
 -- what answers to turns that follow one another are
@@ -31,7 +32,19 @@ RightLaw limits = (turns : List Turn) → AreTurns limits no_state [] turns → 
 
 -- which proofs a check accepts
 abbrev pub PassLaw : Limits → Type 0
-PassLaw limits = (script proof : List ℕ) (turns : List Turn) → Accepted limits script proof turns → AllByRecursion IsLine (flat_map turn_lines turns) → IsAccepted script proof (verdicts_of turns)
+PassLaw limits = (script proof : List ℕ) (turns : List Turn) → Accepted limits script proof turns → IsAccepted script proof (verdicts_of turns)
+
+-- cut behind its first chunks, a script has the accepted proof of their turns
+checked_cut : (limits : Limits) → PassLaw limits → AreLimits limits → (text : List ℕ) (chunks : List Chunk) (turns : List Turn) → IsFront text chunks → AreRead chunks turns → EndLast turns → AreTurns limits no_state [] turns → IsAcceptedCut limits text chunks turns
+checked_cut limits pass allowed text chunks turns front read last run =
+    let k = front_parts text chunks front in
+    record {
+      cut = k.0;
+      rest = k.1;
+      text_is = k.2;
+      whole = k.3;
+      checked = pass k.0 (proof_of limits turns) turns (record { allowed = allowed; chunks = chunks; cut = inl k.3; read = read; last = last; run = run; lines = refl });
+    }
 
 -- ---- texts
 
@@ -134,18 +147,55 @@ module _ (limits : Limits) where
     ended = sym p.ended_is ∙ g;
   })
 
-  -- what is begun of the answer to what comes next
-  begun_of : (text : List ℕ) (chunks next : List Chunk) (turns coming : List Turn) (begun rest : List ℕ) → IsFront text (chunks ++ next) → Follow (opening limits) (chunks ++ next) (turns ++ coming) → AreRead next coming
-      → answers_of (turns ++ coming) ≡ answers_of turns ++ begun ++ rest → IsBegunOf coming begun rest → (begun ≡ []) ⊎ IsBegun limits text chunks turns begun
-  begun_of text chunks next turns coming begun rest f h read e u = ⊎_elim inl (λ k. inr (one next coming f h read e k.1 k.2)) u
+  -- where one turn comes next, it is that of one chunk
+  single : (text : List ℕ) (chunks next : List Chunk) (turns coming : List Turn) (turn : Turn) → coming ≡ turn ∷ [] → IsFront text (chunks ++ next) → Follow (opening limits) (chunks ++ next) (turns ++ coming) → AreRead next coming
+      → (c : Chunk) × IsFront text (chunks ++ c ∷ []) × Follow (opening limits) (chunks ++ c ∷ []) (turns ++ turn ∷ [])
+  single text chunks next turns coming turn is f h read = go next f (subst (λ us. Follow (opening limits) (chunks ++ next) (turns ++ us)) is h) (subst (AreRead next) is read)
     where
-      one : {t : Turn} (next : List Chunk) (coming : List Turn) → IsFront text (chunks ++ next) → Follow (opening limits) (chunks ++ next) (turns ++ coming) → AreRead next coming
-          → answers_of (turns ++ coming) ≡ answers_of turns ++ begun ++ rest → coming ≡ t ∷ [] → 0 < length rest → IsBegun limits text chunks turns begun
-      one next [] f h read e is lt = let q : ⊥ = cc in absurd q
-      one [] (t ∷ coming) f h read e is lt = absurd read
-      one (c ∷ d ∷ next) (t ∷ []) f h read e is lt = absurd read.2
-      one next (t ∷ u ∷ coming) f h read e is lt = let q : ⊥ = cc in absurd q
-      one (c ∷ []) (t ∷ []) f h read e is lt = record { next = c; turn = t; rest = rest; front = f; read = h.read; last = h.last; run = h.run; texts = e; unfinished = lt }
+      go : (next : List Chunk) → IsFront text (chunks ++ next) → Follow (opening limits) (chunks ++ next) (turns ++ turn ∷ []) → AreRead next (turn ∷ []) → (c : Chunk) × IsFront text (chunks ++ c ∷ []) × Follow (opening limits) (chunks ++ c ∷ []) (turns ++ turn ∷ [])
+      go [] f h read = absurd read
+      go (c ∷ []) f h read = (c, f, h)
+      go (c ∷ d ∷ next) f h read = absurd read.2
+
+  module _ (text : List ℕ) (chunks next : List Chunk) (turns coming : List Turn) (begun rest more left : List ℕ) (f : IsFront text (chunks ++ next)) (h : Follow (opening limits) (chunks ++ next) (turns ++ coming)) (read : AreRead next coming) where
+    -- what was begun of an answer
+    begun_answer : answers_of (turns ++ coming) ≡ answers_of turns ++ begun ++ rest → IsNothing begun more ⊎ IsBegunOf coming begun rest more left → (begun ≡ []) ⊎ IsBegun limits text chunks turns begun
+    begun_answer e (inl n) = inl n.0
+    begun_answer e (inr k) =
+        let s = single text chunks next turns coming k.turn k.one f h read in
+        ⊎_elim (λ q. inl q.0)
+        (λ q. inr (record {
+          next = s.0;
+          turn = k.turn;
+          rest = rest;
+          front = s.1;
+          read = s.2.read;
+          last = s.2.last;
+          run = s.2.run;
+          texts = subst (λ us. answers_of (turns ++ us) ≡ answers_of turns ++ begun ++ rest) k.one e;
+          unfinished = q.1;
+        }))
+        k.unfinished
+
+    -- and of the lines of a command
+    begun_lines : PassLaw limits → AreLimits limits → lines_of coming ≡ more ++ left → IsNothing begun more ⊎ IsBegunOf coming begun rest more left → ((begun ≡ []) × (more ≡ [])) ⊎ IsBegunBehind limits text chunks turns begun more
+    begun_lines pass allowed e (inl n) = inl n
+    begun_lines pass allowed e (inr k) =
+        let s = single text chunks next turns coming k.turn k.one f h read in
+        inr (record {
+          next = s.0;
+          turn = k.turn;
+          front = s.1;
+          read = s.2.read;
+          last = s.2.last;
+          run = s.2.run;
+          left = left;
+          lines = sym (ap (flat_map line_text) (append-nil (turn_lines k.turn))) ∙ sym (ap lines_of k.one) ∙ e;
+          cut =
+              ⊎_elim (λ q. inl q)
+              (λ q. inr (q.0, checked_cut limits pass allowed text (chunks ++ s.0 ∷ []) (turns ++ k.turn ∷ []) s.1 s.2.read s.2.last s.2.run))
+              k.unfinished;
+        })
 
   -- a read that failed, behind answers to all that was read before
   over_read : (left : ℕ) (b c : Option (List ℕ)) (t : Status) → ReadsPiece left b c (Err t) → ReadsBytes (untaken t) b c
@@ -202,17 +252,17 @@ module _ (limits : Limits) where
   abbrev pub IsFrontTold : List ℕ → List ℕ → List ℕ → Type 0
   IsFrontTold text answered proved = IsBesideProof limits text answered proved × IsPrefix limits text answered
 
-  pub told_front : (s a a' p m p' : Option (List ℕ)) → AreLimits limits → RightLaw limits → Appends p m (header_text limits) → IfSome s (λ t. AnswersFront limits t (streams a m) (streams a' p')) → Told s a a' p p' IsFrontTold
-  told_front None a a' p m p' allowed law h w = tt
-  told_front (Some x) None a' p m p' allowed law h w = tt
-  told_front (Some x) (Some y) a' None m p' allowed law h w = tt
-  told_front (Some x) (Some y) a' (Some z) None p' allowed law h w = absurd h
-  told_front (Some x) (Some y) None (Some z) (Some m) p' allowed law h w = absurd w.breaks.adds.answers
-  told_front (Some x) (Some y) (Some y') (Some z) (Some m) None allowed law h w = absurd w.breaks.adds.proof
-  told_front (Some x) (Some y) (Some y') (Some z) (Some m) (Some z') allowed law h w =
+  pub told_front : (s a a' p m p' : Option (List ℕ)) → AreLimits limits → RightLaw limits → PassLaw limits → Appends p m (header_text limits) → IfSome s (λ t. AnswersFront limits t (streams a m) (streams a' p')) → Told s a a' p p' IsFrontTold
+  told_front None a a' p m p' allowed law pass h w = tt
+  told_front (Some x) None a' p m p' allowed law pass h w = tt
+  told_front (Some x) (Some y) a' None m p' allowed law pass h w = tt
+  told_front (Some x) (Some y) a' (Some z) None p' allowed law pass h w = absurd h
+  told_front (Some x) (Some y) None (Some z) (Some m) p' allowed law pass h w = absurd w.breaks.adds.answers
+  told_front (Some x) (Some y) (Some y') (Some z) (Some m) None allowed law pass h w = absurd w.breaks.adds.proof
+  told_front (Some x) (Some y) (Some y') (Some z) (Some m) (Some z') allowed law pass h w =
       let b = w.breaks in
       let all = Follow-append (opening limits) w.chunks w.next b.turns b.coming b.going b.adds.follow b.follow in
-      let texts = answers-append (opening limits) b.turns b.coming ∙ ap (λ l. answers_of b.turns ++ l) b.front ∙ sym (append_assoc (answers_of b.turns) b.begun b.rest) in (
+      let texts = answers-append (opening limits) b.turns b.coming ∙ ap (λ l. answers_of b.turns ++ l) b.answer ∙ sym (append_assoc (answers_of b.turns) b.begun b.rest) in (
         answers_of b.turns ++ b.begun,
         header_text limits ++ (lines_of b.turns ++ b.more),
         ap Some b.adds.answers,
@@ -231,8 +281,10 @@ module _ (limits : Limits) where
               run = b.adds.follow.run;
               lines = sym (append_assoc (header_text limits) (lines_of b.turns) b.more);
               texts = refl;
-              unfinished = begun_of x w.chunks w.next b.turns b.coming b.begun b.rest w.all all b.follow.read texts b.unfinished;
+              unfinished = begun_answer x w.chunks w.next b.turns b.coming b.begun b.rest b.more b.left w.all all b.follow.read texts b.unfinished;
             };
+            checked = checked_cut limits pass allowed x w.chunks b.turns w.front b.adds.follow.read b.adds.follow.last b.adds.follow.run;
+            behind = begun_lines x w.chunks w.next b.turns b.coming b.begun b.rest b.more b.left w.all all b.follow.read pass allowed b.lines b.unfinished;
             thorough = b.adds.thorough;
             right = (law b.turns b.adds.follow.run).0;
             printed = (law b.turns b.adds.follow.run).1;
@@ -266,7 +318,7 @@ module _ (limits : Limits) where
         record {
           turns = w.turns;
           whole = record { accepted = accepted; texts = refl };
-          checked = pass x (header_text limits ++ lines_of w.turns) w.turns accepted w.adds.readable;
+          checked = pass x (header_text limits ++ lines_of w.turns) w.turns accepted;
           thorough = w.adds.thorough;
           right = (law w.turns w.adds.follow.run).0;
           printed = (law w.turns w.adds.follow.run).1;
@@ -308,8 +360,8 @@ module _ (limits : Limits) where
   )
 
   -- where all is answered, what was answered stands beside the proof
-  pub all_beside : (status : Status) (text answered proved : List ℕ) → IsAllAnswered limits status text answered proved → IsBeside limits text answered proved
-  all_beside status text answered proved k = inr (record {
+  pub all_beside : PassLaw limits → (status : Status) (text answered proved : List ℕ) → IsAllAnswered limits status text answered proved → IsBeside limits text answered proved
+  all_beside pass status text answered proved k = inr (record {
     beside = record {
       allowed = k.whole.accepted.allowed;
       chunks = k.whole.accepted.chunks;
@@ -324,6 +376,8 @@ module _ (limits : Limits) where
       texts = k.whole.texts ∙ sym (append-nil (answers_of k.turns));
       unfinished = inl refl;
     };
+    checked = checked_cut limits pass k.whole.accepted.allowed text k.whole.accepted.chunks k.turns (front_of_all text k.whole.accepted.chunks k.turns k.whole.accepted.cut) k.whole.accepted.read k.whole.accepted.last k.whole.accepted.run;
+    behind = inl (refl, refl);
     thorough = k.thorough;
     right = k.right;
     printed = k.printed;
@@ -343,19 +397,19 @@ module _ (limits : Limits) where
 
   -- ---- both ends of a run
 
-  module _ (s a a' p m p' : Option (List ℕ)) (allowed : AreLimits limits) (law : RightLaw limits) (h : Appends p m (header_text limits)) where
+  module _ (s a a' p m p' : Option (List ℕ)) (allowed : AreLimits limits) (law : RightLaw limits) (pass : PassLaw limits) (h : Appends p m (header_text limits)) where
     pub front_beside : IfSome s (λ t. AnswersFront limits t (streams a m) (streams a' p')) → Told s a a' p p' (IsBeside limits)
-    front_beside w = told_map s a a' p p' IsFrontTold (IsBeside limits) (λ x y z k. inr k.0) (told_front s a a' p m p' allowed law h w)
+    front_beside w = told_map s a a' p p' IsFrontTold (IsBeside limits) (λ x y z k. inr k.0) (told_front s a a' p m p' allowed law pass h w)
 
     pub front_prefix : IfSome s (λ t. AnswersFront limits t (streams a m) (streams a' p')) → Told s a a' p p' (λ text answered proved. IsPrefix limits text answered)
-    front_prefix w = told_map s a a' p p' IsFrontTold (λ text answered proved. IsPrefix limits text answered) (λ x y z k. k.1) (told_front s a a' p m p' allowed law h w)
+    front_prefix w = told_map s a a' p p' IsFrontTold (λ text answered proved. IsPrefix limits text answered) (λ x y z k. k.1) (told_front s a a' p m p' allowed law pass h w)
 
-    module _ (pass : PassLaw limits) (refused : Bool) (status : Status) (e : status ≡ (if refused then Refused else Done)) (w : IfSome s (λ t. AnswersAll limits t (streams a m) (streams a' p') refused)) where
+    module _ (refused : Bool) (status : Status) (e : status ≡ (if refused then Refused else Done)) (w : IfSome s (λ t. AnswersAll limits t (streams a m) (streams a' p') refused)) where
       pub whole_all : Told s a a' p p' (IsAllAnswered limits status)
       whole_all = told_all s a a' p m p' refused status allowed law pass e h w
 
       pub whole_beside : Told s a a' p p' (IsBeside limits)
-      whole_beside = told_map s a a' p p' (IsAllAnswered limits status) (IsBeside limits) (all_beside status) whole_all
+      whole_beside = told_map s a a' p p' (IsAllAnswered limits status) (IsBeside limits) (all_beside pass status) whole_all
 
       pub whole_prefix : Told s a a' p p' (λ text answered proved. IsPrefix limits text answered)
       whole_prefix = told_map s a a' p p' (IsAllAnswered limits status) (λ text answered proved. IsPrefix limits text answered) (all_prefix status) whole_all

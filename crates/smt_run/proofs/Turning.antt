@@ -1,7 +1,7 @@
 -- Turns after turns.
 use Rattle.std.proofs.Common.{◌≡◌, ℕ, Bool, true, false, List, [], ◌∷◌, ◌++◌, Option, Some, None, refl, sym, ap, ◌∙◌, subst, append_assoc, append-nil, inl, ⊎_elim}
 use Rattle.std.specs.Prelude.{◌||◌, Result, Ok, Err, IfOk, IfErr, option_to_list}
-use Rattle.std.specs.List.{flat_map, AllByRecursion}
+use Rattle.std.specs.List.{flat_map}
 use Rattle.std.proofs.lemmas.Grind.{flat_map-append}
 use Rattle.std.proofs.lemmas.List.Folds.{list_any-append}
 use Rattle.std.specs.Io.KnownBytes.{Appends}
@@ -11,16 +11,15 @@ use Rattle.smt_text.specs.declared.chunk.Chunk.{Chunk}
 use Rattle.smt_text.specs.Framing.{Held, first_chunk}
 use Rattle.smt_text.specs.Script.{Begins}
 use Rattle.smt_text.proofs.Cuts.{Begins-push, Begins-append}
-use Rattle.proof_text.specs.Lines.{line_text, IsLine}
+use Rattle.proof_text.specs.Lines.{line_text}
 use Rattle.script_state.specs.Steps.{ends}
-use Rattle.accepted_proof.specs.Turns.{Turn, AreTurns}
-use Rattle.accepted_proof.specs.Answers.{turn_text, turn_lines, is_refused}
+use Rattle.accepted_proof.specs.Turns.{Turn, AreTurns, turn_lines}
+use Rattle.accepted_proof.specs.Answers.{turn_text, is_refused}
 use Rattle.accepted_proof.specs.Accepted.{AreRead, EndLast, has_ended, has_error}
 use Rattle.smt_check.specs.declared.status.Status.{Status}
 use Rattle.smt_session.specs.Thorough.{AreThorough}
 use Rattle.smt_run.specs.declared.answering.Answered.{Answered}
 use Rattle.smt_run.specs.Adding.{Moment, moment_of, behind, after, answers_at, Follow, Streams, lines_of, Adds, Advances, Breaks, BreaksAt, AdvancesWithin, BreaksWithin, AddsLast, with_piece}
-use Rattle.cnf_base.proofs.Lists.{each_append}
 
 pub after-append : (m : Moment) (ts us : List Turn) → after m (ts ++ us) ≡ after (after m ts) us
 after-append m [] us = refl
@@ -72,7 +71,7 @@ lines-append ts us = ap (flat_map line_text) (flat_map-append turn_lines ts us) 
 -- ---- what is added
 
 pub Adds-none : (m : Moment) (s : Streams) → Adds m s s [] [] [] []
-Adds-none m s = record { follow = Follow-none m; answers = Appends-nil s.answers; proof = Appends-nil s.proof; readable = tt; thorough = tt }
+Adds-none m s = record { follow = Follow-none m; answers = Appends-nil s.answers; proof = Appends-nil s.proof; thorough = tt }
 
 -- what stands behind a whole text
 joined : (xs ys zs begun : List ℕ) → zs ≡ xs ++ ys → (xs ++ []) ++ (ys ++ begun) ≡ zs ++ begun
@@ -87,7 +86,6 @@ Adds-trans m a b c cs ds ts us begun more g p q = record {
   proof =
       subst (Appends a.proof c.proof) (joined (lines_of ts) (lines_of us) (lines_of (ts ++ us)) more (lines-append ts us))
       (Appends-trans a.proof b.proof c.proof _ _ p.proof q.proof);
-  readable = subst (AllByRecursion IsLine) (sym (flat_map-append turn_lines ts us)) (each_append IsLine (flat_map turn_lines ts) (flat_map turn_lines us) p.readable q.readable);
   thorough = thorough-append m ts us p.thorough q.thorough;
 }
 
@@ -129,9 +127,11 @@ Breaks-none m s = record {
   going = refl;
   coming = [];
   rest = [];
+  left = [];
   follow = Follow-none m;
-  front = refl;
-  unfinished = inl refl;
+  answer = refl;
+  lines = refl;
+  unfinished = inl (refl, refl);
 }
 
 -- a stop behind an advance
@@ -146,8 +146,10 @@ Advances-breaks m r mid a b c cs ds next g p q =
       going = sym (ended-append p.turns k.turns (sym p.ended_is ∙ g)) ∙ k.going;
       coming = k.coming;
       rest = k.rest;
+      left = k.left;
       follow = rw (after-append m p.turns k.turns) k.follow;
-      front = rw (after-append m p.turns k.turns) k.front;
+      answer = rw (after-append m p.turns k.turns) k.answer;
+      lines = k.lines;
       unfinished = k.unfinished;
     }
 

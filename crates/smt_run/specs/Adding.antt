@@ -1,6 +1,6 @@
 -- What a run adds to the answers and to the proof, one turn after another.
 use Rattle.std.specs.Prelude.{◌≡◌, ◌⊎◌, ℕ, ◌<◌, Bool, false, ◌||◌, List, [], ◌∷◌, ◌++◌, length, Option, Some, None}
-use Rattle.std.specs.List.{flat_map, AllByRecursion}
+use Rattle.std.specs.List.{flat_map}
 use Rattle.std.specs.Io.KnownBytes.{Appends}
 use Rattle.smt_text.specs.declared.chunk.Chunk.{Chunk}
 use Rattle.smt_text.specs.Framing.{Held, first_chunk}
@@ -8,10 +8,10 @@ use Rattle.smt_text.specs.Script.{Begins}
 use Rattle.script_state.specs.States.{StateValue, no_state}
 use Rattle.proof_log.specs.declared.entry.Entry.{Entry}
 use Rattle.proof_text.specs.declared.record.Record.{Record}
-use Rattle.proof_text.specs.Lines.{line_text, IsLine}
+use Rattle.proof_text.specs.Lines.{line_text}
 use Rattle.accepted_proof.specs.Searching.{Limits}
-use Rattle.accepted_proof.specs.Turns.{Turn, AreTurns, state_after}
-use Rattle.accepted_proof.specs.Answers.{answers_from, last_shown, turn_lines}
+use Rattle.accepted_proof.specs.Turns.{Turn, AreTurns, state_after, turn_lines}
+use Rattle.accepted_proof.specs.Answers.{answers_from, last_shown}
 use Rattle.accepted_proof.specs.Accepted.{AreRead, AreAll, EndLast, IsFront, has_ended, has_error}
 use Rattle.smt_session.specs.Sessions.{SessionValue}
 use Rattle.smt_session.specs.Thorough.{AreThorough}
@@ -68,13 +68,12 @@ streams a p = record { answers = a; proof = p }
 abbrev pub lines_of : List Turn → List ℕ
 lines_of turns = flat_map line_text (flat_map turn_lines turns)
 
--- the answers and the lines of the turns are added, and behind them begun and more; each line can be read, no check made a
--- term, and all cubes of one that is not known were searched
+-- the answers and the lines of the turns are added, and behind them begun and more; no check made a term, and all cubes of one
+-- that is not known were searched
 pub record Adds (m : Moment) (from to : Streams) (chunks : List Chunk) (turns : List Turn) (begun more : List ℕ) : Type 0 where
   pub follow : Follow m chunks turns
   pub answers : Appends from.answers to.answers (answers_at m turns ++ begun)
   pub proof : Appends from.proof to.proof (lines_of turns ++ more)
-  pub readable : AllByRecursion IsLine (flat_map turn_lines turns)
   pub thorough : AreThorough m.limits m.state m.log turns
 
 -- the chunks are answered whole
@@ -85,11 +84,17 @@ pub record Advances (m : Moment) (refused : Bool) (new : Answered) (from to : St
   pub refused_is : new.refused ≡ (refused || has_error turns)
   pub ended_is : new.ended ≡ has_ended turns
 
--- nothing of what comes is answered, or a front of one answer which is not the whole
-abbrev pub IsBegunOf : List Turn → List ℕ → List ℕ → Type 0
-IsBegunOf coming begun rest = (begun ≡ []) ⊎ ((t : Turn) × (coming ≡ t ∷ []) × (0 < length rest))
+-- nothing was written of what comes next
+abbrev pub IsNothing : List ℕ → List ℕ → Type 0
+IsNothing begun more = (begun ≡ []) × (more ≡ [])
 
--- The chunks are answered whole and do not end the run, and behind them stands a front of the answer to what comes next.
+-- Of what comes next one command was begun: a front of its lines was written, or all of them and a front of its answer.
+pub record IsBegunOf (coming : List Turn) (begun rest more left : List ℕ) : Type 0 where
+  pub turn : Turn
+  pub one : coming ≡ turn ∷ []
+  pub unfinished : ((begun ≡ []) × (0 < length left)) ⊎ ((left ≡ []) × (0 < length rest))
+
+-- The chunks are answered whole and do not end the run, and behind them stands what was begun of what comes next.
 pub record Breaks (m : Moment) (from to : Streams) (chunks next : List Chunk) : Type 0 where
   pub turns : List Turn
   pub begun : List ℕ
@@ -98,9 +103,11 @@ pub record Breaks (m : Moment) (from to : Streams) (chunks next : List Chunk) : 
   pub going : has_ended turns ≡ false
   pub coming : List Turn
   pub rest : List ℕ
+  pub left : List ℕ
   pub follow : Follow (after m turns) next coming
-  pub front : answers_at (after m turns) coming ≡ begun ++ rest
-  pub unfinished : IsBegunOf coming begun rest
+  pub answer : answers_at (after m turns) coming ≡ begun ++ rest
+  pub lines : lines_of coming ≡ more ++ left
+  pub unfinished : IsNothing begun more ⊎ IsBegunOf coming begun rest more left
 
 -- a stop at these chunks, of which none is answered whole
 pub record BreaksAt (m : Moment) (from to : Streams) (chunks : List Chunk) : Type 0 where

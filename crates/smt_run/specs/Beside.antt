@@ -1,13 +1,15 @@
 -- What stands in the answers and in the proof of a run.
-use Rattle.std.specs.Prelude.{◌≡◌, ◌⊎◌, ℕ, ◌≤◌, true, false, if◌then◌else◌, List, [], ◌++◌, Option, Some, None, IfSome, length}
+use Rattle.std.specs.Prelude.{◌≡◌, ◌⊎◌, ℕ, ◌<◌, ◌≤◌, true, false, if◌then◌else◌, List, [], ◌∷◌, ◌++◌, Option, Some, None, IfSome, length}
+use Rattle.std.specs.List.{flat_map}
 use Rattle.std.specs.Io.KnownBytes.{IsAtEnd}
 use Rattle.smt_desk.specs.Faults.{Rose}
 use Rattle.smt_text.specs.declared.chunk.Chunk.{Chunk}
 use Rattle.smt_text.specs.Framing.{Held, first_chunk}
-use Rattle.smt_text.specs.Script.{Begins}
+use Rattle.smt_text.specs.Script.{Begins, AreChunks}
 use Rattle.script_state.specs.States.{no_state}
 use Rattle.accepted_proof.specs.Searching.{Limits}
-use Rattle.accepted_proof.specs.Turns.{Turn, AreTurns}
+use Rattle.proof_text.specs.Lines.{line_text}
+use Rattle.accepted_proof.specs.Turns.{Turn, AreTurns, turn_lines}
 use Rattle.accepted_proof.specs.Right.{AreRight, ArePrinted}
 use Rattle.accepted_proof.specs.Answers.{answers_of, header_text, proof_of}
 use Rattle.accepted_proof.specs.Accepted.{AreRead, EndLast, IsFront, StandsBeside, IsWhole, has_ended, has_error}
@@ -31,12 +33,38 @@ pub record IsUnbegun (limits : Limits) (answered proved : List ℕ) : Type 0 whe
   pub rest : List ℕ
   pub header : header_text limits ≡ proved ++ rest
 
--- The answers that were written whole stand beside a proof that is accepted to the last of their checks, and they are
--- right: each `sat` has a model, and where there is an `unsat` there is none. An `unknown` stands beside the diary of a cube
--- on which the budget was spent, and its other cubes were searched too. No check made a term. What is printed of the check that
--- stands is right too: models, values, cores, and assumptions that cannot hold.
+-- The script cut behind these chunks, and the proof cut behind the lines of their turns, are accepted by a check.
+pub record IsAcceptedCut (limits : Limits) (text : List ℕ) (chunks : List Chunk) (turns : List Turn) : Type 0 where
+  pub cut : List ℕ
+  pub rest : List ℕ
+  pub text_is : text ≡ cut ++ rest
+  pub whole : AreChunks cut chunks
+  pub checked : IsAccepted cut (proof_of limits turns) (verdicts_of turns)
+
+-- Behind the answers and the lines of these commands stands what was begun of the next one: a front of its lines and nothing of
+-- its answer, or all of its lines, with which a check accepts the proof too, and a front of its answer.
+pub record IsBegunBehind (limits : Limits) (text : List ℕ) (chunks : List Chunk) (turns : List Turn) (begun more : List ℕ) : Type 0 where
+  pub next : Chunk
+  pub turn : Turn
+  pub front : IsFront text (chunks ++ next ∷ [])
+  pub read : AreRead (chunks ++ next ∷ []) (turns ++ turn ∷ [])
+  pub last : EndLast (turns ++ turn ∷ [])
+  pub run : AreTurns limits no_state [] (turns ++ turn ∷ [])
+  pub left : List ℕ
+  pub lines : flat_map line_text (turn_lines turn) ≡ more ++ left
+  pub cut : ((begun ≡ []) × (0 < length left))
+      ⊎ ((left ≡ []) × IsAcceptedCut limits text (chunks ++ next ∷ []) (turns ++ turn ∷ []))
+
+-- The answers that were written whole stand beside a proof that is accepted to the last of their checks. Cut behind its last
+-- whole record, a check accepts it with the script cut there: behind these answers stands at most one record more, and none
+-- that is of another command. The answers are right: each `sat` has a model, and where there is an `unsat` there is none. An
+-- `unknown` stands beside the diary of a cube on which the budget was spent, and its other cubes were searched too. No check made
+-- a term. What is printed of the check that stands is right too: models, values, cores, and assumptions that cannot hold.
 pub record IsBesideProof (limits : Limits) (text answered proved : List ℕ) : Type 0 where
   pub beside : StandsBeside limits text answered proved
+  pub checked : IsAcceptedCut limits text beside.chunks beside.turns
+  pub behind : ((beside.begun ≡ []) × (beside.more ≡ []))
+      ⊎ IsBegunBehind limits text beside.chunks beside.turns beside.begun beside.more
   pub thorough : AreThorough limits no_state [] beside.turns
   pub right : AreRight no_state beside.turns
   pub printed : ArePrinted no_state [] None beside.turns

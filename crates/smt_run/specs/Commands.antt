@@ -1,11 +1,13 @@
 -- What each command of the program promises of its files, and which status tells what.
-use Rattle.std.specs.Prelude.{◌≡◌, ◌≢◌, ◌⊎◌, ℕ, ◌+◌, ◌≤◌, List, Option}
+use Rattle.std.specs.Prelude.{◌≡◌, ◌≢◌, ◌⊎◌, ℕ, ◌+◌, List, Option}
 use Rattle.smt_check.specs.declared.status.Status.{Status}
 use Rattle.smt_check.specs.declared.status.Status.TheVariants.{Done, Refused, WriteFault, NoMemory, TooLong}
 use Rattle.smt_check.specs.Runs.{AddsTo, ReadsBytes, ReadsWithin, IsLater, HasCause, Counts, input_limit}
 use Rattle.smt_check.specs.Checks.{ReadsForStatus, HasCheckCause, ToldOf, IsEndOfCheck, IsFrontOfCheck, IsRightlyAccepted}
 use Rattle.accepted_proof.specs.Searching.{Limits}
+use Rattle.accepted_proof.specs.Turns.{Turn}
 use Rattle.accepted_proof.specs.Answers.{header_text}
+use Rattle.accepted_proof.specs.Accepted.{Accepted}
 use Rattle.smt_run.specs.Solving.{BeginsWith, FailsToRead}
 use Rattle.smt_run.specs.Beside.{Told, IsBeside, IsAllAnswered, IsPrefix, IsAnsweredToRead, IsReadOut, IsShort, IsWithoutFault}
 
@@ -53,12 +55,12 @@ Adds old new = Told old.script.bytes old.answers.bytes new.answers.bytes old.pro
 
 -- A script is answered within the limits, and its proof is written.
 pub record Solves (limits : Limits) (status : Status) (old new : Files) : Type 0 where
-  -- After every status the answers that were written whole stand beside a proof that is accepted to the last of their checks, and
-  -- they are right: each `sat` has a model, and where there is an `unsat` there is none. An `unknown` stands beside the diary of
-  -- one of its cubes, on which the budget was spent, and its other cubes were searched too. No check made a term. What is printed
-  -- is right too: a model and values are those of the record of
-  -- the check that stands; the assertions of a core with all that have no name and the assumptions of that check have no model;
-  -- assumptions that cannot hold have none with all live assertions.
+  -- After every status the answers that were written whole stand beside a proof that is accepted to the last of their checks.
+  -- Cut behind its last whole record, the proof is one that a check accepts with the script cut there. The answers are right:
+  -- each `sat` has a model, and where there is an `unsat` there is none. An `unknown` stands beside the diary of one of its
+  -- cubes, on which the budget was spent, and its other cubes were searched too. No check made a term. What is printed is right
+  -- too: a model and values are those of the record of the check that stands; the assertions of a core with all that have no
+  -- name and the assumptions of that check have no model; assumptions that cannot hold have none with all live assertions.
   pub beside : Adds old new (IsBeside limits)
   -- At the end all is answered, the proof is accepted, a check of both accepts it, and the status tells whether an error is
   -- among the answers.
@@ -85,6 +87,10 @@ pub record Solves (limits : Limits) (status : Status) (old new : Files) : Type 0
 abbrev pub Tells : Files → Files → (List ℕ → List ℕ → List ℕ → Type 0) → Type 0
 Tells old new = ToldOf old.script.bytes old.proof.bytes old.answers.bytes new.answers.bytes
 
+-- within no limits any turns of the script make this an accepted proof
+abbrev pub IsNoProof : List ℕ → List ℕ → List ℕ → Type 0
+IsNoProof text lines answered = (limits : Limits) (turns : List Turn) → Accepted limits text lines turns → ⊥
+
 -- A script and a proof are judged.
 pub record Checks (status : Status) (old new : Files) : Type 0 where
   -- At the end this is judged of both texts, `Done` exactly where the proof is accepted.
@@ -92,6 +98,8 @@ pub record Checks (status : Status) (old new : Files) : Type 0 where
   -- What is accepted is right, whoever wrote the proof: within some limits there are turns of the script that make an accepted
   -- proof and have the verdicts that are told, each `sat` has a model, and where there is an `unsat` there is none.
   pub accepted : status ≡ Done → Tells old new IsRightlyAccepted
+  -- Refused means that no turns of the script make the proof an accepted one.
+  pub refused : status ≡ Refused → Tells old new IsNoProof
   -- What was told before a stop are verdicts of records that are accepted, whatever stands behind them, the last line maybe cut
   -- off, or a front of the whole report. Whatever is judged of both texts, its report begins with what is told. Each verdict that
   -- was told is right, also where a later line is refused or the run ended before.

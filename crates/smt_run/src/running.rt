@@ -9,7 +9,7 @@ ghost use Rattle.smt_run.specs.Words.{IsToSolve, IsToSolveWithin, IsToCheck, Are
 ghost use Rattle.smt_check.specs.Runs.{AddsTo, ReadsBytes, ReadsWithin, IsLater, HasCause, counts, input_limit};
 ghost use Rattle.smt_run.specs.Solving.{BeginsWith, StopsWriting, FailsToRead};
 ghost use Rattle.smt_run.specs.Beside.{Told, IsBeside, IsAllAnswered, IsPrefix, IsAnsweredToRead, IsReadOut};
-ghost use Rattle.smt_run.specs.Commands.{files, stream, IsEnd, Solves, Checks, AddsToFiles};
+ghost use Rattle.smt_run.specs.Commands.{files, stream, IsEnd, IsNoProof, Solves, Checks, AddsToFiles};
 ghost use Rattle.smt_check.specs.Checks.{ReadsForStatus, HasCheckCause, ToldOf, IsEndOfCheck, IsFrontOfCheck, IsRightlyAccepted};
 
 use crate::answering::end_status;
@@ -17,7 +17,7 @@ use crate::command_line::plan;
 use crate::scripts::answer_script;
 use crate::words::{Command, Unplanned};
 use accepted_proof::{answers_are_right, what_is_printed_is_right};
-use proof_checker::{accepted_proofs_pass, what_is_accepted_is_right};
+use proof_checker::{accepted_proofs_pass, texts_are_judged_one_way, what_is_accepted_is_right};
 use proof_text::header::write_header;
 use smt_check::checking::check;
 use smt_check::status::Status;
@@ -112,6 +112,8 @@ fn check_proof<S: Source, P: Source, W: Sink>(
         (W.written answers.old) (W.written answers.new) (IsEndOfCheck result) }
     ensures right { result ≡ Status.Done → ToldOf (S.left script.old) (P.left proof.old)
         (W.written answers.old) (W.written answers.new) IsRightlyAccepted }
+    ensures refused { result ≡ Status.Refused → ToldOf (S.left script.old) (P.left proof.old)
+        (W.written answers.old) (W.written answers.new) IsNoProof }
     ensures front { ToldOf (S.left script.old) (P.left proof.old)
         (W.written answers.old) (W.written answers.new) IsFrontOfCheck }
     ensures read { ReadsForStatus (S.left script.old) (S.left script.new)
@@ -123,6 +125,8 @@ fn check_proof<S: Source, P: Source, W: Sink>(
         (counts (S.faults script.new) (W.faults answers.new) (P.faults proof.new)) result }
 {
     what_is_accepted_is_right();
+    accepted_proofs_pass();
+    texts_are_judged_one_way();
     let mut buffer = match zeros(alloc, PIECE) {
         Ok(buffer) => buffer,
         Err(_) => return Status::NoMemory,

@@ -4,6 +4,7 @@ use Rattle.std.specs.Prelude.{Option, MatchBool}
 use Rattle.std.proofs.lemmas.List.Elements.{Contains-append_right}
 use Rattle.cnf_base.specs.Literals.{Literal}
 use Rattle.smt_terms.specs.declared.node.Node.{Node}
+use Rattle.proof_log.specs.declared.board.Sync.{Sync}
 use Rattle.proof_log.specs.declared.entry.Entry.{Entry}
 use Rattle.proof_log.specs.declared.diary.Diary.{Diary}
 use Rattle.proof_log.specs.Logs.{IsLog}
@@ -20,28 +21,28 @@ use Rattle.smt_session.specs.Searched.{Problem, subject_in, IsProblem, IsSearchi
 use Rattle.smt_session.proofs.Cubes.{against_given, problem_stays}
 
 -- an end of the search is one of the cube, where no other search finds a model
-end_of : (p : Problem) (log : List Entry) (condition : Type 0) (knows : ℕ → Type 0) (v : ℕ → Bool) (cube : ℕ) (e : End) → IsProblem p log → condition → cube < 2 ^ length p.variables
-    → IsEnd condition (subject_in p log cube p.from) knows false p.positions v cube p.budget e → IsEndOf p log v cube e
-end_of p log condition knows v cube (end.Closed at) h holds lt q = record {
+end_of : (p : Problem) (log : List Entry) (condition : Type 0) (knows : ℕ → Type 0) (told : Sync) (v : ℕ → Bool) (cube : ℕ) (e : End) → IsProblem p log → condition → cube < 2 ^ length p.variables
+    → IsEnd condition (subject_in p log cube p.from) knows false told p.positions v cube p.budget e → IsEndOf p log v cube e
+end_of p log condition knows told v cube (end.Closed at) h holds lt q = record {
   clause = q.0;
   found = q.1;
   closing = against_given (cube_of p.variables cube) p.assumed q.0 q.2;
 }
-end_of p log condition knows v cube end.Model h holds lt q = record {
+end_of p log condition knows told v cube end.Model h holds lt q = record {
   clauses = q.clauses;
   literals = λ l among. q.literals l (Contains-append_right (cube_of p.variables cube) p.assumed l among);
 }
-end_of p log condition knows v cube (end.Spent d) h holds lt q =
-    let diary : IsSpentDiary (subject_in p log cube p.from) knows p.budget d = q.1 holds in (
+end_of p log condition knows told v cube (end.Spent d) h holds lt q =
+    let diary : IsSpentDiary (subject_in p log cube p.from) knows told p.budget d = q.1 holds in (
       q.0,
       record {
         cube = subst (λ n. n < 2 ^ length p.variables) (sym q.0) lt;
         start = diary.start;
         within = diary.within;
-        spent = subst (λ n. IsSpent (subject_in p log n d.start) p.budget d.lines) (sym q.0) (spent_from_start (subject_in p log cube p.from) knows p.budget d h.begun h.chains diary);
+        spent = subst (λ n. IsSpent (subject_in p log n d.start) p.budget d.lines) (sym q.0) (spent_from_start (subject_in p log cube p.from) knows told p.budget d h.begun h.chains diary);
       },
     )
-end_of p log condition knows v cube end.Stopped h holds lt q = let f : ⊥ = cc in absurd f
+end_of p log condition knows told v cube end.Stopped h holds lt q = let g = q.0 in let f : ⊥ = cc in absurd f
 
 -- the search goes on about the same problem
 module _ (s s' : Search) (b b' : LogBoardValue) (known known' : ℕ → Type 0) (variables : List ℕ) (assumed : List Literal) (budget : ℕ)
@@ -61,13 +62,13 @@ module _ (s s' : Search) (b b' : LogBoardValue) (known known' : ℕ → Type 0) 
   still_searching h search = record { search = search; problem = later_problem h.problem }
 
   -- an end of the search is one of the cube
-  pub ended : (condition : Type 0) (knows : ℕ → Type 0) (v : ℕ → Bool) (cube : ℕ) (given : List Literal) (e : End) → given ≡ cube_of variables cube ++ assumed → IsProblem (problem_of s' b' variables assumed budget) b'.log.entries → condition → cube < 2 ^ length variables
-      → IsEnd condition (record { nodes = b'.terms.nodes; log = b'.log.entries; given = given; from = s.from }) knows false s.opening.items v cube budget e → IsEndOf (problem_of s' b' variables assumed budget) b'.log.entries v cube e
-  ended condition knows v cube given e literals h holds lt q =
-      end_of (problem_of s' b' variables assumed budget) b'.log.entries condition knows v cube e h holds lt
-      (subst (λ ps. IsEnd condition (record { nodes = b'.terms.nodes; log = b'.log.entries; given = cube_of variables cube ++ assumed; from = s'.from }) knows false ps v cube budget e) (sym (ap (λ o. o.items) opening))
-      (subst (λ k. IsEnd condition (record { nodes = b'.terms.nodes; log = b'.log.entries; given = cube_of variables cube ++ assumed; from = k }) knows false s.opening.items v cube budget e) (sym from)
-      (subst (λ g. IsEnd condition (record { nodes = b'.terms.nodes; log = b'.log.entries; given = g; from = s.from }) knows false s.opening.items v cube budget e) literals q)))
+  pub ended : (condition : Type 0) (knows : ℕ → Type 0) (told : Sync) (v : ℕ → Bool) (cube : ℕ) (given : List Literal) (e : End) → given ≡ cube_of variables cube ++ assumed → IsProblem (problem_of s' b' variables assumed budget) b'.log.entries → condition → cube < 2 ^ length variables
+      → IsEnd condition (record { nodes = b'.terms.nodes; log = b'.log.entries; given = given; from = s.from }) knows false told s.opening.items v cube budget e → IsEndOf (problem_of s' b' variables assumed budget) b'.log.entries v cube e
+  ended condition knows told v cube given e literals h holds lt q =
+      end_of (problem_of s' b' variables assumed budget) b'.log.entries condition knows told v cube e h holds lt
+      (subst (λ ps. IsEnd condition (record { nodes = b'.terms.nodes; log = b'.log.entries; given = cube_of variables cube ++ assumed; from = s'.from }) knows false told ps v cube budget e) (sym (ap (λ o. o.items) opening))
+      (subst (λ k. IsEnd condition (record { nodes = b'.terms.nodes; log = b'.log.entries; given = cube_of variables cube ++ assumed; from = k }) knows false told s.opening.items v cube budget e) (sym from)
+      (subst (λ g. IsEnd condition (record { nodes = b'.terms.nodes; log = b'.log.entries; given = g; from = s.from }) knows false told s.opening.items v cube budget e) literals q)))
 
 -- the problem of a search that was begun behind a log
 pub start_problem : (s : Search) (b : LogBoardValue) (nodes : List Node) (log : List Entry) (positions variables : List ℕ) (assumed : List Literal) (budget : ℕ) → b.terms.nodes ≡ nodes → s.opening.items ≡ positions → s.from ≡ suc (length log)

@@ -9,7 +9,7 @@ use Rattle.proof_text.specs.declared.line.Line.{Line}
 use Rattle.proof_text.specs.Lines.{IsLine}
 use Rattle.proof_text.specs.Entries.{entry_line}
 use Rattle.proof_text.proofs.Readable.{each_all, each_flat}
-use Rattle.accepted_proof.specs.Answers.{step_lines}
+use Rattle.accepted_proof.specs.Turns.{step_lines}
 use Rattle.smt_session.proofs.Printing.{front, dropped, entry_of}
 
 -- the line of the step, if it has one, can be read

@@ -9,7 +9,7 @@ use Rattle.proof_log.specs.Logs.{entry_at}
 use Rattle.proof_text.specs.declared.line.Line.{Line}
 use Rattle.proof_text.specs.Lines.{line_text}
 use Rattle.proof_text.specs.Entries.{entry_line}
-use Rattle.accepted_proof.specs.Answers.{step_lines}
+use Rattle.accepted_proof.specs.Turns.{step_lines}
 use Rattle.smt_session.specs.Growing.{AreLined}
 
 abbrev pub text_of : List Entry → List ℕ

@@ -14,18 +14,21 @@ use Rattle.script_state.specs.Readings.{Reading, ReadsAs}
 use Rattle.script_state.specs.States.{StateValue, concluded}
 use Rattle.script_state.specs.Steps.{Step, step, settled}
 use Rattle.script_state.proofs.Asserting.{standing_state}
+use Rattle.proof_log.specs.declared.entry.Entry.{Entry}
 use Rattle.proof_log.specs.Logs.{state_of}
 use Rattle.proof_log.specs.Stored.{LogValue}
 use Rattle.proof_text.specs.declared.record.Record.{Record}
 use Rattle.proof_text.specs.Lines.{line_text, IsLine}
 use Rattle.proof_text.specs.Records.{record_lines}
 use Rattle.accepted_proof.specs.Searching.{Limits}
-use Rattle.accepted_proof.specs.Turns.{IsShown, HasProof, with_steps, concluded_by, verdict_of}
-use Rattle.accepted_proof.specs.Answers.{answer_text, error_text, verdict_text, done_text, model_text, values_text, core_text, assumptions_text, is_error, step_lines}
+use Rattle.accepted_proof.specs.Turns.{IsShown, HasProof, with_steps, concluded_by, verdict_of, step_lines}
+use Rattle.accepted_proof.specs.Answers.{answer_text, error_text, verdict_text, done_text, model_text, values_text, core_text, assumptions_text, is_error}
 use Rattle.accepted_proof.specs.Cores.{refuting_clause}
 use Rattle.smt_session.specs.declared.response.Response.{Response}
+use Rattle.smt_session.specs.declared.response.Stop.{Stop}
+use Rattle.smt_session.specs.declared.response.Stop.TheVariants.{Failed, NoMemory}
 use Rattle.smt_session.specs.Thorough.{AreSearched, IsThorough}
-use Rattle.smt_session.specs.Sessions.{IsSession, IsChecked, Responds, IsAnswered, response, asks_values, is_end}
+use Rattle.smt_session.specs.Sessions.{IsSession, IsChecked, Responds, IsAnswered, CutsCheck, CutsTurn, Leaves, WritesFront, response, asks_values, is_end}
 use Rattle.smt_session.proofs.Ending.{ends_is}
 use Rattle.smt_session.proofs.Going.{more_steps}
 use Rattle.smt_session.proofs.Staying.{grown_steps}
@@ -87,6 +90,29 @@ pub of_check : (limits : Limits) (line : ℕ) (s t : StateValue) (l m : LogValue
     → Responds limits line Check s t l m last now r w x → Responds limits line a s t l m last now r w x
 of_check limits line s t l m last now r w x a e h = subst (λ b. Responds limits line b s t l m last now r w x) (sym e) h
 
+module _ (limits : Limits) (s : StateValue) (old new : LogValue) (shown : Record) (checked : IsChecked limits s old new shown) where
+  added_is : drop (length old.entries) new.entries ≡ checked.grows.added
+  added_is = ap (drop (length old.entries)) checked.grows.entries ∙ drop_at old.entries checked.grows.added (length old.entries) refl
+
+  same_state : s ≡ with_steps s checked.grows.added
+  same_state = sym (same_after s checked.grows.added checked.grows.each)
+
+  -- the steps of a check and its record are those of a proof
+  check_proof : HasProof limits Check s old.entries checked.grows.added (Some shown)
+  check_proof =
+      let nodes : IsShown limits s (with_steps s checked.grows.added).terms.nodes new.entries shown = subst (λ q. IsShown limits s q.terms.nodes new.entries shown) same_state checked.shown in
+      (are_steps s old new checked.grows, subst (λ es. IsShown limits s (with_steps s checked.grows.added).terms.nodes es shown) checked.grows.entries nodes)
+
+  check_readable : AllByRecursion IsLine (step_lines (drop (length old.entries) new.entries) ++ record_lines shown) → AllByRecursion IsLine (step_lines checked.grows.added ++ record_lines shown)
+  check_readable = subst (λ es. AllByRecursion IsLine (step_lines es ++ record_lines shown)) added_is
+
+  check_text : (text : List ℕ) → text ≡ flat_map line_text (step_lines (drop (length old.entries) new.entries)) ++ flat_map line_text (record_lines shown)
+      → text ≡ flat_map line_text (step_lines checked.grows.added ++ record_lines shown)
+  check_text text printed =
+      printed
+      ∙ ap (λ es. flat_map line_text (step_lines es) ++ flat_map line_text (record_lines shown)) added_is
+      ∙ sym (flat_map-append line_text (step_lines checked.grows.added) (record_lines shown))
+
 pub check_responds : (limits : Limits) (line : ℕ) (s new_state : StateValue) (old new : LogValue) (shown : Record) (text : List ℕ) (r : Response) (w x : Option (List ℕ)) (last : Option Record)
     → IsChecked limits s old new shown
     → text ≡ flat_map line_text (step_lines (drop (length old.entries) new.entries)) ++ flat_map line_text (record_lines shown)
@@ -95,24 +121,39 @@ pub check_responds : (limits : Limits) (line : ℕ) (s new_state : StateValue) (
     → Responds limits line Check s new_state old new last (Some shown) r w x
 check_responds limits line s new_state old new shown text r w x last checked printed readable appended answered stands =
     let g = checked.grows in
-    let added : drop (length old.entries) new.entries ≡ checked.grows.added = ap (drop (length old.entries)) g.entries ∙ drop_at old.entries g.added (length old.entries) refl in
-    let same : s ≡ with_steps s checked.grows.added = sym (same_after s g.added g.each) in
-    let nodes : IsShown limits s (with_steps s checked.grows.added).terms.nodes new.entries shown = subst (λ q. IsShown limits s q.terms.nodes new.entries shown) same checked.shown in
+    let same = same_state limits s old new shown checked in
     let cubes : AreSearched limits s (with_steps s checked.grows.added).terms.nodes new.entries (Some shown) = subst (λ q. AreSearched limits s q.terms.nodes new.entries (Some shown)) same checked.cubes in
     record {
       steps = g.added;
       shown = Some shown;
       thorough = record { terms = make_no_term s g.added g.each; cubes = subst (λ es. AreSearched limits s (with_steps s g.added).terms.nodes es (Some shown)) g.entries cubes };
-      proof = (are_steps s old new g, subst (λ es. IsShown limits s (with_steps s g.added).terms.nodes es shown) g.entries nodes);
+      proof = check_proof limits s old new shown checked;
       state = stands ∙ ap (λ q. concluded q (verdict_of shown)) same;
       log = g.entries;
       kept = refl;
-      lines = subst (Appends w x) (printed ∙ ap (λ es. flat_map line_text (step_lines es) ++ flat_map line_text (record_lines shown)) added ∙ sym (flat_map-append line_text (step_lines g.added) (record_lines shown))) appended;
-      readable = subst (λ es. AllByRecursion IsLine (step_lines es ++ record_lines shown)) added readable;
+      lines = subst (Appends w x) (check_text limits s old new shown checked text printed) appended;
+      readable = check_readable limits s old new shown checked readable;
       text = ap (λ q. q.text) answered;
       error = ap (λ q. q.error) answered;
       ends = ap (λ q. q.ends) answered;
     }
+
+-- where a write failed, a front of the lines of the check stands
+pub check_cut : (limits : Limits) (s : StateValue) (old new : LogValue) (shown : Record) (text : List ℕ) (w x : Option (List ℕ)) → IsChecked limits s old new shown
+    → text ≡ flat_map line_text (step_lines (drop (length old.entries) new.entries)) ++ flat_map line_text (record_lines shown)
+    → AllByRecursion IsLine (step_lines (drop (length old.entries) new.entries) ++ record_lines shown)
+    → WritesFront text w x → CutsCheck limits Check s old.entries w x
+check_cut limits s old new shown text w x checked printed readable written = record {
+  steps = checked.grows.added;
+  shown = Some shown;
+  proof = check_proof limits s old new shown checked;
+  readable = check_readable limits s old new shown checked readable;
+  lines = subst (λ t. WritesFront t w x) (check_text limits s old new shown checked text printed) written;
+}
+
+-- what is cut off of a check is that of what is one
+pub cut_of_check : (limits : Limits) (s : StateValue) (log : List Entry) (w x : Option (List ℕ)) (a : Answer) (stop : Stop) → a ≡ Check → Leaves stop (CutsCheck limits Check s log w x) w x → Leaves stop (CutsCheck limits a s log w x) w x
+cut_of_check limits s log w x a stop e h = subst (λ b. Leaves stop (CutsCheck limits b s log w x) w x) (sym e) h
 
 pub check_keeps : (limits : Limits) (s new_state : StateValue) (old new : LogValue) (shown : Record) → IsSession s old → IsChecked limits s old new shown → new_state ≡ concluded s (verdict_of shown) → IsSession new_state new
 check_keeps limits s new_state old new shown h checked e =
@@ -134,14 +175,31 @@ is_answered limits chunk s mid last final l new before now a es r w x reads e h 
       line = refl;
       reads = reads;
       thorough = subst (λ q. IsThorough limits q l.entries h.steps h.shown) there h.thorough;
-      stands = record { answer = own; proof = subst (λ q. HasProof limits a q l.entries h.steps h.shown) there h.proof };
+      stands = record { answer = own; proof = subst (λ q. HasProof limits a q l.entries h.steps h.shown) there h.proof; readable = h.readable };
       state = settles ∙ ap (settled s a) (h.state ∙ ap (λ q. concluded_by (with_steps q h.steps) h.shown) there);
       log = h.log;
       shown = h.kept;
       limits = refl;
       lines = h.lines;
-      readable = h.readable;
       text = h.text ∙ ap (λ q. answer_text chunk.line a q l.entries before h.shown) there;
       error = h.error;
       ends = h.ends ∙ ap is_end own ∙ ends_is s es;
+    }
+
+-- where a check was cut off, so was its turn
+pub is_cut : (limits : Limits) (chunk : Chunk) (s mid : StateValue) (l : LogValue) (before : Option Record) (a : Answer) (es : Reading) (w x : Option (List ℕ)) (stop : Stop) → ReadsAs chunk es → ◌≡◌ {A = Step} (step s es) (a, mid)
+    → Leaves stop (CutsCheck limits a mid l.entries w x) w x → Leaves stop (CutsTurn chunk (record { state = s; log = l; shown = before; limits = limits }) w x) w x
+is_cut limits chunk s mid l before a es w x NoMemory reads e h = h
+is_cut limits chunk s mid l before a es w x Failed reads e h =
+    let there : mid ≡ (step s es).1 = sym (ap (λ (to : Step). to.1) e) in
+    record {
+      turn = record { line = chunk.line; says = es; answer = a; steps = h.steps; shown = h.shown };
+      line = refl;
+      reads = reads;
+      stands = record {
+        answer = sym (ap (λ (to : Step). to.0) e);
+        proof = subst (λ q. HasProof limits a q l.entries h.steps h.shown) there h.proof;
+        readable = h.readable;
+      };
+      lines = h.lines;
     }

@@ -1,5 +1,5 @@
 -- What contracts see of a session.
-use Rattle.std.specs.Prelude.{◌≡◌, ℕ, ◌<◌, Bool, true, false, List, ◌++◌, length, All, Option, Some}
+use Rattle.std.specs.Prelude.{◌≡◌, ℕ, ◌<◌, Bool, true, false, List, [], ◌++◌, length, All, Option, Some}
 use Rattle.std.specs.List.{flat_map, AllByRecursion}
 use Rattle.std.specs.Io.KnownBytes.{Appends}
 use Rattle.smt_text.specs.declared.chunk.Chunk.{Chunk}
@@ -14,9 +14,11 @@ use Rattle.proof_log.specs.Stored.{LogValue, Stands}
 use Rattle.proof_text.specs.declared.record.Record.{Record}
 use Rattle.proof_text.specs.Lines.{line_text, IsLine}
 use Rattle.accepted_proof.specs.Searching.{Limits}
-use Rattle.accepted_proof.specs.Turns.{Turn, IsTurn, IsShown, HasProof, with_steps, concluded_by, state_after}
-use Rattle.accepted_proof.specs.Answers.{answer_text, is_error, is_refused, last_shown, shown_lines, step_lines, turn_lines, turn_text}
+use Rattle.accepted_proof.specs.Turns.{Turn, IsTurn, IsShown, HasProof, with_steps, concluded_by, state_after, shown_lines, step_lines, turn_lines}
+use Rattle.accepted_proof.specs.Answers.{answer_text, is_error, is_refused, last_shown, turn_text}
 use Rattle.smt_session.specs.declared.response.Response.{Response}
+use Rattle.smt_session.specs.declared.response.Stop.{Stop}
+use Rattle.smt_session.specs.declared.response.Stop.TheVariants.{Failed, NoMemory}
 use Rattle.smt_session.specs.declared.settings.Settings.{Settings}
 use Rattle.cube_search.specs.declared.search.Search.{Search}
 use Rattle.cube_search.specs.Running.{IsResting}
@@ -86,8 +88,8 @@ pub record Responds (limits : Limits) (line : ℕ) (answer : Answer) (s s' : Sta
   pub error : r.error ≡ is_error answer
   pub ends : r.ends ≡ is_end answer
 
--- The command is applied, and what is answered and written is that of a turn which may follow within the limits, which stay.
--- Each line that is written can be read. No step makes a term, and a spent cube does not stop the later ones.
+-- The command is applied, and what is answered and written is that of a turn which may follow within the limits, which stay,
+-- so that each line that is written can be read. No step makes a term, and a spent cube does not stop the later ones.
 pub record IsAnswered (chunk : Chunk) (old new : SessionValue) (r : Response) (written written' : Option (List ℕ)) : Type 0 where
   pub turn : Turn
   pub line : turn.line ≡ chunk.line
@@ -99,7 +101,37 @@ pub record IsAnswered (chunk : Chunk) (old new : SessionValue) (r : Response) (w
   pub shown : new.shown ≡ last_shown old.shown turn.shown
   pub limits : new.limits ≡ old.limits
   pub lines : Appends written written' (flat_map line_text (turn_lines turn))
-  pub readable : AllByRecursion IsLine (turn_lines turn)
   pub text : r.text ≡ turn_text old.state old.log.entries old.shown turn
   pub error : r.error ≡ is_refused turn
   pub ends : r.ends ≡ ends turn.says
+
+-- ---- a command that gets no answer
+
+-- a front of the text was written, which is not the whole
+pub record WritesFront (text : List ℕ) (written written' : Option (List ℕ)) : Type 0 where
+  pub front : List ℕ
+  pub left : List ℕ
+  pub parts : text ≡ front ++ left
+  pub unfinished : 0 < length left
+  pub added : Appends written written' front
+
+-- a front of the lines of a check was written, whose steps and record may stand here
+pub record CutsCheck (limits : Limits) (answer : Answer) (s : StateValue) (log : List Entry) (written written' : Option (List ℕ)) : Type 0 where
+  pub steps : List Entry
+  pub shown : Option Record
+  pub proof : HasProof limits answer s log steps shown
+  pub readable : AllByRecursion IsLine (step_lines steps ++ shown_lines shown)
+  pub lines : WritesFront (flat_map line_text (step_lines steps ++ shown_lines shown)) written written'
+
+-- a front of the lines of a turn was written, which may follow within the limits
+pub record CutsTurn (chunk : Chunk) (old : SessionValue) (written written' : Option (List ℕ)) : Type 0 where
+  pub turn : Turn
+  pub line : turn.line ≡ chunk.line
+  pub reads : ReadsAs chunk turn.says
+  pub stands : IsTurn old.limits old.state old.log.entries turn
+  pub lines : WritesFront (flat_map line_text (turn_lines turn)) written written'
+
+-- what a stop leaves in the proof: a front of the lines, where a write failed, and nothing where memory is wanting
+abbrev pub Leaves : Stop → Type 0 → Option (List ℕ) → Option (List ℕ) → Type 0
+Leaves Failed front written written' = front
+Leaves NoMemory front written written' = Appends written written' []

@@ -1,6 +1,6 @@
 // Sessions.
 
-ghost use Rattle.std.specs.Prelude.{◌≡◌, ◌≢◌, ◌≤◌, ℕ, List, [], Option, None, Err, IfOk, OnOk, MatchBool, true, if◌then◌else◌};
+ghost use Rattle.std.specs.Prelude.{◌≡◌, ◌≢◌, ◌≤◌, ℕ, List, [], Option, None, Err, IfOk, IfErr, OnOk, MatchBool, true, if◌then◌else◌};
 ghost use Rattle.std.specs.Io.KnownBytes.{Appends};
 ghost use Rattle.smt_desk.specs.Faults.{Rose};
 ghost use Rattle.proof_text.specs.declared.record.Record.{Record as RecordValue};
@@ -9,6 +9,7 @@ ghost use Rattle.script_state.specs.Steps.{forgotten};
 ghost use Rattle.accepted_proof.specs.Searching.{AreLimits, Limits as LimitsValue};
 ghost use Rattle.check_cubes.specs.Searches as check_cubes;
 ghost use Rattle.smt_session.specs.Sessions.{AreHeld, IsAnswered, IsSession, Responds, RestsBeside, asks_values, limits_of};
+ghost use Rattle.smt_session.specs.Sessions.{CutsCheck, CutsTurn, Leaves, WritesFront};
 ghost use Rattle.smt_session.specs.Parts.{AreParts, seen_of};
 
 use crate::check::{run_check, verdict_of};
@@ -57,10 +58,11 @@ impl Model for Session {
     ghost invariant = { λ s. AreParts s.parts.value };
 }
 
-/// Writes the lines of a check. The error is that the proof could not be written.
+/// Writes the lines of a check. The error is that the proof could not be written; then a front of them stands there.
 fn write_lines<Q: Sink>(text: &Text, proof: &mut Q) -> Result<(), Stop>
     ensures ok { OnOk result (Appends (Q.written proof.old) (Q.written proof.new) text.now) }
-    ensures written { (bytes : List ℕ) × Appends (Q.written proof.old) (Q.written proof.new) bytes }
+    ensures cut { IfErr result (λ stop. (stop ≡ Stop.Failed)
+        × WritesFront text.now (Q.written proof.old) (Q.written proof.new)) }
     ensures failed { result ≡ Err Stop.Failed → Rose (Q.faults proof.old) (Q.faults proof.new) }
     ensures later { Q.faults proof.old ≤ Q.faults proof.new }
 {
@@ -85,8 +87,12 @@ fn answer_check<Q: Sink>(
     requires limits { AreLimits (check_cubes.limits_of limits) }
     ensures session { OnOk result (IsSession state.new workspace.new.log) }
     ensures resting { OnOk result (RestsBeside workspace.new.log workspace.new.search) }
-    ensures response { IfOk result (λ r. Responds (check_cubes.limits_of limits) line Answer.Check state.old state.new workspace.old.log workspace.new.log last.old last.new r (Q.written proof.old) (Q.written proof.new)) }
-    ensures written { (bytes : List ℕ) × Appends (Q.written proof.old) (Q.written proof.new) bytes }
+    ensures response { IfOk result (λ r. Responds (check_cubes.limits_of limits) line Answer.Check
+        state.old state.new workspace.old.log workspace.new.log last.old last.new r
+        (Q.written proof.old) (Q.written proof.new)) }
+    ensures cut { IfErr result (λ stop. Leaves stop
+        (CutsCheck (check_cubes.limits_of limits) Answer.Check state.old workspace.old.log.entries
+        (Q.written proof.old) (Q.written proof.new)) (Q.written proof.old) (Q.written proof.new)) }
     ensures failed { result ≡ Err Stop.Failed → Rose (Q.faults proof.old) (Q.faults proof.new) }
     ensures later { Q.faults proof.old ≤ Q.faults proof.new }
 {
@@ -171,8 +177,12 @@ fn respond<Q: Sink>(
     ensures session { OnOk result (IsSession state.new workspace.new.log) }
     ensures resting { OnOk result (RestsBeside workspace.new.log workspace.new.search) }
     ensures still { asks_values answer ≡ true → OnOk result ((state.new ≡ state.old) × (workspace.new.log ≡ workspace.old.log)) }
-    ensures response { IfOk result (λ r. Responds (check_cubes.limits_of limits) line answer state.old state.new workspace.old.log workspace.new.log last.old last.new r (Q.written proof.old) (Q.written proof.new)) }
-    ensures written { (bytes : List ℕ) × Appends (Q.written proof.old) (Q.written proof.new) bytes }
+    ensures response { IfOk result (λ r. Responds (check_cubes.limits_of limits) line answer
+        state.old state.new workspace.old.log workspace.new.log last.old last.new r
+        (Q.written proof.old) (Q.written proof.new)) }
+    ensures cut { IfErr result (λ stop. Leaves stop
+        (CutsCheck (check_cubes.limits_of limits) answer state.old workspace.old.log.entries
+        (Q.written proof.old) (Q.written proof.new)) (Q.written proof.old) (Q.written proof.new)) }
     ensures failed { result ≡ Err Stop.Failed → Rose (Q.faults proof.old) (Q.faults proof.new) }
     ensures later { Q.faults proof.old ≤ Q.faults proof.new }
 {
@@ -204,7 +214,9 @@ impl Parts {
         ensures parts { OnOk result (AreParts self.new) }
         ensures answered { IfOk result (λ r. IsAnswered chunk.now (seen_of self.old) (seen_of self.new) r
             (Q.written proof.old) (Q.written proof.new)) }
-        ensures written { (lines : List ℕ) × Appends (Q.written proof.old) (Q.written proof.new) lines }
+        ensures cut { IfErr result (λ stop. Leaves stop
+            (CutsTurn chunk.now (seen_of self.old) (Q.written proof.old) (Q.written proof.new))
+            (Q.written proof.old) (Q.written proof.new)) }
         ensures failed { result ≡ Err Stop.Failed → Rose (Q.faults proof.old) (Q.faults proof.new) }
         ensures later { Q.faults proof.old ≤ Q.faults proof.new }
     {
@@ -261,15 +273,18 @@ impl Session {
 
     /// Does what a command says: gives the session behind it, and its response. A check's lines and record are written before
     /// the response is given. After an error there is no session any more; for want of numbers of assertions it is that of
-    /// want of memory.
+    /// want of memory. Where a write failed, the proof has a front of the check's lines; for want of memory nothing is written.
     pub fn command<Q: Sink>(
         self,
         alloc: Global,
         chunk: &Chunk,
         proof: &mut Q,
     ) -> Result<(Session, Response), Stop>
-        ensures answered { IfOk result (λ r. IsAnswered chunk.now self r.0 r.1 (Q.written proof.old) (Q.written proof.new)) }
-        ensures written { (lines : List ℕ) × Appends (Q.written proof.old) (Q.written proof.new) lines }
+        ensures answered { IfOk result (λ r. IsAnswered chunk.now self r.0 r.1
+            (Q.written proof.old) (Q.written proof.new)) }
+        ensures cut { IfErr result (λ stop. Leaves stop
+            (CutsTurn chunk.now self (Q.written proof.old) (Q.written proof.new))
+            (Q.written proof.old) (Q.written proof.new)) }
         ensures failed { result ≡ Err Stop.Failed → Rose (Q.faults proof.old) (Q.faults proof.new) }
         ensures later { Q.faults proof.old ≤ Q.faults proof.new }
     {

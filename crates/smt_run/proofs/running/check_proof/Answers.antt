@@ -1,8 +1,9 @@
-use Rattle.std.proofs.Common.{inl}
+use Rattle.std.proofs.Common.{inl, inr}
 use Rattle.smt_check.proofs.Parts.{adds_none, later_same}
 use Rattle.smt_run.proofs.Written.{within_none}
 use Rattle.smt_check.proofs.Reported.{told_nothing}
-use Rattle.smt_run.proofs.Ends.{memory_usage, memory_done, memory_end, right_told}
+use Rattle.script_state.specs.States.{no_state}
+use Rattle.smt_run.proofs.Ends.{memory_usage, memory_done, memory_refused, memory_end, right_told, refused_told}
 use Rattle.smt_run.proofs.running.check_proof.Goals as goal
 
 pub returns-in-Err-clause-usage : goal.returns-in-Err-clause-usage
@@ -13,6 +14,9 @@ returns-in-Err-clause-ended g c = memory_end _
 
 pub returns-in-Err-clause-right : goal.returns-in-Err-clause-right
 returns-in-Err-clause-right g c = memory_done _
+
+pub returns-in-Err-clause-refused : goal.returns-in-Err-clause-refused
+returns-in-Err-clause-refused g c = memory_refused _
 
 pub returns-in-Err-clause-front : goal.returns-in-Err-clause-front
 returns-in-Err-clause-front g c = told_nothing (g.S.Source.left c.args.script.now) (g.P.Source.left c.args.proof.now) (g.W.Sink.written c.args.answers.now)
@@ -34,6 +38,7 @@ returns g c = record {
   usage = c.check.ensures.usage;
   ended = c.check.ensures.ended;
   right = λ e. right_told (g.S.Source.left c.args.script.now) (g.P.Source.left c.args.proof.now) (g.W.Sink.written c.args.answers.now) (g.W.Sink.written c.check.new.answers) _ c.what_is_accepted_is_right.ensures e (c.check.ensures.ended (inl e));
+  refused = λ e. refused_told (g.S.Source.left c.args.script.now) (g.P.Source.left c.args.proof.now) (g.W.Sink.written c.args.answers.now) (g.W.Sink.written c.check.new.answers) _ c.accepted_proofs_pass.ensures (c.texts_are_judged_one_way.ensures no_state) e (c.check.ensures.ended (inr e));
   front = c.check.ensures.front;
   read = c.check.ensures.read;
   answers = c.check.ensures.answers;

@@ -1,14 +1,13 @@
-use Rattle.std.proofs.Common.{◌≡◌, [], refl, inl, inr, arith, subst, sym}
+use Rattle.std.proofs.Common.{◌≡◌, [], refl, inl, inr, arith}
 use Rattle.std.proofs.KnownBytes.{Appends-nil}
-use Rattle.accepted_proof.specs.Searching.{Limits}
 use Rattle.accepted_proof.specs.Answers.{header_text}
 use Rattle.smt_session.specs.Sessions.{limits_of}
 use Rattle.smt_check.proofs.Parts.{adds_none, later_same}
 use Rattle.smt_check.proofs.Reported.{told_nothing}
-use Rattle.smt_run.specs.Commands.{files, stream, Solves, Checks, AddsToFiles}
+use Rattle.smt_run.specs.Commands.{files, stream, Solves}
 use Rattle.smt_run.proofs.Written.{within_none}
 use Rattle.smt_run.proofs.Telling.{told_silent, unbegun_beside, unbegun_prefix}
-use Rattle.smt_run.proofs.Ends.{answered_unless, judged_unless, memory_usage, memory_done, memory_end, memory_long, memory_reads}
+use Rattle.smt_run.proofs.Ends.{answered_unless, judged_unless, memory_usage, memory_done, memory_refused, memory_end, memory_long, memory_reads}
 use Rattle.smt_run.proofs.Faultless.{faultless_asks}
 use Rattle.smt_run.proofs.WordsTaken.{asks_solve, asks_check, one_command, same_limits}
 use Rattle.smt_run.proofs.running.run.Goals as goal
@@ -82,6 +81,7 @@ returns-in-Check-clause-checks g c = λ _. (
   record {
     judged = c.check_proof.ensures.ended;
     accepted = c.check_proof.ensures.right;
+    refused = c.check_proof.ensures.refused;
     front = c.check_proof.ensures.front;
     always = λ x y z. judged_unless _ _ _ _ _ _ _ c.check_proof.ensures.usage c.check_proof.ensures.read c.check_proof.ensures.cause x y z;
     within = c.check_proof.ensures.read;
@@ -162,6 +162,7 @@ returns-in-Err-NoMemory-clause-checks g c = λ _. (
   record {
     judged = λ e. memory_end _ e;
     accepted = λ e. memory_done _ e;
+    refused = λ e. memory_refused _ e;
     front = told_nothing (g.S.Source.left c.args.script.now) (g.P.Source.left c.args.proof_in.now) (g.W.Sink.written c.args.answers.now);
     always = λ _ _ _. inr (inr refl);
     within = (within_none _, within_none _);

@@ -2,7 +2,7 @@ use Rattle.std.proofs.Common.{◌-◌, drop}
 use Rattle.cnf_base.proofs.Lists.{each_append}
 use Rattle.proof_text.specs.Lines.{IsLine}
 use Rattle.proof_text.specs.Records.{record_lines}
-use Rattle.accepted_proof.specs.Answers.{step_lines}
+use Rattle.accepted_proof.specs.Turns.{step_lines}
 use Rattle.smt_session.proofs.check.lines.Goals as goal
 
 pub returns-clause-readable : goal.returns-clause-readable

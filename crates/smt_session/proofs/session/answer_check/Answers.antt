@@ -1,10 +1,12 @@
 use Rattle.std.proofs.Common.{false, sym, ap, ◌∙◌, subst}
+use Rattle.std.proofs.KnownBytes.{Appends-nil}
+use Rattle.std.proofs.lemmas.Result.{err_from_is_err_and}
 use Rattle.script_state.specs.declared.answer.Answer.TheVariants as answer
 use Rattle.script_state.specs.States.{concluded}
 use Rattle.accepted_proof.specs.Answers.{verdict_text}
 use Rattle.check_cubes.specs.Searches.{limits_of}
 use Rattle.smt_session.specs.Sessions.{Responds, response}
-use Rattle.smt_session.proofs.Responding.{check_responds, check_keeps}
+use Rattle.smt_session.proofs.Responding.{check_responds, check_cut, check_keeps}
 use Rattle.smt_session.proofs.session.answer_check.Goals as goal
 
 pub returns-clause-session : goal.returns-clause-session
@@ -22,3 +24,22 @@ returns-clause-response g c =
     c.in_ok-shown.ensures.checked c.in_ok-shown.ensures.text c.in_ok-shown.ensures.readable c.in_ok-write_lines.ensures.ok
     (c.in_ok-response.ensures ∙ ap (λ v. response (verdict_text v) false false) c.verdict_of-verdict.ensures)
     (c.conclude.ensures ∙ ap (concluded c.args.state.now) c.verdict_of-verdict.ensures))
+
+pub returns-in_err-shown-clause-cut : goal.returns-in_err-shown-clause-cut
+returns-in_err-shown-clause-cut g c =
+    let p = err_from_is_err_and c.from_residual.result c.from_residual.ensures.1 in
+    rw (p.1, p.2) (Appends-nil (g.Q.Sink.written c.args.proof.now))
+
+pub returns-in_err-response-clause-cut : goal.returns-in_err-response-clause-cut
+returns-in_err-response-clause-cut g c =
+    let p = err_from_is_err_and c.from_residual-in_err-response.result c.from_residual-in_err-response.ensures.1 in
+    rw (p.1, p.2) (Appends-nil (g.Q.Sink.written c.args.proof.now))
+
+pub returns-in_err-write_lines-clause-cut : goal.returns-in_err-write_lines-clause-cut
+returns-in_err-write_lines-clause-cut g c =
+    let p = err_from_is_err_and c.from_residual-in_err-write_lines.result c.from_residual-in_err-write_lines.ensures.1 in
+    let cut = c.in_err-write_lines.ensures.cut in
+    rw (p.1, p.2, cut.0)
+    (check_cut (limits_of c.args.limits) c.args.state.now c.args.workspace.now.log c.run_check.new.workspace.log c.in_ok-shown.shown c.in_ok-shown.text
+    (g.Q.Sink.written c.args.proof.now) (g.Q.Sink.written c.write_lines.new.proof)
+    c.in_ok-shown.ensures.checked c.in_ok-shown.ensures.text c.in_ok-shown.ensures.readable cut.1)

@@ -1,10 +1,11 @@
 use Rattle.std.proofs.Common.{sym, subst}
 use Rattle.std.specs.Prelude.{Option}
-use Rattle.std.proofs.lemmas.Result.{IfOk-weaker}
+use Rattle.std.proofs.KnownBytes.{Appends-nil}
+use Rattle.std.proofs.lemmas.Result.{IfOk-weaker, IfErr-weaker, err_from_is_err_and}
 use Rattle.proof_text.specs.declared.record.Record.{Record}
 use Rattle.check_cubes.specs.Searches.{limits_of}
 use Rattle.smt_session.specs.Sessions.{Responds}
-use Rattle.smt_session.proofs.Responding.{checks_nothing, of_check}
+use Rattle.smt_session.proofs.Responding.{checks_nothing, of_check, cut_of_check}
 use Rattle.smt_session.proofs.session.respond.Goals as goal
 
 pub returns-then-is_check-clause-still : goal.returns-then-is_check-clause-still
@@ -23,3 +24,12 @@ returns-clause-response g c =
     (λ (now : Option Record). Responds (limits_of c.args.limits) c.args.line c.args.answer c.args.state.now c.args.state.now c.args.workspace.now.log c.args.workspace.now.log c.args.last.now now c.in_ok-response.response (g.Q.Sink.written c.args.proof.now) (g.Q.Sink.written c.args.proof.now))
     (sym c.in_ok-response.ensures.same)
     (c.in_ok-response.ensures.response (limits_of c.args.limits) (g.Q.Sink.written c.args.proof.now))
+
+pub returns-then-is_check-clause-cut : goal.returns-then-is_check-clause-cut
+returns-then-is_check-clause-cut g c =
+    IfErr-weaker c.answer_check.result _ _ (λ stop left. cut_of_check _ _ _ _ _ c.args.answer stop c.if-is_check.ensures left) c.answer_check.ensures.cut
+
+pub returns-in_err-response-clause-cut : goal.returns-in_err-response-clause-cut
+returns-in_err-response-clause-cut g c =
+    let p = err_from_is_err_and c.from_residual.result c.from_residual.ensures.1 in
+    rw (p.1, p.2) (Appends-nil (g.Q.Sink.written c.args.proof.now))

@@ -9,4 +9,4 @@ four_parts o a b c d p q r s t e f g h i = i ∙ ap (λ x. x ++ d) (h ∙ ap (λ
 pub returns : goal.returns
 returns c =
     four_parts (40 ∷ []) c.args.asked.now.text (32 ∷ []) (meaning_text (meaning c.args.value.now)) (41 ∷ []) c.in_ok-out.out c.push_slice.new.self c.push_slice-2.new.self c.push_meaning.new.out c.push_slice-3.new.self
-    c.in_ok-out.ensures (c.in_ok-push_slice.ensures.ok ∙ ap (λ x. c.in_ok-out.out ++ x) c.as_slice.ensures) c.in_ok-push_slice-2.ensures.ok c.in_ok-push_meaning.ensures c.in_ok-push_slice-3.ensures.ok
+    c.in_ok-out.ensures (c.in_ok-push_slice.ensures.ok ∙ ap (λ x. c.in_ok-out.out ++ x) c.as_slice.ensures) c.in_ok-push_slice-2.ensures.ok c.in_ok-push_meaning.ensures.ok c.in_ok-push_slice-3.ensures.ok
