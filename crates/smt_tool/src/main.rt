@@ -29,6 +29,8 @@ mod name_error_tests;
 #[cfg(test)]
 mod named_tests;
 #[cfg(test)]
+mod odd_command_tests;
+#[cfg(test)]
 mod session_tests;
 #[cfg(test)]
 mod term_error_tests;

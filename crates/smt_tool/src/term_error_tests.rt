@@ -53,7 +53,6 @@ const WRONG_INDICES: Table = Table {
         &[
             b"(assert (extract x))",
             b"(assert extract)",
-            b"(assert (= x (_ extract 3 0)))",
             b"(assert (= x ((_ extract 3) x)))",
             b"(assert (= x ((_ extract 3 2 1) x)))",
             b"(assert (= x ((_ extract 8 0) x)))",
@@ -65,9 +64,6 @@ const WRONG_INDICES: Table = Table {
             b"(assert (= x ((_ zero_extend 121) p)))",
             b"(assert (= x ((_ bvadd 1) x x)))",
             b"(assert (= x ((_ x 1) x)))",
-            b"(assert (= x (_ x 1)))",
-            b"(assert (= x (_ bv1 8 8)))",
-            b"(assert (= x ((_ bv1 8) x)))",
             b"(define-fun f ((a Bool)) Bool ((_ a 1) p))",
         ],
     ),
