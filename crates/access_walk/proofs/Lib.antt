@@ -1,0 +1,14 @@
+pub mod Closing
+pub mod Conflicts
+pub mod Clashing
+pub mod Valuing
+pub mod Pairs
+pub mod Shaped
+pub mod Encoding
+pub mod Constants
+pub mod Found
+pub mod Lists
+pub mod Words
+pub mod Joined
+pub mod Gaps
+pub mod Taken

@@ -1,0 +1,9 @@
+pub mod Networks
+pub mod Maps
+pub mod Walked
+pub mod Valued
+pub mod Building
+pub mod Filled
+pub mod Rows
+pub mod Watched
+pub mod Spared
