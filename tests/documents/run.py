@@ -16,6 +16,7 @@ usage: run.py    (reads README.md, docs/ and the sources; no program is run)
 - The scripts and the proofs that docs/PROOFS.md goes through are those of examples and of rows, or of the table of
   crates/theory_rows, and the replayer of tests/rows accepts the proofs; a clause that the page names there is the one of the replayed log.
 - The head of a crate's root file names crates that it stands on by crates.txt.
+- README.md says how many lines of definitions and of types lead to what is accepted: those that definitions.py counts.
 """
 import pathlib
 import re
@@ -26,6 +27,7 @@ CRATES = ROOT / "crates"
 DOCUMENTS = [path.relative_to(ROOT).as_posix() for path in [ROOT / "README.md", *sorted((ROOT / "docs").glob("*.md"))]]
 FILE_ENDINGS = (".md", ".py", ".smt2", ".txt", ".rt", ".row", ".antt", ".dialogue")
 sys.path.insert(0, str(ROOT / "tests/rows"))
+import definitions
 import lemmas
 import reference
 import run as rows_of_answers
@@ -242,6 +244,19 @@ def check_heads(crates):
                 yield "%s: it does not stand on %s" % (root.relative_to(ROOT), other)
 
 
+# The crates that say how a script is read and obeyed.
+READING = ["smt_text", "smt_syntax", "smt_build", "script_state"]
+
+
+def check_counts(text):
+    counts = definitions.lines_by_crate(("definition", "accepted_proof", "Accepted", "Accepted"))
+    by_crate, of_types = counts["definition"], sum(counts["type"].values())
+    wanted = [sum(by_crate.values()), len(by_crate), by_crate["accepted_proof"], sum(by_crate[crate] for crate in READING), of_types]
+    told = re.search(r"is (\d+) lines of definitions in (\d+) crates \((\d+) of them .* (\d+) in smt_text.* (\d+) lines of the types", text)
+    if told is None or [int(number) for number in told.groups()] != wanted:
+        yield "it does not say that there are %d lines of definitions in %d crates (%d, %d), and %d of types" % tuple(wanted)
+
+
 def faults():
     crates, sources = crates_txt(), Sources()
     for document in DOCUMENTS:
@@ -253,6 +268,8 @@ def faults():
             found += [*check_rooms(text, crates), *check_files(text, crates), *check_definitions(text)]
         if document == "docs/PROOFS.md":
             found += check_worked_proofs(text)
+        if document == "README.md":
+            found += check_counts(text)
         yield from ("%s: %s" % (document, fault) for fault in found)
     yield from check_heads(crates)
 
