@@ -1,8 +1,9 @@
 -- Ways that grow at their end, over terms that grow.
-use Rattle.std.proofs.Common.{◌≡◌, ℕ, zero, suc, ◌+◌, ◌-◌, ◌<◌, Bool, true, false, List, [], ◌∷◌, ◌++◌, length, map, refl, sym, ap, ◌∙◌, subst, arith, append_assoc, append-nil, length-append, Option, Some, None, Ok, Err, inl, inr}
-use Rattle.std.specs.Prelude.{◌==◌, ◌&&◌, ◌||◌, nat_lt, if◌then◌else◌, slice_index_or, Result}
+use Rattle.std.proofs.Common.{◌≡◌, ℕ, zero, suc, ◌+◌, ◌-◌, ◌<◌, Bool, true, false, List, [], ◌∷◌, ◌++◌, length, map, refl, sym, ap, ◌∙◌, subst, arith, append_assoc, append-nil, length-append, ⊎_elim, Option, Some, None, Ok, Err, inl, inr}
+use Rattle.std.specs.Prelude.{◌≤◌, ◌⊎◌, Contains, ◌==◌, ◌&&◌, ◌||◌, nat_lt, if◌then◌else◌, slice_index_or, Result}
 use Rattle.std.specs.Cmp.Lexicographic.{pointwise}
-use Rattle.std.proofs.lemmas.Bool.{and_parts, eq-eqb, eqb-true, lt-ltb}
+use Rattle.std.proofs.lemmas.Bool.{and_parts, eq-eqb, eqb-true, lt-ltb, cases_lt}
+use Rattle.std.proofs.lemmas.List.Elements.{Contains-append_left, Contains-append_right}
 use Rattle.smt_terms.specs.declared.sort.Sort.TheVariants as sort
 use Rattle.smt_terms.specs.declared.operator.Operator.TheVariants as plain
 use Rattle.smt_terms.specs.declared.node.Op.{Op}
@@ -30,7 +31,7 @@ use Rattle.bv_rewrite.specs.declared.simplifying.Use.{Use}
 use Rattle.bv_rewrite.specs.declared.simplifying.Simplified.{Simplified}
 use Rattle.bv_rewrite.specs.Becoming.{becomes}
 use Rattle.bv_rewrite.specs.Making.{made_shape, IsRanked, IsOfShape}
-use Rattle.bv_rewrite.specs.Simplifying.{from_image, end_in, in_order, settled, first_use, IsSimplified, IsWay, AreOfTable, IsGrown, IsOnWay, IsFollowed, IsRefused}
+use Rattle.bv_rewrite.specs.Simplifying.{from_image, end_in, in_order, settled, first_use, IsSimplified, IsWay, AreOfTable, IsGrown, IsNeeded, IsOnWay, IsFollowed, IsRefused}
 use Rattle.bv_rewrite.proofs.Fitting.{made, not_inner}
 use Rattle.bv_rewrite.specs.Weights.{weight}
 use Rattle.bv_rewrite.proofs.Ranking.{ranked_shape}
@@ -78,10 +79,30 @@ table_push : (uses : List Use) (s : Use) → AreOfTable uses → (s.rule ≡ Inn
 table_push [] s h n = (n, tt)
 table_push (r ∷ uses) s h n = (h.0, table_push uses s h.1 n)
 
+-- ---- terms that are needed
+
+none_between : (n k : ℕ) → n ≤ k → k < n → ⊥
+none_between n k le lt = omega (arith, le, lt)
+
+-- what a use needs is needed by more uses, over more terms
+needed_more : (nodes more : List Node) (uses all : List Use) (k : ℕ) → ((s : Use) → Contains uses s → Contains all s) → IsNeeded nodes uses k → IsNeeded (nodes ++ more) all k
+needed_more nodes more uses all k among h = record {
+  by = h.by;
+  among = among h.by h.among;
+  held = let l = length-append nodes more in let x = h.held in omega (arith, l, x);
+  is = ⊎_elim inl (λ c. inr (subst (λ (n : Node). Contains n.args k) (sym (node_longer nodes more h.by.to h.held)) c)) h.is;
+}
+
+needed_grown : (v w : TermsValue) (uses all : List Use) (k : ℕ) → IsGrown v w → ((s : Use) → Contains uses s → Contains all s) → IsNeeded v.nodes uses k → IsNeeded w.nodes all k
+needed_grown v w uses all k g among h = subst (λ l. IsNeeded l all k) (sym g.nodes) (needed_more v.nodes g.more uses all k among h)
+
+last_needed : (w : TermsValue) (uses : List Use) (s : Use) (k : ℕ) → s.to < length w.nodes → (s.to ≡ k) ⊎ Contains (node_at w.nodes s.to).args k → IsNeeded w.nodes (uses ++ s ∷ []) k
+last_needed w uses s k lt h = record { by = s; among = Contains-append_right uses (s ∷ []) s (0, omega arith, refl); held = lt; is = h }
+
 -- ---- the rules of the table, one after the other
 
 pub begun : (v : TermsValue) (t : ℕ) (uses : List Use) → AreTerms v → t < length v.nodes → is_plain (sort_of v.nodes t) ≡ true → IsOnWay v v t uses uses t
-begun v t uses h lt p = record { grown = grown_none v h; rest = []; added = sym (append-nil uses); table = tt; way = λ images. refl; held = lt; plain = p }
+begun v t uses h lt p = record { grown = grown_none v h; rest = []; added = sym (append-nil uses); table = tt; way = λ images. refl; held = lt; plain = p; needed = λ k le more. absurd (none_between (length v.nodes) k le more) }
 
 pub went_on : (v w x : TermsValue) (t : ℕ) (before uses : List Use) (u n : ℕ) (rule : Rule) (z : Shape) → IsOnWay v w t before uses u → becomes w.nodes rule u ≡ Some z → IsOfShape w x (sort_of w.nodes u) z n
     → IsOnWay v x t before (uses ++ record { rule = rule; to = n } ∷ []) n
@@ -101,6 +122,10 @@ went_on v w x t before uses u n rule z h e m =
           (made x.nodes images rule u n z m.terms.list lu m.held pu (m.sort ∙ sym su) eu m.has);
       held = m.held;
       plain = ap is_plain m.sort ∙ h.plain;
+      needed = λ k le lt. ⊎_elim
+          (λ less. needed_grown w x h.rest (h.rest ++ s ∷ []) k g (λ r c. Contains-append_left h.rest (s ∷ []) r c) (h.needed k le less))
+          (λ more. last_needed x h.rest s k m.held (m.needed k more lt))
+          (cases_lt k (length w.nodes));
     }
 
 -- a shape that was not made
@@ -297,8 +322,8 @@ module _ (v : TermsValue) (images : ℕ → Option ℕ) (h : AreImages v.nodes i
         (both (same_sort (sort_of N t) (sort_of N u)) (has_reached N images t u) same r)))
 
     -- the whole way
-    pub simplified : (x : TermsValue) (before uses : List Use) (z : ℕ) (s : Simplified) → is_plain (sort_of v.nodes t) ≡ true → before ≡ first_use t u → IsFollowed w x u before uses z → s.term ≡ z → s.uses.items ≡ uses → IsSimplified v x images t s
-    simplified x before uses z s p b f q r =
+    pub simplified : (keeps : List Node → ℕ → Bool) (x : TermsValue) (before uses : List Use) (z : ℕ) (s : Simplified) → is_plain (sort_of v.nodes t) ≡ true → before ≡ first_use t u → IsFollowed keeps w x u before uses z → s.term ≡ z → s.uses.items ≡ uses → IsSimplified keeps v x images t s
+    simplified keeps x before uses z s p b f q r =
         let o = f.on_way in
         let all : s.uses.items ≡ first_use t u ++ o.rest = r ∙ o.added ∙ ap (λ l. l ++ o.rest) b in
         record {
@@ -310,9 +335,20 @@ module _ (v : TermsValue) (images : ℕ → Option ℕ) (h : AreImages v.nodes i
           table = o.table;
           way = rw (all, q) (first_way (t == u) refl x o);
           held = rw q o.held;
-          last = rw q f.last;
+          end = rw q f.end;
+          needed = rw all (λ k le more. ⊎_elim (λ less. first_needed x o k le less) (λ later. needed_grown x x o.rest (first_use t u ++ o.rest) k (grown_none x o.grown.terms) (λ e c. Contains-append_right (first_use t u) o.rest e c) (o.needed k later more)) (cases_lt k (length w.nodes)));
         }
       where
+        first_needed : (x : TermsValue) (o : IsOnWay w x u before uses z) (k : ℕ) → length v.nodes ≤ k → k < length w.nodes → IsNeeded x.nodes (first_use t u ++ o.rest) k
+        first_needed x o k le less = go (t == u) refl
+          where
+            is : u ≡ k
+            is = start.new k le less
+
+            go : (c : Bool) → (t == u) ≡ c → IsNeeded x.nodes ((if c then [] else record { rule = Inner; to = u } ∷ []) ++ o.rest) k
+            go true e = let same = eqb-true t u e in absurd (none_between (length v.nodes) t (subst (λ y. length v.nodes ≤ y) (sym (same ∙ is)) le) lt)
+            go false e = record { by = record { rule = Inner; to = u }; among = (0, omega arith, refl); held = held_grown w x u o.grown start.held; is = inl is }
+
         first_way : (c : Bool) → (t == u) ≡ c → (x : TermsValue) (o : IsOnWay w x u before uses z) → IsWay x.nodes images t ((if c then [] else record { rule = Inner; to = u } ∷ []) ++ o.rest) z
         first_way true c x o = subst (λ y. IsWay x.nodes images y o.rest z) (sym (eqb-true t u c)) (o.way images)
         first_way false c x o = (subst (λ l. matches l images Inner t u ≡ true) (sym o.grown.nodes) (matches_more w.nodes o.grown.more images Inner t u start.terms.list (start_matches p)), o.way images)

@@ -1,8 +1,8 @@
 -- What is made of a shape is of that shape.
-use Rattle.std.proofs.Common.{◌≡◌, ℕ, zero, suc, ◌+◌, ◌-◌, ◌^◌, ◌<◌, ◌≤◌, Bool, true, false, List, [], ◌∷◌, ◌++◌, length, map, take, refl, sym, ap, ◌∙◌, subst, arith, append_assoc, append-nil, length-append, ⊎_elim, Option, Some, None, Result, Ok, Err}
-use Rattle.std.specs.Prelude.{◌==◌, ◌&&◌, ◌||◌, nat_lt, if◌then◌else◌, position, slice_index_or}
+use Rattle.std.proofs.Common.{◌≡◌, ℕ, zero, suc, ◌+◌, ◌-◌, ◌^◌, ◌<◌, ◌≤◌, Bool, true, false, List, [], ◌∷◌, ◌++◌, length, map, take, refl, sym, ap, ◌∙◌, subst, arith, append_assoc, append-nil, length-append, ⊎_elim, inl, inr, Option, Some, None, Result, Ok, Err}
+use Rattle.std.specs.Prelude.{◌==◌, ◌&&◌, ◌||◌, nat_lt, if◌then◌else◌, position, slice_index_or, Contains}
 use Rattle.std.specs.List.{AllByRecursion}
-use Rattle.std.proofs.lemmas.Bool.{eq-eqb, lt-ltb, and_parts}
+use Rattle.std.proofs.lemmas.Bool.{eq-eqb, lt-ltb, and_parts, cases_lt}
 use Rattle.smt_terms.specs.declared.sort.Sort.{Sort}
 use Rattle.smt_terms.specs.declared.sort.Sort.TheVariants as sort
 use Rattle.smt_terms.specs.declared.operator.Operator.{Operator}
@@ -47,6 +47,7 @@ pub record IsThere (v w : TermsValue) (n : Node) (s : Sort) (u : ℕ) : Type 0 w
   pub node : node_at w.nodes u ≡ n
   pub sort : sort_of w.nodes u ≡ s
   pub weight : weight w.nodes u ≡ op_weight n.op + total (map (weight v.nodes) n.args)
+  pub new : (k : ℕ) → length v.nodes ≤ k → k < length w.nodes → u ≡ k
 
 agrees : (nodes : List Node) (o : Op) → declaration_of o ≡ None → Agrees nodes o
 agrees nodes o e t d p q = let z : None ≡ Some d = sym e ∙ q in let f : ⊥ = cc in absurd f
@@ -75,7 +76,17 @@ there v w n s u terms r e =
     weight_is w.nodes u all.list m.within
     ∙ ap (λ x. op_weight x.op + total (map (weight w.nodes) x.args)) m.node
     ∙ ap (λ ws. op_weight n.op + total ws) weights in
-    record { terms = all; more = grown.0; grown = grown.1; limit = grown.2; held = m.within; node = m.node; sort = is; weight = heavy }
+    let new : (k : ℕ) → length v.nodes ≤ k → k < length w.nodes → u ≡ k = λ k le lt. ⊎_elim
+    (λ q. absurd (none_new k le (subst (λ x. k < length x.nodes) q lt)))
+    (λ one. one.number ∙ only_new k le (subst (λ x. k < length x.nodes) one.pushed lt))
+    m.grown in
+    record { terms = all; more = grown.0; grown = grown.1; limit = grown.2; held = m.within; node = m.node; sort = is; weight = heavy; new = new }
+  where
+    none_new : (k : ℕ) → length v.nodes ≤ k → k < length v.nodes → ⊥
+    none_new k le lt = omega (arith, le, lt)
+
+    only_new : (k : ℕ) → length v.nodes ≤ k → k < length (v.nodes ++ n ∷ []) → length v.nodes ≡ k
+    only_new k le lt = let l = length-append v.nodes (n ∷ []) in omega (arith, l, le, lt)
 
 -- nothing but the limit refuses it
 pub refused : (v : TermsValue) (n : Node) (s : Sort) (f : MakeFault) → IsReady v.nodes n s → make v n ≡ Err f → f ≡ TermLimit
@@ -132,7 +143,7 @@ word_ready : (nodes : List Node) (s : Sort) (n k : ℕ) → literal_sort n k ≡
 word_ready nodes s n k h = record { agrees = agrees nodes (op.Word n k) refl; held = tt; rank = h }
 
 of_shape : (v w : TermsValue) (n : Node) (s : Sort) (z : Shape) (u : ℕ) → IsThere v w n s u → has_shape w.nodes z u ≡ true → op_weight n.op + total (map (weight v.nodes) n.args) ≡ shape_weight v.nodes z → IsOfShape v w s z u
-of_shape v w n s z u t h g = record { terms = t.terms; more = t.more; grown = t.grown; limit = t.limit; held = t.held; sort = t.sort; has = h; weight = t.weight ∙ g }
+of_shape v w n s z u t h g = record { terms = t.terms; more = t.more; grown = t.grown; limit = t.limit; held = t.held; sort = t.sort; has = h; weight = t.weight ∙ g; needed = λ k le lt. inl (t.new k le lt) }
 
 both : (a b : Bool) → a ≡ true → b ≡ true → (a && b) ≡ true
 both a b p q = λ i. p i && q i
@@ -198,8 +209,14 @@ module _ (v : TermsValue) (o : Operator) (x : ℕ) (other : Node) (s r : Sort) (
             ∙ (λ i. operator_weight o + total (kept i ∷ f.weight i ∷ []))
             ∙ flat (operator_weight o) (weight v.nodes x) (op_weight other.op + total (map (weight v.nodes) other.args))
             ∙ g;
+        needed = λ k le lt. ⊎_elim (λ less. inr (second k (f.new k le less))) (λ more. inl (l.new k more lt)) (cases_lt k (length b.mid.nodes));
       }
     where
+      second : (k : ℕ) → b.y ≡ k → Contains (node_at w.nodes u).args k
+      second k e =
+          let there : Contains (x ∷ b.y ∷ []) k = (1, omega arith, e) in
+          subst (λ (n : Node). Contains n.args k) (sym b.last.node) there
+
       kept : weight b.mid.nodes x ≡ weight v.nodes x
       kept = ap (λ l. weight l x) b.first.grown ∙ weight_longer v.nodes b.first.more x lt
 
@@ -262,7 +279,11 @@ made_of_shape v w s (shape.Term x) u terms r e =
       sort = (λ i. sort_of (sym p.1 i).nodes (sym p.0 i)) ∙ r.1;
       has = eq-eqb u x (sym p.0);
       weight = λ i. weight (sym p.1 i).nodes (sym p.0 i);
+      needed = λ k le lt. absurd (none_more k le (subst (λ q. k < length q.nodes) (sym p.1) lt));
     }
+  where
+    none_more : (k : ℕ) → length v.nodes ≤ k → k < length v.nodes → ⊥
+    none_more k le lt = omega (arith, le, lt)
 made_of_shape v w s (shape.Truth b) u terms r e =
     let n = leaf (op.Plain (if b then plain.True else plain.False)) in
     let t = there v w n s u terms (truth_ready v.nodes b s r) e in

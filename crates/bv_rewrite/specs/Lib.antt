@@ -3,3 +3,4 @@ pub mod Becoming
 pub mod Weights
 pub mod Making
 pub mod Simplifying
+pub mod Kept

@@ -1,5 +1,5 @@
 -- The nodes of a shape, the first of them first, and the numbers that they get.
-use Rattle.std.specs.Prelude.{◌≡◌, ℕ, ◌-◌, ◌^◌, ◌<◌, ◌≤◌, if◌then◌else◌, List, [], ◌∷◌, ◌++◌, length, Result, Ok, true}
+use Rattle.std.specs.Prelude.{◌≡◌, ◌⊎◌, ℕ, ◌-◌, ◌^◌, ◌<◌, ◌≤◌, if◌then◌else◌, List, [], ◌∷◌, ◌++◌, length, Contains, Result, Ok, true}
 use Rattle.smt_terms.specs.declared.sort.Sort.{Sort}
 use Rattle.smt_terms.specs.declared.sort.Sort.TheVariants as sort
 use Rattle.smt_terms.specs.declared.operator.Operator.{Operator}
@@ -8,7 +8,7 @@ use Rattle.smt_terms.specs.declared.node.Op.{Op}
 use Rattle.smt_terms.specs.declared.node.Op.TheVariants as op
 use Rattle.smt_terms.specs.declared.node.Node.{Node}
 use Rattle.smt_terms.specs.declared.fault.MakeFault.{MakeFault}
-use Rattle.smt_terms.specs.Nodes.{leaf}
+use Rattle.smt_terms.specs.Nodes.{leaf, node_at}
 use Rattle.smt_terms.specs.Ranks.{width_of, literal_sort, word_sort, and_then}
 use Rattle.smt_terms.specs.Terms.{TermsValue, AreTerms, op_rank, sort_of, make}
 use Rattle.bv_rewrite.specs.declared.shape.Shape.{Shape}
@@ -64,7 +64,8 @@ IsRanked nodes s (WithWord o x k) = IsOnTwo nodes s (op.Plain o) x x × (literal
 IsRanked nodes s (WithNegated x y) = IsOnTwo nodes s (op.Plain plain.Bvadd) x y × IsOnOne nodes (sort_of nodes y) (op.Plain plain.Bvneg) y
 IsRanked nodes s (Bits i j x) = IsOnOne nodes s (op.Extract i j) x × (j ≤ i) × (i < 128)
 
--- a term of this shape and sort stands there, and the terms before it are as they were
+-- A term of this shape and sort stands there, and the terms before it are as they were. Behind them stand no others but the term
+-- itself and arguments of it.
 pub record IsOfShape (v w : TermsValue) (s : Sort) (shape : Shape) (u : ℕ) : Type 0 where
   pub terms : AreTerms w
   pub more : List Node
@@ -74,3 +75,4 @@ pub record IsOfShape (v w : TermsValue) (s : Sort) (shape : Shape) (u : ℕ) : T
   pub sort : sort_of w.nodes u ≡ s
   pub has : has_shape w.nodes shape u ≡ true
   pub weight : weight w.nodes u ≡ shape_weight v.nodes shape
+  pub needed : (k : ℕ) → length v.nodes ≤ k → k < length w.nodes → (u ≡ k) ⊎ Contains (node_at w.nodes u).args k

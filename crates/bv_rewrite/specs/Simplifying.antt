@@ -1,5 +1,5 @@
 -- Ways along rules, from a term to one to which no rule but that on arguments applies.
-use Rattle.std.specs.Prelude.{◌≡◌, ◌⊎◌, ℕ, zero, suc, ◌<◌, ◌==◌, nat_lt, true, ◌&&◌, if◌then◌else◌, List, [], ◌∷◌, ◌++◌, length, map, Option, Some, None}
+use Rattle.std.specs.Prelude.{◌≡◌, ◌⊎◌, ℕ, zero, suc, ◌<◌, ◌≤◌, ◌==◌, nat_lt, Bool, true, ◌&&◌, if◌then◌else◌, List, [], ◌∷◌, ◌++◌, length, map, Option, Some, None, Contains}
 use Rattle.std.specs.List.{AllByRecursion}
 use Rattle.smt_terms.specs.declared.node.Op.{Op}
 use Rattle.smt_terms.specs.declared.node.Node.{Node}
@@ -32,6 +32,21 @@ AreOfTable uses = AllByRecursion (λ s. s.rule ≡ Inner → ⊥) uses
 -- no rule of the table applies to the term
 abbrev pub IsLast : List Node → ℕ → Type 0
 IsLast nodes t = (rule : Rule) → becomes nodes rule t ≡ None
+
+-- the term is one that is kept, or no rule of the table applies to it
+abbrev pub IsEnd : (List Node → ℕ → Bool) → List Node → ℕ → Type 0
+IsEnd keeps nodes t = (keeps nodes t ≡ true) ⊎ IsLast nodes t
+
+-- a use leads to the term, or to one that has it as an argument
+pub record IsNeeded (nodes : List Node) (uses : List Use) (t : ℕ) : Type 0 where
+  pub by : Use
+  pub among : Contains uses by
+  pub held : by.to < length nodes
+  pub is : (by.to ≡ t) ⊎ Contains (node_at nodes by.to).args t
+
+-- each term that is not among the first so many is needed
+abbrev pub AreNeeded : ℕ → List Node → List Use → Type 0
+AreNeeded count nodes uses = (t : ℕ) → count ≤ t → t < length nodes → IsNeeded nodes uses t
 
 -- ---- arguments
 
@@ -77,10 +92,11 @@ pub record IsOnWay (v w : TermsValue) (t : ℕ) (before uses : List Use) (u : �
   pub way : (images : ℕ → Option ℕ) → IsWay w.nodes images t rest u
   pub held : u < length w.nodes
   pub plain : is_plain (sort_of w.nodes u) ≡ true
+  pub needed : AreNeeded (length v.nodes) w.nodes rest
 
-pub record IsFollowed (v w : TermsValue) (t : ℕ) (before uses : List Use) (u : ℕ) : Type 0 where
+pub record IsFollowed (keeps : List Node → ℕ → Bool) (v w : TermsValue) (t : ℕ) (before uses : List Use) (u : ℕ) : Type 0 where
   pub on_way : IsOnWay v w t before uses u
-  pub last : IsLast w.nodes u
+  pub end : IsEnd keeps w.nodes u
 
 -- nothing but the limit of terms is a fault
 abbrev pub IsCause : MakeError → Type 0
@@ -91,8 +107,9 @@ pub record IsRefused (v w : TermsValue) (e : MakeError) : Type 0 where
   pub grown : IsGrown v w
   pub cause : IsCause e
 
--- First the arguments are settled, then rules of the table lead to a term to which none of them applies.
-pub record IsSimplified (v w : TermsValue) (images : ℕ → Option ℕ) (t : ℕ) (s : Simplified) : Type 0 where
+-- First the arguments are settled, then rules of the table lead to a term that is kept, or to which none of them applies. No
+-- term is made but those of the uses and their arguments.
+pub record IsSimplified (keeps : List Node → ℕ → Bool) (v w : TermsValue) (images : ℕ → Option ℕ) (t : ℕ) (s : Simplified) : Type 0 where
   pub grown : IsGrown v w
   pub start : ℕ
   pub settles : node_at w.nodes start ≡ settled v.nodes images t
@@ -101,4 +118,5 @@ pub record IsSimplified (v w : TermsValue) (images : ℕ → Option ℕ) (t : �
   pub table : AreOfTable rest
   pub way : IsWay w.nodes images t s.uses.items s.term
   pub held : s.term < length w.nodes
-  pub last : IsLast w.nodes s.term
+  pub end : IsEnd keeps w.nodes s.term
+  pub needed : AreNeeded (length v.nodes) w.nodes s.uses.items

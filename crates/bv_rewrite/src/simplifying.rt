@@ -10,10 +10,11 @@ ghost use Rattle.bv_rules.specs.Arguments.{commutes_in};
 ghost use Rattle.bv_rules.specs.Matches.{AreImages};
 ghost use Rattle.bv_rules.specs.declared.rule.Rule.{Rule as RuleValue};
 ghost use Rattle.bv_rewrite.specs.Becoming.{becomes};
-ghost use Rattle.bv_rewrite.specs.Simplifying.{end_in, first_use, in_order, settled, IsSimplified, IsCause};
+ghost use Rattle.bv_rewrite.specs.Simplifying.{end_in, first_use, in_order, settled, IsSimplified, IsCause, IsEnd};
 ghost use Rattle.bv_rewrite.specs.Simplifying.{IsFollowed, IsRefused};
 
 use crate::finding::{Found, becomes, find};
+use crate::kept::Kept;
 use crate::laws::{
     made_shapes_are_of_their_shape, rules_lower_weights, shapes_are_made_by_rules,
     shapes_have_the_sort_of_the_term,
@@ -124,12 +125,16 @@ fn first_uses(alloc: Global, t: TermId, start: TermId) -> Result<Vec<Use>, Alloc
     Ok(uses)
 }
 
-/// A rule of the table that applies to a term: that on literals before the others, so that a difference of literals is one.
-fn next(terms: &Terms, t: TermId) -> Option<Found>
+/// A rule of the table that applies to a term that is not kept: that on literals before the others, so that a difference of
+/// literals is one.
+fn next<K: Kept>(terms: &Terms, kept: &K, t: TermId) -> Option<Found>
     requires held { t < length terms.now.nodes }
-    ensures { MatchOption result ((rule : RuleValue) → becomes terms.now.nodes rule t ≡ None)
+    ensures { MatchOption result (IsEnd (K.keeps kept.now) terms.now.nodes t)
         (λ f. becomes terms.now.nodes f.rule t ≡ Some f.shape) }
 {
+    if kept.keeps(terms, t) {
+        return None;
+    }
     match becomes(terms, Rule::Fold, t) {
         Some(shape) => Some(Found {
             rule: Rule::Fold,
@@ -139,17 +144,18 @@ fn next(terms: &Terms, t: TermId) -> Option<Found>
     }
 }
 
-/// Follows the rules of the table from a held Bool or word to a term to which none of them applies.
-fn follow(
+/// Follows the rules of the table from a held Bool or word to a term that is kept, or to which none of them applies.
+fn follow<K: Kept>(
     alloc: Global,
     terms: &mut Terms,
+    kept: &K,
     t: TermId,
     uses: &mut Vec<Use>,
 ) -> Result<TermId, MakeError>
     requires terms { AreTerms terms.old }
     requires held { t < length terms.old.nodes }
     requires plain { is_plain (sort_of terms.old.nodes t) ≡ true }
-    ensures followed { IfOk result (λ u. IsFollowed terms.old terms.new t uses.old.items uses.new.items u) }
+    ensures followed { IfOk result (λ u. IsFollowed (K.keeps kept.now) terms.old terms.new t uses.old.items uses.new.items u) }
     ensures refused { IfErr result (λ e. IsRefused terms.old terms.new e) }
 {
     shapes_are_made_by_rules();
@@ -157,7 +163,7 @@ fn follow(
     made_shapes_are_of_their_shape();
     rules_lower_weights();
     let mut at = t;
-    'rules: while let Some(found) = next(terms, at) {
+    'rules: while let Some(found) = next(terms, kept, at) {
         let sort = terms.sort(at);
         at = make(alloc, terms, found.shape, sort)?;
         uses.push(Use {
@@ -169,43 +175,46 @@ fn follow(
 }
 
 /// Settles the arguments of a held Bool or word, and follows the rules from there. The terms may have grown where it is refused.
-fn walk<I: Images>(
+fn walk<I: Images, K: Kept>(
     alloc: Global,
     terms: &mut Terms,
     images: &I,
+    kept: &K,
     t: TermId,
 ) -> Result<Simplified, MakeError>
     requires terms { AreTerms terms.old }
     requires held { t < length terms.old.nodes }
     requires plain { is_plain (sort_of terms.old.nodes t) ≡ true }
     requires images { AreImages terms.old.nodes (I.image_of images.now) }
-    ensures simplified { IfOk result (λ s. IsSimplified terms.old terms.new (I.image_of images.now) t s) }
+    ensures simplified { IfOk result (λ s. IsSimplified (K.keeps kept.now) terms.old terms.new (I.image_of images.now) t s) }
     ensures refused { IfErr result (λ e. IsRefused terms.old terms.new e) }
 {
     let node = settle(alloc, terms, images, t)?;
     let start = terms.make(node)?;
     let mut uses = first_uses(alloc, t, start)?;
-    let term = follow(alloc, terms, start, &mut uses)?;
+    let term = follow(alloc, terms, kept, start, &mut uses)?;
     Ok(Simplified { term, uses })
 }
 
 /// What a held Bool or word becomes over these images: its arguments are settled first, and then the rules of the table are
-/// followed, that on literals before the others by number, to a term to which none of them applies. It tells each use of a
-/// rule. Where the limit of terms or memory refuses a term that a rule needs, the terms are as before.
-pub fn simplify<I: Images>(
+/// followed, that on literals before the others by number, to a term that is kept, or to which none of them applies. It tells
+/// each use of a rule, and makes no term but those of the uses and their arguments. Where the limit of terms or memory refuses
+/// a term that a rule needs, the terms are as before.
+pub fn simplify<I: Images, K: Kept>(
     alloc: Global,
     terms: &mut Terms,
     images: &I,
+    kept: &K,
     t: TermId,
 ) -> Result<Simplified, MakeError>
     requires held { t < length terms.old.nodes }
     requires plain { is_plain (sort_of terms.old.nodes t) ≡ true }
     requires images { AreImages terms.old.nodes (I.image_of images.now) }
-    ensures simplified { IfOk result (λ s. IsSimplified terms.old terms.new (I.image_of images.now) t s) }
+    ensures simplified { IfOk result (λ s. IsSimplified (K.keeps kept.now) terms.old terms.new (I.image_of images.now) t s) }
     ensures refused { IfErr result (λ e. (terms.new ≡ terms.old) × IsCause e) }
 {
     let before = terms.len();
-    match walk(alloc, terms, images, t) {
+    match walk(alloc, terms, images, kept, t) {
         Ok(simplified) => Ok(simplified),
         Err(error) => {
             terms.cut(before);

@@ -5,29 +5,29 @@ use Rattle.bv_rewrite.proofs.Following.{begun, went_on, step_of, smaller, stoppe
 use Rattle.bv_rewrite.proofs.simplifying.follow.Goals as goal
 
 pub rules-init : goal.rules-init
-rules-init c = begun c.args.terms.now c.args.t c.args.uses.now.items c.requires.terms c.requires.held c.requires.plain
+rules-init g c = begun c.args.terms.now c.args.t c.args.uses.now.items c.requires.terms c.requires.held c.requires.plain
 
 pub returns-in_err-at-clause-refused : goal.returns-in_err-at-clause-refused
-returns-in_err-at-clause-refused c =
+returns-in_err-at-clause-refused g c =
     let p = err_from_is_err_and c.from_residual.result c.from_residual.ensures.1 in
     let i = c.rules.invariant in
     rw (p.1, p.2) (stopped_at c.args.terms.now c.rules.terms c.make.new.terms c.in-Some.found.rule c.rules.at c.sort-sort.result c.in-Some.found.shape _ i.grown i.held c.sort-sort.ensures c.in-Some.ensures c.in_err-at.ensures)
 
 pub rules-smaller : goal.rules-smaller
-rules-smaller c =
+rules-smaller g c =
     let i = c.rules.invariant in
     smaller c.rules.terms c.make.new.terms c.in-Some.found.rule c.rules.at c.in_ok-at.at c.in-Some.found.shape i.grown.terms i.held c.in-Some.ensures
     (step_of c.rules.terms c.make.new.terms c.in-Some.found.rule c.rules.at c.in_ok-at.at c.sort-sort.result c.in-Some.found.shape i.grown.terms i.held c.sort-sort.ensures c.in-Some.ensures c.in_ok-at.ensures)
 
 pub rules-preserved : goal.rules-preserved
-rules-preserved c =
+rules-preserved g c =
     let i = c.rules.invariant in
     rw c.in_ok-push.ensures.items
     (went_on c.args.terms.now c.rules.terms c.make.new.terms c.args.t c.args.uses.now.items c.rules.uses.items c.rules.at c.in_ok-at.at c.in-Some.found.rule c.in-Some.found.shape i c.in-Some.ensures
     (step_of c.rules.terms c.make.new.terms c.in-Some.found.rule c.rules.at c.in_ok-at.at c.sort-sort.result c.in-Some.found.shape i.grown.terms i.held c.sort-sort.ensures c.in-Some.ensures c.in_ok-at.ensures))
 
 pub returns-in_err-push-clause-refused : goal.returns-in_err-push-clause-refused
-returns-in_err-push-clause-refused c =
+returns-in_err-push-clause-refused g c =
     let p = err_from_is_err_and c.from_residual-in_err-push.result c.from_residual-in_err-push.ensures.1 in
     let i = c.rules.invariant in
     let made = step_of c.rules.terms c.make.new.terms c.in-Some.found.rule c.rules.at c.in_ok-at.at c.sort-sort.result c.in-Some.found.shape i.grown.terms i.held c.sort-sort.ensures c.in-Some.ensures c.in_ok-at.ensures in

@@ -51,5 +51,5 @@ pub returns-clause-simplified : goal.returns-clause-simplified
 returns-clause-simplified g c =
     let image = g.I.Images.image_of c.args.images.now in
     let e = subst (λ n. make c.args.terms.now n ≡ Ok (c.in_ok-start.start, c.make.new.self)) c.in_ok-node.ensures c.in_ok-start.ensures in
-    simplified c.args.terms.now image c.requires.images c.requires.terms c.args.t c.requires.held c.make.new.self c.in_ok-start.start e c.follow.new.terms c.in_ok-uses.uses.items c.follow.new.uses.items c.in_ok-term.term
+    simplified c.args.terms.now image c.requires.images c.requires.terms c.args.t c.requires.held c.make.new.self c.in_ok-start.start e (g.K.Kept.keeps c.args.kept.now) c.follow.new.terms c.in_ok-uses.uses.items c.follow.new.uses.items c.in_ok-term.term
     (record { term = c.in_ok-term.term; uses = c.follow.new.uses }) c.requires.plain c.in_ok-uses.ensures c.in_ok-term.ensures.followed refl refl
