@@ -16,39 +16,55 @@ ghost use Rattle.accepted_proof.specs.Judged.{Judging, judging_from, is_idle, co
 
 /// An accepted proof is judged to have no bad line, whether functions and arrays are read or not.
 pub fn accepted_proofs_are_judged()
-    ensures { (theories : Bool) (limits : Limits) (script proof : List ℕ) (turns : List Turn) → AcceptedFrom (start_of theories) limits script proof turns
-        → Judged (judging_from (start_of theories) limits) (map (λ (t : Turn). t.says) turns) (map (λ l. Some l) (flat_map turn_lines turns)) None }
+    ensures { (theories : Bool) (limits : Limits) (script proof : List ℕ) (turns : List Turn)
+        → AcceptedFrom (start_of theories) limits script proof turns
+        → Judged (judging_from (start_of theories) limits) (map (λ (t : Turn). t.says) turns)
+        (map (λ l. Some l) (flat_map turn_lines turns)) None }
 {}
 
 /// A proof without a bad line, whose lines were read, is accepted; what stands in the script behind a command that ends the run need not be read.
 pub fn judged_proofs_are_accepted()
-    ensures { (theories : Bool) (limits : Limits) (script : List ℕ) (chunks : List Chunk) (says : List Reading) (lines : List (Option Line))
-        → AreLimits limits → AreAllSaid script chunks says → ReadEach chunks says → AreReadable lines → Judged (judging_from (start_of theories) limits) says lines None
-        → (turns : List Turn) × (lines ≡ map (λ l. Some l) (flat_map turn_lines turns)) × AcceptedFrom (start_of theories) limits script (proof_of limits turns) turns }
+    ensures { (theories : Bool) (limits : Limits) (script : List ℕ) (chunks : List Chunk)
+        (says : List Reading) (lines : List (Option Line))
+        → AreLimits limits → AreAllSaid script chunks says → ReadEach chunks says
+        → AreReadable lines → Judged (judging_from (start_of theories) limits) says lines None
+        → (turns : List Turn) × (lines ≡ map (λ l. Some l) (flat_map turn_lines turns))
+        × AcceptedFrom (start_of theories) limits script (proof_of limits turns) turns }
 {}
 
 /// The first lines of a proof, where each was read and none is bad with the first commands of a script, are those of turns of these.
 pub fn judged_fronts_are_accepted()
-    ensures { (theories : Bool) (limits : Limits) (script : List ℕ) (chunks : List Chunk) (says : List Reading) (lines : List (Option Line))
-        → AreLimits limits → IsFront script chunks → ReadEach chunks says → AreReadable lines → Judged (judging_from (start_of theories) limits) says lines None
-        → (turns : List Turn) × (lines ≡ map (λ l. Some l) (flat_map turn_lines turns)) × AcceptedSoFarFrom (start_of theories) limits script (proof_of limits turns) turns }
+    ensures { (theories : Bool) (limits : Limits) (script : List ℕ) (chunks : List Chunk)
+        (says : List Reading) (lines : List (Option Line))
+        → AreLimits limits → IsFront script chunks → ReadEach chunks says → AreReadable lines
+        → Judged (judging_from (start_of theories) limits) says lines None
+        → (turns : List Turn) × (lines ≡ map (λ l. Some l) (flat_map turn_lines turns))
+        × AcceptedSoFarFrom (start_of theories) limits script (proof_of limits turns) turns }
 {}
 
 /// One thing at most is judged of a proof, from whatever state its script begins.
 pub fn proofs_are_judged_one_way()
-    ensures rest { (judging : Judging) (says : List Reading) (lines : List (Option Line)) (o p : Option Refusal)
+    ensures rest { (judging : Judging) (says : List Reading) (lines : List (Option Line))
+        (o p : Option Refusal)
         → Judged judging says lines o → Judged judging says lines p → o ≡ p }
-    ensures whole { (start : StateValue) (says : List Reading) (lines : List (Option Line)) (o p : Option Refusal)
+    ensures whole { (start : StateValue) (says : List Reading) (lines : List (Option Line))
+        (o p : Option Refusal)
         → JudgedProofFrom start says lines o → JudgedProofFrom start says lines p → o ≡ p }
 {}
 
 /// What is judged of the rest, behind a line or a command, is judged of the whole. Behind a command that ends the run no
 /// commands are left.
 pub fn the_rest_is_judged_as_the_whole()
-    ensures line { (old new : Judging) (says : List Reading) (line : Option Line) (lines : List (Option Line)) (o : Option Refusal)
-        → is_idle old.owed ≡ false → Moves old line new → Judged new says lines o → Judged old says (line ∷ lines) o }
-    ensures command { (old : Judging) (says : List Reading) (first : Reading) (lines : List (Option Line)) (o : Option Refusal)
-        → is_idle old.owed ≡ true → ends first ≡ false → Judged (commanded old first) says lines o → Judged old (first ∷ says) lines o }
-    ensures last { (old : Judging) (says : List Reading) (first : Reading) (lines : List (Option Line)) (o : Option Refusal)
-        → is_idle old.owed ≡ true → ends first ≡ true → Judged (commanded old first) [] lines o → Judged old (first ∷ says) lines o }
+    ensures line { (old new : Judging) (says : List Reading) (line : Option Line)
+        (lines : List (Option Line)) (o : Option Refusal)
+        → is_idle old.owed ≡ false → Moves old line new → Judged new says lines o
+        → Judged old says (line ∷ lines) o }
+    ensures command { (old : Judging) (says : List Reading) (first : Reading)
+        (lines : List (Option Line)) (o : Option Refusal)
+        → is_idle old.owed ≡ true → ends first ≡ false → Judged (commanded old first) says lines o
+        → Judged old (first ∷ says) lines o }
+    ensures last { (old : Judging) (says : List Reading) (first : Reading)
+        (lines : List (Option Line)) (o : Option Refusal)
+        → is_idle old.owed ≡ true → ends first ≡ true → Judged (commanded old first) [] lines o
+        → Judged old (first ∷ says) lines o }
 {}

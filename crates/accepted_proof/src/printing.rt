@@ -50,7 +50,8 @@ fn push_sort(sort: Sort, out: &mut Text) -> Result<(), AllocError>
 
 /// Appends the array with an element at every index.
 fn push_constant(index: u32, element: Word, out: &mut Text) -> Result<(), AllocError>
-    ensures ok { OnOk result (out.new ≡ out.old ++ constant_text index element.width element.value) }
+    ensures ok { OnOk result
+        (out.new ≡ out.old ++ constant_text index element.width element.value) }
     ensures err { OnErr result (take (length out.old) out.new ≡ out.old) }
 {
     out.push_slice(b"((as const ")?;
@@ -87,7 +88,8 @@ fn push_ending(index: Word, element: Word, default: u128, out: &mut Text) -> Res
 }
 
 fn push_openings(entries: &[(Word, Word)], default: u128, out: &mut Text) -> Result<(), AllocError>
-    ensures ok { OnOk result (out.new ≡ out.old ++ flat_map (λ e. store_opening default e.1) entries.now) }
+    ensures ok { OnOk result
+        (out.new ≡ out.old ++ flat_map (λ e. store_opening default e.1) entries.now) }
     ensures err { OnErr result (take (length out.old) out.new ≡ out.old) }
 {
     for entry in entries {
@@ -265,7 +267,8 @@ pub fn push_definition(
     value: &Value,
     out: &mut Text,
 ) -> Result<(), AllocError>
-    ensures ok { OnOk result (out.new ≡ out.old ++ definition_by name.now (Some signature.now) (Some value.now)) }
+    ensures ok { OnOk result
+        (out.new ≡ out.old ++ definition_by name.now (Some signature.now) (Some value.now)) }
     ensures err { OnErr result (take (length out.old) out.new ≡ out.old) }
 {
     out.push_slice(b"(define-fun ")?;

@@ -18,7 +18,8 @@ pub fn path_of(
 ) -> Result<Vec<usize>, AllocError>
     requires derived { AreDerived graph.now gates.now starts.now rows.now }
     requires place { place < length rows.now }
-    ensures { IfOk result (λ path. IsWayOf graph.now gates.now starts.now rows.now place path.items) }
+    ensures { IfOk result
+        (λ path. IsWayOf graph.now gates.now starts.now rows.now place path.items) }
 {
     let mut path = Vec::new(alloc);
     let mut at = place;

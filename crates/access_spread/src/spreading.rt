@@ -52,9 +52,11 @@ pub struct Outcome {
 /// The place of the row of an array and an index.
 fn standing(state: &State, starts: &[Start], array: usize, index: u128) -> Option<usize>
     requires last { array < length state.now.last.items }
-    requires rows { (r : ℕ) → slice_get state.now.last.items array ≡ Some (Some r) → r < length state.now.rows.items }
+    requires rows { (r : ℕ) → slice_get state.now.last.items array ≡ Some (Some r)
+        → r < length state.now.rows.items }
     requires starts { AreStartsOf starts.now state.now.rows.items }
-    ensures { MatchOption result (NoneStands starts.now state.now array index) (IsStanding starts.now state.now array index) }
+    ensures { MatchOption result (NoneStands starts.now state.now array index)
+        (IsStanding starts.now state.now array index) }
 {
     match state.last[array] {
         Some(place) => {
@@ -80,8 +82,11 @@ fn arrive(
     requires array { row.array < length graph.now.fans.items }
     requires start { row.start < length starts.now }
     requires index { index_in starts.now row ≡ state.old.index }
-    requires from { IsFrom graph.now gates.now starts.now state.old.rows.items (length state.old.rows.items) row }
-    ensures { IfOk result (λ o. MatchOption o (HasArrived graph.now gates.now starts.now state.old state.new row) (IsClash graph.now gates.now starts.now state.new.rows.items)) }
+    requires from { IsFrom graph.now gates.now starts.now state.old.rows.items
+        (length state.old.rows.items) row }
+    ensures { IfOk result
+        (λ o. MatchOption o (HasArrived graph.now gates.now starts.now state.old state.new row)
+        (IsClash graph.now gates.now starts.now state.new.rows.items)) }
 {
     let start = starts[row.start];
     if let Some(place) = standing(state, starts, row.array, start.index) {
@@ -110,7 +115,9 @@ fn visit(
     requires fits { Fits graph.now gates.now starts.now state.old }
     requires here { here < length state.old.rows.items }
     requires present { state.old.begun ≤ here }
-    ensures { IfOk result (λ o. MatchOption o (IsVisited graph.now gates.now starts.now state.old state.new here) (IsClash graph.now gates.now starts.now state.new.rows.items)) }
+    ensures { IfOk result
+        (λ o. MatchOption o (IsVisited graph.now gates.now starts.now state.old state.new here)
+        (IsClash graph.now gates.now starts.now state.new.rows.items)) }
 {
     let row = state.rows[here];
     let index = starts[row.start].index;
@@ -143,9 +150,12 @@ fn drain(
     requires graph { IsGraph graph.now }
     requires gated { AreGated graph.now gates.now }
     requires fits { Fits graph.now gates.now starts.now state.old }
-    requires visited { AreVisited graph.now gates.now starts.now state.old.rows.items state.old.begun }
+    requires visited { AreVisited graph.now gates.now starts.now state.old.rows.items
+        state.old.begun }
     requires begun { state.old.begun ≤ length state.old.rows.items }
-    ensures { IfOk result (λ o. MatchOption o (IsDrained graph.now gates.now starts.now state.old state.new) (IsClash graph.now gates.now starts.now state.new.rows.items)) }
+    ensures { IfOk result
+        (λ o. MatchOption o (IsDrained graph.now gates.now starts.now state.old state.new)
+        (IsClash graph.now gates.now starts.now state.new.rows.items)) }
 {
     for at in state.begun..usize::MAX {
         if at >= state.rows.len() {
@@ -172,8 +182,11 @@ fn begin(
     requires start { start < length starts.now }
     requires within { (start_at starts.now start).array < length graph.now.fans.items }
     requires later { state.old.index ≤ (start_at starts.now start).index }
-    requires visited { AreVisited graph.now gates.now starts.now state.old.rows.items (length state.old.rows.items) }
-    ensures { IfOk result (λ o. MatchOption o (HasBegun graph.now gates.now starts.now state.old state.new start) (IsClash graph.now gates.now starts.now state.new.rows.items)) }
+    requires visited { AreVisited graph.now gates.now starts.now state.old.rows.items
+        (length state.old.rows.items) }
+    ensures { IfOk result
+        (λ o. MatchOption o (HasBegun graph.now gates.now starts.now state.old state.new start)
+        (IsClash graph.now gates.now starts.now state.new.rows.items)) }
 {
     state.begun = state.rows.len();
     state.index = starts[start].index;
@@ -197,7 +210,8 @@ pub fn spread(
 ) -> Result<Outcome, AllocError>
     requires graph { IsGraph graph.now }
     requires gated { AreGated graph.now gates.now }
-    requires within { (s : ℕ) → s < length starts.now → (start_at starts.now s).array < length graph.now.fans.items }
+    requires within { (s : ℕ) → s < length starts.now
+        → (start_at starts.now s).array < length graph.now.fans.items }
     requires rising { AreRising starts.now }
     ensures { IfOk result (λ s. IsSpread graph.now gates.now starts.now s.rows.items s.clash) }
 {
@@ -218,7 +232,9 @@ pub fn spread(
 
 /// No rows.
 fn empty(alloc: Global, count: usize) -> Result<State, AllocError>
-    ensures { IfOk result (λ st. (st.rows.items ≡ []) × (st.index ≡ 0) × (length st.last.items ≡ count) × ((a : ℕ) → a < count → slice_get st.last.items a ≡ Some None)) }
+    ensures { IfOk result (λ st. (st.rows.items ≡ []) × (st.index ≡ 0)
+        × (length st.last.items ≡ count)
+        × ((a : ℕ) → a < count → slice_get st.last.items a ≡ Some None)) }
 {
     let last = vec![in alloc; None; count]?;
     Ok(State {

@@ -14,9 +14,12 @@ ghost use Rattle.access_tables.specs.Modeled.{IsFrom, IsModel};
 /// In an interpretation that has the values of an assignment for declared constants and applications, and the arrays of a
 /// table that is closed under it, every term without a witness has the assignment's value, or the table's words.
 pub fn closed_tables_give_models()
-    ensures { (nodes : List Node) (bits : List TermBits) (f : ℕ → Bool) (table : TableValue) (M : Interpretation)
-        → IsTermList nodes → HaveBits nodes bits (Contains table.terms) → AreSatisfied nodes bits f (Contains table.terms)
-        → IsClosedUnder nodes bits f table → IsFrom nodes bits f table M → IsModel nodes bits f table M }
+    ensures { (nodes : List Node) (bits : List TermBits) (f : ℕ → Bool) (table : TableValue)
+        (M : Interpretation)
+        → IsTermList nodes → HaveBits nodes bits (Contains table.terms)
+        → AreSatisfied nodes bits f (Contains table.terms)
+        → IsClosedUnder nodes bits f table → IsFrom nodes bits f table M
+        → IsModel nodes bits f table M }
 {}
 
 /// Where no term has an image, no way through arguments and witness selects leads back.

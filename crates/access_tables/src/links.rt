@@ -27,7 +27,8 @@ fn watched_at(
     term: TermId,
     place: usize,
 ) -> Result<Option<TermId>, AllocError>
-    ensures { IfOk result (λ o. o ≡ slice_get (watched terms.now.nodes (shape_at terms.now.nodes term)) place) }
+    ensures { IfOk result
+        (λ o. o ≡ slice_get (watched terms.now.nodes (shape_at terms.now.nodes term)) place) }
 {
     let Shape::Equating { left, right } = shape_at(terms, term) else {
         return Ok(None);

@@ -21,7 +21,8 @@ impl Model for AccessTable {
 
     ghost Value = { TableValue };
 
-    ghost view = { λ t. record { terms = t.terms.items; rows = t.rows.items; spares = t.spares.items } };
+    ghost view = { λ t.
+        record { terms = t.terms.items; rows = t.rows.items; spares = t.spares.items } };
 }
 
 /// The spare index of a width.
@@ -39,7 +40,8 @@ fn spare_in(spares: &[Word], width: u32) -> Option<u128>
 impl AccessTable {
     /// These terms, accesses and spare indexes; takes no memory.
     pub fn new(terms: Vec<TermId>, rows: Vec<Landing>, spares: Vec<Word>) -> AccessTable
-        ensures { result ≡ record { terms = terms.items; rows = rows.items; spares = spares.items } }
+        ensures { result
+            ≡ record { terms = terms.items; rows = rows.items; spares = spares.items } }
     {
         AccessTable {
             terms,

@@ -23,7 +23,9 @@ pub fn word_of(terms: &Terms, bits: &Bits, assignment: &Assignment, term: TermId
     requires held { term < length terms.now.nodes }
     requires sort { is_word (sort_of terms.now.nodes term) ≡ true }
     requires row { HasRow terms.now.nodes bits.now term }
-    ensures { result ≡ word (width_of (sort_of terms.now.nodes term)) (number_of (assigned_value terms.now.nodes bits.now (assigned assignment.now) term)) }
+    ensures { result
+        ≡ word (width_of (sort_of terms.now.nodes term))
+        (number_of (assigned_value terms.now.nodes bits.now (assigned assignment.now) term)) }
 {
     let _count = terms.len();
     assignment.word_of(bits, term)
@@ -33,7 +35,8 @@ pub fn word_of(terms: &Terms, bits: &Bits, assignment: &Assignment, term: TermId
 pub fn truth_of(terms: &Terms, bits: &Bits, assignment: &Assignment, term: TermId) -> bool
     requires sort { sort_of terms.now.nodes term ≡ sort.Bool }
     requires row { HasRow terms.now.nodes bits.now term }
-    ensures { result ≡ is_true (assigned_value terms.now.nodes bits.now (assigned assignment.now) term) }
+    ensures { result
+        ≡ is_true (assigned_value terms.now.nodes bits.now (assigned assignment.now) term) }
 {
     let _terms = terms;
     let row = bits.of(term).unwrap();
@@ -45,7 +48,8 @@ pub fn value_of(terms: &Terms, bits: &Bits, assignment: &Assignment, term: TermI
     requires held { term < length terms.now.nodes }
     requires plain { is_plain (sort_of terms.now.nodes term) ≡ true }
     requires row { HasRow terms.now.nodes bits.now term }
-    ensures { scalar_value result ≡ assigned_value terms.now.nodes bits.now (assigned assignment.now) term }
+    ensures { scalar_value result
+        ≡ assigned_value terms.now.nodes bits.now (assigned assignment.now) term }
 {
     match terms.sort(term) {
         Sort::Bool => Scalar::Bool(truth_of(terms, bits, assignment, term)),

@@ -39,7 +39,8 @@ fn word_with_bits(
     width: u32,
     number: u128,
 ) -> Option<TermId>
-    ensures { MatchOption result (IsHeldWord terms.now.nodes bits.now width number → ⊥) (λ w. IsWordOf terms.now.nodes width number w × IsWordTerm terms.now.nodes bits.now w) }
+    ensures { MatchOption result (IsHeldWord terms.now.nodes bits.now width number → ⊥)
+        (λ w. IsWordOf terms.now.nodes width number w × IsWordTerm terms.now.nodes bits.now w) }
 {
     let _count = terms.len();
     let node = Node::leaf(
@@ -76,8 +77,11 @@ fn push_words(
 ) -> Result<(), AllocError>
     requires words { AreIndexTerms terms.now.nodes bits.now indexes.old.items }
     ensures words { OnOk result (AreIndexTerms terms.now.nodes bits.now indexes.new.items) }
-    ensures kept { OnOk result ((j : ℕ) → Contains indexes.old.items j → Contains indexes.new.items j) }
-    ensures has { OnOk result ((k : ℕ) → k < count → ((i : ℕ) → i ≤ k → IsHeldWord terms.now.nodes bits.now width i) → (w : ℕ) × IsWordOf terms.now.nodes width k w × Contains indexes.new.items w) }
+    ensures kept { OnOk result ((j : ℕ) → Contains indexes.old.items j
+        → Contains indexes.new.items j) }
+    ensures has { OnOk result ((k : ℕ) → k < count
+        → ((i : ℕ) → i ≤ k → IsHeldWord terms.now.nodes bits.now width i) → (w : ℕ)
+        × IsWordOf terms.now.nodes width k w × Contains indexes.new.items w) }
 {
     for number in 0..count {
         match word_with_bits(alloc, terms, bits, width, number as u128) {
@@ -99,8 +103,11 @@ fn push_all_words(
 ) -> Result<(), AllocError>
     requires words { AreIndexTerms terms.now.nodes bits.now indexes.old.items }
     ensures words { OnOk result (AreIndexTerms terms.now.nodes bits.now indexes.new.items) }
-    ensures kept { OnOk result ((j : ℕ) → Contains indexes.old.items j → Contains indexes.new.items j) }
-    ensures has { OnOk result ((n k : ℕ) → Contains widths.now n → k < count → ((i : ℕ) → i ≤ k → IsHeldWord terms.now.nodes bits.now n i) → (w : ℕ) × IsWordOf terms.now.nodes n k w × Contains indexes.new.items w) }
+    ensures kept { OnOk result ((j : ℕ) → Contains indexes.old.items j
+        → Contains indexes.new.items j) }
+    ensures has { OnOk result ((n k : ℕ) → Contains widths.now n → k < count
+        → ((i : ℕ) → i ≤ k → IsHeldWord terms.now.nodes bits.now n i) → (w : ℕ)
+        × IsWordOf terms.now.nodes n k w × Contains indexes.new.items w) }
 {
     for width in widths {
         push_words(alloc, terms, bits, *width, count, indexes)?;
@@ -123,9 +130,11 @@ fn fill_at(
     requires whole { IsWhole terms.now.nodes reached.now term }
     requires among { Contains indexes.now index }
     requires word { IsWordTerm terms.now.nodes bits.now index }
-    ensures filling { OnOk result (IsFilling terms.now.nodes bits.now reached.now indexes.now network.new) }
+    ensures filling { OnOk result
+        (IsFilling terms.now.nodes bits.now reached.now indexes.now network.new) }
     ensures grows { OnOk result (Grows network.old network.new) }
-    ensures has { OnOk result ((l : Landing) → landing_of terms.now.nodes (Const term index) ≡ Some l → Contains network.new.landings.items l) }
+    ensures has { OnOk result ((l : Landing) → landing_of terms.now.nodes (Const term index)
+        ≡ Some l → Contains network.new.landings.items l) }
 {
     let _count = terms.len();
     let _bits = bits;
@@ -152,7 +161,8 @@ fn fill(
     requires filling { IsFilling terms.now.nodes bits.now reached.now indexes.now network.old }
     requires whole { IsWhole terms.now.nodes reached.now term }
     requires words { AreIndexTerms terms.now.nodes bits.now indexes.now }
-    ensures filling { OnOk result (IsFilling terms.now.nodes bits.now reached.now indexes.now network.new) }
+    ensures filling { OnOk result
+        (IsFilling terms.now.nodes bits.now reached.now indexes.now network.new) }
     ensures grows { OnOk result (Grows network.old network.new) }
     ensures has { OnOk result (HasFillings terms.now.nodes indexes.now network.new term) }
 {
@@ -176,9 +186,11 @@ fn fill_term(
     requires here { Contains reached.now term }
     requires filling { IsFilling terms.now.nodes bits.now reached.now indexes.now network.old }
     requires words { AreIndexTerms terms.now.nodes bits.now indexes.now }
-    ensures filling { OnOk result (IsFilling terms.now.nodes bits.now reached.now indexes.now network.new) }
+    ensures filling { OnOk result
+        (IsFilling terms.now.nodes bits.now reached.now indexes.now network.new) }
     ensures grows { OnOk result (Grows network.old network.new) }
-    ensures has { OnOk result (image_in bits.now term ≡ None → HasFillings terms.now.nodes indexes.now network.new term) }
+    ensures has { OnOk result (image_in bits.now term ≡ None
+        → HasFillings terms.now.nodes indexes.now network.new term) }
 {
     let _count = terms.len();
     match bits.image(term) {
@@ -202,9 +214,11 @@ fn fill_all(
     requires closed { IsClosed (leads terms.now.nodes (image_in bits.now)) (Contains reached.now) }
     requires filling { IsFilling terms.now.nodes bits.now reached.now indexes.now network.old }
     requires words { AreIndexTerms terms.now.nodes bits.now indexes.now }
-    ensures filling { OnOk result (IsFilling terms.now.nodes bits.now reached.now indexes.now network.new) }
+    ensures filling { OnOk result
+        (IsFilling terms.now.nodes bits.now reached.now indexes.now network.new) }
     ensures grows { OnOk result (Grows network.old network.new) }
-    ensures has { OnOk result ((t : ℕ) → IsOwn (Contains reached.now) (image_in bits.now) t → HasFillings terms.now.nodes indexes.now network.new t) }
+    ensures has { OnOk result ((t : ℕ) → IsOwn (Contains reached.now) (image_in bits.now) t
+        → HasFillings terms.now.nodes indexes.now network.new t) }
 {
     for term in reached.terms() {
         fill_term(network, terms, bits, reached, indexes, *term)?;
@@ -234,12 +248,19 @@ pub fn network_of(
 ) -> Result<Network, AllocError>
     requires bits { HaveBits terms.now.nodes bits.now (Contains reached.now) }
     requires closed { IsClosed (leads terms.now.nodes (image_in bits.now)) (Contains reached.now) }
-    requires widths { (t x n m : ℕ) → IsOwn (Contains reached.now) (image_in bits.now) t → shape_at terms.now.nodes t ≡ Filling x → sort_of terms.now.nodes t ≡ sort.Array n m → Contains widths.now n }
-    requires words { (t x n m : ℕ) → IsOwn (Contains reached.now) (image_in bits.now) t → shape_at terms.now.nodes t ≡ Filling x → sort_of terms.now.nodes t ≡ sort.Array n m → HasHeldWords terms.now.nodes bits.now (Contains reached.now) n }
+    requires widths { (t x n m : ℕ) → IsOwn (Contains reached.now) (image_in bits.now) t
+        → shape_at terms.now.nodes t ≡ Filling x → sort_of terms.now.nodes t ≡ sort.Array n m
+        → Contains widths.now n }
+    requires words { (t x n m : ℕ) → IsOwn (Contains reached.now) (image_in bits.now) t
+        → shape_at terms.now.nodes t ≡ Filling x → sort_of terms.now.nodes t ≡ sort.Array n m
+        → HasHeldWords terms.now.nodes bits.now (Contains reached.now) n }
     ensures sound { IfOk result (λ n. IsSound terms.now.nodes reached.now n) }
-    ensures map { IfOk result (λ n. IsMap terms.now.nodes (image_in bits.now) (Contains reached.now) reached.now n.moves.items n.guards.items n.origins.items n.landings.items n.graph) }
+    ensures map { IfOk result
+        (λ n. IsMap terms.now.nodes (image_in bits.now) (Contains reached.now) reached.now
+        n.moves.items n.guards.items n.origins.items n.landings.items n.graph) }
     ensures guards { IfOk result (λ n. All (IsGuarded terms.now.nodes bits.now) n.guards.items) }
-    ensures accesses { IfOk result (λ n. All (IsAccess terms.now.nodes bits.now reached.now) n.landings.items) }
+    ensures accesses { IfOk result
+        (λ n. All (IsAccess terms.now.nodes bits.now reached.now) n.landings.items) }
 {
     let _count = terms.len();
     let _once = reached.terms();

@@ -47,8 +47,10 @@ impl Network {
         requires from { from < length self.old.graph.fans.items }
         requires to { to < length self.old.graph.fans.items }
         ensures graph { OnOk result (IsGraph self.new.graph) }
-        ensures count { OnOk result (length self.new.graph.fans.items ≡ length self.old.graph.fans.items) }
-        ensures edges { OnOk result (self.new.graph.edges.items ≡ self.old.graph.edges.items ++ record { from = from; to = to; gate = length self.old.graph.edges.items } ∷ []) }
+        ensures count { OnOk result
+            (length self.new.graph.fans.items ≡ length self.old.graph.fans.items) }
+        ensures edges { OnOk result (self.new.graph.edges.items ≡ self.old.graph.edges.items
+            ++ record { from = from; to = to; gate = length self.old.graph.edges.items } ∷ []) }
         ensures moves { OnOk result (self.new.moves.items ≡ self.old.moves.items ++ by ∷ []) }
         ensures guards { OnOk result (self.new.guards.items ≡ self.old.guards.items ++ guard ∷ []) }
         ensures origins { OnOk result (self.new.origins.items ≡ self.old.origins.items) }
@@ -235,7 +237,8 @@ impl Network {
         requires sound { IsEntered terms.now.nodes reached.now self.old }
         requires here { Contains reached.now term }
         requires held { (u : ℕ) → Contains reached.now u → u < length terms.now.nodes }
-        requires args { (u : ℕ) → Contains (node_at terms.now.nodes term).args u → Contains reached.now u }
+        requires args { (u : ℕ) → Contains (node_at terms.now.nodes term).args u
+            → Contains reached.now u }
         ensures sound { OnOk result (IsEntered terms.now.nodes reached.now self.new) }
         ensures grows { OnOk result (Grows self.old self.new) }
         ensures has { OnOk result (HasTerm terms.now.nodes self.new term) }
@@ -281,12 +284,14 @@ impl Network {
         term: TermId,
     ) -> Result<(), AllocError>
         requires bits { HaveBits terms.now.nodes bits.now (Contains reached.now) }
-        requires closed { IsClosed (leads terms.now.nodes (image_in bits.now)) (Contains reached.now) }
+        requires closed { IsClosed (leads terms.now.nodes (image_in bits.now))
+            (Contains reached.now) }
         requires sound { IsEntered terms.now.nodes reached.now self.old }
         requires here { Contains reached.now term }
         ensures sound { OnOk result (IsEntered terms.now.nodes reached.now self.new) }
         ensures grows { OnOk result (Grows self.old self.new) }
-        ensures has { OnOk result (image_in bits.now term ≡ None → HasTerm terms.now.nodes self.new term) }
+        ensures has { OnOk result (image_in bits.now term ≡ None
+            → HasTerm terms.now.nodes self.new term) }
     {
         match bits.image(term) {
             Some(_) => Ok(()),
@@ -316,9 +321,11 @@ impl Network {
         reached: &Reached,
     ) -> Result<Network, AllocError>
         requires bits { HaveBits terms.now.nodes bits.now (Contains reached.now) }
-        requires closed { IsClosed (leads terms.now.nodes (image_in bits.now)) (Contains reached.now) }
+        requires closed { IsClosed (leads terms.now.nodes (image_in bits.now))
+            (Contains reached.now) }
         ensures sound { IfOk result (λ n. IsEntered terms.now.nodes reached.now n) }
-        ensures has { IfOk result (λ n. (t : ℕ) → IsOwn (Contains reached.now) (image_in bits.now) t → HasTerm terms.now.nodes n t) }
+        ensures has { IfOk result (λ n. (t : ℕ) → IsOwn (Contains reached.now) (image_in bits.now) t
+            → HasTerm terms.now.nodes n t) }
     {
         let mut network = Network::new(alloc, terms, reached)?;
         for term in reached.terms() {

@@ -40,7 +40,8 @@ pub struct Indexes {
 
 /// The index of a select or a store without an image.
 fn index_of(terms: &Terms, bits: &Bits, term: TermId) -> Option<TermId>
-    ensures { MatchOption result ((i : ℕ) → HasIndexTerm terms.now.nodes bits.now term i → ⊥) (HasIndexTerm terms.now.nodes bits.now term) }
+    ensures { MatchOption result ((i : ℕ) → HasIndexTerm terms.now.nodes bits.now term i → ⊥)
+        (HasIndexTerm terms.now.nodes bits.now term) }
 {
     match bits.image(term) {
         Some(_) => None,
@@ -55,7 +56,8 @@ fn index_of(terms: &Terms, bits: &Bits, term: TermId) -> Option<TermId>
 /// The index width of a constant array without an image.
 fn width_of(terms: &Terms, bits: &Bits, term: TermId) -> Option<u32>
     requires { term < length terms.now.nodes }
-    ensures { MatchOption result ((n : ℕ) → HasWidth terms.now.nodes bits.now term n → ⊥) (HasWidth terms.now.nodes bits.now term) }
+    ensures { MatchOption result ((n : ℕ) → HasWidth terms.now.nodes bits.now term n → ⊥)
+        (HasWidth terms.now.nodes bits.now term) }
 {
     match bits.image(term) {
         Some(_) => None,
@@ -99,7 +101,8 @@ fn index_terms(
     bits: &Bits,
     reached: &Reached,
 ) -> Result<Vec<TermId>, AllocError>
-    ensures { IfOk result (λ found. AreIndexTerms terms.now.nodes bits.now (Contains reached.now) found.items) }
+    ensures { IfOk result
+        (λ found. AreIndexTerms terms.now.nodes bits.now (Contains reached.now) found.items) }
 {
     let mut found = Vec::new(alloc);
     for term in reached.terms() {
@@ -116,7 +119,8 @@ fn filled_widths(
     reached: &Reached,
 ) -> Result<Vec<u32>, AllocError>
     requires { HaveBits terms.now.nodes bits.now (Contains reached.now) }
-    ensures { IfOk result (λ found. AreFilledWidths terms.now.nodes bits.now (Contains reached.now) found.items) }
+    ensures { IfOk result
+        (λ found. AreFilledWidths terms.now.nodes bits.now (Contains reached.now) found.items) }
 {
     let mut found = Vec::new(alloc);
     for term in reached.terms() {
@@ -152,7 +156,10 @@ fn number_of(
 ) -> Option<u128>
     requires bits { HaveBits terms.now.nodes bits.now (Contains reached.now) }
     requires here { Contains reached.now term }
-    ensures { MatchOption result (sort_of terms.now.nodes term ≡ sort.Word width → ⊥) (λ k. (sort_of terms.now.nodes term ≡ sort.Word width) × (k ≡ number_of (assigned_value terms.now.nodes bits.now (assigned assignment.now) term))) }
+    ensures { MatchOption result (sort_of terms.now.nodes term ≡ sort.Word width → ⊥)
+        (λ k. (sort_of terms.now.nodes term ≡ sort.Word width)
+        × (k ≡ number_of
+        (assigned_value terms.now.nodes bits.now (assigned assignment.now) term))) }
 {
     let _reached = reached;
     let _count = terms.len();
@@ -181,7 +188,9 @@ fn numbers_of(
     requires bits { HaveBits terms.now.nodes bits.now (Contains reached.now) }
     requires closed { IsClosed (leads terms.now.nodes (image_in bits.now)) (Contains reached.now) }
     requires indexes { AreIndexesOf terms.now.nodes bits.now (Contains reached.now) indexes.now }
-    ensures { IfOk result (λ numbers. AreTaken terms.now.nodes bits.now (Contains reached.now) (assigned_value terms.now.nodes bits.now (assigned assignment.now)) width numbers.items) }
+    ensures { IfOk result
+        (λ numbers. AreTaken terms.now.nodes bits.now (Contains reached.now)
+        (assigned_value terms.now.nodes bits.now (assigned assignment.now)) width numbers.items) }
 {
     let mut numbers = Vec::new(alloc);
     for index in indexes.terms.as_slice() {
@@ -222,7 +231,9 @@ fn spare_of(
     requires closed { IsClosed (leads terms.now.nodes (image_in bits.now)) (Contains reached.now) }
     requires indexes { AreIndexesOf terms.now.nodes bits.now (Contains reached.now) indexes.now }
     requires wide { (1 ≤ width) × (width ≤ 128) }
-    ensures { IfOk result (IsSpareWord terms.now.nodes bits.now (Contains reached.now) (assigned_value terms.now.nodes bits.now (assigned assignment.now)) width) }
+    ensures { IfOk result
+        (IsSpareWord terms.now.nodes bits.now (Contains reached.now)
+        (assigned_value terms.now.nodes bits.now (assigned assignment.now)) width) }
 {
     let mut numbers = numbers_of(alloc, terms, bits, assignment, reached, indexes, width)?;
     numbers.sort_unstable();
@@ -241,7 +252,10 @@ pub fn spares_of(
     requires bits { HaveBits terms.now.nodes bits.now (Contains reached.now) }
     requires closed { IsClosed (leads terms.now.nodes (image_in bits.now)) (Contains reached.now) }
     requires indexes { AreIndexesOf terms.now.nodes bits.now (Contains reached.now) indexes.now }
-    ensures { IfOk result (λ spares. AreSpare terms.now.nodes (Contains reached.now) (image_in bits.now) (assigned_value terms.now.nodes bits.now (assigned assignment.now)) (spare_in spares.items)) }
+    ensures { IfOk result
+        (λ spares. AreSpare terms.now.nodes (Contains reached.now) (image_in bits.now)
+        (assigned_value terms.now.nodes bits.now (assigned assignment.now))
+        (spare_in spares.items)) }
 {
     let _count = terms.len();
     let mut spares = Vec::new(alloc);
@@ -264,11 +278,17 @@ pub fn table_of(
     spares: Vec<Word>,
 ) -> Result<AccessTable, AllocError>
     requires reach { IsReach (leads terms.now.nodes (image_in bits.now)) live.now reached.now }
-    requires rows { AreClosedRows terms.now.nodes bits.now (assigned assignment.now) reached.now rows.items }
-    requires congruent { AreCongruent terms.now.nodes (image_in bits.now) (Contains reached.now) (assigned_value terms.now.nodes bits.now (assigned assignment.now)) }
-    requires apart { AreApart terms.now.nodes (image_in bits.now) (Contains reached.now) (assigned_value terms.now.nodes bits.now (assigned assignment.now)) }
-    requires spares { AreSpare terms.now.nodes (Contains reached.now) (image_in bits.now) (assigned_value terms.now.nodes bits.now (assigned assignment.now)) (spare_in spares.items) }
-    ensures { IfOk result (IsWalkedTable terms.now.nodes bits.now (assigned assignment.now) live.now) }
+    requires rows { AreClosedRows terms.now.nodes bits.now (assigned assignment.now) reached.now
+        rows.items }
+    requires congruent { AreCongruent terms.now.nodes (image_in bits.now) (Contains reached.now)
+        (assigned_value terms.now.nodes bits.now (assigned assignment.now)) }
+    requires apart { AreApart terms.now.nodes (image_in bits.now) (Contains reached.now)
+        (assigned_value terms.now.nodes bits.now (assigned assignment.now)) }
+    requires spares { AreSpare terms.now.nodes (Contains reached.now) (image_in bits.now)
+        (assigned_value terms.now.nodes bits.now (assigned assignment.now))
+        (spare_in spares.items) }
+    ensures { IfOk result
+        (IsWalkedTable terms.now.nodes bits.now (assigned assignment.now) live.now) }
 {
     let _terms = terms;
     let _bits = bits;

@@ -18,7 +18,8 @@ use theory_terms::atom::Landing;
 /// The gate of a guard.
 fn gate_of(terms: &Terms, bits: &Bits, assignment: &Assignment, guard: Guard) -> Gate
     requires { IsGuarded terms.now.nodes bits.now guard }
-    ensures { result ≡ gate_of (assigned_value terms.now.nodes bits.now (assigned assignment.now)) guard }
+    ensures { result
+        ≡ gate_of (assigned_value terms.now.nodes bits.now (assigned assignment.now)) guard }
 {
     match guard {
         Guard::Differs(index) => Gate::Except(word_of(terms, bits, assignment, index).value()),
@@ -48,7 +49,10 @@ pub fn gates_of(
     guards: &[Guard],
 ) -> Result<Vec<Gate>, AllocError>
     requires { All (IsGuarded terms.now.nodes bits.now) guards.now }
-    ensures { IfOk result (λ gates. gates.items ≡ map (gate_of (assigned_value terms.now.nodes bits.now (assigned assignment.now))) guards.now) }
+    ensures { IfOk result
+        (λ gates. gates.items
+        ≡ map (gate_of (assigned_value terms.now.nodes bits.now (assigned assignment.now)))
+        guards.now) }
 {
     let mut gates = Vec::new(alloc);
     for guard in guards {
@@ -67,7 +71,9 @@ pub fn start_of(
 ) -> Start
     requires index { IsWordTerm terms.now.nodes bits.now landing.index }
     requires value { IsWordTerm terms.now.nodes bits.now landing.value }
-    ensures { result ≡ start_of (assigned_value terms.now.nodes bits.now (assigned assignment.now)) landing place }
+    ensures { result
+        ≡ start_of (assigned_value terms.now.nodes bits.now (assigned assignment.now)) landing
+        place }
 {
     Start {
         array: place,

@@ -44,7 +44,9 @@ fn watched_own(
     requires watches { HaveWatches terms.now.nodes bits.now (Contains reached.now) }
     requires here { Contains reached.now term }
     requires free { image_in bits.now term ≡ None }
-    ensures { IfOk result (λ o. MatchOption o (IsNoEquality terms.now.nodes bits.now term) (λ w. IsWatched terms.now.nodes bits.now (Contains reached.now) w × (w.equality ≡ term))) }
+    ensures { IfOk result
+        (λ o. MatchOption o (IsNoEquality terms.now.nodes bits.now term)
+        (λ w. IsWatched terms.now.nodes bits.now (Contains reached.now) w × (w.equality ≡ term))) }
 {
     let _count = terms.len();
     let _bits = bits;
@@ -76,7 +78,9 @@ fn watched_at(
     requires closed { IsClosed (leads terms.now.nodes (image_in bits.now)) (Contains reached.now) }
     requires watches { HaveWatches terms.now.nodes bits.now (Contains reached.now) }
     requires here { Contains reached.now term }
-    ensures { IfOk result (λ o. MatchOption o (IsNoEquality terms.now.nodes bits.now term) (λ w. IsWatched terms.now.nodes bits.now (Contains reached.now) w × (w.equality ≡ term))) }
+    ensures { IfOk result
+        (λ o. MatchOption o (IsNoEquality terms.now.nodes bits.now term)
+        (λ w. IsWatched terms.now.nodes bits.now (Contains reached.now) w × (w.equality ≡ term))) }
 {
     match bits.image(term) {
         Some(_) => Ok(None),
@@ -94,7 +98,8 @@ pub fn watches_of(
     requires bits { HaveBits terms.now.nodes bits.now (Contains reached.now) }
     requires closed { IsClosed (leads terms.now.nodes (image_in bits.now)) (Contains reached.now) }
     requires watches { HaveWatches terms.now.nodes bits.now (Contains reached.now) }
-    ensures { IfOk result (λ w. AreWatches terms.now.nodes bits.now (Contains reached.now) w.items) }
+    ensures { IfOk result
+        (λ w. AreWatches terms.now.nodes bits.now (Contains reached.now) w.items) }
 {
     let mut watches = Vec::new(alloc);
     for term in reached.terms() {
@@ -135,8 +140,10 @@ pub fn witness_conflict(
 ) -> Option<Lemma>
     requires { AreWatches terms.now.nodes bits.now (Contains reached.now) watches.now }
     ensures { MatchOption result
-        (AreApart terms.now.nodes (image_in bits.now) (Contains reached.now) (assigned_value terms.now.nodes bits.now (assigned assignment.now)))
-        (IsWitnessConflict terms.now.nodes bits.now (assigned assignment.now) (Contains reached.now)) }
+        (AreApart terms.now.nodes (image_in bits.now) (Contains reached.now)
+        (assigned_value terms.now.nodes bits.now (assigned assignment.now)))
+        (IsWitnessConflict terms.now.nodes bits.now (assigned assignment.now)
+        (Contains reached.now)) }
 {
     for watched in watches {
         if is_joined(terms, bits, assignment, reached, *watched) {

@@ -46,7 +46,8 @@ impl Assignment {
     /// The word whose bits are those of a term.
     pub fn word_of(&self, bits: &Bits, t: TermId) -> Word
         requires { IsSomeAnd (bits_in bits.now t) IsLongAsWord }
-        ensures { IfSome (bits_in bits.now t) (λ row. result ≡ word (length row) (number (assigned self.now) row)) }
+        ensures { IfSome (bits_in bits.now t)
+            (λ row. result ≡ word (length row) (number (assigned self.now) row)) }
     {
         let row = bits.of(t).unwrap();
         let mut value: u128 = 0;

@@ -30,9 +30,13 @@ pub fn encode(
     requires short { EachShort bits.now }
     requires room { circuit.old.next + 2 ^ 17 ≤ 2 ^ 63 }
     ensures ok { IfOk result (λ o. MatchOption o
-        (HasNone (block_of circuit.old.next (bits_in bits.now) (node_at terms.now.nodes t)) circuit.old circuit.new)
-        (λ row. IsBuilt (block_of circuit.old.next (bits_in bits.now) (node_at terms.now.nodes t)) row.items circuit.old circuit.new)) }
-    ensures means { IfOk result (λ o. IfSome o (λ row. Fix circuit.new.clauses (bits_in bits.now) (node_at terms.now.nodes t) row.items)) }
+        (HasNone (block_of circuit.old.next (bits_in bits.now) (node_at terms.now.nodes t))
+        circuit.old circuit.new)
+        (λ row. IsBuilt (block_of circuit.old.next (bits_in bits.now) (node_at terms.now.nodes t))
+        row.items circuit.old circuit.new)) }
+    ensures means { IfOk result
+        (λ o. IfSome o
+        (λ row. Fix circuit.new.clauses (bits_in bits.now) (node_at terms.now.nodes t) row.items)) }
     ensures size { circuit.new.next ≤ circuit.old.next + 2 ^ 17 }
     ensures err { OnErr result (circuit.new ≡ circuit.old) }
 {
@@ -50,8 +54,10 @@ fn block(
     requires short { EachShort bits.now }
     requires room { circuit.old.next + 2 ^ 17 ≤ 2 ^ 63 }
     ensures ok { IfOk result (λ o. MatchOption o
-        (HasNone (block_of circuit.old.next (bits_in bits.now) (node_at terms.now.nodes t)) circuit.old circuit.new)
-        (λ row. IsBuilt (block_of circuit.old.next (bits_in bits.now) (node_at terms.now.nodes t)) row.items circuit.old circuit.new)) }
+        (HasNone (block_of circuit.old.next (bits_in bits.now) (node_at terms.now.nodes t))
+        circuit.old circuit.new)
+        (λ row. IsBuilt (block_of circuit.old.next (bits_in bits.now) (node_at terms.now.nodes t))
+        row.items circuit.old circuit.new)) }
     ensures err { OnErr result (circuit.new ≡ circuit.old) }
 {
     let node = terms.node(t);
@@ -92,7 +98,8 @@ fn block(
 fn leaf(op: &Op, circuit: &mut Circuit) -> Result<Option<Vec<Lit>>, AllocError>
     ensures ok { IfOk result (λ o. MatchOption o
         (HasNone (built (circuit_of op.now) circuit.old.next []) circuit.old circuit.new)
-        (λ row. IsBuilt (built (circuit_of op.now) circuit.old.next []) row.items circuit.old circuit.new)) }
+        (λ row. IsBuilt (built (circuit_of op.now) circuit.old.next []) row.items circuit.old
+        circuit.new)) }
     ensures err { OnErr result (circuit.new ≡ circuit.old) }
 {
     match op {
@@ -111,7 +118,8 @@ fn unary(op: &Op, a: &[Lit], circuit: &mut Circuit) -> Result<Option<Vec<Lit>>, 
     requires room { circuit.old.next + 2 ^ 17 ≤ 2 ^ 63 }
     ensures ok { IfOk result (λ o. MatchOption o
         (HasNone (built (circuit_of op.now) circuit.old.next (a.now ∷ [])) circuit.old circuit.new)
-        (λ row. IsBuilt (built (circuit_of op.now) circuit.old.next (a.now ∷ [])) row.items circuit.old circuit.new)) }
+        (λ row. IsBuilt (built (circuit_of op.now) circuit.old.next (a.now ∷ [])) row.items
+        circuit.old circuit.new)) }
     ensures err { OnErr result (circuit.new ≡ circuit.old) }
 {
     let alloc = circuit.alloc();
@@ -138,8 +146,10 @@ fn binary(
     requires short { length a.now ≤ 128 }
     requires room { circuit.old.next + 2 ^ 17 ≤ 2 ^ 63 }
     ensures ok { IfOk result (λ o. MatchOption o
-        (HasNone (built (circuit_of op.now) circuit.old.next (a.now ∷ b.now ∷ [])) circuit.old circuit.new)
-        (λ row. IsBuilt (built (circuit_of op.now) circuit.old.next (a.now ∷ b.now ∷ [])) row.items circuit.old circuit.new)) }
+        (HasNone (built (circuit_of op.now) circuit.old.next (a.now ∷ b.now ∷ [])) circuit.old
+        circuit.new)
+        (λ row. IsBuilt (built (circuit_of op.now) circuit.old.next (a.now ∷ b.now ∷ [])) row.items
+        circuit.old circuit.new)) }
     ensures err { OnErr result (circuit.new ≡ circuit.old) }
 {
     let Op::Plain(operator) = op else {
@@ -170,8 +180,10 @@ fn paired(
     requires other { connective_of operator ≡ None }
     requires split { operator ≢ Operator.Concat }
     ensures ok { IfOk result (λ o. MatchOption o
-        (HasNone (built (operator_circuit operator) circuit.old.next (a.now ∷ b.now ∷ [])) circuit.old circuit.new)
-        (λ row. IsBuilt (built (operator_circuit operator) circuit.old.next (a.now ∷ b.now ∷ [])) row.items circuit.old circuit.new)) }
+        (HasNone (built (operator_circuit operator) circuit.old.next (a.now ∷ b.now ∷ []))
+        circuit.old circuit.new)
+        (λ row. IsBuilt (built (operator_circuit operator) circuit.old.next (a.now ∷ b.now ∷ []))
+        row.items circuit.old circuit.new)) }
     ensures err { OnErr result (circuit.new ≡ circuit.old) }
 {
     match operator {
@@ -208,8 +220,10 @@ fn signed(
     requires room { circuit.old.next + 2 ^ 17 ≤ 2 ^ 63 }
     requires sign { IsSigned operator }
     ensures ok { IfOk result (λ o. MatchOption o
-        (HasNone (built (operator_circuit operator) circuit.old.next (a.now ∷ b.now ∷ [])) circuit.old circuit.new)
-        (λ row. IsBuilt (built (operator_circuit operator) circuit.old.next (a.now ∷ b.now ∷ [])) row.items circuit.old circuit.new)) }
+        (HasNone (built (operator_circuit operator) circuit.old.next (a.now ∷ b.now ∷ []))
+        circuit.old circuit.new)
+        (λ row. IsBuilt (built (operator_circuit operator) circuit.old.next (a.now ∷ b.now ∷ []))
+        row.items circuit.old circuit.new)) }
     ensures err { OnErr result (circuit.new ≡ circuit.old) }
 {
     if a.len() == 0 {
@@ -237,8 +251,10 @@ fn multiplied(
     requires room { circuit.old.next + 2 ^ 17 ≤ 2 ^ 63 }
     requires product { IsProduct operator }
     ensures ok { IfOk result (λ o. MatchOption o
-        (HasNone (built (operator_circuit operator) circuit.old.next (a.now ∷ b.now ∷ [])) circuit.old circuit.new)
-        (λ row. IsBuilt (built (operator_circuit operator) circuit.old.next (a.now ∷ b.now ∷ [])) row.items circuit.old circuit.new)) }
+        (HasNone (built (operator_circuit operator) circuit.old.next (a.now ∷ b.now ∷ []))
+        circuit.old circuit.new)
+        (λ row. IsBuilt (built (operator_circuit operator) circuit.old.next (a.now ∷ b.now ∷ []))
+        row.items circuit.old circuit.new)) }
     ensures err { OnErr result (circuit.new ≡ circuit.old) }
 {
     if a.len() == 0 {
@@ -272,8 +288,10 @@ fn ternary(
     requires short { length a.now ≤ 128 }
     requires room { circuit.old.next + 2 ^ 17 ≤ 2 ^ 63 }
     ensures ok { IfOk result (λ o. MatchOption o
-        (HasNone (built (circuit_of op.now) circuit.old.next (c.now ∷ a.now ∷ b.now ∷ [])) circuit.old circuit.new)
-        (λ row. IsBuilt (built (circuit_of op.now) circuit.old.next (c.now ∷ a.now ∷ b.now ∷ [])) row.items circuit.old circuit.new)) }
+        (HasNone (built (circuit_of op.now) circuit.old.next (c.now ∷ a.now ∷ b.now ∷ []))
+        circuit.old circuit.new)
+        (λ row. IsBuilt (built (circuit_of op.now) circuit.old.next (c.now ∷ a.now ∷ b.now ∷ []))
+        row.items circuit.old circuit.new)) }
     ensures err { OnErr result (circuit.new ≡ circuit.old) }
 {
     let Op::Plain(Operator::Ite) = op else {

@@ -220,7 +220,9 @@ pub fn bitwise(
 ) -> Result<Vec<Lit>, AllocError>
     requires same { length a.now ≡ length b.now }
     requires room { circuit.old.next + length a.now ≤ 2 ^ 63 }
-    ensures ok { IfOk result (λ row. IsBuilt (Some (by_gate kind positive a.now b.now circuit.old.next)) row.items circuit.old circuit.new) }
+    ensures ok { IfOk result
+        (λ row. IsBuilt (Some (by_gate kind positive a.now b.now circuit.old.next)) row.items
+        circuit.old circuit.new) }
     ensures err { OnErr result (circuit.new ≡ circuit.old) }
 {
     let mut added = circuit.part();
@@ -238,7 +240,9 @@ pub fn bitwise(
 pub fn sum(carry: Lit, a: &[Lit], b: &[Lit], circuit: &mut Circuit) -> Result<Vec<Lit>, AllocError>
     requires same { length a.now ≡ length b.now }
     requires room { circuit.old.next + 3 * length a.now ≤ 2 ^ 63 }
-    ensures ok { IfOk result (λ row. IsBuilt (Some (sum_block carry a.now b.now circuit.old.next)) row.items circuit.old circuit.new) }
+    ensures ok { IfOk result
+        (λ row. IsBuilt (Some (sum_block carry a.now b.now circuit.old.next)) row.items circuit.old
+        circuit.new) }
     ensures err { OnErr result (circuit.new ≡ circuit.old) }
 {
     let (bits, _carry) = circuit.add_with(a, b, carry)?;
@@ -249,7 +253,9 @@ pub fn sum(carry: Lit, a: &[Lit], b: &[Lit], circuit: &mut Circuit) -> Result<Ve
 pub fn difference(a: &[Lit], b: &[Lit], circuit: &mut Circuit) -> Result<Vec<Lit>, AllocError>
     requires same { length a.now ≡ length b.now }
     requires room { circuit.old.next + 3 * length a.now ≤ 2 ^ 63 }
-    ensures ok { IfOk result (λ row. IsBuilt (Some (difference_block a.now b.now circuit.old.next)) row.items circuit.old circuit.new) }
+    ensures ok { IfOk result
+        (λ row. IsBuilt (Some (difference_block a.now b.now circuit.old.next)) row.items circuit.old
+        circuit.new) }
     ensures err { OnErr result (circuit.new ≡ circuit.old) }
 {
     let negated = negated_row(circuit.alloc(), b)?;
@@ -260,7 +266,9 @@ pub fn difference(a: &[Lit], b: &[Lit], circuit: &mut Circuit) -> Result<Vec<Lit
 pub fn equality(a: &[Lit], b: &[Lit], circuit: &mut Circuit) -> Result<Vec<Lit>, AllocError>
     requires same { length a.now ≡ length b.now }
     requires room { circuit.old.next + 2 * length a.now ≤ 2 ^ 63 }
-    ensures ok { IfOk result (λ row. IsBuilt (Some (equality_block a.now b.now circuit.old.next)) row.items circuit.old circuit.new) }
+    ensures ok { IfOk result
+        (λ row. IsBuilt (Some (equality_block a.now b.now circuit.old.next)) row.items circuit.old
+        circuit.new) }
     ensures err { OnErr result (circuit.new ≡ circuit.old) }
 {
     let mut bits = Vec::with_capacity(circuit.alloc(), 1)?;
@@ -273,7 +281,9 @@ pub fn equality(a: &[Lit], b: &[Lit], circuit: &mut Circuit) -> Result<Vec<Lit>,
 pub fn below(a: &[Lit], b: &[Lit], circuit: &mut Circuit) -> Result<Vec<Lit>, AllocError>
     requires same { length a.now ≡ length b.now }
     requires room { circuit.old.next + 2 * length a.now ≤ 2 ^ 63 }
-    ensures ok { IfOk result (λ row. IsBuilt (Some (below_block a.now b.now circuit.old.next)) row.items circuit.old circuit.new) }
+    ensures ok { IfOk result
+        (λ row. IsBuilt (Some (below_block a.now b.now circuit.old.next)) row.items circuit.old
+        circuit.new) }
     ensures err { OnErr result (circuit.new ≡ circuit.old) }
 {
     let mut bits = Vec::with_capacity(circuit.alloc(), 1)?;
@@ -286,7 +296,9 @@ pub fn below(a: &[Lit], b: &[Lit], circuit: &mut Circuit) -> Result<Vec<Lit>, Al
 pub fn not_above(a: &[Lit], b: &[Lit], circuit: &mut Circuit) -> Result<Vec<Lit>, AllocError>
     requires same { length a.now ≡ length b.now }
     requires room { circuit.old.next + 2 * length a.now ≤ 2 ^ 63 }
-    ensures ok { IfOk result (λ row. IsBuilt (Some (not_above_block a.now b.now circuit.old.next)) row.items circuit.old circuit.new) }
+    ensures ok { IfOk result
+        (λ row. IsBuilt (Some (not_above_block a.now b.now circuit.old.next)) row.items circuit.old
+        circuit.new) }
     ensures err { OnErr result (circuit.new ≡ circuit.old) }
 {
     let mut bits = Vec::with_capacity(circuit.alloc(), 1)?;
@@ -300,7 +312,9 @@ pub fn signed_below(a: &[Lit], b: &[Lit], circuit: &mut Circuit) -> Result<Vec<L
     requires same { length a.now ≡ length b.now }
     requires some { 0 < length a.now }
     requires room { circuit.old.next + 2 * length a.now ≤ 2 ^ 63 }
-    ensures ok { IfOk result (λ row. IsBuilt (Some (signed_below_block a.now b.now circuit.old.next)) row.items circuit.old circuit.new) }
+    ensures ok { IfOk result
+        (λ row. IsBuilt (Some (signed_below_block a.now b.now circuit.old.next)) row.items
+        circuit.old circuit.new) }
     ensures err { OnErr result (circuit.new ≡ circuit.old) }
 {
     let mut bits = Vec::with_capacity(circuit.alloc(), 1)?;
@@ -314,7 +328,9 @@ pub fn signed_not_above(a: &[Lit], b: &[Lit], circuit: &mut Circuit) -> Result<V
     requires same { length a.now ≡ length b.now }
     requires some { 0 < length a.now }
     requires room { circuit.old.next + 2 * length a.now ≤ 2 ^ 63 }
-    ensures ok { IfOk result (λ row. IsBuilt (Some (signed_not_above_block a.now b.now circuit.old.next)) row.items circuit.old circuit.new) }
+    ensures ok { IfOk result
+        (λ row. IsBuilt (Some (signed_not_above_block a.now b.now circuit.old.next)) row.items
+        circuit.old circuit.new) }
     ensures err { OnErr result (circuit.new ≡ circuit.old) }
 {
     let mut bits = Vec::with_capacity(circuit.alloc(), 1)?;

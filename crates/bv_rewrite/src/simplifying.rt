@@ -155,7 +155,8 @@ fn follow<K: Kept>(
     requires terms { AreTerms terms.old }
     requires held { t < length terms.old.nodes }
     requires plain { is_plain (sort_of terms.old.nodes t) ≡ true }
-    ensures followed { IfOk result (λ u. IsFollowed (K.keeps kept.now) terms.old terms.new t uses.old.items uses.new.items u) }
+    ensures followed { IfOk result
+        (λ u. IsFollowed (K.keeps kept.now) terms.old terms.new t uses.old.items uses.new.items u) }
     ensures refused { IfErr result (λ e. IsRefused terms.old terms.new e) }
 {
     shapes_are_made_by_rules();
@@ -186,7 +187,8 @@ fn walk<I: Images, K: Kept>(
     requires held { t < length terms.old.nodes }
     requires plain { is_plain (sort_of terms.old.nodes t) ≡ true }
     requires images { AreImages terms.old.nodes (I.image_of images.now) }
-    ensures simplified { IfOk result (λ s. IsSimplified (K.keeps kept.now) terms.old terms.new (I.image_of images.now) t s) }
+    ensures simplified { IfOk result
+        (λ s. IsSimplified (K.keeps kept.now) terms.old terms.new (I.image_of images.now) t s) }
     ensures refused { IfErr result (λ e. IsRefused terms.old terms.new e) }
 {
     let node = settle(alloc, terms, images, t)?;
@@ -210,7 +212,8 @@ pub fn simplify<I: Images, K: Kept>(
     requires held { t < length terms.old.nodes }
     requires plain { is_plain (sort_of terms.old.nodes t) ≡ true }
     requires images { AreImages terms.old.nodes (I.image_of images.now) }
-    ensures simplified { IfOk result (λ s. IsSimplified (K.keeps kept.now) terms.old terms.new (I.image_of images.now) t s) }
+    ensures simplified { IfOk result
+        (λ s. IsSimplified (K.keeps kept.now) terms.old terms.new (I.image_of images.now) t s) }
     ensures refused { IfErr result (λ e. (terms.new ≡ terms.old) × IsCause e) }
 {
     let before = terms.len();

@@ -10,15 +10,18 @@ ghost use Rattle.bv_rules.specs.Matches.{matches, IsImage, KeepValues, AreImages
 
 /// Each rule takes a term to one of the same value, in every evaluation, over images that are such terms.
 pub fn rules_keep_evaluations()
-    ensures { (nodes : List Node) (images : ℕ → Option ℕ) (rule : Rule) (t u : ℕ) → IsTermList nodes → AreDifferent nodes
+    ensures { (nodes : List Node) (images : ℕ → Option ℕ) (rule : Rule) (t u : ℕ) → IsTermList nodes
+        → AreDifferent nodes
         → AreImages nodes images → matches nodes images rule t u ≡ true
         → (M : Interpretation) (v : ℕ → Value) → IsEvaluation M nodes v → v u ≡ v t }
 {}
 
 /// Each rule takes a term to one of the same value in an interpretation, over images of which it is so.
 pub fn rules_keep_values()
-    ensures { (M : Interpretation) (nodes : List Node) (images : ℕ → Option ℕ) (rule : Rule) (t u : ℕ) → IsTermList nodes
-        → KeepValues nodes (value M nodes) images → matches nodes images rule t u ≡ true → value M nodes u ≡ value M nodes t }
+    ensures { (M : Interpretation) (nodes : List Node) (images : ℕ → Option ℕ) (rule : Rule)
+        (t u : ℕ) → IsTermList nodes
+        → KeepValues nodes (value M nodes) images → matches nodes images rule t u ≡ true
+        → value M nodes u ≡ value M nodes t }
 {}
 
 /// Each rule takes a term to one of the same sort.
@@ -29,14 +32,17 @@ pub fn rules_keep_sorts()
 
 /// So the two terms of each rule are an image of which the next rules may speak.
 pub fn rules_make_images()
-    ensures { (nodes : List Node) (images : ℕ → Option ℕ) (rule : Rule) (t u : ℕ) → IsTermList nodes → AreDifferent nodes
+    ensures { (nodes : List Node) (images : ℕ → Option ℕ) (rule : Rule) (t u : ℕ) → IsTermList nodes
+        → AreDifferent nodes
         → AreImages nodes images → matches nodes images rule t u ≡ true → IsImage nodes t u }
 {}
 
 /// More terms change no rule, and no image.
 pub fn more_terms_keep_rules()
-    ensures rules { (nodes more : List Node) (images : ℕ → Option ℕ) (rule : Rule) (t u : ℕ) → IsTermList nodes
+    ensures rules { (nodes more : List Node) (images : ℕ → Option ℕ) (rule : Rule) (t u : ℕ)
+        → IsTermList nodes
         → matches nodes images rule t u ≡ true → matches (nodes ++ more) images rule t u ≡ true }
-    ensures images { (nodes more : List Node) (images : ℕ → Option ℕ) → IsTermList nodes → AreImages nodes images
+    ensures images { (nodes more : List Node) (images : ℕ → Option ℕ) → IsTermList nodes
+        → AreImages nodes images
         → AreImages (nodes ++ more) images }
 {}

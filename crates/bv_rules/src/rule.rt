@@ -142,7 +142,8 @@ impl Rule {
 
     /// The rule of a number; `None` exactly where no rule has it.
     pub fn numbered(number: u64) -> Option<Rule>
-        ensures { MatchOption result ((rule : Rule) → number_of rule ≡ number → ⊥) (λ rule. number_of rule ≡ number) }
+        ensures { MatchOption result ((rule : Rule) → number_of rule ≡ number → ⊥)
+            (λ rule. number_of rule ≡ number) }
     {
         let rule = match number {
             1 => Rule::BvnotTwice,

@@ -33,7 +33,8 @@ pub(crate) fn latest(clause: &[Lit], stamps: &[u32], except: usize) -> usize
     ensures none { result ≡ 0 → (l : ℕ) → Has (codes clause.now) l → l ≡ except }
     ensures has { result ≢ 0 → Has (codes clause.now) result }
     ensures other { result ≢ 0 → result ≢ except }
-    ensures latest { (l : ℕ) → Has (codes clause.now) l → l ≢ except → rank stamps.now l ≤ rank stamps.now result }
+    ensures latest { (l : ℕ) → Has (codes clause.now) l → l ≢ except
+        → rank stamps.now l ≤ rank stamps.now result }
 {
     let mut found = 0;
     let mut highest = 0;
@@ -53,8 +54,10 @@ fn rewind(t: &mut Trail)
     requires { IsConsistent t.old }
     ensures same { t.new ≡ record t.old { head = t.new.head } }
     ensures head { t.new.head ≤ t.old.head }
-    ensures before { (i : ℕ) → i < t.new.head → slice_index t.old.stamps.items (slice_index t.old.codes.items i) ≤ t.old.level }
-    ensures after { (i : ℕ) → t.new.head ≤ i → i < t.old.head → t.old.level < slice_index t.old.stamps.items (slice_index t.old.codes.items i) }
+    ensures before { (i : ℕ) → i < t.new.head
+        → slice_index t.old.stamps.items (slice_index t.old.codes.items i) ≤ t.old.level }
+    ensures after { (i : ℕ) → t.new.head ≤ i → i < t.old.head
+        → t.old.level < slice_index t.old.stamps.items (slice_index t.old.codes.items i) }
 {
     let mut head = t.head;
     'back: while head > 0 {
@@ -81,8 +84,12 @@ fn hang(w: &mut Watches, slot: usize, clause: Clause, a: usize, b: usize)
     requires idle { sum_by (times (2 * slot + 1)) w.old.lists.lists ≡ 0 }
     ensures holds { Holds w.old w.new slot Watched clause }
     ensures calm { w.new.refuted ≡ w.old.refuted }
-    ensures literals { w.new.lists.literals ≡ slice_set (slice_set w.old.lists.literals (2 * slot) a) (2 * slot + 1) b }
-    ensures lists { let moved = slice_set (slice_set w.old.lists.lists 1 (rest_of (slice_index_or w.old.lists.lists 1 []))) (a + 1) ((2 * slot) ∷ slice_index_or w.old.lists.lists (a + 1) []) in w.new.lists.lists ≡ slice_set moved (b + 1) ((2 * slot + 1) ∷ slice_index_or moved (b + 1) []) }
+    ensures literals { w.new.lists.literals
+        ≡ slice_set (slice_set w.old.lists.literals (2 * slot) a) (2 * slot + 1) b }
+    ensures lists { let moved = slice_set
+        (slice_set w.old.lists.lists 1 (rest_of (slice_index_or w.old.lists.lists 1 []))) (a + 1)
+        ((2 * slot) ∷ slice_index_or w.old.lists.lists (a + 1) []) in w.new.lists.lists
+        ≡ slice_set moved (b + 1) ((2 * slot + 1) ∷ slice_index_or moved (b + 1) []) }
 {
     w.lists.rewatch(2 * slot, a, 0);
     w.lists.set_literal(2 * slot + 1, b);
@@ -100,7 +107,8 @@ pub(crate) fn seat(w: &mut Watches, slot: usize, clause: Clause, kind: Kind)
     ensures holds { Holds w.old w.new slot kind clause }
     ensures calm { w.new.refuted ≡ w.old.refuted }
     ensures literals { w.new.lists.literals ≡ w.old.lists.literals }
-    ensures lists { w.new.lists.lists ≡ slice_set w.old.lists.lists 1 (rest_of (slice_index_or w.old.lists.lists 1 [])) }
+    ensures lists { w.new.lists.lists
+        ≡ slice_set w.old.lists.lists 1 (rest_of (slice_index_or w.old.lists.lists 1 [])) }
 {
     w.lists.pop_first(1);
     w.clauses[slot] = clause;
@@ -125,14 +133,17 @@ fn watch(
     requires has_a { Has (codes clause) a }
     requires has_b { Has (codes clause) b }
     requires differ { b ≢ a }
-    requires latest { (l : ℕ) → Has (codes clause) l → rank t.old.stamps.items l ≤ rank t.old.stamps.items a }
-    requires second { (l : ℕ) → Has (codes clause) l → l ≢ a → rank t.old.stamps.items l ≤ rank t.old.stamps.items b }
+    requires latest { (l : ℕ) → Has (codes clause) l
+        → rank t.old.stamps.items l ≤ rank t.old.stamps.items a }
+    requires second { (l : ℕ) → Has (codes clause) l → l ≢ a
+        → rank t.old.stamps.items l ≤ rank t.old.stamps.items b }
     ensures placed { IsPlaced w.new t.new }
     ensures holds { Holds w.old w.new slot Watched clause }
     ensures level { t.new.level ≡ t.old.level }
     ensures rows { length t.new.stamps.items ≡ length t.old.stamps.items }
     ensures literals { IsAdded (literals_of t.old) (level_of t.old) id clause (literals_of t.new) }
-    ensures propagated { RestsBy (literals_of t.old) (level_of t.old) clause → IsPropagated w.old t.old → IsPropagated w.new t.new }
+    ensures propagated { RestsBy (literals_of t.old) (level_of t.old) clause
+        → IsPropagated w.old t.old → IsPropagated w.new t.new }
 {
     hang(w, slot, clause, a, b);
     if t.stamps[neg(b)] == 0 {
@@ -162,7 +173,8 @@ fn fix(w: &mut Watches, t: &mut Trail, slot: usize, clause: Clause, a: usize, id
     ensures level { t.new.level ≡ t.old.level }
     ensures rows { length t.new.stamps.items ≡ length t.old.stamps.items }
     ensures literals { IsAdded (literals_of t.old) (level_of t.old) id clause (literals_of t.new) }
-    ensures propagated { RestsBy (literals_of t.old) (level_of t.old) clause → IsPropagated w.old t.old → IsPropagated w.new t.new }
+    ensures propagated { RestsBy (literals_of t.old) (level_of t.old) clause
+        → IsPropagated w.old t.old → IsPropagated w.new t.new }
 {
     seat(w, slot, clause, Kind::Fixed);
     if a == 0 {
@@ -207,7 +219,8 @@ pub(crate) fn hold(w: &mut Watches, t: &mut Trail, slot: usize, clause: Clause, 
     ensures level { t.new.level ≡ t.old.level }
     ensures rows { length t.new.stamps.items ≡ length t.old.stamps.items }
     ensures literals { IsAdded (literals_of t.old) (level_of t.old) id clause (literals_of t.new) }
-    ensures propagated { RestsBy (literals_of t.old) (level_of t.old) clause → IsPropagated w.old t.old → IsPropagated w.new t.new }
+    ensures propagated { RestsBy (literals_of t.old) (level_of t.old) clause
+        → IsPropagated w.old t.old → IsPropagated w.new t.new }
 {
     let a = latest(clause.literals(), t.stamps.as_slice(), 0);
     let b = latest(clause.literals(), t.stamps.as_slice(), a);
@@ -231,7 +244,8 @@ fn admit(w: &mut Watches, t: &mut Trail, slot: usize, clause: Clause, id: Clause
     ensures level { t.new.level ≡ t.old.level }
     ensures rows { length t.new.stamps.items ≡ length t.old.stamps.items }
     ensures literals { IsAdded (literals_of t.old) (level_of t.old) id clause (literals_of t.new) }
-    ensures propagated { RestsBy (literals_of t.old) (level_of t.old) clause → IsPropagated w.old t.old → IsPropagated w.new t.new }
+    ensures propagated { RestsBy (literals_of t.old) (level_of t.old) clause
+        → IsPropagated w.old t.old → IsPropagated w.new t.new }
 {
     if is_satisfied(clause.literals(), t.stamps.as_slice()) {
         seat(w, slot, clause, Kind::Fixed);
@@ -258,7 +272,8 @@ pub(crate) fn name_slot(
     ensures named { OnOk result (IsRenamed w.old.slots w.new.slots id (Some slot)) }
     ensures placed { OnOk result (IsPlaced w.new t.now) }
     ensures err_ids { OnErr result (w.new.ids ≡ w.old.ids) }
-    ensures err_slots { OnErr result ((q : ClauseId) → slot_in w.new.slots q ≡ slot_in w.old.slots q) }
+    ensures err_slots { OnErr result ((q : ClauseId)
+        → slot_in w.new.slots q ≡ slot_in w.old.slots q) }
 {
     if let Err(_) = w.slots.insert(id, slot) {
         return Err(AllocError);
@@ -273,20 +288,25 @@ impl Watches {
     pub fn add(&mut self, trail: &mut Trail, id: ClauseId, clause: Clause) -> Result<(), AllocError>
         requires settled { IsSettled self.old trail.old }
         requires fresh { clause_of self.old id ≡ None }
-        requires rests { (j : ℕ) → j < level_of trail.old → RestsBy (literals_of trail.old) j clause }
+        requires rests { (j : ℕ) → j < level_of trail.old
+            → RestsBy (literals_of trail.old) j clause }
         ensures settled { IsSettled self.new trail.new }
         ensures kept { OnOk result (clause_of self.new id ≡ Some clause) }
         ensures held { OnOk result (held_of self.new id ≡ Some clause) }
         ensures others { (q : ClauseId) → q ≢ id → clause_of self.new q ≡ clause_of self.old q }
         ensures others_held { (q : ClauseId) → q ≢ id → held_of self.new q ≡ held_of self.old q }
         ensures not_kept { OnErr result (clause_of self.new id ≡ None) }
-        ensures literals { OnOk result (IsAdded (literals_of trail.old) (level_of trail.old) id clause (literals_of trail.new)) }
+        ensures literals { OnOk result
+            (IsAdded (literals_of trail.old) (level_of trail.old) id clause
+            (literals_of trail.new)) }
         ensures same_literals { OnErr result (literals_of trail.new ≡ literals_of trail.old) }
         ensures level { level_of trail.new ≡ level_of trail.old }
         ensures known { OnOk result ((l : Literal) → Contains clause l → IsKnown trail.new l) }
         ensures rows { rows_of trail.old ≤ rows_of trail.new }
-        ensures propagated { RestsBy (literals_of trail.old) (level_of trail.old) clause → IsPropagated self.old trail.old → IsPropagated self.new trail.new }
-        ensures err_propagated { OnErr result (IsPropagated self.old trail.old → IsPropagated self.new trail.new) }
+        ensures propagated { RestsBy (literals_of trail.old) (level_of trail.old) clause
+            → IsPropagated self.old trail.old → IsPropagated self.new trail.new }
+        ensures err_propagated { OnErr result (IsPropagated self.old trail.old
+            → IsPropagated self.new trail.new) }
     {
         let bound = bound_of(clause.literals());
         self.reserve(trail, bound)?;

@@ -18,7 +18,8 @@ impl Watches {
         requires unset { IsOpen (literals_of trail.old) (level_of trail.old) l }
         ensures settled { IsSettled self.now trail.new }
         ensures level { level_of trail.new ≡ level_of trail.old + 1 }
-        ensures literals { literals_of trail.new ≡ literals_of trail.old ++ (record { 0 = l; 1 = level_of trail.old + 1; 2 = None }) ∷ [] }
+        ensures literals { literals_of trail.new ≡ literals_of trail.old
+            ++ (record { 0 = l; 1 = level_of trail.old + 1; 2 = None }) ∷ [] }
         ensures rows { rows_of trail.new ≡ rows_of trail.old }
     {
         trail.level += 1;
@@ -31,7 +32,8 @@ impl Watches {
         requires lower { level ≤ level_of trail.old }
         ensures settled { IsSettled self.now trail.new }
         ensures level { level_of trail.new ≡ level }
-        ensures literals { literals_of trail.new ≡ filter (λ r. nat_le r.1 level) (literals_of trail.old) }
+        ensures literals { literals_of trail.new
+            ≡ filter (λ r. nat_le r.1 level) (literals_of trail.old) }
         ensures propagated { level < level_of trail.old → IsPropagated self.now trail.new }
         ensures rest { level < level_of trail.old → IsAtRest self.now trail.new }
         ensures same { level ≡ level_of trail.old → trail.new ≡ trail.old }
@@ -53,7 +55,8 @@ fn cut_back(w: &Watches, t: &mut Trail, level: u64)
     ensures fewer { t.new.len ≤ t.old.len }
     ensures rows { t.new.rows.items ≡ t.old.rows.items }
     ensures kept { (i : ℕ) → i < t.new.len → (slice_index_or t.old.rows.items i no_row).1 ≤ level }
-    ensures gone { (i : ℕ) → t.new.len ≤ i → i < t.old.len → level < (slice_index_or t.old.rows.items i no_row).1 }
+    ensures gone { (i : ℕ) → t.new.len ≤ i → i < t.old.len
+        → level < (slice_index_or t.old.rows.items i no_row).1 }
     ensures size { length t.new.stamps.items ≡ length t.old.stamps.items }
 {
     'entries: while t.len > 0 {

@@ -27,7 +27,8 @@ fn take_out(lists: &mut WatchLists, list: usize, place: usize)
     ensures size { length lists.new.lists ≡ length lists.old.lists }
     ensures idle { slice_index_or lists.new.lists 0 [] ≡ [] }
     ensures gone { (i : ℕ) → times place (slice_index_or lists.new.lists i []) ≡ 0 }
-    ensures others { (i q : ℕ) → q ≢ place → times q (slice_index_or lists.new.lists i []) ≡ times q (slice_index_or lists.old.lists i []) }
+    ensures others { (i q : ℕ) → q ≢ place → times q (slice_index_or lists.new.lists i [])
+        ≡ times q (slice_index_or lists.old.lists i []) }
 {
     lists.exchange(0, list);
     'places: while lists.first(0) != 0 {
@@ -85,7 +86,8 @@ pub(crate) fn give_up(w: &mut Watches, slot: usize) -> Clause
     ensures slots { w.new.slots ≡ w.old.slots }
     ensures calm { w.new.refuted ≡ w.old.refuted }
     ensures literals { w.new.lists.literals ≡ slice_set w.old.lists.literals (2 * slot) 0 }
-    ensures lists { w.new.lists.lists ≡ slice_set w.old.lists.lists 1 ((2 * slot) ∷ slice_index_or w.old.lists.lists 1 []) }
+    ensures lists { w.new.lists.lists
+        ≡ slice_set w.old.lists.lists 1 ((2 * slot) ∷ slice_index_or w.old.lists.lists 1 []) }
 {
     w.lists.set_literal(2 * slot, 0);
     w.lists.push_first(1, 2 * slot);
@@ -111,7 +113,8 @@ impl Watches {
     /// Whether the clause of this name forced a literal of the trail.
     pub fn is_reason(&self, trail: &Trail, id: ClauseId) -> bool
         requires { IsSettled self.now trail.now }
-        ensures { MatchBool result (IsReason (literals_of trail.now) id) (IsReason (literals_of trail.now) id → ⊥) }
+        ensures { MatchBool result (IsReason (literals_of trail.now) id)
+            (IsReason (literals_of trail.now) id → ⊥) }
     {
         let Some(slot) = self.slot(id) else {
             return false;
@@ -129,7 +132,9 @@ impl Watches {
     pub fn drop_clause(&mut self, trail: &Trail, id: ClauseId)
         requires settled { IsSettled self.old trail.now }
         requires kept { IsSome (clause_of self.old id) }
-        requires free { (i : ℕ) (l : Literal) (level : ℕ) → slice_get (literals_of trail.now) i ≢ Some (record { 0 = l; 1 = level; 2 = Some id }) }
+        requires free { (i : ℕ) (l : Literal) (level : ℕ)
+            → slice_get (literals_of trail.now) i ≢ Some
+            (record { 0 = l; 1 = level; 2 = Some id }) }
         ensures settled { IsSettled self.new trail.now }
         ensures gone { clause_of self.new id ≡ None }
         ensures others { (q : ClauseId) → q ≢ id → clause_of self.new q ≡ clause_of self.old q }

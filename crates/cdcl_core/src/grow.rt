@@ -30,7 +30,8 @@ fn lengthen_trail(t: &mut Trail, count: usize) -> Result<(), AllocError>
     ensures ok { OnOk result (IsLonger t.old t.new (count - length t.old.stamps.items)) }
     ensures err { OnErr result (IsLonger t.old t.new 0) }
     ensures codes { OnOk result (count ≤ 2 * length t.new.codes.items) }
-    ensures reasons { length t.old.codes.items ≤ length t.old.reasons.items → length t.new.codes.items ≤ length t.new.reasons.items }
+    ensures reasons { length t.old.codes.items ≤ length t.old.reasons.items
+        → length t.new.codes.items ≤ length t.new.reasons.items }
     ensures rows { OnOk result (count ≤ 2 * length t.new.rows.items) }
     ensures spots { OnOk result (count ≤ 2 * length t.new.spots.items) }
 {

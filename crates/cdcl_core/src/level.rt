@@ -27,7 +27,8 @@ impl Watches {
         requires { IsSettled self.now trail.now }
         ensures present { result ≤ level_of trail.now }
         ensures rests { (j : ℕ) → j < result → RestsBy (literals_of trail.now) j clause.now }
-        ensures highest { result < level_of trail.now → RestsBy (literals_of trail.now) result clause.now → ⊥ }
+        ensures highest { result < level_of trail.now
+            → RestsBy (literals_of trail.now) result clause.now → ⊥ }
     {
         let stamps = trail.stamps.as_slice();
         let last = latest(clause.literals(), stamps, 0);

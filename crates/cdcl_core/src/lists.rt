@@ -34,7 +34,8 @@ impl Model for WatchLists {
 
     ghost view = { λ s. shown s.places.items s.heads.items };
 
-    ghost invariant = { λ s. IsWell s.places.items s.heads.items × (AreFew s.places.items s.heads.items × HaveStarts s.places.items s.starts.items) };
+    ghost invariant = { λ s. IsWell s.places.items s.heads.items
+        × (AreFew s.places.items s.heads.items × HaveStarts s.places.items s.starts.items) };
 }
 
 // Has at least `count` elements, and none fewer than before.
@@ -75,7 +76,11 @@ impl WatchLists {
     pub(crate) fn set_literal(&mut self, place: usize, literal: usize)
         requires place { place < length self.old.literals }
         requires literal { literal < length self.old.lists }
-        ensures { self.new ≡ record { lists = self.old.lists; literals = slice_set self.old.literals place literal } }
+        ensures { self.new
+            ≡ record {
+              lists = self.old.lists;
+              literals = slice_set self.old.literals place literal;
+            } }
     {
         let next = self.places[place].next;
         self.places[place] = Place {
@@ -102,7 +107,14 @@ impl WatchLists {
         requires to { to < length self.old.lists }
         requires apart { from ≢ to }
         requires pending { 0 < first_of (slice_index_or self.old.lists from []) }
-        ensures { self.new ≡ record { lists = slice_set (slice_set self.old.lists from (rest_of (slice_index_or self.old.lists from []))) to (first_of (slice_index_or self.old.lists from []) ∷ slice_index_or self.old.lists to []); literals = self.old.literals } }
+        ensures { self.new
+            ≡ record {
+              lists = slice_set
+                  (slice_set self.old.lists from (rest_of (slice_index_or self.old.lists from []))) to
+                  (first_of (slice_index_or self.old.lists from [])
+                  ∷ slice_index_or self.old.lists to []);
+              literals = self.old.literals;
+            } }
     {
         let place = self.heads[from];
         let after = self.places[place as usize].next;
@@ -120,7 +132,14 @@ impl WatchLists {
         requires apart { from ≢ to }
         requires pending { 0 < first_of (slice_index_or self.old.lists from []) }
         requires first { place ≡ first_of (slice_index_or self.old.lists from []) }
-        ensures moved { self.new ≡ record { lists = slice_set (slice_set self.old.lists from (rest_of (slice_index_or self.old.lists from []))) to (first_of (slice_index_or self.old.lists from []) ∷ slice_index_or self.old.lists to []); literals = self.old.literals } }
+        ensures moved { self.new
+            ≡ record {
+              lists = slice_set
+                  (slice_set self.old.lists from (rest_of (slice_index_or self.old.lists from []))) to
+                  (first_of (slice_index_or self.old.lists from [])
+                  ∷ slice_index_or self.old.lists to []);
+              literals = self.old.literals;
+            } }
         ensures next { result ≡ first_of (slice_index_or self.new.lists from []) }
         ensures once { (q : ℕ) → sum_by (times q) self.old.lists ≤ 1 }
     {
@@ -153,7 +172,11 @@ impl WatchLists {
     pub(crate) fn rewatch(&mut self, place: usize, literal: usize, start: usize)
         requires place { place < length self.old.literals }
         requires literal { literal < length self.old.lists }
-        ensures { self.new ≡ record { lists = self.old.lists; literals = slice_set self.old.literals place literal } }
+        ensures { self.new
+            ≡ record {
+              lists = self.old.lists;
+              literals = slice_set self.old.literals place literal;
+            } }
     {
         self.set_start(place, start);
         self.set_literal(place, literal);
@@ -164,7 +187,13 @@ impl WatchLists {
     pub(crate) fn exchange(&mut self, a: usize, b: usize)
         requires a { a < length self.old.lists }
         requires b { b < length self.old.lists }
-        ensures { self.new ≡ record { lists = slice_set (slice_set self.old.lists a (slice_index_or self.old.lists b [])) b (slice_index_or self.old.lists a []); literals = self.old.literals } }
+        ensures { self.new
+            ≡ record {
+              lists = slice_set
+                  (slice_set self.old.lists a (slice_index_or self.old.lists b [])) b
+                  (slice_index_or self.old.lists a []);
+              literals = self.old.literals;
+            } }
     {
         let first = self.heads[a];
         self.heads[a] = self.heads[b];
@@ -175,7 +204,12 @@ impl WatchLists {
     pub(crate) fn pop_first(&mut self, list: usize)
         requires list { list < length self.old.lists }
         requires pending { 0 < first_of (slice_index_or self.old.lists list []) }
-        ensures { self.new ≡ record { lists = slice_set self.old.lists list (rest_of (slice_index_or self.old.lists list [])); literals = self.old.literals } }
+        ensures { self.new
+            ≡ record {
+              lists = slice_set self.old.lists list
+                  (rest_of (slice_index_or self.old.lists list []));
+              literals = self.old.literals;
+            } }
     {
         let place = self.heads[list];
         self.heads[list] = self.places[place as usize].next;
@@ -187,7 +221,12 @@ impl WatchLists {
         requires place { place < length self.old.literals }
         requires named { 0 < place }
         requires idle { sum_by (times place) self.old.lists ≡ 0 }
-        ensures pushed { self.new ≡ record { lists = slice_set self.old.lists list (place ∷ slice_index_or self.old.lists list []); literals = self.old.literals } }
+        ensures pushed { self.new
+            ≡ record {
+              lists = slice_set self.old.lists list
+                  (place ∷ slice_index_or self.old.lists list []);
+              literals = self.old.literals;
+            } }
         ensures once { (q : ℕ) → sum_by (times q) self.new.lists ≤ 1 }
     {
         self.places[place].next = self.heads[list];
@@ -197,14 +236,20 @@ impl WatchLists {
     /// Empties a list: its places stand in none.
     pub(crate) fn empty(&mut self, list: usize)
         requires { list < length self.old.lists }
-        ensures { self.new ≡ record { lists = slice_set self.old.lists list []; literals = self.old.literals } }
+        ensures { self.new
+            ≡ record { lists = slice_set self.old.lists list []; literals = self.old.literals } }
     {
         self.heads[list] = 0;
     }
 
     /// Has at least `count` lists: the new ones are empty.
     pub(crate) fn grow_lists(&mut self, count: usize) -> Result<(), AllocError>
-        ensures ok { OnOk result (self.new ≡ record { lists = self.old.lists ++ replicate (count - length self.old.lists) []; literals = self.old.literals }) }
+        ensures ok { OnOk result
+            (self.new ≡ record {
+              lists = self.old.lists
+                  ++ replicate (count - length self.old.lists) [];
+              literals = self.old.literals;
+            }) }
         ensures err { OnErr result (self.new ≡ self.old) }
     {
         if self.heads.len() < count {
@@ -218,7 +263,12 @@ impl WatchLists {
 
     /// Has at least `count` places: the new ones stand in no list and have the literal 0.
     pub(crate) fn grow_places(&mut self, count: usize) -> Result<(), AllocError>
-        ensures ok { OnOk result (self.new ≡ record { lists = self.old.lists; literals = self.old.literals ++ replicate (count - length self.old.literals) 0 }) }
+        ensures ok { OnOk result
+            (self.new ≡ record {
+              lists = self.old.lists;
+              literals = self.old.literals
+                  ++ replicate (count - length self.old.literals) 0;
+            }) }
         ensures err { OnErr result (self.new ≡ self.old) }
     {
         if self.places.len() < count {

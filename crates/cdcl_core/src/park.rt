@@ -164,7 +164,8 @@ fn parked(kind: Kind) -> Kind
 // Parks the clause of each slot.
 fn park_kinds(kinds: &mut Vec<Kind>)
     ensures size { length kinds.new.items ≡ length kinds.old.items }
-    ensures parked { (q : ℕ) → IsParkedFrom (kind_at kinds.old.items q) (kind_at kinds.new.items q) }
+    ensures parked { (q : ℕ)
+        → IsParkedFrom (kind_at kinds.old.items q) (kind_at kinds.new.items q) }
 {
     for slot in 0..kinds.len() {
         kinds[slot] = parked(kinds[slot]);

@@ -25,7 +25,9 @@ fn scan_part(
     requires within { (l : ℕ) → Has (codes clause.now) l → l < length stamps.now }
     requires even { length stamps.now % 2 ≡ 0 }
     requires end { end ≤ length clause.now }
-    ensures { MatchOption result ((i : ℕ) → start ≤ i → i < end → IsFalseBut stamps.now other (slice_index (codes clause.now) i)) (λ found. IsFreeIn stamps.now (codes clause.now) other found.0) }
+    ensures { MatchOption result ((i : ℕ) → start ≤ i → i < end
+        → IsFalseBut stamps.now other (slice_index (codes clause.now) i))
+        (λ found. IsFreeIn stamps.now (codes clause.now) other found.0) }
 {
     for k in start..end {
         let code = clause[k].code() as usize;
@@ -42,7 +44,9 @@ fn scan_part(
 fn scan(clause: &[Lit], stamps: &[u32], other: usize, start: usize) -> Option<(usize, usize)>
     requires within { (l : ℕ) → Has (codes clause.now) l → l < length stamps.now }
     requires even { length stamps.now % 2 ≡ 0 }
-    ensures { MatchOption result ((l : ℕ) → Has (codes clause.now) l → IsFalseBut stamps.now other l) (λ found. IsFreeIn stamps.now (codes clause.now) other found.0) }
+    ensures { MatchOption result ((l : ℕ) → Has (codes clause.now) l
+        → IsFalseBut stamps.now other l)
+        (λ found. IsFreeIn stamps.now (codes clause.now) other found.0) }
 {
     let start = if start < clause.len() { start } else { 0 };
     match scan_part(clause, stamps, other, start, clause.len()) {
@@ -59,7 +63,8 @@ fn step(w: &mut Watches, t: &mut Trail, p: usize, place: usize) -> (usize, usize
     requires first { place ≡ first_of (slice_index_or w.old.lists.lists 0 []) }
     ensures visiting { IsVisiting w.new t.new p result.1 }
     ensures next { result.0 ≡ first_of (slice_index_or w.new.lists.lists 0 []) }
-    ensures shorter { slice_index_or w.new.lists.lists 0 [] ≡ rest_of (slice_index_or w.old.lists.lists 0 []) }
+    ensures shorter { slice_index_or w.new.lists.lists 0 []
+        ≡ rest_of (slice_index_or w.old.lists.lists 0 []) }
     ensures same { w.new ≡ record w.old { lists = w.new.lists } }
     ensures head { t.new.head ≡ t.old.head }
     ensures level { t.new.level ≡ t.old.level }
@@ -167,7 +172,8 @@ fn empty_queue(w: &mut Watches, t: &mut Trail) -> usize
     ensures done { result ≡ 0 → t.new.head ≡ t.new.len }
     ensures slot { result ≢ 0 → result < length w.new.kinds.items }
     ensures held { result ≢ 0 → IsHeld (kind_at w.new.kinds.items result) }
-    ensures refuted { result ≢ 0 → IsFalse t.new.stamps.items (slice_index_or (all_codes w.new.clauses.items) result []) }
+    ensures refuted { result ≢ 0
+        → IsFalse t.new.stamps.items (slice_index_or (all_codes w.new.clauses.items) result []) }
     ensures same { w.new ≡ record w.old { lists = w.new.lists } }
     ensures level { t.new.level ≡ t.old.level }
     ensures size { length t.new.stamps.items ≡ length t.old.stamps.items }
@@ -187,8 +193,10 @@ fn empty_queue(w: &mut Watches, t: &mut Trail) -> usize
 // Whether a literal of the clause is true at level 0.
 pub(crate) fn is_satisfied(clause: &[Lit], stamps: &[u32]) -> bool
     requires within { (l : ℕ) → Has (codes clause.now) l → l < length stamps.now }
-    ensures satisfied { IsTrue result → (l : ℕ) × (Has (codes clause.now) l × slice_index stamps.now l ≡ 1) }
-    ensures not_satisfied { result ≡ false → (l : ℕ) → Has (codes clause.now) l → slice_index stamps.now l ≢ 1 }
+    ensures satisfied { IsTrue result → (l : ℕ)
+        × (Has (codes clause.now) l × slice_index stamps.now l ≡ 1) }
+    ensures not_satisfied { result ≡ false → (l : ℕ) → Has (codes clause.now) l
+        → slice_index stamps.now l ≢ 1 }
 {
     for l in clause {
         let code = l.code() as usize;
@@ -205,8 +213,10 @@ fn refuted_slot(w: &Watches, t: &Trail) -> usize
     requires { IsSettled w.now t.now }
     ensures slot { result ≢ 0 → result < length w.now.kinds.items }
     ensures held { result ≢ 0 → IsHeld (kind_at w.now.kinds.items result) }
-    ensures refuted { result ≢ 0 → IsFalse t.now.stamps.items (slice_index_or (all_codes w.now.clauses.items) result []) }
-    ensures none { result ≡ 0 → IsFixed w.now.kinds.items (all_codes w.now.clauses.items) t.now.stamps.items false }
+    ensures refuted { result ≢ 0
+        → IsFalse t.now.stamps.items (slice_index_or (all_codes w.now.clauses.items) result []) }
+    ensures none { result ≡ 0
+        → IsFixed w.now.kinds.items (all_codes w.now.clauses.items) t.now.stamps.items false }
 {
     for slot in 1..w.kinds.len() {
         if let Kind::Fixed = w.kinds[slot] {
@@ -230,7 +240,8 @@ impl Watches {
         ensures kept { (id : ClauseId) → clause_of self.new id ≡ clause_of self.old id }
         ensures held { (id : ClauseId) → held_of self.new id ≡ held_of self.old id }
         ensures level { level_of trail.new ≡ level_of trail.old }
-        ensures literals { IsExtended (literals_of trail.old) (level_of trail.old) (literals_of trail.new) }
+        ensures literals { IsExtended (literals_of trail.old) (level_of trail.old)
+            (literals_of trail.new) }
         ensures rows { rows_of trail.new ≡ rows_of trail.old }
     {
         if self.refuted {

@@ -99,7 +99,8 @@ fn some(slot: u32) -> Option<usize>
 
 // The place of a name in the row, None where there is no room for it.
 fn place_of(blocks: &[Block], id: ClauseId) -> Option<usize>
-    ensures { MatchOption result ((block_at blocks.now id.pos).room ≤ id.part) (HasPlace blocks.now id) }
+    ensures { MatchOption result ((block_at blocks.now id.pos).room ≤ id.part)
+        (HasPlace blocks.now id) }
 {
     let pos = id.pos as usize;
     if blocks.len() <= pos {
@@ -161,8 +162,10 @@ fn widen(
     requires pos { pos < length blocks.old.items }
     requires count { (block_at blocks.old.items pos).room < count }
     requires small { count ≤ 2 ^ 32 }
-    requires within { (block_at blocks.old.items pos).first + (block_at blocks.old.items pos).room ≤ length row.old.items }
-    ensures widened { OnOk result (IsWidened blocks.old.items row.old.items pos count blocks.new.items row.new.items) }
+    requires within { (block_at blocks.old.items pos).first + (block_at blocks.old.items pos).room
+        ≤ length row.old.items }
+    ensures widened { OnOk result
+        (IsWidened blocks.old.items row.old.items pos count blocks.new.items row.new.items) }
     ensures same { OnErr result (blocks.new.items ≡ blocks.old.items) }
     ensures longer { OnErr result ((more : List ℕ) × (row.new.items ≡ row.old.items ++ more)) }
 {
@@ -189,7 +192,8 @@ fn make_place(
 ) -> Result<usize, AllocError>
     requires { AreBlocks blocks.old.items row.old.items }
     ensures blocks { AreBlocks blocks.new.items row.new.items }
-    ensures same { (q : ClauseId) → slot_in (blocks_of blocks.new.items row.new.items) q ≡ slot_in (blocks_of blocks.old.items row.old.items) q }
+    ensures same { (q : ClauseId) → slot_in (blocks_of blocks.new.items row.new.items) q
+        ≡ slot_in (blocks_of blocks.old.items row.old.items) q }
     ensures place { IfOk result (HasPlace blocks.new.items id) }
 {
     if let Some(place) = place_of(blocks.as_slice(), id) {

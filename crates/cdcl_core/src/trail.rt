@@ -83,7 +83,8 @@ impl Trail {
     pub fn place(&self, l: Lit) -> Option<usize>
         requires trail { IsConsistent self.now }
         requires places { KeepsPlaces self.now }
-        ensures { MatchOption result ((i : ℕ) → StandsAt (literals_of self.now) i l → ⊥) (λ i. StandsAt (literals_of self.now) i l) }
+        ensures { MatchOption result ((i : ℕ) → StandsAt (literals_of self.now) i l → ⊥)
+            (λ i. StandsAt (literals_of self.now) i l) }
     {
         let code = l.code() as usize;
         if stamp_of(self.stamps.as_slice(), code) == 0 {
@@ -95,7 +96,9 @@ impl Trail {
     /// Whether the literal is true, false (where its negation is true), or neither.
     pub fn value(&self, l: Lit) -> Option<bool>
         requires { IsConsistent self.now }
-        ensures { MatchOption result (IsOpen (literals_of self.now) (level_of self.now) l) (λ b. MatchBool b (IsTrueBy (literals_of self.now) (level_of self.now) l) (IsFalseBy (literals_of self.now) (level_of self.now) l)) }
+        ensures { MatchOption result (IsOpen (literals_of self.now) (level_of self.now) l)
+            (λ b. MatchBool b (IsTrueBy (literals_of self.now) (level_of self.now) l)
+            (IsFalseBy (literals_of self.now) (level_of self.now) l)) }
     {
         let code = l.code() as usize;
         if code < self.stamps.len() {
@@ -145,7 +148,9 @@ pub(crate) fn enqueue(t: &mut Trail, code: usize, slot: usize, reason: Option<Cl
     ensures stamps { t.new.stamps.items ≡ slice_set t.old.stamps.items code (t.old.level + 1) }
     ensures codes { t.new.codes.items ≡ slice_set t.old.codes.items t.old.len code }
     ensures reasons { t.new.reasons.items ≡ slice_set t.old.reasons.items t.old.len slot }
-    ensures rows { t.new.rows.items ≡ slice_set t.old.rows.items t.old.len (record { 0 = literal_of code; 1 = t.old.level; 2 = reason }) }
+    ensures rows { t.new.rows.items
+        ≡ slice_set t.old.rows.items t.old.len
+        (record { 0 = literal_of code; 1 = t.old.level; 2 = reason }) }
     ensures spots { t.new.spots.items ≡ slice_set t.old.spots.items (code / 2) t.old.len }
     ensures len { t.new.len ≡ t.old.len + 1 }
     ensures head { t.new.head ≡ t.old.head }

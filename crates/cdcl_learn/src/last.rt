@@ -33,7 +33,8 @@ pub fn final_clause(
     requires settled { IsSettled watches.now trail.now }
     requires clash { IsClash watches.now trail.now conflict }
     ensures chain { IfOk result (λ r. IsChain (clause_of watches.now) r.0 r.1.items) }
-    ensures against { IfOk result (λ r. (given : List Literal) → AreGiven given (literals_of trail.now) conflict → IsAgainst given r.0) }
+    ensures against { IfOk result (λ r. (given : List Literal)
+        → AreGiven given (literals_of trail.now) conflict → IsAgainst given r.0) }
 {
     match conflict {
         Clash::Held(id) => explain_all(alloc, watches, trail, trail.literals(), id),
@@ -54,7 +55,8 @@ fn explain_all(
     requires history { IsHistory (clause_of watches.now) rows.now }
     requires conflict { IsRefutedIn (clause_of watches.now) rows.now conflict }
     ensures chain { IfOk result (λ r. IsChain (clause_of watches.now) r.0 r.1.items) }
-    ensures against { IfOk result (λ r. (given : List Literal) → DecidesOnly given rows.now → IsAgainst given r.0) }
+    ensures against { IfOk result (λ r. (given : List Literal) → DecidesOnly given rows.now
+        → IsAgainst given r.0) }
 {
     let mut walk = Walk::start(alloc, watches, trail, rows, conflict)?;
     walk.explain(watches, trail, rows, rows.len(), true)?;
@@ -75,7 +77,8 @@ fn refute_at(
     requires within { place < length (literals_of trail.now) }
     requires opposite { literal_at (literals_of trail.now) place ≡ negated l }
     ensures chain { IfOk result (λ r. IsChain (clause_of watches.now) r.0 r.1.items) }
-    ensures against { IfOk result (λ r. (given : List Literal) → DecidesOnly given (literals_of trail.now) → Contains given l → IsAgainst given r.0) }
+    ensures against { IfOk result (λ r. (given : List Literal)
+        → DecidesOnly given (literals_of trail.now) → Contains given l → IsAgainst given r.0) }
 {
     let rows = trail.literals();
     match rows[place].2 {
@@ -98,7 +101,8 @@ fn refute(
     requires settled { IsSettled watches.now trail.now }
     requires refuted { IsFalseBy (literals_of trail.now) (level_of trail.now) l }
     ensures chain { IfOk result (λ r. IsChain (clause_of watches.now) r.0 r.1.items) }
-    ensures against { IfOk result (λ r. (given : List Literal) → DecidesOnly given (literals_of trail.now) → Contains given l → IsAgainst given r.0) }
+    ensures against { IfOk result (λ r. (given : List Literal)
+        → DecidesOnly given (literals_of trail.now) → Contains given l → IsAgainst given r.0) }
 {
     match trail.place(l.negated()) {
         Some(place) => refute_at(alloc, watches, trail, place, l),

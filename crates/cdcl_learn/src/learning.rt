@@ -17,7 +17,8 @@ use std::alloc::{AllocError, Global};
 // Whether there is a row before `end`, and the last one is of the level.
 fn ends_at(rows: &[Row], end: usize, level: u64) -> bool
     requires { end ≤ length rows.now }
-    ensures { MatchBool result ((0 < end) × (level_at rows.now (end - 1) ≡ level)) (0 < end → level_at rows.now (end - 1) ≢ level) }
+    ensures { MatchBool result ((0 < end) × (level_at rows.now (end - 1) ≡ level)) (0 < end
+        → level_at rows.now (end - 1) ≢ level) }
 {
     if end == 0 {
         return false;
@@ -39,7 +40,8 @@ fn find_unique(
     requires walk { IsWalk (clause_of watches.now) rows.now walk.old }
     requires rising { AreRising rows.now level }
     requires decided { AreDecidedFirst rows.now }
-    requires present { ((p : ℕ) → p < length rows.now → IsSet walk.old.marks p → level_at rows.now p < level) → ⊥ }
+    requires present { ((p : ℕ) → p < length rows.now → IsSet walk.old.marks p
+        → level_at rows.now p < level) → ⊥ }
     ensures walk { OnOk result (IsWalk (clause_of watches.now) rows.now walk.new) }
     ensures met { OnOk result (MeetsReasons rows.now walk.old.hints.items walk.new.hints.items) }
     ensures unique { IfOk result (λ place. IsUnique rows.now walk.new.marks level place) }
@@ -67,8 +69,11 @@ pub fn learn(
     requires above { 0 < level_of trail.now }
     requires conflict { IsConflict watches.now trail.now conflict }
     ensures chain { IfOk result (λ r. IsChain (clause_of watches.now) r.0 r.1.items) }
-    ensures good { IfOk result (λ r. IsGoodPut (clause_of watches.now) (held_of watches.now) (literals_of trail.now) (level_of trail.now) r.0 r.1.items) }
-    ensures among { IfOk result (λ r. AreRaised (literals_of trail.now) → (l : Literal) → Contains r.0 l → StandsIn (held_of watches.now) r.1.items l) }
+    ensures good { IfOk result
+        (λ r. IsGoodPut (clause_of watches.now) (held_of watches.now) (literals_of trail.now)
+        (level_of trail.now) r.0 r.1.items) }
+    ensures among { IfOk result (λ r. AreRaised (literals_of trail.now) → (l : Literal)
+        → Contains r.0 l → StandsIn (held_of watches.now) r.1.items l) }
     ensures lower { IfOk result (λ r. r.2 < level_of trail.now) }
     ensures unit { IfOk result (λ r. IsUnitAfter (literals_of trail.now) r.2 r.0) }
 {

@@ -68,7 +68,8 @@ fn conflict(
     requires decided { AreDecidedFirst (literals_of trail.old) }
     ensures settled { IsSettled watches.new trail.new }
     ensures decided { OnOk result (AreDecidedFirst (literals_of trail.new)) }
-    ensures conflict { IfOk result (λ found. IfSome found (λ id. IsConflict watches.new trail.new id)) }
+    ensures conflict { IfOk result
+        (λ found. IfSome found (λ id. IsConflict watches.new trail.new id)) }
 {
     hold(alloc, watches, trail, 1, &[no(5), yes(2)])?;
     hold(alloc, watches, trail, 2, &[no(2), no(1), yes(3)])?;

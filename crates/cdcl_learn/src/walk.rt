@@ -28,7 +28,8 @@ pub(crate) struct Walk {
 
 // Whether the literal stands at a place.
 fn stands_at(rows: &[Row], place: usize, l: Lit) -> bool
-    ensures { MatchBool result ((place < length rows.now) × (literal_at rows.now place ≡ l)) (place < length rows.now → literal_at rows.now place ≢ l) }
+    ensures { MatchBool result ((place < length rows.now) × (literal_at rows.now place ≡ l))
+        (place < length rows.now → literal_at rows.now place ≢ l) }
 {
     if place >= rows.len() {
         return false;
@@ -38,7 +39,8 @@ fn stands_at(rows: &[Row], place: usize, l: Lit) -> bool
 
 // The last place, if the literal stands there.
 fn last_place(rows: &[Row], l: Lit) -> Option<usize>
-    ensures { MatchOption result ((k : ℕ) → k + 1 ≡ length rows.now → literal_at rows.now k ≢ l) (λ k. (k < length rows.now) × (literal_at rows.now k ≡ l)) }
+    ensures { MatchOption result ((k : ℕ) → k + 1 ≡ length rows.now → literal_at rows.now k ≢ l)
+        (λ k. (k < length rows.now) × (literal_at rows.now k ≡ l)) }
 {
     let last = rows.len().saturating_sub(1);
     if stands_at(rows, last, l) {
@@ -52,7 +54,8 @@ fn place_of(trail: &Trail, rows: &[Row], l: Lit) -> Option<usize>
     requires trail { IsConsistent trail.now }
     requires places { KeepsPlaces trail.now }
     requires front { IsFrontOf (literals_of trail.now) rows.now }
-    ensures { MatchOption result ((k : ℕ) → k < length rows.now → literal_at rows.now k ≢ l) (λ k. (k < length rows.now) × (literal_at rows.now k ≡ l)) }
+    ensures { MatchOption result ((k : ℕ) → k < length rows.now → literal_at rows.now k ≢ l)
+        (λ k. (k < length rows.now) × (literal_at rows.now k ≡ l)) }
 {
     let Some(place) = trail.place(l) else {
         return last_place(rows, l);
@@ -68,7 +71,8 @@ fn mark(trail: &Trail, marks: &mut Marks, clause: &[Lit], rows: &[Row])
     requires trail { IsConsistent trail.now }
     requires places { KeepsPlaces trail.now }
     requires front { IsFrontOf (literals_of trail.now) rows.now }
-    requires once { (i k : ℕ) → i < length rows.now → k < length rows.now → literal_at rows.now i ≡ literal_at rows.now k → i ≡ k }
+    requires once { (i k : ℕ) → i < length rows.now → k < length rows.now
+        → literal_at rows.now i ≡ literal_at rows.now k → i ≡ k }
     requires size { length marks.old ≡ length rows.now }
     ensures { IsMarked rows.now clause.now marks.old marks.new }
 {
@@ -107,7 +111,9 @@ impl Walk {
         requires conflict { IsRefutedIn (clause_of watches.now) rows.now conflict }
         ensures walk { IfOk result (λ w. IsWalk (clause_of watches.now) rows.now w) }
         ensures first { IfOk result (λ w. w.hints.items ≡ conflict ∷ []) }
-        ensures marked { IfOk result (λ w. (c : List Literal) → clause_of watches.now conflict ≡ Some c → (p : ℕ) → p < length rows.now → Contains c (negated (literal_at rows.now p)) → IsSet w.marks p) }
+        ensures marked { IfOk result (λ w. (c : List Literal)
+            → clause_of watches.now conflict ≡ Some c → (p : ℕ) → p < length rows.now
+            → Contains c (negated (literal_at rows.now p)) → IsSet w.marks p) }
     {
         let mut marks = Marks::new(alloc, rows.len())?;
         let mut hints = Vec::with_capacity(alloc, 64)?;
@@ -140,7 +146,8 @@ impl Walk {
         requires forced { reason_at rows.now i ≢ None }
         ensures walk { OnOk result (IsWalk (clause_of watches.now) rows.now self.new) }
         ensures resolved { OnOk result (IsResolved i self.old.marks self.new.marks) }
-        ensures met { OnOk result (MeetsReasons rows.now self.old.hints.items self.new.hints.items) }
+        ensures met { OnOk result
+            (MeetsReasons rows.now self.old.hints.items self.new.hints.items) }
     {
         let Some(id) = rows[i].2 else {
             return Ok(());
@@ -204,8 +211,10 @@ impl Walk {
         requires within { i < length rows.now }
         ensures walk { OnOk result (IsWalk (clause_of watches.now) rows.now self.new) }
         ensures explained { OnOk result (IsExplained (i + 1) self.old.marks self.new.marks) }
-        ensures met { OnOk result (MeetsReasons rows.now self.old.hints.items self.new.hints.items) }
-        ensures whole { OnOk result (((IsTrue whole) ⊎ (level_at rows.now i ≡ 0)) → IsSet self.new.marks i → reason_at rows.now i ≡ None) }
+        ensures met { OnOk result
+            (MeetsReasons rows.now self.old.hints.items self.new.hints.items) }
+        ensures whole { OnOk result (((IsTrue whole) ⊎ (level_at rows.now i ≡ 0))
+            → IsSet self.new.marks i → reason_at rows.now i ≡ None) }
     {
         if !self.marks.has(i) {
             return Ok(());
@@ -236,8 +245,11 @@ impl Walk {
         requires within { end ≤ length rows.now }
         ensures walk { OnOk result (IsWalk (clause_of watches.now) rows.now self.new) }
         ensures explained { OnOk result (IsExplained end self.old.marks self.new.marks) }
-        ensures met { OnOk result (MeetsReasons rows.now self.old.hints.items self.new.hints.items) }
-        ensures whole { OnOk result ((p : ℕ) → p < end → ((IsTrue whole) ⊎ (level_at rows.now p ≡ 0)) → IsSet self.new.marks p → reason_at rows.now p ≡ None) }
+        ensures met { OnOk result
+            (MeetsReasons rows.now self.old.hints.items self.new.hints.items) }
+        ensures whole { OnOk result ((p : ℕ) → p < end
+            → ((IsTrue whole) ⊎ (level_at rows.now p ≡ 0)) → IsSet self.new.marks p
+            → reason_at rows.now p ≡ None) }
     {
         self.minimizer.keep_levels(
             Marked {
@@ -258,8 +270,11 @@ impl Walk {
     /// and the scan for a literal to watch begins with them.
     pub(crate) fn clause(&self, alloc: Global, rows: &[Row]) -> Result<Clause, AllocError>
         requires { length self.now.marks ≡ length rows.now }
-        ensures each { IfOk result (λ c. (p : ℕ) → p < length rows.now → IsSet self.now.marks p → Contains c (negated (literal_at rows.now p))) }
-        ensures only { IfOk result (λ c. (l : Literal) → Contains c l → (p : ℕ) × ((p < length rows.now) × (IsSet self.now.marks p × (l ≡ negated (literal_at rows.now p))))) }
+        ensures each { IfOk result (λ c. (p : ℕ) → p < length rows.now → IsSet self.now.marks p
+            → Contains c (negated (literal_at rows.now p))) }
+        ensures only { IfOk result (λ c. (l : Literal) → Contains c l → (p : ℕ)
+            × ((p < length rows.now)
+            × (IsSet self.now.marks p × (l ≡ negated (literal_at rows.now p))))) }
     {
         let mut literals: Vec<Lit> = Vec::with_capacity(alloc, count(&self.marks, rows.len()))?;
         let mut i = self.top(rows.len());

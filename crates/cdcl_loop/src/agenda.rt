@@ -30,8 +30,11 @@ fn first_open(list: &VariableList, start: usize, trail: &Trail) -> usize
     requires consistent { IsConsistent trail.now }
     requires start { start ≤ length list.now }
     ensures end { result ≤ length list.now }
-    ensures valued { (k : ℕ) → start ≤ k → k < result → IsValuedBy (literals_of trail.now) (level_of trail.now) (slice_index list.now k) }
-    ensures unset { (l : Literal) → result < length list.now → l.variable ≡ slice_index list.now result → IsOpen (literals_of trail.now) (level_of trail.now) l }
+    ensures valued { (k : ℕ) → start ≤ k → k < result
+        → IsValuedBy (literals_of trail.now) (level_of trail.now) (slice_index list.now k) }
+    ensures unset { (l : Literal) → result < length list.now
+        → l.variable ≡ slice_index list.now result
+        → IsOpen (literals_of trail.now) (level_of trail.now) l }
 {
     let variables = list.as_slice();
     'places: for place in start..variables.len() {
@@ -79,7 +82,8 @@ impl Agenda {
     pub(crate) fn add(&mut self, variable: u64) -> Result<(), AllocError>
         requires { IsVariable variable }
         ensures listed { OnOk result (IsListed self.old.list variable self.new.list) }
-        ensures scanned { (rows : List Row) (level : ℕ) → IsScanned self.old rows level → IsScanned self.new rows level }
+        ensures scanned { (rows : List Row) (level : ℕ) → IsScanned self.old rows level
+            → IsScanned self.new rows level }
     {
         self.list.add(variable)?;
         Ok(())
@@ -94,7 +98,8 @@ impl Agenda {
 
     /// Whether the variable is listed.
     pub(crate) fn has(&self, variable: u64) -> bool
-        ensures { MatchBool result (Contains self.now.list variable) (Contains self.now.list variable → ⊥) }
+        ensures { MatchBool result (Contains self.now.list variable)
+            (Contains self.now.list variable → ⊥) }
     {
         self.list.has(variable)
     }
@@ -102,7 +107,8 @@ impl Agenda {
     /// Keeps the place of this level, as the next one begins.
     pub(crate) fn mark(&mut self) -> Result<(), AllocError>
         ensures list { self.new.list ≡ self.old.list }
-        ensures scanned { OnOk result ((rows : List Row) (level : ℕ) → IsScanned self.old rows level → IsScanned self.new rows (level + 1)) }
+        ensures scanned { OnOk result ((rows : List Row) (level : ℕ) → IsScanned self.old rows level
+            → IsScanned self.new rows (level + 1)) }
     {
         self.marks.push(self.cursor)?;
         Ok(())
@@ -111,7 +117,8 @@ impl Agenda {
     /// Goes back to the place of a lower level.
     pub(crate) fn go_back(&mut self, level: u64)
         ensures list { self.new.list ≡ self.old.list }
-        ensures scanned { (rows : List Row) (top : ℕ) → level ≤ top → IsScanned self.old rows top → IsScanned self.new (filter (λ r. nat_le r.1 level) rows) level }
+        ensures scanned { (rows : List Row) (top : ℕ) → level ≤ top → IsScanned self.old rows top
+            → IsScanned self.new (filter (λ r. nat_le r.1 level) rows) level }
     {
         let Some(mark) = self.marks.get(level as usize) else {
             return;
@@ -126,8 +133,10 @@ impl Agenda {
         requires scanned { IsScanned self.old (literals_of trail.now) (level_of trail.now) }
         ensures list { self.new.list ≡ self.old.list }
         ensures scanned { IsScanned self.new (literals_of trail.now) (level_of trail.now) }
-        ensures next { MatchOption result (AreValued self.old.list (literals_of trail.now) (level_of trail.now))
-            (λ l. Contains self.old.list l.variable × IsOpen (literals_of trail.now) (level_of trail.now) l) }
+        ensures next { MatchOption result
+            (AreValued self.old.list (literals_of trail.now) (level_of trail.now))
+            (λ l. Contains self.old.list l.variable
+            × IsOpen (literals_of trail.now) (level_of trail.now) l) }
     {
         let place = first_open(&self.list, self.cursor, trail);
         self.cursor = place;

@@ -277,7 +277,8 @@ impl Choices {
     /// An open literal of a listed variable that was bumped, None where there is none.
     pub(crate) fn pick(&mut self, list: &VariableList, trail: &Trail) -> Option<Lit>
         requires consistent { IsConsistent trail.now }
-        ensures { IfSome result (λ l. Contains list.now l.variable × IsOpen (literals_of trail.now) (level_of trail.now) l) }
+        ensures { IfSome result (λ l. Contains list.now l.variable
+            × IsOpen (literals_of trail.now) (level_of trail.now) l) }
     {
         for _ in 0..u64::MAX {
             let Some(variable) = self.order.pop() else {

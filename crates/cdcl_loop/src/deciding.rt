@@ -23,8 +23,10 @@ fn open_literal(choices: &mut Choices, agenda: &mut Agenda, trail: &Trail) -> Op
     requires scanned { IsScanned agenda.old (literals_of trail.now) (level_of trail.now) }
     ensures list { agenda.new.list ≡ agenda.old.list }
     ensures scanned { IsScanned agenda.new (literals_of trail.now) (level_of trail.now) }
-    ensures next { MatchOption result (AreValued agenda.old.list (literals_of trail.now) (level_of trail.now))
-        (λ l. Contains agenda.old.list l.variable × IsOpen (literals_of trail.now) (level_of trail.now) l) }
+    ensures next { MatchOption result
+        (AreValued agenda.old.list (literals_of trail.now) (level_of trail.now))
+        (λ l. Contains agenda.old.list l.variable
+        × IsOpen (literals_of trail.now) (level_of trail.now) l) }
 {
     match choices.pick(&agenda.list, trail) {
         Some(literal) => Some(literal),
@@ -44,8 +46,11 @@ impl Engine {
         ensures task { IsSameTask self.old self.new }
         ensures store { IsSameStore self.old.watches self.new.watches }
         ensures assuming { OnOk result (IsAssuming self.old self.new literal) }
-        ensures clash { IfOk result (λ o. MatchOption o (IsPropagated self.new.watches self.new.trail × IsAtRest self.new.watches self.new.trail)
-            (λ clash. IsClash self.new.watches self.new.trail clash × AreGiven self.old.given.items (literals_of self.new.trail) clash)) }
+        ensures clash { IfOk result
+            (λ o. MatchOption o (IsPropagated self.new.watches self.new.trail
+            × IsAtRest self.new.watches self.new.trail)
+            (λ clash. IsClash self.new.watches self.new.trail clash
+            × AreGiven self.old.given.items (literals_of self.new.trail) clash)) }
     {
         self.agenda.mark()?;
         self.watches
@@ -71,8 +76,11 @@ impl Engine {
         ensures task { IsSameTask self.old self.new }
         ensures store { IsSameStore self.old.watches self.new.watches }
         ensures clash { IfOk result (λ o. MatchOption o
-            (IsAssuming self.old self.new literal × IsPropagated self.new.watches self.new.trail × IsAtRest self.new.watches self.new.trail)
-            (λ clash. IsEngine self.new × IsOnCourse self.new × IsClash self.new.watches self.new.trail clash × AreGiven self.old.given.items (literals_of self.new.trail) clash)) }
+            (IsAssuming self.old self.new literal × IsPropagated self.new.watches self.new.trail
+            × IsAtRest self.new.watches self.new.trail)
+            (λ clash. IsEngine self.new × IsOnCourse self.new
+            × IsClash self.new.watches self.new.trail clash
+            × AreGiven self.old.given.items (literals_of self.new.trail) clash)) }
     {
         match self.trail.value(literal) {
             Some(true) => Ok(None),
@@ -91,8 +99,10 @@ impl Engine {
         ensures store { IsSameStore self.old.watches self.new.watches }
         ensures engine { OnOk result (IsEngine self.new) }
         ensures course { OnOk result (IsOnCourse self.new) }
-        ensures clash { IfOk result (λ o. MatchOption o (IsAssumed self.new.watches self.new.trail self.old.given.items)
-            (λ clash. IsClash self.new.watches self.new.trail clash × AreGiven self.old.given.items (literals_of self.new.trail) clash)) }
+        ensures clash { IfOk result
+            (λ o. MatchOption o (IsAssumed self.new.watches self.new.trail self.old.given.items)
+            (λ clash. IsClash self.new.watches self.new.trail clash
+            × AreGiven self.old.given.items (literals_of self.new.trail) clash)) }
     {
         if self.base < self.trail.level() {
             return Ok(None);
@@ -116,7 +126,10 @@ impl Engine {
         ensures engine { OnOk result (IsEngine self.new) }
         ensures course { OnOk result (IsOnCourse self.new) }
         ensures decided { IfOk result (λ more. more ≡ true → HasDecided self.old self.new) }
-        ensures none { IfOk result (λ more. more ≡ false → (self.new.watches ≡ self.old.watches) × (self.new.trail ≡ self.old.trail) × AreValued self.old.agenda.list (literals_of self.old.trail) (level_of self.old.trail)) }
+        ensures none { IfOk result (λ more. more ≡ false → (self.new.watches ≡ self.old.watches)
+            × (self.new.trail ≡ self.old.trail)
+            × AreValued self.old.agenda.list (literals_of self.old.trail)
+            (level_of self.old.trail)) }
     {
         let Some(literal) = open_literal(&mut self.choices, &mut self.agenda, &self.trail) else {
             return Ok(false);

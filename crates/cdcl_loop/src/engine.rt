@@ -54,7 +54,8 @@ impl Engine {
     /// A variable is listed, behind those that are, where it is not among them.
     pub fn list(&mut self, variable: u64) -> Result<(), AllocError>
         requires { IsVariable variable }
-        ensures same { self.new ≡ record self.old { choices = self.new.choices; agenda = self.new.agenda } }
+        ensures same { self.new
+            ≡ record self.old { choices = self.new.choices; agenda = self.new.agenda } }
         ensures listed { OnOk result (IsListed self.old.agenda.list variable self.new.agenda.list) }
         ensures course { IsOnCourse self.old → IsOnCourse self.new }
     {
@@ -72,7 +73,8 @@ impl Engine {
 
     /// Whether the variable is listed.
     pub fn lists(&self, variable: u64) -> bool
-        ensures { MatchBool result (Contains self.now.agenda.list variable) (Contains self.now.agenda.list variable → ⊥) }
+        ensures { MatchBool result (Contains self.now.agenda.list variable)
+            (Contains self.now.agenda.list variable → ⊥) }
     {
         self.agenda.has(variable)
     }
@@ -117,11 +119,18 @@ impl Engine {
     pub fn go_back(&mut self, level: u64)
         requires engine { IsEngine self.old }
         requires lower { level ≤ level_of self.old.trail }
-        ensures same { self.new ≡ record self.old { trail = self.new.trail; choices = self.new.choices; agenda = self.new.agenda; base = self.new.base } }
+        ensures same { self.new
+            ≡ record self.old {
+              trail = self.new.trail;
+              choices = self.new.choices;
+              agenda = self.new.agenda;
+              base = self.new.base;
+            } }
         ensures task { IsSameTask self.old self.new }
         ensures engine { IsEngine self.new }
         ensures level { level_of self.new.trail ≡ level }
-        ensures literals { literals_of self.new.trail ≡ filter (λ r. nat_le r.1 level) (literals_of self.old.trail) }
+        ensures literals { literals_of self.new.trail
+            ≡ filter (λ r. nat_le r.1 level) (literals_of self.old.trail) }
         ensures course { IsOnCourse self.old → IsOnCourse self.new }
     {
         self.choices.take_back(self.trail.literals(), level);
@@ -170,11 +179,19 @@ impl Engine {
     pub fn restart(&mut self)
         requires engine { IsEngine self.old }
         requires course { IsOnCourse self.old }
-        ensures same { self.new ≡ record self.old { trail = self.new.trail; choices = self.new.choices; agenda = self.new.agenda; base = self.new.base } }
+        ensures same { self.new
+            ≡ record self.old {
+              trail = self.new.trail;
+              choices = self.new.choices;
+              agenda = self.new.agenda;
+              base = self.new.base;
+            } }
         ensures task { IsSameTask self.old self.new }
         ensures engine { IsEngine self.new }
         ensures course { IsOnCourse self.new }
-        ensures back { (self.new.trail ≡ self.old.trail) ⊎ (literals_of self.new.trail ≡ filter (λ r. nat_le r.1 self.old.base) (literals_of self.old.trail)) }
+        ensures back { (self.new.trail ≡ self.old.trail)
+            ⊎ (literals_of self.new.trail
+            ≡ filter (λ r. nat_le r.1 self.old.base) (literals_of self.old.trail)) }
     {
         if self.choices.restarts_now() {
             let base = self.base;
@@ -189,9 +206,12 @@ impl Engine {
         ensures store { IsSameStore self.old.watches self.new.watches }
         ensures engine { IsEngine self.new }
         ensures course { IsOnCourse self.old → IsOnCourse self.new }
-        ensures literals { IsExtended (literals_of self.old.trail) (level_of self.old.trail) (literals_of self.new.trail) }
+        ensures literals { IsExtended (literals_of self.old.trail) (level_of self.old.trail)
+            (literals_of self.new.trail) }
         ensures level { level_of self.new.trail ≡ level_of self.old.trail }
-        ensures rest { MatchOption result (IsPropagated self.new.watches self.new.trail × IsAtRest self.new.watches self.new.trail) (IsConflict self.new.watches self.new.trail) }
+        ensures rest { MatchOption result (IsPropagated self.new.watches self.new.trail
+            × IsAtRest self.new.watches self.new.trail)
+            (IsConflict self.new.watches self.new.trail) }
     {
         let conflict = self.watches.propagate(&mut self.trail);
         self.choices.see(self.trail.literals());

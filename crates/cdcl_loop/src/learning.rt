@@ -19,7 +19,8 @@ impl Engine {
         requires engine { IsEngine self.now }
         requires clash { IsClash self.now.watches self.now.trail clash }
         ensures chain { IfOk result (λ r. IsChain (clause_of self.now.watches) r.0 r.1.items) }
-        ensures against { IfOk result (λ r. (given : List Literal) → AreGiven given (literals_of self.now.trail) clash → IsAgainst given r.0) }
+        ensures against { IfOk result (λ r. (given : List Literal)
+            → AreGiven given (literals_of self.now.trail) clash → IsAgainst given r.0) }
     {
         final_clause(self.alloc, &self.watches, &self.trail, clash)
     }
@@ -32,8 +33,11 @@ impl Engine {
         requires above { 0 < level_of self.old.trail }
         ensures same { self.new ≡ record self.old { choices = self.new.choices } }
         ensures chain { IfOk result (λ r. IsChain (clause_of self.old.watches) r.0 r.1.items) }
-        ensures good { IfOk result (λ r. IsGoodPut (clause_of self.old.watches) (held_of self.old.watches) (literals_of self.old.trail) (level_of self.old.trail) r.0 r.1.items) }
-        ensures among { IfOk result (λ r. (l : Literal) → Contains r.0 l → StandsIn (held_of self.old.watches) r.1.items l) }
+        ensures good { IfOk result
+            (λ r. IsGoodPut (clause_of self.old.watches) (held_of self.old.watches)
+            (literals_of self.old.trail) (level_of self.old.trail) r.0 r.1.items) }
+        ensures among { IfOk result (λ r. (l : Literal) → Contains r.0 l
+            → StandsIn (held_of self.old.watches) r.1.items l) }
         ensures lower { IfOk result (λ r. r.2 < level_of self.old.trail) }
         ensures unit { IfOk result (λ r. IsUnitAfter (literals_of self.old.trail) r.2 r.0) }
     {
@@ -59,10 +63,15 @@ impl Engine {
         ensures engine { OnOk result (IsEngine self.new) }
         ensures course { OnOk result (IsOnCourse self.old → IsOnCourse self.new) }
         ensures level { OnOk result (level_of self.new.trail ≡ level) }
-        ensures literals { OnOk result (IsAdded (filter (λ r. nat_le r.1 level) (literals_of self.old.trail)) level (record { pos = at; part = 0 }) clause (literals_of self.new.trail)) }
-        ensures kept { OnOk result (clause_of self.new.watches (record { pos = at; part = 0 }) ≡ Some clause) }
-        ensures held { OnOk result (held_of self.new.watches (record { pos = at; part = 0 }) ≡ Some clause) }
-        ensures others { IsSameBut (record { pos = at; part = 0 }) self.old.watches self.new.watches }
+        ensures literals { OnOk result
+            (IsAdded (filter (λ r. nat_le r.1 level) (literals_of self.old.trail)) level
+            (record { pos = at; part = 0 }) clause (literals_of self.new.trail)) }
+        ensures kept { OnOk result (clause_of self.new.watches (record { pos = at; part = 0 })
+            ≡ Some clause) }
+        ensures held { OnOk result (held_of self.new.watches (record { pos = at; part = 0 })
+            ≡ Some clause) }
+        ensures others { IsSameBut (record { pos = at; part = 0 }) self.old.watches
+            self.new.watches }
     {
         self.choices.name(at)?;
         self.go_back(level);
@@ -79,11 +88,18 @@ impl Engine {
         ensures task { IsSameTask self.old self.new }
         ensures engine { OnOk result (IsEngine self.new) }
         ensures course { OnOk result (IsOnCourse self.old → IsOnCourse self.new) }
-        ensures literals { OnOk result (IsAdded (filter (λ r. nat_le r.1 (level_of self.new.trail)) (literals_of self.old.trail)) (level_of self.new.trail) (record { pos = at; part = 0 }) clause (literals_of self.new.trail)) }
-        ensures level { OnOk result (level_of self.new.trail < level_of self.old.trail → RestsBy (literals_of self.old.trail) (level_of self.new.trail) clause → ⊥) }
-        ensures kept { OnOk result (clause_of self.new.watches (record { pos = at; part = 0 }) ≡ Some clause) }
-        ensures held { OnOk result (held_of self.new.watches (record { pos = at; part = 0 }) ≡ Some clause) }
-        ensures others { IsSameBut (record { pos = at; part = 0 }) self.old.watches self.new.watches }
+        ensures literals { OnOk result
+            (IsAdded (filter (λ r. nat_le r.1 (level_of self.new.trail))
+            (literals_of self.old.trail)) (level_of self.new.trail) (record { pos = at; part = 0 })
+            clause (literals_of self.new.trail)) }
+        ensures level { OnOk result (level_of self.new.trail < level_of self.old.trail
+            → RestsBy (literals_of self.old.trail) (level_of self.new.trail) clause → ⊥) }
+        ensures kept { OnOk result (clause_of self.new.watches (record { pos = at; part = 0 })
+            ≡ Some clause) }
+        ensures held { OnOk result (held_of self.new.watches (record { pos = at; part = 0 })
+            ≡ Some clause) }
+        ensures others { IsSameBut (record { pos = at; part = 0 }) self.old.watches
+            self.new.watches }
     {
         let level = self.watches.level_for(&self.trail, &clause);
         self.choices.take(at, clause.literals().len())?;
@@ -98,7 +114,9 @@ impl Engine {
         requires engine { IsEngine self.old }
         ensures same { self.new ≡ record self.old { watches = self.new.watches } }
         ensures engine { IsEngine self.new }
-        ensures dropped { MatchBool result (IsIdle self.old id × (clause_of self.new.watches id ≡ None)) ((IsIdle self.old id → ⊥) × (self.new ≡ self.old)) }
+        ensures dropped { MatchBool result (IsIdle self.old id
+            × (clause_of self.new.watches id ≡ None)) ((IsIdle self.old id → ⊥)
+            × (self.new ≡ self.old)) }
         ensures others { IsSameBut id self.old.watches self.new.watches }
     {
         let Some(_) = self.watches.clause(id) else {

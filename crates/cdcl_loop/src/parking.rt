@@ -13,7 +13,8 @@ use std::alloc::AllocError;
 impl Engine {
     /// Whether a clause of this name is held.
     pub fn holds(&self, id: ClauseId) -> bool
-        ensures { MatchBool result (IsSome (held_of self.now.watches id)) (held_of self.now.watches id ≡ None) }
+        ensures { MatchBool result (IsSome (held_of self.now.watches id))
+            (held_of self.now.watches id ≡ None) }
     {
         self.watches.holds(id)
     }
@@ -22,7 +23,8 @@ impl Engine {
     pub fn store(&mut self, id: ClauseId, clause: Clause) -> Result<(), AllocError>
         requires engine { IsEngine self.old }
         requires fresh { clause_of self.old.watches id ≡ None }
-        ensures same { self.new ≡ record self.old { watches = self.new.watches; trail = self.new.trail } }
+        ensures same { self.new
+            ≡ record self.old { watches = self.new.watches; trail = self.new.trail } }
         ensures engine { IsEngine self.new }
         ensures course { IsOnCourse self.old → IsOnCourse self.new }
         ensures literals { literals_of self.new.trail ≡ literals_of self.old.trail }
@@ -39,14 +41,18 @@ impl Engine {
     pub fn wake(&mut self, id: ClauseId)
         requires engine { IsEngine self.old }
         requires level { level_of self.old.trail ≡ 0 }
-        ensures same { self.new ≡ record self.old { watches = self.new.watches; trail = self.new.trail; choices = self.new.choices } }
+        ensures same { self.new
+            ≡ record self.old
+            { watches = self.new.watches; trail = self.new.trail; choices = self.new.choices } }
         ensures engine { IsEngine self.new }
         ensures course { IsOnCourse self.old → IsOnCourse self.new }
         ensures literals { IsExtended (literals_of self.old.trail) 0 (literals_of self.new.trail) }
         ensures level { level_of self.new.trail ≡ 0 }
         ensures held { held_of self.new.watches id ≡ clause_of self.old.watches id }
-        ensures kept { (q : ClauseId) → clause_of self.new.watches q ≡ clause_of self.old.watches q }
-        ensures others { (q : ClauseId) → q ≢ id → held_of self.new.watches q ≡ held_of self.old.watches q }
+        ensures kept { (q : ClauseId)
+            → clause_of self.new.watches q ≡ clause_of self.old.watches q }
+        ensures others { (q : ClauseId) → q ≢ id
+            → held_of self.new.watches q ≡ held_of self.old.watches q }
     {
         self.watches.wake(&mut self.trail, id);
         self.choices.see(self.trail.literals());
@@ -59,8 +65,10 @@ impl Engine {
         ensures same { self.new ≡ record self.old { watches = self.new.watches } }
         ensures engine { IsEngine self.new }
         ensures parked { held_of self.new.watches id ≡ None }
-        ensures kept { (q : ClauseId) → clause_of self.new.watches q ≡ clause_of self.old.watches q }
-        ensures others { (q : ClauseId) → q ≢ id → held_of self.new.watches q ≡ held_of self.old.watches q }
+        ensures kept { (q : ClauseId)
+            → clause_of self.new.watches q ≡ clause_of self.old.watches q }
+        ensures others { (q : ClauseId) → q ≢ id
+            → held_of self.new.watches q ≡ held_of self.old.watches q }
     {
         self.watches.park(&self.trail, id);
     }
@@ -72,7 +80,8 @@ impl Engine {
         ensures same { self.new ≡ record self.old { watches = self.new.watches } }
         ensures engine { IsEngine self.new }
         ensures parked { (q : ClauseId) → held_of self.new.watches q ≡ None }
-        ensures kept { (q : ClauseId) → clause_of self.new.watches q ≡ clause_of self.old.watches q }
+        ensures kept { (q : ClauseId)
+            → clause_of self.new.watches q ≡ clause_of self.old.watches q }
     {
         self.watches.park_all(&self.trail);
     }

@@ -96,7 +96,8 @@ pub(crate) fn assume(engine: &mut Engine) -> Result<(), AllocError>
     requires course { IsOnCourse engine.old }
     ensures engine { OnOk result (IsEngine engine.new) }
     ensures course { OnOk result (IsOnCourse engine.new) }
-    ensures assumed { OnOk result (IsAssumed engine.new.watches engine.new.trail engine.new.given.items) }
+    ensures assumed { OnOk result
+        (IsAssumed engine.new.watches engine.new.trail engine.new.given.items) }
 {
     if let Some(_) = engine.propagate() {
         return Err(AllocError);

@@ -25,7 +25,9 @@ pub fn cube_variables(
     reached: &mut Reached,
 ) -> Result<Vec<u64>, AllocError>
     requires { Stands state.now.terms.nodes log.now }
-    ensures variables { IfOk result (λ v. v.items ≡ cube_variables (limits_of limits) state.now state.now.terms.nodes log.now.entries) }
+    ensures variables { IfOk result
+        (λ v. v.items
+        ≡ cube_variables (limits_of limits) state.now state.now.terms.nodes log.now.entries) }
     ensures rise { IfOk result (λ v. Rise 2 log.now.next v.items) }
     ensures each { IfOk result (λ v. AreVariables v.items) }
 {

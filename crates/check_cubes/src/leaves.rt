@@ -34,7 +34,8 @@ fn is_split_by(op: &Op) -> bool
 /// Appends the variables of literals.
 fn push_variables(literals: &[Lit], to: &mut Vec<u64>) -> Result<(), AllocError>
     requires each { AreVariables to.old.items }
-    ensures variables { OnOk result (to.new.items ≡ to.old.items ++ map (λ (l : Literal). l.variable) literals.now) }
+    ensures variables { OnOk result
+        (to.new.items ≡ to.old.items ++ map (λ (l : Literal). l.variable) literals.now) }
     ensures each { OnOk result (AreVariables to.new.items) }
 {
     'literals: for literal in literals {
@@ -52,7 +53,8 @@ fn push_declared(
 ) -> Result<(), AllocError>
     requires held { term < length terms.now.nodes }
     requires each { AreVariables to.old.items }
-    ensures variables { OnOk result (to.new.items ≡ to.old.items ++ declared_variables terms.now.nodes log.now.bits term) }
+    ensures variables { OnOk result
+        (to.new.items ≡ to.old.items ++ declared_variables terms.now.nodes log.now.bits term) }
     ensures each { OnOk result (AreVariables to.new.items) }
 {
     if !is_split_by(&terms.node(term).op) {
@@ -72,7 +74,8 @@ pub(crate) fn declared_variables(
     reached: &[TermId],
 ) -> Result<Vec<u64>, AllocError>
     requires held { All (λ t. t < length terms.now.nodes) reached.now }
-    ensures variables { IfOk result (λ v. v.items ≡ flat_map (declared_variables terms.now.nodes log.now.bits) reached.now) }
+    ensures variables { IfOk result
+        (λ v. v.items ≡ flat_map (declared_variables terms.now.nodes log.now.bits) reached.now) }
     ensures each { IfOk result (λ v. AreVariables v.items) }
 {
     let mut variables = Vec::new(alloc);

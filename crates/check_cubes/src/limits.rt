@@ -18,7 +18,8 @@ impl Limits {
     pub fn within(cubes: u64, budget: u64) -> Option<Limits>
         ensures { MatchOption result
             (AreLimits (record { cubes = cubes; budget = budget }) → ⊥)
-            (λ l. AreLimits (limits_of l) × (limits_of l ≡ record { cubes = cubes; budget = budget })) }
+            (λ l. AreLimits (limits_of l)
+            × (limits_of l ≡ record { cubes = cubes; budget = budget })) }
     {
         if cubes > 10 || budget > 1_000_000_000 {
             return None;

@@ -44,7 +44,8 @@ fn is_added_at(log: &Log, at: Pos) -> bool
 /// Whether all steps from a position on are such.
 fn are_added(log: &Log, start: Pos) -> bool
     requires { start ≤ suc (length log.now.entries) }
-    ensures { MatchBool result (AreAddedFrom log.now.entries start) (AreAddedFrom log.now.entries start → ⊥) }
+    ensures { MatchBool result (AreAddedFrom log.now.entries start)
+        (AreAddedFrom log.now.entries start → ⊥) }
 {
     'steps: for at in start..log.len() {
         if !is_added_at(log, at) {
@@ -57,7 +58,9 @@ fn are_added(log: &Log, start: Pos) -> bool
 /// Appends the selectors of assertions, and tells whether each has one.
 fn push_selectors(log: &Log, live: &[Live], given: &mut Vec<Lit>) -> Result<bool, AllocError>
     ensures { IfOk result (λ b. MatchBool b
-        (All (IsSelected log.now.selectors) live.now × (given.new.items ≡ given.old.items ++ flat_map (kept_selector log.now.selectors) live.now))
+        (All (IsSelected log.now.selectors) live.now
+        × (given.new.items ≡ given.old.items
+        ++ flat_map (kept_selector log.now.selectors) live.now))
         (All (IsSelected log.now.selectors) live.now → ⊥)) }
 {
     for assertion in live {
@@ -82,7 +85,8 @@ pub fn bit_of(log: &Log, term: TermId) -> Option<Lit>
 /// Appends the bits of assumptions, and tells whether each has just one.
 fn push_assumed(log: &Log, assumed: &[Asked], given: &mut Vec<Lit>) -> Result<bool, AllocError>
     ensures { IfOk result (λ b. MatchBool b
-        (All (IsOneBit log.now.bits) assumed.now × (given.new.items ≡ given.old.items ++ flat_map (kept_bits log.now.bits) assumed.now))
+        (All (IsOneBit log.now.bits) assumed.now
+        × (given.new.items ≡ given.old.items ++ flat_map (kept_bits log.now.bits) assumed.now))
         (All (IsOneBit log.now.bits) assumed.now → ⊥)) }
 {
     for assumption in assumed {
@@ -109,7 +113,8 @@ pub fn search(
     ensures { IfOk result (λ o. MatchOption o
         (IsSearch (limits_of limits) state.now state.now.terms.nodes log.now.entries cube start → ⊥)
         (λ g. IsSearch (limits_of limits) state.now state.now.terms.nodes log.now.entries cube start
-        × (g.items ≡ given_literals (limits_of limits) state.now state.now.terms.nodes log.now.entries cube))) }
+        × (g.items ≡ given_literals (limits_of limits) state.now state.now.terms.nodes
+        log.now.entries cube))) }
 {
     if start > log.len() {
         return Ok(None);

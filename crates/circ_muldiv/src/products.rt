@@ -16,9 +16,11 @@ pub fn mul(circuit: &mut Circuit, a: &[Lit], b: &[Lit]) -> Result<Vec<Lit>, Allo
     requires same { length a.now ≡ length b.now }
     requires some { 0 < length a.now }
     requires room { circuit.old.next + mul_size (length a.now) ≤ 2 ^ 63 }
-    ensures gains { OnOk result (Gains circuit.old circuit.new (mul_gates circuit.old.next a.now b.now)) }
+    ensures gains { OnOk result
+        (Gains circuit.old circuit.new (mul_gates circuit.old.next a.now b.now)) }
     ensures bits { IfOk result (λ r. r.items ≡ mul_bits circuit.old.next a.now b.now) }
-    ensures product { IfOk result (λ r. (v : ℕ → Bool) → v 1 ≡ true → all_true v circuit.new.clauses ≡ true →
+    ensures product { IfOk result (λ r. (v : ℕ → Bool) → v 1 ≡ true
+        → all_true v circuit.new.clauses ≡ true →
         number v r.items ≡ mul_of (length a.now) (number v a.now) (number v b.now)) }
     ensures err { OnErr result (circuit.new ≡ circuit.old) }
 {
@@ -33,7 +35,8 @@ fn put_product(circuit: &mut Circuit, a: &[Lit], b: &[Lit]) -> Result<Vec<Lit>, 
     requires same { length a.now ≡ length b.now }
     requires some { 0 < length a.now }
     requires room { circuit.old.next + mul_size (length a.now) ≤ 2 ^ 63 }
-    ensures gains { OnOk result (Gains circuit.old circuit.new (mul_gates circuit.old.next a.now b.now)) }
+    ensures gains { OnOk result
+        (Gains circuit.old circuit.new (mul_gates circuit.old.next a.now b.now)) }
     ensures bits { IfOk result (λ r. r.items ≡ mul_bits circuit.old.next a.now b.now) }
 {
     let mut product = Vec::with_capacity(circuit.alloc(), a.len())?;
@@ -59,7 +62,8 @@ fn add_row(
     requires room { circuit.old.next + 4 * left ≤ 2 ^ 63 }
     ensures gains { OnOk result (Gains circuit.old circuit.new
         (sum_gates circuit.old.next (drop 1 places.now) (take left a.now) b)) }
-    ensures bits { IfOk result (λ r. r.items ≡ sum_bits circuit.old.next (drop 1 places.now) (take left a.now)) }
+    ensures bits { IfOk result
+        (λ r. r.items ≡ sum_bits circuit.old.next (drop 1 places.now) (take left a.now)) }
 {
     put_sum(circuit, &places[1..], &a[..left], b)
 }
@@ -74,7 +78,8 @@ pub fn put_sum(
 ) -> Result<Vec<Lit>, AllocError>
     requires same { length places.now ≡ length a.now }
     requires room { circuit.old.next + 4 * length a.now ≤ 2 ^ 63 }
-    ensures gains { OnOk result (Gains circuit.old circuit.new (sum_gates circuit.old.next places.now a.now b)) }
+    ensures gains { OnOk result
+        (Gains circuit.old circuit.new (sum_gates circuit.old.next places.now a.now b)) }
     ensures bits { IfOk result (λ r. r.items ≡ sum_bits circuit.old.next places.now a.now) }
 {
     let row = put_row(circuit, a, b)?;

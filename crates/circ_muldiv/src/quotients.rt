@@ -21,12 +21,17 @@ pub fn divide(
     requires same { length a.now ≡ length b.now }
     requires some { 0 < length a.now }
     requires room { circuit.old.next + divide_size (length a.now) ≤ 2 ^ 63 }
-    ensures gains { OnOk result (Gains circuit.old circuit.new (divide_gates circuit.old.next a.now b.now)) }
-    ensures quotient_bits { IfOk result (λ r. r.0.items ≡ quotient_bits circuit.old.next a.now b.now) }
-    ensures remainder_bits { IfOk result (λ r. r.1.items ≡ remainder_bits circuit.old.next a.now b.now) }
-    ensures quotient { IfOk result (λ r. (v : ℕ → Bool) → v 1 ≡ true → all_true v circuit.new.clauses ≡ true →
+    ensures gains { OnOk result
+        (Gains circuit.old circuit.new (divide_gates circuit.old.next a.now b.now)) }
+    ensures quotient_bits { IfOk result
+        (λ r. r.0.items ≡ quotient_bits circuit.old.next a.now b.now) }
+    ensures remainder_bits { IfOk result
+        (λ r. r.1.items ≡ remainder_bits circuit.old.next a.now b.now) }
+    ensures quotient { IfOk result (λ r. (v : ℕ → Bool) → v 1 ≡ true
+        → all_true v circuit.new.clauses ≡ true →
         number v r.0.items ≡ udiv_of (length a.now) (number v a.now) (number v b.now)) }
-    ensures remainder { IfOk result (λ r. (v : ℕ → Bool) → v 1 ≡ true → all_true v circuit.new.clauses ≡ true →
+    ensures remainder { IfOk result (λ r. (v : ℕ → Bool) → v 1 ≡ true
+        → all_true v circuit.new.clauses ≡ true →
         number v r.1.items ≡ urem_of (length a.now) (number v a.now) (number v b.now)) }
     ensures err { OnErr result (circuit.new ≡ circuit.old) }
 {
@@ -44,9 +49,12 @@ pub fn put_division(
 ) -> Result<(Vec<Lit>, Vec<Lit>), AllocError>
     requires same { length a.now ≡ length b.now }
     requires room { circuit.old.next + divide_size (length a.now) ≤ 2 ^ 63 }
-    ensures gains { OnOk result (Gains circuit.old circuit.new (divide_gates circuit.old.next a.now b.now)) }
-    ensures quotient_bits { IfOk result (λ r. r.0.items ≡ quotient_bits circuit.old.next a.now b.now) }
-    ensures remainder_bits { IfOk result (λ r. r.1.items ≡ remainder_bits circuit.old.next a.now b.now) }
+    ensures gains { OnOk result
+        (Gains circuit.old circuit.new (divide_gates circuit.old.next a.now b.now)) }
+    ensures quotient_bits { IfOk result
+        (λ r. r.0.items ≡ quotient_bits circuit.old.next a.now b.now) }
+    ensures remainder_bits { IfOk result
+        (λ r. r.1.items ≡ remainder_bits circuit.old.next a.now b.now) }
 {
     let alloc = circuit.alloc();
     let mut quotient = Vec::with_capacity(alloc, a.len())?;
@@ -70,9 +78,11 @@ fn put_place(
 ) -> Result<(Lit, Vec<Lit>), AllocError>
     requires longer { length rest.now ≡ length divisor.now + 1 }
     requires room { circuit.old.next + 4 * (length divisor.now + 1) ≤ 2 ^ 63 }
-    ensures gains { OnOk result (Gains circuit.old circuit.new (place_gates circuit.old.next bit rest.now divisor.now)) }
+    ensures gains { OnOk result
+        (Gains circuit.old circuit.new (place_gates circuit.old.next bit rest.now divisor.now)) }
     ensures bit { IfOk result (λ r. r.0 ≡ place_bit circuit.old.next bit rest.now divisor.now) }
-    ensures rest { IfOk result (λ r. r.1.items ≡ place_rest circuit.old.next bit rest.now divisor.now) }
+    ensures rest { IfOk result
+        (λ r. r.1.items ≡ place_rest circuit.old.next bit rest.now divisor.now) }
 {
     let alloc = circuit.alloc();
     let up = shifted(alloc, bit, &rest[..divisor.len()])?;

@@ -20,9 +20,11 @@ pub fn sdiv(circuit: &mut Circuit, a: &[Lit], b: &[Lit]) -> Result<Vec<Lit>, All
     requires same { length a.now ≡ length b.now }
     requires some { 0 < length a.now }
     requires room { circuit.old.next + sdiv_size (length a.now) ≤ 2 ^ 63 }
-    ensures gains { OnOk result (Gains circuit.old circuit.new (sdiv_gates circuit.old.next a.now b.now)) }
+    ensures gains { OnOk result
+        (Gains circuit.old circuit.new (sdiv_gates circuit.old.next a.now b.now)) }
     ensures bits { IfOk result (λ r. r.items ≡ sdiv_bits circuit.old.next a.now b.now) }
-    ensures quotient { IfOk result (λ r. (v : ℕ → Bool) → v 1 ≡ true → all_true v circuit.new.clauses ≡ true →
+    ensures quotient { IfOk result (λ r. (v : ℕ → Bool) → v 1 ≡ true
+        → all_true v circuit.new.clauses ≡ true →
         number v r.items ≡ sdiv_of (length a.now) (number v a.now) (number v b.now)) }
     ensures err { OnErr result (circuit.new ≡ circuit.old) }
 {
@@ -38,9 +40,11 @@ pub fn srem(circuit: &mut Circuit, a: &[Lit], b: &[Lit]) -> Result<Vec<Lit>, All
     requires same { length a.now ≡ length b.now }
     requires some { 0 < length a.now }
     requires room { circuit.old.next + srem_size (length a.now) ≤ 2 ^ 63 }
-    ensures gains { OnOk result (Gains circuit.old circuit.new (srem_gates circuit.old.next a.now b.now)) }
+    ensures gains { OnOk result
+        (Gains circuit.old circuit.new (srem_gates circuit.old.next a.now b.now)) }
     ensures bits { IfOk result (λ r. r.items ≡ srem_bits circuit.old.next a.now b.now) }
-    ensures remainder { IfOk result (λ r. (v : ℕ → Bool) → v 1 ≡ true → all_true v circuit.new.clauses ≡ true →
+    ensures remainder { IfOk result (λ r. (v : ℕ → Bool) → v 1 ≡ true
+        → all_true v circuit.new.clauses ≡ true →
         number v r.items ≡ srem_of (length a.now) (number v a.now) (number v b.now)) }
     ensures err { OnErr result (circuit.new ≡ circuit.old) }
 {
@@ -56,9 +60,11 @@ pub fn smod(circuit: &mut Circuit, a: &[Lit], b: &[Lit]) -> Result<Vec<Lit>, All
     requires same { length a.now ≡ length b.now }
     requires some { 0 < length a.now }
     requires room { circuit.old.next + smod_size (length a.now) ≤ 2 ^ 63 }
-    ensures gains { OnOk result (Gains circuit.old circuit.new (smod_gates circuit.old.next a.now b.now)) }
+    ensures gains { OnOk result
+        (Gains circuit.old circuit.new (smod_gates circuit.old.next a.now b.now)) }
     ensures bits { IfOk result (λ r. r.items ≡ smod_bits circuit.old.next a.now b.now) }
-    ensures modulus { IfOk result (λ r. (v : ℕ → Bool) → v 1 ≡ true → all_true v circuit.new.clauses ≡ true →
+    ensures modulus { IfOk result (λ r. (v : ℕ → Bool) → v 1 ≡ true
+        → all_true v circuit.new.clauses ≡ true →
         number v r.items ≡ smod_of (length a.now) (number v a.now) (number v b.now)) }
     ensures err { OnErr result (circuit.new ≡ circuit.old) }
 {
@@ -73,7 +79,8 @@ fn put_quotient(circuit: &mut Circuit, a: &[Lit], b: &[Lit]) -> Result<Vec<Lit>,
     requires same { length a.now ≡ length b.now }
     requires some { 0 < length a.now }
     requires room { circuit.old.next + sdiv_size (length a.now) ≤ 2 ^ 63 }
-    ensures gains { OnOk result (Gains circuit.old circuit.new (sdiv_gates circuit.old.next a.now b.now)) }
+    ensures gains { OnOk result
+        (Gains circuit.old circuit.new (sdiv_gates circuit.old.next a.now b.now)) }
     ensures bits { IfOk result (λ r. r.items ≡ sdiv_bits circuit.old.next a.now b.now) }
 {
     let (quotient, _remainder) = put_magnitudes(circuit, a, b)?;
@@ -88,7 +95,8 @@ fn put_remainder(circuit: &mut Circuit, a: &[Lit], b: &[Lit]) -> Result<Vec<Lit>
     requires same { length a.now ≡ length b.now }
     requires some { 0 < length a.now }
     requires room { circuit.old.next + srem_size (length a.now) ≤ 2 ^ 63 }
-    ensures gains { OnOk result (Gains circuit.old circuit.new (srem_gates circuit.old.next a.now b.now)) }
+    ensures gains { OnOk result
+        (Gains circuit.old circuit.new (srem_gates circuit.old.next a.now b.now)) }
     ensures bits { IfOk result (λ r. r.items ≡ srem_bits circuit.old.next a.now b.now) }
 {
     let (_quotient, remainder) = put_magnitudes(circuit, a, b)?;
@@ -101,7 +109,8 @@ fn put_modulus(circuit: &mut Circuit, a: &[Lit], b: &[Lit]) -> Result<Vec<Lit>, 
     requires same { length a.now ≡ length b.now }
     requires some { 0 < length a.now }
     requires room { circuit.old.next + smod_size (length a.now) ≤ 2 ^ 63 }
-    ensures gains { OnOk result (Gains circuit.old circuit.new (smod_gates circuit.old.next a.now b.now)) }
+    ensures gains { OnOk result
+        (Gains circuit.old circuit.new (smod_gates circuit.old.next a.now b.now)) }
     ensures bits { IfOk result (λ r. r.items ≡ smod_bits circuit.old.next a.now b.now) }
 {
     let (_quotient, remainder) = put_magnitudes(circuit, a, b)?;
@@ -124,9 +133,12 @@ fn put_magnitudes(
     requires same { length a.now ≡ length b.now }
     requires some { 0 < length a.now }
     requires room { circuit.old.next + magnitudes_size (length a.now) ≤ 2 ^ 63 }
-    ensures gains { OnOk result (Gains circuit.old circuit.new (magnitudes circuit.old.next a.now b.now).gates) }
-    ensures quotient { IfOk result (λ r. r.0.items ≡ (magnitudes circuit.old.next a.now b.now).quotient) }
-    ensures remainder { IfOk result (λ r. r.1.items ≡ (magnitudes circuit.old.next a.now b.now).remainder) }
+    ensures gains { OnOk result
+        (Gains circuit.old circuit.new (magnitudes circuit.old.next a.now b.now).gates) }
+    ensures quotient { IfOk result
+        (λ r. r.0.items ≡ (magnitudes circuit.old.next a.now b.now).quotient) }
+    ensures remainder { IfOk result
+        (λ r. r.1.items ≡ (magnitudes circuit.old.next a.now b.now).remainder) }
 {
     let dividend = abs(circuit, a)?;
     let divisor = abs(circuit, b)?;

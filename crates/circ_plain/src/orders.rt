@@ -15,9 +15,11 @@ use std::alloc::AllocError;
 pub fn ult(circuit: &mut Circuit, a: &[Lit], b: &[Lit]) -> Result<Lit, AllocError>
     requires same { length a.now ≡ length b.now }
     requires room { circuit.old.next + 2 * length a.now ≤ 2 ^ 63 }
-    ensures gains { OnOk result (Gains circuit.old circuit.new (ult_gates circuit.old.next a.now b.now)) }
+    ensures gains { OnOk result
+        (Gains circuit.old circuit.new (ult_gates circuit.old.next a.now b.now)) }
     ensures literal { IfOk result (λ l. l ≡ ult_bit circuit.old.next a.now b.now) }
-    ensures order { IfOk result (λ l. (v : ℕ → Bool) → v 1 ≡ true → all_true v circuit.new.clauses ≡ true →
+    ensures order { IfOk result (λ l. (v : ℕ → Bool) → v 1 ≡ true
+        → all_true v circuit.new.clauses ≡ true →
         lit_true v l ≡ ult_of (length a.now) (number v a.now) (number v b.now)) }
     ensures err { OnErr result (circuit.new ≡ circuit.old) }
 {
@@ -31,9 +33,11 @@ pub fn ult(circuit: &mut Circuit, a: &[Lit], b: &[Lit]) -> Result<Lit, AllocErro
 pub fn ule(circuit: &mut Circuit, a: &[Lit], b: &[Lit]) -> Result<Lit, AllocError>
     requires same { length a.now ≡ length b.now }
     requires room { circuit.old.next + 2 * length a.now ≤ 2 ^ 63 }
-    ensures gains { OnOk result (Gains circuit.old circuit.new (ule_gates circuit.old.next a.now b.now)) }
+    ensures gains { OnOk result
+        (Gains circuit.old circuit.new (ule_gates circuit.old.next a.now b.now)) }
     ensures literal { IfOk result (λ l. l ≡ ule_bit circuit.old.next a.now b.now) }
-    ensures order { IfOk result (λ l. (v : ℕ → Bool) → v 1 ≡ true → all_true v circuit.new.clauses ≡ true →
+    ensures order { IfOk result (λ l. (v : ℕ → Bool) → v 1 ≡ true
+        → all_true v circuit.new.clauses ≡ true →
         lit_true v l ≡ ule_of (length a.now) (number v a.now) (number v b.now)) }
     ensures err { OnErr result (circuit.new ≡ circuit.old) }
 {
@@ -45,9 +49,11 @@ pub fn slt(circuit: &mut Circuit, a: &[Lit], b: &[Lit]) -> Result<Lit, AllocErro
     requires some { 0 < length a.now }
     requires same { length a.now ≡ length b.now }
     requires room { circuit.old.next + 2 * length a.now ≤ 2 ^ 63 }
-    ensures gains { OnOk result (Gains circuit.old circuit.new (slt_gates circuit.old.next a.now b.now)) }
+    ensures gains { OnOk result
+        (Gains circuit.old circuit.new (slt_gates circuit.old.next a.now b.now)) }
     ensures literal { IfOk result (λ l. l ≡ slt_bit circuit.old.next a.now b.now) }
-    ensures order { IfOk result (λ l. (v : ℕ → Bool) → v 1 ≡ true → all_true v circuit.new.clauses ≡ true →
+    ensures order { IfOk result (λ l. (v : ℕ → Bool) → v 1 ≡ true
+        → all_true v circuit.new.clauses ≡ true →
         lit_true v l ≡ slt_of (length a.now) (number v a.now) (number v b.now)) }
     ensures err { OnErr result (circuit.new ≡ circuit.old) }
 {
@@ -62,9 +68,11 @@ pub fn sle(circuit: &mut Circuit, a: &[Lit], b: &[Lit]) -> Result<Lit, AllocErro
     requires some { 0 < length a.now }
     requires same { length a.now ≡ length b.now }
     requires room { circuit.old.next + 2 * length a.now ≤ 2 ^ 63 }
-    ensures gains { OnOk result (Gains circuit.old circuit.new (sle_gates circuit.old.next a.now b.now)) }
+    ensures gains { OnOk result
+        (Gains circuit.old circuit.new (sle_gates circuit.old.next a.now b.now)) }
     ensures literal { IfOk result (λ l. l ≡ sle_bit circuit.old.next a.now b.now) }
-    ensures order { IfOk result (λ l. (v : ℕ → Bool) → v 1 ≡ true → all_true v circuit.new.clauses ≡ true →
+    ensures order { IfOk result (λ l. (v : ℕ → Bool) → v 1 ≡ true
+        → all_true v circuit.new.clauses ≡ true →
         lit_true v l ≡ sle_of (length a.now) (number v a.now) (number v b.now)) }
     ensures err { OnErr result (circuit.new ≡ circuit.old) }
 {
@@ -75,7 +83,8 @@ pub fn sle(circuit: &mut Circuit, a: &[Lit], b: &[Lit]) -> Result<Lit, AllocErro
 fn below_places(circuit: &mut Circuit, a: &[Lit], b: &[Lit]) -> Result<Lit, AllocError>
     requires same { length a.now ≡ length b.now }
     requires room { circuit.old.next + 2 * length a.now ≤ 2 ^ 63 }
-    ensures gains { OnOk result (Gains circuit.old circuit.new (ult_gates circuit.old.next a.now b.now)) }
+    ensures gains { OnOk result
+        (Gains circuit.old circuit.new (ult_gates circuit.old.next a.now b.now)) }
     ensures literal { IfOk result (λ l. l ≡ ult_bit circuit.old.next a.now b.now) }
 {
     let mut below = Lit::FALSE;
@@ -88,7 +97,8 @@ fn below_places(circuit: &mut Circuit, a: &[Lit], b: &[Lit]) -> Result<Lit, Allo
 // One place: where the bits differ the second one, else what the places below it say.
 fn below_place(circuit: &mut Circuit, before: Lit, a: Lit, b: Lit) -> Result<Lit, AllocError>
     requires { circuit.old.next + 2 ≤ 2 ^ 63 }
-    ensures gains { OnOk result (Gains circuit.old circuit.new (below_gates circuit.old.next before (a ∷ []) (b ∷ []))) }
+    ensures gains { OnOk result
+        (Gains circuit.old circuit.new (below_gates circuit.old.next before (a ∷ []) (b ∷ []))) }
     ensures literal { IfOk result (λ l. l ≡ positive_of (circuit.old.next + 1)) }
 {
     let differ = circuit.gate(GateKind::Xor(a, b))?;

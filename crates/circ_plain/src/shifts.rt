@@ -18,10 +18,13 @@ use std::alloc::AllocError;
 
 /// The bits moved up by the amount; false comes in.
 pub fn shl(circuit: &mut Circuit, a: &[Lit], amount: &[Lit]) -> Result<Vec<Lit>, AllocError>
-    requires room { circuit.old.next + length (shl_gates circuit.old.next a.now amount.now) ≤ 2 ^ 63 }
-    ensures gains { OnOk result (Gains circuit.old circuit.new (shl_gates circuit.old.next a.now amount.now)) }
+    requires room { circuit.old.next + length (shl_gates circuit.old.next a.now amount.now)
+        ≤ 2 ^ 63 }
+    ensures gains { OnOk result
+        (Gains circuit.old circuit.new (shl_gates circuit.old.next a.now amount.now)) }
     ensures bits { IfOk result (λ r. r.items ≡ shl_bits circuit.old.next a.now amount.now) }
-    ensures number { IfOk result (λ r. (v : ℕ → Bool) → v 1 ≡ true → all_true v circuit.new.clauses ≡ true →
+    ensures number { IfOk result (λ r. (v : ℕ → Bool) → v 1 ≡ true
+        → all_true v circuit.new.clauses ≡ true →
         number v r.items ≡ shl_of (length a.now) (number v a.now) (number v amount.now)) }
     ensures err { OnErr result (circuit.new ≡ circuit.old) }
 {
@@ -33,10 +36,13 @@ pub fn shl(circuit: &mut Circuit, a: &[Lit], amount: &[Lit]) -> Result<Vec<Lit>,
 
 /// The bits moved down by the amount; false comes in.
 pub fn lshr(circuit: &mut Circuit, a: &[Lit], amount: &[Lit]) -> Result<Vec<Lit>, AllocError>
-    requires room { circuit.old.next + length (lshr_gates circuit.old.next a.now amount.now) ≤ 2 ^ 63 }
-    ensures gains { OnOk result (Gains circuit.old circuit.new (lshr_gates circuit.old.next a.now amount.now)) }
+    requires room { circuit.old.next + length (lshr_gates circuit.old.next a.now amount.now)
+        ≤ 2 ^ 63 }
+    ensures gains { OnOk result
+        (Gains circuit.old circuit.new (lshr_gates circuit.old.next a.now amount.now)) }
     ensures bits { IfOk result (λ r. r.items ≡ lshr_bits circuit.old.next a.now amount.now) }
-    ensures number { IfOk result (λ r. (v : ℕ → Bool) → v 1 ≡ true → all_true v circuit.new.clauses ≡ true →
+    ensures number { IfOk result (λ r. (v : ℕ → Bool) → v 1 ≡ true
+        → all_true v circuit.new.clauses ≡ true →
         number v r.items ≡ lshr_of (length a.now) (number v a.now) (number v amount.now)) }
     ensures err { OnErr result (circuit.new ≡ circuit.old) }
 {
@@ -49,10 +55,13 @@ pub fn lshr(circuit: &mut Circuit, a: &[Lit], amount: &[Lit]) -> Result<Vec<Lit>
 /// The bits moved down by the amount; the sign comes in.
 pub fn ashr(circuit: &mut Circuit, a: &[Lit], amount: &[Lit]) -> Result<Vec<Lit>, AllocError>
     requires some { 0 < length a.now }
-    requires room { circuit.old.next + length (ashr_gates circuit.old.next a.now amount.now) ≤ 2 ^ 63 }
-    ensures gains { OnOk result (Gains circuit.old circuit.new (ashr_gates circuit.old.next a.now amount.now)) }
+    requires room { circuit.old.next + length (ashr_gates circuit.old.next a.now amount.now)
+        ≤ 2 ^ 63 }
+    ensures gains { OnOk result
+        (Gains circuit.old circuit.new (ashr_gates circuit.old.next a.now amount.now)) }
     ensures bits { IfOk result (λ r. r.items ≡ ashr_bits circuit.old.next a.now amount.now) }
-    ensures number { IfOk result (λ r. (v : ℕ → Bool) → v 1 ≡ true → all_true v circuit.new.clauses ≡ true →
+    ensures number { IfOk result (λ r. (v : ℕ → Bool) → v 1 ≡ true
+        → all_true v circuit.new.clauses ≡ true →
         number v r.items ≡ ashr_of (length a.now) (number v a.now) (number v amount.now)) }
     ensures err { OnErr result (circuit.new ≡ circuit.old) }
 {
@@ -69,8 +78,10 @@ fn put_logical(
     a: &[Lit],
     amount: &[Lit],
 ) -> Result<Vec<Lit>, AllocError>
-    requires room { circuit.old.next + length (logical_gates way circuit.old.next a.now amount.now) ≤ 2 ^ 63 }
-    ensures gains { OnOk result (Gains circuit.old circuit.new (logical_gates way circuit.old.next a.now amount.now)) }
+    requires room { circuit.old.next + length (logical_gates way circuit.old.next a.now amount.now)
+        ≤ 2 ^ 63 }
+    ensures gains { OnOk result
+        (Gains circuit.old circuit.new (logical_gates way circuit.old.next a.now amount.now)) }
     ensures bits { IfOk result (λ r. r.items ≡ logical_bits way circuit.old.next a.now amount.now) }
 {
     let (row, over) = put_moves(circuit, way, Lit::FALSE, a, amount)?;
@@ -81,8 +92,10 @@ fn put_logical(
 // An arithmetic shift; where memory is wanting, some of its gates stand.
 fn put_arithmetic(circuit: &mut Circuit, a: &[Lit], amount: &[Lit]) -> Result<Vec<Lit>, AllocError>
     requires some { 0 < length a.now }
-    requires room { circuit.old.next + length (ashr_gates circuit.old.next a.now amount.now) ≤ 2 ^ 63 }
-    ensures gains { OnOk result (Gains circuit.old circuit.new (ashr_gates circuit.old.next a.now amount.now)) }
+    requires room { circuit.old.next + length (ashr_gates circuit.old.next a.now amount.now)
+        ≤ 2 ^ 63 }
+    ensures gains { OnOk result
+        (Gains circuit.old circuit.new (ashr_gates circuit.old.next a.now amount.now)) }
     ensures bits { IfOk result (λ r. r.items ≡ ashr_bits circuit.old.next a.now amount.now) }
 {
     let fill = sign(a);
@@ -100,8 +113,10 @@ fn put_moves(
     a: &[Lit],
     amount: &[Lit],
 ) -> Result<(Vec<Lit>, Lit), AllocError>
-    requires room { circuit.old.next + length (move_gates way fill circuit.old.next a.now amount.now) ≤ 2 ^ 63 }
-    ensures gains { OnOk result (Gains circuit.old circuit.new (move_gates way fill circuit.old.next a.now amount.now)) }
+    requires room { circuit.old.next + length
+        (move_gates way fill circuit.old.next a.now amount.now) ≤ 2 ^ 63 }
+    ensures gains { OnOk result
+        (Gains circuit.old circuit.new (move_gates way fill circuit.old.next a.now amount.now)) }
     ensures bits { IfOk result (λ r. r.0.items ≡ move_bits circuit.old.next a.now amount.now) }
     ensures over { IfOk result (λ r. r.1 ≡ over_bit way fill circuit.old.next a.now amount.now) }
 {
@@ -133,7 +148,8 @@ fn put_stages(
 ) -> Result<Vec<Lit>, AllocError>
     requires near { AreNear (length a.now) 0 near.now }
     requires room { circuit.old.next + length a.now * length near.now ≤ 2 ^ 63 }
-    ensures gains { OnOk result (Gains circuit.old circuit.new (stage_gates way fill circuit.old.next 0 a.now near.now)) }
+    ensures gains { OnOk result
+        (Gains circuit.old circuit.new (stage_gates way fill circuit.old.next 0 a.now near.now)) }
     ensures bits { IfOk result (λ r. r.items ≡ stage_bits circuit.old.next a.now near.now) }
 {
     let mut row = Vec::from_slice(circuit.alloc(), a)?;
@@ -147,7 +163,8 @@ fn put_stages(
 // Whether one of the bits is true.
 fn put_any(circuit: &mut Circuit, bits: &[Lit]) -> Result<Lit, AllocError>
     requires { circuit.old.next + length bits.now ≤ 2 ^ 63 }
-    ensures gains { OnOk result (Gains circuit.old circuit.new (any_gates circuit.old.next false_literal bits.now)) }
+    ensures gains { OnOk result
+        (Gains circuit.old circuit.new (any_gates circuit.old.next false_literal bits.now)) }
     ensures literal { IfOk result (λ l. l ≡ any_bit circuit.old.next false_literal bits.now) }
 {
     let mut any = Lit::FALSE;

@@ -15,7 +15,8 @@ pub fn neg(circuit: &mut Circuit, a: &[Lit]) -> Result<Vec<Lit>, AllocError>
     requires room { circuit.old.next + 3 * length a.now ≤ 2 ^ 63 }
     ensures gains { OnOk result (Gains circuit.old circuit.new (neg_gates circuit.old.next a.now)) }
     ensures bits { IfOk result (λ r. r.items ≡ neg_bits circuit.old.next a.now) }
-    ensures number { IfOk result (λ r. (v : ℕ → Bool) → v 1 ≡ true → all_true v circuit.new.clauses ≡ true →
+    ensures number { IfOk result (λ r. (v : ℕ → Bool) → v 1 ≡ true
+        → all_true v circuit.new.clauses ≡ true →
         number v r.items ≡ neg_of (length a.now) (number v a.now)) }
     ensures err { OnErr result (circuit.new ≡ circuit.old) }
 {
@@ -28,10 +29,14 @@ pub fn neg(circuit: &mut Circuit, a: &[Lit]) -> Result<Vec<Lit>, AllocError>
 /// The negation where a literal is true, else the bits.
 pub fn signed(circuit: &mut Circuit, negative: Lit, a: &[Lit]) -> Result<Vec<Lit>, AllocError>
     requires room { circuit.old.next + 4 * length a.now ≤ 2 ^ 63 }
-    ensures gains { OnOk result (Gains circuit.old circuit.new (signed_gates circuit.old.next negative a.now)) }
+    ensures gains { OnOk result
+        (Gains circuit.old circuit.new (signed_gates circuit.old.next negative a.now)) }
     ensures bits { IfOk result (λ r. r.items ≡ signed_bits circuit.old.next a.now) }
-    ensures number { IfOk result (λ r. (v : ℕ → Bool) → v 1 ≡ true → all_true v circuit.new.clauses ≡ true →
-        number v r.items ≡ (if lit_true v negative then neg_of (length a.now) (number v a.now) else number v a.now)) }
+    ensures number { IfOk result (λ r. (v : ℕ → Bool) → v 1 ≡ true
+        → all_true v circuit.new.clauses ≡ true →
+        number v r.items
+        ≡ (if lit_true v negative then neg_of (length a.now) (number v a.now) else number v
+        a.now)) }
     ensures err { OnErr result (circuit.new ≡ circuit.old) }
 {
     let mut added = circuit.part();
@@ -47,7 +52,8 @@ pub fn abs(circuit: &mut Circuit, a: &[Lit]) -> Result<Vec<Lit>, AllocError>
     requires room { circuit.old.next + 4 * length a.now ≤ 2 ^ 63 }
     ensures gains { OnOk result (Gains circuit.old circuit.new (abs_gates circuit.old.next a.now)) }
     ensures bits { IfOk result (λ r. r.items ≡ signed_bits circuit.old.next a.now) }
-    ensures number { IfOk result (λ r. (v : ℕ → Bool) → v 1 ≡ true → all_true v circuit.new.clauses ≡ true →
+    ensures number { IfOk result (λ r. (v : ℕ → Bool) → v 1 ≡ true
+        → all_true v circuit.new.clauses ≡ true →
         number v r.items ≡ abs_of (length a.now) (number v a.now)) }
     ensures err { OnErr result (circuit.new ≡ circuit.old) }
 {

@@ -19,11 +19,13 @@ impl Circuit {
     ) -> Result<(Vec<Lit>, Lit), AllocError>
         requires same { length a.now ≡ length b.now }
         requires room { self.old.next + 3 * length a.now ≤ 2 ^ 63 }
-        ensures gains { OnOk result (Gains self.old self.new (add_gates self.old.next a.now b.now carry)) }
+        ensures gains { OnOk result
+            (Gains self.old self.new (add_gates self.old.next a.now b.now carry)) }
         ensures bits { IfOk result (λ r. r.0.items ≡ add_bits self.old.next a.now b.now) }
         ensures carry { IfOk result (λ r. r.1 ≡ add_carry self.old.next a.now b.now carry) }
         ensures sum { IfOk result (λ r. (v : ℕ → Bool) → all_true v self.new.clauses ≡ true →
-            number v r.0.items + 2 ^ length a.now * bit (lit_true v r.1) ≡ number v a.now + number v b.now + bit (lit_true v carry)) }
+            number v r.0.items + 2 ^ length a.now * bit (lit_true v r.1)
+            ≡ number v a.now + number v b.now + bit (lit_true v carry)) }
         ensures err { OnErr result (self.new ≡ self.old) }
     {
         let mut added = self.part();
@@ -41,7 +43,8 @@ impl Circuit {
     ) -> Result<(Vec<Lit>, Lit), AllocError>
         requires same { length a.now ≡ length b.now }
         requires room { self.old.next + 3 * length a.now ≤ 2 ^ 63 }
-        ensures gains { OnOk result (Gains self.old self.new (add_gates self.old.next a.now b.now carry)) }
+        ensures gains { OnOk result
+            (Gains self.old self.new (add_gates self.old.next a.now b.now carry)) }
         ensures bits { IfOk result (λ r. r.0.items ≡ add_bits self.old.next a.now b.now) }
         ensures carry { IfOk result (λ r. r.1 ≡ add_carry self.old.next a.now b.now carry) }
     {
@@ -58,7 +61,8 @@ impl Circuit {
     // One place of a sum: its bit, and its carry.
     fn add_place(&mut self, a: Lit, b: Lit, carry: Lit) -> Result<(Lit, Lit), AllocError>
         requires { self.old.next + 3 ≤ 2 ^ 63 }
-        ensures gains { OnOk result (Gains self.old self.new (add_gates self.old.next (a ∷ []) (b ∷ []) carry)) }
+        ensures gains { OnOk result
+            (Gains self.old self.new (add_gates self.old.next (a ∷ []) (b ∷ []) carry)) }
         ensures bit { IfOk result (λ r. r.0 ≡ positive_of (self.old.next + 1)) }
         ensures carry { IfOk result (λ r. r.1 ≡ positive_of (self.old.next + 2)) }
     {

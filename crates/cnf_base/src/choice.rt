@@ -31,7 +31,8 @@ impl Circuit {
     pub fn equal(&mut self, a: &[Lit], b: &[Lit]) -> Result<Lit, AllocError>
         requires same { length a.now ≡ length b.now }
         requires room { self.old.next + 2 * length a.now ≤ 2 ^ 63 }
-        ensures gains { OnOk result (Gains self.old self.new (equal_gates self.old.next true_literal a.now b.now)) }
+        ensures gains { OnOk result
+            (Gains self.old self.new (equal_gates self.old.next true_literal a.now b.now)) }
         ensures literal { IfOk result (λ l. l ≡ equal_bit self.old.next true_literal a.now b.now) }
         ensures equality { IfOk result (λ l. (v : ℕ → Bool) → all_true v self.new.clauses ≡ true →
             lit_true v l ≡ (lit_true v true_literal && (number v a.now == number v b.now))) }
@@ -62,7 +63,8 @@ impl Circuit {
     fn equal_places(&mut self, a: &[Lit], b: &[Lit]) -> Result<Lit, AllocError>
         requires same { length a.now ≡ length b.now }
         requires room { self.old.next + 2 * length a.now ≤ 2 ^ 63 }
-        ensures gains { OnOk result (Gains self.old self.new (equal_gates self.old.next true_literal a.now b.now)) }
+        ensures gains { OnOk result
+            (Gains self.old self.new (equal_gates self.old.next true_literal a.now b.now)) }
         ensures literal { IfOk result (λ l. l ≡ equal_bit self.old.next true_literal a.now b.now) }
     {
         let places = a.len();
@@ -76,7 +78,8 @@ impl Circuit {
     // One place of an equality: whether it and those before it are equal.
     fn equal_place(&mut self, before: Lit, a: Lit, b: Lit) -> Result<Lit, AllocError>
         requires { self.old.next + 2 ≤ 2 ^ 63 }
-        ensures gains { OnOk result (Gains self.old self.new (equal_gates self.old.next before (a ∷ []) (b ∷ []))) }
+        ensures gains { OnOk result
+            (Gains self.old self.new (equal_gates self.old.next before (a ∷ []) (b ∷ []))) }
         ensures literal { IfOk result (λ l. l ≡ positive_of (self.old.next + 1)) }
     {
         let differ = self.gate(GateKind::Xor(a, b))?;

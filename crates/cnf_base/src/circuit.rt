@@ -88,7 +88,8 @@ impl Circuit {
         ensures literal { IfOk result (λ l. l ≡ positive_of self.old.next) }
         ensures gains { OnOk result (Gains self.old self.new (kind ∷ [])) }
         ensures meaning { IfOk result (λ l. (v : ℕ → Bool) →
-            (all_true v self.new.clauses ≡ true) ↔ ((all_true v self.old.clauses ≡ true) × (lit_true v l ≡ gate_value v kind))) }
+            (all_true v self.new.clauses ≡ true)
+            ↔ ((all_true v self.old.clauses ≡ true) × (lit_true v l ≡ gate_value v kind))) }
         ensures err { OnErr result (self.new ≡ self.old) }
     {
         self.put_gate(kind)
@@ -103,9 +104,11 @@ impl Circuit {
 
     /// Adds what a circuit has that began at this one's next variable.
     pub fn append(&mut self, part: Circuit) -> Result<(), AllocError>
-        ensures ok { OnOk result (self.new ≡ record { next = part.next; clauses = self.old.clauses ++ part.clauses }) }
+        ensures ok { OnOk result
+            (self.new ≡ record { next = part.next; clauses = self.old.clauses ++ part.clauses }) }
         ensures gains { OnOk result ((gates : List GateKind) →
-            Gains (record { next = self.old.next; clauses = [] }) part gates → Gains self.old self.new gates) }
+            Gains (record { next = self.old.next; clauses = [] }) part gates
+            → Gains self.old self.new gates) }
         ensures err { OnErr result (self.new ≡ self.old) }
     {
         let mut part = part;
@@ -138,7 +141,8 @@ impl Circuit {
     fn put_clauses(&mut self, gate: Lit, kind: GateKind) -> Result<(), AllocError>
         requires { gate ≡ positive_of self.old.next }
         ensures next { self.new.next ≡ self.old.next }
-        ensures clauses { OnOk result (self.new.clauses ≡ self.old.clauses ++ gate_clauses self.old.next kind) }
+        ensures clauses { OnOk result
+            (self.new.clauses ≡ self.old.clauses ++ gate_clauses self.old.next kind) }
         ensures err { OnErr result (Extends self.old self.new) }
     {
         let not_gate = gate.negated();
@@ -175,7 +179,8 @@ impl Circuit {
 
     fn put_three(&mut self, a: Lit, b: Lit, c: Lit) -> Result<(), AllocError>
         ensures next { self.new.next ≡ self.old.next }
-        ensures clauses { OnOk result (self.new.clauses ≡ self.old.clauses ++ (a ∷ b ∷ c ∷ []) ∷ []) }
+        ensures clauses { OnOk result (self.new.clauses ≡ self.old.clauses ++ (a ∷ b ∷ c ∷ [])
+            ∷ []) }
         ensures err { OnErr result (self.new ≡ self.old) }
     {
         let clause = Clause::of_three(self.alloc, a, b, c)?;

@@ -16,16 +16,19 @@ pub fn gates_mean()
 
 /// A circuit that gained gates has true clauses exactly where it had before and each gate has its meaning.
 pub fn gains_mean()
-    ensures { (old new : CircuitValue) (gates : List GateKind) → Gains old new gates → MeansGates old new gates }
+    ensures { (old new : CircuitValue) (gates : List GateKind) → Gains old new gates
+        → MeansGates old new gates }
 {}
 
 /// Where the inputs of each gate stand before it, the inputs alone decide what the gates are.
 pub fn gates_are_determined()
-    ensures { (f : ℕ → Bool) (g : ℕ) (gates : List GateKind) → AreOrdered g gates → IsDetermined f g gates }
+    ensures { (f : ℕ → Bool) (g : ℕ) (gates : List GateKind) → AreOrdered g gates
+        → IsDetermined f g gates }
 {}
 
 /// Clauses of variables below a number are true in two assignments alike that agree below it.
 pub fn agreement_keeps_truth()
-    ensures { (n : ℕ) (f g : ℕ → Bool) → AgreeBelow n f g → (clauses : List (List Literal)) → ClausesBelow n clauses →
+    ensures { (n : ℕ) (f g : ℕ → Bool) → AgreeBelow n f g → (clauses : List (List Literal))
+        → ClausesBelow n clauses →
         all_true g clauses ≡ all_true f clauses }
 {}

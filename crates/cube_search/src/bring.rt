@@ -15,8 +15,11 @@ use std::alloc::{AllocError, Global};
 
 // Lists the variables of these literals.
 fn list_all(engine: &mut Engine, literals: &[Lit]) -> Result<(), AllocError>
-    ensures same { OnOk result (engine.new ≡ record engine.old { choices = engine.new.choices; agenda = engine.new.agenda }) }
-    ensures listed { OnOk result (IsListing engine.old.agenda.list literals.now engine.new.agenda.list) }
+    ensures same { OnOk result
+        (engine.new ≡ record engine.old
+        { choices = engine.new.choices; agenda = engine.new.agenda }) }
+    ensures listed { OnOk result
+        (IsListing engine.old.agenda.list literals.now engine.new.agenda.list) }
 {
     'literals: for literal in literals {
         engine.list(literal.variable())?;
@@ -26,7 +29,8 @@ fn list_all(engine: &mut Engine, literals: &[Lit]) -> Result<(), AllocError>
 
 /// Whether each variable of these literals is listed.
 pub(crate) fn are_listed(engine: &Engine, literals: &[Lit]) -> bool
-    ensures { MatchBool result (AreAmong engine.now.agenda.list literals.now) (IsForeign engine.now.agenda.list literals.now) }
+    ensures { MatchBool result (AreAmong engine.now.agenda.list literals.now)
+        (IsForeign engine.now.agenda.list literals.now) }
 {
     'literals: for literal in literals {
         if !engine.lists(literal.variable()) {
@@ -44,10 +48,13 @@ fn store(
     clause: &Clause,
 ) -> Result<(), AllocError>
     requires engine { IsEngine engine.old }
-    ensures same { engine.new ≡ record engine.old { watches = engine.new.watches; trail = engine.new.trail } }
+    ensures same { engine.new
+        ≡ record engine.old { watches = engine.new.watches; trail = engine.new.trail } }
     ensures engine { IsEngine engine.new }
     ensures level { level_of engine.new.trail ≡ level_of engine.old.trail }
-    ensures kept { OnOk result (((c : List Literal) → clause_of engine.old.watches id ≡ Some c → c ≡ clause.now) → clause_of engine.new.watches id ≡ Some clause.now) }
+    ensures kept { OnOk result
+        (((c : List Literal) → clause_of engine.old.watches id ≡ Some c → c ≡ clause.now)
+        → clause_of engine.new.watches id ≡ Some clause.now) }
     ensures others { IsSameBut id engine.old.watches engine.new.watches }
 {
     if let Some(_) = engine.clause(id) {
@@ -64,9 +71,12 @@ fn hold(alloc: Global, engine: &mut Engine, id: ClauseId, clause: &Clause) -> Re
     requires level { level_of engine.old.trail ≡ 0 }
     ensures engine { OnOk result (IsEngine engine.new) }
     ensures level { OnOk result (level_of engine.new.trail ≡ 0) }
-    ensures listing { OnOk result (IsListing engine.old.agenda.list clause.now engine.new.agenda.list) }
-    ensures held { OnOk result (((c : List Literal) → clause_of engine.old.watches id ≡ Some c → c ≡ clause.now) →
-        (clause_of engine.new.watches id ≡ Some clause.now) × (held_of engine.new.watches id ≡ Some clause.now)) }
+    ensures listing { OnOk result
+        (IsListing engine.old.agenda.list clause.now engine.new.agenda.list) }
+    ensures held { OnOk result
+        (((c : List Literal) → clause_of engine.old.watches id ≡ Some c → c ≡ clause.now) →
+        (clause_of engine.new.watches id ≡ Some clause.now)
+        × (held_of engine.new.watches id ≡ Some clause.now)) }
     ensures others { OnOk result (IsSameBut id engine.old.watches engine.new.watches) }
 {
     list_all(engine, clause.literals())?;
@@ -87,8 +97,12 @@ fn hold_position<B: Board>(
     requires known { B.knows board.now pos }
     ensures engine { OnOk result (IsEngine engine.new) }
     ensures level { OnOk result (level_of engine.new.trail ≡ 0) }
-    ensures brought { OnOk result (((id : ClauseId) (c : List Literal) → clause_of engine.old.watches id ≡ Some c → clause_at (state_of (B.nodes board.now) (B.log board.now)).clauses id ≡ Some c) →
-        IsBrought engine.old.watches engine.new.watches (state_of (B.nodes board.now) (B.log board.now)).clauses engine.old.agenda.list engine.new.agenda.list pos) }
+    ensures brought { OnOk result
+        (((id : ClauseId) (c : List Literal) → clause_of engine.old.watches id ≡ Some c
+        → clause_at (state_of (B.nodes board.now) (B.log board.now)).clauses id ≡ Some c) →
+        IsBrought engine.old.watches engine.new.watches
+        (state_of (B.nodes board.now) (B.log board.now)).clauses engine.old.agenda.list
+        engine.new.agenda.list pos) }
 {
     'parts: for part in 0..u32::MAX {
         let id = ClauseId { pos, part };
@@ -112,8 +126,12 @@ pub(crate) fn bring<B: Board>(
     requires known { B.knows board.now pos }
     ensures engine { OnOk result (IsEngine engine.new) }
     ensures level { OnOk result (level_of engine.new.trail ≡ 0) }
-    ensures brought { OnOk result (((id : ClauseId) (c : List Literal) → clause_of engine.old.watches id ≡ Some c → clause_at (state_of (B.nodes board.now) (B.log board.now)).clauses id ≡ Some c) →
-        IsBrought engine.old.watches engine.new.watches (state_of (B.nodes board.now) (B.log board.now)).clauses engine.old.agenda.list engine.new.agenda.list pos) }
+    ensures brought { OnOk result
+        (((id : ClauseId) (c : List Literal) → clause_of engine.old.watches id ≡ Some c
+        → clause_at (state_of (B.nodes board.now) (B.log board.now)).clauses id ≡ Some c) →
+        IsBrought engine.old.watches engine.new.watches
+        (state_of (B.nodes board.now) (B.log board.now)).clauses engine.old.agenda.list
+        engine.new.agenda.list pos) }
 {
     hold_position(alloc, board, engine, pos)?;
     let _conflict = engine.propagate();

@@ -20,7 +20,8 @@ use std::alloc::AllocError;
 // Whether a chain is known to stand at the position.
 pub(crate) fn is_chain<B: Board>(board: &B, at: Pos) -> bool
     ensures shown { result ≡ true → is_chain (entry_at (B.log board.now) at) ≡ true }
-    ensures other { result ≡ false → B.knows board.now at → is_chain (entry_at (B.log board.now) at) ≡ false }
+    ensures other { result ≡ false → B.knows board.now at → is_chain (entry_at (B.log board.now) at)
+        ≡ false }
 {
     matches!(board.entry(at), Some(Entry::Chain(_, _)))
 }
@@ -30,10 +31,14 @@ impl Search {
     pub(crate) fn close<B: Board>(&self, board: &mut B, clash: Clash) -> Result<Pos, AllocError>
         requires running { IsRunning self.now (B.nodes board.old) (B.log board.old) }
         requires clash { IsClash self.now.engine.watches self.now.engine.trail clash }
-        requires given { AreGiven self.now.engine.given.items (literals_of self.now.engine.trail) clash }
-        ensures later { IsLater (B.nodes board.old) (B.nodes board.new) (B.log board.old) (B.log board.new) (B.knows board.old) (B.knows board.new) }
+        requires given { AreGiven self.now.engine.given.items (literals_of self.now.engine.trail)
+            clash }
+        ensures later { IsLater (B.nodes board.old) (B.nodes board.new) (B.log board.old)
+            (B.log board.new) (B.knows board.old) (B.knows board.new) }
         ensures told { B.told board.new ≡ B.told board.old }
-        ensures closing { IfOk result (IsClosing (state_of (B.nodes board.new) (B.log board.new)).clauses (given_in self.now)) }
+        ensures closing { IfOk result
+            (IsClosing (state_of (B.nodes board.new) (B.log board.new)).clauses
+            (given_in self.now)) }
     {
         let (clause, hints) = self.engine.final_clause(clash)?;
         let chain = Hints::of(self.alloc, hints.as_slice())?;
@@ -50,11 +55,17 @@ impl Search {
         requires running { IsRunning self.old (B.nodes board.old) (B.log board.old) }
         requires conflict { IsConflict self.old.engine.watches self.old.engine.trail conflict }
         requires above { self.old.engine.base < level_of self.old.engine.trail }
-        ensures same { self.new ≡ record self.old { engine = record self.old.engine { choices = self.new.engine.choices } } }
-        ensures later { IsLater (B.nodes board.old) (B.nodes board.new) (B.log board.old) (B.log board.new) (B.knows board.old) (B.knows board.new) }
+        ensures same { self.new
+            ≡ record self.old
+            { engine = record self.old.engine { choices = self.new.engine.choices } } }
+        ensures later { IsLater (B.nodes board.old) (B.nodes board.new) (B.log board.old)
+            (B.log board.new) (B.knows board.old) (B.knows board.new) }
         ensures told { B.told board.new ≡ B.told board.old }
-        ensures learnt { IfOk result (λ r. IsLearnt self.old.engine.watches self.old.engine.trail (B.log board.old) (B.log board.new) r.0 r.1 r.2) }
-        ensures known { IfOk result (λ r. KnowsOneMore (B.knows board.old) r.2 (B.knows board.new)) }
+        ensures learnt { IfOk result
+            (λ r. IsLearnt self.old.engine.watches self.old.engine.trail (B.log board.old)
+            (B.log board.new) r.0 r.1 r.2) }
+        ensures known { IfOk result
+            (λ r. KnowsOneMore (B.knows board.old) r.2 (B.knows board.new)) }
     {
         let (clause, hints, level) = self.engine.learn(conflict)?;
         let own = clause.copy(self.alloc)?;
@@ -84,7 +95,8 @@ impl Search {
         requires running { IsRunning self.old (B.nodes board.now) (B.log board.now) }
         ensures run { IsSameRun self.old self.new }
         ensures running { OnOk result (IsRunning self.new (B.nodes board.now) (B.log board.now)) }
-        ensures writing { OnOk result (IsWriting self.old (B.nodes board.now) (B.log board.now) → IsWriting self.new (B.nodes board.now) (B.log board.now)) }
+        ensures writing { OnOk result (IsWriting self.old (B.nodes board.now) (B.log board.now)
+            → IsWriting self.new (B.nodes board.now) (B.log board.now)) }
     {
         if self.diary.left == 0 {
             return Ok(());
@@ -104,7 +116,8 @@ impl Search {
         requires running { IsRunning self.old (B.nodes board.now) (B.log board.now) }
         ensures run { IsSameRun self.old self.new }
         ensures running { OnOk result (IsRunning self.new (B.nodes board.now) (B.log board.now)) }
-        ensures writing { OnOk result (IsWriting self.old (B.nodes board.now) (B.log board.now) → IsWriting self.new (B.nodes board.now) (B.log board.now)) }
+        ensures writing { OnOk result (IsWriting self.old (B.nodes board.now) (B.log board.now)
+            → IsWriting self.new (B.nodes board.now) (B.log board.now)) }
     {
         if self.diary.left == 0 || !self.engine.drops_now() {
             return Ok(());

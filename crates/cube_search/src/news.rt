@@ -30,8 +30,12 @@ fn note_kept(
     left: &mut Vec<Pos>,
     diary: &mut Keeper,
 ) -> Result<(), AllocError>
-    ensures { OnOk result (((clause_of engine.now.watches (record { pos = at; part = 0 }) ≡ None) × (left.new.items ≡ left.old.items) × (diary.new ≡ diary.old))
-        ⊎ ((c : List Literal) × (clause_of engine.now.watches (record { pos = at; part = 0 }) ≡ Some c) × (left.new.items ≡ left.old.items ++ at ∷ []) × IsTaken diary.old diary.new at)) }
+    ensures { OnOk result
+        (((clause_of engine.now.watches (record { pos = at; part = 0 }) ≡ None)
+        × (left.new.items ≡ left.old.items) × (diary.new ≡ diary.old))
+        ⊎ ((c : List Literal)
+        × (clause_of engine.now.watches (record { pos = at; part = 0 }) ≡ Some c)
+        × (left.new.items ≡ left.old.items ++ at ∷ []) × IsTaken diary.old diary.new at)) }
 {
     let Some(_) = engine.clause(ClauseId { pos: at, part: 0 }) else {
         return Ok(());
@@ -48,8 +52,10 @@ fn note_taken(
     positions: &[Pos],
     diary: &mut Keeper,
 ) -> Result<Vec<Pos>, AllocError>
-    ensures noted { OnOk result (NotesTaken engine.now.watches positions.now positions.now diary.old diary.new) }
-    ensures left { IfOk result (λ left. AreLeft (clause_of engine.now.watches) positions.now left.items) }
+    ensures noted { OnOk result
+        (NotesTaken engine.now.watches positions.now positions.now diary.old diary.new) }
+    ensures left { IfOk result
+        (λ left. AreLeft (clause_of engine.now.watches) positions.now left.items) }
 {
     let mut left = Vec::new(alloc);
     'positions: for at in positions {
@@ -67,7 +73,9 @@ impl Search {
         ensures task { IsSameTask self.old.engine self.new.engine }
         ensures engine { OnOk result (IsEngine self.new.engine) }
         ensures course { OnOk result (IsOnCourse self.old.engine → IsOnCourse self.new.engine) }
-        ensures admitted { OnOk result (IsAdmitted self.old.engine.watches self.new.engine.watches (variables_in self.old) at clause.now) }
+        ensures admitted { OnOk result
+            (IsAdmitted self.old.engine.watches self.new.engine.watches (variables_in self.old) at
+            clause.now) }
     {
         if !are_listed(&self.engine, clause.literals()) {
             return Ok(());
@@ -85,9 +93,13 @@ impl Search {
         ensures seen { self.new.seen ≡ self.old.seen }
         ensures start { self.new.diary.start ≡ self.old.diary.start }
         ensures running { OnOk result (IsRunning self.new (B.nodes board.now) (B.log board.now)) }
-        ensures writing { OnOk result (IsWriting self.old (B.nodes board.now) (B.log board.now) → IsWriting self.new (B.nodes board.now) (B.log board.now)) }
-        ensures lined { OnOk result (IsWriting self.old (B.nodes board.now) (B.log board.now) → is_chain (entry_at (B.log board.now) at) ≡ true → HasLine self.new.diary.lines.items at) }
-        ensures kept { OnOk result ((p : ℕ) → HasLine self.old.diary.lines.items p → HasLine self.new.diary.lines.items p) }
+        ensures writing { OnOk result (IsWriting self.old (B.nodes board.now) (B.log board.now)
+            → IsWriting self.new (B.nodes board.now) (B.log board.now)) }
+        ensures lined { OnOk result (IsWriting self.old (B.nodes board.now) (B.log board.now)
+            → is_chain (entry_at (B.log board.now) at) ≡ true
+            → HasLine self.new.diary.lines.items at) }
+        ensures kept { OnOk result ((p : ℕ) → HasLine self.old.diary.lines.items p
+            → HasLine self.new.diary.lines.items p) }
     {
         let id = ClauseId { pos: at, part: 0 };
         if let Some(_) = self.engine.clause(id) {
@@ -108,11 +120,15 @@ impl Search {
     pub(crate) fn take_news<B: Board>(&mut self, board: &mut B) -> Result<bool, AllocError>
         requires running { IsRunning self.old (B.nodes board.old) (B.log board.old) }
         ensures run { IsSameRun self.old self.new }
-        ensures later { IsLater (B.nodes board.old) (B.nodes board.new) (B.log board.old) (B.log board.new) (B.knows board.old) (B.knows board.new) }
+        ensures later { IsLater (B.nodes board.old) (B.nodes board.new) (B.log board.old)
+            (B.log board.new) (B.knows board.old) (B.knows board.new) }
         ensures running { OnOk result (IsRunning self.new (B.nodes board.new) (B.log board.new)) }
         ensures told { OnOk result (IsCaughtUp (B.told board.new) (B.log board.new)) }
-        ensures news { IfOk result (λ found. MatchBool found ((B.found board.new ≡ true) × ((B.told board.new).found ≡ true))
-            (IsWriting self.old (B.nodes board.old) (B.log board.old) → IsUpToDate self.new (B.nodes board.new) (B.log board.new) (B.knows board.new))) }
+        ensures news { IfOk result
+            (λ found. MatchBool found ((B.found board.new ≡ true)
+            × ((B.told board.new).found ≡ true))
+            (IsWriting self.old (B.nodes board.old) (B.log board.old)
+            → IsUpToDate self.new (B.nodes board.new) (B.log board.new) (B.knows board.new))) }
     {
         let news = board.sync()?;
         if news.found {
@@ -133,8 +149,13 @@ impl Search {
         ensures listed { variables_in self.new ≡ variables_in self.old }
         ensures from { self.new.from ≡ self.old.from }
         ensures given { OnOk result (given_in self.new ≡ given.now) }
-        ensures running { OnOk result ((nodes : List Node) (log : List Entry) → IsSearch self.old nodes log → AreBelow (state_of nodes log).next given.now → IsRunning self.new nodes log) }
-        ensures writing { OnOk result ((nodes : List Node) (log : List Entry) → IsSearch self.old nodes log → AreSeparate (state_of nodes log).clauses log self.old.opening.items self.old.from → IsWriting self.new nodes log) }
+        ensures running { OnOk result ((nodes : List Node) (log : List Entry)
+            → IsSearch self.old nodes log → AreBelow (state_of nodes log).next given.now
+            → IsRunning self.new nodes log) }
+        ensures writing { OnOk result ((nodes : List Node) (log : List Entry)
+            → IsSearch self.old nodes log
+            → AreSeparate (state_of nodes log).clauses log self.old.opening.items self.old.from
+            → IsWriting self.new nodes log) }
     {
         let given = Vec::from_slice(self.alloc, given)?;
         self.engine.begin(given);

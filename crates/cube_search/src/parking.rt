@@ -34,7 +34,8 @@ pub(crate) fn thin<B: Board>(board: &B, engine: &mut Engine) -> Result<(), Alloc
     ensures engine { OnOk result (IsEngine engine.new) }
     ensures level { OnOk result (level_of engine.new.trail ≡ 0) }
     ensures listed { OnOk result (engine.new.agenda.list ≡ engine.old.agenda.list) }
-    ensures thinned { OnOk result (IsThinned (B.log board.now) engine.old.watches engine.new.watches) }
+    ensures thinned { OnOk result
+        (IsThinned (B.log board.now) engine.old.watches engine.new.watches) }
 {
     if !engine.drops_now() {
         return Ok(());
@@ -96,8 +97,10 @@ fn park_position(engine: &mut Engine, pos: Pos) -> Result<(), AllocError>
     ensures same { engine.new ≡ record engine.old { watches = engine.new.watches } }
     ensures engine { IsEngine engine.new }
     ensures parking { IsParking engine.old.watches engine.new.watches }
-    ensures others { (q : ClauseId) → q.pos ≢ pos → held_of engine.new.watches q ≡ held_of engine.old.watches q }
-    ensures parked { OnOk result (IsGapless (clause_of engine.old.watches) pos → (q : ClauseId) → q.pos ≡ pos → held_of engine.new.watches q ≡ None) }
+    ensures others { (q : ClauseId) → q.pos ≢ pos
+        → held_of engine.new.watches q ≡ held_of engine.old.watches q }
+    ensures parked { OnOk result (IsGapless (clause_of engine.old.watches) pos → (q : ClauseId)
+        → q.pos ≡ pos → held_of engine.new.watches q ≡ None) }
 {
     'parts: for part in 0..u32::MAX {
         let id = ClauseId { pos, part };
@@ -116,8 +119,11 @@ fn park_unneeded(engine: &mut Engine, needed: &VariableList, pos: Pos) -> Result
     ensures same { engine.new ≡ record engine.old { watches = engine.new.watches } }
     ensures engine { IsEngine engine.new }
     ensures parking { IsParking engine.old.watches engine.new.watches }
-    ensures needed { (q : ClauseId) → Contains needed.now (q.pos + 1) → held_of engine.new.watches q ≡ held_of engine.old.watches q }
-    ensures parked { OnOk result (IsGapless (clause_of engine.old.watches) pos → (Contains needed.now (pos + 1) → ⊥) → (q : ClauseId) → q.pos ≡ pos → held_of engine.new.watches q ≡ None) }
+    ensures needed { (q : ClauseId) → Contains needed.now (q.pos + 1)
+        → held_of engine.new.watches q ≡ held_of engine.old.watches q }
+    ensures parked { OnOk result (IsGapless (clause_of engine.old.watches) pos
+        → (Contains needed.now (pos + 1) → ⊥) → (q : ClauseId) → q.pos ≡ pos
+        → held_of engine.new.watches q ≡ None) }
 {
     if pos >= MOST {
         return Err(AllocError);
@@ -139,9 +145,12 @@ pub(crate) fn park_others(
     ensures same { engine.new ≡ record engine.old { watches = engine.new.watches } }
     ensures engine { IsEngine engine.new }
     ensures parking { IsParking engine.old.watches engine.new.watches }
-    ensures needed { (q : ClauseId) → Contains needed.now (q.pos + 1) → held_of engine.new.watches q ≡ held_of engine.old.watches q }
-    ensures parked { OnOk result (((p : ℕ) → Contains positions.now p → IsGapless (clause_of engine.old.watches) p) →
-        (q : ClauseId) → Contains positions.now q.pos → (Contains needed.now (q.pos + 1) → ⊥) → held_of engine.new.watches q ≡ None) }
+    ensures needed { (q : ClauseId) → Contains needed.now (q.pos + 1)
+        → held_of engine.new.watches q ≡ held_of engine.old.watches q }
+    ensures parked { OnOk result
+        (((p : ℕ) → Contains positions.now p → IsGapless (clause_of engine.old.watches) p) →
+        (q : ClauseId) → Contains positions.now q.pos → (Contains needed.now (q.pos + 1) → ⊥)
+        → held_of engine.new.watches q ≡ None) }
 {
     'positions: for pos in positions {
         park_unneeded(engine, needed, *pos)?;

@@ -44,11 +44,18 @@ fn sort_chain(engine: &mut Engine, at: Pos, left: &mut Vec<Pos>) -> Result<(), A
     ensures engine { OnOk result (IsEngine engine.new) }
     ensures level { OnOk result (level_of engine.new.trail ≡ 0) }
     ensures listed { OnOk result (engine.new.agenda.list ≡ engine.old.agenda.list) }
-    ensures kept { OnOk result ((q : ClauseId) → clause_of engine.new.watches q ≡ clause_of engine.old.watches q) }
-    ensures others { OnOk result ((q : ClauseId) → q ≢ record { pos = at; part = 0 } → held_of engine.new.watches q ≡ held_of engine.old.watches q) }
-    ensures sorted { OnOk result (IsSorted engine.old.watches engine.new.watches engine.old.agenda.list at) }
-    ensures noted { OnOk result (((clause_of engine.old.watches (record { pos = at; part = 0 }) ≡ None) × (left.new.items ≡ left.old.items))
-        ⊎ ((c : List Literal) × (clause_of engine.old.watches (record { pos = at; part = 0 }) ≡ Some c) × (left.new.items ≡ left.old.items ++ at ∷ []))) }
+    ensures kept { OnOk result ((q : ClauseId)
+        → clause_of engine.new.watches q ≡ clause_of engine.old.watches q) }
+    ensures others { OnOk result ((q : ClauseId) → q ≢ record { pos = at; part = 0 }
+        → held_of engine.new.watches q ≡ held_of engine.old.watches q) }
+    ensures sorted { OnOk result
+        (IsSorted engine.old.watches engine.new.watches engine.old.agenda.list at) }
+    ensures noted { OnOk result
+        (((clause_of engine.old.watches (record { pos = at; part = 0 }) ≡ None)
+        × (left.new.items ≡ left.old.items))
+        ⊎ ((c : List Literal)
+        × (clause_of engine.old.watches (record { pos = at; part = 0 }) ≡ Some c)
+        × (left.new.items ≡ left.old.items ++ at ∷ []))) }
 {
     let id = ClauseId { pos: at, part: 0 };
     let Some(clause) = engine.clause(id) else {
@@ -74,11 +81,17 @@ fn sort_chains(
     requires level { level_of engine.old.trail ≡ 0 }
     ensures engine { IfOk result (λ left. IsEngine engine.new) }
     ensures listed { IfOk result (λ left. engine.new.agenda.list ≡ engine.old.agenda.list) }
-    ensures kept { IfOk result (λ left. (q : ClauseId) → clause_of engine.new.watches q ≡ clause_of engine.old.watches q) }
-    ensures others { IfOk result (λ left. (q : ClauseId) → (Contains positions.now q.pos → ⊥) → held_of engine.new.watches q ≡ held_of engine.old.watches q) }
-    ensures came { IfOk result (λ left. (q : ClauseId) (c : List Literal) → held_of engine.new.watches q ≡ Some c → (held_of engine.old.watches q ≡ Some c) ⊎ Contains positions.now q.pos) }
-    ensures sorted { IfOk result (λ left. (p : ℕ) → Contains positions.now p → IsSorted engine.old.watches engine.new.watches engine.old.agenda.list p) }
-    ensures left { IfOk result (λ left. AreLeft (clause_of engine.old.watches) positions.now left.items) }
+    ensures kept { IfOk result (λ left. (q : ClauseId)
+        → clause_of engine.new.watches q ≡ clause_of engine.old.watches q) }
+    ensures others { IfOk result (λ left. (q : ClauseId) → (Contains positions.now q.pos → ⊥)
+        → held_of engine.new.watches q ≡ held_of engine.old.watches q) }
+    ensures came { IfOk result (λ left. (q : ClauseId) (c : List Literal)
+        → held_of engine.new.watches q ≡ Some c → (held_of engine.old.watches q ≡ Some c)
+        ⊎ Contains positions.now q.pos) }
+    ensures sorted { IfOk result (λ left. (p : ℕ) → Contains positions.now p
+        → IsSorted engine.old.watches engine.new.watches engine.old.agenda.list p) }
+    ensures left { IfOk result
+        (λ left. AreLeft (clause_of engine.old.watches) positions.now left.items) }
 {
     let mut left = Vec::new(alloc);
     'positions: for at in positions {
@@ -107,14 +120,20 @@ impl Search {
     // Keeps the opening positions with which the next check begins as well, and gives how many they are. The clauses of the others
     // are held no longer where the check does not need them.
     fn leave<B: Board>(&mut self, board: &B, positions: &[Pos]) -> Result<usize, AllocError>
-        requires resting { IsResting self.old (state_of (B.nodes board.now) (B.log board.now)).clauses (B.log board.now) }
+        requires resting { IsResting self.old
+            (state_of (B.nodes board.now) (B.log board.now)).clauses (B.log board.now) }
         ensures engine { IfOk result (λ stay. IsEngine self.new.engine) }
         ensures level { IfOk result (λ stay. level_of self.new.engine.trail ≡ 0) }
         ensures taken { IfOk result (λ stay. self.new.taken ≡ self.old.taken) }
         ensures within { IfOk result (λ stay. stay ≤ length positions.now) }
         ensures opening { IfOk result (λ stay. self.new.opening.items ≡ take stay positions.now) }
-        ensures fewer { IfOk result (λ stay. (id : ClauseId) (c : List Literal) → clause_of self.new.engine.watches id ≡ Some c → clause_of self.old.engine.watches id ≡ Some c) }
-        ensures filling { IfOk result (λ stay. IsFilling self.new.engine.watches (state_of (B.nodes board.now) (B.log board.now)).clauses (variables_in self.new) self.new.opening.items self.new.ends.items positions.now self.new.taken.items) }
+        ensures fewer { IfOk result (λ stay. (id : ClauseId) (c : List Literal)
+            → clause_of self.new.engine.watches id ≡ Some c
+            → clause_of self.old.engine.watches id ≡ Some c) }
+        ensures filling { IfOk result
+            (λ stay. IsFilling self.new.engine.watches
+            (state_of (B.nodes board.now) (B.log board.now)).clauses (variables_in self.new)
+            self.new.opening.items self.new.ends.items positions.now self.new.taken.items) }
     {
         let stay = shared(self.opening.as_slice(), positions);
         let count = self.listed_before(stay);
@@ -141,13 +160,20 @@ impl Search {
         requires known { (p : ℕ) → Contains positions.now p → B.knows board.now p }
         requires within { stay ≤ length positions.now }
         requires opening { self.old.opening.items ≡ take stay positions.now }
-        requires filling { IsFilling self.old.engine.watches (state_of (B.nodes board.now) (B.log board.now)).clauses (variables_in self.old) self.old.opening.items self.old.ends.items positions.now self.old.taken.items }
+        requires filling { IsFilling self.old.engine.watches
+            (state_of (B.nodes board.now) (B.log board.now)).clauses (variables_in self.old)
+            self.old.opening.items self.old.ends.items positions.now self.old.taken.items }
         ensures engine { OnOk result (IsEngine self.new.engine) }
         ensures level { OnOk result (level_of self.new.engine.trail ≡ 0) }
         ensures taken { OnOk result (self.new.taken ≡ self.old.taken) }
         ensures opening { OnOk result (self.new.opening.items ≡ positions.now) }
-        ensures came { OnOk result ((id : ClauseId) (c : List Literal) → clause_of self.new.engine.watches id ≡ Some c → (clause_of self.old.engine.watches id ≡ Some c) ⊎ Contains positions.now id.pos) }
-        ensures filling { OnOk result (IsFilling self.new.engine.watches (state_of (B.nodes board.now) (B.log board.now)).clauses (variables_in self.new) self.new.opening.items self.new.ends.items positions.now self.old.taken.items) }
+        ensures came { OnOk result ((id : ClauseId) (c : List Literal)
+            → clause_of self.new.engine.watches id ≡ Some c
+            → (clause_of self.old.engine.watches id ≡ Some c) ⊎ Contains positions.now id.pos) }
+        ensures filling { OnOk result
+            (IsFilling self.new.engine.watches
+            (state_of (B.nodes board.now) (B.log board.now)).clauses (variables_in self.new)
+            self.new.opening.items self.new.ends.items positions.now self.old.taken.items) }
     {
         'places: for place in stay..positions.len() {
             let end = self.engine.listed();
@@ -167,11 +193,14 @@ impl Search {
         positions: &[Pos],
         from: Pos,
     ) -> Result<(), AllocError>
-        requires resting { IsResting self.old (state_of (B.nodes board.now) (B.log board.now)).clauses (B.log board.now) }
+        requires resting { IsResting self.old
+            (state_of (B.nodes board.now) (B.log board.now)).clauses (B.log board.now) }
         requires known { (p : ℕ) → Contains positions.now p → B.knows board.now p }
-        requires plain { (p : ℕ) → Contains positions.now p → is_chain (entry_at (B.log board.now) p) ≡ false }
+        requires plain { (p : ℕ) → Contains positions.now p
+            → is_chain (entry_at (B.log board.now) p) ≡ false }
         requires below { (p : ℕ) → Contains positions.now p → p < from }
-        requires stored { AreStoredBelow (clause_of self.old.engine.watches) (B.log board.now) from }
+        requires stored { AreStoredBelow (clause_of self.old.engine.watches) (B.log board.now)
+            from }
         requires from { from ≤ suc (length (B.log board.now)) }
         requires listed { IsTermList (B.nodes board.now) }
         requires stands { IsLog (B.nodes board.now) (B.log board.now) }

@@ -29,13 +29,19 @@ impl Search {
         requires conflict { IsConflict self.old.engine.watches self.old.engine.trail conflict }
         requires told { IsCaughtUp (B.told board.old) (B.log board.old) }
         ensures run { IsSameRun self.old self.new }
-        ensures later { IsLater (B.nodes board.old) (B.nodes board.new) (B.log board.old) (B.log board.new) (B.knows board.old) (B.knows board.new) }
+        ensures later { IsLater (B.nodes board.old) (B.nodes board.new) (B.log board.old)
+            (B.log board.new) (B.knows board.old) (B.knows board.new) }
         ensures running { OnOk result (IsRunning self.new (B.nodes board.new) (B.log board.new)) }
         ensures looked { OnOk result (HasLooked self.new (B.log board.old) (B.told board.new)) }
-        ensures told { IfOk result (λ o. MatchOption o (IsCaughtUp (B.told board.new) (B.log board.new)) (λ e. Unit {0})) }
+        ensures told { IfOk result
+            (λ o. MatchOption o (IsCaughtUp (B.told board.new) (B.log board.new)) (λ e. Unit {0})) }
         ensures end { IfOk result (λ o. MatchOption o
-            (IsUpToDate self.old (B.nodes board.old) (B.log board.old) (B.knows board.old) → IsUpToDate self.new (B.nodes board.new) (B.log board.new) (B.knows board.new))
-            (IsEnd (IsUpToDate self.old (B.nodes board.old) (B.log board.old) (B.knows board.old)) (subject_of self.old (B.nodes board.new) (B.log board.new)) (B.knows board.new) (B.found board.new) (B.told board.new) self.old.opening.items (valuation_of self.new) cube budget)) }
+            (IsUpToDate self.old (B.nodes board.old) (B.log board.old) (B.knows board.old)
+            → IsUpToDate self.new (B.nodes board.new) (B.log board.new) (B.knows board.new))
+            (IsEnd (IsUpToDate self.old (B.nodes board.old) (B.log board.old) (B.knows board.old))
+            (subject_of self.old (B.nodes board.new) (B.log board.new)) (B.knows board.new)
+            (B.found board.new) (B.told board.new) self.old.opening.items
+            (valuation_of self.new) cube budget)) }
     {
         if self.engine.level() == self.engine.base() {
             return Ok(Some(End::Closed(self.close(board, Clash::Held(conflict))?)));
@@ -63,13 +69,19 @@ impl Search {
         requires running { IsRunning self.old (B.nodes board.old) (B.log board.old) }
         requires told { IsCaughtUp (B.told board.old) (B.log board.old) }
         ensures run { IsSameRun self.old self.new }
-        ensures later { IsLater (B.nodes board.old) (B.nodes board.new) (B.log board.old) (B.log board.new) (B.knows board.old) (B.knows board.new) }
+        ensures later { IsLater (B.nodes board.old) (B.nodes board.new) (B.log board.old)
+            (B.log board.new) (B.knows board.old) (B.knows board.new) }
         ensures running { OnOk result (IsRunning self.new (B.nodes board.new) (B.log board.new)) }
         ensures looked { OnOk result (HasLooked self.new (B.log board.old) (B.told board.new)) }
-        ensures told { IfOk result (λ o. MatchOption o (IsCaughtUp (B.told board.new) (B.log board.new)) (λ e. Unit {0})) }
+        ensures told { IfOk result
+            (λ o. MatchOption o (IsCaughtUp (B.told board.new) (B.log board.new)) (λ e. Unit {0})) }
         ensures end { IfOk result (λ o. MatchOption o
-            (IsUpToDate self.old (B.nodes board.old) (B.log board.old) (B.knows board.old) → IsUpToDate self.new (B.nodes board.new) (B.log board.new) (B.knows board.new))
-            (IsEnd (IsUpToDate self.old (B.nodes board.old) (B.log board.old) (B.knows board.old)) (subject_of self.old (B.nodes board.new) (B.log board.new)) (B.knows board.new) (B.found board.new) (B.told board.new) self.old.opening.items (valuation_of self.new) cube budget)) }
+            (IsUpToDate self.old (B.nodes board.old) (B.log board.old) (B.knows board.old)
+            → IsUpToDate self.new (B.nodes board.new) (B.log board.new) (B.knows board.new))
+            (IsEnd (IsUpToDate self.old (B.nodes board.old) (B.log board.old) (B.knows board.old))
+            (subject_of self.old (B.nodes board.new) (B.log board.new)) (B.knows board.new)
+            (B.found board.new) (B.told board.new) self.old.opening.items
+            (valuation_of self.new) cube budget)) }
     {
         if let Some(id) = self.engine.propagate() {
             return self.settle(board, id, cube, budget);
@@ -94,14 +106,23 @@ impl Search {
     ) -> Result<End, AllocError>
         requires search { IsSearch self.old (B.nodes board.old) (B.log board.old) }
         requires below { AreBelow (state_of (B.nodes board.old) (B.log board.old)).next given.now }
-        ensures later { IsLater (B.nodes board.old) (B.nodes board.new) (B.log board.old) (B.log board.new) (B.knows board.old) (B.knows board.new) }
+        ensures later { IsLater (B.nodes board.old) (B.nodes board.new) (B.log board.old)
+            (B.log board.new) (B.knows board.old) (B.knows board.new) }
         ensures search { OnOk result (IsSearch self.new (B.nodes board.new) (B.log board.new)) }
         ensures opening { self.new.opening ≡ self.old.opening }
         ensures from { self.new.from ≡ self.old.from }
         ensures looked { OnOk result (HasLooked self.new (B.log board.old) (B.told board.new)) }
-        ensures end { IfOk result (IsEnd (AreSeparate (state_of (B.nodes board.old) (B.log board.old)).clauses (B.log board.old) self.old.opening.items self.old.from)
-            (record { nodes = B.nodes board.new; log = B.log board.new; given = given.now; from = self.old.from })
-            (B.knows board.new) (B.found board.new) (B.told board.new) self.old.opening.items (valuation_of self.new) cube budget) }
+        ensures end { IfOk result
+            (IsEnd (AreSeparate (state_of (B.nodes board.old) (B.log board.old)).clauses
+            (B.log board.old) self.old.opening.items self.old.from)
+            (record {
+              nodes = B.nodes board.new;
+              log = B.log board.new;
+              given = given.now;
+              from = self.old.from;
+            })
+            (B.knows board.new) (B.found board.new) (B.told board.new) self.old.opening.items
+            (valuation_of self.new) cube budget) }
     {
         self.begin(given)?;
         if self.take_news(board)? {

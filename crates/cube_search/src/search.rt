@@ -39,7 +39,8 @@ pub struct Search {
 impl Search {
     /// A search that holds nothing.
     pub fn new(alloc: Global) -> Result<Search, AllocError>
-        ensures { IfOk result (λ s. (rows : List (List (List Literal))) (log : List Entry) → IsResting s rows log) }
+        ensures { IfOk result (λ s. (rows : List (List (List Literal))) (log : List Entry)
+            → IsResting s rows log) }
     {
         let watches = Watches::new(alloc)?;
         let trail = Trail::new(alloc);

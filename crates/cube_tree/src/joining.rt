@@ -33,7 +33,8 @@ fn resolve(
     requires right { (c : List Literal) × (clause_at log.old.clauses (first_of right) ≡ Some c) }
     ensures stands { Stands terms.now.nodes log.new }
     ensures grows { Grows log.old.entries log.new.entries }
-    ensures found { IfOk result (λ p. (c : List Literal) × (clause_at log.new.clauses (first_of p) ≡ Some c)) }
+    ensures found { IfOk result (λ p. (c : List Literal)
+        × (clause_at log.new.clauses (first_of p) ≡ Some c)) }
     ensures closes { IfOk result (λ p. (assumed cube : List Literal) →
         Closes (clause_at log.old.clauses) assumed (positive_of variable ∷ cube) left →
         Closes (clause_at log.old.clauses) assumed (negative_of variable ∷ cube) right →

@@ -29,9 +29,11 @@ pub(crate) fn has_pair(clause: &[Lit]) -> bool
 
 // Puts a literal at the end, unless it is the one to be left out.
 fn push_unless(literal: Lit, skip: Lit, into: &mut Vec<Lit>) -> Result<(), AllocError>
-    ensures kept { OnOk result ((m : Literal) → Contains into.old.items m → Contains into.new.items m) }
+    ensures kept { OnOk result ((m : Literal) → Contains into.old.items m
+        → Contains into.new.items m) }
     ensures has { OnOk result ((literal ≡ skip) ⊎ Contains into.new.items literal) }
-    ensures only { OnOk result ((m : Literal) → Contains into.new.items m → Contains into.old.items m ⊎ ((m ≡ literal) × (literal ≢ skip))) }
+    ensures only { OnOk result ((m : Literal) → Contains into.new.items m
+        → Contains into.old.items m ⊎ ((m ≡ literal) × (literal ≢ skip))) }
 {
     if literal == skip {
         return Ok(());
@@ -42,9 +44,11 @@ fn push_unless(literal: Lit, skip: Lit, into: &mut Vec<Lit>) -> Result<(), Alloc
 
 // Puts the literals at the end but for the one to be left out.
 fn add_without(from: &[Lit], skip: Lit, into: &mut Vec<Lit>) -> Result<(), AllocError>
-    ensures kept { OnOk result ((k : Literal) → Contains into.old.items k → Contains into.new.items k) }
+    ensures kept { OnOk result ((k : Literal) → Contains into.old.items k
+        → Contains into.new.items k) }
     ensures has { OnOk result (All (λ k. (k ≡ skip) ⊎ Contains into.new.items k) from.now) }
-    ensures only { OnOk result ((k : Literal) → Contains into.new.items k → Contains into.old.items k ⊎ (Contains from.now k × (k ≢ skip))) }
+    ensures only { OnOk result ((k : Literal) → Contains into.new.items k
+        → Contains into.old.items k ⊎ (Contains from.now k × (k ≢ skip))) }
 {
     for literal in from {
         push_unless(*literal, skip, into)?;

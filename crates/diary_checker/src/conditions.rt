@@ -114,7 +114,8 @@ fn is_within(log: &Log, held: &Positions, own: &LiteralNumbers, id: ClauseId) ->
 fn is_one_within(log: &Log, held: &Positions, own: &LiteralNumbers, ids: &[ClauseId]) -> bool
     ensures { MatchBool result
         ((id : ClauseId) × Subsumes (clause_at log.now.clauses) (bit_in held.now) own.now id)
-        ((id : ClauseId) → Contains ids.now id → ¬ (Subsumes (clause_at log.now.clauses) (bit_in held.now) own.now id)) }
+        ((id : ClauseId) → Contains ids.now id
+        → ¬ (Subsumes (clause_at log.now.clauses) (bit_in held.now) own.now id)) }
 {
     for id in ids {
         if is_within(log, held, own, *id) {
@@ -134,7 +135,9 @@ pub(crate) fn is_subsumed(
 ) -> bool
     ensures { MatchBool result
         ((id : ClauseId) × Subsumes (clause_at log.now.clauses) (bit_in held.now) own.now id)
-        ((id : ClauseId) (key : Option Literal) → MayBeUnder clause.now key → Contains (filed_under watches.now key) id → ¬ (Subsumes (clause_at log.now.clauses) (bit_in held.now) own.now id)) }
+        ((id : ClauseId) (key : Option Literal) → MayBeUnder clause.now key
+        → Contains (filed_under watches.now key) id
+        → ¬ (Subsumes (clause_at log.now.clauses) (bit_in held.now) own.now id)) }
 {
     if is_one_within(log, held, own, watches.under(None)) {
         return true;

@@ -28,8 +28,10 @@ pub(crate) fn is_chain_at(log: &Log, at: Pos) -> bool
 // Of a literal and the key so far, the one under which fewer clauses are filed.
 fn shorter(watches: &Watches, key: Option<Lit>, l: Lit) -> Lit
     ensures one { (result ≡ l) ⊎ (key ≡ Some result) }
-    ensures here { length (filed_under watches.now (Some result)) ≤ length (filed_under watches.now (Some l)) }
-    ensures before { (k : Literal) → key ≡ Some k → length (filed_under watches.now (Some result)) ≤ length (filed_under watches.now (Some k)) }
+    ensures here { length (filed_under watches.now (Some result))
+        ≤ length (filed_under watches.now (Some l)) }
+    ensures before { (k : Literal) → key ≡ Some k → length (filed_under watches.now (Some result))
+        ≤ length (filed_under watches.now (Some k)) }
 {
     let Some(k) = key else {
         return l;
@@ -54,8 +56,10 @@ fn key_of(watches: &Watches, clause: &[Lit]) -> Option<Lit>
 
 // Files each clause of a position under the literal whose list is shortest. A position with as many clauses as there are names has no room.
 fn file(watches: &mut Watches, log: &Log, at: Pos) -> Result<(), AllocError>
-    ensures kept { (k : Option Literal) (i : ClauseId) → Contains (filed_under watches.old k) i → Contains (filed_under watches.new k) i }
-    ensures filed { OnOk result ((id : ClauseId) (c : List Literal) → id.pos ≡ at → clause_at log.now.clauses id ≡ Some c → IsFiled watches.new id c) }
+    ensures kept { (k : Option Literal) (i : ClauseId) → Contains (filed_under watches.old k) i
+        → Contains (filed_under watches.new k) i }
+    ensures filed { OnOk result ((id : ClauseId) (c : List Literal) → id.pos ≡ at
+        → clause_at log.now.clauses id ≡ Some c → IsFiled watches.new id c) }
 {
     for part in 0..u32::MAX {
         let id = ClauseId { pos: at, part };
@@ -75,9 +79,12 @@ pub(crate) fn hold(
     log: &Log,
     at: Pos,
 ) -> Result<(), AllocError>
-    ensures held { OnOk result ((p : ℕ) → bit_in held.new p ≡ with_held (bit_in held.old) at true p) }
-    ensures filed { OnOk result (AreFiled (clause_at log.now.clauses) (bit_in held.old) watches.old → AreFiled (clause_at log.now.clauses) (bit_in held.new) watches.new) }
-    ensures kept { (k : Option Literal) (i : ClauseId) → Contains (filed_under watches.old k) i → Contains (filed_under watches.new k) i }
+    ensures held { OnOk result ((p : ℕ)
+        → bit_in held.new p ≡ with_held (bit_in held.old) at true p) }
+    ensures filed { OnOk result (AreFiled (clause_at log.now.clauses) (bit_in held.old) watches.old
+        → AreFiled (clause_at log.now.clauses) (bit_in held.new) watches.new) }
+    ensures kept { (k : Option Literal) (i : ClauseId) → Contains (filed_under watches.old k) i
+        → Contains (filed_under watches.new k) i }
     ensures err { OnErr result ((p : ℕ) → bit_in held.new p ≡ bit_in held.old p) }
 {
     if held.has(at) {
@@ -94,8 +101,12 @@ fn hold_plain(
     log: &Log,
     at: Pos,
 ) -> Result<(), AllocError>
-    ensures held { OnOk result (((p : ℕ) → bit_in held.old p ≡ (ltb p at && not (is_chain (entry_at log.now.entries p)))) → (p : ℕ) → bit_in held.new p ≡ (ltb p (at + 1) && not (is_chain (entry_at log.now.entries p)))) }
-    ensures filed { OnOk result (AreFiled (clause_at log.now.clauses) (bit_in held.old) watches.old → AreFiled (clause_at log.now.clauses) (bit_in held.new) watches.new) }
+    ensures held { OnOk result
+        (((p : ℕ) → bit_in held.old p ≡ (ltb p at && not (is_chain (entry_at log.now.entries p))))
+        → (p : ℕ) → bit_in held.new p
+        ≡ (ltb p (at + 1) && not (is_chain (entry_at log.now.entries p)))) }
+    ensures filed { OnOk result (AreFiled (clause_at log.now.clauses) (bit_in held.old) watches.old
+        → AreFiled (clause_at log.now.clauses) (bit_in held.new) watches.new) }
 {
     if is_chain_at(log, at) {
         return Ok(());
@@ -111,8 +122,10 @@ pub(crate) fn hold_start(
     from: Pos,
 ) -> Result<(), AllocError>
     requires none { (p : ℕ) → bit_in held.old p ≡ false }
-    ensures held { OnOk result ((p : ℕ) → bit_in held.new p ≡ (ltb p from && not (is_chain (entry_at log.now.entries p)))) }
-    ensures filed { OnOk result (AreFiled (clause_at log.now.clauses) (bit_in held.new) watches.new) }
+    ensures held { OnOk result ((p : ℕ)
+        → bit_in held.new p ≡ (ltb p from && not (is_chain (entry_at log.now.entries p)))) }
+    ensures filed { OnOk result
+        (AreFiled (clause_at log.now.clauses) (bit_in held.new) watches.new) }
 {
     for at in 0..from {
         hold_plain(held, watches, log, at)?;

@@ -93,9 +93,11 @@ pub(crate) fn is_good_put(
     clause: &[Lit],
     hints: &Hints,
 ) -> Result<bool, AllocError>
-    ensures { IfOk result (λ b. (g : Subject) → look_of g ≡ clause_at log.now.clauses → IsSetOf given.now g.given →
+    ensures { IfOk result (λ b. (g : Subject) → look_of g ≡ clause_at log.now.clauses
+        → IsSetOf given.now g.given →
         AreFiled (clause_at log.now.clauses) (bit_in held.now) watches.now →
-        MatchBool b (IsGoodPut g (bit_in held.now) clause.now hints.now) (¬ (IsGoodPut g (bit_in held.now) clause.now hints.now))) }
+        MatchBool b (IsGoodPut g (bit_in held.now) clause.now hints.now)
+        (¬ (IsGoodPut g (bit_in held.now) clause.now hints.now))) }
 {
     if !is_derived(
         log,

@@ -44,7 +44,8 @@ impl Positions {
 
     /// Says of a position whether it is held.
     pub(crate) fn set(&mut self, at: Pos, held: bool) -> Result<(), AllocError>
-        ensures ok { OnOk result ((p : ℕ) → bit_in self.new p ≡ with_held (bit_in self.old) at held p) }
+        ensures ok { OnOk result ((p : ℕ)
+            → bit_in self.new p ≡ with_held (bit_in self.old) at held p) }
         ensures err { OnErr result ((p : ℕ) → bit_in self.new p ≡ bit_in self.old p) }
     {
         let place = at as usize;

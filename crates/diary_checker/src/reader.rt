@@ -41,7 +41,16 @@ impl Model for DiaryReader {
 
     ghost Value = { ReaderValue };
 
-    ghost view = { λ r. record { given = r.given; held = r.held; chains = r.chains; puts = r.puts; drops = r.drops; ended = r.ended; filed = r.watches } };
+    ghost view = { λ r.
+        record {
+          given = r.given;
+          held = r.held;
+          chains = r.chains;
+          puts = r.puts;
+          drops = r.drops;
+          ended = r.ended;
+          filed = r.watches;
+        } };
 }
 
 impl DiaryReader {
@@ -53,7 +62,8 @@ impl DiaryReader {
         given: &[Lit],
         from: Pos,
     ) -> Result<DiaryReader, AllocError>
-        ensures { IfOk result (λ r. (g : Subject) → IsAbout g log.now → g.given ≡ given.now → g.from ≡ from → HasRead g [] r) }
+        ensures { IfOk result (λ r. (g : Subject) → IsAbout g log.now → g.given ≡ given.now
+            → g.from ≡ from → HasRead g [] r) }
     {
         let mut held = Positions::new(alloc);
         let mut watches = Watches::new(alloc);
@@ -75,9 +85,11 @@ impl DiaryReader {
     /// Takes one line more and answers true exactly where it may stand after those that were taken, else all is as before.
     /// The log is the one that the reader was made over. For want of memory the lines that were taken are as before.
     pub fn line(&mut self, log: &Log, line: DiaryLine) -> Result<bool, AllocError>
-        ensures { (g : Subject) (lines : List DiaryLine) → IsAbout g log.now → HasRead g lines self.old → MatchResult result
+        ensures { (g : Subject) (lines : List DiaryLine) → IsAbout g log.now
+            → HasRead g lines self.old → MatchResult result
             (λ taken. MatchBool taken
-            (IsLine g (lines_after g (blank g) lines) line × HasRead g (lines ++ line ∷ []) self.new)
+            (IsLine g (lines_after g (blank g) lines) line
+            × HasRead g (lines ++ line ∷ []) self.new)
             ((¬ (IsLine g (lines_after g (blank g) lines) line)) × (self.new ≡ self.old)))
             (λ e. HasRead g lines self.new) }
     {
@@ -86,14 +98,16 @@ impl DiaryReader {
 
     /// Whether the lines that were taken have spent the budget.
     pub fn is_spent(&self, budget: u64) -> bool
-        ensures { (g : Subject) (lines : List DiaryLine) → HasRead g lines self.now → MatchBool result (IsSpent g budget lines) (¬ (IsSpent g budget lines)) }
+        ensures { (g : Subject) (lines : List DiaryLine) → HasRead g lines self.now
+            → MatchBool result (IsSpent g budget lines) (¬ (IsSpent g budget lines)) }
     {
         self.ended && is_one_more(self.puts, budget)
     }
 
     fn decide(&mut self, log: &Log, line: DiaryLine) -> Result<bool, AllocError>
         ensures { (g : Subject) → IsAbout g log.now → IsSetUp g self.old →
-            MatchResult result (IsDecided g self.old self.new line) (λ e. IsUndecided g self.old self.new) }
+            MatchResult result (IsDecided g self.old self.new line)
+            (λ e. IsUndecided g self.old self.new) }
     {
         match line {
             DiaryLine::Take(at) => self.take(log, at),
@@ -104,7 +118,8 @@ impl DiaryReader {
 
     fn take(&mut self, log: &Log, at: Pos) -> Result<bool, AllocError>
         ensures { (g : Subject) → IsAbout g log.now → IsSetUp g self.old →
-            MatchResult result (IsDecided g self.old self.new (row.Take at)) (λ e. IsUndecided g self.old self.new) }
+            MatchResult result (IsDecided g self.old self.new (row.Take at))
+            (λ e. IsUndecided g self.old self.new) }
     {
         if log.len() <= at {
             return Ok(false);
@@ -121,7 +136,8 @@ impl DiaryReader {
 
     fn put(&mut self, log: &Log, at: Pos) -> Result<bool, AllocError>
         ensures { (g : Subject) → IsAbout g log.now → IsSetUp g self.old →
-            MatchResult result (IsDecided g self.old self.new (row.Put at)) (λ e. IsUndecided g self.old self.new) }
+            MatchResult result (IsDecided g self.old self.new (row.Put at))
+            (λ e. IsUndecided g self.old self.new) }
     {
         let Some((clause, hints)) = chain_at(log, at) else {
             return Ok(false);
@@ -153,7 +169,8 @@ impl DiaryReader {
 
     fn give_up(&mut self, log: &Log, at: Pos) -> Result<bool, AllocError>
         ensures { (g : Subject) → IsAbout g log.now → IsSetUp g self.old →
-            MatchResult result (IsDecided g self.old self.new (row.Drop at)) (λ e. IsUndecided g self.old self.new) }
+            MatchResult result (IsDecided g self.old self.new (row.Drop at))
+            (λ e. IsUndecided g self.old self.new) }
     {
         if self.drops == 0 {
             return Ok(false);
@@ -175,7 +192,8 @@ impl DiaryReader {
 // The clause and the hints of the chain at a position, if a chain stands there.
 fn chain_at(log: &Log, at: Pos) -> Option<(&Clause, &Hints)>
     ensures { MatchOption result
-        ((c : List Literal) (hints : List ClauseId) → entry_at log.now.entries at ≢ Some (step.Chain c hints))
+        ((c : List Literal) (hints : List ClauseId)
+        → entry_at log.now.entries at ≢ Some (step.Chain c hints))
         (λ r. entry_at log.now.entries at ≡ Some (step.Chain r.0.now r.1.now)) }
 {
     match log.entry(at) {

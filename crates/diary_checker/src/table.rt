@@ -25,7 +25,8 @@ impl Model for LiteralNumbers {
 
     ghost view = { λ t. record { stamps = t.stamps.items; clock = t.clock } };
 
-    ghost invariant = { λ t. ((row : ℕ) → slice_index_or t.stamps.items row 0 ≤ t.top) × (t.clock ≤ t.top) };
+    ghost invariant = { λ t. ((row : ℕ) → slice_index_or t.stamps.items row 0 ≤ t.top)
+        × (t.clock ≤ t.top) };
 }
 
 impl LiteralNumbers {
@@ -82,7 +83,8 @@ fn later(a: u64, b: u64) -> u64
 
 // Makes room for a row.
 fn grow(stamps: &mut Vec<u64>, row: usize) -> Result<(), AllocError>
-    ensures same { (k : ℕ) → slice_index_or stamps.new.items k 0 ≡ slice_index_or stamps.old.items k 0 }
+    ensures same { (k : ℕ)
+        → slice_index_or stamps.new.items k 0 ≡ slice_index_or stamps.old.items k 0 }
     ensures room { OnOk result (row < length stamps.new.items) }
 {
     let Some(wanted) = row.checked_add(1) else {

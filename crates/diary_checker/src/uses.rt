@@ -16,7 +16,8 @@ use std::alloc::AllocError;
 
 // Gives each literal of a clause a number.
 fn mark(table: &mut LiteralNumbers, clause: &[Lit], number: u64) -> Result<(), AllocError>
-    ensures { OnOk result ((l : Literal) → IsGiven (Contains clause.now l) number table.old table.new l) }
+    ensures { OnOk result ((l : Literal)
+        → IsGiven (Contains clause.now l) number table.old table.new l) }
 {
     for l in clause {
         table.set(*l, number)?;
@@ -31,7 +32,8 @@ fn mark_hint(
     id: ClauseId,
     number: u64,
 ) -> Result<(), AllocError>
-    ensures { OnOk result ((l : Literal) → IsGiven (HasIn (clause_at log.now.clauses) id l) number table.old table.new l) }
+    ensures { OnOk result ((l : Literal)
+        → IsGiven (HasIn (clause_at log.now.clauses) id l) number table.old table.new l) }
 {
     match log.clause(id) {
         Some(clause) => mark(table, clause.literals(), number),
@@ -72,7 +74,8 @@ fn first_open(trues: &LiteralNumbers, clause: &[Lit]) -> Option<Lit>
 fn is_only_open(trues: &LiteralNumbers, clause: &[Lit], sole: Lit) -> bool
     ensures { MatchBool result
         ((k : Literal) → Contains clause.now k → (k ≡ sole) ⊎ (0 < number_of trues.now (negated k)))
-        ((k : Literal) × Contains clause.now k × (k ≢ sole) × (number_of trues.now (negated k) ≡ 0)) }
+        ((k : Literal) × Contains clause.now k × (k ≢ sole)
+        × (number_of trues.now (negated k) ≡ 0)) }
 {
     for l in clause {
         if !is_closed(trues, *l, sole) {
@@ -84,7 +87,8 @@ fn is_only_open(trues: &LiteralNumbers, clause: &[Lit], sole: Lit) -> bool
 
 // Whether a literal is the one that may be open, or false.
 fn is_closed(trues: &LiteralNumbers, l: Lit, sole: Lit) -> bool
-    ensures { MatchBool result ((l ≡ sole) ⊎ (0 < number_of trues.now (negated l))) ((l ≢ sole) × (number_of trues.now (negated l) ≡ 0)) }
+    ensures { MatchBool result ((l ≡ sole) ⊎ (0 < number_of trues.now (negated l))) ((l ≢ sole)
+        × (number_of trues.now (negated l) ≡ 0)) }
 {
     if l == sole {
         return true;
@@ -94,7 +98,9 @@ fn is_closed(trues: &LiteralNumbers, l: Lit, sole: Lit) -> bool
 
 // The one literal of a clause that is not false, if there is just one.
 fn sole_open(trues: &LiteralNumbers, clause: &[Lit]) -> Option<Lit>
-    ensures { (known : List Literal) → IsSetOf trues.now known → MatchOption result ((l : Literal) → ¬ (IsUnit known clause.now l)) (IsUnit known clause.now) }
+    ensures { (known : List Literal) → IsSetOf trues.now known
+        → MatchOption result ((l : Literal) → ¬ (IsUnit known clause.now l))
+        (IsUnit known clause.now) }
 {
     let Some(l) = first_open(trues, clause) else {
         return None;
@@ -108,7 +114,8 @@ fn sole_open(trues: &LiteralNumbers, clause: &[Lit]) -> Option<Lit>
 // The one literal of a hint's clause that is not false, if there is just one.
 fn open_at(log: &Log, trues: &LiteralNumbers, id: ClauseId) -> Option<Lit>
     ensures { (known : List Literal) → IsSetOf trues.now known → MatchOption result
-        ((h : List Literal) (l : Literal) → clause_at log.now.clauses id ≡ Some h → ¬ (IsUnit known h l))
+        ((h : List Literal) (l : Literal) → clause_at log.now.clauses id ≡ Some h
+        → ¬ (IsUnit known h l))
         (λ l. (h : List Literal) × (clause_at log.now.clauses id ≡ Some h) × IsUnit known h l) }
 {
     match log.clause(id) {
@@ -126,7 +133,8 @@ pub(crate) fn are_used(
 ) -> Result<bool, AllocError>
     requires { AreLasts (clause_at log.now.clauses) lasts.now hints.now }
     ensures { IfOk result (λ b. (known : List Literal) → IsSetOf trues.old known →
-        MatchBool b (EachIsUsed (clause_at log.now.clauses) known hints.now) (¬ (EachIsUsed (clause_at log.now.clauses) known hints.now))) }
+        MatchBool b (EachIsUsed (clause_at log.now.clauses) known hints.now)
+        (¬ (EachIsUsed (clause_at log.now.clauses) known hints.now))) }
 {
     let count = hints.len();
     for k in 0..count {

@@ -85,7 +85,8 @@ impl Watches {
 
     /// Files one clause more.
     pub(crate) fn add(&mut self, key: Option<Lit>, id: ClauseId) -> Result<(), AllocError>
-        ensures kept { (k : Option Literal) (i : ClauseId) → Contains (filed_under self.old k) i → Contains (filed_under self.new k) i }
+        ensures kept { (k : Option Literal) (i : ClauseId) → Contains (filed_under self.old k) i
+            → Contains (filed_under self.new k) i }
         ensures ok { OnOk result (Contains (filed_under self.new key) id) }
     {
         let at = row(key);
@@ -105,7 +106,8 @@ fn row(key: Option<Lit>) -> usize
 
 // Makes room for a row.
 fn grow(alloc: Global, lists: &mut Vec<Names>, at: usize) -> Result<(), AllocError>
-    ensures same { (k : ℕ) → slice_index_or lists.new.items k [] ≡ slice_index_or lists.old.items k [] }
+    ensures same { (k : ℕ)
+        → slice_index_or lists.new.items k [] ≡ slice_index_or lists.old.items k [] }
     ensures room { OnOk result (at < length lists.new.items) }
 {
     let Some(wanted) = at.checked_add(1) else {
@@ -119,7 +121,8 @@ fn grow(alloc: Global, lists: &mut Vec<Names>, at: usize) -> Result<(), AllocErr
 
 // One row more.
 fn add_row(alloc: Global, lists: &mut Vec<Names>) -> Result<(), AllocError>
-    ensures same { (k : ℕ) → slice_index_or lists.new.items k [] ≡ slice_index_or lists.old.items k [] }
+    ensures same { (k : ℕ)
+        → slice_index_or lists.new.items k [] ≡ slice_index_or lists.old.items k [] }
     ensures ok { OnOk result (length lists.new.items ≡ length lists.old.items + 1) }
 {
     match lists.push(Names::new(alloc)) {

@@ -21,12 +21,14 @@ pub fn chains_have_no_fault()
 
 /// Hints have at most one first fault.
 pub fn first_fault_is_one()
-    ensures { (look : Lookup) (clause : List Literal) (hints : List ClauseId) (fault other : ChainFault) →
+    ensures { (look : Lookup) (clause : List Literal) (hints : List ClauseId)
+        (fault other : ChainFault) →
         FirstFault look clause hints fault → FirstFault look clause hints other → fault ≡ other }
 {}
 
 /// A chain stays one where more clauses can be looked up.
 pub fn more_clauses_keep_chains()
-    ensures { (look more : Lookup) → FindsMore look more → (clause : List Literal) (hints : List ClauseId) →
+    ensures { (look more : Lookup) → FindsMore look more
+        → (clause : List Literal) (hints : List ClauseId) →
         IsChain look clause hints → IsChain more clause hints }
 {}

@@ -113,7 +113,11 @@ impl Rounds {
     /// Marks the literal.
     pub(crate) fn mark(&mut self, l: Lit)
         requires { HasPlace self.old l }
-        ensures { self.new ≡ record { stamps = slice_set self.old.stamps (code_of l) self.old.round; round = self.old.round } }
+        ensures { self.new
+            ≡ record {
+              stamps = slice_set self.old.stamps (code_of l) self.old.round;
+              round = self.old.round;
+            } }
     {
         self.stamps[l.code() as usize] = self.round;
     }

@@ -35,7 +35,8 @@ pub fn follows<C: Clauses>(
     marks: &mut Marks,
 ) -> Result<(), ChainFault>
     requires room { AreBelow marks.old clause.now }
-    requires rooms { (id : ClauseId) (h : List Literal) → C.look clauses.now id ≡ Some h → AreBelow marks.old h }
+    requires rooms { (id : ClauseId) (h : List Literal) → C.look clauses.now id ≡ Some h
+        → AreBelow marks.old h }
     ensures exactly { MatchResult result
         (λ _. IsChain (C.look clauses.now) clause.now hints.now)
         (FirstFault (C.look clauses.now) clause.now hints.now) }
@@ -72,7 +73,8 @@ fn negate(trues: &mut Rounds, clause: &[Lit]) -> bool
 
 // Reads the hints in order, from the marked literals.
 fn read<C: Clauses>(clauses: &C, trues: &mut Rounds, hints: &Hints) -> Result<(), ChainFault>
-    requires { (id : ClauseId) (h : List Literal) → C.look clauses.now id ≡ Some h → HasRoom trues.old h }
+    requires { (id : ClauseId) (h : List Literal) → C.look clauses.now id ≡ Some h
+        → HasRoom trues.old h }
     ensures room { length trues.new.stamps ≡ length trues.old.stamps }
     ensures exactly { (known : List Literal) → Agrees trues.old known → MatchResult result
         (λ _. ChainFrom (C.look clauses.now) known hints.now)
@@ -97,9 +99,11 @@ fn read<C: Clauses>(clauses: &C, trues: &mut Rounds, hints: &Hints) -> Result<()
 
 // The shape of the clause that a hint names, if there is one.
 fn shape_at<C: Clauses>(clauses: &C, trues: &Rounds, id: ClauseId) -> Option<Shape>
-    requires { (i : ClauseId) (h : List Literal) → C.look clauses.now i ≡ Some h → HasRoom trues.now h }
+    requires { (i : ClauseId) (h : List Literal) → C.look clauses.now i ≡ Some h
+        → HasRoom trues.now h }
     ensures shape { MatchOption result (C.look clauses.now id ≡ None) (λ s.
-        (h : List Literal) × (C.look clauses.now id ≡ Some h) × ((known : List Literal) → Agrees trues.now known → HasShape known h s)) }
+        (h : List Literal) × (C.look clauses.now id ≡ Some h)
+        × ((known : List Literal) → Agrees trues.now known → HasShape known h s)) }
     ensures room { IfSome result (λ s. (l : Literal) → s ≡ Shape.OneOpen l → HasPlace trues.now l) }
 {
     match clauses.clause(id) {
@@ -110,7 +114,8 @@ fn shape_at<C: Clauses>(clauses: &C, trues: &Rounds, id: ClauseId) -> Option<Sha
 
 // What the last hint says, by the shape of its clause.
 fn last(k: usize, shape: Shape) -> Result<(), ChainFault>
-    ensures { MatchResult result (λ _. shape ≡ Shape.AllFalse) (λ f. (shape ≢ Shape.AllFalse) × (f ≡ fault_at k FaultKind.Loose)) }
+    ensures { MatchResult result (λ _. shape ≡ Shape.AllFalse) (λ f. (shape ≢ Shape.AllFalse)
+        × (f ≡ fault_at k FaultKind.Loose)) }
 {
     match shape {
         Shape::AllFalse => Ok(()),

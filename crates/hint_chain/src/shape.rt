@@ -19,7 +19,8 @@ pub(crate) enum Shape {
 /// The shape of a clause, of which a mark says that a literal is true.
 pub(crate) fn shape_of(trues: &Rounds, clause: &[Lit]) -> Shape
     requires { HasRoom trues.now clause.now }
-    ensures shape { (known : List Literal) → Agrees trues.now known → HasShape known clause.now result }
+    ensures shape { (known : List Literal) → Agrees trues.now known
+        → HasShape known clause.now result }
     ensures room { (l : Literal) → result ≡ Shape.OneOpen l → HasPlace trues.now l }
 {
     let mut shape = Shape::AllFalse;

@@ -17,7 +17,8 @@ struct Pair {
 }
 
 impl Clauses for Pair {
-    ghost look = { λ pair id. if id.pos == 0 then Some pair.first else (if id.pos == 1 then Some pair.second else None) };
+    ghost look = { λ pair id. if id.pos == 0 then Some pair.first else
+        (if id.pos == 1 then Some pair.second else None) };
 
     fn clause(&self, id: ClauseId) -> Option<&Clause> {
         match id.pos {

@@ -75,7 +75,8 @@ fn worked<'h, 'a, R: Wait>(
     topic: u64,
 ) -> Worker<'h, 'a>
     requires { IsPassOf hist.now pass × (topic < length hist.now.law.topics.now) }
-    ensures { (result.hist.now ≡ hist.entry.now) × (result.pass.number ≡ pass.entry.number) × (result.pass.made ≡ pass.entry.made) }
+    ensures { (result.hist.now ≡ hist.entry.now) × (result.pass.number ≡ pass.entry.number)
+        × (result.pass.made ≡ pass.entry.made) }
 {
     let task = Task { topic, times: 300 };
     let worker = Worker {

@@ -24,11 +24,14 @@ pub fn run<R: Threads + Wait + Sync>(
 ) -> Option<Pieces<Event>>
     requires few { length tasks.now < 2 ^ 16 }
     requires topics { All (λ t. t.topic < length law.topics.now) tasks.now }
-    ensures own { IfSome result (λ all. (k : ℕ) (d : Task) → k < length tasks.now → let t = slice_index_or tasks.now k d in of_pass by_of (k + 1) all ≡ notes (k + 1) t.topic t.times) }
+    ensures own { IfSome result (λ all. (k : ℕ) (d : Task) → k < length tasks.now
+        → let t = slice_index_or tasks.now k d in of_pass by_of (k + 1) all
+        ≡ notes (k + 1) t.topic t.times) }
 
     // There is no other event.
     ensures first { IfSome result (λ all. of_pass by_of 0 all ≡ []) }
-    ensures below { IfSome result (λ all. AllByRecursion (λ e. by_of e < length tasks.now + 1) all) }
+    ensures below { IfSome result
+        (λ all. AllByRecursion (λ e. by_of e < length tasks.now + 1) all) }
 {
     let (hist, mut first) = Hist::start(alloc, law).ok()?;
     let workers = hire(alloc, &hist, &mut first, tasks)?;
@@ -45,11 +48,14 @@ fn hire<'h, 'a>(
     first: &mut Pass<Pool<'a>>,
     tasks: &[Task],
 ) -> Option<Vec<Worker<'h, 'a>>>
-    requires first { IsPassOf hist.now first.old × (first.old.number ≡ 0) × (first.old.made ≡ 1) × (first.old.mine ≡ []) }
-    requires tasks { (length tasks.now < 2 ^ 16) × All (λ t. t.topic < length hist.now.law.topics.now) tasks.now }
+    requires first { IsPassOf hist.now first.old × (first.old.number ≡ 0) × (first.old.made ≡ 1)
+        × (first.old.mine ≡ []) }
+    requires tasks { (length tasks.now < 2 ^ 16)
+        × All (λ t. t.topic < length hist.now.law.topics.now) tasks.now }
     ensures first { IsPassOf hist.now first.new × (first.new.number ≡ 0) × (first.new.mine ≡ []) }
     ensures made { IfSome result (λ v. first.new.made ≡ length tasks.now + 1) }
-    ensures workers { IfSome result (λ v. (vec_len v ≡ length tasks.now) × Each (IsReady hist.now) tasks.now v.items) }
+    ensures workers { IfSome result (λ v. (vec_len v ≡ length tasks.now)
+        × Each (IsReady hist.now) tasks.now v.items) }
 {
     let mut workers = Vec::new(alloc);
     for task in tasks {
@@ -75,8 +81,10 @@ fn work<'h, 'a, R: Threads + Wait + Sync>(
     tasks: &[Task],
     workers: Vec<Worker<'h, 'a>>,
 ) -> Option<Vec<Worker<'h, 'a>>>
-    requires { (vec_len workers ≡ length tasks.now) × Each (IsReady hist.now) tasks.now workers.items }
-    ensures { IfSome result (λ v. (vec_len v ≡ length tasks.now) × Each (HasWorked hist.now) tasks.now v.items) }
+    requires { (vec_len workers ≡ length tasks.now)
+        × Each (IsReady hist.now) tasks.now workers.items }
+    ensures { IfSome result (λ v. (vec_len v ≡ length tasks.now)
+        × Each (HasWorked hist.now) tasks.now v.items) }
 {
     match thread::map_vec(rt, workers, &|worker: Worker| worker.worked(rt, alloc)) {
         Ok(worked) => Some(worked),
@@ -92,9 +100,13 @@ fn gather<'h, 'a>(
     mut workers: Vec<Worker<'h, 'a>>,
 ) -> bool
     requires first { IsPassOf hist.now first.old }
-    requires workers { (vec_len workers ≡ length tasks.now) × Each (HasWorked hist.now) tasks.now workers.items }
-    ensures first { IsPassOf hist.now first.new × (first.new.number ≡ first.old.number) × (first.new.made ≡ first.old.made) × (first.new.mine ≡ first.old.mine) }
-    ensures ended { IsTrue result → (k : ℕ) (d : Task) → k < length tasks.now → let t = slice_index_or tasks.now k d in IsOneOf first.new.ended (k + 1, notes (k + 1) t.topic t.times) }
+    requires workers { (vec_len workers ≡ length tasks.now)
+        × Each (HasWorked hist.now) tasks.now workers.items }
+    ensures first { IsPassOf hist.now first.new × (first.new.number ≡ first.old.number)
+        × (first.new.made ≡ first.old.made) × (first.new.mine ≡ first.old.mine) }
+    ensures ended { IsTrue result → (k : ℕ) (d : Task) → k < length tasks.now
+        → let t = slice_index_or tasks.now k d in IsOneOf first.new.ended
+        (k + 1, notes (k + 1) t.topic t.times) }
 {
     let mut done = true;
     while let Some(worker) = workers.pop() {

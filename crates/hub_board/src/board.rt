@@ -48,17 +48,21 @@ impl<'h, 'a, R: Wait> Model for HubBoard<'h, 'a, R> {
 
     ghost Value = { BoardValue };
 
-    ghost view = { λ b. record { hist = b.hist.now; pass = b.pass; table = b.table; news = b.news } };
+    ghost view = { λ b.
+        record { hist = b.hist.now; pass = b.pass; table = b.table; news = b.news } };
 
-    ghost invariant = { λ b. IsBoard (record { hist = b.hist.now; pass = b.pass; table = b.table; news = b.news }) };
+    ghost invariant = { λ b. IsBoard
+        (record { hist = b.hist.now; pass = b.pass; table = b.table; news = b.news }) };
 }
 
 // Files events, in order.
 fn file(table: &mut Table, alloc: Global, events: &Pieces<Event>) -> Result<(), AllocError>
     requires { AddChains events.now }
-    ensures filed { (seen : List Made) → events.now ≡ drop table.old.filed seen → IsFiled table.old seen → IsFiled table.new seen }
+    ensures filed { (seen : List Made) → events.now ≡ drop table.old.filed seen
+        → IsFiled table.old seen → IsFiled table.new seen }
     ensures kept { (i : ℕ) → IsThere table.old.rows.items i → IsThere table.new.rows.items i }
-    ensures all { OnOk result ((seen : List Made) → events.now ≡ drop table.old.filed seen → IsFiled table.old seen → table.new.filed ≡ length seen) }
+    ensures all { OnOk result ((seen : List Made) → events.now ≡ drop table.old.filed seen
+        → IsFiled table.old seen → table.new.filed ≡ length seen) }
 {
     'events: for at in 0..events.len() {
         let Some(event) = events.get(at) else {
@@ -124,8 +128,10 @@ impl<'h, 'a, R: Wait> HubBoard<'h, 'a, R> {
     /// Makes a call: one turn. After `Back` nothing was done.
     pub fn step(&mut self, call: Call) -> Result<Reply, Back<Call>>
         requires chains { AddsChains call }
-        requires permitted { permitted self.old.hist.law self.old.pass.seen self.old.pass.number call }
-        ensures same { (self.new.hist ≡ self.old.hist) × (self.new.table ≡ self.old.table) × IsSamePass self.old.pass self.new.pass × (self.new.pass.got ≡ self.old.pass.got) }
+        requires permitted { permitted self.old.hist.law self.old.pass.seen self.old.pass.number
+            call }
+        ensures same { (self.new.hist ≡ self.old.hist) × (self.new.table ≡ self.old.table)
+            × IsSamePass self.old.pass self.new.pass × (self.new.pass.got ≡ self.old.pass.got) }
         ensures news { self.new.news ≡ self.old.news }
         ensures step { MatchResult result
             (λ r. IsStepped self.old.hist.law self.old.pass self.new.pass call r)
@@ -140,11 +146,14 @@ impl<'h, 'a, R: Wait> HubBoard<'h, 'a, R> {
     // Keeps the step of a position, which was seen, for reading.
     fn keep(&mut self, at: Pos, step: Entry) -> Result<(), AllocError>
         requires behind { base_of self.old ≤ at }
-        requires there { slice_get (chains_of self.old.pass.seen) (at - base_of self.old) ≡ Some step }
+        requires there { slice_get (chains_of self.old.pass.seen) (at - base_of self.old)
+            ≡ Some step }
         ensures same { (self.new.hist ≡ self.old.hist) × (self.new.pass ≡ self.old.pass) }
         ensures news { self.new.news ≡ self.old.news }
-        ensures kept { (i : ℕ) → IsThere self.old.table.rows.items i → IsThere self.new.table.rows.items i }
-        ensures only { (i : ℕ) → IsThere self.new.table.rows.items i → IsThere self.old.table.rows.items i ⊎ (i ≡ at - base_of self.old) }
+        ensures kept { (i : ℕ) → IsThere self.old.table.rows.items i
+            → IsThere self.new.table.rows.items i }
+        ensures only { (i : ℕ) → IsThere self.new.table.rows.items i
+            → IsThere self.old.table.rows.items i ⊎ (i ≡ at - base_of self.old) }
         ensures there { OnOk result (IsThere self.new.table.rows.items (at - base_of self.old)) }
         ensures board { IsBoard self.new }
     {
@@ -154,10 +163,14 @@ impl<'h, 'a, R: Wait> HubBoard<'h, 'a, R> {
 
     /// Puts a chain; gives its position.
     pub fn put_chain(&mut self, clause: Clause, hints: Hints) -> Result<Pos, AllocError>
-        requires { IsStep self.old.hist.law.nodes (state_of self.old.hist.law.nodes (view_in self.old).log) (step.Chain clause hints) }
+        requires { IsStep self.old.hist.law.nodes
+            (state_of self.old.hist.law.nodes (view_in self.old).log) (step.Chain clause hints) }
         ensures moved { IsMoved (footing_of self.old) self.new }
-        ensures later { IsLater self.old.hist.law.nodes self.new.hist.law.nodes (view_in self.old).log (view_in self.new).log (Knows self.old) (Knows self.new) }
-        ensures put { IfOk result (λ p. IsPutAt (view_in self.old).log (step.Chain clause hints) p (view_in self.new).log) }
+        ensures later { IsLater self.old.hist.law.nodes self.new.hist.law.nodes
+            (view_in self.old).log (view_in self.new).log (Knows self.old) (Knows self.new) }
+        ensures put { IfOk result
+            (λ p. IsPutAt (view_in self.old).log (step.Chain clause hints) p
+            (view_in self.new).log) }
         ensures known { IfOk result (λ p. KnowsOneMore (Knows self.old) p (Knows self.new)) }
         ensures news { self.new.news ≡ self.old.news }
     {
@@ -172,10 +185,13 @@ impl<'h, 'a, R: Wait> HubBoard<'h, 'a, R> {
 
     // Reads the events that were not read yet.
     fn pull(&mut self) -> Result<Pieces<Event>, AllocError>
-        ensures same { (self.new.hist ≡ self.old.hist) × (self.new.table ≡ self.old.table) × IsSamePass self.old.pass self.new.pass × (self.new.pass.mine ≡ self.old.pass.mine) }
+        ensures same { (self.new.hist ≡ self.old.hist) × (self.new.table ≡ self.old.table)
+            × IsSamePass self.old.pass self.new.pass × (self.new.pass.mine ≡ self.old.pass.mine) }
         ensures news { self.new.news ≡ self.old.news }
         ensures read { MatchResult result
-            (λ events. StartsWith self.new.pass.seen self.old.pass.seen × (events ≡ drop self.old.pass.got self.new.pass.seen) × (self.new.pass.got ≡ length self.new.pass.seen))
+            (λ events. StartsWith self.new.pass.seen self.old.pass.seen
+            × (events ≡ drop self.old.pass.got self.new.pass.seen)
+            × (self.new.pass.got ≡ length self.new.pass.seen))
             (λ _. self.new.pass ≡ self.old.pass) }
         ensures board { IsBoard self.old × IsBoard self.new }
     {
@@ -192,7 +208,8 @@ impl<'h, 'a, R: Wait> HubBoard<'h, 'a, R> {
         requires { events.now ≡ drop self.old.table.filed self.old.pass.seen }
         ensures same { (self.new.hist ≡ self.old.hist) × (self.new.pass ≡ self.old.pass) }
         ensures news { self.new.news ≡ self.old.news }
-        ensures kept { (i : ℕ) → IsThere self.old.table.rows.items i → IsThere self.new.table.rows.items i }
+        ensures kept { (i : ℕ) → IsThere self.old.table.rows.items i
+            → IsThere self.new.table.rows.items i }
         ensures all { OnOk result (self.new.table.filed ≡ length self.new.pass.seen) }
         ensures board { IsBoard self.new }
     {
@@ -201,7 +218,8 @@ impl<'h, 'a, R: Wait> HubBoard<'h, 'a, R> {
 
     // What is filed.
     fn filed(&self) -> Result<Sync, AllocError>
-        ensures { IfOk result (λ s. (s.upto ≡ base_of self.now + self.now.table.next) × (s.found ≡ self.now.table.found)) }
+        ensures { IfOk result (λ s. (s.upto ≡ base_of self.now + self.now.table.next)
+            × (s.found ≡ self.now.table.found)) }
     {
         match self.hist.law().log().len().checked_add(self.table.next) {
             Some(upto) => Ok(Sync {
@@ -223,12 +241,14 @@ impl<'h, 'a, R: Wait> HubBoard<'h, 'a, R> {
     /// Sees and reads what was put, and tells it. For want of memory nothing is told.
     pub fn read_news(&mut self) -> Result<Sync, AllocError>
         ensures moved { IsMoved (footing_of self.old) self.new }
-        ensures later { IsLater self.old.hist.law.nodes self.new.hist.law.nodes (view_in self.old).log (view_in self.new).log (Knows self.old) (Knows self.new) }
+        ensures later { IsLater self.old.hist.law.nodes self.new.hist.law.nodes
+            (view_in self.old).log (view_in self.new).log (Knows self.old) (Knows self.new) }
         ensures upto { IfOk result (λ s. s.upto ≡ suc (length (view_in self.new).log)) }
         ensures known { IfOk result (λ s. (p : ℕ) → p < s.upto → Knows self.new p) }
         ensures only { IfOk result (λ s. (p : ℕ) → Knows self.new p → p < s.upto) }
         ensures found { IfOk result (λ s. s.found ≡ (view_in self.new).found) }
-        ensures news { MatchResult result (λ s. self.new.news ≡ s) (λ e. self.new.news ≡ self.old.news) }
+        ensures news { MatchResult result (λ s. self.new.news ≡ s)
+            (λ e. self.new.news ≡ self.old.news) }
 
         // All was read that was seen.
         ensures got { OnOk result (self.new.pass.got ≡ length self.new.pass.seen) }
@@ -246,8 +266,10 @@ impl<'h, 'a, R: Wait> HubBoard<'h, 'a, R> {
     // The step behind the opening log at a position, if it can be read.
     fn row(&self, at: Pos) -> Option<&Entry>
         requires { base_of self.now ≤ at }
-        ensures there { (e : Step) → slice_get self.now.table.rows.items (at - base_of self.now) ≡ Some (Some e) → option_copied result ≡ Some e }
-        ensures only { (e : Step) → option_copied result ≡ Some e → slice_get self.now.table.rows.items (at - base_of self.now) ≡ Some (Some e) }
+        ensures there { (e : Step) → slice_get self.now.table.rows.items (at - base_of self.now)
+            ≡ Some (Some e) → option_copied result ≡ Some e }
+        ensures only { (e : Step) → option_copied result ≡ Some e
+            → slice_get self.now.table.rows.items (at - base_of self.now) ≡ Some (Some e) }
         ensures board { IsBoard self.now }
     {
         let base = self.hist.law().log().len();
@@ -264,7 +286,8 @@ fn lone(clause: &Clause, part: u32) -> Option<&Clause>
 
 // The clause of a chain, if its part is asked for.
 fn chain_clause(entry: &Entry, part: u32) -> Option<&Clause>
-    ensures { (c : List Literal) (hints : List Name) → entry.now ≡ step.Chain c hints → option_copied result ≡ slice_get (c ∷ []) part }
+    ensures { (c : List Literal) (hints : List Name) → entry.now ≡ step.Chain c hints
+        → option_copied result ≡ slice_get (c ∷ []) part }
 {
     match entry {
         Entry::Chain(clause, _) => lone(clause, part),

@@ -28,8 +28,10 @@ pub struct Table {
 
 // Makes room for so many rows.
 fn make_room(rows: &mut Vec<Option<Entry>>, count: usize) -> Result<(), AllocError>
-    ensures kept { (i : ℕ) (e : Step) → slice_get rows.old.items i ≡ Some (Some e) → slice_get rows.new.items i ≡ Some (Some e) }
-    ensures only { (i : ℕ) (e : Step) → slice_get rows.new.items i ≡ Some (Some e) → slice_get rows.old.items i ≡ Some (Some e) }
+    ensures kept { (i : ℕ) (e : Step) → slice_get rows.old.items i ≡ Some (Some e)
+        → slice_get rows.new.items i ≡ Some (Some e) }
+    ensures only { (i : ℕ) (e : Step) → slice_get rows.new.items i ≡ Some (Some e)
+        → slice_get rows.old.items i ≡ Some (Some e) }
     ensures room { OnOk result (count ≤ length rows.new.items) }
 {
     'rows: for _ in rows.len()..count {
@@ -62,8 +64,10 @@ impl Table {
 
     /// The step of a place, if it can be read.
     pub(crate) fn get(&self, place: u64) -> Option<&Entry>
-        ensures there { (e : Step) → slice_get self.now.rows.items place ≡ Some (Some e) → option_copied result ≡ Some e }
-        ensures only { (e : Step) → option_copied result ≡ Some e → slice_get self.now.rows.items place ≡ Some (Some e) }
+        ensures there { (e : Step) → slice_get self.now.rows.items place ≡ Some (Some e)
+            → option_copied result ≡ Some e }
+        ensures only { (e : Step) → option_copied result ≡ Some e
+            → slice_get self.now.rows.items place ≡ Some (Some e) }
     {
         match self.rows.get(place as usize) {
             Some(Some(step)) => Some(step),
@@ -73,10 +77,13 @@ impl Table {
 
     /// Fills the row of a place. For want of memory it is as before.
     pub(crate) fn set(&mut self, place: u64, step: Entry) -> Result<(), AllocError>
-        ensures same { (self.new.next ≡ self.old.next) × (self.new.filed ≡ self.old.filed) × (self.new.found ≡ self.old.found) }
+        ensures same { (self.new.next ≡ self.old.next) × (self.new.filed ≡ self.old.filed)
+            × (self.new.found ≡ self.old.found) }
         ensures kept { (i : ℕ) → IsThere self.old.rows.items i → IsThere self.new.rows.items i }
-        ensures only { (i : ℕ) → IsThere self.new.rows.items i → IsThere self.old.rows.items i ⊎ (i ≡ place) }
-        ensures right { (steps : List Step) → slice_get steps place ≡ Some step → AreRight self.old.rows.items steps → AreRight self.new.rows.items steps }
+        ensures only { (i : ℕ) → IsThere self.new.rows.items i → IsThere self.old.rows.items i
+            ⊎ (i ≡ place) }
+        ensures right { (steps : List Step) → slice_get steps place ≡ Some step
+            → AreRight self.old.rows.items steps → AreRight self.new.rows.items steps }
         ensures there { OnOk result (IsThere self.new.rows.items place) }
     {
         let place = place as usize;
@@ -90,9 +97,12 @@ impl Table {
 
     // Fills the row of the next step, if it is not filled.
     fn add_chain(&mut self, alloc: Global, clause: &Clause, hints: &Hints) -> Result<(), AllocError>
-        ensures same { (self.new.next ≡ self.old.next) × (self.new.filed ≡ self.old.filed) × (self.new.found ≡ self.old.found) }
+        ensures same { (self.new.next ≡ self.old.next) × (self.new.filed ≡ self.old.filed)
+            × (self.new.found ≡ self.old.found) }
         ensures kept { (i : ℕ) → IsThere self.old.rows.items i → IsThere self.new.rows.items i }
-        ensures right { (steps : List Step) → slice_get steps self.old.next ≡ Some (Chain clause.now hints.now) → AreRight self.old.rows.items steps → AreRight self.new.rows.items steps }
+        ensures right { (steps : List Step)
+            → slice_get steps self.old.next ≡ Some (Chain clause.now hints.now)
+            → AreRight self.old.rows.items steps → AreRight self.new.rows.items steps }
         ensures there { OnOk result (IsThere self.new.rows.items self.old.next) }
     {
         if let Some(_) = self.get(self.next) {
@@ -107,11 +117,15 @@ impl Table {
         requires { AddsChains call.now }
         ensures same { self.new.filed ≡ self.old.filed }
         ensures kept { (i : ℕ) → IsThere self.old.rows.items i → IsThere self.new.rows.items i }
-        ensures right { (steps : List Step) → ((s : Step) → chain_of call.now ≡ s ∷ [] → slice_get steps self.old.next ≡ Some s) → AreRight self.old.rows.items steps → AreRight self.new.rows.items steps }
+        ensures right { (steps : List Step)
+            → ((s : Step) → chain_of call.now ≡ s ∷ [] → slice_get steps self.old.next ≡ Some s)
+            → AreRight self.old.rows.items steps → AreRight self.new.rows.items steps }
         ensures next { OnOk result (self.new.next ≡ self.old.next + length (chain_of call.now)) }
         ensures found { OnOk result (self.new.found ≡ (self.old.found || tells_found call.now)) }
-        ensures full { OnOk result ((i : ℕ) → i < self.new.next → (i < self.old.next) ⊎ IsThere self.new.rows.items i) }
-        ensures err { OnErr result ((self.new.next ≡ self.old.next) × (self.new.found ≡ self.old.found)) }
+        ensures full { OnOk result ((i : ℕ) → i < self.new.next → (i < self.old.next)
+            ⊎ IsThere self.new.rows.items i) }
+        ensures err { OnErr result ((self.new.next ≡ self.old.next)
+            × (self.new.found ≡ self.old.found)) }
     {
         match call {
             Call::PutChain(clause, hints) => {
@@ -137,7 +151,8 @@ impl Table {
     /// Files the next event. For want of memory no more is filed.
     pub(crate) fn add(&mut self, alloc: Global, event: &Event) -> Result<(), AllocError>
         requires { AddsChains event.now.call }
-        ensures filed { (seen : List Made) → slice_get seen self.old.filed ≡ Some event.now → IsFiled self.old seen → IsFiled self.new seen }
+        ensures filed { (seen : List Made) → slice_get seen self.old.filed ≡ Some event.now
+            → IsFiled self.old seen → IsFiled self.new seen }
         ensures kept { (i : ℕ) → IsThere self.old.rows.items i → IsThere self.new.rows.items i }
         ensures ok { OnOk result (self.new.filed ≡ suc self.old.filed) }
         ensures err { OnErr result (self.new.filed ≡ self.old.filed) }

@@ -13,7 +13,8 @@ use smt_terms::node::TermId;
 /// Draws the next position. The one error is want of positions.
 pub(crate) fn place(state: &mut HubState) -> Result<Pos, NoMemory>
     ensures same { OnErr result (state.new ≡ state.old) }
-    ensures placed { IfOk result (λ p. (p ≡ state.old.count) × (state.new ≡ record state.old { count = suc state.old.count })) }
+    ensures placed { IfOk result (λ p. (p ≡ state.old.count)
+        × (state.new ≡ record state.old { count = suc state.old.count })) }
 {
     let at = state.count;
     let Some(count) = at.checked_add(1) else {
@@ -46,7 +47,9 @@ pub(crate) fn define(
     upper: TermId,
 ) -> Result<Pos, NoMemory>
     ensures same { OnErr result (state.new ≡ state.old) }
-    ensures defined { IfOk result (IsDefined (or_else opened (found state.old.pairs lower upper)) state.old state.new lower upper) }
+    ensures defined { IfOk result
+        (IsDefined (or_else opened (found state.old.pairs lower upper)) state.old state.new lower
+        upper) }
 {
     if let Some(at) = opened {
         return Ok(at);
@@ -61,9 +64,14 @@ pub(crate) fn define(
 pub(crate) fn claim(state: &mut HubState, cubes: u32, pass: u32) -> Result<Option<u32>, NoMemory>
     ensures same { OnErr result (state.new ≡ state.old) }
     ensures claimed { IfOk result (λ o. MatchOption o
-        (((not state.old.found && ltb (length state.old.stages) cubes) ≡ false) × (state.new ≡ state.old))
-        (λ c. ((not state.old.found && ltb (length state.old.stages) cubes) ≡ true) × (c ≡ length state.old.stages)
-        × (state.new ≡ record state.old { stages = state.old.stages ++ record { holder = pass; active = true; closed = None; spent = false } ∷ [] }))) }
+        (((not state.old.found && ltb (length state.old.stages) cubes) ≡ false)
+        × (state.new ≡ state.old))
+        (λ c. ((not state.old.found && ltb (length state.old.stages) cubes) ≡ true)
+        × (c ≡ length state.old.stages)
+        × (state.new ≡ record state.old {
+          stages = state.old.stages
+              ++ record { holder = pass; active = true; closed = None; spent = false } ∷ [];
+        }))) }
 {
     let claimed = state.stages.len();
     if state.found || claimed >= cubes as usize {
@@ -89,8 +97,16 @@ pub(crate) fn end(state: &mut HubState, cube: u32, closed: Option<Pos>, spent: b
     ensures found { state.new.found ≡ (state.old.found || found) }
     ensures len { length state.new.stages ≡ length state.old.stages }
     ensures here { (g : CubeStage) → slice_get state.old.stages cube ≡ Some g →
-        slice_get state.new.stages cube ≡ Some (record { holder = g.holder; active = false; closed = or_else closed g.closed; spent = g.spent || spent }) }
-    ensures others { (d : ℕ) → d ≢ cube → slice_get state.new.stages d ≡ slice_get state.old.stages d }
+        slice_get state.new.stages cube
+        ≡ Some (record {
+          holder = g.holder;
+          active = false;
+          closed = or_else closed g.closed;
+          spent = g.spent
+              || spent;
+        }) }
+    ensures others { (d : ℕ) → d ≢ cube
+        → slice_get state.new.stages d ≡ slice_get state.old.stages d }
 {
     if let Some(stage) = state.stages.get(cube) {
         let closed = match closed {

@@ -34,16 +34,40 @@ impl<'a> Model for HubLaw<'a> {
 
     ghost Value = { HubValue };
 
-    ghost view = { λ h. record { nodes = h.terms.now.nodes; log = h.log; cubes = h.cubes.items; assumed = h.assumed.items } };
+    ghost view = { λ h.
+        record {
+          nodes = h.terms.now.nodes;
+          log = h.log;
+          cubes = h.cubes.items;
+          assumed = h.assumed.items;
+        } };
 
-    ghost invariant = { λ h. IsOpening (record { nodes = h.terms.now.nodes; log = h.log; cubes = h.cubes.items; assumed = h.assumed.items }) };
+    ghost invariant = { λ h. IsOpening
+        (record {
+          nodes = h.terms.now.nodes;
+          log = h.log;
+          cubes = h.cubes.items;
+          assumed = h.assumed.items;
+        }) };
 }
 
 impl<'a> HubLaw<'a> {
     /// The law over this log, which stands over these terms.
     pub fn new(log: Log, terms: &'a Terms, cubes: Vec<Clause>, assumed: Vec<Lit>) -> HubLaw<'a>
-        requires { IsOpening (record { nodes = terms.now.nodes; log = log; cubes = cubes.items; assumed = assumed.items }) }
-        ensures { result ≡ record { nodes = terms.now.nodes; log = log; cubes = cubes.items; assumed = assumed.items } }
+        requires { IsOpening
+            (record {
+              nodes = terms.now.nodes;
+              log = log;
+              cubes = cubes.items;
+              assumed = assumed.items;
+            }) }
+        ensures { result
+            ≡ record {
+              nodes = terms.now.nodes;
+              log = log;
+              cubes = cubes.items;
+              assumed = assumed.items;
+            } }
     {
         HubLaw {
             log,
@@ -131,10 +155,13 @@ fn answer<'a>(
     pass: u32,
     call: &Call,
 ) -> Result<Reply, NoMemory>
-    requires { (history : List Event) × IsHub law.now state.old history × permitted law.now history pass call.now }
-    ensures { (history : List Event) → IsHub law.now state.old history → permitted law.now history pass call.now →
+    requires { (history : List Event) × IsHub law.now state.old history
+        × permitted law.now history pass call.now }
+    ensures { (history : List Event) → IsHub law.now state.old history
+        → permitted law.now history pass call.now →
         MatchResult result
-        (λ r. (r ≡ reply law.now history call.now) × IsHub law.now state.new (history ++ event pass call.now ∷ []))
+        (λ r. (r ≡ reply law.now history call.now)
+        × IsHub law.now state.new (history ++ event pass call.now ∷ []))
         (λ _. IsHub law.now state.new history) }
 {
     match call {

@@ -7,7 +7,8 @@ ghost use Rattle.hub_core.specs.Hubs.{HubValue, IsOpening, IsHistory, IsSoundHis
 /// Whatever passes do in whatever order, as far as it is permitted, the whole log is sound, and what was closed is closed
 /// by its clause.
 pub fn every_history_is_sound()
-    ensures { (law : HubValue) (history : List Event) → IsOpening law → IsHistory law history → IsSoundHistory law history }
+    ensures { (law : HubValue) (history : List Event) → IsOpening law → IsHistory law history
+        → IsSoundHistory law history }
 {}
 
 /// Where no pass has a cube open and none is left to claim, a model was found, or each cube is closed by the clause at a

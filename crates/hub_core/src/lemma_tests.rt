@@ -130,7 +130,8 @@ fn has_bits(law: &HubLaw<'_>, term: TermId) -> bool
 
 // Whether the equality of two terms may be given a variable.
 fn are_pair(law: &HubLaw<'_>, lower: TermId, upper: TermId) -> bool
-    ensures { result ≡ true → IsPair law.now.nodes (state_of law.now.nodes law.now.log.entries) lower upper }
+    ensures { result ≡ true
+        → IsPair law.now.nodes (state_of law.now.nodes law.now.log.entries) lower upper }
 {
     let terms = law.terms();
     lower < upper
@@ -142,7 +143,8 @@ fn are_pair(law: &HubLaw<'_>, lower: TermId, upper: TermId) -> bool
 
 // The clause of a lemma, if it has one.
 fn lemma_clause(alloc: Global, law: &HubLaw<'_>, lemma: &Lemma) -> Option<Clause>
-    ensures { IsSome result → IsLemma law.now.nodes (state_of law.now.nodes law.now.log.entries) lemma.now }
+    ensures { IsSome result
+        → IsLemma law.now.nodes (state_of law.now.nodes law.now.log.entries) lemma.now }
 {
     let log = law.log();
     match clause_of(alloc, law.terms(), log.bits(), log.equals(), lemma) {
@@ -159,7 +161,8 @@ fn acted(
     pass: u32,
     call: Call,
 ) -> Result<Reply, AllocError>
-    requires { (history : List Event) × IsHub law.now state.old history × permitted law.now history pass call }
+    requires { (history : List Event) × IsHub law.now state.old history
+        × permitted law.now history pass call }
     ensures { (history : List Event) × IsHub law.now state.new history }
 {
     match law.act(alloc, state, pass, call) {

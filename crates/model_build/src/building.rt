@@ -26,9 +26,12 @@ pub fn build(
     table: &AccessTable,
 ) -> Result<Interp, AllocError>
     requires bits { HaveBits terms.now.nodes bits.now (Contains table.now.terms) }
-    requires satisfied { AreSatisfied terms.now.nodes bits.now (assigned assignment.now) (Contains table.now.terms) }
+    requires satisfied { AreSatisfied terms.now.nodes bits.now (assigned assignment.now)
+        (Contains table.now.terms) }
     requires closed { IsClosedUnder terms.now.nodes bits.now (assigned assignment.now) table.now }
-    ensures { IfOk result (λ m. IsModel terms.now.nodes bits.now (assigned assignment.now) table.now (interpretation_of m)) }
+    ensures { IfOk result
+        (λ m. IsModel terms.now.nodes bits.now (assigned assignment.now) table.now
+        (interpretation_of m)) }
 {
     let _count = terms.len();
     let mut draft = enter_terms(alloc, terms, bits, assignment, table)?;

@@ -35,7 +35,9 @@ fn argument_values(
     args: &[TermId],
 ) -> Result<Scalars, AllocError>
     requires { AllByRecursion (IsPlainTerm terms.now.nodes bits.now) args.now }
-    ensures { IfOk result (λ vs. map scalar_value vs ≡ map (assigned_value terms.now.nodes bits.now (assigned assignment.now)) args.now) }
+    ensures { IfOk result
+        (λ vs. map scalar_value vs
+        ≡ map (assigned_value terms.now.nodes bits.now (assigned assignment.now)) args.now) }
 {
     let mut values = Scalars::none(alloc);
     for arg in args {
@@ -57,7 +59,8 @@ fn constant(
     requires sort { sort_of terms.now.nodes term ≡ sort }
     requires widths { IsSort sort }
     requires row { is_plain sort ≡ true → HasRow terms.now.nodes bits.now term }
-    ensures { IsFirstOf (assigned_value terms.now.nodes bits.now (assigned assignment.now) term) sort result }
+    ensures { IsFirstOf (assigned_value terms.now.nodes bits.now (assigned assignment.now) term)
+        sort result }
 {
     match sort {
         Sort::Bool => Value::Bool(truth_of(terms, bits, assignment, term)),
@@ -82,7 +85,10 @@ fn enter_own(
     requires closed { IsClosedUnder terms.now.nodes bits.now (assigned assignment.now) table.now }
     requires here { Contains table.now.terms term }
     requires free { image_in bits.now term ≡ None }
-    ensures { OnOk result (EntersShape terms.now.nodes (assigned_value terms.now.nodes bits.now (assigned assignment.now)) term (shape_at terms.now.nodes term) draft.old draft.new) }
+    ensures { OnOk result
+        (EntersShape terms.now.nodes
+        (assigned_value terms.now.nodes bits.now (assigned assignment.now)) term
+        (shape_at terms.now.nodes term) draft.old draft.new) }
 {
     let _table = table;
     let _count = terms.len();
@@ -114,7 +120,8 @@ fn enter_term(
     requires bits { HaveBits terms.now.nodes bits.now (Contains table.now.terms) }
     requires closed { IsClosedUnder terms.now.nodes bits.now (assigned assignment.now) table.now }
     requires here { Contains table.now.terms term }
-    ensures { OnOk result (Enters terms.now.nodes bits.now (assigned assignment.now) term draft.old draft.new) }
+    ensures { OnOk result
+        (Enters terms.now.nodes bits.now (assigned assignment.now) term draft.old draft.new) }
 {
     match bits.image(term) {
         Some(_) => Ok(()),
@@ -132,7 +139,9 @@ pub(crate) fn enter_terms(
 ) -> Result<Draft, AllocError>
     requires bits { HaveBits terms.now.nodes bits.now (Contains table.now.terms) }
     requires closed { IsClosedUnder terms.now.nodes bits.now (assigned assignment.now) table.now }
-    ensures { IfOk result (λ d. HasDefaults terms.now.nodes bits.now (assigned assignment.now) table.now (length table.now.terms) 0 d) }
+    ensures { IfOk result
+        (λ d. HasDefaults terms.now.nodes bits.now (assigned assignment.now) table.now
+        (length table.now.terms) 0 d) }
 {
     let _count = terms.len();
     let mut draft = Draft::new(alloc);

@@ -36,8 +36,11 @@ fn set_default(
     draft: &mut Draft,
 ) -> Result<(), AllocError>
     requires access { IsAccess terms.now.nodes bits.now table.now.terms row }
-    requires shape { shape_at terms.now.nodes row.array ≡ Declaring declaration (sort.Array index element) }
-    ensures { OnOk result (SetsDefault (assigned_value terms.now.nodes bits.now (assigned assignment.now)) table.now.spares row declaration index element draft.old draft.new) }
+    requires shape { shape_at terms.now.nodes row.array
+        ≡ Declaring declaration (sort.Array index element) }
+    ensures { OnOk result
+        (SetsDefault (assigned_value terms.now.nodes bits.now (assigned assignment.now))
+        table.now.spares row declaration index element draft.old draft.new) }
 {
     let _count = terms.len();
     let _element = element;
@@ -64,7 +67,10 @@ fn give_default(
     draft: &mut Draft,
 ) -> Result<(), AllocError>
     requires access { IsAccess terms.now.nodes bits.now table.now.terms row }
-    ensures { OnOk result (GivesDefault terms.now.nodes (assigned_value terms.now.nodes bits.now (assigned assignment.now)) table.now.spares row draft.old draft.new) }
+    ensures { OnOk result
+        (GivesDefault terms.now.nodes
+        (assigned_value terms.now.nodes bits.now (assigned assignment.now)) table.now.spares row
+        draft.old draft.new) }
 {
     match shape_at(terms, row.array) {
         Shape::Declaring { declaration, sort } => match sort {
@@ -99,9 +105,12 @@ fn set_element(
     draft: &mut Draft,
 ) -> Result<(), AllocError>
     requires access { IsAccess terms.now.nodes bits.now table.now.terms row }
-    requires shape { shape_at terms.now.nodes row.array ≡ Declaring declaration (sort.Array index element) }
+    requires shape { shape_at terms.now.nodes row.array
+        ≡ Declaring declaration (sort.Array index element) }
     requires ready { IsOpenArray draft.old declaration index element }
-    ensures { OnOk result (SetsElement (assigned_value terms.now.nodes bits.now (assigned assignment.now)) row declaration index element draft.old draft.new) }
+    ensures { OnOk result
+        (SetsElement (assigned_value terms.now.nodes bits.now (assigned assignment.now)) row
+        declaration index element draft.old draft.new) }
 {
     let _table = table;
     let _count = terms.len();
@@ -122,7 +131,10 @@ fn give_element(
 ) -> Result<(), AllocError>
     requires access { IsAccess terms.now.nodes bits.now table.now.terms row }
     requires ready { IsOpen terms.now.nodes row draft.old }
-    ensures { OnOk result (GivesElement terms.now.nodes (assigned_value terms.now.nodes bits.now (assigned assignment.now)) row draft.old draft.new) }
+    ensures { OnOk result
+        (GivesElement terms.now.nodes
+        (assigned_value terms.now.nodes bits.now (assigned assignment.now)) row draft.old
+        draft.new) }
 {
     match shape_at(terms, row.array) {
         Shape::Declaring { declaration, sort } => match sort {
@@ -153,8 +165,11 @@ pub(crate) fn give_defaults(
     draft: &mut Draft,
 ) -> Result<(), AllocError>
     requires closed { IsClosedUnder terms.now.nodes bits.now (assigned assignment.now) table.now }
-    requires entered { HasDefaults terms.now.nodes bits.now (assigned assignment.now) table.now (length table.now.terms) 0 draft.old }
-    ensures { OnOk result (HasDefaults terms.now.nodes bits.now (assigned assignment.now) table.now (length table.now.terms) (length table.now.rows) draft.new) }
+    requires entered { HasDefaults terms.now.nodes bits.now (assigned assignment.now) table.now
+        (length table.now.terms) 0 draft.old }
+    ensures { OnOk result
+        (HasDefaults terms.now.nodes bits.now (assigned assignment.now) table.now
+        (length table.now.terms) (length table.now.rows) draft.new) }
 {
     let _count = terms.len();
     for row in table.rows() {
@@ -173,8 +188,11 @@ pub(crate) fn give_elements(
 ) -> Result<(), AllocError>
     requires bits { HaveBits terms.now.nodes bits.now (Contains table.now.terms) }
     requires closed { IsClosedUnder terms.now.nodes bits.now (assigned assignment.now) table.now }
-    requires given { HasDefaults terms.now.nodes bits.now (assigned assignment.now) table.now (length table.now.terms) (length table.now.rows) draft.old }
-    ensures { OnOk result (HasElements terms.now.nodes bits.now (assigned assignment.now) table.now (length table.now.terms) (length table.now.rows) draft.new) }
+    requires given { HasDefaults terms.now.nodes bits.now (assigned assignment.now) table.now
+        (length table.now.terms) (length table.now.rows) draft.old }
+    ensures { OnOk result
+        (HasElements terms.now.nodes bits.now (assigned assignment.now) table.now
+        (length table.now.terms) (length table.now.rows) draft.new) }
 {
     let _count = terms.len();
     for row in table.rows() {

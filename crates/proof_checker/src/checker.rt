@@ -49,9 +49,23 @@ impl Model for Checker {
 
     ghost Value = { CheckerValue };
 
-    ghost view = { λ c. record { judging = record { limits = limits_of c.limits; state = c.state.value; log = c.log.value.entries; owed = owed_of c.due c.state.value.symbols.live c.values.items; line = c.line }; verdicts = c.verdicts.items } };
+    ghost view = { λ c.
+        record {
+          judging = record {
+            limits = limits_of c.limits;
+            state = c.state.value;
+            log = c.log.value.entries;
+            owed = owed_of c.due c.state.value.symbols.live c.values.items;
+            line = c.line;
+          };
+          verdicts = c.verdicts.items;
+        } };
 
-    ghost invariant = { λ c. Stands c.state.value.terms.nodes c.log.value × IsOpen c.due c.state.value.symbols.live c.values.items × IsNoted (limits_of c.limits) c.state.value c.log.value.entries c.due × AreLimits (limits_of c.limits) × AreKept c.due c.state.value.symbols.signatures c.values.items };
+    ghost invariant = { λ c. Stands c.state.value.terms.nodes c.log.value
+        × IsOpen c.due c.state.value.symbols.live c.values.items
+        × IsNoted (limits_of c.limits) c.state.value c.log.value.entries c.due
+        × AreLimits (limits_of c.limits)
+        × AreKept c.due c.state.value.symbols.signatures c.values.items };
 }
 
 impl Checker {
@@ -198,7 +212,8 @@ impl Checker {
 
     /// Judges the end of the text.
     pub fn end(self) -> (Checker, Result<(), Refusal>)
-        ensures told { MatchResult result.1 (λ _. ending self.judging.owed self.judging.line ≡ None) (λ r. ending self.judging.owed self.judging.line ≡ Some r) }
+        ensures told { MatchResult result.1 (λ _. ending self.judging.owed self.judging.line ≡ None)
+            (λ r. ending self.judging.owed self.judging.line ≡ Some r) }
         ensures end { result.0 ≡ at_end self (ending self.judging.owed self.judging.line) }
     {
         let checker = self.stop();

@@ -194,8 +194,11 @@ fn do_command(alloc: Global, mut inputs: Inputs, checker: Checker) -> Result<Ste
 impl Checking {
     /// Nothing was fed yet; whether functions with arguments and arrays are read in the script.
     fn unfed(alloc: Global, theories: bool) -> Checking
-        ensures judged { (script proof : List ℕ) (vs : List Verdict) (o : Option Refusal) → Judges result script proof vs o → IsJudgedOver (start_of theories) script proof vs o }
-        ensures accepted { (script proof : List ℕ) (vs : List Verdict) → Accepts result script proof vs → IsAcceptedSoFarOver (start_of theories) script proof vs }
+        ensures judged { (script proof : List ℕ) (vs : List Verdict) (o : Option Refusal)
+            → Judges result script proof vs o → IsJudgedOver (start_of theories) script proof vs o }
+        ensures accepted { (script proof : List ℕ) (vs : List Verdict)
+            → Accepts result script proof vs
+            → IsAcceptedSoFarOver (start_of theories) script proof vs }
         ensures verdicts { verdicts_by result.checker ≡ [] }
         ensures ended { AreEnded result false false }
     {
@@ -214,8 +217,10 @@ impl Checking {
 
     /// Nothing was fed yet.
     pub fn new(alloc: Global) -> Checking
-        ensures judged { (script proof : List ℕ) (vs : List Verdict) (o : Option Refusal) → Judges result script proof vs o → IsJudged script proof vs o }
-        ensures accepted { (script proof : List ℕ) (vs : List Verdict) → Accepts result script proof vs → IsAcceptedSoFar script proof vs }
+        ensures judged { (script proof : List ℕ) (vs : List Verdict) (o : Option Refusal)
+            → Judges result script proof vs o → IsJudged script proof vs o }
+        ensures accepted { (script proof : List ℕ) (vs : List Verdict)
+            → Accepts result script proof vs → IsAcceptedSoFar script proof vs }
         ensures verdicts { verdicts_by result.checker ≡ [] }
         ensures ended { AreEnded result false false }
     {
@@ -224,8 +229,10 @@ impl Checking {
 
     /// Nothing was fed yet, and functions with arguments and arrays are read in the script.
     pub fn with_theories(alloc: Global) -> Checking
-        ensures judged { (script proof : List ℕ) (vs : List Verdict) (o : Option Refusal) → Judges result script proof vs o → IsJudgedOver (start_of true) script proof vs o }
-        ensures accepted { (script proof : List ℕ) (vs : List Verdict) → Accepts result script proof vs → IsAcceptedSoFarOver (start_of true) script proof vs }
+        ensures judged { (script proof : List ℕ) (vs : List Verdict) (o : Option Refusal)
+            → Judges result script proof vs o → IsJudgedOver (start_of true) script proof vs o }
+        ensures accepted { (script proof : List ℕ) (vs : List Verdict)
+            → Accepts result script proof vs → IsAcceptedSoFarOver (start_of true) script proof vs }
         ensures verdicts { verdicts_by result.checker ≡ [] }
         ensures ended { AreEnded result false false }
     {
@@ -235,8 +242,12 @@ impl Checking {
     /// Takes the next piece of the script. Want of memory is also the answer where its lines could not be counted; then all is as
     /// before.
     pub fn feed_script(&mut self, piece: &[u8]) -> Result<(), AllocError>
-        ensures judged { OnOk result ((script proof : List ℕ) (vs : List Verdict) (o : Option Refusal) → Judges self.new script proof vs o → Judges self.old (piece.now ++ script) proof vs o) }
-        ensures accepted { OnOk result ((script proof : List ℕ) (vs : List Verdict) → Accepts self.new script proof vs → Accepts self.old (piece.now ++ script) proof vs) }
+        ensures judged { OnOk result
+            ((script proof : List ℕ) (vs : List Verdict) (o : Option Refusal)
+            → Judges self.new script proof vs o
+            → Judges self.old (piece.now ++ script) proof vs o) }
+        ensures accepted { OnOk result ((script proof : List ℕ) (vs : List Verdict)
+            → Accepts self.new script proof vs → Accepts self.old (piece.now ++ script) proof vs) }
         ensures fed { IsFed self.old self.new (length piece.now) }
         ensures err { OnErr result (self.new ≡ self.old) }
         ensures ended { AreEnded self.new self.old.inputs.script_ended self.old.inputs.proof_ended }
@@ -247,8 +258,12 @@ impl Checking {
     /// Takes the next piece of the proof. Want of memory is also the answer where its lines could not be counted; then all is as
     /// before.
     pub fn feed_proof(&mut self, piece: &[u8]) -> Result<(), AllocError>
-        ensures judged { OnOk result ((script proof : List ℕ) (vs : List Verdict) (o : Option Refusal) → Judges self.new script proof vs o → Judges self.old script (piece.now ++ proof) vs o) }
-        ensures accepted { OnOk result ((script proof : List ℕ) (vs : List Verdict) → Accepts self.new script proof vs → Accepts self.old script (piece.now ++ proof) vs) }
+        ensures judged { OnOk result
+            ((script proof : List ℕ) (vs : List Verdict) (o : Option Refusal)
+            → Judges self.new script proof vs o
+            → Judges self.old script (piece.now ++ proof) vs o) }
+        ensures accepted { OnOk result ((script proof : List ℕ) (vs : List Verdict)
+            → Accepts self.new script proof vs → Accepts self.old script (piece.now ++ proof) vs) }
         ensures fed { IsFed self.old self.new (length piece.now) }
         ensures err { OnErr result (self.new ≡ self.old) }
         ensures ended { AreEnded self.new self.old.inputs.script_ended self.old.inputs.proof_ended }
@@ -258,8 +273,10 @@ impl Checking {
 
     /// No more of the script comes.
     pub fn end_script(&mut self)
-        ensures judged { (script proof : List ℕ) (vs : List Verdict) (o : Option Refusal) → Judges self.new script proof vs o → Judges self.old script proof vs o }
-        ensures accepted { (script proof : List ℕ) (vs : List Verdict) → Accepts self.new script proof vs → Accepts self.old script proof vs }
+        ensures judged { (script proof : List ℕ) (vs : List Verdict) (o : Option Refusal)
+            → Judges self.new script proof vs o → Judges self.old script proof vs o }
+        ensures accepted { (script proof : List ℕ) (vs : List Verdict)
+            → Accepts self.new script proof vs → Accepts self.old script proof vs }
         ensures fed { IsFed self.old self.new 0 }
         ensures ended { AreEnded self.new true self.old.inputs.proof_ended }
     {
@@ -268,8 +285,10 @@ impl Checking {
 
     /// No more of the proof comes.
     pub fn end_proof(&mut self)
-        ensures judged { (script proof : List ℕ) (vs : List Verdict) (o : Option Refusal) → Judges self.new script proof vs o → Judges self.old script proof vs o }
-        ensures accepted { (script proof : List ℕ) (vs : List Verdict) → Accepts self.new script proof vs → Accepts self.old script proof vs }
+        ensures judged { (script proof : List ℕ) (vs : List Verdict) (o : Option Refusal)
+            → Judges self.new script proof vs o → Judges self.old script proof vs o }
+        ensures accepted { (script proof : List ℕ) (vs : List Verdict)
+            → Accepts self.new script proof vs → Accepts self.old script proof vs }
         ensures fed { IsFed self.old self.new 0 }
         ensures ended { AreEnded self.new self.old.inputs.script_ended true }
     {

@@ -21,10 +21,13 @@ use std::alloc::{AllocError, Global};
 
 /// What a command owes that is answered so.
 fn due_by(answer: Answer) -> Due
-    ensures owed { (live : List Name) (values : List (ℕ × Held)) → owed_of result live values ≡ owed_by answer }
+    ensures owed { (live : List Name) (values : List (ℕ × Held))
+        → owed_of result live values ≡ owed_by answer }
     ensures open { (live : List Name) (values : List (ℕ × Held)) → IsOpen result live values }
-    ensures noted { (limits : searching.Limits) (s : StateValue) (log : List Step) → IsNoted limits s log result }
-    ensures kept { (signatures : List Signature) (values : List (ℕ × Held)) → AreKept result signatures values }
+    ensures noted { (limits : searching.Limits) (s : StateValue) (log : List Step)
+        → IsNoted limits s log result }
+    ensures kept { (signatures : List Signature) (values : List (ℕ × Held))
+        → AreKept result signatures values }
 {
     match answer {
         Answer::Check => Due::Steps,
@@ -66,7 +69,8 @@ impl Checker {
     /// assertions the answer is want of memory.
     pub fn apply(self, alloc: Global, chunk: &Chunk) -> Result<(Checker, bool), AllocError>
         requires { is_idle self.judging.owed ≡ true }
-        ensures { IfOk result (λ r. (says : Says) × ReadsAs chunk.now says × (r.0 ≡ judged_so self (commanded self.judging says)) × (r.1 ≡ ends says)) }
+        ensures { IfOk result (λ r. (says : Says) × ReadsAs chunk.now says
+            × (r.0 ≡ judged_so self (commanded self.judging says)) × (r.1 ≡ ends says)) }
     {
         let mut checker = self;
         if checker.state.assertions_made() == u32::MAX {
@@ -84,7 +88,8 @@ impl Checker {
     /// numbers of assertions the answer is want of memory.
     pub fn command(self, alloc: Global, chunk: &Chunk) -> Result<(Checker, bool), AllocError>
         requires { is_idle self.judging.owed ≡ true }
-        ensures command { IfOk result (λ r. (says : Says) × ReadsAs chunk.now says × (r.0 ≡ judged_so self (commanded self.judging says))) }
+        ensures command { IfOk result (λ r. (says : Says) × ReadsAs chunk.now says
+            × (r.0 ≡ judged_so self (commanded self.judging says))) }
         ensures check { IfOk result (λ r. r.1 ≡ not (is_idle r.0.judging.owed)) }
     {
         let (checker, _) = self.apply(alloc, chunk)?;

@@ -31,9 +31,12 @@ fn open(
     start: Pos,
     left: u64,
 ) -> Result<Noting, AllocError>
-    ensures parts { IfOk result (λ n. (n.cube ≡ cube) × (n.start ≡ start) × (n.left ≡ left) × (n.lines ≡ [])) }
-    ensures noted { IfOk result (λ n. (limits : Limits) (s : StateValue) → Stands s.terms.nodes log.now
-        → given.now ≡ given_literals limits s s.terms.nodes log.now.entries cube → IsNoted limits s log.now.entries (Noted n)) }
+    ensures parts { IfOk result (λ n. (n.cube ≡ cube) × (n.start ≡ start) × (n.left ≡ left)
+        × (n.lines ≡ [])) }
+    ensures noted { IfOk result (λ n. (limits : Limits) (s : StateValue)
+        → Stands s.terms.nodes log.now
+        → given.now ≡ given_literals limits s s.terms.nodes log.now.entries cube
+        → IsNoted limits s log.now.entries (Noted n)) }
 {
     let reader = DiaryReader::new(alloc, log, given, start)?;
     let lines = DiaryLines::none(alloc);
@@ -48,8 +51,10 @@ fn open(
 
 /// One line more, and whether it may stand there.
 fn with_line(log: &Log, noting: Noting, line: DiaryLine) -> Result<(Noting, bool), AllocError>
-    ensures { IfOk result (λ r. (limits : Limits) (s : StateValue) → Stands s.terms.nodes log.now → IsNoted limits s log.now.entries (Noted noting)
-        → MatchBool r.1 (HasLine limits s log.now.entries noting line r.0) (IsNoLine limits s log.now.entries noting line)) }
+    ensures { IfOk result (λ r. (limits : Limits) (s : StateValue) → Stands s.terms.nodes log.now
+        → IsNoted limits s log.now.entries (Noted noting)
+        → MatchBool r.1 (HasLine limits s log.now.entries noting line r.0)
+        (IsNoLine limits s log.now.entries noting line)) }
 {
     let mut noting = noting;
     let stands = noting.reader.line(log, line)?;
@@ -61,7 +66,8 @@ fn with_line(log: &Log, noting: Noting, line: DiaryLine) -> Result<(Noting, bool
 fn one_less(noting: Noting) -> Noting
     requires { 0 < noting.left }
     ensures left { result.left + 1 ≡ noting.left }
-    ensures same { (result.cube ≡ noting.cube) × (result.start ≡ noting.start) × (result.lines ≡ noting.lines) × (result.reader ≡ noting.reader) }
+    ensures same { (result.cube ≡ noting.cube) × (result.start ≡ noting.start)
+        × (result.lines ≡ noting.lines) × (result.reader ≡ noting.reader) }
 {
     let mut noting = noting;
     noting.left -= 1;
@@ -70,10 +76,13 @@ fn one_less(noting: Noting) -> Noting
 
 /// Whether the lines so far have spent the budget.
 fn is_spent(noting: &Noting, budget: u64) -> bool
-    ensures { (limits : Limits) (s : StateValue) (log : List Step) → IsNoted limits s log (Noted noting.now)
+    ensures { (limits : Limits) (s : StateValue) (log : List Step)
+        → IsNoted limits s log (Noted noting.now)
         → MatchBool result
-        (IsSpent (subject_of limits s s.terms.nodes log noting.now.cube noting.now.start) budget noting.now.lines)
-        (IsSpent (subject_of limits s s.terms.nodes log noting.now.cube noting.now.start) budget noting.now.lines → ⊥) }
+        (IsSpent (subject_of limits s s.terms.nodes log noting.now.cube noting.now.start) budget
+        noting.now.lines)
+        (IsSpent (subject_of limits s s.terms.nodes log noting.now.cube noting.now.start) budget
+        noting.now.lines → ⊥) }
 {
     noting.reader.is_spent(budget)
 }
@@ -82,8 +91,11 @@ impl Checker {
     // So many lines of a diary are owed behind the next one.
     fn owe_lines(self, noting: Noting) -> Checker
         requires more { self.judging.line + 1 < 2 ^ 64 }
-        requires noted { IsNoted self.judging.limits self.judging.state self.judging.log (Noted noting) }
-        ensures { result ≡ judged_so self (noted self.judging noting.cube noting.start noting.left noting.lines) }
+        requires noted { IsNoted self.judging.limits self.judging.state self.judging.log
+            (Noted noting) }
+        ensures { result
+            ≡ judged_so self
+            (noted self.judging noting.cube noting.start noting.left noting.lines) }
     {
         let mut checker = self;
         checker.due = Due::Noted(noting);
@@ -155,7 +167,8 @@ impl Checker {
     // One line more of a diary, which stands there or does not.
     fn judge_line(self, noting: Noting, stands: bool) -> Result<Checker, AllocError>
         requires more { self.judging.line + 1 < 2 ^ 64 }
-        requires noted { stands ≡ true → IsNoted self.judging.limits self.judging.state self.judging.log (Noted noting) }
+        requires noted { stands ≡ true
+            → IsNoted self.judging.limits self.judging.state self.judging.log (Noted noting) }
         ensures { IfOk result (λ c. GoesTo (ReadTo self.judging noting stands) self c) }
     {
         if !stands {
@@ -194,7 +207,8 @@ impl Checker {
     pub(crate) fn at_diary(self, line: &Line) -> Result<Checker, AllocError>
         requires lines { IsOwedLines self.judging.owed }
         requires more { self.judging.line + 1 < 2 ^ 64 }
-        ensures { IfOk result (λ c. GoesTo (MovesBy self.judging.owed self.judging (Some line.now)) self c) }
+        ensures { IfOk result
+            (λ c. GoesTo (MovesBy self.judging.owed self.judging (Some line.now)) self c) }
     {
         match line {
             Line::Take(pos) => self.note(DiaryLine::Take(*pos)),

@@ -37,8 +37,10 @@ impl Checker {
         first: &Result<Line, LineFault>,
     ) -> Result<Result<Checker, Refusal>, AllocError>
         ensures { IfOk result (λ r. MatchResult r
-            (λ c. (limits : searching.Limits) × IsHeader (line_in first.now) limits × (c ≡ no_records limits))
-            (λ f. ((limits : searching.Limits) → IsHeader (line_in first.now) limits → ⊥) × (f ≡ bad_header))) }
+            (λ c. (limits : searching.Limits) × IsHeader (line_in first.now) limits
+            × (c ≡ no_records limits))
+            (λ f. ((limits : searching.Limits) → IsHeader (line_in first.now) limits → ⊥)
+            × (f ≡ bad_header))) }
     {
         Checker::over(alloc, first, State::new(alloc))
     }
@@ -50,8 +52,10 @@ impl Checker {
         state: State,
     ) -> Result<Result<Checker, Refusal>, AllocError>
         ensures { IfOk result (λ r. MatchResult r
-            (λ c. (limits : searching.Limits) × IsHeader (line_in first.now) limits × (c ≡ records_over state limits))
-            (λ f. ((limits : searching.Limits) → IsHeader (line_in first.now) limits → ⊥) × (f ≡ bad_header))) }
+            (λ c. (limits : searching.Limits) × IsHeader (line_in first.now) limits
+            × (c ≡ records_over state limits))
+            (λ f. ((limits : searching.Limits) → IsHeader (line_in first.now) limits → ⊥)
+            × (f ≡ bad_header))) }
     {
         let Some(limits) = header_limits(first) else {
             return Ok(Err(Refusal {

@@ -62,7 +62,9 @@ fn clause_of(
 
 /// No hints, where a position has fewer than two to the 32 clauses.
 fn no_part(log: &Log, pos: Pos) -> Result<Option<Hints>, AllocError>
-    ensures { IfOk result (λ o. (o ≡ None) × ((part : ℕ) → 2 ^ 32 ≤ part → clause_at log.now.clauses (record { pos = pos; part = part }) ≡ None)) }
+    ensures { IfOk result (λ o. (o ≡ None)
+        × ((part : ℕ) → 2 ^ 32 ≤ part
+        → clause_at log.now.clauses (record { pos = pos; part = part }) ≡ None)) }
 {
     let last = ClauseId {
         pos,
@@ -77,7 +79,8 @@ fn no_part(log: &Log, pos: Pos) -> Result<Option<Hints>, AllocError>
 /// The hints that are written, where each of them names a clause that there is or is small.
 fn hints_of(alloc: Global, log: &Log, hints: &[WrittenHint]) -> Result<Option<Hints>, AllocError>
     ensures { IfOk result (λ o. MatchOption o
-        ((c : List Literal) (names : List Name) → map written_hint names ≡ hints.now → IsChain (clause_at log.now.clauses) c names → ⊥)
+        ((c : List Literal) (names : List Name) → map written_hint names ≡ hints.now
+        → IsChain (clause_at log.now.clauses) c names → ⊥)
         (λ h. map written_hint h ≡ hints.now)) }
 {
     let mut made = Vec::new(alloc);
@@ -115,8 +118,10 @@ fn signature_of(state: &State, number: u64) -> Result<Option<(DeclId, Signature)
 /// The application of the declaration of this number, if it was made.
 fn application_of(state: &State, number: u64) -> Result<Option<Op>, AllocError>
     ensures { IfOk result (λ o. MatchOption o
-        ((op : OpValue) → IsDeclared state.now.symbols.signatures op → head_of op ≡ Some (Head.Apply number) → ⊥)
-        (λ op. (head_of op ≡ Some (Head.Apply number)) × IsDeclared state.now.symbols.signatures op)) }
+        ((op : OpValue) → IsDeclared state.now.symbols.signatures op
+        → head_of op ≡ Some (Head.Apply number) → ⊥)
+        (λ op. (head_of op ≡ Some (Head.Apply number))
+        × IsDeclared state.now.symbols.signatures op)) }
 {
     match signature_of(state, number)? {
         Some((declaration, signature)) => Ok(Some(Op::Apply {
@@ -150,7 +155,9 @@ fn op_of(state: &State, head: Head) -> Result<Option<Op>, AllocError>
 
 /// The arguments that are written, where each is a held term.
 fn args_of(alloc: Global, held: u32, numbers: &[u64]) -> Result<Option<Arguments>, AllocError>
-    ensures { IfOk result (λ o. MatchOption o (AllByRecursion (λ a. a < held) numbers.now → ⊥) (λ a. a ≡ numbers.now)) }
+    ensures { IfOk result
+        (λ o. MatchOption o (AllByRecursion (λ a. a < held) numbers.now → ⊥)
+        (λ a. a ≡ numbers.now)) }
 {
     let mut made = Vec::new(alloc);
     for number in numbers {
@@ -170,8 +177,10 @@ fn node_of(
     numbers: &[u64],
 ) -> Result<Option<Node>, AllocError>
     ensures { IfOk result (λ o. MatchOption o
-        ((n : NodeValue) → entry_line (step.Node n) ≡ Some (line.Term head numbers.now) → IsDeclared state.now.symbols.signatures n.op → IsNewNode state.now.terms n → ⊥)
-        (λ n. (entry_line (step.Node n) ≡ Some (line.Term head numbers.now)) × IsDeclared state.now.symbols.signatures n.op)) }
+        ((n : NodeValue) → entry_line (step.Node n) ≡ Some (line.Term head numbers.now)
+        → IsDeclared state.now.symbols.signatures n.op → IsNewNode state.now.terms n → ⊥)
+        (λ n. (entry_line (step.Node n) ≡ Some (line.Term head numbers.now))
+        × IsDeclared state.now.symbols.signatures n.op)) }
 {
     let held = state.terms().len();
     let Some(op) = op_of(state, head)? else {
@@ -185,7 +194,8 @@ fn node_of(
 
 /// The assertion's number and its term, if it was made.
 fn asserted(state: &State, number: u64) -> Option<(u32, TermId)>
-    ensures { MatchOption result (slice_get state.now.scopes.terms number ≡ None) (λ p. (p.0 ≡ number) × (slice_get state.now.scopes.terms number ≡ Some p.1)) }
+    ensures { MatchOption result (slice_get state.now.scopes.terms number ≡ None)
+        (λ p. (p.0 ≡ number) × (slice_get state.now.scopes.terms number ≡ Some p.1)) }
 {
     let _live = state.live();
     if number >= state.scopes().made() as u64 {
@@ -207,7 +217,9 @@ fn chain_of(
 ) -> Result<Option<Entry>, AllocError>
     requires { AllByRecursion IsLiteral literals.now }
     ensures { IfOk result (λ o. MatchOption o
-        ((c : List Literal) (names : List Name) → entry_line (step.Chain c names) ≡ Some (line.Chain literals.now hints.now) → AreBelow log.now.next c → IsChain (clause_at log.now.clauses) c names → ⊥)
+        ((c : List Literal) (names : List Name)
+        → entry_line (step.Chain c names) ≡ Some (line.Chain literals.now hints.now)
+        → AreBelow log.now.next c → IsChain (clause_at log.now.clauses) c names → ⊥)
         (λ e. IsChainOf literals.now hints.now e)) }
 {
     let Some(clause) = clause_of(alloc, log, literals)? else {

@@ -76,8 +76,10 @@ pub fn declared_value(
     written: &WrittenValue,
 ) -> Result<Option<Value>, AllocError>
     ensures { IfOk result (λ o. MatchOption o
-        ((name : Name) (v : Held) → name.declaration ≡ next → IsValueOf state.now name declaration written.now v → ⊥)
-        (λ v. (name : Name) → name.declaration ≡ next → IsValueOf state.now name declaration written.now v)) }
+        ((name : Name) (v : Held) → name.declaration ≡ next
+        → IsValueOf state.now name declaration written.now v → ⊥)
+        (λ v. (name : Name) → name.declaration ≡ next
+        → IsValueOf state.now name declaration written.now v)) }
 {
     if declaration != next as u64 {
         return Ok(None);

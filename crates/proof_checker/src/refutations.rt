@@ -20,7 +20,8 @@ use std::collections::BTreeSet;
 
 /// The codes of the negated selectors of these assertions.
 fn codes_of(alloc: Global, log: &Log, live: &[Live]) -> Result<BTreeSet<u64>, AllocError>
-    ensures { IfOk result (λ codes. (q : ℕ) → contains nat_cmp codes q ≡ list_any (λ a. is_against log.now.selectors a q) live.now) }
+    ensures { IfOk result (λ codes. (q : ℕ)
+        → contains nat_cmp codes q ≡ list_any (λ a. is_against log.now.selectors a q) live.now) }
 {
     let mut codes = BTreeSet::new(alloc);
     for assertion in live {
@@ -37,7 +38,10 @@ fn and_assumed(
     assumed: &[Asked],
     codes: BTreeSet<u64>,
 ) -> Result<BTreeSet<u64>, AllocError>
-    ensures { IfOk result (λ all. (q : ℕ) → contains nat_cmp all q ≡ (contains nat_cmp codes q || list_any (λ a. is_against_bit log.now.bits a q) assumed.now)) }
+    ensures { IfOk result (λ all. (q : ℕ)
+        → contains nat_cmp all q
+        ≡ (contains nat_cmp codes q || list_any (λ a. is_against_bit log.now.bits a q)
+        assumed.now)) }
 {
     let mut all = codes;
     for assumption in assumed {

@@ -70,7 +70,8 @@ fn ending_line(alloc: Global, accepted: u64, refusal: Option<Refusal>) -> Result
 /// What the user is told at the end of a check, behind the verdicts: `accepted` and how many records are, or `refused` with the
 /// first bad line and its rule.
 pub fn end_line(alloc: Global, judgement: &Judgement) -> Result<Text, AllocError>
-    ensures { IfOk result (λ t. t ≡ ending_text (length (verdicts_by judgement.now.checker)) judgement.now.refusal) }
+    ensures { IfOk result
+        (λ t. t ≡ ending_text (length (verdicts_by judgement.now.checker)) judgement.now.refusal) }
 {
     ending_line(alloc, judgement.verdicts().len() as u64, judgement.refusal)
 }

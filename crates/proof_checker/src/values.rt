@@ -24,7 +24,9 @@ impl Checker {
         requires more { self.judging.line + 1 < 2 ^ 64 }
         requires left { length values.items < length self.judging.state.symbols.live }
         requires kept { AreOfSignatures self.judging.state.symbols.signatures values.items }
-        ensures { GoesTo (Goes self.judging (drop (length values.items) self.judging.state.symbols.live) values.items) self result }
+        ensures { GoesTo
+            (Goes self.judging (drop (length values.items) self.judging.state.symbols.live)
+            values.items) self result }
     {
         let mut checker = self;
         checker.values = values;
@@ -72,7 +74,9 @@ impl Checker {
     ) -> Result<Checker, AllocError>
         requires more { self.judging.line + 1 < 2 ^ 64 }
         requires kept { AreOfSignatures self.judging.state.symbols.signatures values.items }
-        ensures { IfOk result (λ c. GoesTo (Goes self.judging (drop (length values.items) self.judging.state.symbols.live) values.items) self c) }
+        ensures { IfOk result
+            (λ c. GoesTo (Goes self.judging
+            (drop (length values.items) self.judging.state.symbols.live) values.items) self c) }
     {
         if values.len() < self.state.declared().len() {
             Ok(self.owe_values(values))
@@ -101,7 +105,9 @@ impl Checker {
     ) -> Result<Checker, AllocError>
         requires values { IsOwedValues self.judging.owed }
         requires more { self.judging.line + 1 < 2 ^ 64 }
-        ensures { IfOk result (λ c. GoesTo (MovesBy self.judging.owed self.judging (Some (line.Value declaration written.now))) self c) }
+        ensures { IfOk result
+            (λ c. GoesTo (MovesBy self.judging.owed self.judging
+            (Some (line.Value declaration written.now))) self c) }
     {
         let next = self.state.declared()[self.values.len()].declaration;
         let Ok(found) = declared_value(alloc, &self.state, next, declaration, written) else {
@@ -124,7 +130,8 @@ impl Checker {
     pub(crate) fn at_value(self, alloc: Global, line: &Line) -> Result<Checker, AllocError>
         requires values { IsOwedValues self.judging.owed }
         requires more { self.judging.line + 1 < 2 ^ 64 }
-        ensures { IfOk result (λ c. GoesTo (MovesBy self.judging.owed self.judging (Some line.now)) self c) }
+        ensures { IfOk result
+            (λ c. GoesTo (MovesBy self.judging.owed self.judging (Some line.now)) self c) }
     {
         match line {
             Line::Value { declaration, value } => self.value(alloc, *declaration, value),

@@ -121,8 +121,10 @@ fn array_value(
     entries: &[WrittenEntry],
 ) -> Result<Option<Value>, AllocError>
     ensures { IfOk result (λ o. MatchOption o
-        ((v : Held) → IsOfKind sort v → written_value v ≡ Some (WrittenValue.Array default.now entries.now) → ⊥)
-        (λ v. IsOfKind sort v × (written_value v ≡ Some (WrittenValue.Array default.now entries.now)))) }
+        ((v : Held) → IsOfKind sort v
+        → written_value v ≡ Some (WrittenValue.Array default.now entries.now) → ⊥)
+        (λ v. IsOfKind sort v
+        × (written_value v ≡ Some (WrittenValue.Array default.now entries.now)))) }
 {
     let Sort::Array(index, element) = sort else {
         return Ok(None);
@@ -189,7 +191,8 @@ fn row_of(
 ) -> Result<Option<Row>, AllocError>
     requires { length written.now ≡ length signature.now.args + 1 }
     ensures { IfOk result (λ o. MatchOption o
-        ((r : HeldRow) → IsRowOf signature.now.args signature.now.value r → row_scalars r ≡ written.now → ⊥)
+        ((r : HeldRow) → IsRowOf signature.now.args signature.now.value r
+        → row_scalars r ≡ written.now → ⊥)
         (λ r. IsRowOf signature.now.args signature.now.value r × (row_scalars r ≡ written.now))) }
 {
     let sorts = signature.args.as_slice();

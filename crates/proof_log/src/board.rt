@@ -54,23 +54,27 @@ pub trait Board {
     fn put(&mut self, entry: Entry) -> Result<Pos, AllocError>
         requires kind { IsOfSearch entry }
         requires valid { IsStep (nodes self.old) (state_of (nodes self.old) (log self.old)) entry }
-        ensures later { IsLater (nodes self.old) (nodes self.new) (log self.old) (log self.new) (knows self.old) (knows self.new) }
+        ensures later { IsLater (nodes self.old) (nodes self.new) (log self.old) (log self.new)
+            (knows self.old) (knows self.new) }
         ensures put { IfOk result (λ p. IsPutAt (log self.old) entry p (log self.new)) }
         ensures known { IfOk result (λ p. KnowsOneMore (knows self.old) p (knows self.new)) }
         ensures told { told self.new ≡ told self.old };
 
     /// Sees and reads what others put, and tells it. For want of memory nothing is told.
     fn sync(&mut self) -> Result<Sync, AllocError>
-        ensures later { IsLater (nodes self.old) (nodes self.new) (log self.old) (log self.new) (knows self.old) (knows self.new) }
+        ensures later { IsLater (nodes self.old) (nodes self.new) (log self.old) (log self.new)
+            (knows self.old) (knows self.new) }
         ensures upto { IfOk result (λ s. s.upto ≡ suc (length (log self.new))) }
         ensures known { IfOk result (λ s. (p : ℕ) → p < s.upto → knows self.new p) }
         ensures only { IfOk result (λ s. (p : ℕ) → knows self.new p → p < s.upto) }
         ensures found { IfOk result (λ s. s.found ≡ found self.new) }
-        ensures told { MatchResult result (λ s. told self.new ≡ s) (λ e. told self.new ≡ told self.old) };
+        ensures told { MatchResult result (λ s. told self.new ≡ s)
+            (λ e. told self.new ≡ told self.old) };
 
     /// The clause of a name, where its position is known; takes no memory.
     fn clause(&self, id: ClauseId) -> Option<&Clause>
-        ensures { IsClauseOf (nodes self.now) (log self.now) (knows self.now) id (option_copied result) };
+        ensures { IsClauseOf (nodes self.now) (log self.now) (knows self.now) id
+            (option_copied result) };
 
     /// The step at a position that is known; takes no memory.
     fn entry(&self, at: Pos) -> Option<&Entry>

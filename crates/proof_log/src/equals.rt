@@ -80,7 +80,8 @@ impl Equals {
         row: EqualRow,
     ) -> Result<(), AllocError>
         requires new { found self.old lower upper ≡ None }
-        ensures ok { OnOk result ((t u : ℕ) → found self.new t u ≡ with_pair (found self.old) lower upper row t u) }
+        ensures ok { OnOk result ((t u : ℕ)
+            → found self.new t u ≡ with_pair (found self.old) lower upper row t u) }
         ensures err { OnErr result (self.new ≡ self.old) }
     {
         self.pairs.insert(lower, upper, row)

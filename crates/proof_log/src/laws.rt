@@ -14,22 +14,26 @@ ghost use Rattle.proof_log.specs.Faults.{IsValid, terms_after};
 /// Every clause of every log is true in every interpretation, the bits of a term are those of its value, and the
 /// selector of an assertion is the value of its term.
 pub fn logs_are_sound()
-    ensures { (nodes : List Node) (log : List Entry) → IsTermList nodes → IsLog nodes log → LogIsSound nodes log }
+    ensures { (nodes : List Node) (log : List Entry) → IsTermList nodes → IsLog nodes log
+        → LogIsSound nodes log }
 {}
 
 /// What a log names was made before: one step made each variable, and hints are of earlier positions.
 pub fn logs_are_ordered()
-    ensures { (nodes : List Node) (log : List Entry) → IsTermList nodes → IsLog nodes log → LogIsOrdered nodes log }
+    ensures { (nodes : List Node) (log : List Entry) → IsTermList nodes → IsLog nodes log
+        → LogIsOrdered nodes log }
 {}
 
 /// The steps before a place are a log, whose clauses, bits, selectors and meaning stay.
 pub fn more_steps_keep_logs()
-    ensures { (nodes : List Node) (log more : List Entry) → IsLog nodes (log ++ more) → StaysLog nodes log more }
+    ensures { (nodes : List Node) (log more : List Entry) → IsLog nodes (log ++ more)
+        → StaysLog nodes log more }
 {}
 
 /// A log is one over more terms too, with all that it has.
 pub fn more_terms_keep_logs()
-    ensures { (nodes more : List Node) (log : List Entry) → IsLog nodes log → IsLogOver nodes more log }
+    ensures { (nodes more : List Node) (log : List Entry) → IsLog nodes log
+        → IsLogOver nodes more log }
 {}
 
 /// A step that is valid may stand, over the terms after it.
@@ -40,12 +44,14 @@ pub fn valid_steps_stand()
 
 /// A stored log stands over more terms too.
 pub fn more_terms_keep_stored_logs()
-    ensures { (nodes more : List Node) (log : LogValue) → Stands nodes log → Stands (nodes ++ more) log }
+    ensures { (nodes more : List Node) (log : LogValue) → Stands nodes log
+        → Stands (nodes ++ more) log }
 {}
 
 /// What a stored log has where it stands.
 pub fn stored_logs_are_settled()
-    ensures { (nodes : List Node) (log : LogValue) → IsTermList nodes → Stands nodes log → IsSettled nodes log }
+    ensures { (nodes : List Node) (log : LogValue) → IsTermList nodes → Stands nodes log
+        → IsSettled nodes log }
 {}
 
 /// Where an assignment makes true the clauses of the steps that gave some terms bits, and these terms are closed under
@@ -53,6 +59,8 @@ pub fn stored_logs_are_settled()
 /// bits of each of them are those of its value. An assertion of such a term is true, if its selector is and the clauses of the
 /// step that made it.
 pub fn satisfied_terms_have_values()
-    ensures { (M : Interpretation) (nodes : List Node) (reached : List ℕ) (log : LogValue) (v : ℕ → Bool) →
-        IsTermList nodes → Stands nodes log → Satisfies M nodes (Contains reached) log v → AreValues M nodes (Contains reached) log v }
+    ensures { (M : Interpretation) (nodes : List Node) (reached : List ℕ) (log : LogValue) (v : ℕ
+        → Bool) →
+        IsTermList nodes → Stands nodes log → Satisfies M nodes (Contains reached) log v
+        → AreValues M nodes (Contains reached) log v }
 {}

@@ -24,23 +24,30 @@ pub trait LemmaBoard: Board {
     /// The position of the step that gives the equality of two terms its variable, the lower term first. Where they have
     /// none, such a step is put.
     fn define(&mut self, lower: TermId, upper: TermId) -> Result<Pos, AllocError>
-        requires pair { IsPair (Self.nodes self.old) (state_of (Self.nodes self.old) (Self.log self.old)) lower upper }
-        ensures later { IsLaterByMore (Self.nodes self.old) (Self.nodes self.new) (Self.log self.old) (Self.log self.new) (Self.knows self.old) (Self.knows self.new) }
-        ensures defined { IfOk result (λ p. entry_at (Self.log self.new) p ≡ Some (step.Equal lower upper)) }
+        requires pair { IsPair (Self.nodes self.old)
+            (state_of (Self.nodes self.old) (Self.log self.old)) lower upper }
+        ensures later { IsLaterByMore (Self.nodes self.old) (Self.nodes self.new)
+            (Self.log self.old) (Self.log self.new) (Self.knows self.old) (Self.knows self.new) }
+        ensures defined { IfOk result
+            (λ p. entry_at (Self.log self.new) p ≡ Some (step.Equal lower upper)) }
         ensures known { IfOk result (λ p. Self.knows self.new p) }
         ensures told { Self.told self.new ≡ Self.told self.old };
 
     /// Puts the clause of a lemma; gives its position.
     fn put_lemma(&mut self, lemma: Lemma) -> Result<Pos, AllocError>
-        requires valid { IsLemma (Self.nodes self.old) (state_of (Self.nodes self.old) (Self.log self.old)) lemma }
-        ensures later { IsLaterByMore (Self.nodes self.old) (Self.nodes self.new) (Self.log self.old) (Self.log self.new) (Self.knows self.old) (Self.knows self.new) }
-        ensures put { IfOk result (λ p. IsPutAt (Self.log self.old) (step.Lemma lemma) p (Self.log self.new)) }
+        requires valid { IsLemma (Self.nodes self.old)
+            (state_of (Self.nodes self.old) (Self.log self.old)) lemma }
+        ensures later { IsLaterByMore (Self.nodes self.old) (Self.nodes self.new)
+            (Self.log self.old) (Self.log self.new) (Self.knows self.old) (Self.knows self.new) }
+        ensures put { IfOk result
+            (λ p. IsPutAt (Self.log self.old) (step.Lemma lemma) p (Self.log self.new)) }
         ensures known { IfOk result (λ p. Self.knows self.new p) }
         ensures told { Self.told self.new ≡ Self.told self.old };
 
     /// The variables of equalities, as far as their steps are known; takes no memory.
     fn equals(&self) -> &Equals
-        ensures { AreEqualsIn (Self.nodes self.now) (Self.log self.now) (Self.knows self.now) result.now };
+        ensures { AreEqualsIn (Self.nodes self.now) (Self.log self.now) (Self.knows self.now)
+            result.now };
 }
 
 impl<'a> LemmaBoard for LogBoard<'a> {

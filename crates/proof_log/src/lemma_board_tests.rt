@@ -31,7 +31,8 @@ fn has_bits<B: LemmaBoard>(board: &B, term: TermId) -> bool
 // Whether the equality of two terms may be given a variable.
 fn are_pair<B: LemmaBoard>(board: &B, terms: &Terms, lower: TermId, upper: TermId) -> bool
     requires { B.nodes board.now ≡ terms.now.nodes }
-    ensures { result ≡ true → IsPair (B.nodes board.now) (state_of (B.nodes board.now) (B.log board.now)) lower upper }
+    ensures { result ≡ true
+        → IsPair (B.nodes board.now) (state_of (B.nodes board.now) (B.log board.now)) lower upper }
 {
     lower < upper
         && upper < terms.len()
@@ -65,7 +66,8 @@ fn lemma_clause<B: LemmaBoard>(
     lemma: &Lemma,
 ) -> Option<Clause>
     requires { B.nodes board.now ≡ terms.now.nodes }
-    ensures { IsSome result → IsLemma (B.nodes board.now) (state_of (B.nodes board.now) (B.log board.now)) lemma.now }
+    ensures { IsSome result
+        → IsLemma (B.nodes board.now) (state_of (B.nodes board.now) (B.log board.now)) lemma.now }
 {
     match clause_of(alloc, terms, board.bits(), board.equals(), lemma) {
         Ok(clause) => Some(clause),

@@ -43,7 +43,16 @@ impl Model for Log {
 
     ghost Value = { LogValue };
 
-    ghost view = { λ l. record { next = l.next; over = l.over; bits = l.bits; selectors = l.selectors.items; equals = l.equals; entries = l.steps.entries; clauses = l.steps.clauses } };
+    ghost view = { λ l.
+        record {
+          next = l.next;
+          over = l.over;
+          bits = l.bits;
+          selectors = l.selectors.items;
+          equals = l.equals;
+          entries = l.steps.entries;
+          clauses = l.steps.clauses;
+        } };
 }
 
 impl Clauses for Log {
@@ -78,7 +87,8 @@ impl Log {
     /// it is true in every interpretation.
     pub fn clause(&self, id: ClauseId) -> Option<&Clause>
         ensures clause { option_copied result ≡ clause_at self.now.clauses id }
-        ensures sound { IfSome result (λ c. (nodes : List Node) → IsTermList nodes → Stands nodes self.now → IsSound nodes self.now.entries c.now) }
+        ensures sound { IfSome result (λ c. (nodes : List Node) → IsTermList nodes
+            → Stands nodes self.now → IsSound nodes self.now.entries c.now) }
     {
         match self.steps.clause(id) {
             Some(clause) => Some(clause),
@@ -289,7 +299,8 @@ fn refused(kind: StepKind, kept: Kept) -> PushError
 
 // The position of a step that was added, or the fault that shows that it was not valid.
 fn told(kind: StepKind, at: Pos, shown: Option<Kept>) -> Result<Pos, PushError>
-    ensures { MatchOption shown (result ≡ Ok at) (λ k. result ≡ Err (PushError.Fault (record { kind = kind; kept = k }))) }
+    ensures { MatchOption shown (result ≡ Ok at)
+        (λ k. result ≡ Err (PushError.Fault (record { kind = kind; kept = k }))) }
 {
     match shown {
         None => Ok(at),

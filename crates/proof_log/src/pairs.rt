@@ -62,7 +62,8 @@ impl<V: Copy> Row<V> {
 
     fn insert(&mut self, lower: TermId, value: V) -> Result<(), AllocError>
         requires new { kept_for self.old lower ≡ None }
-        ensures ok { OnOk result ((t : ℕ) → kept_for self.new t ≡ kept_for ((lower, value) ∷ self.old) t) }
+        ensures ok { OnOk result ((t : ℕ)
+            → kept_for self.new t ≡ kept_for ((lower, value) ∷ self.old) t) }
         ensures err { OnErr result (self.new ≡ self.old) }
     {
         let place = place_of(self.items.as_slice(), lower);
@@ -133,7 +134,8 @@ impl<V: Copy> Pairs<V> {
     /// Keeps this for a pair for which nothing is kept.
     pub fn insert(&mut self, lower: TermId, upper: TermId, value: V) -> Result<(), AllocError>
         requires new { found self.old lower upper ≡ None }
-        ensures ok { OnOk result ((t u : ℕ) → found self.new t u ≡ with_pair (found self.old) lower upper value t u) }
+        ensures ok { OnOk result ((t u : ℕ)
+            → found self.new t u ≡ with_pair (found self.old) lower upper value t u) }
         ensures err { OnErr result (self.new ≡ self.old) }
     {
         grow(self.alloc, &mut self.rows, upper)?;

@@ -33,7 +33,8 @@ pub(crate) fn grow(held: &mut Vec<Option<Pos>>, number: u32) -> Result<(), Alloc
 /// Keeps a position under a number.
 pub(crate) fn set(held: &mut Vec<Option<Pos>>, number: u32, place: Pos)
     requires { number < length held.old.items }
-    ensures { (n : ℕ) → place_in held.new.items n ≡ with_value (place_in held.old.items) number place n }
+    ensures { (n : ℕ)
+        → place_in held.new.items n ≡ with_value (place_in held.old.items) number place n }
 {
     held[number as usize] = Some(place);
 }

@@ -47,7 +47,8 @@ fn fresh_row(alloc: Global, first: u64, count: u64) -> Result<Vec<Lit>, AllocErr
 // How many bits an equality of arrays has.
 fn equality_width(terms: &Terms, term: TermId, left: TermId) -> Option<u64>
     requires { term < length terms.now.nodes }
-    ensures { result ≡ (if ltb left term && is_array (sort_of terms.now.nodes left) then Some 1 else None) }
+    ensures { result
+        ≡ (if ltb left term && is_array (sort_of terms.now.nodes left) then Some 1 else None) }
 {
     if left < term && is_array(terms.sort(left)) {
         Some(1)
@@ -98,8 +99,10 @@ fn equality(
     requires short { EachShort bits.now }
     requires bits { HaveEqualBits bits.now lower upper }
     requires room { circuit.old.next + 2 ^ 17 ≤ 2 ^ 63 }
-    ensures ok { IfOk result (λ l. (a b : List Literal) → bits_in bits.now lower ≡ Some a → bits_in bits.now upper ≡ Some b →
-        (l ≡ equal_bit circuit.old.next true_literal a b) × Gains circuit.old circuit.new (equal_gates circuit.old.next true_literal a b)) }
+    ensures ok { IfOk result (λ l. (a b : List Literal) → bits_in bits.now lower ≡ Some a
+        → bits_in bits.now upper ≡ Some b →
+        (l ≡ equal_bit circuit.old.next true_literal a b)
+        × Gains circuit.old circuit.new (equal_gates circuit.old.next true_literal a b)) }
 {
     match (bits.of(lower), bits.of(upper)) {
         (Some(a), Some(b)) => circuit.equal(a, b),
@@ -128,7 +131,8 @@ impl Log {
         requires next { 1 < self.old.next }
         requires width { width ≤ 128 }
         requires new { bits_in self.old.bits term ≡ None }
-        ensures ok { OnOk result (self.new ≡ with_leaf self.old (length terms.now.nodes) term width) }
+        ensures ok { OnOk result
+            (self.new ≡ with_leaf self.old (length terms.now.nodes) term width) }
         ensures err { OnErr result (self.new ≡ self.old) }
     {
         if self.next > LAST {
@@ -153,7 +157,9 @@ impl Log {
         requires held { term < length terms.now.nodes }
         requires short { EachShort self.old.bits }
         requires new { bits_in self.old.bits term ≡ None }
-        ensures ok { IfOk result (λ done. Encodes (block_of self.old.next (bits_in self.old.bits) (node_at terms.now.nodes term))
+        ensures ok { IfOk result
+            (λ done. Encodes
+            (block_of self.old.next (bits_in self.old.bits) (node_at terms.now.nodes term))
             done (length terms.now.nodes) term self.old self.new) }
         ensures err { OnErr result (self.new ≡ self.old) }
     {
@@ -184,7 +190,8 @@ impl Log {
         bit: Lit,
     ) -> Result<(), AllocError>
         requires next { 1 < self.old.next }
-        ensures ok { OnOk result (IsSelected self.old self.new (length terms.now.nodes) assertion term bit) }
+        ensures ok { OnOk result
+            (IsSelected self.old self.new (length terms.now.nodes) assertion term bit) }
         ensures err { OnErr result (self.new ≡ self.old) }
     {
         if self.next > LAST {

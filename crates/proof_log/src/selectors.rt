@@ -34,7 +34,9 @@ pub(crate) fn grow(held: &mut Vec<Option<Lit>>, assertion: AssertId) -> Result<(
 /// Gives an assertion its selector.
 pub(crate) fn set(held: &mut Vec<Option<Lit>>, assertion: AssertId, selector: Lit)
     requires { assertion < length held.old.items }
-    ensures { (a : ℕ) → selector_in held.new.items a ≡ with_value (selector_in held.old.items) assertion selector a }
+    ensures { (a : ℕ)
+        → selector_in held.new.items a
+        ≡ with_value (selector_in held.old.items) assertion selector a }
 {
     held[assertion as usize] = Some(selector);
 }

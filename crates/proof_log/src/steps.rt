@@ -80,7 +80,11 @@ impl Model for Steps {
 
     ghost Value = { StepsValue };
 
-    ghost view = { λ s. record { entries = map (λ x. x.entry) s.steps.items; clauses = (s.first ∷ []) ∷ map (λ x. x.clauses) s.steps.items } };
+    ghost view = { λ s.
+        record {
+          entries = map (λ x. x.entry) s.steps.items;
+          clauses = (s.first ∷ []) ∷ map (λ x. x.clauses) s.steps.items;
+        } };
 
     ghost invariant = { λ s. ArePlaces (map (λ x. x.entry) s.steps.items) s.terms.items s.assertions.items };
 }
@@ -194,8 +198,12 @@ impl Steps {
         made: Vec<Clause>,
     ) -> Result<(), AllocError>
         requires { found equals.old lower upper ≡ None }
-        ensures step { OnOk result (self.new ≡ with_step self.old (step.Equal lower upper) made.items) }
-        ensures equals { OnOk result ((t u : ℕ) → found equals.new t u ≡ with_pair (found equals.old) lower upper (record { literal = literal; place = suc (length self.old.entries) }) t u) }
+        ensures step { OnOk result
+            (self.new ≡ with_step self.old (step.Equal lower upper) made.items) }
+        ensures equals { OnOk result ((t u : ℕ)
+            → found equals.new t u
+            ≡ with_pair (found equals.old) lower upper
+            (record { literal = literal; place = suc (length self.old.entries) }) t u) }
         ensures err { OnErr result (self.new ≡ self.old) }
         ensures err_equals { OnErr result (equals.new ≡ equals.old) }
     {
@@ -220,7 +228,9 @@ impl Steps {
     ) -> Result<(), AllocError>
         requires { (t : ℕ) × (entry ≡ step.Selector assertion t) }
         ensures step { OnOk result (self.new ≡ with_step self.old entry made.items) }
-        ensures held { OnOk result ((a : ℕ) → selector_in held.new.items a ≡ with_value (selector_in held.old.items) assertion selector a) }
+        ensures held { OnOk result ((a : ℕ)
+            → selector_in held.new.items a
+            ≡ with_value (selector_in held.old.items) assertion selector a) }
         ensures err { OnErr result (self.new ≡ self.old) }
         ensures err_held { OnErr result (held.new.items ≡ held.old.items) }
     {

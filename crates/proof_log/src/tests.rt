@@ -487,8 +487,10 @@ fn put_true(proof: &mut Proof, alloc: Global) -> Result<Pos, AllocError>
     requires terms { proof.old.terms ≡ no_terms (2 ^ 24) }
     requires steps { proof.old.log.entries ≡ [] }
     ensures stands { Stands proof.new.terms.nodes proof.new.log }
-    ensures terms { OnOk result (proof.new.terms ≡ with_node (no_terms (2 ^ 24)) (leaf (Plain Operator.True))) }
-    ensures steps { OnOk result (proof.new.log.entries ≡ step.Node (leaf (Plain Operator.True)) ∷ []) }
+    ensures terms { OnOk result
+        (proof.new.terms ≡ with_node (no_terms (2 ^ 24)) (leaf (Plain Operator.True))) }
+    ensures steps { OnOk result (proof.new.log.entries ≡ step.Node (leaf (Plain Operator.True))
+        ∷ []) }
 {
     let node = Node::leaf(alloc, Op::Plain(Operator::True));
     proof.log.push_node(alloc, &mut proof.terms, node)

@@ -46,8 +46,10 @@ fn is_bool(sort: Sort) -> bool
 // Whether two terms of one sort are held, the lower first.
 fn is_pair(terms: &Terms, lower: TermId, upper: TermId) -> bool
     ensures { MatchBool result
-        ((lower < upper) × (upper < length terms.now.nodes) × (sort_of terms.now.nodes lower ≡ sort_of terms.now.nodes upper))
-        ((lower < upper) × (upper < length terms.now.nodes) × (sort_of terms.now.nodes lower ≡ sort_of terms.now.nodes upper) → ⊥) }
+        ((lower < upper) × (upper < length terms.now.nodes)
+        × (sort_of terms.now.nodes lower ≡ sort_of terms.now.nodes upper))
+        ((lower < upper) × (upper < length terms.now.nodes)
+        × (sort_of terms.now.nodes lower ≡ sort_of terms.now.nodes upper) → ⊥) }
 {
     lower < upper && upper < terms.len() && terms.sort(lower) == terms.sort(upper)
 }
@@ -124,7 +126,8 @@ impl Log {
         term: TermId,
     ) -> Result<Option<Kept>, AllocError>
         requires stands { Stands terms.now.nodes self.old }
-        ensures ok { IfOk result (Tried terms.now (step.Selector assertion term) self.old self.new) }
+        ensures ok { IfOk result
+            (Tried terms.now (step.Selector assertion term) self.old self.new) }
         ensures err { OnErr result (self.new ≡ self.old) }
     {
         if let Some(selector) = self.selector(assertion) {
@@ -206,7 +209,8 @@ impl Log {
 
     // Whether two terms have bits.
     fn have_bits(&self, lower: TermId, upper: TermId) -> bool
-        ensures { result ≡ (is_some (bits_in self.now.bits lower) && is_some (bits_in self.now.bits upper)) }
+        ensures { result
+            ≡ (is_some (bits_in self.now.bits lower) && is_some (bits_in self.now.bits upper)) }
     {
         self.has_bits(lower) && self.has_bits(upper)
     }
@@ -218,7 +222,9 @@ impl Log {
         terms: &Terms,
         lemma: &Lemma,
     ) -> Result<Result<Clause, LemmaFault>, AllocError>
-        ensures { IfOk result (λ r. r ≡ clause_of terms.now.nodes (bits_in self.now.bits) (equal_in self.now.equals) lemma.now) }
+        ensures { IfOk result
+            (λ r. r ≡ clause_of terms.now.nodes (bits_in self.now.bits) (equal_in self.now.equals)
+            lemma.now) }
     {
         match clause_of(alloc, terms, &self.bits, &self.equals, lemma) {
             Ok(clause) => Ok(Ok(clause)),
@@ -236,7 +242,8 @@ impl Log {
 
     // The bit of a term that has one.
     fn lone_bit(&self, term: TermId) -> Option<Lit>
-        ensures { MatchOption result ((l : Literal) → bits_in self.now.bits term ≡ Some (l ∷ []) → ⊥) (λ l. bits_in self.now.bits term ≡ Some (l ∷ [])) }
+        ensures { MatchOption result ((l : Literal) → bits_in self.now.bits term ≡ Some (l ∷ [])
+            → ⊥) (λ l. bits_in self.now.bits term ≡ Some (l ∷ [])) }
     {
         match self.bits.of(term) {
             Some([bit]) => Some(*bit),
@@ -268,9 +275,11 @@ impl Log {
 
     // What shows that hints are no chain for a clause of this log.
     fn unfounded(&mut self, clause: &Clause, hints: &Hints) -> Result<Option<Kept>, AllocError>
-        requires { (id : ClauseId) (h : List Literal) → clause_at self.old.clauses id ≡ Some h → AreBelow self.old.next h }
+        requires { (id : ClauseId) (h : List Literal) → clause_at self.old.clauses id ≡ Some h
+            → AreBelow self.old.next h }
         ensures ok { IfOk result (λ o. MatchOption o
-            (AreBelow self.old.next clause.now × IsChain (clause_at self.old.clauses) clause.now hints.now)
+            (AreBelow self.old.next clause.now
+            × IsChain (clause_at self.old.clauses) clause.now hints.now)
             (ShowsChain self.old.next self.old.clauses clause.now hints.now)) }
         ensures same { self.new ≡ self.old }
     {

@@ -21,7 +21,8 @@ use theory_terms::lemma::{Access, Lemma, Move, Start};
 /// Appends an operator with its numbers.
 fn push_head(op: &Op, out: &mut Text) -> Result<(), AllocError>
     requires { IsSome (head_of op.now) }
-    ensures ok { OnOk result (IfSome (head_of op.now) (λ head. out.new ≡ out.old ++ joined (head_words head))) }
+    ensures ok { OnOk result
+        (IfSome (head_of op.now) (λ head. out.new ≡ out.old ++ joined (head_words head))) }
     ensures head { OnOk result (IfSome (head_of op.now) IsHead) }
     ensures err { OnErr result (take (length out.old) out.new ≡ out.old) }
 {
@@ -77,7 +78,8 @@ fn push_literal(literal: Lit, out: &mut Text) -> Result<(), AllocError>
 }
 
 fn push_literals(literals: &[Lit], out: &mut Text) -> Result<(), AllocError>
-    ensures ok { OnOk result (out.new ≡ out.old ++ spaced (map literal_text (map written_literal literals.now))) }
+    ensures ok { OnOk result
+        (out.new ≡ out.old ++ spaced (map literal_text (map written_literal literals.now))) }
     ensures literals { OnOk result (AllByRecursion IsLiteral (map written_literal literals.now)) }
     ensures err { OnErr result (take (length out.old) out.new ≡ out.old) }
 {
@@ -97,7 +99,8 @@ fn push_hint(hint: ClauseId, out: &mut Text) -> Result<(), AllocError>
 }
 
 fn push_hints(hints: &Hints, out: &mut Text) -> Result<(), AllocError>
-    ensures ok { OnOk result (out.new ≡ out.old ++ spaced (map hint_text (map written_hint hints.now))) }
+    ensures ok { OnOk result
+        (out.new ≡ out.old ++ spaced (map hint_text (map written_hint hints.now))) }
     ensures hints { OnOk result (AllByRecursion IsHint (map written_hint hints.now)) }
     ensures err { OnErr result (take (length out.old) out.new ≡ out.old) }
 {
@@ -109,7 +112,8 @@ fn push_hints(hints: &Hints, out: &mut Text) -> Result<(), AllocError>
 
 fn push_node(node: &Node, out: &mut Text) -> Result<(), AllocError>
     requires { IsSome (head_of node.now.op) }
-    ensures ok { OnOk result (IfSome (entry_line (Entry.Node node.now)) (λ line. out.new ≡ out.old ++ line_text line)) }
+    ensures ok { OnOk result
+        (IfSome (entry_line (Entry.Node node.now)) (λ line. out.new ≡ out.old ++ line_text line)) }
     ensures line { OnOk result (IfSome (entry_line (Entry.Node node.now)) IsLine) }
     ensures err { OnErr result (take (length out.old) out.new ≡ out.old) }
 {
@@ -120,7 +124,9 @@ fn push_node(node: &Node, out: &mut Text) -> Result<(), AllocError>
 }
 
 fn push_chain(clause: &Clause, hints: &Hints, out: &mut Text) -> Result<(), AllocError>
-    ensures ok { OnOk result (IfSome (entry_line (Entry.Chain clause.now hints.now)) (λ line. out.new ≡ out.old ++ line_text line)) }
+    ensures ok { OnOk result
+        (IfSome (entry_line (Entry.Chain clause.now hints.now))
+        (λ line. out.new ≡ out.old ++ line_text line)) }
     ensures line { OnOk result (IfSome (entry_line (Entry.Chain clause.now hints.now)) IsLine) }
     ensures err { OnErr result (take (length out.old) out.new ≡ out.old) }
 {
@@ -179,7 +185,8 @@ fn push_move(passed: Move, out: &mut Text) -> Result<(), AllocError>
 }
 
 fn push_moves(moves: &[Move], out: &mut Text) -> Result<(), AllocError>
-    ensures ok { OnOk result (out.new ≡ out.old ++ spaced (flat_map move_words (map written_move moves.now))) }
+    ensures ok { OnOk result
+        (out.new ≡ out.old ++ spaced (flat_map move_words (map written_move moves.now))) }
     ensures terms { OnOk result (AllByRecursion IsMove (map written_move moves.now)) }
     ensures err { OnErr result (take (length out.old) out.new ≡ out.old) }
 {
@@ -190,7 +197,8 @@ fn push_moves(moves: &[Move], out: &mut Text) -> Result<(), AllocError>
 }
 
 fn push_access(access: &Access, out: &mut Text) -> Result<(), AllocError>
-    ensures ok { OnOk result (out.new ≡ out.old ++ spaced (access_words (written_access access.now))) }
+    ensures ok { OnOk result
+        (out.new ≡ out.old ++ spaced (access_words (written_access access.now))) }
     ensures access { OnOk result (IsAccess (written_access access.now)) }
     ensures err { OnErr result (take (length out.old) out.new ≡ out.old) }
 {
@@ -199,8 +207,11 @@ fn push_access(access: &Access, out: &mut Text) -> Result<(), AllocError>
 }
 
 fn push_accesses(one: &Access, other: &Access, out: &mut Text) -> Result<(), AllocError>
-    ensures ok { OnOk result (out.new ≡ out.old ++ line_text (Accesses (written_access one.now) (written_access other.now))) }
-    ensures line { OnOk result (IsLine (Accesses (written_access one.now) (written_access other.now))) }
+    ensures ok { OnOk result
+        (out.new ≡ out.old
+        ++ line_text (Accesses (written_access one.now) (written_access other.now))) }
+    ensures line { OnOk result
+        (IsLine (Accesses (written_access one.now) (written_access other.now))) }
     ensures err { OnErr result (take (length out.old) out.new ≡ out.old) }
 {
     out.push_slice(b"l a")?;
@@ -224,7 +235,8 @@ fn push_lemma(lemma: &Lemma, out: &mut Text) -> Result<(), AllocError>
 
 fn push_entry(entry: &Entry, out: &mut Text) -> Result<(), AllocError>
     requires { IsSome (entry_line entry.now) }
-    ensures ok { OnOk result (IfSome (entry_line entry.now) (λ line. out.new ≡ out.old ++ line_text line)) }
+    ensures ok { OnOk result
+        (IfSome (entry_line entry.now) (λ line. out.new ≡ out.old ++ line_text line)) }
     ensures line { OnOk result (IfSome (entry_line entry.now) IsLine) }
     ensures err { OnErr result (take (length out.old) out.new ≡ out.old) }
 {
@@ -245,7 +257,8 @@ fn push_entry(entry: &Entry, out: &mut Text) -> Result<(), AllocError>
 pub fn write_entry(entry: &Entry, out: &mut Text) -> Result<(), AllocError>
     // No line makes a declared constant or a parameter, and a use of a rewrite rule has none yet.
     requires { IsSome (entry_line entry.now) }
-    ensures ok { OnOk result (IfSome (entry_line entry.now) (λ line. out.new ≡ out.old ++ line_text line)) }
+    ensures ok { OnOk result
+        (IfSome (entry_line entry.now) (λ line. out.new ≡ out.old ++ line_text line)) }
     ensures line { OnOk result (IfSome (entry_line entry.now) IsLine) }
     ensures err { OnErr result (out.new ≡ out.old) }
 {

@@ -14,13 +14,20 @@ use std::alloc::{AllocError, Global};
 /// The lines of a proof file that comes in these pieces, or its first fault.
 pub fn lines(alloc: Global, pieces: &[Text]) -> Result<Result<Vec<Line>, LineFault>, AllocError>
     // However it was cut into pieces, the file is the printing of these lines.
-    ensures printed { IfOk result (λ r. IfOk r (λ v. AllByRecursion IsLine v.items × (flat_map (λ piece. piece) pieces.now ≡ flat_map line_text v.items))) }
+    ensures printed { IfOk result
+        (λ r. IfOk r (λ v. AllByRecursion IsLine v.items
+        × (flat_map (λ piece. piece) pieces.now ≡ flat_map line_text v.items))) }
     // And of no others.
-    ensures only { IfOk result (λ r. IfOk r (λ v. (others : List Line) → AllByRecursion IsLine others → flat_map (λ piece. piece) pieces.now ≡ flat_map line_text others → v.items ≡ others)) }
+    ensures only { IfOk result
+        (λ r. IfOk r (λ v. (others : List Line) → AllByRecursion IsLine others
+        → flat_map (λ piece. piece) pieces.now ≡ flat_map line_text others → v.items ≡ others)) }
     // Which line is the first that is none.
-    ensures fault { IfOk result (λ r. IfErr r (λ f. IsFirstFault (flat_map (λ piece. piece) pieces.now) f.line)) }
+    ensures fault { IfOk result
+        (λ r. IfErr r (λ f. IsFirstFault (flat_map (λ piece. piece) pieces.now) f.line)) }
     // A file with a fault is the printing of no lines.
-    ensures none { IfOk result (λ r. IfErr r (λ f. (others : List Line) → AllByRecursion IsLine others → flat_map (λ piece. piece) pieces.now ≡ flat_map line_text others → ⊥)) }
+    ensures none { IfOk result
+        (λ r. IfErr r (λ f. (others : List Line) → AllByRecursion IsLine others
+        → flat_map (λ piece. piece) pieces.now ≡ flat_map line_text others → ⊥)) }
 {
     let mut reader = ProofReader::new(alloc);
     let mut out = Vec::new(alloc);

@@ -34,7 +34,8 @@ impl Model for ProofReader {
 
     ghost view = { λ r. r.held };
 
-    ghost invariant = { λ r. (r.searched ≤ length r.held.bytes) × (without_feed (take r.searched r.held.bytes) ≡ true) };
+    ghost invariant = { λ r. (r.searched ≤ length r.held.bytes)
+        × (without_feed (take r.searched r.held.bytes) ≡ true) };
 }
 
 /// How many bytes stand before the first line feed, of which the first `searched` are known to be none.
@@ -42,7 +43,8 @@ fn find_feed(bytes: &[u8], searched: usize) -> Option<usize>
     requires within { searched ≤ length bytes.now }
     requires searched { without_feed (take searched bytes.now) ≡ true }
     ensures { MatchOption result (without_feed bytes.now ≡ true)
-        (λ n. (n < length bytes.now) × (slice_index bytes.now n ≡ 10) × (without_feed (take n bytes.now) ≡ true)) }
+        (λ n. (n < length bytes.now) × (slice_index bytes.now n ≡ 10)
+        × (without_feed (take n bytes.now) ≡ true)) }
 {
     let mut size = searched;
     while size < bytes.len() {
@@ -91,7 +93,8 @@ impl ProofReader {
     pub fn next(&mut self) -> Result<Option<Result<Line, LineFault>>, AllocError>
         ensures ok { IfOk result (λ r. MatchOption r
             ((without_feed self.old.bytes ≡ true) × (self.new ≡ self.old))
-            (λ answer. (text : List ℕ) × IsNext self.old text self.new × Answers answer self.old.line text)) }
+            (λ answer. (text : List ℕ) × IsNext self.old text self.new
+            × Answers answer self.old.line text)) }
         ensures err { OnErr result (self.new ≡ self.old) }
     {
         let rest = self.held.bytes();
@@ -108,7 +111,8 @@ impl ProofReader {
 
     /// The fault of a last line without its line feed, once no whole line is held; `None` exactly where no byte is held.
     pub fn finish(&self) -> Option<LineFault>
-        ensures { MatchOption result (self.now.bytes ≡ []) (λ f. (f.line ≡ self.now.line) × (self.now.bytes ≢ [])) }
+        ensures { MatchOption result (self.now.bytes ≡ []) (λ f. (f.line ≡ self.now.line)
+            × (self.now.bytes ≢ [])) }
     {
         if self.held.bytes().is_empty() {
             return None;

@@ -45,7 +45,8 @@ fn literal(word: &[u8]) -> Option<WrittenLiteral>
 
 /// The literals before the word 0, and the rest behind it.
 fn literals(alloc: Global, rest: &[u8]) -> Result<Option<(WrittenClause, &[u8])>, AllocError>
-    ensures { IfOk result (λ o. option_map (λ r. (r.0, behind 32 r.1.now)) o ≡ literals_at (behind 32 rest.now)) }
+    ensures { IfOk result (λ o. option_map (λ r. (r.0, behind 32 r.1.now)) o
+        ≡ literals_at (behind 32 rest.now)) }
 {
     let mut items = Vec::new(alloc);
     let mut left = rest;
@@ -99,7 +100,8 @@ fn chain(alloc: Global, rest: &[u8]) -> Result<Option<Line>, AllocError>
 }
 
 fn indexed(name: Indexed, rest: &[u8]) -> Option<(Head, &[u8])>
-    ensures { option_map (λ r. (r.0, behind 32 r.1.now)) result ≡ indexed_at name (behind 32 rest.now) }
+    ensures { option_map (λ r. (r.0, behind 32 r.1.now)) result
+        ≡ indexed_at name (behind 32 rest.now) }
 {
     let (first, rest) = number_at(b' ', rest)?;
     let head = match name {
@@ -129,7 +131,8 @@ fn indexed(name: Indexed, rest: &[u8]) -> Option<(Head, &[u8])>
 }
 
 fn indexed_head<'a>(word: &[u8], rest: &'a [u8]) -> Option<(Head, &'a [u8])>
-    ensures { option_map (λ r. (r.0, behind 32 r.1.now)) result ≡ indexed_head_at word.now (behind 32 rest.now) }
+    ensures { option_map (λ r. (r.0, behind 32 r.1.now)) result
+        ≡ indexed_head_at word.now (behind 32 rest.now) }
 {
     match look_up(&INDEXED_NAMES, word) {
         Some(name) => indexed(name, rest),

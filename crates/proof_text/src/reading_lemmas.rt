@@ -35,7 +35,8 @@ fn written_move(letter: &[u8], term: &[u8]) -> Option<WrittenMove>
 
 /// The moves before the word `/` or before the end, and the rest from there on.
 fn moves(alloc: Global, rest: &[u8]) -> Result<Option<(WrittenMoves, &[u8])>, AllocError>
-    ensures { IfOk result (λ o. option_map (λ r. (r.0, behind 32 r.1.now)) o ≡ moves_at (behind 32 rest.now)) }
+    ensures { IfOk result (λ o. option_map (λ r. (r.0, behind 32 r.1.now)) o
+        ≡ moves_at (behind 32 rest.now)) }
 {
     let mut items = Vec::new(alloc);
     let mut left = rest;
@@ -56,7 +57,8 @@ fn moves(alloc: Global, rest: &[u8]) -> Result<Option<(WrittenMoves, &[u8])>, Al
 }
 
 fn access(alloc: Global, rest: &[u8]) -> Result<Option<(WrittenAccess, &[u8])>, AllocError>
-    ensures { IfOk result (λ o. option_map (λ r. (r.0, behind 32 r.1.now)) o ≡ access_at (behind 32 rest.now)) }
+    ensures { IfOk result (λ o. option_map (λ r. (r.0, behind 32 r.1.now)) o
+        ≡ access_at (behind 32 rest.now)) }
 {
     let Some((word, rest)) = next_word(b' ', rest) else {
         return Ok(None);

@@ -29,8 +29,10 @@ pub enum Record {
 }
 
 fn push_declared(declaration: DeclId, value: &Value, out: &mut Text) -> Result<(), AllocError>
-    ensures ok { OnOk result (out.new ≡ out.old ++ flat_map line_text (value_lines (declaration, value.now))) }
-    ensures lines { OnOk result (HasDigit value.now → AllByRecursion IsLine (value_lines (declaration, value.now))) }
+    ensures ok { OnOk result
+        (out.new ≡ out.old ++ flat_map line_text (value_lines (declaration, value.now))) }
+    ensures lines { OnOk result (HasDigit value.now
+        → AllByRecursion IsLine (value_lines (declaration, value.now))) }
     ensures err { OnErr result (take (length out.old) out.new ≡ out.old) }
 {
     push_with_number(out, b"v", declaration as u64)?;
@@ -40,8 +42,10 @@ fn push_declared(declaration: DeclId, value: &Value, out: &mut Text) -> Result<(
 }
 
 fn push_values(values: &[(DeclId, Value)], out: &mut Text) -> Result<(), AllocError>
-    ensures ok { OnOk result (out.new ≡ out.old ++ flat_map line_text (flat_map value_lines values.now)) }
-    ensures lines { OnOk result (AllByRecursion (λ p. HasDigit p.1) values.now → AllByRecursion IsLine (flat_map value_lines values.now)) }
+    ensures ok { OnOk result
+        (out.new ≡ out.old ++ flat_map line_text (flat_map value_lines values.now)) }
+    ensures lines { OnOk result (AllByRecursion (λ p. HasDigit p.1) values.now
+        → AllByRecursion IsLine (flat_map value_lines values.now)) }
     ensures err { OnErr result (take (length out.old) out.new ≡ out.old) }
 {
     for pair in values {
@@ -87,7 +91,8 @@ fn push_unknown(cube: u64, start: Pos, count: u64, out: &mut Text) -> Result<(),
 
 fn push_record(shown: &Record, out: &mut Text) -> Result<(), AllocError>
     ensures ok { OnOk result (out.new ≡ out.old ++ flat_map line_text (record_lines shown.now)) }
-    ensures lines { OnOk result (HaveDigits shown.now → AllByRecursion IsLine (record_lines shown.now)) }
+    ensures lines { OnOk result (HaveDigits shown.now
+        → AllByRecursion IsLine (record_lines shown.now)) }
     ensures err { OnErr result (take (length out.old) out.new ≡ out.old) }
 {
     match shown {
@@ -108,7 +113,8 @@ fn push_record(shown: &Record, out: &mut Text) -> Result<(), AllocError>
 /// Appends the lines of a record. They can be read, where each word has a digit.
 pub fn write_record(shown: &Record, out: &mut Text) -> Result<(), AllocError>
     ensures ok { OnOk result (out.new ≡ out.old ++ flat_map line_text (record_lines shown.now)) }
-    ensures lines { OnOk result (HaveDigits shown.now → AllByRecursion IsLine (record_lines shown.now)) }
+    ensures lines { OnOk result (HaveDigits shown.now
+        → AllByRecursion IsLine (record_lines shown.now)) }
     ensures err { OnErr result (out.new ≡ out.old) }
 {
     let before = out.len();

@@ -67,7 +67,8 @@ fn push_spaced_scalar(scalar: Scalar, out: &mut Text) -> Result<(), AllocError>
 }
 
 fn push_entry(index: Word, element: Word, out: &mut Text) -> Result<(), AllocError>
-    ensures ok { OnOk result (out.new ≡ out.old ++ spaced (entry_words (written_entry (index, element)))) }
+    ensures ok { OnOk result
+        (out.new ≡ out.old ++ spaced (entry_words (written_entry (index, element)))) }
     ensures err { OnErr result (take (length out.old) out.new ≡ out.old) }
 {
     push_spaced_word(index, out)?;
@@ -75,7 +76,8 @@ fn push_entry(index: Word, element: Word, out: &mut Text) -> Result<(), AllocErr
 }
 
 fn push_entries(entries: &[(Word, Word)], out: &mut Text) -> Result<(), AllocError>
-    ensures ok { OnOk result (out.new ≡ out.old ++ spaced (flat_map entry_words (map written_entry entries.now))) }
+    ensures ok { OnOk result
+        (out.new ≡ out.old ++ spaced (flat_map entry_words (map written_entry entries.now))) }
     ensures err { OnErr result (take (length out.old) out.new ≡ out.old) }
 {
     for entry in entries {
@@ -85,7 +87,8 @@ fn push_entries(entries: &[(Word, Word)], out: &mut Text) -> Result<(), AllocErr
 }
 
 fn push_array(array: &ArrayValue, out: &mut Text) -> Result<(), AllocError>
-    ensures ok { OnOk result (IfSome (written_value (Value.Array array.now)) (λ v. out.new ≡ out.old ++ value_text v)) }
+    ensures ok { OnOk result
+        (IfSome (written_value (Value.Array array.now)) (λ v. out.new ≡ out.old ++ value_text v)) }
     ensures err { OnErr result (take (length out.old) out.new ≡ out.old) }
 {
     out.push(b'a')?;
@@ -94,7 +97,8 @@ fn push_array(array: &ArrayValue, out: &mut Text) -> Result<(), AllocError>
 }
 
 fn push_scalars(scalars: &[Scalar], out: &mut Text) -> Result<(), AllocError>
-    ensures ok { OnOk result (out.new ≡ out.old ++ spaced (map scalar_text (map written_scalar scalars.now))) }
+    ensures ok { OnOk result
+        (out.new ≡ out.old ++ spaced (map scalar_text (map written_scalar scalars.now))) }
     ensures err { OnErr result (take (length out.old) out.new ≡ out.old) }
 {
     for scalar in scalars {
@@ -112,7 +116,8 @@ fn push_row(row: &Row, out: &mut Text) -> Result<(), AllocError>
 }
 
 fn push_rows(rows: &[Row], out: &mut Text) -> Result<(), AllocError>
-    ensures ok { OnOk result (out.new ≡ out.old ++ spaced (map scalar_text (flat_map row_scalars rows.now))) }
+    ensures ok { OnOk result
+        (out.new ≡ out.old ++ spaced (map scalar_text (flat_map row_scalars rows.now))) }
     ensures err { OnErr result (take (length out.old) out.new ≡ out.old) }
 {
     for row in rows {
@@ -122,7 +127,8 @@ fn push_rows(rows: &[Row], out: &mut Text) -> Result<(), AllocError>
 }
 
 fn push_table(table: &FunTable, out: &mut Text) -> Result<(), AllocError>
-    ensures ok { OnOk result (IfSome (written_value (Value.Fun table.now)) (λ v. out.new ≡ out.old ++ value_text v)) }
+    ensures ok { OnOk result
+        (IfSome (written_value (Value.Fun table.now)) (λ v. out.new ≡ out.old ++ value_text v)) }
     ensures err { OnErr result (take (length out.old) out.new ≡ out.old) }
 {
     out.push(b'f')?;
@@ -132,7 +138,8 @@ fn push_table(table: &FunTable, out: &mut Text) -> Result<(), AllocError>
 
 /// Appends a value as it stands in a line. An error may leave the first bytes of it.
 pub fn push_value(value: &Value, out: &mut Text) -> Result<(), AllocError>
-    ensures ok { OnOk result (IfSome (written_value value.now) (λ v. out.new ≡ out.old ++ value_text v)) }
+    ensures ok { OnOk result
+        (IfSome (written_value value.now) (λ v. out.new ≡ out.old ++ value_text v)) }
     ensures err { OnErr result (take (length out.old) out.new ≡ out.old) }
 {
     match value {

@@ -20,7 +20,8 @@ pub fn split_word(mark: u8, bytes: &[u8]) -> (&[u8], &[u8])
 
 /// The word behind a mark, and the rest behind it; `None` at the end.
 pub fn next_word(mark: u8, rest: &[u8]) -> Option<(&[u8], &[u8])>
-    ensures words { MatchOption result (behind mark rest.now ≡ []) (λ r. behind mark rest.now ≡ r.0.now ∷ behind mark r.1.now) }
+    ensures words { MatchOption result (behind mark rest.now ≡ [])
+        (λ r. behind mark rest.now ≡ r.0.now ∷ behind mark r.1.now) }
     ensures shorter { IfSome result (λ r. length r.1.now < length rest.now) }
 {
     match rest {
@@ -105,7 +106,8 @@ pub fn wide_number(word: &[u8]) -> Option<u128>
 
 /// The number behind a mark, and the rest behind it.
 pub fn number_at(mark: u8, rest: &[u8]) -> Option<(u64, &[u8])>
-    ensures { option_map (λ r. (r.0, behind mark r.1.now)) result ≡ number_at (behind mark rest.now) }
+    ensures { option_map (λ r. (r.0, behind mark r.1.now)) result
+        ≡ number_at (behind mark rest.now) }
 {
     let (word, rest) = next_word(mark, rest)?;
     let n = number(word)?;

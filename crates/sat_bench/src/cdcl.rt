@@ -41,7 +41,8 @@ fn clean(engine: &mut Engine, conflicts: u64) -> Result<(), AllocError>
     ensures engine { OnOk result (IsEngine engine.new) }
     ensures course { OnOk result (IsOnCourse engine.old → IsOnCourse engine.new) }
     ensures given { OnOk result (engine.new.given ≡ engine.old.given) }
-    ensures fewer { OnOk result ((id : ClauseId) → clause_of engine.old.watches id ≡ None → clause_of engine.new.watches id ≡ None) }
+    ensures fewer { OnOk result ((id : ClauseId) → clause_of engine.old.watches id ≡ None
+        → clause_of engine.new.watches id ≡ None) }
 {
     if conflicts % 2_000 != 0 || !engine.drops_now() {
         return Ok(());
@@ -61,8 +62,10 @@ fn next_conflict(engine: &mut Engine, counts: &mut Counts) -> Result<Option<Clau
     ensures engine { OnOk result (IsEngine engine.new) }
     ensures course { OnOk result (IsOnCourse engine.new) }
     ensures given { OnOk result (engine.new.given ≡ engine.old.given) }
-    ensures held { OnOk result ((id : ClauseId) → clause_of engine.new.watches id ≡ clause_of engine.old.watches id) }
-    ensures conflict { IfOk result (λ o. IfSome o (IsConflict engine.new.watches engine.new.trail)) }
+    ensures held { OnOk result ((id : ClauseId)
+        → clause_of engine.new.watches id ≡ clause_of engine.old.watches id) }
+    ensures conflict { IfOk result
+        (λ o. IfSome o (IsConflict engine.new.watches engine.new.trail)) }
 {
     let mut before = engine.trail().literals().len().saturating_sub(1);
     'decisions: for _ in 0..u64::MAX {

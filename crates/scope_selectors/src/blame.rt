@@ -14,7 +14,8 @@ use std::collections::BTreeSet;
 
 /// The codes of the clause's literals.
 pub(crate) fn codes_of(alloc: Global, clause: &Clause) -> Result<BTreeSet<u64>, AllocError>
-    ensures { IfOk result (λ codes. (q : ℕ) → contains nat_cmp codes q ≡ list_any (λ k. code_of k == q) clause.now) }
+    ensures { IfOk result (λ codes. (q : ℕ)
+        → contains nat_cmp codes q ≡ list_any (λ k. code_of k == q) clause.now) }
 {
     let mut codes = BTreeSet::new(alloc);
     for literal in clause.literals() {
@@ -29,7 +30,9 @@ pub(crate) fn blamed(
     codes: &BTreeSet<u64>,
     selectors: &[(AssertId, Lit)],
 ) -> Result<BTreeSet<AssertId>, AllocError>
-    ensures { IfOk result (λ assertions. (a : ℕ) → contains nat_cmp assertions a ≡ is_blamed (λ l. contains nat_cmp codes.now (code_of l)) selectors.now a) }
+    ensures { IfOk result (λ assertions. (a : ℕ)
+        → contains nat_cmp assertions a
+        ≡ is_blamed (λ l. contains nat_cmp codes.now (code_of l)) selectors.now a) }
 {
     let mut assertions = BTreeSet::new(alloc);
     for (assertion, selector) in selectors {
@@ -46,7 +49,8 @@ pub(crate) fn named_among(
     live: &[Live],
     assertions: &BTreeSet<AssertId>,
 ) -> Result<Vec<AssertId>, AllocError>
-    ensures { IfOk result (λ core. core.items ≡ core_among (contains nat_cmp assertions.now) live.now) }
+    ensures { IfOk result
+        (λ core. core.items ≡ core_among (contains nat_cmp assertions.now) live.now) }
 {
     let mut core = Vec::new(alloc);
     for assertion in live {

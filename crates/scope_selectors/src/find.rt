@@ -20,7 +20,9 @@ pub(crate) fn kept(live: &[Live], levels: u64) -> usize
 /// The name of the assertion with this number, if it is there and has one.
 pub(crate) fn name_at(live: &[Live], assertion: AssertId) -> Option<&Text>
     requires { AllPairs (λ (a b : LiveValue). a.assertion < b.assertion) live.now }
-    ensures { option_copied result ≡ option_and_then (λ (l : LiveValue). l.name) (find (λ l. l.assertion == assertion) live.now) }
+    ensures { option_copied result
+        ≡ option_and_then (λ (l : LiveValue). l.name)
+        (find (λ l. l.assertion == assertion) live.now) }
 {
     match live.binary_search_by_key(&assertion, |one| one.assertion) {
         Ok(at) => live[at].name.as_ref(),

@@ -33,9 +33,11 @@ impl Model for Scopes {
 
     ghost Value = { ScopesValue };
 
-    ghost view = { λ s. record { levels = s.levels; live = s.live.items; made = s.made; terms = s.terms.items } };
+    ghost view = { λ s.
+        record { levels = s.levels; live = s.live.items; made = s.made; terms = s.terms.items } };
 
-    ghost invariant = { λ s. AreScopes (record { levels = s.levels; live = s.live.items; made = s.made; terms = s.terms.items }) };
+    ghost invariant = { λ s. AreScopes
+        (record { levels = s.levels; live = s.live.items; made = s.made; terms = s.terms.items }) };
 }
 
 impl Scopes {

@@ -77,8 +77,10 @@ fn ask_one(
     requires bodies { AreBodies (length terms.old.nodes) symbols.now.definitions }
     requires marks { HavePlain terms.old.nodes marks.old.items }
     requires stands { (e : Sexp) × Stands (signs_of tokens.now) span e }
-    ensures asks { (e : Sexp) → Stands (signs_of tokens.now) span e → (found : List Asked) (text : List ℕ)
-        → AsksOne (asking_built (object_to symbols.now.theories purpose) found text (term_of symbols.now terms.old e)) found text result terms.new }
+    ensures asks { (e : Sexp) → Stands (signs_of tokens.now) span e
+        → (found : List Asked) (text : List ℕ)
+        → AsksOne (asking_built (object_to symbols.now.theories purpose) found text
+        (term_of symbols.now terms.old e)) found text result terms.new }
     ensures grows { Grows symbols.now.signatures terms.old terms.new }
     ensures marks { HavePlain terms.new.nodes marks.new.items }
 {
@@ -113,7 +115,8 @@ fn ask_all(
     requires stand { (es : Sexps) × AllStand (signs_of tokens.now) spans.now es }
     requires first { first ≤ length items.now }
     ensures asks { (es : Sexps) → AllStand (signs_of tokens.now) spans.now es
-        → Asks (asking (object_to symbols.now.theories purpose) symbols.now terms.old (lexemes_of (drop first items.now)) [] es) result terms.new }
+        → Asks (asking (object_to symbols.now.theories purpose) symbols.now terms.old
+        (lexemes_of (drop first items.now)) [] es) result terms.new }
     ensures grows { Grows symbols.now.signatures terms.old terms.new }
     ensures marks { HavePlain terms.new.nodes marks.new.items }
 {
@@ -157,7 +160,8 @@ pub(crate) fn ask(
     requires marks { HavePlain terms.old.nodes marks.old.items }
     requires stands { (es : Sexps) × Stands (signs_of tokens.now) list (group es) }
     ensures asks { (es : Sexps) → Stands (signs_of tokens.now) list (group es)
-        → Asks (asking (object_to symbols.now.theories purpose) symbols.now terms.old (listed tokens.now) [] es) result terms.new }
+        → Asks (asking (object_to symbols.now.theories purpose) symbols.now terms.old
+        (listed tokens.now) [] es) result terms.new }
     ensures grows { Grows symbols.now.signatures terms.old terms.new }
     ensures marks { HavePlain terms.new.nodes marks.new.items }
 {

@@ -27,7 +27,8 @@ use std::alloc::{AllocError, Global};
 
 /// The name of the assertion of the term at the span.
 fn name_at(alloc: Global, tokens: &Tokens<'_>, span: Span) -> Result<Option<Text>, AllocError>
-    ensures { IfOk result (λ name. (e : Sexp) → Stands (signs_of tokens.now) span e → name ≡ name_of_assertion e) }
+    ensures { IfOk result (λ name. (e : Sexp) → Stands (signs_of tokens.now) span e
+        → name ≡ name_of_assertion e) }
 {
     match name_of_assertion(alloc, tokens, span) {
         Ok(Some(name)) => Ok(Some(Text::from_slice(alloc, name)?)),
@@ -46,7 +47,8 @@ impl State {
     ) -> Result<Answer, AllocError>
         requires { (es : Sexps) × AllStand (signs_of tokens.now) (spans_of command.now) es }
         ensures { (es : Sexps) → AllStand (signs_of tokens.now) (spans_of command.now) es
-            → Answers (declaring self.old (declare self.old.symbols (name_of command.now) es)) result self.old self.new }
+            → Answers (declaring self.old (declare self.old.symbols (name_of command.now) es))
+            result self.old self.new }
     {
         match self.symbols.declare(alloc, tokens, command) {
             Ok(_) => {
@@ -68,7 +70,8 @@ impl State {
     ) -> Result<Answer, AllocError>
         requires { (es : Sexps) × AllStand (signs_of tokens.now) (spans_of command.now) es }
         ensures { (es : Sexps) → AllStand (signs_of tokens.now) (spans_of command.now) es
-            → Answers (naming_sort self.old (define_sort self.old.symbols (name_of command.now) es)) result self.old self.new }
+            → Answers (naming_sort self.old (define_sort self.old.symbols (name_of command.now) es))
+            result self.old self.new }
     {
         match self.symbols.define_sort(alloc, tokens, command) {
             Ok(()) => {
@@ -90,7 +93,9 @@ impl State {
     ) -> Result<Answer, AllocError>
         requires { (es : Sexps) × AllStand (signs_of tokens.now) (spans_of command.now) es }
         ensures { (es : Sexps) → AllStand (signs_of tokens.now) (spans_of command.now) es
-            → Answers (defining self.old (define self.old.symbols self.old.terms (name_of command.now) es)) result self.old self.new }
+            → Answers (defining self.old
+            (define self.old.symbols self.old.terms (name_of command.now) es)) result self.old
+            self.new }
     {
         match self
             .symbols
@@ -116,7 +121,8 @@ impl State {
         requires stands { (e : Sexp) × Stands (signs_of tokens.now) span e }
         requires assertions { self.old.scopes.made + 1 < 2 ^ 32 }
         ensures { (e : Sexp) → Stands (signs_of tokens.now) span e
-            → Answers (asserting self.old (name_of_assertion e) (assertion self.old.symbols self.old.terms e)) result self.old self.new }
+            → Answers (asserting self.old (name_of_assertion e)
+            (assertion self.old.symbols self.old.terms e)) result self.old self.new }
     {
         let len = self.terms.len();
         let count = self.symbols.definition_count();
@@ -174,7 +180,8 @@ impl State {
         list: Span,
     ) -> Result<Answer, AllocError>
         requires { (e : Sexp) × Stands (signs_of tokens.now) list e }
-        ensures { (e : Sexp) → Stands (signs_of tokens.now) list e → Answers (assuming_listed self.old (listed tokens.now) e) result self.old self.new }
+        ensures { (e : Sexp) → Stands (signs_of tokens.now) list e
+            → Answers (assuming_listed self.old (listed tokens.now) e) result self.old self.new }
     {
         if word_at(tokens, list).is_some() {
             return Ok(Answer::Refused(ErrorText::NotSupported));

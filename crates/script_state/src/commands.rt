@@ -46,7 +46,8 @@ impl State {
         list: Span,
     ) -> Result<Answer, AllocError>
         requires { (e : Sexp) × Stands (signs_of tokens.now) list e }
-        ensures { (e : Sexp) → Stands (signs_of tokens.now) list e → Answers (valuing_listed self.old (listed tokens.now) e) result self.old self.new }
+        ensures { (e : Sexp) → Stands (signs_of tokens.now) list e
+            → Answers (valuing_listed self.old (listed tokens.now) e) result self.old self.new }
     {
         if word_at(tokens, list).is_some() {
             return Ok(Answer::Refused(ErrorText::NotSupported));
@@ -120,10 +121,14 @@ impl State {
         tokens: &Tokens<'_>,
         command: &Command,
     ) -> Result<Answer, AllocError>
-        requires arguments { (es : Sexps) × (is_left_out (name_of command.now) ≡ false → AllStand (signs_of tokens.now) (spans_of command.now) es) }
+        requires arguments { (es : Sexps)
+            × (is_left_out (name_of command.now) ≡ false
+            → AllStand (signs_of tokens.now) (spans_of command.now) es) }
         requires known { is_not_supported command.now ≡ is_left_out (name_of command.now) }
         requires assertions { self.old.scopes.made + 1 < 2 ^ 32 }
-        ensures { (es : Sexps) → (is_left_out (name_of command.now) ≡ false → AllStand (signs_of tokens.now) (spans_of command.now) es)
+        ensures { (es : Sexps)
+            → (is_left_out (name_of command.now) ≡ false
+            → AllStand (signs_of tokens.now) (spans_of command.now) es)
             → Answers (obey self.old tokens.now (name_of command.now) es) result self.old self.new }
     {
         match command {

@@ -46,7 +46,8 @@ fn with_option(
     keyword: Span,
     value: Option<Span>,
 ) -> Option<Options>
-    ensures { (e : Sexp) (es : Sexps) → Stands (signs_of tokens.now) keyword e → AllStand (signs_of tokens.now) (option_to_list value) es
+    ensures { (e : Sexp) (es : Sexps) → Stands (signs_of tokens.now) keyword e
+        → AllStand (signs_of tokens.now) (option_to_list value) es
         → (s : StateValue) → s.options ≡ options → setting_option s e es ≡ setting s result }
 {
     let word = word_at(tokens, keyword)?;
@@ -68,7 +69,9 @@ fn say_reason(alloc: Global, standing: Option<Verdict>) -> Result<Answer, AllocE
 
 /// Says how many levels stand above the first.
 fn say_levels(alloc: Global, levels: u64) -> Result<Answer, AllocError>
-    ensures { (s : StateValue) → Answers (saying s (codes "(:assertion-stack-levels " ++ decimal levels ++ codes ")")) result s s }
+    ensures { (s : StateValue)
+        → Answers (saying s (codes "(:assertion-stack-levels " ++ decimal levels ++ codes ")"))
+        result s s }
 {
     let line = format!(in alloc; "(:assertion-stack-levels {levels})")?;
     say(alloc, line.as_bytes())
@@ -83,7 +86,8 @@ impl State {
         keyword: Span,
         value: Option<Span>,
     ) -> Result<Answer, AllocError>
-        ensures { (e : Sexp) (es : Sexps) → Stands (signs_of tokens.now) keyword e → AllStand (signs_of tokens.now) (option_to_list value) es
+        ensures { (e : Sexp) (es : Sexps) → Stands (signs_of tokens.now) keyword e
+            → AllStand (signs_of tokens.now) (option_to_list value) es
             → Answers (setting_option self.old e es) result self.old self.new }
     {
         match with_option(self.options, tokens, keyword, value) {
@@ -102,7 +106,8 @@ impl State {
         tokens: &Tokens<'_>,
         keyword: Span,
     ) -> Result<Answer, AllocError>
-        ensures { (e : Sexp) → Stands (signs_of tokens.now) keyword e → Answers (telling_option self.now e) result self.now self.now }
+        ensures { (e : Sexp) → Stands (signs_of tokens.now) keyword e
+            → Answers (telling_option self.now e) result self.now self.now }
     {
         match word_at(tokens, keyword) {
             None => say_unsupported(alloc),
@@ -136,7 +141,8 @@ impl State {
         tokens: &Tokens<'_>,
         keyword: Span,
     ) -> Result<Answer, AllocError>
-        ensures { (e : Sexp) → Stands (signs_of tokens.now) keyword e → Answers (telling_info self.now e) result self.now self.now }
+        ensures { (e : Sexp) → Stands (signs_of tokens.now) keyword e
+            → Answers (telling_info self.now e) result self.now self.now }
     {
         match word_at(tokens, keyword) {
             None => say_unsupported(alloc),

@@ -19,7 +19,8 @@ pub fn chunks_read_one_way()
 
 /// A step that is refused leaves the state as it was, and with it the check that stands.
 pub fn refused_steps_change_nothing()
-    ensures { (s : StateValue) (r : Reading) (e : ErrorText) → (step s r).0 ≡ Refused e → (step s r).1 ≡ s }
+    ensures { (s : StateValue) (r : Reading) (e : ErrorText) → (step s r).0 ≡ Refused e
+        → (step s r).1 ≡ s }
 {}
 
 /// A step makes one assertion at most.
@@ -39,7 +40,8 @@ pub fn steps_keep_theories()
 
 /// What fits terms fits more terms too.
 pub fn more_terms_fit()
-    ensures { (old new : TermsValue) (r : RestValue) → Grows r.symbols.signatures old new → IsTermList new.nodes → Fit old r → Fit new r }
+    ensures { (old new : TermsValue) (r : RestValue) → Grows r.symbols.signatures old new
+        → IsTermList new.nodes → Fit old r → Fit new r }
 {}
 
 /// The command that ends the run is answered so, and no other.
@@ -49,22 +51,27 @@ pub fn runs_end_by_exit()
 
 /// A model is to be printed only where a check that found one stands, and the option is on.
 pub fn a_model_stands_after_sat()
-    ensures { (s : StateValue) (r : Reading) → (step s r).0 ≡ Model → (s.standing ≡ Some Sat) × (s.options.produce_models ≡ true) }
+    ensures { (s : StateValue) (r : Reading) → (step s r).0 ≡ Model → (s.standing ≡ Some Sat)
+        × (s.options.produce_models ≡ true) }
 {}
 
 /// Values are to be printed only where a check that found a model stands, and the option is on; where the terms are
 /// forgotten that they are asked of, the state is as before. These are plain, and name live declarations alone.
 pub fn values_forget_to_the_old_state()
-    ensures { (s : StateValue) (r : Reading) (asked : List Asked) → IsState s → (step s r).0 ≡ Values asked → IsAskedValues s (step s r).1 asked }
+    ensures { (s : StateValue) (r : Reading) (asked : List Asked) → IsState s
+        → (step s r).0 ≡ Values asked → IsAskedValues s (step s r).1 asked }
 {}
 
 /// A core is to be printed only where a check that found a refutation stands, and the option is on; nothing else is done.
 pub fn a_core_stands_after_unsat()
-    ensures { (s : StateValue) (r : Reading) → (step s r).0 ≡ Core → (s.standing ≡ Some Unsat) × (s.options.produce_unsat_cores ≡ true) × ((step s r).1 ≡ s) }
+    ensures { (s : StateValue) (r : Reading) → (step s r).0 ≡ Core → (s.standing ≡ Some Unsat)
+        × (s.options.produce_unsat_cores ≡ true) × ((step s r).1 ≡ s) }
 {}
 
 /// Assumptions are to be printed only where a check with assumptions that found a refutation stands, and the option is on;
 /// nothing else is done.
 pub fn assumptions_stand_after_unsat()
-    ensures { (s : StateValue) (r : Reading) → (step s r).0 ≡ Assumptions → (s.standing ≡ Some Unsat) × ((asked : List Asked) × (s.assumed ≡ Some asked)) × (s.options.produce_unsat_assumptions ≡ true) × ((step s r).1 ≡ s) }
+    ensures { (s : StateValue) (r : Reading) → (step s r).0 ≡ Assumptions
+        → (s.standing ≡ Some Unsat) × ((asked : List Asked) × (s.assumed ≡ Some asked))
+        × (s.options.produce_unsat_assumptions ≡ true) × ((step s r).1 ≡ s) }
 {}

@@ -18,7 +18,8 @@ use std::alloc::AllocError;
 /// How many levels the numeral at the span means, one where none is written. So many as 64 bits can count are out of range
 /// whatever the number is, which may be greater.
 fn levels_meant(tokens: &Tokens<'_>, numeral: Option<Span>) -> u64
-    ensures { (es : Sexps) → AllStand (signs_of tokens.now) (option_to_list numeral) es → result ≡ min (levels_meant es) (2 ^ 64 - 1) }
+    ensures { (es : Sexps) → AllStand (signs_of tokens.now) (option_to_list numeral) es
+        → result ≡ min (levels_meant es) (2 ^ 64 - 1) }
 {
     let Some(span) = numeral else {
         return 1;
@@ -32,7 +33,8 @@ fn levels_meant(tokens: &Tokens<'_>, numeral: Option<Span>) -> u64
 impl State {
     /// Begins so many levels; a number that 64 bits cannot count is out of range as the greatest that they can.
     fn begin_levels(&mut self, count: u64) -> Result<Answer, AllocError>
-        ensures { (n : ℕ) → count ≡ min n (2 ^ 64 - 1) → Answers (pushing self.old n) result self.old self.new }
+        ensures { (n : ℕ) → count ≡ min n (2 ^ 64 - 1)
+            → Answers (pushing self.old n) result self.old self.new }
     {
         match self.scopes.push(count) {
             Ok(()) => {}
@@ -54,7 +56,8 @@ impl State {
 
     /// Ends so many levels.
     fn end_levels(&mut self, count: u64) -> Answer
-        ensures { (n : ℕ) → count ≡ min n (2 ^ 64 - 1) → Answers (popping self.old n) (Ok result) self.old self.new }
+        ensures { (n : ℕ) → count ≡ min n (2 ^ 64 - 1)
+            → Answers (popping self.old n) (Ok result) self.old self.new }
     {
         match self.scopes.pop(count) {
             Ok(()) => {}
@@ -72,14 +75,16 @@ impl State {
         tokens: &Tokens<'_>,
         numeral: Option<Span>,
     ) -> Result<Answer, AllocError>
-        ensures { (es : Sexps) → AllStand (signs_of tokens.now) (option_to_list numeral) es → Answers (pushing self.old (levels_meant es)) result self.old self.new }
+        ensures { (es : Sexps) → AllStand (signs_of tokens.now) (option_to_list numeral) es
+            → Answers (pushing self.old (levels_meant es)) result self.old self.new }
     {
         self.begin_levels(levels_meant(tokens, numeral))
     }
 
     /// Ends as many levels as the numeral at the span means, with their assertions, declarations and definitions.
     pub(crate) fn pop(&mut self, tokens: &Tokens<'_>, numeral: Option<Span>) -> Answer
-        ensures { (es : Sexps) → AllStand (signs_of tokens.now) (option_to_list numeral) es → Answers (popping self.old (levels_meant es)) (Ok result) self.old self.new }
+        ensures { (es : Sexps) → AllStand (signs_of tokens.now) (option_to_list numeral) es
+            → Answers (popping self.old (levels_meant es)) (Ok result) self.old self.new }
     {
         self.end_levels(levels_meant(tokens, numeral))
     }

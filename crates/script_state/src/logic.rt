@@ -39,7 +39,8 @@ fn names_logic(tokens: &Tokens<'_>, span: Span) -> bool
 
 /// Chooses the logic whose name stands at the span, which changes nothing.
 pub(crate) fn set_logic(tokens: &Tokens<'_>, span: Span) -> Answer
-    ensures { (s : StateValue) (e : Sexp) → Stands (signs_of tokens.now) span e → Answers (choosing s e) (Ok result) s s }
+    ensures { (s : StateValue) (e : Sexp) → Stands (signs_of tokens.now) span e
+        → Answers (choosing s e) (Ok result) s s }
 {
     if names_logic(tokens, span) {
         Answer::Done

@@ -67,7 +67,9 @@ fn are_marked(marks: &[bool], args: &[TermId]) -> bool
 
 /// Whether the operator is plain, and each argument is kept as plain.
 fn is_marked_node(marks: &[bool], node: &Node) -> bool
-    ensures { result ≡ (is_plain_op node.now.op && list_all (λ a. slice_index_or marks.now a false) node.now.args) }
+    ensures { result
+        ≡ (is_plain_op node.now.op && list_all (λ a. slice_index_or marks.now a false)
+        node.now.args) }
 {
     is_plain_op(&node.op) && are_marked(marks, node.args.as_slice())
 }

@@ -40,7 +40,8 @@ fn say_string(alloc: Global, string: &[u8]) -> Result<Answer, AllocError>
 
 /// Says the string that stands at the span as it is written.
 pub(crate) fn echo(alloc: Global, tokens: &Tokens<'_>, span: Span) -> Result<Answer, AllocError>
-    ensures { (s : StateValue) (e : Sexp) → Stands (signs_of tokens.now) span e → Answers (echoing s e) result s s }
+    ensures { (s : StateValue) (e : Sexp) → Stands (signs_of tokens.now) span e
+        → Answers (echoing s e) result s s }
 {
     match word_at(tokens, span) {
         Some(word) => say_string(alloc, word.text),

@@ -42,9 +42,25 @@ impl Model for State {
 
     ghost Value = { StateValue };
 
-    ghost view = { λ s. record { symbols = s.symbols; terms = s.terms; scopes = s.scopes; options = s.options; standing = s.standing; assumed = s.assumed } };
+    ghost view = { λ s.
+        record {
+          symbols = s.symbols;
+          terms = s.terms;
+          scopes = s.scopes;
+          options = s.options;
+          standing = s.standing;
+          assumed = s.assumed;
+        } };
 
-    ghost invariant = { λ s. IsState (record { symbols = s.symbols; terms = s.terms; scopes = s.scopes; options = s.options; standing = s.standing; assumed = s.assumed }) × HavePlain s.terms.nodes s.plain.items };
+    ghost invariant = { λ s. IsState
+        (record {
+          symbols = s.symbols;
+          terms = s.terms;
+          scopes = s.scopes;
+          options = s.options;
+          standing = s.standing;
+          assumed = s.assumed;
+        }) × HavePlain s.terms.nodes s.plain.items };
 }
 
 /// What a state has beside its terms.
@@ -64,7 +80,15 @@ impl Model for Rest {
 
     ghost Value = { RestValue };
 
-    ghost view = { λ r. record { symbols = r.symbols; scopes = r.scopes; options = r.options; standing = r.standing; assumed = r.assumed; marks = r.plain.items } };
+    ghost view = { λ r.
+        record {
+          symbols = r.symbols;
+          scopes = r.scopes;
+          options = r.options;
+          standing = r.standing;
+          assumed = r.assumed;
+          marks = r.plain.items;
+        } };
 }
 
 impl State {

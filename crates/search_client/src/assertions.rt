@@ -202,7 +202,8 @@ fn is_chain(
     hints: &Hints,
 ) -> Result<bool, AllocError>
     requires { Stands proof.now.terms.nodes proof.now.log }
-    ensures { IfOk result (λ b. IsTrue b → MayBePut proof.now.terms.nodes proof.now.log.entries (Chain clause.now hints.now)) }
+    ensures { IfOk result (λ b. IsTrue b
+        → MayBePut proof.now.terms.nodes proof.now.log.entries (Chain clause.now hints.now)) }
 {
     stored_logs_are_settled();
     let _terms = proof.terms.len();

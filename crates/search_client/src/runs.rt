@@ -30,7 +30,8 @@ fn is_chain<B: Board>(board: &B, at: Pos) -> bool
 fn add_plain<B: Board>(board: &B, at: Pos, positions: &mut Vec<Pos>) -> Result<(), AllocError>
     requires { B.knows board.now at }
     ensures { OnOk result ((positions.new.items ≡ positions.old.items)
-        ⊎ ((positions.new.items ≡ positions.old.items ++ at ∷ []) × (is_chain (entry_at (B.log board.now) at) ≡ false))) }
+        ⊎ ((positions.new.items ≡ positions.old.items ++ at ∷ [])
+        × (is_chain (entry_at (B.log board.now) at) ≡ false))) }
 {
     if is_chain(board, at) {
         return Ok(());
@@ -43,7 +44,8 @@ fn add_plain<B: Board>(board: &B, at: Pos, positions: &mut Vec<Pos>) -> Result<(
 fn positions<B: Board>(alloc: Global, board: &B, bound: u64) -> Result<Vec<Pos>, AllocError>
     requires { (p : ℕ) → p < bound → B.knows board.now p }
     ensures below { IfOk result (λ ps. (p : ℕ) → Contains ps.items p → p < bound) }
-    ensures plain { IfOk result (λ ps. (p : ℕ) → Contains ps.items p → is_chain (entry_at (B.log board.now) p) ≡ false) }
+    ensures plain { IfOk result (λ ps. (p : ℕ) → Contains ps.items p
+        → is_chain (entry_at (B.log board.now) p) ≡ false) }
 {
     let mut positions = Vec::new(alloc);
     'positions: for at in 0..bound {
@@ -60,7 +62,8 @@ fn go_over<B: Board>(
     bound: u64,
     from: u64,
 ) -> Result<(), AllocError>
-    requires resting { IsResting search.old (state_of (B.nodes board.now) (B.log board.now)).clauses (B.log board.now) }
+    requires resting { IsResting search.old (state_of (B.nodes board.now) (B.log board.now)).clauses
+        (B.log board.now) }
     requires stored { AreStoredBelow (clause_of search.old.engine.watches) (B.log board.now) from }
     requires listed { IsTermList (B.nodes board.now) }
     requires known { (p : ℕ) → p < bound → B.knows board.now p }
@@ -140,7 +143,8 @@ fn is_run<B: Board>(
 ) -> Result<bool, AllocError>
     requires search { IsSearch search.old (B.nodes board.old) (B.log board.old) }
     requires below { AreBelow (state_of (B.nodes board.old) (B.log board.old)).next given.now }
-    ensures later { IsLater (B.nodes board.old) (B.nodes board.new) (B.log board.old) (B.log board.new) (B.knows board.old) (B.knows board.new) }
+    ensures later { IsLater (B.nodes board.old) (B.nodes board.new) (B.log board.old)
+        (B.log board.new) (B.knows board.old) (B.knows board.new) }
     ensures search { OnOk result (IsSearch search.new (B.nodes board.new) (B.log board.new)) }
     ensures from { search.new.from ≡ search.old.from }
 {
@@ -278,7 +282,9 @@ fn is_run_over<B: Board>(
     requires known { (p : ℕ) → p < bound → B.knows board.old p }
     requires within { bound ≤ from }
     requires below { AreBelow (state_of (B.nodes board.old) (B.log board.old)).next given.now }
-    ensures later { OnOk result (IsLater (B.nodes board.old) (B.nodes board.new) (B.log board.old) (B.log board.new) (B.knows board.old) (B.knows board.new)) }
+    ensures later { OnOk result
+        (IsLater (B.nodes board.old) (B.nodes board.new) (B.log board.old) (B.log board.new)
+        (B.knows board.old) (B.knows board.new)) }
     ensures search { OnOk result (IsSearch search.new (B.nodes board.new) (B.log board.new)) }
     ensures own { OnOk result (search.new.from ≡ from) }
 {

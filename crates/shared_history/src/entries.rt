@@ -95,7 +95,8 @@ fn freeze<E: Drop>(
     last: &mut Vec<E>,
 ) -> Result<(), NoMemory>
     requires { (vec_len last.old ≡ 256) × AreWhole frozen.old.items }
-    ensures items { joined frozen.new.items ++ last.new.items ≡ joined frozen.old.items ++ last.old.items }
+    ensures items { joined frozen.new.items ++ last.new.items ≡ joined frozen.old.items
+        ++ last.old.items }
     ensures whole { AreWhole frozen.new.items }
     ensures ok { OnOk result (vec_len last.new ≡ 0) }
     ensures err { OnErr result (vec_len last.new ≡ 256) }

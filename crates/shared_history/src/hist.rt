@@ -31,7 +31,8 @@ impl<S, V, K, Q: TableRule<S, V, K>> Model for Held<S, V, K, Q> {
 
     ghost view = { λ h. record { table = h.table.shared.table_id; law = h.law } };
 
-    ghost invariant = { λ h. (h.table.shared.table_id.words ≡ 2) × (h.table.shared.table_id.slots ≡ 1) × (h.table.shared.key ≡ h.law) };
+    ghost invariant = { λ h. (h.table.shared.table_id.words ≡ 2)
+        × (h.table.shared.table_id.slots ≡ 1) × (h.table.shared.key ≡ h.law) };
 }
 
 /// One history of events, which passes add to one after another. Contracts see which history it is, and its `law`.
@@ -96,7 +97,8 @@ impl<L: Law> Hist<L> {
         requires own { IsPassOf self.now giver.old }
         requires first { (giver.old.number ≡ 0) × (giver.old.made < 2 ^ 32) }
         ensures giver { giver.new ≡ record giver.old { made = giver.old.made + 1 } }
-        ensures new { result ≡ record giver.old { number = giver.old.made; made = 0; mine = []; ended = [] } }
+        ensures new { result
+            ≡ record giver.old { number = giver.old.made; made = 0; mine = []; ended = [] } }
     {
         let seat = self.table.shared.split_seat::<Gift>(&mut giver.seat);
         let number = giver.made as u32;
@@ -125,12 +127,16 @@ impl<L: Law> Hist<L> {
         // Events of other passes may have come between what the pass had seen and its own event.
         ensures step { MatchResult result
             (λ reply. (between : List L.Entry) × (of_pass L.by pass.old.number between ≡ [])
-            × (let before = pass.old.seen ++ between in let entry = L.entry_of self.now.law before pass.old.number call in
-            (reply ≡ L.reply_of self.now.law before pass.old.number call) × (pass.new.seen ≡ before ++ entry ∷ []) × (pass.new.mine ≡ pass.old.mine ++ entry ∷ [])))
+            × (let before = pass.old.seen
+            ++ between in let entry = L.entry_of self.now.law before pass.old.number call in
+            (reply ≡ L.reply_of self.now.law before pass.old.number call)
+            × (pass.new.seen ≡ before ++ entry ∷ [])
+            × (pass.new.mine ≡ pass.old.mine ++ entry ∷ [])))
             (λ back. (back.kept ≡ call) × (pass.new ≡ pass.old)) }
 
         // Some state of the law stands for what was seen.
-        ensures stands { IfOk result (λ _. (state : L.State) × L.stands self.now.law state pass.new.seen) }
+        ensures stands { IfOk result (λ _. (state : L.State)
+            × L.stands self.now.law state pass.new.seen) }
     {
         let mut locked = self.take(rt, &mut pass.seat);
         match add(&self.law, alloc, &mut locked, pass.number, call) {
@@ -157,11 +163,14 @@ impl<L: Law> Hist<L> {
         requires own { IsPassOf self.now pass.old }
         ensures own { IsSamePass pass.old pass.new × (pass.new.mine ≡ pass.old.mine) }
         ensures read { MatchResult result
-            (λ events. StartsWith pass.new.seen pass.old.seen × (events ≡ drop pass.old.got pass.new.seen) × (pass.new.got ≡ length pass.new.seen))
+            (λ events. StartsWith pass.new.seen pass.old.seen
+            × (events ≡ drop pass.old.got pass.new.seen)
+            × (pass.new.got ≡ length pass.new.seen))
             (λ _. pass.new ≡ pass.old) }
 
         // Some state of the law stands for what was seen.
-        ensures stands { IfOk result (λ _. (state : L.State) × L.stands self.now.law state pass.new.seen) }
+        ensures stands { IfOk result (λ _. (state : L.State)
+            × L.stands self.now.law state pass.new.seen) }
     {
         let locked = self.take(rt, &mut pass.seat);
         match shared_from(&self.law, alloc, &locked.entries, pass.got) {
@@ -181,10 +190,14 @@ impl<L: Law> Hist<L> {
     /// history, so the longer begins with the shorter. It waits for nobody.
     pub fn merge(&self, pass: &mut Pass<L>, other: Pass<L>)
         requires own { IsPassOf self.now pass.old × IsPassOf self.now other }
-        ensures own { (pass.new.table ≡ pass.old.table) × (pass.new.law ≡ pass.old.law) × (pass.new.number ≡ pass.old.number) × (pass.new.made ≡ pass.old.made) × (pass.new.got ≡ pass.old.got) }
-        ensures seen { StartsWith pass.new.seen pass.old.seen × StartsWith pass.new.seen other.seen × ((pass.new.seen ≡ pass.old.seen) ⊎ (pass.new.seen ≡ other.seen)) }
+        ensures own { (pass.new.table ≡ pass.old.table) × (pass.new.law ≡ pass.old.law)
+            × (pass.new.number ≡ pass.old.number) × (pass.new.made ≡ pass.old.made)
+            × (pass.new.got ≡ pass.old.got) }
+        ensures seen { StartsWith pass.new.seen pass.old.seen × StartsWith pass.new.seen other.seen
+            × ((pass.new.seen ≡ pass.old.seen) ⊎ (pass.new.seen ≡ other.seen)) }
         ensures mine { pass.new.mine ≡ pass.old.mine }
-        ensures ended { pass.new.ended ≡ pass.old.ended ++ (other.number, other.mine) ∷ other.ended }
+        ensures ended { pass.new.ended ≡ pass.old.ended ++ (other.number, other.mine)
+            ∷ other.ended }
     {
         let Pass { seat, .. } = other;
         let shared = &self.table.shared;

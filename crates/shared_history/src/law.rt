@@ -57,10 +57,14 @@ pub trait Law {
         pass: u32,
         call: Self::Call,
     ) -> Result<(Self::Entry, Self::Reply), Back<Self::Call>>
-        requires { (history : List Self.Entry) × stands self.now state.old history × permits self.now history pass call }
-        ensures { (history : List Self.Entry) → stands self.now state.old history → permits self.now history pass call
+        requires { (history : List Self.Entry) × stands self.now state.old history
+            × permits self.now history pass call }
+        ensures { (history : List Self.Entry) → stands self.now state.old history
+            → permits self.now history pass call
             → MatchResult result
-            (λ r. (r.0 ≡ entry_of self.now history pass call) × (r.1 ≡ reply_of self.now history pass call) × stands self.now state.new (history ++ r.0 ∷ []))
+            (λ r. (r.0 ≡ entry_of self.now history pass call)
+            × (r.1 ≡ reply_of self.now history pass call)
+            × stands self.now state.new (history ++ r.0 ∷ []))
             (λ back. (back.kept ≡ call) × stands self.now state.new history) };
 
     /// An entry equal to this one.
@@ -68,9 +72,11 @@ pub trait Law {
         ensures { IfOk result (λ e. e ≡ entry.now) };
 
     /// An event has the number of its pass.
-    ghost stamped: { (law : Self) (history : List Self.Entry) (pass : ℕ) (call : Self.Call) → by (entry_of law history pass call) ≡ pass };
+    ghost stamped: { (law : Self) (history : List Self.Entry) (pass : ℕ) (call : Self.Call)
+        → by (entry_of law history pass call) ≡ pass };
 
     /// What a pass is permitted stays permitted when entries of other passes are appended.
     ghost stays: { (law : Self) (history more : List Self.Entry) (pass : ℕ) (call : Self.Call)
-        → of_pass by pass more ≡ [] → permits law history pass call → permits law (history ++ more) pass call };
+        → of_pass by pass more ≡ [] → permits law history pass call
+        → permits law (history ++ more) pass call };
 }

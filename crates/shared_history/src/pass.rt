@@ -56,7 +56,8 @@ impl<L: Law> Pass<L> {
         ensures differ { IsDistinct nat_eq (numbers self.now.number self.now.ended) }
 
         // The first pass knows of each number.
-        ensures below { self.now.number ≡ 0 → AllByRecursion (λ e. L.by e < self.now.made) self.now.seen }
+        ensures below { self.now.number ≡ 0
+            → AllByRecursion (λ e. L.by e < self.now.made) self.now.seen }
     {
         let _ = &self.number;
     }

@@ -96,7 +96,8 @@ fn shares<E: Drop>(
     first: usize,
 ) -> Result<Vec<Arc<Vec<E>, Global>>, NoMemory>
     requires { AreWhole pieces.now × (first ≤ length pieces.now) }
-    ensures { IfOk result (λ v. (joined v.items ≡ joined (drop first pieces.now)) × AreWhole v.items) }
+    ensures { IfOk result (λ v. (joined v.items ≡ joined (drop first pieces.now))
+        × AreWhole v.items) }
 {
     let rest = &pieces[first..];
     let mut shares = Vec::new(alloc);

@@ -15,7 +15,8 @@ use std::thread;
 impl<L: Law> Hist<L> {
     /// Draws a ticket, waits for its turn and takes what lies in the slot.
     pub(crate) fn take<R: Wait>(&self, rt: &R, seat: &mut Place<L>) -> Locked<L::State, L::Entry>
-        requires own { (seat.old.table_id ≡ self.now.table) × (seat.old.me.0.law ≡ Some self.now.law) }
+        requires own { (seat.old.table_id ≡ self.now.table)
+            × (seat.old.me.0.law ≡ Some self.now.law) }
         requires rest { AtRest seat.old }
         ensures same { IsSameSeat seat.old seat.new }
         ensures took { Took L.by L.stands self.now.law seat.old result seat.new }
@@ -36,7 +37,8 @@ impl<L: Law> Hist<L> {
 
     /// Puts back what was taken, with what was added, and passes the turn on.
     pub(crate) fn give(&self, seat: &mut Place<L>, locked: Locked<L::State, L::Entry>)
-        requires own { (seat.old.table_id ≡ self.now.table) × (seat.old.me.0.law ≡ Some self.now.law) }
+        requires own { (seat.old.table_id ≡ self.now.table)
+            × (seat.old.me.0.law ≡ Some self.now.law) }
         requires turn { HasTurn L.by L.stands self.now.law seat.old locked }
         ensures same { IsSameSeat seat.old seat.new }
         ensures rest { seat.new.me ≡ (rested L.by seat.old.me.0 locked.entries.items, []) }
@@ -51,7 +53,8 @@ impl<L: Law> Hist<L> {
 
     /// Puts back what was taken, to which nothing was added, and passes the turn on.
     pub(crate) fn leave(&self, seat: &mut Place<L>, locked: Locked<L::State, L::Entry>)
-        requires own { (seat.old.table_id ≡ self.now.table) × (seat.old.me.0.law ≡ Some self.now.law) }
+        requires own { (seat.old.table_id ≡ self.now.table)
+            × (seat.old.me.0.law ≡ Some self.now.law) }
         requires turn { KeepsTurn L.stands self.now.law seat.old locked }
         ensures same { IsSameSeat seat.old seat.new }
         ensures rest { seat.new.me ≡ (at_stage seat.old.me.0 Idle, []) }
@@ -73,10 +76,13 @@ pub(crate) fn add<L: Law>(
     pass: u32,
     call: L::Call,
 ) -> Result<L::Reply, Back<L::Call>>
-    requires { L.stands law.now locked.old.state locked.old.entries.items × L.permits law.now locked.old.entries.items pass call }
+    requires { L.stands law.now locked.old.state locked.old.entries.items
+        × L.permits law.now locked.old.entries.items pass call }
     ensures stands { L.stands law.now locked.new.state locked.new.entries.items }
     ensures added { MatchResult result
-        (λ reply. (reply ≡ L.reply_of law.now locked.old.entries.items pass call) × (locked.new.entries.items ≡ locked.old.entries.items ++ L.entry_of law.now locked.old.entries.items pass call ∷ []))
+        (λ reply. (reply ≡ L.reply_of law.now locked.old.entries.items pass call)
+        × (locked.new.entries.items ≡ locked.old.entries.items
+        ++ L.entry_of law.now locked.old.entries.items pass call ∷ []))
         (λ back. (back.kept ≡ call) × (locked.new.entries.items ≡ locked.old.entries.items)) }
 {
     if locked.entries.make_room(alloc).is_err() {

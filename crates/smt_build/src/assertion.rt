@@ -68,7 +68,9 @@ impl Symbols {
         span: Span,
     ) -> Result<TermId, BuildError>
         requires { AreDeclared self.old.signatures terms.old.nodes }
-        ensures asserts { (e : Sexp) → Stands (signs_of tokens.now) span e → Asserts (assertion self.old terms.old e) result (self.old, terms.old) (self.new, terms.new) }
+        ensures asserts { (e : Sexp) → Stands (signs_of tokens.now) span e
+            → Asserts (assertion self.old terms.old e) result (self.old, terms.old)
+            (self.new, terms.new) }
         ensures signatures { self.new.signatures ≡ self.old.signatures }
         ensures grows { Grows self.old.signatures terms.old terms.new }
     {

@@ -68,7 +68,8 @@ fn parameter_term(
     terms: &mut Terms,
     parameter: Parameter,
 ) -> Result<TermId, BuildError>
-    ensures builds { Builds (made terms.old (leaf (Op.Param parameter.place parameter.sort))) result terms.old terms.new }
+    ensures builds { Builds (made terms.old (leaf (Op.Param parameter.place parameter.sort))) result
+        terms.old terms.new }
     ensures grows { (signatures : List SignatureValue) → Grows signatures terms.old terms.new }
 {
     let op = Op::Param {
@@ -89,7 +90,9 @@ fn symbol_in(
     name: &[u8],
 ) -> Result<TermId, BuildError>
     requires { AreDeclared symbols.now.signatures terms.old.nodes }
-    ensures reads { ReadsTerm (word_in symbols.now scope.now.bound (progress (state_of terms.old scope.now)) TokenKind.Symbol name.now) result (progress (state_of terms.new scope.now)) }
+    ensures reads { ReadsTerm
+        (word_in symbols.now scope.now.bound (progress (state_of terms.old scope.now))
+        TokenKind.Symbol name.now) result (progress (state_of terms.new scope.now)) }
     ensures grows { Grows symbols.now.signatures terms.old terms.new }
 {
     if let Some(term) = local(scope, name) {
@@ -113,7 +116,9 @@ pub(crate) fn word_in(
     text: &[u8],
 ) -> Result<TermId, BuildError>
     requires { AreDeclared symbols.now.signatures terms.old.nodes }
-    ensures reads { ReadsTerm (word_in symbols.now scope.now.bound (progress (state_of terms.old scope.now)) kind text.now) result (progress (state_of terms.new scope.now)) }
+    ensures reads { ReadsTerm
+        (word_in symbols.now scope.now.bound (progress (state_of terms.old scope.now)) kind
+        text.now) result (progress (state_of terms.new scope.now)) }
     ensures grows { Grows symbols.now.signatures terms.old terms.new }
 {
     match kind {
@@ -146,7 +151,9 @@ pub(crate) fn application_in(
     args: Vec<TermId>,
 ) -> Result<TermId, BuildError>
     requires { AreDeclared symbols.now.signatures terms.old.nodes }
-    ensures reads { ReadsTerm (application_in symbols.now scope.now.bound (progress (state_of terms.old scope.now)) (head_of head.entry) args.items) result (progress (state_of terms.new scope.now)) }
+    ensures reads { ReadsTerm
+        (application_in symbols.now scope.now.bound (progress (state_of terms.old scope.now))
+        (head_of head.entry) args.items) result (progress (state_of terms.new scope.now)) }
     ensures grows { Grows symbols.now.signatures terms.old terms.new }
 {
     match head {
@@ -176,7 +183,10 @@ pub(crate) fn indexed_in_scope(
     name: &[u8],
     indices: Indices<'_>,
 ) -> Result<TermId, BuildError>
-    ensures reads { ReadsTerm (indexed_in_scope symbols.now scope.now.bound (progress (state_of terms.old scope.now)) (indexed name.now (indices_of indices.entry))) result (progress (state_of terms.new scope.now)) }
+    ensures reads { ReadsTerm
+        (indexed_in_scope symbols.now scope.now.bound (progress (state_of terms.old scope.now))
+        (indexed name.now (indices_of indices.entry))) result
+        (progress (state_of terms.new scope.now)) }
     ensures grows { (signatures : List SignatureValue) → Grows signatures terms.old terms.new }
 {
     let is_local = is_local(terms, scope, name);
@@ -206,7 +216,9 @@ pub(crate) fn name_term<'a>(
     term: TermId,
     name: &'a [u8],
 ) -> Result<(), BuildError>
-    ensures names { (terms : TermsValue) → Names (naming symbols.now may_name term (progress (state_of terms scope.old)) name.now) result (progress (state_of terms scope.new)) }
+    ensures names { (terms : TermsValue)
+        → Names (naming symbols.now may_name term (progress (state_of terms scope.old)) name.now)
+        result (progress (state_of terms scope.new)) }
     ensures bound { OnOk result (scope.new.bound ≡ scope.old.bound) }
     ensures coming { OnOk result (scope.new.coming ≡ scope.old.coming) }
     ensures parameters { OnOk result (scope.new.parameters ≡ scope.old.parameters) }

@@ -34,7 +34,8 @@ fn literal(
     width: usize,
     value: u128,
 ) -> Result<TermId, BuildError>
-    ensures builds { Builds (made terms.old (leaf (Op.Word width value))) result terms.old terms.new }
+    ensures builds { Builds (made terms.old (leaf (Op.Word width value))) result terms.old
+        terms.new }
     ensures grows { (signatures : List SignatureValue) → Grows signatures terms.old terms.new }
 {
     let op = Op::Word {
@@ -74,7 +75,8 @@ fn constant(
 ) -> Result<TermId, BuildError>
     requires made { slice_get symbols.now.signatures declaration ≡ Some signature.now }
     requires declared { AreDeclared symbols.now.signatures terms.old.nodes }
-    ensures builds { Builds (constant terms.old declaration signature.now) result terms.old terms.new }
+    ensures builds { Builds (constant terms.old declaration signature.now) result terms.old
+        terms.new }
     ensures grows { Grows symbols.now.signatures terms.old terms.new }
 {
     if !signature.args.as_slice().is_empty() {
@@ -95,7 +97,9 @@ fn declared(
     name: &[u8],
 ) -> Result<TermId, BuildError>
     requires { AreDeclared symbols.now.signatures terms.old.nodes }
-    ensures builds { Builds (declared symbols.now terms.old (declaration_of symbols.now.live name.now)) result terms.old terms.new }
+    ensures builds { Builds
+        (declared symbols.now terms.old (declaration_of symbols.now.live name.now)) result terms.old
+        terms.new }
     ensures grows { Grows symbols.now.signatures terms.old terms.new }
 {
     let Some(declaration) = symbols.declaration(name) else {
@@ -118,7 +122,8 @@ fn function(
 ) -> Result<TermId, BuildError>
     requires made { slice_get symbols.now.signatures declaration ≡ Some signature.now }
     requires declared { AreDeclared symbols.now.signatures terms.old.nodes }
-    ensures builds { Builds (function terms.old declaration signature.now args.items) result terms.old terms.new }
+    ensures builds { Builds (function terms.old declaration signature.now args.items) result
+        terms.old terms.new }
     ensures grows { Grows symbols.now.signatures terms.old terms.new }
 {
     if signature.args.as_slice().is_empty() {
@@ -145,7 +150,9 @@ fn called(
     args: Vec<TermId>,
 ) -> Result<TermId, BuildError>
     requires { AreDeclared symbols.now.signatures terms.old.nodes }
-    ensures builds { Builds (called symbols.now terms.old (declaration_of symbols.now.live name.now) args.items) result terms.old terms.new }
+    ensures builds { Builds
+        (called symbols.now terms.old (declaration_of symbols.now.live name.now) args.items) result
+        terms.old terms.new }
     ensures grows { Grows symbols.now.signatures terms.old terms.new }
 {
     let Some(declaration) = symbols.declaration(name) else {
@@ -234,7 +241,10 @@ fn plain_application(
     args: Vec<TermId>,
 ) -> Result<TermId, BuildError>
     requires { AreDeclared symbols.now.signatures terms.old.nodes }
-    ensures means { Means (application_by symbols.now terms.old (operator_named name.now) (meaning_in symbols.now.definitions name.now) (declaration_of symbols.now.live name.now) args.items) result terms.new }
+    ensures means { Means
+        (application_by symbols.now terms.old (operator_named name.now)
+        (meaning_in symbols.now.definitions name.now) (declaration_of symbols.now.live name.now)
+        args.items) result terms.new }
     ensures grows { Grows symbols.now.signatures terms.old terms.new }
 {
     if let Some(named) = operator_named(name) {
@@ -257,7 +267,8 @@ pub fn application(
     args: Vec<TermId>,
 ) -> Result<TermId, BuildError>
     requires { AreDeclared symbols.now.signatures terms.old.nodes }
-    ensures means { Means (application symbols.now terms.old (head_of head.entry) args.items) result terms.new }
+    ensures means { Means (application symbols.now terms.old (head_of head.entry) args.items) result
+        terms.new }
     ensures grows { Grows symbols.now.signatures terms.old terms.new }
 {
     match head {
@@ -275,7 +286,9 @@ pub fn indexed_term(
     name: &[u8],
     indices: Indices<'_>,
 ) -> Result<TermId, BuildError>
-    ensures means { Means (indexed_term symbols.now terms.old (indexed name.now (indices_of indices.entry))) result terms.new }
+    ensures means { Means
+        (indexed_term symbols.now terms.old (indexed name.now (indices_of indices.entry))) result
+        terms.new }
     ensures grows { (signatures : List SignatureValue) → Grows signatures terms.old terms.new }
 {
     if is_word_name(name) {

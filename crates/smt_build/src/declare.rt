@@ -24,7 +24,8 @@ use std::alloc::{AllocError, Global};
 
 /// The tokens of a span, none where it reaches past the end.
 pub(crate) fn tokens_at<'a, 'b>(tokens: &'a [Token<'b>], span: Span) -> &'a [Token<'b>]
-    ensures { IsWithin (signs_in tokens.now) span → signs_in result.now ≡ tokens_at (signs_in tokens.now) span }
+    ensures { IsWithin (signs_in tokens.now) span
+        → signs_in result.now ≡ tokens_at (signs_in tokens.now) span }
 {
     if span.start > span.end || span.end > tokens.len() {
         return &[];
@@ -48,7 +49,8 @@ fn declare_name(
     name: &[Token<'_>],
     signature: Result<Signature, BuildFault>,
 ) -> Result<DeclId, BuildError>
-    ensures { (n : Sexp) → signs_in name.now ≡ spelling n → Declares (declare_name symbols.old n signature) result symbols.old symbols.new }
+    ensures { (n : Sexp) → signs_in name.now ≡ spelling n
+        → Declares (declare_name symbols.old n signature) result symbols.old symbols.new }
 {
     let [name] = name else {
         return Err(BuildError::Fault(BuildFault::NotSupported));
@@ -74,7 +76,8 @@ pub(crate) fn value_sort(
     arguments: &[Token<'_>],
     value: &[Token<'_>],
 ) -> Result<Result<Sort, BuildFault>, AllocError>
-    ensures { IfOk result (λ r. (a s : Sexp) → signs_in arguments.now ≡ spelling a → signs_in value.now ≡ spelling s → r ≡ value_sort symbols.now a s) }
+    ensures { IfOk result (λ r. (a s : Sexp) → signs_in arguments.now ≡ spelling a
+        → signs_in value.now ≡ spelling s → r ≡ value_sort symbols.now a s) }
 {
     if arguments.len() != 2 {
         return Ok(Err(BuildFault::NotSupported));
@@ -98,7 +101,8 @@ fn plain_in(
     symbols: &Symbols,
     tokens: &[Token<'_>],
 ) -> Result<Result<Sort, BuildFault>, AllocError>
-    ensures { IfOk result (λ r. (e : Sexp) → signs_in tokens.now ≡ spelling e → r ≡ plain_in symbols.now e) }
+    ensures { IfOk result (λ r. (e : Sexp) → signs_in tokens.now ≡ spelling e
+        → r ≡ plain_in symbols.now e) }
 {
     match sort_of(alloc, symbols, tokens)? {
         Ok(sort) => Ok(plain_sort(sort)),
@@ -112,7 +116,8 @@ fn arguments_in(
     symbols: &Symbols,
     tokens: &[Token<'_>],
 ) -> Result<Result<Vec<Sort>, BuildFault>, AllocError>
-    ensures { IfOk result (λ r. (e : Sexp) → signs_in tokens.now ≡ spelling e → AreArguments (over_parts (next_argument symbols.now) [] (parts_of e)) r) }
+    ensures { IfOk result (λ r. (e : Sexp) → signs_in tokens.now ≡ spelling e
+        → AreArguments (over_parts (next_argument symbols.now) [] (parts_of e)) r) }
 {
     let spans = parts_of(alloc, tokens)?;
     let spans = spans.as_slice();
@@ -133,7 +138,8 @@ fn of_function(
     arguments: &[Token<'_>],
     value: &[Token<'_>],
 ) -> Result<Result<Signature, BuildFault>, AllocError>
-    ensures { IfOk result (λ r. (a s : Sexp) → signs_in arguments.now ≡ spelling a → signs_in value.now ≡ spelling s → r ≡ of_function symbols.now (parts_of a) s) }
+    ensures { IfOk result (λ r. (a s : Sexp) → signs_in arguments.now ≡ spelling a
+        → signs_in value.now ≡ spelling s → r ≡ of_function symbols.now (parts_of a) s) }
 {
     let args = match arguments_in(alloc, symbols, arguments)? {
         Ok(args) => args,
@@ -155,7 +161,8 @@ fn signature_in(
     arguments: &[Token<'_>],
     value: &[Token<'_>],
 ) -> Result<Result<Signature, BuildFault>, AllocError>
-    ensures { IfOk result (λ r. (a s : Sexp) → signs_in arguments.now ≡ spelling a → signs_in value.now ≡ spelling s → r ≡ signature_in symbols.now a s) }
+    ensures { IfOk result (λ r. (a s : Sexp) → signs_in arguments.now ≡ spelling a
+        → signs_in value.now ≡ spelling s → r ≡ signature_in symbols.now a s) }
 {
     if arguments.len() == 2 {
         let sort = sort_of(alloc, symbols, value)?;
@@ -175,7 +182,8 @@ impl Symbols {
         tokens: &Tokens<'_>,
         command: &Command,
     ) -> Result<DeclId, BuildError>
-        ensures { (es : Sexps) → AllStand (signs_of tokens.now) (spans_of command.now) es → Declares (declare self.old (name_of command.now) es) result self.old self.new }
+        ensures { (es : Sexps) → AllStand (signs_of tokens.now) (spans_of command.now) es
+            → Declares (declare self.old (name_of command.now) es) result self.old self.new }
     {
         let items = tokens.as_slice();
         match command {

@@ -43,7 +43,8 @@ fn name_sort(
     name: &[Token<'_>],
     sort: Result<Sort, BuildFault>,
 ) -> Result<(), BuildError>
-    ensures defines { (n : Sexp) → signs_in name.now ≡ spelling n → DefinesSort (name_sort symbols.old n sort) result symbols.old symbols.new }
+    ensures defines { (n : Sexp) → signs_in name.now ≡ spelling n
+        → DefinesSort (name_sort symbols.old n sort) result symbols.old symbols.new }
     ensures signatures { symbols.new.signatures ≡ symbols.old.signatures }
 {
     let [name] = name else {
@@ -75,7 +76,8 @@ fn body_of(
     body: Span,
 ) -> Result<TermId, BuildError>
     requires { AreDeclared symbols.now.signatures terms.old.nodes }
-    ensures builds { (t : Sexp) → Stands (signs_of tokens.now) body t → Builds (body_of symbols.now terms.old parameters sort t) result terms.old terms.new }
+    ensures builds { (t : Sexp) → Stands (signs_of tokens.now) body t
+        → Builds (body_of symbols.now terms.old parameters sort t) result terms.old terms.new }
     ensures err { OnErr result (terms.new ≡ terms.old) }
     ensures grows { Grows symbols.now.signatures terms.old terms.new }
 {
@@ -107,7 +109,8 @@ fn read_head(
     value: &[Token<'_>],
 ) -> Result<Sort, BuildError>
     requires { parameters.old ≡ [] }
-    ensures { (p s : Sexp) → signs_in list.now ≡ spelling p → signs_in value.now ≡ spelling s → Heads (head_of symbols.now p s) result parameters.new }
+    ensures { (p s : Sexp) → signs_in list.now ≡ spelling p → signs_in value.now ≡ spelling s
+        → Heads (head_of symbols.now p s) result parameters.new }
 {
     parameters_in(alloc, symbols, parameters, list)?;
     let sort = sort_of(alloc, symbols, value)?;
@@ -131,7 +134,9 @@ fn define_name(
 ) -> Result<(), BuildError>
     requires declared { AreDeclared symbols.old.signatures terms.old.nodes }
     requires name { is_taken symbols.old name.now ≡ false }
-    ensures defines { (t : Sexp) → Stands (signs_of tokens.now) body t → Defines (function_over symbols.old terms.old name.now parameters value t) result (symbols.old, terms.old) (symbols.new, terms.new) }
+    ensures defines { (t : Sexp) → Stands (signs_of tokens.now) body t
+        → Defines (function_over symbols.old terms.old name.now parameters value t) result
+        (symbols.old, terms.old) (symbols.new, terms.new) }
     ensures signatures { symbols.new.signatures ≡ symbols.old.signatures }
     ensures grows { Grows symbols.old.signatures terms.old terms.new }
 {
@@ -166,7 +171,11 @@ fn define_function(
     body: Span,
 ) -> Result<(), BuildError>
     requires { AreDeclared symbols.old.signatures terms.old.nodes }
-    ensures defines { (n p s t : Sexp) → signs_in name.now ≡ spelling n → signs_in list.now ≡ spelling p → signs_in value.now ≡ spelling s → Stands (signs_of tokens.now) body t → Defines (define_function symbols.old terms.old n (head_of symbols.old p s) t) result (symbols.old, terms.old) (symbols.new, terms.new) }
+    ensures defines { (n p s t : Sexp) → signs_in name.now ≡ spelling n
+        → signs_in list.now ≡ spelling p → signs_in value.now ≡ spelling s
+        → Stands (signs_of tokens.now) body t
+        → Defines (define_function symbols.old terms.old n (head_of symbols.old p s) t) result
+        (symbols.old, terms.old) (symbols.new, terms.new) }
     ensures signatures { symbols.new.signatures ≡ symbols.old.signatures }
     ensures grows { Grows symbols.old.signatures terms.old terms.new }
 {
@@ -194,7 +203,8 @@ impl Symbols {
         tokens: &Tokens<'_>,
         command: &Command,
     ) -> Result<(), BuildError>
-        ensures defines { (es : Sexps) → AllStand (signs_of tokens.now) (spans_of command.now) es → DefinesSort (define_sort self.old (name_of command.now) es) result self.old self.new }
+        ensures defines { (es : Sexps) → AllStand (signs_of tokens.now) (spans_of command.now) es
+            → DefinesSort (define_sort self.old (name_of command.now) es) result self.old self.new }
         ensures signatures { self.new.signatures ≡ self.old.signatures }
     {
         let items = tokens.as_slice();
@@ -226,7 +236,9 @@ impl Symbols {
         command: &Command,
     ) -> Result<(), BuildError>
         requires { AreDeclared self.old.signatures terms.old.nodes }
-        ensures defines { (es : Sexps) → AllStand (signs_of tokens.now) (spans_of command.now) es → Defines (define self.old terms.old (name_of command.now) es) result (self.old, terms.old) (self.new, terms.new) }
+        ensures defines { (es : Sexps) → AllStand (signs_of tokens.now) (spans_of command.now) es
+            → Defines (define self.old terms.old (name_of command.now) es) result
+            (self.old, terms.old) (self.new, terms.new) }
         ensures signatures { self.new.signatures ≡ self.old.signatures }
         ensures grows { Grows self.old.signatures terms.old terms.new }
     {

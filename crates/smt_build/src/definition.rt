@@ -113,7 +113,11 @@ fn remade(
     term: TermId,
 ) -> Result<TermId, BuildError>
     requires { term < length terms.old.nodes }
-    ensures builds { Builds (made terms.old (node_of (node_at terms.old.nodes term).op (map (placed reached.now images.now) (node_at terms.old.nodes term).args))) result terms.old terms.new }
+    ensures builds { Builds
+        (made terms.old
+        (node_of (node_at terms.old.nodes term).op
+        (map (placed reached.now images.now) (node_at terms.old.nodes term).args))) result terms.old
+        terms.new }
     ensures grows { (signatures : List SignatureValue) → Grows signatures terms.old terms.new }
 {
     let node = terms.node(term);
@@ -144,7 +148,8 @@ fn again(
     term: TermId,
 ) -> Result<TermId, BuildError>
     requires { term < length terms.old.nodes }
-    ensures means { Means (again (placed reached.now images.now) args.now terms.old term) result terms.new }
+    ensures means { Means (again (placed reached.now images.now) args.now terms.old term) result
+        terms.new }
     ensures grows { (signatures : List SignatureValue) → Grows signatures terms.old terms.new }
 {
     match argument(terms, args, term) {
@@ -159,7 +164,8 @@ fn put(reached: &Reached, images: &mut Vec<TermId>, term: TermId, number: TermId
     requires size { length images.old.items ≡ length reached.now }
     ensures size { length images.new.items ≡ length reached.now }
     ensures here { placed reached.now images.new.items term ≡ number }
-    ensures others { (t : ℕ) → Contains reached.now t → t ≢ term → placed reached.now images.new.items t ≡ placed reached.now images.old.items t }
+    ensures others { (t : ℕ) → Contains reached.now t → t ≢ term
+        → placed reached.now images.new.items t ≡ placed reached.now images.old.items t }
 {
     let Some(place) = reached.place_of(term) else {
         return;

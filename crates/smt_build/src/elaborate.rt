@@ -40,7 +40,9 @@ fn open_list<'a>(
     scope: &Scope<'a>,
     stack: &mut Vec<Open<'a>>,
 ) -> Result<Option<Part<'a>>, BuildError>
-    ensures { (s : TermsValue) → Steps (opened (term_reader no_symbols false) Want.Term (stack_of stack.old.items) (state_of s scope.now)) result (stack_of stack.new.items) (state_of s scope.now) }
+    ensures { (s : TermsValue)
+        → Steps (opened (term_reader no_symbols false) Want.Term (stack_of stack.old.items)
+        (state_of s scope.now)) result (stack_of stack.new.items) (state_of s scope.now) }
 {
     match opens(wanted(stack), scope) {
         Err(fault) => Err(BuildError::Fault(fault)),
@@ -58,7 +60,10 @@ fn hand<'a>(
     stack: &mut Vec<Open<'a>>,
     part: Part<'a>,
 ) -> Result<Option<Part<'a>>, BuildError>
-    ensures { (s : TermsValue) → Steps (handed (term_reader no_symbols false) (stack_of stack.old.items) (part_of part.entry, state_of s scope.old)) result (stack_of stack.new.items) (state_of s scope.new) }
+    ensures { (s : TermsValue)
+        → Steps (handed (term_reader no_symbols false) (stack_of stack.old.items)
+        (part_of part.entry, state_of s scope.old)) result (stack_of stack.new.items)
+        (state_of s scope.new) }
 {
     let Some(list) = stack.pop() else {
         return Ok(Some(part));
@@ -81,7 +86,10 @@ fn step<'a>(
     token: &Token<'a>,
 ) -> Result<Option<Part<'a>>, BuildError>
     requires { AreDeclared symbols.now.signatures terms.old.nodes }
-    ensures steps { Steps (step (term_reader symbols.now may_name) Want.Term (stack_of stack.old.items) (state_of terms.old scope.old) (sign_in token.now)) result (stack_of stack.new.items) (state_of terms.new scope.new) }
+    ensures steps { Steps
+        (step (term_reader symbols.now may_name) Want.Term (stack_of stack.old.items)
+        (state_of terms.old scope.old) (sign_in token.now)) result (stack_of stack.new.items)
+        (state_of terms.new scope.new) }
     ensures grows { Grows symbols.now.signatures terms.old terms.new }
 {
     match token.kind {
@@ -121,7 +129,9 @@ fn read_part<'a>(
     tokens: &[Token<'a>],
 ) -> Result<Part<'a>, BuildError>
     requires { AreDeclared symbols.now.signatures terms.old.nodes }
-    ensures does { Does (run (term_reader symbols.now may_name) Want.Term [] (state_of terms.old scope.old) (signs_in tokens.now)) result (state_of terms.new scope.new) }
+    ensures does { Does
+        (run (term_reader symbols.now may_name) Want.Term [] (state_of terms.old scope.old)
+        (signs_in tokens.now)) result (state_of terms.new scope.new) }
     ensures grows { Grows symbols.now.signatures terms.old terms.new }
 {
     let mut stack: Vec<Open<'a>> = Vec::new(alloc);
@@ -160,7 +170,10 @@ pub(crate) fn read_term<'a>(
 ) -> Result<TermId, BuildError>
     requires declared { AreDeclared symbols.now.signatures terms.old.nodes }
     requires scope { scope.old ≡ scope_over scope.old.parameters }
-    ensures reads { (e : Sexp) → signs_in tokens.now ≡ spelling e → ReadsTerm (term_in symbols.now may_name [] (progress (state_of terms.old (scope_over scope.old.parameters))) e) result (progress (state_of terms.new scope.new)) }
+    ensures reads { (e : Sexp) → signs_in tokens.now ≡ spelling e
+        → ReadsTerm (term_in symbols.now may_name []
+        (progress (state_of terms.old (scope_over scope.old.parameters))) e) result
+        (progress (state_of terms.new scope.new)) }
     ensures grows { Grows symbols.now.signatures terms.old terms.new }
 {
     let Part::Term(term) = read_part(alloc, symbols, terms, reached, scope, may_name, tokens)?
@@ -183,7 +196,8 @@ pub(crate) fn term_over(
     span: Span,
 ) -> Result<TermId, BuildError>
     requires { AreDeclared symbols.now.signatures terms.old.nodes }
-    ensures term { (e : Sexp) → Stands (signs_of tokens.now) span e → Builds (term_over symbols.now terms.old parameters e) result terms.old terms.new }
+    ensures term { (e : Sexp) → Stands (signs_of tokens.now) span e
+        → Builds (term_over symbols.now terms.old parameters e) result terms.old terms.new }
     ensures err { OnErr result (terms.new ≡ terms.old) }
     ensures grows { Grows symbols.now.signatures terms.old terms.new }
 {
@@ -212,7 +226,8 @@ impl Symbols {
         span: Span,
     ) -> Result<TermId, BuildError>
         requires { AreDeclared self.now.signatures terms.old.nodes }
-        ensures term { (e : Sexp) → Stands (signs_of tokens.now) span e → Builds (term_of self.now terms.old e) result terms.old terms.new }
+        ensures term { (e : Sexp) → Stands (signs_of tokens.now) span e
+            → Builds (term_of self.now terms.old e) result terms.old terms.new }
         ensures err { OnErr result (terms.new ≡ terms.old) }
         ensures grows { Grows self.now.signatures terms.old terms.new }
     {

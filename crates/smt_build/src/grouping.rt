@@ -219,7 +219,8 @@ fn apart_from(
     rest: &[TermId],
     found: &mut Vec<TermId>,
 ) -> Result<(), BuildError>
-    ensures lists { Lists (apart_from a terms.old found.old.items rest.now) result found.new.items terms.new }
+    ensures lists { Lists (apart_from a terms.old found.old.items rest.now) result found.new.items
+        terms.new }
     ensures grows { (signatures : List SignatureValue) → Grows signatures terms.old terms.new }
 {
     for b in rest {
@@ -237,7 +238,8 @@ fn all_apart(
     rest: &[TermId],
     found: &mut Vec<TermId>,
 ) -> Result<(), BuildError>
-    ensures lists { Lists (all_apart terms.old found.old.items (first ∷ rest.now)) result found.new.items terms.new }
+    ensures lists { Lists (all_apart terms.old found.old.items (first ∷ rest.now)) result
+        found.new.items terms.new }
     ensures grows { (signatures : List SignatureValue) → Grows signatures terms.old terms.new }
 {
     apart_from(alloc, terms, first, rest, found)?;

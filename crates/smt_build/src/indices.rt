@@ -160,7 +160,9 @@ pub fn indexed_application(
     indices: Indices<'_>,
     args: Vec<TermId>,
 ) -> Result<TermId, BuildError>
-    ensures means { Means (indexed_application symbols.now terms.old name.now (indices_of indices.entry) (operator_named name.now) args.items) result terms.new }
+    ensures means { Means
+        (indexed_application symbols.now terms.old name.now (indices_of indices.entry)
+        (operator_named name.now) args.items) result terms.new }
     ensures grows { (signatures : List SignatureValue) → Grows signatures terms.old terms.new }
 {
     match operator_named(name) {

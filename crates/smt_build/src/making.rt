@@ -26,8 +26,11 @@ fn fault_of(fault: MakeFault) -> BuildFault
 pub(crate) fn made(terms: &mut Terms, node: Node) -> Result<TermId, BuildError>
     requires { Agrees terms.old.nodes node.op }
     ensures builds { Builds (made terms.old node) result terms.old terms.new }
-    ensures grows { (signatures : List SignatureValue) → IsDeclared signatures node.op → Grows signatures terms.old terms.new }
-    ensures again { (signatures : List SignatureValue) → (AreDeclared signatures terms.old.nodes → IsDeclared signatures node.op) → Grows signatures terms.old terms.new }
+    ensures grows { (signatures : List SignatureValue) → IsDeclared signatures node.op
+        → Grows signatures terms.old terms.new }
+    ensures again { (signatures : List SignatureValue)
+        → (AreDeclared signatures terms.old.nodes → IsDeclared signatures node.op)
+        → Grows signatures terms.old terms.new }
 {
     match terms.make(node) {
         Ok(term) => Ok(term),

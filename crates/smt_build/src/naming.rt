@@ -23,7 +23,8 @@ pub fn word_at<'a>(tokens: &[Token<'a>], span: Span) -> Option<Token<'a>>
 
 /// The name behind `:named`.
 fn name_behind<'a>(tokens: &[Token<'a>], spans: &[Span]) -> Option<&'a [u8]>
-    ensures { (es : Sexps) → AllStand (signs_in tokens.now) spans.now es → IsNameOf (name_behind es) result }
+    ensures { (es : Sexps) → AllStand (signs_in tokens.now) spans.now es
+        → IsNameOf (name_behind es) result }
 {
     let [span, ..] = spans else {
         return None;
@@ -46,7 +47,8 @@ fn is_label(word: Option<Token<'_>>) -> bool
 
 /// The first name among attributes.
 fn first_name<'a>(tokens: &[Token<'a>], mut spans: &[Span]) -> Option<&'a [u8]>
-    ensures { (es : Sexps) → AllStand (signs_in tokens.now) spans.entry.now es → IsNameOf (first_name es) result }
+    ensures { (es : Sexps) → AllStand (signs_in tokens.now) spans.entry.now es
+        → IsNameOf (first_name es) result }
 {
     while let [span, rest @ ..] = spans {
         if is_label(word_at(tokens, *span)) {
@@ -59,7 +61,8 @@ fn first_name<'a>(tokens: &[Token<'a>], mut spans: &[Span]) -> Option<&'a [u8]>
 
 /// The name of an assertion among the parts of its term.
 fn annotated_name<'a>(tokens: &[Token<'a>], spans: &[Span]) -> Option<&'a [u8]>
-    ensures { (es : Sexps) → AllStand (signs_in tokens.now) spans.now es → IsNameOf (annotated_name es) result }
+    ensures { (es : Sexps) → AllStand (signs_in tokens.now) spans.now es
+        → IsNameOf (annotated_name es) result }
 {
     let [first, _, attributes @ ..] = spans else {
         return None;
@@ -72,7 +75,8 @@ fn annotated_name<'a>(tokens: &[Token<'a>], spans: &[Span]) -> Option<&'a [u8]>
 
 /// The spans of the parts of a term among its tokens, none of a word.
 pub(crate) fn parts_of(alloc: Global, tokens: &[Token<'_>]) -> Result<Vec<Span>, AllocError>
-    ensures { IfOk result (λ v. (e : Sexp) → signs_in tokens.now ≡ spelling e → AllStand (signs_in tokens.now) v.items (parts_of e)) }
+    ensures { IfOk result (λ v. (e : Sexp) → signs_in tokens.now ≡ spelling e
+        → AllStand (signs_in tokens.now) v.items (parts_of e)) }
 {
     if tokens.len() < 2 {
         return Ok(Vec::new(alloc));
@@ -91,7 +95,8 @@ pub fn name_of_assertion<'a>(
     tokens: &Tokens<'a>,
     span: Span,
 ) -> Result<Option<&'a [u8]>, AllocError>
-    ensures { IfOk result (λ o. (e : Sexp) → Stands (signs_of tokens.now) span e → IsNameOf (name_of_assertion e) o) }
+    ensures { IfOk result (λ o. (e : Sexp) → Stands (signs_of tokens.now) span e
+        → IsNameOf (name_of_assertion e) o) }
 {
     let items = tokens_at(tokens.as_slice(), span);
     let spans = parts_of(alloc, items)?;

@@ -143,7 +143,8 @@ fn named_parameter(
     name: &[Token<'_>],
     sort: Result<Sort, BuildFault>,
 ) -> Result<(), BuildError>
-    ensures { (n : Sexp) → signs_in name.now ≡ spelling n → Lists (named_parameter parameters.old n sort) result parameters.new }
+    ensures { (n : Sexp) → signs_in name.now ≡ spelling n
+        → Lists (named_parameter parameters.old n sort) result parameters.new }
 {
     let [name] = name else {
         return Err(BuildError::Fault(BuildFault::NotSupported));
@@ -158,7 +159,8 @@ fn next_parameter(
     parameters: &mut Parameters,
     tokens: &[Token<'_>],
 ) -> Result<(), BuildError>
-    ensures { (e : Sexp) → signs_in tokens.now ≡ spelling e → Lists (next_parameter symbols.now parameters.old e) result parameters.new }
+    ensures { (e : Sexp) → signs_in tokens.now ≡ spelling e
+        → Lists (next_parameter symbols.now parameters.old e) result parameters.new }
 {
     let spans = parts_of(alloc, tokens)?;
     if spans.len() != 2 {
@@ -176,7 +178,8 @@ pub(crate) fn parameters_in(
     tokens: &[Token<'_>],
 ) -> Result<(), BuildError>
     requires { parameters.old ≡ [] }
-    ensures { (e : Sexp) → signs_in tokens.now ≡ spelling e → Lists (parameters_in symbols.now e) result parameters.new }
+    ensures { (e : Sexp) → signs_in tokens.now ≡ spelling e
+        → Lists (parameters_in symbols.now e) result parameters.new }
 {
     if tokens.len() < 2 {
         return Err(BuildError::Fault(BuildFault::NotSupported));

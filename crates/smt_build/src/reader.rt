@@ -194,7 +194,8 @@ pub fn closes<'a>(
     list: Open<'a>,
 ) -> Result<Part<'a>, BuildError>
     requires { AreDeclared symbols.now.signatures terms.old.nodes }
-    ensures does { Does (closes symbols.now (open_of list.entry) (state_of terms.old scope.old)) result (state_of terms.new scope.new) }
+    ensures does { Does (closes symbols.now (open_of list.entry) (state_of terms.old scope.old))
+        result (state_of terms.new scope.new) }
     ensures grows { Grows symbols.now.signatures terms.old terms.new }
 {
     match list {
@@ -239,7 +240,9 @@ pub fn at_word<'a>(
     text: &'a [u8],
 ) -> Result<Part<'a>, BuildError>
     requires { AreDeclared symbols.now.signatures terms.old.nodes }
-    ensures does { Does (at_word symbols.now may_name want (state_of terms.old scope.old) kind text.now) result (state_of terms.new scope.new) }
+    ensures does { Does
+        (at_word symbols.now may_name want (state_of terms.old scope.old) kind text.now) result
+        (state_of terms.new scope.new) }
     ensures grows { Grows symbols.now.signatures terms.old terms.new }
 {
     match (want, kind) {

@@ -66,7 +66,9 @@ fn named_sort(
 
 /// The sort of three words in a list.
 fn indexed_sort(mark: &Token<'_>, name: &Token<'_>, width: &Token<'_>) -> Result<Sort, BuildFault>
-    ensures { result ≡ indexed_sort mark.now.kind name.now.kind name.now.text.now width.now.kind width.now.text.now }
+    ensures { result
+        ≡ indexed_sort mark.now.kind name.now.kind name.now.text.now width.now.kind
+        width.now.text.now }
 {
     match mark.kind {
         TokenKind::Underscore => named_sort(name.kind, name.text, width.kind, width.text),
@@ -76,7 +78,8 @@ fn indexed_sort(mark: &Token<'_>, name: &Token<'_>, width: &Token<'_>) -> Result
 
 /// The sort that a name or `(_ BitVec n)` means.
 fn part_sort(symbols: &Symbols, tokens: &[Token<'_>]) -> Result<Sort, BuildFault>
-    ensures { (s : Sexp) → signs_in tokens.now ≡ spelling s → result ≡ part_sort symbols.now.sorts s }
+    ensures { (s : Sexp) → signs_in tokens.now ≡ spelling s
+        → result ≡ part_sort symbols.now.sorts s }
 {
     match tokens {
         [name] => sort_named(symbols, name.kind, name.text),
@@ -116,7 +119,8 @@ fn array_sort(
     symbols: &Symbols,
     tokens: &[Token<'_>],
 ) -> Result<Result<Sort, BuildFault>, AllocError>
-    ensures { IfOk result (λ r. (s : Sexp) → begins_array s ≡ true → signs_in tokens.now ≡ spelling s → r ≡ array_sort symbols.now.sorts (behind_head s)) }
+    ensures { IfOk result (λ r. (s : Sexp) → begins_array s ≡ true
+        → signs_in tokens.now ≡ spelling s → r ≡ array_sort symbols.now.sorts (behind_head s)) }
 {
     let spans = parts_of(alloc, tokens)?;
     if spans.len() != 3 {
@@ -133,7 +137,8 @@ pub fn sort_of(
     symbols: &Symbols,
     tokens: &[Token<'_>],
 ) -> Result<Result<Sort, BuildFault>, AllocError>
-    ensures { IfOk result (λ r. (s : Sexp) → signs_in tokens.now ≡ spelling s → r ≡ sort_in symbols.now s) }
+    ensures { IfOk result (λ r. (s : Sexp) → signs_in tokens.now ≡ spelling s
+        → r ≡ sort_in symbols.now s) }
 {
     if symbols.reads_theories() && begins_array(tokens) {
         return array_sort(alloc, symbols, tokens);

@@ -43,7 +43,15 @@ impl Model for Symbols {
 
     ghost Value = { SymbolsValue };
 
-    ghost view = { λ s. record { live = s.live.items; signatures = s.signatures.items; definitions = map entry_of s.definitions.entries; sorts = map entry_of s.sorts.entries; levels = s.levels.items; theories = s.theories } };
+    ghost view = { λ s.
+        record {
+          live = s.live.items;
+          signatures = s.signatures.items;
+          definitions = map entry_of s.definitions.entries;
+          sorts = map entry_of s.sorts.entries;
+          levels = s.levels.items;
+          theories = s.theories;
+        } };
 
     ghost invariant = { λ s. AreNumbers s.live.items s.numbers.entries };
 }

@@ -28,10 +28,13 @@ fn read_script<S: Source>(
 ) -> Result<u64, Status>
     requires room { 0 < length buffer.old }
     requires unended { checking.old.inputs.script_ended ≡ false }
-    ensures ok { IfOk result (λ rest. TakesScript checking.old checking.new left rest (S.left script.old) (S.left script.new)) }
+    ensures ok { IfOk result
+        (λ rest. TakesScript checking.old checking.new left rest (S.left script.old)
+        (S.left script.new)) }
     ensures err { IfErr result (StopsReading left (S.left script.old) (S.left script.new)) }
     ensures later { S.faults script.old ≤ S.faults script.new }
-    ensures cause { IfErr result (HasCause (counts (S.faults script.old) 0 0) (counts (S.faults script.new) 0 0)) }
+    ensures cause { IfErr result
+        (HasCause (counts (S.faults script.old) 0 0) (counts (S.faults script.new) 0 0)) }
 {
     let size = read_piece(script, buffer, left)?;
     if size == 0 {
@@ -51,10 +54,13 @@ fn read_proof<P: Source>(
 ) -> Result<u64, Status>
     requires room { 0 < length buffer.old }
     requires unended { checking.old.inputs.proof_ended ≡ false }
-    ensures ok { IfOk result (λ rest. TakesProof checking.old checking.new left rest (P.left proof.old) (P.left proof.new)) }
+    ensures ok { IfOk result
+        (λ rest. TakesProof checking.old checking.new left rest (P.left proof.old)
+        (P.left proof.new)) }
     ensures err { IfErr result (StopsReading left (P.left proof.old) (P.left proof.new)) }
     ensures later { P.faults proof.old ≤ P.faults proof.new }
-    ensures cause { IfErr result (HasCause (counts (P.faults proof.old) 0 0) (counts (P.faults proof.new) 0 0)) }
+    ensures cause { IfErr result
+        (HasCause (counts (P.faults proof.old) 0 0) (counts (P.faults proof.new) 0 0)) }
 {
     let size = read_piece(proof, buffer, left)?;
     if size == 0 {
@@ -69,7 +75,9 @@ fn read_proof<P: Source>(
 fn tell<W: Sink>(answers: &mut W, verdict: Verdict) -> Result<(), Status>
     ensures bytes { MatchResult result
         (λ _. Appends (W.written answers.old) (W.written answers.new) (verdict_text verdict))
-        (λ _. (n : ℕ) × (n < length (verdict_text verdict)) × Appends (W.written answers.old) (W.written answers.new) (take n (verdict_text verdict))) }
+        (λ _. (n : ℕ) × (n < length (verdict_text verdict))
+        × Appends (W.written answers.old) (W.written answers.new)
+        (take n (verdict_text verdict))) }
     ensures status { IfErr result (λ s. s ≡ Status.WriteFault) }
     ensures later { W.faults answers.old ≤ W.faults answers.new }
     ensures cause { OnErr result (Rose (W.faults answers.old) (W.faults answers.new)) }
@@ -90,14 +98,28 @@ fn check_texts<S: Source, P: Source, W: Sink>(
     answers: &mut W,
 ) -> Result<Judgement, Status>
     requires { 0 < length buffer.old }
-    ensures judged { IfOk result (λ j. IfSome (S.left script.old) (λ text. IfSome (P.left proof.old) (λ lines. IsJudged text lines (verdicts_by j.checker) j.refusal))) }
-    ensures known { IfOk result (λ j. IfSome (S.left script.old) (λ text. IfSome (P.left proof.old) (λ lines. AreKnown text lines (verdicts_by j.checker)))) }
-    ensures told { IfOk result (λ j. Appends (W.written answers.old) (W.written answers.new) (flat_map verdict_text (verdicts_by j.checker))) }
-    ensures front { ToldOf (S.left script.old) (P.left proof.old) (W.written answers.old) (W.written answers.new) IsFrontOfCheck }
+    ensures judged { IfOk result
+        (λ j. IfSome (S.left script.old)
+        (λ text. IfSome (P.left proof.old)
+        (λ lines. IsJudged text lines (verdicts_by j.checker) j.refusal))) }
+    ensures known { IfOk result
+        (λ j. IfSome (S.left script.old)
+        (λ text. IfSome (P.left proof.old)
+        (λ lines. AreKnown text lines (verdicts_by j.checker)))) }
+    ensures told { IfOk result
+        (λ j. Appends (W.written answers.old) (W.written answers.new)
+        (flat_map verdict_text (verdicts_by j.checker))) }
+    ensures front { ToldOf (S.left script.old) (P.left proof.old) (W.written answers.old)
+        (W.written answers.new) IsFrontOfCheck }
     ensures answers { AddsTo (W.written answers.old) (W.written answers.new) }
-    ensures read { ReadsBoth (S.left script.old) (S.left script.new) (P.left proof.old) (P.left proof.new) result }
-    ensures later { IsLater (counts (S.faults script.old) (W.faults answers.old) (P.faults proof.old)) (counts (S.faults script.new) (W.faults answers.new) (P.faults proof.new)) }
-    ensures cause { IfErr result (HasCheckCause (counts (S.faults script.old) (W.faults answers.old) (P.faults proof.old)) (counts (S.faults script.new) (W.faults answers.new) (P.faults proof.new))) }
+    ensures read { ReadsBoth (S.left script.old) (S.left script.new) (P.left proof.old)
+        (P.left proof.new) result }
+    ensures later { IsLater
+        (counts (S.faults script.old) (W.faults answers.old) (P.faults proof.old))
+        (counts (S.faults script.new) (W.faults answers.new) (P.faults proof.new)) }
+    ensures cause { IfErr result
+        (HasCheckCause (counts (S.faults script.old) (W.faults answers.old) (P.faults proof.old))
+        (counts (S.faults script.new) (W.faults answers.new) (P.faults proof.new))) }
 {
     let mut checking = Checking::new(alloc);
     let mut script_left = INPUT_LIMIT;
@@ -160,12 +182,20 @@ pub fn check<S: Source, P: Source, W: Sink>(
 ) -> Status
     requires { 0 < length buffer.old }
     ensures usage { result ≢ Status.Usage }
-    ensures ended { (result ≡ Status.Done) ⊎ (result ≡ Status.Refused) → ToldOf (S.left script.old) (P.left proof.old) (W.written answers.old) (W.written answers.new) (IsEndOfCheck result) }
-    ensures front { ToldOf (S.left script.old) (P.left proof.old) (W.written answers.old) (W.written answers.new) IsFrontOfCheck }
-    ensures read { ReadsForStatus (S.left script.old) (S.left script.new) (P.left proof.old) (P.left proof.new) result }
+    ensures ended { (result ≡ Status.Done) ⊎ (result ≡ Status.Refused)
+        → ToldOf (S.left script.old) (P.left proof.old) (W.written answers.old)
+        (W.written answers.new) (IsEndOfCheck result) }
+    ensures front { ToldOf (S.left script.old) (P.left proof.old) (W.written answers.old)
+        (W.written answers.new) IsFrontOfCheck }
+    ensures read { ReadsForStatus (S.left script.old) (S.left script.new) (P.left proof.old)
+        (P.left proof.new) result }
     ensures answers { AddsTo (W.written answers.old) (W.written answers.new) }
-    ensures later { IsLater (counts (S.faults script.old) (W.faults answers.old) (P.faults proof.old)) (counts (S.faults script.new) (W.faults answers.new) (P.faults proof.new)) }
-    ensures cause { HasCheckCause (counts (S.faults script.old) (W.faults answers.old) (P.faults proof.old)) (counts (S.faults script.new) (W.faults answers.new) (P.faults proof.new)) result }
+    ensures later { IsLater
+        (counts (S.faults script.old) (W.faults answers.old) (P.faults proof.old))
+        (counts (S.faults script.new) (W.faults answers.new) (P.faults proof.new)) }
+    ensures cause { HasCheckCause
+        (counts (S.faults script.old) (W.faults answers.old) (P.faults proof.old))
+        (counts (S.faults script.new) (W.faults answers.new) (P.faults proof.new)) result }
 {
     let judgement = match check_texts(alloc, buffer, script, proof, answers) {
         Ok(judgement) => judgement,

@@ -14,10 +14,12 @@ pub const INPUT_LIMIT: u64 = 1 << 32;
 pub fn read_piece<S: Source>(script: &mut S, buffer: &mut [u8], left: u64) -> Result<usize, Status>
     requires { 0 < length buffer.old }
     ensures within { IfOk result (λ n. n ≤ length buffer.new) }
-    ensures bytes { IfOk result (λ n. Consumes (S.left script.old) (S.left script.new) (take n buffer.new)) }
+    ensures bytes { IfOk result
+        (λ n. Consumes (S.left script.old) (S.left script.new) (take n buffer.new)) }
     ensures read { ReadsPiece left (S.left script.old) (S.left script.new) result }
     ensures later { S.faults script.old ≤ S.faults script.new }
-    ensures cause { IfErr result (HasCause (counts (S.faults script.old) 0 0) (counts (S.faults script.new) 0 0)) }
+    ensures cause { IfErr result
+        (HasCause (counts (S.faults script.old) 0 0) (counts (S.faults script.new) 0 0)) }
 {
     let wanted = left.max(1).min(buffer.len() as u64) as usize;
     match script.read(&mut buffer[..wanted]) {

@@ -38,7 +38,8 @@ impl<'a> Model for MemSource<'a> {
 
     ghost Value = { Input };
 
-    ghost view = { λ s. record { left = s.left.now; piece = s.piece; failing = s.failing.now; calls = s.calls } };
+    ghost view = { λ s.
+        record { left = s.left.now; piece = s.piece; failing = s.failing.now; calls = s.calls } };
 
     ghost invariant = { λ s. (0 < s.piece) × (s.calls ≤ last_count) };
 }
@@ -47,7 +48,8 @@ impl<'a> MemSource<'a> {
     /// Gives these bytes, at most `piece` of them a call, and fails at the calls listed in `failing`, counted from 0.
     pub fn new(bytes: &'a [u8], piece: usize, failing: &'a [u64]) -> MemSource<'a>
         requires { 0 < piece }
-        ensures { result ≡ record { left = bytes.now; piece = piece; failing = failing.now; calls = 0 } }
+        ensures { result
+            ≡ record { left = bytes.now; piece = piece; failing = failing.now; calls = 0 } }
     {
         MemSource {
             left: bytes,
@@ -73,7 +75,8 @@ impl<'a> Source for MemSource<'a> {
         ensures ok { IfOk result (λ n. (fails self.old.failing self.old.calls ≡ false)
             × (n ≡ min (min self.old.piece (length buf.old)) (length self.old.left))
             × (self.new ≡ after_read self.old n)) }
-        ensures err { OnErr result ((fails self.old.failing self.old.calls ≡ true) × (self.new ≡ after_read self.old 0)) }
+        ensures err { OnErr result ((fails self.old.failing self.old.calls ≡ true)
+            × (self.new ≡ after_read self.old 0)) }
     {
         let failing = fails(self.failing, self.calls);
         self.calls = self.calls.saturating_add(1);
@@ -105,7 +108,14 @@ impl<'a> Model for MemSink<'a> {
 
     ghost Value = { Output };
 
-    ghost view = { λ s. record { written = s.written.items; piece = s.piece; failing = s.failing.now; calls = s.calls; refused = s.refused } };
+    ghost view = { λ s.
+        record {
+          written = s.written.items;
+          piece = s.piece;
+          failing = s.failing.now;
+          calls = s.calls;
+          refused = s.refused;
+        } };
 
     ghost invariant = { λ s. (0 < s.piece) × (s.calls ≤ last_count) × (s.refused ≤ last_count) };
 }
@@ -114,7 +124,14 @@ impl<'a> MemSink<'a> {
     /// Takes at most `piece` bytes a call, and fails at the calls listed in `failing`, counted from 0.
     pub fn new(alloc: Global, piece: usize, failing: &'a [u64]) -> MemSink<'a>
         requires { 0 < piece }
-        ensures { result ≡ record { written = []; piece = piece; failing = failing.now; calls = 0; refused = 0 } }
+        ensures { result
+            ≡ record {
+              written = [];
+              piece = piece;
+              failing = failing.now;
+              calls = 0;
+              refused = 0;
+            } }
     {
         MemSink {
             written: Vec::new(alloc),
@@ -158,7 +175,8 @@ impl<'a> Sink for MemSink<'a> {
     fn write(&mut self, piece: &[u8]) -> Result<usize, Failed>
         ensures bound { IfOk result (λ n. n ≤ length piece.now) }
         ensures progress { IfOk result (λ n. 0 < length piece.now → 0 < n) }
-        ensures bytes { WriteAppends (Some self.old.written) (Some self.new.written) result piece.now }
+        ensures bytes { WriteAppends (Some self.old.written) (Some self.new.written) result
+            piece.now }
         ensures cause { HasCause (output_faults self.old) (output_faults self.new) result }
         ensures ok { IfOk result (λ n. (fails self.old.failing self.old.calls ≡ false)
             × (n ≡ min self.old.piece (length piece.now))

@@ -45,7 +45,8 @@ pub trait Sink {
 pub fn write_whole<K: Sink>(sink: &mut K, bytes: &[u8]) -> Result<(), Failed>
     ensures bytes { MatchResult result
         (λ _. Appends (K.written sink.old) (K.written sink.new) bytes.now)
-        (λ _. (n : ℕ) × (n < length bytes.now) × Appends (K.written sink.old) (K.written sink.new) (take n bytes.now)) }
+        (λ _. (n : ℕ) × (n < length bytes.now)
+        × Appends (K.written sink.old) (K.written sink.new) (take n bytes.now)) }
     ensures cause { HasCause (K.faults sink.old) (K.faults sink.new) result }
 {
     let mut at = 0;

@@ -27,7 +27,8 @@ pub fn with_arrays(
     requires within { AllByRecursion (λ a. a < length values.now) args.now }
     requires taken { AreTaken (Plain operator) (given values.now args.now) }
     requires array { list_any holds_array (given values.now args.now) ≡ true }
-    ensures { IfOk result (λ v. (M : Interpretation) → IsGiven M (Plain operator) (given values.now args.now) v) }
+    ensures { IfOk result (λ v. (M : Interpretation)
+        → IsGiven M (Plain operator) (given values.now args.now) v) }
 {
     match args {
         [] => Ok(Value::Bool(false)),
@@ -47,7 +48,8 @@ pub fn with_arrays(
 pub fn everywhere(alloc: Global, width: u64, values: &[Value], args: &[TermId]) -> Value
     requires within { AllByRecursion (λ a. a < length values.now) args.now }
     requires taken { AreTaken (ConstantArray width) (given values.now args.now) }
-    ensures { (M : Interpretation) → IsGiven M (ConstantArray width) (given values.now args.now) result }
+    ensures { (M : Interpretation)
+        → IsGiven M (ConstantArray width) (given values.now args.now) result }
 {
     match args {
         [element] => everywhere_this(alloc, width, &values[*element as usize]),
@@ -129,7 +131,9 @@ fn least_index(array: &ArrayValue) -> Word
 fn least_difference(a: &ArrayValue, b: &ArrayValue) -> Word
     requires index { b.now.index ≡ a.now.index }
     requires element { b.now.default.width ≡ a.now.default.width }
-    ensures { result ≡ word a.now.index (first_below (λ i. not (element_at a.now i == element_at b.now i)) (2 ^ a.now.index)) }
+    ensures { result
+        ≡ word a.now.index
+        (first_below (λ i. not (element_at a.now i == element_at b.now i)) (2 ^ a.now.index)) }
 {
     match a.difference(b) {
         Some(index) => index,
@@ -140,7 +144,8 @@ fn least_difference(a: &ArrayValue, b: &ArrayValue) -> Word
 fn of_three(operator: Operator, a: &Value, b: &Value, c: &Value) -> Result<Value, AllocError>
     requires taken { AreTaken (Plain operator) (a.now ∷ b.now ∷ c.now ∷ []) }
     requires array { list_any holds_array (a.now ∷ b.now ∷ c.now ∷ []) ≡ true }
-    ensures { IfOk result (λ v. (M : Interpretation) → IsGiven M (Plain operator) (a.now ∷ b.now ∷ c.now ∷ []) v) }
+    ensures { IfOk result (λ v. (M : Interpretation)
+        → IsGiven M (Plain operator) (a.now ∷ b.now ∷ c.now ∷ []) v) }
 {
     match operator {
         Operator::Ite => choice(a, b, c),
@@ -151,7 +156,8 @@ fn of_three(operator: Operator, a: &Value, b: &Value, c: &Value) -> Result<Value
 
 fn choice(a: &Value, b: &Value, c: &Value) -> Result<Value, AllocError>
     requires taken { AreTaken (Plain plain.Ite) (a.now ∷ b.now ∷ c.now ∷ []) }
-    ensures { IfOk result (λ v. (M : Interpretation) → IsGiven M (Plain plain.Ite) (a.now ∷ b.now ∷ c.now ∷ []) v) }
+    ensures { IfOk result (λ v. (M : Interpretation)
+        → IsGiven M (Plain plain.Ite) (a.now ∷ b.now ∷ c.now ∷ []) v) }
 {
     match a {
         Value::Bool(holds) => { if *holds { b.copy() } else { c.copy() } }
@@ -161,7 +167,8 @@ fn choice(a: &Value, b: &Value, c: &Value) -> Result<Value, AllocError>
 
 fn storing(a: &Value, b: &Value, c: &Value) -> Result<Value, AllocError>
     requires taken { AreTaken (Plain plain.Store) (a.now ∷ b.now ∷ c.now ∷ []) }
-    ensures { IfOk result (λ v. (M : Interpretation) → IsGiven M (Plain plain.Store) (a.now ∷ b.now ∷ c.now ∷ []) v) }
+    ensures { IfOk result (λ v. (M : Interpretation)
+        → IsGiven M (Plain plain.Store) (a.now ∷ b.now ∷ c.now ∷ []) v) }
 {
     match a {
         Value::Array(array) => match b {
@@ -180,7 +187,10 @@ fn stored(array: &ArrayValue, index: Word, element: Word) -> Result<Value, Alloc
     requires index { IsOfWidth array.now.index index }
     requires element { IsOfWidth array.now.default.width element }
     ensures plain { IfOk result (λ v. is_table v ≡ false) }
-    ensures meaning { IfOk result (λ v. meaning v ≡ store_of (array_value array.now) (VWord index.width index.value) (VWord element.width element.value)) }
+    ensures meaning { IfOk result
+        (λ v. meaning v
+        ≡ store_of (array_value array.now) (VWord index.width index.value)
+        (VWord element.width element.value)) }
 {
     let mut changed = array.copy()?;
     changed.set(index, element)?;

@@ -41,7 +41,9 @@ fn compute(
     requires few { length reached.now ≤ 2 ^ 24 }
     requires order { InReachOrder (arguments terms.now.nodes) reached.now }
     requires once { IsOnce reached.now }
-    ensures { IfOk result (λ values. AreComputed (interpretation_of interp.now) terms.now.nodes reached.now values.items) }
+    ensures { IfOk result
+        (λ values. AreComputed (interpretation_of interp.now) terms.now.nodes reached.now
+        values.items) }
 {
     let mut values = Vec::new(alloc);
     let mut scalars = Vec::new(alloc);
@@ -73,7 +75,9 @@ pub fn values_with(
 ) -> Result<Vec<Value>, AllocError>
     requires suited { AreSuited terms.now.nodes interp.now }
     requires held { All (λ t. t < length terms.now.nodes) asked.now }
-    ensures { IfOk result (λ values. AreValuesOf (interpretation_of interp.now) terms.now.nodes asked.now values.items) }
+    ensures { IfOk result
+        (λ values. AreValuesOf (interpretation_of interp.now) terms.now.nodes asked.now
+        values.items) }
 {
     reach_by_arguments(alloc, terms, asked, reached)?;
     let computed = compute(alloc, terms, interp, reached)?;
@@ -94,7 +98,9 @@ pub fn values_of(
 ) -> Result<Vec<Value>, AllocError>
     requires suited { AreSuited terms.now.nodes interp.now }
     requires held { All (λ t. t < length terms.now.nodes) asked.now }
-    ensures { IfOk result (λ values. AreValuesOf (interpretation_of interp.now) terms.now.nodes asked.now values.items) }
+    ensures { IfOk result
+        (λ values. AreValuesOf (interpretation_of interp.now) terms.now.nodes asked.now
+        values.items) }
 {
     let mut reached = Reached::new(alloc);
     values_with(alloc, terms, interp, asked, &mut reached)

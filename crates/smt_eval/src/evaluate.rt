@@ -36,7 +36,9 @@ fn scalar_of(value: &Value) -> Option<Scalar>
 fn gather(values: &[Value], args: &[TermId], scalars: &mut Vec<Scalar>) -> Result<bool, AllocError>
     requires within { AllByRecursion (λ a. a < length values.now) args.now }
     requires typed { AllByRecursion IsTyped (given values.now args.now) }
-    ensures { IfOk result (λ plain. MatchBool plain (map value_of scalars.new.items ≡ given values.now args.now) (list_any holds_array (given values.now args.now) ≡ true)) }
+    ensures { IfOk result
+        (λ plain. MatchBool plain (map value_of scalars.new.items ≡ given values.now args.now)
+        (list_any holds_array (given values.now args.now) ≡ true)) }
 {
     scalars.clear();
     for term in args {
@@ -71,7 +73,9 @@ fn called(
 ) -> Result<Value, AllocError>
     requires within { AllByRecursion (λ a. a < length values.now) args.now }
     requires taken { AreTaken (Apply declaration signature.now) (given values.now args.now) }
-    ensures { IfOk result (λ v. IsGiven (interpretation_of interp.now) (Apply declaration signature.now) (given values.now args.now) v) }
+    ensures { IfOk result
+        (λ v. IsGiven (interpretation_of interp.now) (Apply declaration signature.now)
+        (given values.now args.now) v) }
 {
     if gather(values, args, scalars)? {
         let scalar = interp.call(declaration, signature.value, scalars.as_slice());
@@ -90,7 +94,8 @@ fn theory(
 ) -> Result<Value, AllocError>
     requires within { AllByRecursion (λ a. a < length values.now) args.now }
     requires taken { AreTaken (Plain operator) (given values.now args.now) }
-    ensures { IfOk result (λ v. (M : Interpretation) → IsGiven M (Plain operator) (given values.now args.now) v) }
+    ensures { IfOk result (λ v. (M : Interpretation)
+        → IsGiven M (Plain operator) (given values.now args.now) v) }
 {
     if gather(values, args, scalars)? {
         let op = Op::Plain(operator);
@@ -111,7 +116,8 @@ fn indexed(
     requires index { (o : Operator) → op.now ≡ Plain o → ⊥ }
     requires within { AllByRecursion (λ a. a < length values.now) args.now }
     requires taken { AreTaken op.now (given values.now args.now) }
-    ensures { IfOk result (λ v. (M : Interpretation) → IsGiven M op.now (given values.now args.now) v) }
+    ensures { IfOk result (λ v. (M : Interpretation)
+        → IsGiven M op.now (given values.now args.now) v) }
 {
     if gather(values, args, scalars)? {
         Ok(fixed(op, scalars.as_slice()))
@@ -132,7 +138,8 @@ pub fn evaluate(
     requires within { AllByRecursion (λ a. a < length values.now) args.now }
     requires taken { AreTaken op.now (given values.now args.now) }
     requires suited { IsSuited op.now interp.now }
-    ensures { IfOk result (λ v. IsGiven (interpretation_of interp.now) op.now (given values.now args.now) v) }
+    ensures { IfOk result
+        (λ v. IsGiven (interpretation_of interp.now) op.now (given values.now args.now) v) }
 {
     match op {
         Op::Constant { declaration, sort } => interp.constant(alloc, *declaration, *sort),

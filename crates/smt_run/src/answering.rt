@@ -52,13 +52,22 @@ fn answer<W: Sink, Q: Sink>(
     answers: &mut W,
     proof: &mut Q,
 ) -> Result<Answered, Status>
-    ensures turn { IfOk result (λ r. Advances (moment_of so_far.session) so_far.refused r (streams (W.written answers.old) (Q.written proof.old)) (streams (W.written answers.new) (Q.written proof.new)) (chunk.now ∷ [])) }
-    ensures broken { IfErr result (λ _. BreaksAt (moment_of so_far.session) (streams (W.written answers.old) (Q.written proof.old)) (streams (W.written answers.new) (Q.written proof.new)) (chunk.now ∷ [])) }
+    ensures turn { IfOk result
+        (λ r. Advances (moment_of so_far.session) so_far.refused r
+        (streams (W.written answers.old) (Q.written proof.old))
+        (streams (W.written answers.new) (Q.written proof.new)) (chunk.now ∷ [])) }
+    ensures broken { IfErr result
+        (λ _. BreaksAt (moment_of so_far.session)
+        (streams (W.written answers.old) (Q.written proof.old))
+        (streams (W.written answers.new) (Q.written proof.new)) (chunk.now ∷ [])) }
     ensures answers { AddsTo (W.written answers.old) (W.written answers.new) }
     ensures proof { AddsTo (Q.written proof.old) (Q.written proof.new) }
-    ensures later { IsLater (counts 0 (W.faults answers.old) (Q.faults proof.old)) (counts 0 (W.faults answers.new) (Q.faults proof.new)) }
+    ensures later { IsLater (counts 0 (W.faults answers.old) (Q.faults proof.old))
+        (counts 0 (W.faults answers.new) (Q.faults proof.new)) }
     ensures stopped { IfErr result StopsWriting }
-    ensures cause { IfErr result (HasCause (counts 0 (W.faults answers.old) (Q.faults proof.old)) (counts 0 (W.faults answers.new) (Q.faults proof.new))) }
+    ensures cause { IfErr result
+        (HasCause (counts 0 (W.faults answers.old) (Q.faults proof.old))
+        (counts 0 (W.faults answers.new) (Q.faults proof.new))) }
 {
     let (session, response) = match so_far.session.command(alloc, chunk, proof) {
         Ok(answered) => answered,
@@ -90,13 +99,22 @@ fn answer_held<W: Sink, Q: Sink>(
     proof: &mut Q,
 ) -> Result<Answered, Status>
     requires { so_far.ended ≡ false }
-    ensures turns { IfOk result (λ r. AdvancesWithin framer.old framer.new (moment_of so_far.session) so_far.refused r (streams (W.written answers.old) (Q.written proof.old)) (streams (W.written answers.new) (Q.written proof.new))) }
-    ensures broken { IfErr result (λ _. BreaksWithin framer.old (moment_of so_far.session) (streams (W.written answers.old) (Q.written proof.old)) (streams (W.written answers.new) (Q.written proof.new))) }
+    ensures turns { IfOk result
+        (λ r. AdvancesWithin framer.old framer.new (moment_of so_far.session) so_far.refused r
+        (streams (W.written answers.old) (Q.written proof.old))
+        (streams (W.written answers.new) (Q.written proof.new))) }
+    ensures broken { IfErr result
+        (λ _. BreaksWithin framer.old (moment_of so_far.session)
+        (streams (W.written answers.old) (Q.written proof.old))
+        (streams (W.written answers.new) (Q.written proof.new))) }
     ensures answers { AddsTo (W.written answers.old) (W.written answers.new) }
     ensures proof { AddsTo (Q.written proof.old) (Q.written proof.new) }
-    ensures later { IsLater (counts 0 (W.faults answers.old) (Q.faults proof.old)) (counts 0 (W.faults answers.new) (Q.faults proof.new)) }
+    ensures later { IsLater (counts 0 (W.faults answers.old) (Q.faults proof.old))
+        (counts 0 (W.faults answers.new) (Q.faults proof.new)) }
     ensures stopped { IfErr result StopsWriting }
-    ensures cause { IfErr result (HasCause (counts 0 (W.faults answers.old) (Q.faults proof.old)) (counts 0 (W.faults answers.new) (Q.faults proof.new))) }
+    ensures cause { IfErr result
+        (HasCause (counts 0 (W.faults answers.old) (Q.faults proof.old))
+        (counts 0 (W.faults answers.new) (Q.faults proof.new))) }
 {
     let mut so_far = so_far;
     'commands: while !so_far.ended {
@@ -122,13 +140,22 @@ pub(crate) fn answer_piece<W: Sink, Q: Sink>(
     proof: &mut Q,
 ) -> Result<Answered, Status>
     requires { so_far.ended ≡ false }
-    ensures turns { IfOk result (λ r. AdvancesWithin (with_piece framer.old piece.now) framer.new (moment_of so_far.session) so_far.refused r (streams (W.written answers.old) (Q.written proof.old)) (streams (W.written answers.new) (Q.written proof.new))) }
-    ensures broken { IfErr result (λ _. BreaksWithin (with_piece framer.old piece.now) (moment_of so_far.session) (streams (W.written answers.old) (Q.written proof.old)) (streams (W.written answers.new) (Q.written proof.new))) }
+    ensures turns { IfOk result
+        (λ r. AdvancesWithin (with_piece framer.old piece.now) framer.new (moment_of so_far.session)
+        so_far.refused r (streams (W.written answers.old) (Q.written proof.old))
+        (streams (W.written answers.new) (Q.written proof.new))) }
+    ensures broken { IfErr result
+        (λ _. BreaksWithin (with_piece framer.old piece.now) (moment_of so_far.session)
+        (streams (W.written answers.old) (Q.written proof.old))
+        (streams (W.written answers.new) (Q.written proof.new))) }
     ensures answers { AddsTo (W.written answers.old) (W.written answers.new) }
     ensures proof { AddsTo (Q.written proof.old) (Q.written proof.new) }
-    ensures later { IsLater (counts 0 (W.faults answers.old) (Q.faults proof.old)) (counts 0 (W.faults answers.new) (Q.faults proof.new)) }
+    ensures later { IsLater (counts 0 (W.faults answers.old) (Q.faults proof.old))
+        (counts 0 (W.faults answers.new) (Q.faults proof.new)) }
     ensures stopped { IfErr result StopsWriting }
-    ensures cause { IfErr result (HasCause (counts 0 (W.faults answers.old) (Q.faults proof.old)) (counts 0 (W.faults answers.new) (Q.faults proof.new))) }
+    ensures cause { IfErr result
+        (HasCause (counts 0 (W.faults answers.old) (Q.faults proof.old))
+        (counts 0 (W.faults answers.new) (Q.faults proof.new))) }
 {
     let Ok(()) = framer.feed(piece) else {
         drop(so_far);
@@ -145,13 +172,24 @@ pub(crate) fn answer_rest<W: Sink, Q: Sink>(
     answers: &mut W,
     proof: &mut Q,
 ) -> Result<bool, Status>
-    ensures turns { IfOk result (λ r. AddsLast (moment_of so_far.session) so_far.refused (streams (W.written answers.old) (Q.written proof.old)) (streams (W.written answers.new) (Q.written proof.new)) (option_to_list (last_chunk framer.old)) r) }
-    ensures broken { IfErr result (λ _. BreaksAt (moment_of so_far.session) (streams (W.written answers.old) (Q.written proof.old)) (streams (W.written answers.new) (Q.written proof.new)) (option_to_list (last_chunk framer.old))) }
+    ensures turns { IfOk result
+        (λ r. AddsLast (moment_of so_far.session) so_far.refused
+        (streams (W.written answers.old) (Q.written proof.old))
+        (streams (W.written answers.new) (Q.written proof.new))
+        (option_to_list (last_chunk framer.old)) r) }
+    ensures broken { IfErr result
+        (λ _. BreaksAt (moment_of so_far.session)
+        (streams (W.written answers.old) (Q.written proof.old))
+        (streams (W.written answers.new) (Q.written proof.new))
+        (option_to_list (last_chunk framer.old))) }
     ensures answers { AddsTo (W.written answers.old) (W.written answers.new) }
     ensures proof { AddsTo (Q.written proof.old) (Q.written proof.new) }
-    ensures later { IsLater (counts 0 (W.faults answers.old) (Q.faults proof.old)) (counts 0 (W.faults answers.new) (Q.faults proof.new)) }
+    ensures later { IsLater (counts 0 (W.faults answers.old) (Q.faults proof.old))
+        (counts 0 (W.faults answers.new) (Q.faults proof.new)) }
     ensures stopped { IfErr result StopsWriting }
-    ensures cause { IfErr result (HasCause (counts 0 (W.faults answers.old) (Q.faults proof.old)) (counts 0 (W.faults answers.new) (Q.faults proof.new))) }
+    ensures cause { IfErr result
+        (HasCause (counts 0 (W.faults answers.old) (Q.faults proof.old))
+        (counts 0 (W.faults answers.new) (Q.faults proof.new))) }
 {
     let Ok(last) = framer.finish() else {
         drop(so_far);

@@ -107,9 +107,14 @@ fn settings_of<'a>(found: &ArgMatches<'a>) -> Settings
 
 /// The command that was found, with its files and limits.
 fn plan_of<'a>(found: &ArgMatches<'a>) -> Option<Plan<'a>>
-    requires { (name : Text) (rows : List Row) → subcommand_rows_of found.now ≡ Some (name, rows) → AreUpTo rows }
-    ensures some { IfSome result (λ plan. Names (subcommand_rows_of found.now) (name_of plan.command) plan.proof.now (option_map (λ s. s.now) plan.script) (limits_of plan.settings)) }
-    ensures none { result ≡ None → (command : Kind) (proof : List ℕ) (script : Option (List ℕ)) (limits : Limits) → ¬ (Names (subcommand_rows_of found.now) (name_of command) proof script limits) }
+    requires { (name : Text) (rows : List Row) → subcommand_rows_of found.now ≡ Some (name, rows)
+        → AreUpTo rows }
+    ensures some { IfSome result
+        (λ plan. Names (subcommand_rows_of found.now) (name_of plan.command) plan.proof.now
+        (option_map (λ s. s.now) plan.script) (limits_of plan.settings)) }
+    ensures none { result ≡ None
+        → (command : Kind) (proof : List ℕ) (script : Option (List ℕ)) (limits : Limits)
+        → ¬ (Names (subcommand_rows_of found.now) (name_of command) proof script limits) }
 {
     let (name, inner) = found.subcommand()?;
     Some(Plan {
@@ -134,7 +139,8 @@ fn refusal(error: &Error) -> Unplanned
 /// perhaps limits of its search; or `check` with both files. `clap` reads them.
 pub fn plan<'a>(alloc: Global, words: &'a [&'a str]) -> Result<Plan<'a>, Unplanned>
     ensures asked { MatchResult result
-        (λ plan. Asks plan.command (map (λ w. w.now) words.now) plan.proof.now (option_map (λ s. s.now) plan.script) (limits_of plan.settings))
+        (λ plan. Asks plan.command (map (λ w. w.now) words.now) plan.proof.now
+        (option_map (λ s. s.now) plan.script) (limits_of plan.settings))
         (λ e. e ≡ Unplanned.Usage → ¬ (AreTaken (map (λ w. w.now) words.now))) }
     ensures limits { IfOk result (λ plan. AreLimits (limits_of plan.settings)) }
 {

@@ -28,12 +28,16 @@ use std::alloc::{AllocError, Global};
 
 /// Writes the first line of a proof, which has the limits of its checks.
 fn open_proof<Q: Sink>(alloc: Global, settings: &Settings, proof: &mut Q) -> Result<(), Status>
-    ensures ok { OnOk result (Appends (Q.written proof.old) (Q.written proof.new) (header_text (limits_of settings.now))) }
+    ensures ok { OnOk result
+        (Appends (Q.written proof.old) (Q.written proof.new)
+        (header_text (limits_of settings.now))) }
     ensures added { (bytes : List ℕ) × (rest : List ℕ)
-        × Appends (Q.written proof.old) (Q.written proof.new) bytes × (header_text (limits_of settings.now) ≡ bytes ++ rest) }
+        × Appends (Q.written proof.old) (Q.written proof.new) bytes
+        × (header_text (limits_of settings.now) ≡ bytes ++ rest) }
     ensures later { IsLater (counts 0 0 (Q.faults proof.old)) (counts 0 0 (Q.faults proof.new)) }
     ensures stopped { IfErr result StopsWriting }
-    ensures cause { IfErr result (HasCause (counts 0 0 (Q.faults proof.old)) (counts 0 0 (Q.faults proof.new))) }
+    ensures cause { IfErr result
+        (HasCause (counts 0 0 (Q.faults proof.old)) (counts 0 0 (Q.faults proof.new))) }
 {
     let mut text = Text::new(alloc);
     write_header(settings.cubes, settings.budget, &mut text)?;
@@ -65,22 +69,30 @@ fn solve<S: Source, W: Sink, Q: Sink>(
     ensures usage { result ≢ Status.Usage }
     ensures beside { Told (S.left script.old) (W.written answers.old) (W.written answers.new)
         (Q.written proof.old) (Q.written proof.new) (IsBeside (limits_of settings)) }
-    ensures whole { IsEnd result → Told (S.left script.old) (W.written answers.old) (W.written answers.new)
+    ensures whole { IsEnd result
+        → Told (S.left script.old) (W.written answers.old) (W.written answers.new)
         (Q.written proof.old) (Q.written proof.new) (IsAllAnswered (limits_of settings) result) }
     ensures prefix { Told (S.left script.old) (W.written answers.old) (W.written answers.new)
-        (Q.written proof.old) (Q.written proof.new) (λ text answered proved. IsPrefix (limits_of settings) text answered) }
-    ensures answered { FailsToRead result → Told (S.left script.old) (W.written answers.old) (W.written answers.new)
-        (Q.written proof.old) (Q.written proof.new) (IsAnsweredToRead (limits_of settings) result (S.left script.new)) }
+        (Q.written proof.old) (Q.written proof.new)
+        (λ text answered proved. IsPrefix (limits_of settings) text answered) }
+    ensures answered { FailsToRead result
+        → Told (S.left script.old) (W.written answers.old) (W.written answers.new)
+        (Q.written proof.old) (Q.written proof.new)
+        (IsAnsweredToRead (limits_of settings) result (S.left script.new)) }
     ensures at_end { IsEnd result → IsReadOut (S.left script.old) (S.left script.new) }
     ensures within { result ≢ Status.TooLong → ReadsWithin (S.left script.old) (S.left script.new) }
-    ensures too_long { result ≡ Status.TooLong → ReadsBytes (input_limit + 1) (S.left script.old) (S.left script.new) }
+    ensures too_long { result ≡ Status.TooLong
+        → ReadsBytes (input_limit + 1) (S.left script.old) (S.left script.new) }
     ensures answers { AddsTo (W.written answers.old) (W.written answers.new) }
     ensures proof { AddsTo (Q.written proof.old) (Q.written proof.new) }
     ensures header { result ≢ Status.WriteFault → result ≢ Status.NoMemory
-        → BeginsWith (header_text (limits_of settings)) (Q.written proof.old) (Q.written proof.new) }
-    ensures later { IsLater (counts (S.faults script.old) (W.faults answers.old) (Q.faults proof.old))
+        → BeginsWith (header_text (limits_of settings)) (Q.written proof.old)
+        (Q.written proof.new) }
+    ensures later { IsLater
+        (counts (S.faults script.old) (W.faults answers.old) (Q.faults proof.old))
         (counts (S.faults script.new) (W.faults answers.new) (Q.faults proof.new)) }
-    ensures cause { HasCause (counts (S.faults script.old) (W.faults answers.old) (Q.faults proof.old))
+    ensures cause { HasCause
+        (counts (S.faults script.old) (W.faults answers.old) (Q.faults proof.old))
         (counts (S.faults script.new) (W.faults answers.new) (Q.faults proof.new)) result }
 {
     answers_are_right();
@@ -119,9 +131,11 @@ fn check_proof<S: Source, P: Source, W: Sink>(
     ensures read { ReadsForStatus (S.left script.old) (S.left script.new)
         (P.left proof.old) (P.left proof.new) result }
     ensures answers { AddsTo (W.written answers.old) (W.written answers.new) }
-    ensures later { IsLater (counts (S.faults script.old) (W.faults answers.old) (P.faults proof.old))
+    ensures later { IsLater
+        (counts (S.faults script.old) (W.faults answers.old) (P.faults proof.old))
         (counts (S.faults script.new) (W.faults answers.new) (P.faults proof.new)) }
-    ensures cause { HasCheckCause (counts (S.faults script.old) (W.faults answers.old) (P.faults proof.old))
+    ensures cause { HasCheckCause
+        (counts (S.faults script.old) (W.faults answers.old) (P.faults proof.old))
         (counts (S.faults script.new) (W.faults answers.new) (P.faults proof.new)) result }
 {
     what_is_accepted_is_right();
@@ -147,8 +161,10 @@ pub fn run<S: Source, P: Source, W: Sink, Q: Sink>(
 ) -> Status
     // The words come first: where they are not taken, nothing is read or written. To read them takes memory.
     ensures usage { result ≡ Status.Usage → ¬ (AreTaken (map (λ w. w.now) words.now)) }
-    ensures usage_always { ¬ (AreTaken (map (λ w. w.now) words.now)) → (result ≡ Status.Usage) ⊎ (result ≡ Status.NoMemory) }
-    ensures untouched { result ≡ Status.Usage → (script.new ≡ script.old) × (proof_in.new ≡ proof_in.old)
+    ensures usage_always { ¬ (AreTaken (map (λ w. w.now) words.now)) → (result ≡ Status.Usage)
+        ⊎ (result ≡ Status.NoMemory) }
+    ensures untouched { result ≡ Status.Usage → (script.new ≡ script.old)
+        × (proof_in.new ≡ proof_in.old)
         × (answers.new ≡ answers.old) × (proof_out.new ≡ proof_out.old) }
     // Words that are taken ask for one of the two commands.
     ensures asked { AreTaken (map (λ w. w.now) words.now)

@@ -32,15 +32,24 @@ pub(crate) fn answer_script<S: Source, W: Sink, Q: Sink>(
     ensures read { IsRead (S.left script.old) (S.left script.new) result }
     ensures read_out { IfOk result (λ _. IsReadOut (S.left script.old) (S.left script.new)) }
     ensures turns { IfSome (S.left script.old) (λ text. MatchResult result
-        (λ refused. AnswersAll (limits_of settings) text (streams (W.written answers.old) (Q.written proof.old)) (streams (W.written answers.new) (Q.written proof.new)) refused)
-        (λ _. AnswersFront (limits_of settings) text (streams (W.written answers.old) (Q.written proof.old)) (streams (W.written answers.new) (Q.written proof.new)))) }
+        (λ refused. AnswersAll (limits_of settings) text
+        (streams (W.written answers.old) (Q.written proof.old))
+        (streams (W.written answers.new) (Q.written proof.new)) refused)
+        (λ _. AnswersFront (limits_of settings) text
+        (streams (W.written answers.old) (Q.written proof.old))
+        (streams (W.written answers.new) (Q.written proof.new)))) }
     ensures answered { IfErr result (λ t. FailsToRead t → IfSome (S.left script.old) (λ text.
         AnswersRead (limits_of settings) t (S.left script.new) text
-        (streams (W.written answers.old) (Q.written proof.old)) (streams (W.written answers.new) (Q.written proof.new)))) }
+        (streams (W.written answers.old) (Q.written proof.old))
+        (streams (W.written answers.new) (Q.written proof.new)))) }
     ensures answers { AddsTo (W.written answers.old) (W.written answers.new) }
     ensures proof { AddsTo (Q.written proof.old) (Q.written proof.new) }
-    ensures later { IsLater (counts (S.faults script.old) (W.faults answers.old) (Q.faults proof.old)) (counts (S.faults script.new) (W.faults answers.new) (Q.faults proof.new)) }
-    ensures cause { IfErr result (HasCause (counts (S.faults script.old) (W.faults answers.old) (Q.faults proof.old)) (counts (S.faults script.new) (W.faults answers.new) (Q.faults proof.new))) }
+    ensures later { IsLater
+        (counts (S.faults script.old) (W.faults answers.old) (Q.faults proof.old))
+        (counts (S.faults script.new) (W.faults answers.new) (Q.faults proof.new)) }
+    ensures cause { IfErr result
+        (HasCause (counts (S.faults script.old) (W.faults answers.old) (Q.faults proof.old))
+        (counts (S.faults script.new) (W.faults answers.new) (Q.faults proof.new))) }
 {
     let mut framer = Framer::new(alloc);
     let session = Session::new(alloc, settings)?;

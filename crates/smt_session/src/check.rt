@@ -53,7 +53,9 @@ fn split(
 ) -> Result<Tree, AllocError>
     requires limits { AreLimits (limits_of limits) }
     requires stands { Stands state.now.terms.nodes log.now }
-    ensures variables { IfOk result (λ t. t ≡ cube_variables (limits_of limits) state.now state.now.terms.nodes log.now.entries) }
+    ensures variables { IfOk result
+        (λ t. t ≡ cube_variables (limits_of limits) state.now state.now.terms.nodes
+        log.now.entries) }
     ensures rise { IfOk result (λ t. Rise 2 log.now.next t) }
 {
     let variables = cube_variables(alloc, state, log, limits, reached)?;
@@ -72,10 +74,12 @@ fn conclude(
 ) -> Result<Record, AllocError>
     requires session { IsSession state.now workspace.old.log }
     requires resting { RestsBeside workspace.old.log workspace.old.search }
-    requires steps { AreEnough state.now.terms.nodes workspace.old.log (roots state.now) state.now.scopes.live steps.now }
+    requires steps { AreEnough state.now.terms.nodes workspace.old.log (roots state.now)
+        state.now.scopes.live steps.now }
     requires given { AreGiven state.now workspace.old.log given.now }
     requires limits { AreLimits (limits_of limits) }
-    ensures checked { IfOk result (λ r. IsChecked (limits_of limits) state.now workspace.old.log workspace.new.log r) }
+    ensures checked { IfOk result
+        (λ r. IsChecked (limits_of limits) state.now workspace.old.log workspace.new.log r) }
     ensures resting { OnOk result (RestsBeside workspace.new.log workspace.new.search) }
 {
     let tree = split(alloc, state, &workspace.log, limits, &mut workspace.reached)?;
@@ -114,7 +118,9 @@ fn prepare(
 ) -> Result<Prepared, AllocError>
     requires { IsSession state.now log.old }
     ensures grows { IfOk result (λ _. Grows state.now log.old log.new) }
-    ensures steps { IfOk result (λ p. AreEnough state.now.terms.nodes log.new (roots state.now) state.now.scopes.live p.steps.items) }
+    ensures steps { IfOk result
+        (λ p. AreEnough state.now.terms.nodes log.new (roots state.now) state.now.scopes.live
+        p.steps.items) }
     ensures given { IfOk result (λ p. AreGiven state.now log.new p.given.items) }
 {
     let roots = roots(alloc, state)?;
@@ -135,7 +141,8 @@ fn check(
     requires session { IsSession state.now workspace.old.log }
     requires resting { RestsBeside workspace.old.log workspace.old.search }
     requires limits { AreLimits (limits_of limits) }
-    ensures checked { IfOk result (λ r. IsChecked (limits_of limits) state.now workspace.old.log workspace.new.log r) }
+    ensures checked { IfOk result
+        (λ r. IsChecked (limits_of limits) state.now workspace.old.log workspace.new.log r) }
     ensures resting { OnOk result (RestsBeside workspace.new.log workspace.new.search) }
 {
     let prepared = prepare(alloc, state, &mut workspace.log, &mut workspace.reached)?;
@@ -154,8 +161,10 @@ fn check(
 fn write_steps(log: &Log, from: Pos, out: &mut Text) -> Result<(), AllocError>
     requires lined { AreLined log.now.entries }
     requires from { 0 < from }
-    ensures text { OnOk result (out.new ≡ out.old ++ flat_map line_text (step_lines (drop (from - 1) log.now.entries))) }
-    ensures readable { OnOk result (AllByRecursion IsLine (step_lines (drop (from - 1) log.now.entries))) }
+    ensures text { OnOk result
+        (out.new ≡ out.old ++ flat_map line_text (step_lines (drop (from - 1) log.now.entries))) }
+    ensures readable { OnOk result
+        (AllByRecursion IsLine (step_lines (drop (from - 1) log.now.entries))) }
 {
     'steps: for at in from..log.len() {
         match log.entry(at) {
@@ -172,8 +181,12 @@ fn lines(alloc: Global, log: &Log, from: Pos, shown: &Record) -> Result<Text, Al
     requires from { 0 < from }
     requires written { AreWritten shown.now }
     requires digits { HaveDigits shown.now }
-    ensures text { IfOk result (λ t. t ≡ flat_map line_text (step_lines (drop (from - 1) log.now.entries)) ++ flat_map line_text (record_lines shown.now)) }
-    ensures readable { IfOk result (λ _. AllByRecursion IsLine (step_lines (drop (from - 1) log.now.entries) ++ record_lines shown.now)) }
+    ensures text { IfOk result
+        (λ t. t ≡ flat_map line_text (step_lines (drop (from - 1) log.now.entries))
+        ++ flat_map line_text (record_lines shown.now)) }
+    ensures readable { IfOk result
+        (λ _. AllByRecursion IsLine (step_lines (drop (from - 1) log.now.entries)
+        ++ record_lines shown.now)) }
 {
     let mut out = Text::new(alloc);
     write_steps(log, from, &mut out)?;
@@ -192,9 +205,16 @@ pub(crate) fn run_check(
     requires resting { RestsBeside workspace.old.log workspace.old.search }
     requires limits { AreLimits (limits_of limits) }
     ensures resting { OnOk result (RestsBeside workspace.new.log workspace.new.search) }
-    ensures checked { IfOk result (λ r. IsChecked (limits_of limits) state.now workspace.old.log workspace.new.log r.0) }
-    ensures text { IfOk result (λ r. r.1 ≡ flat_map line_text (step_lines (drop (length workspace.old.log.entries) workspace.new.log.entries)) ++ flat_map line_text (record_lines r.0)) }
-    ensures readable { IfOk result (λ r. AllByRecursion IsLine (step_lines (drop (length workspace.old.log.entries) workspace.new.log.entries) ++ record_lines r.0)) }
+    ensures checked { IfOk result
+        (λ r. IsChecked (limits_of limits) state.now workspace.old.log workspace.new.log r.0) }
+    ensures text { IfOk result
+        (λ r. r.1 ≡ flat_map line_text
+        (step_lines (drop (length workspace.old.log.entries) workspace.new.log.entries))
+        ++ flat_map line_text (record_lines r.0)) }
+    ensures readable { IfOk result
+        (λ r. AllByRecursion IsLine
+        (step_lines (drop (length workspace.old.log.entries) workspace.new.log.entries)
+        ++ record_lines r.0)) }
 {
     let from = workspace.log.len();
     let shown = check(alloc, state, workspace, limits)?;

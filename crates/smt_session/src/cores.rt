@@ -37,7 +37,9 @@ fn codes_of(alloc: Global, literals: &[Lit]) -> Result<BTreeSet<u64>, AllocError
 
 /// Whether the clause of these codes has the negated selector of an assertion.
 fn is_blamed(log: &Log, codes: &BTreeSet<u64>, assertion: &Live) -> bool
-    ensures { (nodes : List Node) (clause : List Literal) → Stands nodes log.now → AreCodes codes.now clause → result ≡ is_blamed (state_of nodes log.now.entries) clause assertion.now }
+    ensures { (nodes : List Node) (clause : List Literal) → Stands nodes log.now
+        → AreCodes codes.now clause
+        → result ≡ is_blamed (state_of nodes log.now.entries) clause assertion.now }
 {
     match log.selector(assertion.assertion) {
         Some(selector) => codes.contains(&selector.negated().code()),
@@ -47,7 +49,8 @@ fn is_blamed(log: &Log, codes: &BTreeSet<u64>, assertion: &Live) -> bool
 
 /// Whether there is one bit, and the clause of these codes has its negation.
 fn has_negation(codes: &BTreeSet<u64>, bits: &[Lit]) -> bool
-    ensures { (clause : List Literal) → AreCodes codes.now clause → result ≡ bit_stands clause (Some bits.now) }
+    ensures { (clause : List Literal) → AreCodes codes.now clause
+        → result ≡ bit_stands clause (Some bits.now) }
 {
     if bits.len() == 1 {
         return codes.contains(&bits[0].negated().code());
@@ -57,7 +60,9 @@ fn has_negation(codes: &BTreeSet<u64>, bits: &[Lit]) -> bool
 
 /// Whether the clause of these codes has the negated bit of an assumption.
 fn is_blamed_assumption(log: &Log, codes: &BTreeSet<u64>, assumption: &Asked) -> bool
-    ensures { (nodes : List Node) (clause : List Literal) → Stands nodes log.now → AreCodes codes.now clause → result ≡ is_blamed_assumption (state_of nodes log.now.entries) clause assumption.now }
+    ensures { (nodes : List Node) (clause : List Literal) → Stands nodes log.now
+        → AreCodes codes.now clause
+        → result ≡ is_blamed_assumption (state_of nodes log.now.entries) clause assumption.now }
 {
     match log.bits().of(assumption.term) {
         Some(bits) => has_negation(codes, bits),
@@ -67,7 +72,8 @@ fn is_blamed_assumption(log: &Log, codes: &BTreeSet<u64>, assumption: &Asked) ->
 
 /// The clause of the refutation that a record has, where it has one.
 fn refuting_clause<'a>(log: &'a Log, shown: &Option<Record>) -> Option<&'a Clause>
-    ensures { (nodes : List Node) → Stands nodes log.now → option_copied result ≡ refuting_clause (state_of nodes log.now.entries) shown.now }
+    ensures { (nodes : List Node) → Stands nodes log.now
+        → option_copied result ≡ refuting_clause (state_of nodes log.now.entries) shown.now }
 {
     match shown {
         Some(record) => match record {
@@ -81,7 +87,8 @@ fn refuting_clause<'a>(log: &'a Log, shown: &Option<Record>) -> Option<&'a Claus
 
 /// Puts a name at the end, as it can be read back, if there is one.
 fn push_name(alloc: Global, name: &Option<Text>, items: &mut Vec<Text>) -> Result<(), AllocError>
-    ensures { OnOk result (items.new.items ≡ items.old.items ++ map symbol_text (option_to_list name.now)) }
+    ensures { OnOk result
+        (items.new.items ≡ items.old.items ++ map symbol_text (option_to_list name.now)) }
 {
     if let Some(name) = name {
         let mut item = Text::new(alloc);
@@ -99,7 +106,10 @@ fn core_items(
     clause: &Clause,
 ) -> Result<Vec<Text>, AllocError>
     requires { Stands state.now.terms.nodes log.now }
-    ensures { IfOk result (λ items. items.items ≡ map symbol_text (core_names state.now (state_of state.now.terms.nodes log.now.entries) clause.now)) }
+    ensures { IfOk result
+        (λ items. items.items
+        ≡ map symbol_text
+        (core_names state.now (state_of state.now.terms.nodes log.now.entries) clause.now)) }
 {
     let codes = codes_of(alloc, clause.literals())?;
     let mut items = Vec::new(alloc);
@@ -119,7 +129,11 @@ fn assumption_items(
     clause: &Clause,
 ) -> Result<Vec<Text>, AllocError>
     requires { Stands state.now.terms.nodes log.now }
-    ensures { IfOk result (λ items. items.items ≡ map (λ (a : AskedValue). a.text) (blamed_assumptions state.now (state_of state.now.terms.nodes log.now.entries) clause.now)) }
+    ensures { IfOk result
+        (λ items. items.items
+        ≡ map (λ (a : AskedValue). a.text)
+        (blamed_assumptions state.now (state_of state.now.terms.nodes log.now.entries)
+        clause.now)) }
 {
     let codes = codes_of(alloc, clause.literals())?;
     let mut items = Vec::new(alloc);
@@ -140,7 +154,9 @@ pub(crate) fn core_text(
     last: &Last,
 ) -> Result<Text, AllocError>
     requires { Stands state.now.terms.nodes log.now }
-    ensures { IfOk result (λ t. t ≡ core_text state.now (state_of state.now.terms.nodes log.now.entries) (refuting_clause (state_of state.now.terms.nodes log.now.entries) last.now)) }
+    ensures { IfOk result
+        (λ t. t ≡ core_text state.now (state_of state.now.terms.nodes log.now.entries)
+        (refuting_clause (state_of state.now.terms.nodes log.now.entries) last.now)) }
 {
     match refuting_clause(log, last.shown()) {
         Some(clause) => {
@@ -159,7 +175,9 @@ pub(crate) fn assumptions_text(
     last: &Last,
 ) -> Result<Text, AllocError>
     requires { Stands state.now.terms.nodes log.now }
-    ensures { IfOk result (λ t. t ≡ assumptions_text state.now (state_of state.now.terms.nodes log.now.entries) (refuting_clause (state_of state.now.terms.nodes log.now.entries) last.now)) }
+    ensures { IfOk result
+        (λ t. t ≡ assumptions_text state.now (state_of state.now.terms.nodes log.now.entries)
+        (refuting_clause (state_of state.now.terms.nodes log.now.entries) last.now)) }
 {
     match refuting_clause(log, last.shown()) {
         Some(clause) => {

@@ -33,7 +33,8 @@ fn encode(alloc: Global, state: &State, log: &mut Log, term: TermId) -> Result<(
     requires held { term < length state.now.terms.nodes }
     requires plain { is_plain state.now.terms.nodes term ≡ true }
     requires stands { Stands state.now.terms.nodes log.old }
-    requires arguments { bits_in log.old.bits term ≡ None → All (HasBits log.old) (node_at state.now.terms.nodes term).args }
+    requires arguments { bits_in log.old.bits term ≡ None
+        → All (HasBits log.old) (node_at state.now.terms.nodes term).args }
     ensures grows { IfOk result (λ _. Grows state.now log.old log.new) }
     ensures bits { IfOk result (λ _. HasBits log.new term) }
 {
@@ -80,7 +81,8 @@ fn add_selector(
     requires stands { Stands state.now.terms.nodes log.old }
     requires new { selector_in log.old.selectors assertion.now.assertion ≡ None }
     ensures grows { IfOk result (λ _. Grows state.now log.old log.new) }
-    ensures selector { IfOk result (λ _. IsSome (selector_in log.new.selectors assertion.now.assertion)) }
+    ensures selector { IfOk result
+        (λ _. IsSome (selector_in log.new.selectors assertion.now.assertion)) }
 {
     let entry = Entry::Selector(assertion.assertion, assertion.term);
     log.push(alloc, state.terms(), entry)?;
@@ -93,7 +95,8 @@ fn select(alloc: Global, state: &State, log: &mut Log, assertion: &Live) -> Resu
     requires bits { HasBits log.old assertion.now.term }
     requires stands { Stands state.now.terms.nodes log.old }
     ensures grows { IfOk result (λ _. Grows state.now log.old log.new) }
-    ensures selector { IfOk result (λ l. selector_in log.new.selectors assertion.now.assertion ≡ Some l) }
+    ensures selector { IfOk result (λ l. selector_in log.new.selectors assertion.now.assertion
+        ≡ Some l) }
 {
     if let Some(selector) = log.selector(assertion.assertion) {
         return Ok(selector);

@@ -90,7 +90,9 @@ fn declared_values(
     requires words { state.now.symbols.theories ≡ false }
     ensures state { IsState state.now }
     ensures terms { AreTerms state.now.terms }
-    ensures values { IfOk result (λ items. AreDeclaredValues state.now log.now (valuation_of search.now) state.now.symbols.live items.items) }
+    ensures values { IfOk result
+        (λ items. AreDeclaredValues state.now log.now (valuation_of search.now)
+        state.now.symbols.live items.items) }
 {
     let terms = state.terms();
     // The contract of `len` says, beside their number, that no two terms are equal.
@@ -116,8 +118,11 @@ pub(crate) fn model(
     requires stands { Stands state.now.terms.nodes log.now }
     requires words { state.now.symbols.theories ≡ false }
     requires steps { AllByRecursion (IsOfWords state.now.terms.nodes) log.now.entries }
-    requires satisfied { AreSatisfied state.now.terms.nodes log.now (roots state.now) state.now.scopes.live (valuation_of search.now) }
-    requires selectors { All (HasTrueSelector state.now.terms.nodes log.now (valuation_of search.now)) state.now.scopes.live }
+    requires satisfied { AreSatisfied state.now.terms.nodes log.now (roots state.now)
+        state.now.scopes.live (valuation_of search.now) }
+    requires selectors { All
+        (HasTrueSelector state.now.terms.nodes log.now (valuation_of search.now))
+        state.now.scopes.live }
     requires assumed { All (HasTrueBit log.now (valuation_of search.now)) (assumptions state.now) }
     ensures { IfOk result (λ values. AreWritten (Sat values) × IsWrittenModel state.now values) }
 {

@@ -40,7 +40,8 @@ fn of_assertions(
     live: &[Live],
 ) -> Result<Vec<Pos>, AllocError>
     requires stands { Stands terms.now.nodes log.now }
-    requires selectors { All (λ (a : LiveValue). IsSome (selector_in log.now.selectors a.assertion)) live.now }
+    requires selectors { All (λ (a : LiveValue). IsSome (selector_in log.now.selectors a.assertion))
+        live.now }
     ensures held { IfOk result (λ p. All (IsHeldAssertion log.now p.items) live.now) }
     ensures only { IfOk result (λ p. All (IsAssertionStep log.now live.now) p.items) }
 {
@@ -61,7 +62,8 @@ pub(crate) fn positions(
 ) -> Result<Vec<Pos>, AllocError>
     requires stands { Stands terms.now.nodes log.now }
     requires bits { All (HasBits log.now) reached.now }
-    requires selectors { All (λ (a : LiveValue). IsSome (selector_in log.now.selectors a.assertion)) live.now }
+    requires selectors { All (λ (a : LiveValue). IsSome (selector_in log.now.selectors a.assertion))
+        live.now }
     ensures { IfOk result (λ p. ArePositions log.now reached.now live.now p.items) }
 {
     let mut all = Vec::new(alloc);

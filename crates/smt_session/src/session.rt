@@ -142,7 +142,9 @@ fn response_without_check(
     requires session { IsSession state.now log.now }
     requires held { AreHeld state.now answer }
     requires unchecked { answer ≢ Answer.Check }
-    ensures response { IfOk result (λ r. (limits : LimitsValue) (written : Option (List ℕ)) → Responds limits line answer state.now state.now log.now log.now last.old last.old r written written) }
+    ensures response { IfOk result (λ r. (limits : LimitsValue) (written : Option (List ℕ))
+        → Responds limits line answer state.now state.now log.now log.now last.old last.old r
+        written written) }
     ensures same { last.new ≡ last.old }
 {
     let text = match answer {
@@ -176,7 +178,8 @@ fn respond<Q: Sink>(
     requires limits { AreLimits (check_cubes.limits_of limits) }
     ensures session { OnOk result (IsSession state.new workspace.new.log) }
     ensures resting { OnOk result (RestsBeside workspace.new.log workspace.new.search) }
-    ensures still { asks_values answer ≡ true → OnOk result ((state.new ≡ state.old) × (workspace.new.log ≡ workspace.old.log)) }
+    ensures still { asks_values answer ≡ true
+        → OnOk result ((state.new ≡ state.old) × (workspace.new.log ≡ workspace.old.log)) }
     ensures response { IfOk result (λ r. Responds (check_cubes.limits_of limits) line answer
         state.old state.new workspace.old.log workspace.new.log last.old last.new r
         (Q.written proof.old) (Q.written proof.new)) }
@@ -212,7 +215,8 @@ impl Parts {
     ) -> Result<Response, Stop>
         requires { AreParts self.old }
         ensures parts { OnOk result (AreParts self.new) }
-        ensures answered { IfOk result (λ r. IsAnswered chunk.now (seen_of self.old) (seen_of self.new) r
+        ensures answered { IfOk result
+            (λ r. IsAnswered chunk.now (seen_of self.old) (seen_of self.new) r
             (Q.written proof.old) (Q.written proof.new)) }
         ensures cut { IfErr result (λ stop. Leaves stop
             (CutsTurn chunk.now (seen_of self.old) (Q.written proof.old) (Q.written proof.new))
@@ -248,7 +252,8 @@ impl Session {
     /// error is want of memory.
     pub fn new(alloc: Global, settings: Settings) -> Result<Session, AllocError>
         requires { AreLimits (limits_of settings) }
-        ensures fresh { IfOk result (λ s. (s.state ≡ no_state) × (s.log.entries ≡ []) × (s.shown ≡ None)) }
+        ensures fresh { IfOk result (λ s. (s.state ≡ no_state) × (s.log.entries ≡ [])
+            × (s.shown ≡ None)) }
         ensures limits { IfOk result (λ s. s.limits ≡ limits_of settings) }
     {
         let search = Search::new(alloc)?;

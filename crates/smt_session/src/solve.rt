@@ -45,7 +45,8 @@ struct Tried {
 impl Tried {
     /// No cube was tried.
     fn new(alloc: Global) -> Tried
-        ensures { (p : Problem) (log : List Step) → AreTried p log 0 result.closed.items result.spent }
+        ensures { (p : Problem) (log : List Step)
+            → AreTried p log 0 result.closed.items result.spent }
     {
         Tried {
             closed: Vec::new(alloc),
@@ -55,8 +56,10 @@ impl Tried {
 
     /// The next cube is closed.
     fn close(&mut self, at: Pos) -> Result<(), AllocError>
-        ensures { OnOk result ((p : Problem) (log : List Step) (v : ℕ → Bool) (cube : ℕ) → AreTried p log cube self.old.closed.items self.old.spent →
-            IsEndOf p log v cube (End.Closed at) → AreTried p log (cube + 1) self.new.closed.items self.new.spent) }
+        ensures { OnOk result ((p : Problem) (log : List Step) (v : ℕ → Bool) (cube : ℕ)
+            → AreTried p log cube self.old.closed.items self.old.spent →
+            IsEndOf p log v cube (End.Closed at)
+            → AreTried p log (cube + 1) self.new.closed.items self.new.spent) }
     {
         if self.spent.is_some() {
             return Ok(());
@@ -67,8 +70,10 @@ impl Tried {
 
     /// The next cube is spent.
     fn spend(&mut self, diary: Diary)
-        ensures { (p : Problem) (log : List Step) (v : ℕ → Bool) (cube : ℕ) → AreTried p log cube self.old.closed.items self.old.spent →
-            IsEndOf p log v cube (End.Spent diary) → AreTried p log (cube + 1) self.new.closed.items self.new.spent }
+        ensures { (p : Problem) (log : List Step) (v : ℕ → Bool) (cube : ℕ)
+            → AreTried p log cube self.old.closed.items self.old.spent →
+            IsEndOf p log v cube (End.Spent diary)
+            → AreTried p log (cube + 1) self.new.closed.items self.new.spent }
     {
         if self.spent.is_none() {
             self.spent = Some(diary);
@@ -78,8 +83,11 @@ impl Tried {
     /// Adds what the search of the next cube came to; says whether that is a model.
     fn add(&mut self, end: End) -> Result<bool, AllocError>
         requires { end ≡ End.Stopped → ⊥ }
-        ensures { IfOk result (λ found. (p : Problem) (log : List Step) (v : ℕ → Bool) (cube : ℕ) → AreTried p log cube self.old.closed.items self.old.spent →
-            IsEndOf p log v cube end → MatchBool found (IsModelOf p log v) (AreTried p log (cube + 1) self.new.closed.items self.new.spent)) }
+        ensures { IfOk result (λ found. (p : Problem) (log : List Step) (v : ℕ → Bool) (cube : ℕ)
+            → AreTried p log cube self.old.closed.items self.old.spent →
+            IsEndOf p log v cube end
+            → MatchBool found (IsModelOf p log v)
+            (AreTried p log (cube + 1) self.new.closed.items self.new.spent)) }
     {
         match end {
             End::Closed(at) => self.close(at)?,
@@ -100,11 +108,14 @@ impl Tried {
     ) -> Result<Found, AllocError>
         requires listed { IsTermList terms.now.nodes }
         requires stands { Stands terms.now.nodes log.old }
-        requires tried { (p : Problem) × (p.nodes ≡ terms.now.nodes) × (p.variables ≡ tree.now) × AreTried p log.old.entries (2 ^ length tree.now) self.closed.items self.spent }
+        requires tried { (p : Problem) × (p.nodes ≡ terms.now.nodes) × (p.variables ≡ tree.now)
+            × AreTried p log.old.entries (2 ^ length tree.now) self.closed.items self.spent }
         ensures stands { Stands terms.now.nodes log.new }
         ensures grows { Grows log.old.entries log.new.entries }
-        ensures found { IfOk result (λ found. (p : Problem) (v : ℕ → Bool) → p.nodes ≡ terms.now.nodes → p.variables ≡ tree.now →
-            AreTried p log.old.entries (2 ^ length tree.now) self.closed.items self.spent → IsFound p log.new.entries v found) }
+        ensures found { IfOk result (λ found. (p : Problem) (v : ℕ → Bool)
+            → p.nodes ≡ terms.now.nodes → p.variables ≡ tree.now →
+            AreTried p log.old.entries (2 ^ length tree.now) self.closed.items self.spent
+            → IsFound p log.new.entries v found) }
     {
         let Tried { closed, spent } = self;
         if let Some(diary) = spent {
@@ -127,10 +138,13 @@ fn search_cube(
 ) -> Result<End, AllocError>
     requires cube { cube < 2 ^ length tree.now }
     requires searching { IsSearching search.old board.old tree.now assumed.now budget }
-    ensures same { problem_of search.new board.new tree.now assumed.now budget ≡ problem_of search.old board.old tree.now assumed.now budget }
+    ensures same { problem_of search.new board.new tree.now assumed.now budget
+        ≡ problem_of search.old board.old tree.now assumed.now budget }
     ensures grows { Grows board.old.log.entries board.new.log.entries }
     ensures searching { OnOk result (IsSearching search.new board.new tree.now assumed.now budget) }
-    ensures end { IfOk result (IsEndOf (problem_of search.new board.new tree.now assumed.now budget) board.new.log.entries (valuation_of search.new) cube) }
+    ensures end { IfOk result
+        (IsEndOf (problem_of search.new board.new tree.now assumed.now budget) board.new.log.entries
+        (valuation_of search.new) cube) }
 {
     let mut given = Vec::from_slice(alloc, tree.cube(cube))?;
     given.extend_from_slice(assumed)?;
@@ -148,13 +162,17 @@ fn search_cubes(
     tried: &mut Tried,
 ) -> Result<bool, AllocError>
     requires searching { IsSearching search.old board.old tree.now assumed.now budget }
-    requires tried { (p : Problem) (log : List Step) → AreTried p log 0 tried.old.closed.items tried.old.spent }
-    ensures same { problem_of search.new board.new tree.now assumed.now budget ≡ problem_of search.old board.old tree.now assumed.now budget }
+    requires tried { (p : Problem) (log : List Step)
+        → AreTried p log 0 tried.old.closed.items tried.old.spent }
+    ensures same { problem_of search.new board.new tree.now assumed.now budget
+        ≡ problem_of search.old board.old tree.now assumed.now budget }
     ensures grows { Grows board.old.log.entries board.new.log.entries }
     ensures searching { OnOk result (IsSearching search.new board.new tree.now assumed.now budget) }
     ensures tried { IfOk result (λ found. MatchBool found
-        (IsModelOf (problem_of search.new board.new tree.now assumed.now budget) board.new.log.entries (valuation_of search.new))
-        (AreTried (problem_of search.new board.new tree.now assumed.now budget) board.new.log.entries (2 ^ length tree.now) tried.new.closed.items tried.new.spent)) }
+        (IsModelOf (problem_of search.new board.new tree.now assumed.now budget)
+        board.new.log.entries (valuation_of search.new))
+        (AreTried (problem_of search.new board.new tree.now assumed.now budget)
+        board.new.log.entries (2 ^ length tree.now) tried.new.closed.items tried.new.spent)) }
 {
     'cubes: for cube in 0..tree.leaves() {
         let end = search_cube(alloc, search, board, tree, assumed, cube, budget)?;
@@ -210,11 +228,16 @@ pub(crate) fn solve(
     requires listed { IsTermList terms.now.nodes }
     requires stands { Stands terms.now.nodes workspace.old.log }
     requires resting { RestsBeside workspace.old.log workspace.old.search }
-    requires problem { IsProblem (problem terms.now.nodes workspace.old.log.entries positions.now tree.now assumed.now budget) workspace.old.log.entries }
+    requires problem { IsProblem
+        (problem terms.now.nodes workspace.old.log.entries positions.now tree.now assumed.now
+        budget) workspace.old.log.entries }
     ensures stands { OnOk result (Stands terms.now.nodes workspace.new.log) }
     ensures grows { OnOk result (Grows workspace.old.log.entries workspace.new.log.entries) }
     ensures resting { OnOk result (RestsBeside workspace.new.log workspace.new.search) }
-    ensures found { IfOk result (λ found. IsFound (problem terms.now.nodes workspace.old.log.entries positions.now tree.now assumed.now budget) workspace.new.log.entries (valuation_of workspace.new.search) found) }
+    ensures found { IfOk result
+        (λ found. IsFound
+        (problem terms.now.nodes workspace.old.log.entries positions.now tree.now assumed.now
+        budget) workspace.new.log.entries (valuation_of workspace.new.search) found) }
 {
     let from = workspace.log.len();
     let made = make_room(

@@ -20,7 +20,10 @@ fn push_live(
     live: &LiveName,
     out: &mut Text,
 ) -> Result<(), AllocError>
-    ensures { OnOk result (out.new ≡ out.old ++ definition_by live.now.name (slice_get state.now.symbols.signatures live.now.declaration) (set_for values.now live.now.declaration)) }
+    ensures { OnOk result
+        (out.new ≡ out.old
+        ++ definition_by live.now.name (slice_get state.now.symbols.signatures live.now.declaration)
+        (set_for values.now live.now.declaration)) }
 {
     let Some(signature) = state.signature(live.declaration) else {
         return Ok(())
@@ -43,7 +46,9 @@ fn push_definitions(state: &State, values: &Interp, out: &mut Text) -> Result<()
 
 /// The lines of the live names, in parentheses.
 fn definition_lines(alloc: Global, state: &State, values: &Interp) -> Result<Text, AllocError>
-    ensures { IfOk result (λ t. t ≡ codes "(" ++ 10 ∷ [] ++ definitions_by state.now values.now ++ codes ")" ++ 10 ∷ []) }
+    ensures { IfOk result
+        (λ t. t ≡ codes "(" ++ 10 ∷ [] ++ definitions_by state.now values.now ++ codes ")" ++ 10
+        ∷ []) }
 {
     let mut out = Text::from_slice(alloc, b"(\n")?;
     push_definitions(state, values, &mut out)?;

@@ -32,7 +32,9 @@ fn terms_of(alloc: Global, asked: &[Asked]) -> Result<Vec<TermId>, AllocError>
 /// A term as it was written, and its value.
 fn value_item(alloc: Global, asked: &Asked, value: &Value) -> Result<Text, AllocError>
     requires { is_table value.now ≡ false }
-    ensures { IfOk result (λ t. t ≡ codes "(" ++ asked.now.text ++ codes " " ++ meaning_text (meaning value.now) ++ codes ")") }
+    ensures { IfOk result
+        (λ t. t ≡ codes "(" ++ asked.now.text ++ codes " " ++ meaning_text (meaning value.now)
+        ++ codes ")") }
 {
     let mut out = Text::from_slice(alloc, b"(")?;
     out.push_slice(asked.text.as_slice())?;
@@ -52,7 +54,9 @@ fn value_items(
 ) -> Result<Vec<Text>, AllocError>
     requires held { All (λ (a : AskedValue). a.term < length state.now.terms.nodes) asked.now }
     requires words { state.now.symbols.theories ≡ false }
-    ensures { IfOk result (λ items. items.items ≡ map (asked_text state.now.terms.nodes (interpretation_of values.now)) asked.now) }
+    ensures { IfOk result
+        (λ items. items.items
+        ≡ map (asked_text state.now.terms.nodes (interpretation_of values.now)) asked.now) }
 {
     let terms = terms_of(alloc, asked)?;
     let found = values_with(alloc, state.terms(), values, terms.as_slice(), reached)?;

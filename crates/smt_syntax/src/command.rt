@@ -167,7 +167,8 @@ fn forms_of(name: CommandName) -> &'static [&'static [Form]]
 
 /// Whether an argument is of the form.
 fn fits(alloc: Global, tokens: &[Token<'_>], form: Form, span: Span) -> Result<bool, AllocError>
-    ensures { IfOk result (λ b. (e : Sexp) → Stands (signs_in tokens.now) span e → b ≡ fits form e) }
+    ensures { IfOk result (λ b. (e : Sexp) → Stands (signs_in tokens.now) span e
+        → b ≡ fits form e) }
 {
     if span.start > span.end || span.end > tokens.len() {
         return Ok(false);
@@ -183,7 +184,8 @@ fn fits_all(
     forms: &[Form],
     spans: &[Span],
 ) -> Result<bool, AllocError>
-    ensures { IfOk result (λ b. (es : Sexps) → AllStand (signs_in tokens.now) spans.now es → b ≡ fits_all forms.now es) }
+    ensures { IfOk result (λ b. (es : Sexps) → AllStand (signs_in tokens.now) spans.now es
+        → b ≡ fits_all forms.now es) }
 {
     if forms.len() != spans.len() {
         return Ok(false);
@@ -203,7 +205,8 @@ fn fits_some(
     rows: &[&[Form]],
     spans: &[Span],
 ) -> Result<bool, AllocError>
-    ensures { IfOk result (λ b. (es : Sexps) → AllStand (signs_in tokens.now) spans.now es → b ≡ fits_some (map (λ row. row.now) rows.now) es) }
+    ensures { IfOk result (λ b. (es : Sexps) → AllStand (signs_in tokens.now) spans.now es
+        → b ≡ fits_some (map (λ row. row.now) rows.now) es) }
 {
     for row in rows {
         if fits_all(alloc, tokens, row, spans)? {
@@ -220,7 +223,8 @@ fn is_formed(
     name: CommandName,
     spans: &[Span],
 ) -> Result<bool, AllocError>
-    ensures { IfOk result (λ b. (es : Sexps) → AllStand (signs_in tokens.now) spans.now es → b ≡ is_formed name es) }
+    ensures { IfOk result (λ b. (es : Sexps) → AllStand (signs_in tokens.now) spans.now es
+        → b ≡ is_formed name es) }
 {
     if is_left_out(name) {
         return Ok(true);
@@ -230,7 +234,8 @@ fn is_formed(
 }
 
 fn build_none(name: CommandName) -> Option<Command>
-    ensures shown { IfSome result (λ c. (name_of c ≡ name) × (spans_of c ≡ []) × (is_not_supported c ≡ false)) }
+    ensures shown { IfSome result (λ c. (name_of c ≡ name) × (spans_of c ≡ [])
+        × (is_not_supported c ≡ false)) }
     ensures none { IfNone result (has_arity name [] ≡ false) }
 {
     match name {
@@ -251,7 +256,8 @@ fn build_none(name: CommandName) -> Option<Command>
 }
 
 fn build_one(name: CommandName, a: Span) -> Option<Command>
-    ensures shown { IfSome result (λ c. (name_of c ≡ name) × (spans_of c ≡ a ∷ []) × (is_not_supported c ≡ false)) }
+    ensures shown { IfSome result (λ c. (name_of c ≡ name) × (spans_of c ≡ a ∷ [])
+        × (is_not_supported c ≡ false)) }
     ensures none { IfNone result (has_arity name (a ∷ []) ≡ false) }
 {
     match name {
@@ -277,7 +283,8 @@ fn build_one(name: CommandName, a: Span) -> Option<Command>
 }
 
 fn build_two(name: CommandName, a: Span, b: Span) -> Option<Command>
-    ensures shown { IfSome result (λ c. (name_of c ≡ name) × (spans_of c ≡ a ∷ b ∷ []) × (is_not_supported c ≡ false)) }
+    ensures shown { IfSome result (λ c. (name_of c ≡ name) × (spans_of c ≡ a ∷ b ∷ [])
+        × (is_not_supported c ≡ false)) }
     ensures none { IfNone result (has_arity name (a ∷ b ∷ []) ≡ false) }
 {
     match name {
@@ -295,7 +302,8 @@ fn build_two(name: CommandName, a: Span, b: Span) -> Option<Command>
 }
 
 fn build_more(name: CommandName, spans: &[Span]) -> Option<Command>
-    ensures shown { IfSome result (λ c. (name_of c ≡ name) × (spans_of c ≡ spans.now) × (is_not_supported c ≡ false)) }
+    ensures shown { IfSome result (λ c. (name_of c ≡ name) × (spans_of c ≡ spans.now)
+        × (is_not_supported c ≡ false)) }
     ensures none { 2 < length spans.now → IfNone result (has_arity name spans.now ≡ false) }
 {
     match (name, spans) {
@@ -321,7 +329,9 @@ fn build_more(name: CommandName, spans: &[Span]) -> Option<Command>
 
 /// The command of this name with its arguments at these spans; `None` where it never has so many.
 fn build(name: CommandName, spans: &[Span]) -> Option<Command>
-    ensures shown { IfSome result (λ c. (name_of c ≡ name) × (is_left_out name ≡ false → spans_of c ≡ spans.now) × (is_not_supported c ≡ is_left_out name)) }
+    ensures shown { IfSome result (λ c. (name_of c ≡ name)
+        × (is_left_out name ≡ false → spans_of c ≡ spans.now)
+        × (is_not_supported c ≡ is_left_out name)) }
     ensures none { IfNone result ((is_left_out name ≡ false) × (has_arity name spans.now ≡ false)) }
 {
     if is_left_out(name) {
@@ -350,7 +360,8 @@ fn first_name(tokens: &[Token<'_>]) -> Option<CommandName>
 
 /// The spans of a command's arguments.
 fn arguments(alloc: Global, tokens: &[Token<'_>]) -> Result<Vec<Span>, AllocError>
-    ensures { IfOk result (λ v. (k : TokenKindValue) (x : List ℕ) (es : Sexps) → signs_in tokens.now ≡ spelling (group (more (atom k x) es))
+    ensures { IfOk result (λ v. (k : TokenKindValue) (x : List ℕ) (es : Sexps)
+        → signs_in tokens.now ≡ spelling (group (more (atom k x) es))
         → AllStand (signs_in tokens.now) v.items es) }
 {
     let inside = Span {
@@ -362,7 +373,8 @@ fn arguments(alloc: Global, tokens: &[Token<'_>]) -> Result<Vec<Span>, AllocErro
 }
 
 fn read_tokens(alloc: Global, tokens: &[Token<'_>]) -> Result<Command, SyntaxError>
-    ensures { (e : Sexp) → signs_in tokens.now ≡ spelling e → Reads (signs_in tokens.now) (read e) result }
+    ensures { (e : Sexp) → signs_in tokens.now ≡ spelling e
+        → Reads (signs_in tokens.now) (read e) result }
 {
     if is_too_deep(tokens) {
         return Err(SyntaxError::Fault(SyntaxFault::TooDeep));
@@ -383,7 +395,8 @@ fn read_tokens(alloc: Global, tokens: &[Token<'_>]) -> Result<Command, SyntaxErr
 
 /// The command that the tokens of an S-expression are, or the first fault.
 pub fn read_command(alloc: Global, tokens: &Tokens<'_>) -> Result<Command, SyntaxError>
-    ensures { (e : Sexp) → signs_of tokens.now ≡ spelling e → Reads (signs_of tokens.now) (read e) result }
+    ensures { (e : Sexp) → signs_of tokens.now ≡ spelling e
+        → Reads (signs_of tokens.now) (read e) result }
 {
     read_tokens(alloc, tokens.as_slice())
 }

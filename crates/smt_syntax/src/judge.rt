@@ -56,7 +56,8 @@ fn open_list(stack: &mut Vec<Frame>, frame: Option<Frame>) -> Result<Option<bool
 
 /// One token more.
 fn step(want: Want, stack: &mut Vec<Frame>, token: &Token<'_>) -> Result<Option<bool>, AllocError>
-    ensures { Steps (step_of want (stack_of stack.old.items) (sign_in token.now)) result stack.new.items }
+    ensures { Steps (step_of want (stack_of stack.old.items) (sign_in token.now)) result
+        stack.new.items }
 {
     match token.kind {
         TokenKind::Open => {

@@ -10,9 +10,11 @@ use std::alloc::{AllocError, Global};
 
 /// The spans of the S-expressions that stand one after another in this span.
 pub fn parts(alloc: Global, tokens: &[Token<'_>], span: Span) -> Result<Vec<Span>, AllocError>
-    ensures spans { IfOk result (λ v. (es : Sexps) → IsWithin (signs_in tokens.now) span → tokens_at (signs_in tokens.now) span ≡ spellings es
+    ensures spans { IfOk result (λ v. (es : Sexps) → IsWithin (signs_in tokens.now) span
+        → tokens_at (signs_in tokens.now) span ≡ spellings es
         → v.items ≡ spans_from span.start es) }
-    ensures stand { IfOk result (λ v. (es : Sexps) → IsWithin (signs_in tokens.now) span → tokens_at (signs_in tokens.now) span ≡ spellings es
+    ensures stand { IfOk result (λ v. (es : Sexps) → IsWithin (signs_in tokens.now) span
+        → tokens_at (signs_in tokens.now) span ≡ spellings es
         → AllStand (signs_in tokens.now) v.items es) }
 {
     if span.start > span.end || span.end > tokens.len() {

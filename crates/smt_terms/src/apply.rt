@@ -56,7 +56,8 @@ fn of_word(operator: Operator, a: Word) -> Option<Scalar>
 }
 
 fn concat(a: Word, b: Word) -> Option<Scalar>
-    ensures { Gives (Plain plain.Concat) (sort.Word a.width ∷ sort.Word b.width ∷ []) (VWord a.width a.value ∷ VWord b.width b.value ∷ []) result }
+    ensures { Gives (Plain plain.Concat) (sort.Word a.width ∷ sort.Word b.width ∷ [])
+        (VWord a.width a.value ∷ VWord b.width b.value ∷ []) result }
 {
     if a.width() + b.width() <= 128 {
         Some(Scalar::Word(a.concat(b)))
@@ -67,7 +68,8 @@ fn concat(a: Word, b: Word) -> Option<Scalar>
 
 fn of_words(operator: Operator, a: Word, b: Word) -> Option<Scalar>
     requires { a.width ≡ b.width }
-    ensures { Gives (Plain operator) (sort.Word a.width ∷ sort.Word b.width ∷ []) (VWord a.width a.value ∷ VWord b.width b.value ∷ []) result }
+    ensures { Gives (Plain operator) (sort.Word a.width ∷ sort.Word b.width ∷ [])
+        (VWord a.width a.value ∷ VWord b.width b.value ∷ []) result }
 {
     let word = match operator {
         Operator::Bvadd => a.bvadd(b),
@@ -105,7 +107,8 @@ fn of_words(operator: Operator, a: Word, b: Word) -> Option<Scalar>
 
 fn of_other_words(operator: Operator, a: Word, b: Word) -> Option<Scalar>
     requires { a.width ≢ b.width }
-    ensures { Gives (Plain operator) (sort.Word a.width ∷ sort.Word b.width ∷ []) (VWord a.width a.value ∷ VWord b.width b.value ∷ []) result }
+    ensures { Gives (Plain operator) (sort.Word a.width ∷ sort.Word b.width ∷ [])
+        (VWord a.width a.value ∷ VWord b.width b.value ∷ []) result }
 {
     match operator {
         Operator::Concat => concat(a, b),
@@ -114,7 +117,8 @@ fn of_other_words(operator: Operator, a: Word, b: Word) -> Option<Scalar>
 }
 
 fn of_two(operator: Operator, a: Scalar, b: Scalar) -> Option<Scalar>
-    ensures { Gives (Plain operator) (scalar_sort a ∷ scalar_sort b ∷ []) (scalar_value a ∷ scalar_value b ∷ []) result }
+    ensures { Gives (Plain operator) (scalar_sort a ∷ scalar_sort b ∷ [])
+        (scalar_value a ∷ scalar_value b ∷ []) result }
 {
     match a {
         Scalar::Bool(x) => match b {
@@ -135,7 +139,8 @@ fn of_two(operator: Operator, a: Scalar, b: Scalar) -> Option<Scalar>
 }
 
 fn of_three(operator: Operator, a: Scalar, b: Scalar, c: Scalar) -> Option<Scalar>
-    ensures { Gives (Plain operator) (scalar_sort a ∷ scalar_sort b ∷ scalar_sort c ∷ []) (scalar_value a ∷ scalar_value b ∷ scalar_value c ∷ []) result }
+    ensures { Gives (Plain operator) (scalar_sort a ∷ scalar_sort b ∷ scalar_sort c ∷ [])
+        (scalar_value a ∷ scalar_value b ∷ scalar_value c ∷ []) result }
 {
     match operator {
         Operator::Ite => choice(a, b, c),
@@ -144,7 +149,8 @@ fn of_three(operator: Operator, a: Scalar, b: Scalar, c: Scalar) -> Option<Scala
 }
 
 fn choice(condition: Scalar, a: Scalar, b: Scalar) -> Option<Scalar>
-    ensures { Gives (Plain plain.Ite) (scalar_sort condition ∷ scalar_sort a ∷ scalar_sort b ∷ []) (scalar_value condition ∷ scalar_value a ∷ scalar_value b ∷ []) result }
+    ensures { Gives (Plain plain.Ite) (scalar_sort condition ∷ scalar_sort a ∷ scalar_sort b ∷ [])
+        (scalar_value condition ∷ scalar_value a ∷ scalar_value b ∷ []) result }
 {
     match condition {
         Scalar::Bool(holds) => {
@@ -161,7 +167,8 @@ fn choice(condition: Scalar, a: Scalar, b: Scalar) -> Option<Scalar>
 /// A truth value beside a word.
 fn of_unlike(operator: Operator, a: Scalar, b: Scalar) -> Option<Scalar>
     requires { is_word (scalar_sort a) ≢ is_word (scalar_sort b) }
-    ensures { Gives (Plain operator) (scalar_sort a ∷ scalar_sort b ∷ []) (scalar_value a ∷ scalar_value b ∷ []) result }
+    ensures { Gives (Plain operator) (scalar_sort a ∷ scalar_sort b ∷ [])
+        (scalar_value a ∷ scalar_value b ∷ []) result }
 {
     None
 }
@@ -188,7 +195,8 @@ fn of_one(operator: Operator, a: Scalar) -> Option<Scalar>
 }
 
 fn extracted(high: u64, low: u64, a: Word) -> Option<Scalar>
-    ensures { Gives (Extract high low) (sort.Word a.width ∷ []) (VWord a.width a.value ∷ []) result }
+    ensures { Gives (Extract high low) (sort.Word a.width ∷ []) (VWord a.width a.value ∷ [])
+        result }
 {
     if low <= high && high < u64::from(a.width()) {
         Some(Scalar::Word(Word::extract(high as u32, low as u32, a)))
@@ -268,7 +276,8 @@ fn apply_indexed(op: &Op, args: &[Scalar]) -> Option<Scalar>
 }
 
 fn literal(width: u64, value: u128, args: &[Scalar]) -> Option<Scalar>
-    ensures { Gives (OpWord width value) (map scalar_sort args.now) (map scalar_value args.now) result }
+    ensures { Gives (OpWord width value) (map scalar_sort args.now) (map scalar_value args.now)
+        result }
 {
     if !args.is_empty() || width > 128 {
         return None;

@@ -36,7 +36,8 @@ impl Model for Bits {
 
     ghost view = { λ b. map (shown b.literals.items) b.spans.items };
 
-    ghost invariant = { λ b. IsTable b.spans.items b.places.items × AreWithin b.literals.items b.spans.items };
+    ghost invariant = { λ b. IsTable b.spans.items b.places.items
+        × AreWithin b.literals.items b.spans.items };
 }
 
 fn place_of(places: &[Option<usize>], term: TermId) -> Option<usize>

@@ -205,7 +205,8 @@ fn extension(held: &[Sort], args: &[TermId], by: u64) -> Result<Sort, MakeFault>
 }
 
 fn repetition(held: &[Sort], args: &[TermId], copies: u64) -> Result<Sort, MakeFault>
-    ensures { result ≡ ranked_at (one_word λ n. word_sort (n * copies)) 0 (sorts_at held.now args.now) }
+    ensures { result
+        ≡ ranked_at (one_word λ n. word_sort (n * copies)) 0 (sorts_at held.now args.now) }
 {
     let word = taken(held, args, 0, Demand::AnyWord)?;
     ended(
@@ -227,7 +228,9 @@ fn array_sort(index: u64, element: u32) -> Result<Sort, MakeFault>
 
 /// A word, and the sort of an array of such words.
 fn everywhere(held: &[Sort], args: &[TermId], index: u64) -> Result<Sort, MakeFault>
-    ensures { result ≡ ranked_at (one_word λ n. constant_sort (sort.Array index n)) 0 (sorts_at held.now args.now) }
+    ensures { result
+        ≡ ranked_at (one_word λ n. constant_sort (sort.Array index n)) 0
+        (sorts_at held.now args.now) }
 {
     let word = taken(held, args, 0, Demand::AnyWord)?;
     ended(args, 1, array_sort(index, word.width()))
@@ -324,7 +327,9 @@ fn each_of(
 
 /// A declared function of arguments of its signature's sorts, one at least.
 fn application(held: &[Sort], args: &[TermId], signature: &Signature) -> Result<Sort, MakeFault>
-    ensures { result ≡ ranked_at (application signature.now.args signature.now.value) 0 (sorts_at held.now args.now) }
+    ensures { result
+        ≡ ranked_at (application signature.now.args signature.now.value) 0
+        (sorts_at held.now args.now) }
 {
     let wanted = signature.args.as_slice();
     if wanted.is_empty() {

@@ -32,7 +32,8 @@ impl Model for Terms {
 
     ghost view = { λ t. record { nodes = t.nodes.keys; limit = t.limit } };
 
-    ghost invariant = { λ t. AreTerms (record { nodes = t.nodes.keys; limit = t.limit }) × HaveSorts t.nodes.keys t.sorts.items };
+    ghost invariant = { λ t. AreTerms (record { nodes = t.nodes.keys; limit = t.limit })
+        × HaveSorts t.nodes.keys t.sorts.items };
 }
 
 /// Puts a node that is not there, and its sort, at the ends.
@@ -43,8 +44,10 @@ fn append(
     sort: Sort,
 ) -> Result<(), AllocError>
     requires { list_any (λ k. same_node node k) nodes.old.keys ≡ false }
-    ensures ok { OnOk result ((nodes.new.keys ≡ nodes.old.keys ++ node ∷ []) × (sorts.new.items ≡ sorts.old.items ++ sort ∷ [])) }
-    ensures err { OnErr result ((nodes.new.keys ≡ nodes.old.keys) × (sorts.new.items ≡ sorts.old.items)) }
+    ensures ok { OnOk result ((nodes.new.keys ≡ nodes.old.keys ++ node ∷ [])
+        × (sorts.new.items ≡ sorts.old.items ++ sort ∷ [])) }
+    ensures err { OnErr result ((nodes.new.keys ≡ nodes.old.keys)
+        × (sorts.new.items ≡ sorts.old.items)) }
 {
     sorts.push(sort)?;
     match nodes.insert(node) {

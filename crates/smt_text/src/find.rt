@@ -107,9 +107,12 @@ fn stray(bytes: &[u8], start: usize, searched: usize) -> Result<Cut, Progress>
 pub fn cut_off(alloc: Global, line: u64, bytes: &[u8], cut: Cut) -> Result<(Chunk, u64), AllocError>
     requires within { cut.before + cut.size ≤ length bytes.now }
     requires small { line + length bytes.now < 2 ^ 63 }
-    ensures chunk { IfOk result (λ r. r.0 ≡ (cut_off (record { line = line; bytes = bytes.now }) cut).0) }
-    ensures line { IfOk result (λ r. r.1 ≡ (cut_off (record { line = line; bytes = bytes.now }) cut).1.line) }
-    ensures small { IfOk result (λ r. r.1 + length bytes.now ≤ line + cut.before + cut.size + length bytes.now) }
+    ensures chunk { IfOk result
+        (λ r. r.0 ≡ (cut_off (record { line = line; bytes = bytes.now }) cut).0) }
+    ensures line { IfOk result
+        (λ r. r.1 ≡ (cut_off (record { line = line; bytes = bytes.now }) cut).1.line) }
+    ensures small { IfOk result
+        (λ r. r.1 + length bytes.now ≤ line + cut.before + cut.size + length bytes.now) }
 {
     let text = &bytes[cut.before..cut.before + cut.size];
     let first = line + lines_in(&bytes[..cut.before]);

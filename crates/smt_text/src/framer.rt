@@ -31,7 +31,8 @@ impl Model for Framer {
 
     ghost view = { λ f. f.held };
 
-    ghost invariant = { λ f. (f.searched ≤ length f.held.bytes) × Searched f.held.bytes f.searched f.progress };
+    ghost invariant = { λ f. (f.searched ≤ length f.held.bytes)
+        × Searched f.held.bytes f.searched f.progress };
 }
 
 impl Framer {
@@ -85,7 +86,8 @@ impl Framer {
     /// The chunk that the end of input closes, if one is begun, once no whole chunk is held. Then nothing is held.
     pub fn finish(&mut self) -> Result<Option<Chunk>, AllocError>
         ensures ok { IfOk result (λ r. r ≡ last_chunk self.old) }
-        ensures after { OnOk result (self.new ≡ record { line = self.old.line + lines_in self.old.bytes; bytes = [] }) }
+        ensures after { OnOk result
+            (self.new ≡ record { line = self.old.line + lines_in self.old.bytes; bytes = [] }) }
         ensures err { OnErr result (self.new ≡ self.old) }
     {
         let rest = self.held.bytes();
@@ -104,7 +106,8 @@ pub fn chunks(alloc: Global, pieces: &[Text]) -> Result<Vec<Chunk>, AllocError>
     // However it was cut into pieces, these are the chunks of the whole.
     ensures split { IfOk result (λ v. AreChunks (flat_map (λ piece. piece) pieces.now) v.items) }
     // And no others are.
-    ensures only { IfOk result (λ v. (others : List Chunk) → AreChunks (flat_map (λ piece. piece) pieces.now) others → v.items ≡ others) }
+    ensures only { IfOk result (λ v. (others : List Chunk)
+        → AreChunks (flat_map (λ piece. piece) pieces.now) others → v.items ≡ others) }
 {
     let mut framer = Framer::new(alloc);
     let mut out = Vec::new(alloc);

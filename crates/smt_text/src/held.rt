@@ -25,7 +25,8 @@ impl Model for HeldBytes {
 
     ghost view = { λ h. record { line = h.line; bytes = drop h.given h.buffer.items } };
 
-    ghost invariant = { λ h. (h.given ≤ length h.buffer.items) × (h.line + length (drop h.given h.buffer.items) < 2 ^ 63) };
+    ghost invariant = { λ h. (h.given ≤ length h.buffer.items)
+        × (h.line + length (drop h.given h.buffer.items) < 2 ^ 63) };
 }
 
 /// Drops bytes from the front.

@@ -116,8 +116,10 @@ pub fn print_token(token: Token<'_>, out: &mut Text) -> Result<(), AllocError>
 /// What is printed reads back as the same token, whatever follows apart from it; and a token stands in its text as it is printed.
 pub fn reads_back()
     ensures symbol { (name rest : List ℕ) → list_all is_quoted_byte name ≡ true → IsApart rest
-        → first_token (symbol_text name ++ rest) ≡ Ok (Some (symbol_lexeme name, length (symbol_text name))) }
+        → first_token (symbol_text name ++ rest)
+        ≡ Ok (Some (symbol_lexeme name, length (symbol_text name))) }
     ensures string { (value rest : List ℕ) → IsApart rest
-        → first_token (string_text value ++ rest) ≡ Ok (Some (string_lexeme_of value, length (string_text value))) }
+        → first_token (string_text value ++ rest)
+        ≡ Ok (Some (string_lexeme_of value, length (string_text value))) }
     ensures value { (value : List ℕ) → string_value (string_lexeme_of value).text ≡ value }
 {}

@@ -82,7 +82,8 @@ fn quoted_len(bytes: &[u8]) -> usize
 
 /// The string behind its first quote, with how many bytes it has in all.
 fn string_token(bytes: &[u8]) -> Option<(Token<'_>, usize)>
-    ensures value { option_map (λ t. (lexeme_of t.0, t.1)) result ≡ string_lexeme bytes.now (string_end bytes.now) }
+    ensures value { option_map (λ t. (lexeme_of t.0, t.1)) result
+        ≡ string_lexeme bytes.now (string_end bytes.now) }
     ensures within { IfSome result (λ t. (1 ≤ t.1) × (t.1 ≤ length bytes.now + 1)) }
 {
     match string_end(bytes) {
@@ -100,7 +101,8 @@ fn string_token(bytes: &[u8]) -> Option<(Token<'_>, usize)>
 
 /// The quoted symbol behind its first bar, with how many bytes it has in all.
 fn quoted_token(bytes: &[u8]) -> Option<(Token<'_>, usize)>
-    ensures value { option_map (λ t. (lexeme_of t.0, t.1)) result ≡ quoted_lexeme bytes.now (prefix_len is_quoted_byte bytes.now) }
+    ensures value { option_map (λ t. (lexeme_of t.0, t.1)) result
+        ≡ quoted_lexeme bytes.now (prefix_len is_quoted_byte bytes.now) }
     ensures within { IfSome result (λ t. (1 ≤ t.1) × (t.1 ≤ length bytes.now + 1)) }
 {
     let n = quoted_len(bytes);
@@ -119,7 +121,8 @@ fn quoted_token(bytes: &[u8]) -> Option<(Token<'_>, usize)>
 }
 
 fn word_token(word: &[u8]) -> Option<(Token<'_>, usize)>
-    ensures value { option_map (λ t. (lexeme_of t.0, t.1)) result ≡ word_lexeme word.now (kind_of_word word.now) }
+    ensures value { option_map (λ t. (lexeme_of t.0, t.1)) result
+        ≡ word_lexeme word.now (kind_of_word word.now) }
     ensures within { IfSome result (λ t. (1 ≤ t.1) × (t.1 ≤ length word.now)) }
 {
     match kind_of_word(word) {
@@ -203,7 +206,9 @@ fn tokens_of(alloc: Global, text: &[u8]) -> Result<Tokens<'_>, TokensError>
 
 /// A text has one list of tokens, or one first bad token, and not both.
 pub fn one_reading()
-    ensures tokens { (text : List ℕ) (a b : List Lexeme) → AreTokens text a → AreTokens text b → a ≡ b }
+    ensures tokens { (text : List ℕ) (a b : List Lexeme) → AreTokens text a → AreTokens text b
+        → a ≡ b }
     ensures bad { (text : List ℕ) (m n : ℕ) → IsBadAt text m → IsBadAt text n → m ≡ n }
-    ensures apart { (text : List ℕ) (a : List Lexeme) (n : ℕ) → AreTokens text a → IsBadAt text n → ⊥ }
+    ensures apart { (text : List ℕ) (a : List Lexeme) (n : ℕ) → AreTokens text a → IsBadAt text n
+        → ⊥ }
 {}

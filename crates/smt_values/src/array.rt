@@ -22,9 +22,11 @@ impl Model for ArrayValue {
 
     ghost Value = { ArrayFields };
 
-    ghost view = { λ a. record { index = a.index; default = a.default; entries = a.entries.items } };
+    ghost view = { λ a.
+        record { index = a.index; default = a.default; entries = a.entries.items } };
 
-    ghost invariant = { λ a. IsArray (record { index = a.index; default = a.default; entries = a.entries.items }) };
+    ghost invariant = { λ a. IsArray
+        (record { index = a.index; default = a.default; entries = a.entries.items }) };
 }
 
 /// Where an index stands, or would stand, among rising ones.

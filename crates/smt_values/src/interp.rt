@@ -77,7 +77,8 @@ impl Interp {
 
     /// Gives a declaration a value, in the place of any that it had.
     pub fn set(&mut self, declaration: DeclId, value: Value) -> Result<(), AllocError>
-        ensures ok { OnOk result ((d : ℕ) → set_for self.new d ≡ (if d == declaration then Some value else set_for self.old d)) }
+        ensures ok { OnOk result ((d : ℕ)
+            → set_for self.new d ≡ (if d == declaration then Some value else set_for self.old d)) }
         ensures err { OnErr result ((d : ℕ) → set_for self.new d ≡ set_for self.old d) }
     {
         grow(&mut self.values, declaration)?;
@@ -104,7 +105,8 @@ impl Interp {
     ) -> Result<Value, AllocError>
         requires sort { IsSort sort }
         requires suits { Suits sort (set_for self.now declaration) }
-        ensures meaning { IfOk result (λ v. meaning v ≡ read_at sort ((interpretation_of self.now).constants declaration)) }
+        ensures meaning { IfOk result
+            (λ v. meaning v ≡ read_at sort ((interpretation_of self.now).constants declaration)) }
         ensures sort { IfOk result (λ v. IsOfSort sort v) }
     {
         match self.value(declaration) {
@@ -117,7 +119,9 @@ impl Interp {
     pub fn call(&self, declaration: DeclId, sort: Sort, args: &[Scalar]) -> Scalar
         requires sort { IsSort sort }
         requires plain { is_plain sort ≡ true }
-        ensures { scalar_value result ≡ read_at sort ((interpretation_of self.now).functions declaration (map scalar_value args.now)) }
+        ensures { scalar_value result
+            ≡ read_at sort
+            ((interpretation_of self.now).functions declaration (map scalar_value args.now)) }
     {
         let given = match self.value(declaration) {
             Some(Value::Fun(table)) => table.at(args),
@@ -136,9 +140,16 @@ impl Interp {
         requires sort { IsSort signature.now.value }
         requires plain { is_plain signature.now.value ≡ true ⊎ (signature.now.args ≡ []) }
         requires suits { Suits signature.now.value (set_for self.now declaration) }
-        ensures meaning { signature.now.args ≡ [] → IfOk result (λ v. meaning v ≡ read_at signature.now.value ((interpretation_of self.now).constants declaration)) }
+        ensures meaning { signature.now.args ≡ []
+            → IfOk result
+            (λ v. meaning v
+            ≡ read_at signature.now.value ((interpretation_of self.now).constants declaration)) }
         ensures sort { signature.now.args ≡ [] → IfOk result (λ v. IsOfSort signature.now.value v) }
-        ensures function { ¬ (signature.now.args ≡ []) → IfOk result (λ v. IsFunction (λ vs. read_at signature.now.value ((interpretation_of self.now).functions declaration vs)) v) }
+        ensures function { ¬ (signature.now.args ≡ [])
+            → IfOk result
+            (λ v. IsFunction
+            (λ vs. read_at signature.now.value
+            ((interpretation_of self.now).functions declaration vs)) v) }
     {
         if signature.args.as_slice().is_empty() {
             return self.constant(alloc, declaration, signature.value);

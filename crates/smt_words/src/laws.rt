@@ -14,7 +14,8 @@ pub fn quotient_and_remainder_give_the_dividend()
 /// A word and its negation add up to zero, and a difference is the sum with the negation.
 pub fn negation_cancels()
     ensures zero { (n x : ℕ) → IsWord n x → add_of n x (neg_of n x) ≡ 0 }
-    ensures difference { (n x y : ℕ) → IsWord n x → IsWord n y → sub_of n x y ≡ add_of n x (neg_of n y) }
+    ensures difference { (n x y : ℕ) → IsWord n x → IsWord n y
+        → sub_of n x y ≡ add_of n x (neg_of n y) }
 {}
 
 /// A word that is extended by its sign has the signed value that it had.

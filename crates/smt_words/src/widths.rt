@@ -10,7 +10,8 @@ impl Word {
     /// Both side by side, this word as the high part.
     pub fn concat(self, other: Word) -> Word
         requires { self.width + other.width ≤ 128 }
-        ensures { result ≡ word (self.width + other.width) (concat_of other.width self.value other.value) }
+        ensures { result
+            ≡ word (self.width + other.width) (concat_of other.width self.value other.value) }
     {
         Word {
             width: self.width + other.width,
@@ -22,7 +23,8 @@ impl Word {
     pub fn extract(high_place: u32, low_place: u32, of: Word) -> Word
         requires order { low_place ≤ high_place }
         requires within { high_place < of.width }
-        ensures { result ≡ word (high_place - low_place + 1) (extract_of high_place low_place of.value) }
+        ensures { result
+            ≡ word (high_place - low_place + 1) (extract_of high_place low_place of.value) }
     {
         Word {
             width: high_place - low_place + 1,

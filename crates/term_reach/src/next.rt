@@ -15,7 +15,8 @@ pub trait Next {
     /// The one at this place of the terms to which a term leads, and none past their end.
     fn next(&self, terms: &Terms, term: TermId, place: usize) -> Result<Option<TermId>, AllocError>
         requires held { term < length terms.now.nodes }
-        ensures next { IfOk result (λ o. o ≡ slice_get (next_of self.now terms.now.nodes term) place) }
+        ensures next { IfOk result
+            (λ o. o ≡ slice_get (next_of self.now terms.now.nodes term) place) }
         ensures few { length (next_of self.now terms.now.nodes term) < 2 ^ 63 };
 }
 

@@ -59,7 +59,8 @@ impl Reached {
 
     /// The place of a term, none exactly where it is not among the terms; takes no memory.
     pub fn place_of(&self, term: TermId) -> Option<usize>
-        ensures place { MatchOption result (Contains self.now term → ⊥) (λ k. slice_get self.now k ≡ Some term) }
+        ensures place { MatchOption result (Contains self.now term → ⊥)
+            (λ k. slice_get self.now k ≡ Some term) }
         ensures once { IsOnce self.now }
     {
         let Some(place) = self.places.get(term as usize) else {

@@ -26,8 +26,10 @@ fn first_open<N: Next>(
     reached: &Reached,
 ) -> Result<Option<Frame>, AllocError>
     requires held { frame.term < length terms.now.nodes }
-    requires done { AreDone (N.next_of next.now terms.now.nodes) reached.now frame.term frame.place }
-    ensures { IfOk result (λ o. IsOpen (N.next_of next.now terms.now.nodes) reached.now frame.term o) }
+    requires done { AreDone (N.next_of next.now terms.now.nodes) reached.now frame.term
+        frame.place }
+    ensures { IfOk result
+        (λ o. IsOpen (N.next_of next.now terms.now.nodes) reached.now frame.term o) }
 {
     let mut place = frame.place;
     'places: while let Some(term) = next.next(terms, frame.term, place)? {
@@ -50,10 +52,15 @@ fn step<N: Next>(
 ) -> Result<(), AllocError>
     requires acyclic { IsAcyclic (N.next_of next.now terms.now.nodes) }
     requires within { LeadsBelow (length terms.now.nodes) (N.next_of next.now terms.now.nodes) }
-    requires walking { IsWalking (length terms.now.nodes) (N.next_of next.now terms.now.nodes) roots.now (path.old.items ++ frame ∷ []) reached.old }
-    ensures walking { OnOk result (IsWalking (length terms.now.nodes) (N.next_of next.now terms.now.nodes) roots.now path.new.items reached.new) }
-    ensures seen { OnOk result ((t : ℕ) → IsSeen (path.old.items ++ frame ∷ []) reached.old t → IsSeen path.new.items reached.new t) }
-    ensures less { OnOk result (left (length terms.now.nodes) path.new.items reached.new < left (length terms.now.nodes) (path.old.items ++ frame ∷ []) reached.old) }
+    requires walking { IsWalking (length terms.now.nodes) (N.next_of next.now terms.now.nodes)
+        roots.now (path.old.items ++ frame ∷ []) reached.old }
+    ensures walking { OnOk result
+        (IsWalking (length terms.now.nodes) (N.next_of next.now terms.now.nodes) roots.now
+        path.new.items reached.new) }
+    ensures seen { OnOk result ((t : ℕ) → IsSeen (path.old.items ++ frame ∷ []) reached.old t
+        → IsSeen path.new.items reached.new t) }
+    ensures less { OnOk result (left (length terms.now.nodes) path.new.items reached.new
+        < left (length terms.now.nodes) (path.old.items ++ frame ∷ []) reached.old) }
 {
     let _roots = roots;
     match first_open(terms, next, frame, reached)? {
@@ -86,9 +93,12 @@ fn descend<N: Next>(
     requires held { root < length terms.now.nodes }
     requires root { Contains roots.now root }
     requires path { path.old.items ≡ [] }
-    requires part { IsPart (length terms.now.nodes) (N.next_of next.now terms.now.nodes) roots.now reached.old }
+    requires part { IsPart (length terms.now.nodes) (N.next_of next.now terms.now.nodes) roots.now
+        reached.old }
     ensures path { OnOk result (path.new.items ≡ []) }
-    ensures part { OnOk result (IsPart (length terms.now.nodes) (N.next_of next.now terms.now.nodes) roots.now reached.new) }
+    ensures part { OnOk result
+        (IsPart (length terms.now.nodes) (N.next_of next.now terms.now.nodes) roots.now
+        reached.new) }
     ensures root { OnOk result (Contains reached.new root) }
     ensures kept { OnOk result ((t : ℕ) → Contains reached.old t → Contains reached.new t) }
 {

@@ -124,7 +124,9 @@ pub fn arrive(
     access: &Access,
     atoms: &mut Vec<Atom>,
 ) -> Result<Option<Landing>, AllocError>
-    ensures { IfOk result (λ o. HasArrived (arrival_of terms.now.nodes access.now) atoms.old.items o atoms.new.items) }
+    ensures { IfOk result
+        (λ o. HasArrived (arrival_of terms.now.nodes access.now) atoms.old.items o
+        atoms.new.items) }
 {
     let Some(landing) = landing_of(terms, access.start) else {
         return Ok(None);
@@ -193,7 +195,9 @@ fn arrays(
     a: &Access,
     b: &Access,
 ) -> Result<Option<Vec<Atom>>, AllocError>
-    ensures { IfOk result (λ o. AreAtoms (arrays_atoms (arrival_of terms.now.nodes a.now) (arrival_of terms.now.nodes b.now)) o) }
+    ensures { IfOk result
+        (λ o. AreAtoms
+        (arrays_atoms (arrival_of terms.now.nodes a.now) (arrival_of terms.now.nodes b.now)) o) }
 {
     let mut atoms = Vec::new(alloc);
     let Some(left) = arrive(terms, a, &mut atoms)? else {
@@ -211,7 +215,8 @@ fn arrays(
 }
 
 fn witness(alloc: Global, terms: &Terms, term: TermId) -> Result<Option<Vec<Atom>>, AllocError>
-    ensures { IfOk result (λ o. AreAtoms (witness_atoms terms.now.nodes term (shape_at terms.now.nodes term)) o) }
+    ensures { IfOk result
+        (λ o. AreAtoms (witness_atoms terms.now.nodes term (shape_at terms.now.nodes term)) o) }
 {
     let Shape::Equating { left, right } = shape_at(terms, term) else {
         return Ok(None);

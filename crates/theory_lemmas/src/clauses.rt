@@ -116,7 +116,8 @@ pub fn clause_of<E: Equalities>(
     equals: &E,
     lemma: &Lemma,
 ) -> Result<Clause, LemmaError>
-    ensures { IsClauseOf (clause_of terms.now.nodes (bits_in bits.now) (E.equal equals.now) lemma.now) result }
+    ensures { IsClauseOf
+        (clause_of terms.now.nodes (bits_in bits.now) (E.equal equals.now) lemma.now) result }
 {
     let Some(atoms) = atoms_of(alloc, terms, lemma)? else {
         return Err(LemmaError::Fault(LemmaFault::Shape));

@@ -12,8 +12,11 @@ ghost use Rattle.theory_lemmas.specs.Clauses.{Means, clause_of};
 
 /// A lemma's clause is true where its variables mean what the terms are.
 pub fn lemma_clauses_are_sound()
-    ensures { (f : ℕ → Bool) (M : Interpretation) (nodes : List Node) (bits : ℕ → Option (List Literal)) (equals : ℕ → ℕ → Option Literal) (lemma : Lemma) (c : List Literal)
-        → IsTermList nodes → Means f (sort_of nodes) (value M nodes) bits equals → clause_of nodes bits equals lemma ≡ Ok c → clause_true f c ≡ true }
+    ensures { (f : ℕ → Bool) (M : Interpretation) (nodes : List Node) (bits : ℕ
+        → Option (List Literal)) (equals : ℕ → ℕ → Option Literal) (lemma : Lemma)
+        (c : List Literal)
+        → IsTermList nodes → Means f (sort_of nodes) (value M nodes) bits equals
+        → clause_of nodes bits equals lemma ≡ Ok c → clause_true f c ≡ true }
 {}
 
 /// More bits and more variables of equalities leave a lemma's clause as it is.

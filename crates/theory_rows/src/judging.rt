@@ -13,7 +13,8 @@ use std::alloc::{AllocError, Global};
 
 /// The end of a check of both texts; functions with arguments and arrays are read in the script.
 fn judged(alloc: Global, script: &[u8], proof: &[u8]) -> Result<Judgement, AllocError>
-    ensures { IfOk result (λ j. IsJudgedOver (start_of true) script.now proof.now (verdicts_by j.checker) j.refusal) }
+    ensures { IfOk result
+        (λ j. IsJudgedOver (start_of true) script.now proof.now (verdicts_by j.checker) j.refusal) }
 {
     let mut checking = Checking::with_theories(alloc);
     checking.feed_script(script)?;

@@ -136,7 +136,9 @@ pub fn changed_text(
 ) -> Result<Option<Text>, AllocError>
     ensures { IfOk result (λ o. MatchOption o
         (length proof.now < change.now.front + change.now.count)
-        (λ t. t ≡ lines_text (changed_lines change.now.front change.now.count (map (λ l. l.now) change.now.lines.items) (map (λ l. l.now) proof.now)))) }
+        (λ t. t ≡ lines_text
+        (changed_lines change.now.front change.now.count
+        (map (λ l. l.now) change.now.lines.items) (map (λ l. l.now) proof.now)))) }
 {
     let front = change.front as usize;
     let behind = front + change.count as usize;

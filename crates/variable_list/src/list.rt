@@ -95,7 +95,8 @@ impl VariableList {
 
     // The place of a variable, none exactly where it is not listed.
     fn place_of(&self, variable: u64) -> Option<usize>
-        ensures { MatchOption result (Contains self.now variable → ⊥) (λ k. slice_get self.now k ≡ Some variable) }
+        ensures { MatchOption result (Contains self.now variable → ⊥)
+            (λ k. slice_get self.now k ≡ Some variable) }
     {
         let Some(place) = self.places.get(variable as usize) else {
             return None
