@@ -31,10 +31,10 @@ chain_holds : (nodes : List Node) (log : List Entry) (c : List Literal) (hints :
 chain_holds nodes log c hints =
     let s = state_of nodes log in
     subst (Holds s) (sym (state_from-append nodes start log (step.Chain c hints ∷ [])))
-    (record { next = suc_le s.next; clauses = clause_more s.clauses ((c ∷ []) ∷ []); bits = λ t b e. e; selectors = λ a r e. e; equals = λ t u l e. e })
+    (record { next = suc_le s.next; clauses = clause_more s.clauses ((c ∷ []) ∷ []); bits = λ t b e. e; images = λ t h. refl; selectors = λ a r e. e; equals = λ t u l e. e })
   where
     suc_le : (n : ℕ) → n ≤ n
-    suc_le n = (Holds-refl (record { next = n; bits = λ t. None; selectors = λ a. None; equals = λ t u. None; clauses = [] })).next
+    suc_le n = (Holds-refl (record { next = n; bits = λ t. None; images = λ t. None; selectors = λ a. None; equals = λ t u. None; clauses = [] })).next
 
 lemma_step : (nodes : List Node) (log : List Entry) (lemma : Lemma) → Holds (state_of nodes log) (state_of nodes (log ++ step.Lemma lemma ∷ []))
 lemma_step nodes log lemma =

@@ -19,10 +19,11 @@ use Rattle.smt_terms.specs.declared.node.Node.{Node}
 use Rattle.smt_terms.specs.Terms.{IsTermList, TermsValue}
 use Rattle.theory_lemmas.specs.declared.fault.LemmaFault.{LemmaFault}
 use Rattle.theory_lemmas.specs.Clauses.{clause_of}
+use Rattle.proof_log.specs.declared.entry.RuleUse.{RuleUse}
 use Rattle.proof_log.specs.declared.entry.Entry.{Entry}
 use Rattle.proof_log.specs.declared.entry.Entry.TheVariants as step
 use Rattle.proof_log.specs.declared.entry.Role.TheVariants as role
-use Rattle.proof_log.specs.Logs.{LogState, start, clause_in, clause_at, entry_at, leaf_width, selector_clause, IsStep, leaf_after, block_after, selector_after, equal_after, lemma_after, after, state_from, state_of, IsLog}
+use Rattle.proof_log.specs.Logs.{LogState, start, clause_in, clause_at, entry_at, leaf_width, selector_clause, IsStep, leaf_after, block_after, selector_after, equal_after, rewrite_after, lemma_after, after, state_from, state_of, IsLog}
 use Rattle.proof_log.specs.Stored.{LogValue, Stands, IsPushed, clauses_of}
 use Rattle.proof_log.specs.Faults.{IsValid, MakesNoTerm}
 use Rattle.proof_log.specs.Boards.{IsOfSearch, IsAdded, Grows, IsLater, IsPutAt, KnowsOneMore, IsClauseOf}
@@ -159,6 +160,10 @@ equal_adds s t u None p = refl
 equal_adds s t u (Some a) None = refl
 equal_adds s t u (Some a) (Some b) = refl
 
+rewrite_adds : (s : LogState) (r : RuleUse) (o : Option (List Literal)) → (rewrite_after s r o).clauses ≡ s.clauses ++ [] ∷ []
+rewrite_adds s r None = refl
+rewrite_adds s r (Some b) = refl
+
 lemma_adds : (s : LogState) (o : Result (List Literal) LemmaFault) → (lemma_after s o).clauses ≡ s.clauses ++ lemma_row o ∷ []
 lemma_adds s (Err f) = refl
 lemma_adds s (Ok c) = refl
@@ -169,6 +174,7 @@ step_adds nodes s (step.Leaf t) = leaf_adds s t (leaf_width nodes t)
 step_adds nodes s (step.Encode t) = block_adds s t (block_of s.next s.bits (node_at nodes t))
 step_adds nodes s (step.Selector a t) = selector_adds s a t (s.bits t)
 step_adds nodes s (step.Equal t u) = equal_adds s t u (s.bits t) (s.bits u)
+step_adds nodes s (step.Rewrite r) = rewrite_adds s r (s.bits r.to)
 step_adds nodes s (step.Lemma l) = lemma_adds s (clause_of nodes s.bits s.equals l)
 step_adds nodes s e = refl
 

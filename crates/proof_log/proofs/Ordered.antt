@@ -13,9 +13,10 @@ use Rattle.bit_blast.specs.Blocks.{Block, block_of}
 use Rattle.hint_chain.specs.Chains.{ChainFrom, IsChain}
 use Rattle.theory_lemmas.specs.declared.fault.LemmaFault.{LemmaFault}
 use Rattle.theory_lemmas.specs.Clauses.{clause_of}
+use Rattle.proof_log.specs.declared.entry.RuleUse.{RuleUse}
 use Rattle.proof_log.specs.declared.entry.Entry.{Entry}
 use Rattle.proof_log.specs.declared.entry.Entry.TheVariants as step
-use Rattle.proof_log.specs.Logs.{LogState, start, clause_at, leaf_width, IsStep, leaf_after, block_after, selector_after, equal_after, lemma_after, after, state_from, state_of, AreSteps, IsLog}
+use Rattle.proof_log.specs.Logs.{LogState, start, clause_at, leaf_width, IsStep, leaf_after, block_after, selector_after, equal_after, rewrite_after, lemma_after, after, state_from, state_of, AreSteps, IsLog}
 use Rattle.proof_log.specs.Meanings.{meaning, LogIsOrdered}
 use Rattle.proof_log.proofs.Growing.{clause_each, clause_within}
 use Rattle.proof_log.proofs.Sound.{IsTrueBelow, log_suits}
@@ -73,6 +74,10 @@ equal_length s t u None p = row_length s.clauses _
 equal_length s t u (Some a) None = row_length s.clauses _
 equal_length s t u (Some a) (Some b) = row_length s.clauses _
 
+rewrite_length : (s : LogState) (r : RuleUse) (o : Option (List Literal)) → length (rewrite_after s r o).clauses ≡ suc (length s.clauses)
+rewrite_length s r None = row_length s.clauses _
+rewrite_length s r (Some b) = row_length s.clauses _
+
 lemma_length : (s : LogState) (o : Result (List Literal) LemmaFault) → length (lemma_after s o).clauses ≡ suc (length s.clauses)
 lemma_length s (Err f) = row_length s.clauses _
 lemma_length s (Ok c) = row_length s.clauses _
@@ -82,6 +87,7 @@ step_length nodes s (step.Leaf t) = leaf_length s t (leaf_width nodes t)
 step_length nodes s (step.Encode t) = block_length s t (block_of s.next s.bits (node_at nodes t))
 step_length nodes s (step.Selector a t) = selector_length s a t (s.bits t)
 step_length nodes s (step.Equal t u) = equal_length s t u (s.bits t) (s.bits u)
+step_length nodes s (step.Rewrite r) = rewrite_length s r (s.bits r.to)
 step_length nodes s (step.Lemma l) = lemma_length s (clause_of nodes s.bits s.equals l)
 step_length nodes s e = row_length s.clauses _
 

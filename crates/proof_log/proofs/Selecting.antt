@@ -9,9 +9,10 @@ use Rattle.smt_terms.specs.Nodes.{node_at}
 use Rattle.bit_blast.specs.Blocks.{Block, block_of}
 use Rattle.theory_lemmas.specs.declared.fault.LemmaFault.{LemmaFault}
 use Rattle.theory_lemmas.specs.Clauses.{clause_of}
+use Rattle.proof_log.specs.declared.entry.RuleUse.{RuleUse}
 use Rattle.proof_log.specs.declared.entry.Entry.{Entry}
 use Rattle.proof_log.specs.declared.entry.Entry.TheVariants as step
-use Rattle.proof_log.specs.Logs.{Asserted, LogState, start, leaf_width, leaf_after, block_after, selector_after, equal_after, lemma_after, after, state_from, state_of}
+use Rattle.proof_log.specs.Logs.{Asserted, LogState, start, leaf_width, leaf_after, block_after, selector_after, equal_after, rewrite_after, lemma_after, after, state_from, state_of}
 use Rattle.proof_log.proofs.Sound.{with_value_cases, pair_cases}
 
 -- the selector is a variable, and the step that made it is among these
@@ -48,6 +49,10 @@ equal_same s t u None p = refl
 equal_same s t u (Some a) None = refl
 equal_same s t u (Some a) (Some b) = refl
 
+rewrite_same : (s : LogState) (r : RuleUse) (o : Option (List Literal)) → (rewrite_after s r o).selectors ≡ s.selectors
+rewrite_same s r None = refl
+rewrite_same s r (Some b) = refl
+
 lemma_same : (s : LogState) (o : Result (List Literal) LemmaFault) → (lemma_after s o).selectors ≡ s.selectors
 lemma_same s (Err f) = refl
 lemma_same s (Ok c) = refl
@@ -60,6 +65,8 @@ step_made nodes log s (step.Encode t) h =
 step_made nodes log s (step.Selector a t) h = selector_made log s a t (s.bits t) h
 step_made nodes log s (step.Equal t u) h =
     subst (AreMadeIn (log ++ step.Equal t u ∷ [])) (sym (equal_same s t u (s.bits t) (s.bits u))) (more_made log (step.Equal t u) s.selectors h)
+step_made nodes log s (step.Rewrite r) h =
+    subst (AreMadeIn (log ++ step.Rewrite r ∷ [])) (sym (rewrite_same s r (s.bits r.to))) (more_made log (step.Rewrite r) s.selectors h)
 step_made nodes log s (step.Lemma l) h =
     subst (AreMadeIn (log ++ step.Lemma l ∷ [])) (sym (lemma_same s (clause_of nodes s.bits s.equals l))) (more_made log (step.Lemma l) s.selectors h)
 step_made nodes log s e h = more_made log e s.selectors h
@@ -95,6 +102,10 @@ selector_pairs s a t None = refl
 selector_pairs s a t (Some []) = refl
 selector_pairs s a t (Some (b ∷ bs)) = refl
 
+rewrite_pairs : (s : LogState) (r : RuleUse) (o : Option (List Literal)) → (rewrite_after s r o).equals ≡ s.equals
+rewrite_pairs s r None = refl
+rewrite_pairs s r (Some b) = refl
+
 lemma_pairs : (s : LogState) (o : Result (List Literal) LemmaFault) → (lemma_after s o).equals ≡ s.equals
 lemma_pairs s (Err f) = refl
 lemma_pairs s (Ok c) = refl
@@ -114,6 +125,8 @@ step_paired nodes log s (step.Encode t) h =
     subst (ArePairedIn (log ++ step.Encode t ∷ [])) (sym (block_pairs s t (block_of s.next s.bits (node_at nodes t)))) (more_paired log (step.Encode t) s.equals h)
 step_paired nodes log s (step.Selector a t) h = subst (ArePairedIn (log ++ step.Selector a t ∷ [])) (sym (selector_pairs s a t (s.bits t))) (more_paired log (step.Selector a t) s.equals h)
 step_paired nodes log s (step.Equal t u) h = equal_paired log s t u (s.bits t) (s.bits u) h
+step_paired nodes log s (step.Rewrite r) h =
+    subst (ArePairedIn (log ++ step.Rewrite r ∷ [])) (sym (rewrite_pairs s r (s.bits r.to))) (more_paired log (step.Rewrite r) s.equals h)
 step_paired nodes log s (step.Lemma l) h =
     subst (ArePairedIn (log ++ step.Lemma l ∷ [])) (sym (lemma_pairs s (clause_of nodes s.bits s.equals l))) (more_paired log (step.Lemma l) s.equals h)
 step_paired nodes log s e h = more_paired log e s.equals h

@@ -1,5 +1,6 @@
 -- What a stored log has that stands over a list of terms.
 use Rattle.std.proofs.Common.{◌<◌, List, sym, ap, ◌∙◌, subst}
+use Rattle.std.specs.Prelude.{is_some}
 use Rattle.std.proofs.lemmas.List.Elements.{Contains-push}
 use Rattle.cnf_base.specs.Clauses.{lit_true}
 use Rattle.cnf_base.specs.Assignments.{AreBelow}
@@ -13,6 +14,7 @@ use Rattle.proof_log.specs.Stored.{LogValue, Stands, IsSettled}
 use Rattle.proof_log.specs.Faults.{IsValid, terms_after}
 use Rattle.proof_log.proofs.Sound.{log_is_sound}
 use Rattle.proof_log.proofs.Ordered.{log_is_ordered}
+use Rattle.proof_log.proofs.Linked.{log_linked, linked_bits}
 use Rattle.proof_log.proofs.Standing.{stands_over, bits_width, next_above, clauses_below, clause_is_sound, some_literal}
 
 pub stands_settled : (nodes : List Node) (l : LogValue) → IsTermList nodes → Stands nodes l → IsSettled nodes l
@@ -28,6 +30,11 @@ stands_settled nodes l all h =
           let own = sym (k.bits t) ∙ e in
           let o = ordered.bits t b own in
           (o.0, bits_width nodes l.entries t b all k.steps own, subst (λ n. AreBelow n b) (sym k.next) o.1, (λ M. sound.bits M t b own));
+      images = λ M t u e. sound.images M t u (sym (k.images t) ∙ e);
+      linked = λ t u e.
+          let x = log_linked nodes l.entries k.steps t u (sym (k.images t) ∙ e) in
+          let own = k.bits u ∙ linked_bits nodes l.entries t u k.steps x in
+          (ap is_some own, k.bits t ∙ x.own ∙ sym own);
       selectors = λ a s e.
           let r = some_literal ((state_of nodes l.entries).selectors a) s (sym (k.selectors a) ∙ e) in
           let o = ordered.selectors a r.0 r.1 in (

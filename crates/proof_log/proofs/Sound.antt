@@ -20,11 +20,13 @@ use Rattle.smt_terms.specs.declared.operator.Operator.TheVariants as plain
 use Rattle.smt_terms.specs.declared.node.Op.TheVariants.{Plain}
 use Rattle.smt_terms.specs.declared.node.Node.{Node}
 use Rattle.smt_terms.specs.Nodes.{node_at}
-use Rattle.smt_terms.specs.Ranks.{is_array}
+use Rattle.smt_terms.specs.Ranks.{is_array, is_plain}
 use Rattle.smt_terms.specs.Terms.{IsTermList, sort_of}
 use Rattle.smt_terms.specs.Values.{Value, VBool, VWord, HasSort, Interpretation, no_value, is_true, same_value, value}
 use Rattle.smt_terms.proofs.Evaluating.{value_is_evaluation}
 use Rattle.smt_terms.proofs.Typing.{value_is, typed}
+use Rattle.bv_rules.specs.Matches.{KeepValues}
+use Rattle.bv_rules.proofs.Keeping.{matched, keeps_values}
 use Rattle.bit_blast.specs.Circuits.{Makes, Lacks, built, equality}
 use Rattle.bit_blast.specs.Blocks.{Block, with_first, all_bits, block_over, block_of, circuit_of}
 use Rattle.bit_blast.specs.Meanings.{AreBitsOf, EachIsBits}
@@ -41,10 +43,11 @@ use Rattle.theory_terms.proofs.Shapes.{FactsOf, facts}
 use Rattle.theory_lemmas.specs.Clauses.{clause_of, Means}
 use Rattle.theory_lemmas.proofs.Below.{clause_below}
 use Rattle.theory_lemmas.proofs.Literals.{clause_sound}
+use Rattle.proof_log.specs.declared.entry.RuleUse.{RuleUse}
 use Rattle.proof_log.specs.declared.entry.Entry.{Entry}
 use Rattle.proof_log.specs.declared.entry.Entry.TheVariants as step
 use Rattle.proof_log.specs.Pairs.{with_pair}
-use Rattle.proof_log.specs.Logs.{Asserted, LogState, start, clause_at, with_value, with_row, plain_width, width_by, leaf_width, IsStep, leaf_after, block_after, selector_clause, selector_after, equal_after, lemma_after, after, state_from, state_of, AreSteps, IsLog}
+use Rattle.proof_log.specs.Logs.{Asserted, LogState, start, clause_at, with_value, with_row, plain_width, width_by, leaf_width, IsRuled, IsStep, leaf_after, block_after, selector_clause, selector_after, equal_after, rewrite_after, lemma_after, after, state_from, state_of, AreSteps, IsLog}
 use Rattle.proof_log.specs.Meanings.{bits_number, leaf_mean, block_mean, equal_mean, mean_after, mean_from, meaning, LogIsSound}
 use Rattle.proof_log.proofs.Growing.{clause_each}
 
@@ -118,6 +121,7 @@ pub record Suits (M : Interpretation) (nodes : List Node) (s : LogState) (f : �
   pub clauses : AllByRecursion (AreTrueBelow s.next f) s.clauses
   pub terms : (t : ℕ) (b : List Literal) → s.bits t ≡ Some b → t < length nodes
   pub bits : Known s.next f s.bits (sort_of nodes) (value M nodes)
+  pub images : KeepValues nodes (value M nodes) s.images
   pub selectors : Selecting s.next f s.selectors (value M nodes)
   pub equals : Equating s.next f s.equals (value M nodes)
 
@@ -135,6 +139,13 @@ known_more m g bits sorts values t new h held is u b e =
 terms_more : (nodes : List Node) (bits : ℕ → Option (List Literal)) (t : ℕ) (new : List Literal) → ((u : ℕ) (b : List Literal) → bits u ≡ Some b → u < length nodes) → t < length nodes → (u : ℕ) (b : List Literal) → with_value bits t new u ≡ Some b → u < length nodes
 terms_more nodes bits t new h within u b e =
     ⊎_elim (λ p. subst (λ w. w < length nodes) (sym p.0) within) (λ p. h u b p) (with_value_cases bits t new u b e)
+
+images_more : (nodes : List Node) (values : ℕ → Value) (images : ℕ → Option ℕ) (t u : ℕ) → KeepValues nodes values images → is_plain (sort_of nodes t) ≡ true → values u ≡ values t → KeepValues nodes values (with_value images t u)
+images_more nodes values images t u h plain same x y e =
+    ⊎_elim
+    (λ p. subst (λ z. (is_plain (sort_of nodes z) ≡ true) × (values y ≡ values z)) (sym p.0) (plain, ap values (sym p.1) ∙ same))
+    (λ p. h x y p)
+    (with_value_cases images t u x y e)
 
 selecting_keeps : (n m : ℕ) (f g : ℕ → Bool) → AgreeBelow n f g → n ≤ m → (selectors : ℕ → Option Asserted) (values : ℕ → Value) → Selecting n f selectors values → Selecting m g selectors values
 selecting_keeps n m f g a le selectors values h x r e =
@@ -169,6 +180,7 @@ row_suits M nodes s f row h k = record {
   clauses = each_append (AreTrueBelow s.next f) s.clauses (row ∷ []) h.clauses (k, tt);
   terms = h.terms;
   bits = h.bits;
+  images = h.images;
   selectors = h.selectors;
   equals = h.equals;
 }
@@ -285,6 +297,7 @@ module _ (M : Interpretation) (nodes : List Node) (all : IsTermList nodes) where
             known_more (s.next + n) g s.bits (sort_of nodes) (value M nodes) t (fresh_bits s.next n)
             (known_keeps s.next (s.next + n) f g a le s.bits (sort_of nodes) (value M nodes) h.bits)
             (AreBelow-fresh_bits n s.next) is;
+        images = h.images;
         selectors = selecting_keeps s.next (s.next + n) f g a le s.selectors (value M nodes) h.selectors;
         equals = equating_keeps s.next (s.next + n) f g a le s.equals (value M nodes) h.equals;
       }
@@ -336,6 +349,7 @@ module _ (M : Interpretation) (nodes : List Node) (all : IsTermList nodes) where
             (row_of_both m g (gates_clauses s.next b.gates) ((gates_mean g s.next b.gates).1 have) (gates_clauses-below b.gates s.next ordered.0), tt);
         terms = terms_more nodes s.bits t b.bits h.terms within;
         bits = known_more m g s.bits (sort_of nodes) (value M nodes) t b.bits known ordered.1 (subst (AreBitsOf g (sort_of nodes t) b.bits) (sym (value_is M nodes t term)) is);
+        images = h.images;
         selectors = selecting_keeps s.next m f g a le s.selectors (value M nodes) h.selectors;
         equals = equating_keeps s.next m f g a le s.equals (value M nodes) h.equals;
       }
@@ -367,6 +381,7 @@ module _ (M : Interpretation) (nodes : List Node) (all : IsTermList nodes) where
         clauses = each_append (AreTrueBelow (suc s.next) g) s.clauses ((selector_clause s.next l ∷ []) ∷ []) (rows_keep s.next (suc s.next) f g a le s.clauses h.clauses) ((new, tt), tt);
         terms = h.terms;
         bits = known_keeps s.next (suc s.next) f g a le s.bits (sort_of nodes) (value M nodes) h.bits;
+        images = h.images;
         selectors =
             selecting_more (suc s.next) g s.selectors (value M nodes) x (record { literal = positive_of s.next; term = t })
             (selecting_keeps s.next (suc s.next) f g a le s.selectors (value M nodes) h.selectors) own here;
@@ -401,6 +416,7 @@ module _ (M : Interpretation) (nodes : List Node) (all : IsTermList nodes) where
             (row_of_both m g (gates_clauses s.next gates) ((gates_mean g s.next gates).1 have) (gates_clauses-below gates s.next ordered.0), tt);
         terms = h.terms;
         bits = known;
+        images = h.images;
         selectors = selecting_keeps s.next m f g agree le s.selectors (value M nodes) h.selectors;
         equals =
             equating_more m g s.equals (value M nodes) t u (equal_bit s.next true_literal a b)
@@ -433,6 +449,26 @@ module _ (M : Interpretation) (nodes : List Node) (all : IsTermList nodes) where
       let below = clause_below s.next s.bits s.equals h.next (λ t b q. (h.bits t b q).0) (λ t u k q. (h.equals t u k q).below) nodes l c e in
       row_suits M nodes s f (c ∷ []) h ((holds, below), tt)
 
+  -- ---- rewriting
+
+  -- a term has the sort and the value of the one to which a rule takes it, so its bits
+  rewrite_suits : (s : LogState) (f : ℕ → Bool) (r : RuleUse) (b : List Literal) → Suits M nodes s f → IsRuled nodes s.images r → s.bits r.to ≡ Some b → Suits M nodes (rewrite_after s r (Some b)) f
+  rewrite_suits s f r b h i e =
+      let m = matched nodes s.images i.rule r.from r.to i.takes in
+      let same : value M nodes r.to ≡ value M nodes r.from = keeps_values M nodes s.images i.rule r.from r.to all h.images i.takes in
+      let k = h.bits r.to b e in
+      let is : AreBitsOf f (sort_of nodes r.from) b (value M nodes r.from) = subst (λ w. AreBitsOf f w b (value M nodes r.from)) m.sort (subst (AreBitsOf f (sort_of nodes r.to) b) same k.1) in
+      record {
+        one = h.one;
+        next = h.next;
+        clauses = each_append (AreTrueBelow s.next f) s.clauses ([] ∷ []) h.clauses (tt, tt);
+        terms = terms_more nodes s.bits r.from b h.terms m.from;
+        bits = known_more s.next f s.bits (sort_of nodes) (value M nodes) r.from b h.bits k.0 is;
+        images = images_more nodes (value M nodes) s.images r.from r.to h.images m.plain same;
+        selectors = h.selectors;
+        equals = h.equals;
+      }
+
   -- ---- all steps
 
   pub step_suits : (s : LogState) (f : ℕ → Bool) (e : Entry) → Suits M nodes s f → IsStep nodes s e → Suits M nodes (after nodes s e) (mean_after M nodes s f e)
@@ -459,7 +495,9 @@ module _ (M : Interpretation) (nodes : List Node) (all : IsTermList nodes) where
   step_suits s f (step.Lemma l) h i =
       subst (λ o. Suits M nodes (lemma_after s o) f) (sym i.is)
       (lemma_suits s f l i.clause h i.is)
-  step_suits s f (step.Rewrite r) h i = absurd i
+  step_suits s f (step.Rewrite r) h i =
+      let b = some_value (s.bits r.to) i.held in
+      subst (λ o. Suits M nodes (rewrite_after s r o) f) (sym b.1) (rewrite_suits s f r b.0 h i.ruled b.1)
 
   pub run_suits : (s : LogState) (f : ℕ → Bool) (log : List Entry) → Suits M nodes s f → AreSteps nodes s log → Suits M nodes (state_from nodes s log) (mean_from M nodes s f log)
   run_suits s f [] h i = h
@@ -472,6 +510,7 @@ module _ (M : Interpretation) (nodes : List Node) (all : IsTermList nodes) where
     clauses = (((refl, (omega arith, tt)), tt), tt);
     terms = λ t b e. let q : ⊥ = cc in absurd q;
     bits = λ t b e. let q : ⊥ = cc in absurd q;
+    images = λ t u e. let q : ⊥ = cc in absurd q;
     selectors = λ x t e. let q : ⊥ = cc in absurd q;
     equals = λ t u l e. let q : ⊥ = cc in absurd q;
   }
@@ -483,6 +522,7 @@ pub log_is_sound : (nodes : List Node) (log : List Entry) → IsTermList nodes �
 log_is_sound nodes log all i = record {
   clauses = λ id c e M. let h = log_suits M nodes all log i in (clause_each (IsTrueBelow (state_of nodes log).next (meaning M nodes log)) (state_of nodes log).clauses id c h.clauses e).0;
   bits = λ M t b e. ((log_suits M nodes all log i).bits t b e).1;
+  images = λ M. (log_suits M nodes all log i).images;
   selectors = λ M a r e. ((log_suits M nodes all log i).selectors a r e).1;
   equals = λ M t u l e. ((log_suits M nodes all log i).equals t u l e).means;
 }

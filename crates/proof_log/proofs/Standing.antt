@@ -1,6 +1,6 @@
 -- What a stored log stands for, before and after a step.
 use Rattle.std.proofs.Common.{◌≡◌, ℕ, suc, ◌+◌, ◌<◌, ◌≤◌, Bool, true, false, List, [], ◌∷◌, ◌++◌, length, take, drop, Option, Some, None, Ok, refl, sym, ap, ◌∙◌, subst, ⊎_elim, arith, length-append}
-use Rattle.std.specs.Prelude.{◌==◌, ◌&&◌, if◌then◌else◌}
+use Rattle.std.specs.Prelude.{◌==◌, ◌&&◌, if◌then◌else◌, unwrap_or}
 use Rattle.std.proofs.lemmas.Bool.{eq-eqb, ne_eqb}
 use Rattle.std.proofs.lemmas.List.{take-append-drop, take-append-le}
 use Rattle.std.proofs.Math.Seq.{take-length}
@@ -17,19 +17,20 @@ use Rattle.smt_terms.specs.declared.node.Node.{Node}
 use Rattle.smt_terms.specs.Nodes.{node_at}
 use Rattle.smt_terms.specs.Terms.{IsSort, IsTermList, sort_of}
 use Rattle.smt_terms.specs.Values.{Value, value}
-use Rattle.smt_terms.specs.Bits.{TermBits, bits_in, with_bits}
+use Rattle.smt_terms.specs.Bits.{TermBits, bits_in, image_in, with_bits}
 use Rattle.smt_terms.proofs.Widths.{sort_bounded}
 use Rattle.bit_blast.specs.Blocks.{Block, block_of, EachShort}
 use Rattle.bit_blast.specs.Meanings.{AreBitsOf}
 use Rattle.theory_terms.specs.declared.lemma.Lemma.{Lemma}
 use Rattle.theory_lemmas.specs.Clauses.{clause_of}
 use Rattle.proof_log.specs.declared.equals.EqualRow.{EqualRow}
+use Rattle.proof_log.specs.declared.entry.RuleUse.{RuleUse}
 use Rattle.proof_log.specs.declared.entry.Entry.{Entry}
 use Rattle.proof_log.specs.declared.entry.Entry.TheVariants as step
 use Rattle.proof_log.specs.Pairs.{found, with_pair}
-use Rattle.proof_log.specs.Logs.{Asserted, LogState, start, clause_at, entry_at, with_value, with_row, selector_clause, plain_width, leaf_width, IsStep, IsPair, leaf_after, block_after, selector_after, equal_after, lemma_after, after, state_of, IsLog}
+use Rattle.proof_log.specs.Logs.{Asserted, LogState, start, clause_at, entry_at, with_value, with_row, selector_clause, plain_width, leaf_width, IsStep, IsPair, leaf_after, block_after, selector_after, equal_after, rewrite_after, lemma_after, after, state_of, IsLog}
 use Rattle.proof_log.specs.Meanings.{meaning, IsSound}
-use Rattle.proof_log.specs.Stored.{LogValue, selector_in, literal_of, row_literal, equal_in, IsKept, Stands, clauses_of, with_leaf, with_block, with_lemma, with_plain, HaveEqualBits, IsPairedBy, IsSelected}
+use Rattle.proof_log.specs.Stored.{LogValue, selector_in, literal_of, row_literal, equal_in, IsKept, Stands, clauses_of, with_leaf, with_block, with_lemma, with_rewrite, with_plain, HaveEqualBits, IsPairedBy, IsSelected}
 use Rattle.proof_log.proofs.Placing.{entry_more, entry_last}
 use Rattle.proof_log.proofs.Sound.{eqb_flip, pair_cases, log_suits, leaf_sort, log_is_sound}
 use Rattle.proof_log.proofs.Staying.{state_from-append, steps_append, same_state, steps_longer}
@@ -52,13 +53,14 @@ some_literal (Some r) l e = let q : r.literal ≡ l = cc in (r, refl, q)
 
 -- ---- more terms
 
-pub kept_longer : (nodes more : List Node) (l : LogValue) → IsKept nodes l → IsKept (nodes ++ more) l
-kept_longer nodes more l k =
+pub kept_longer : (nodes more : List Node) (l : LogValue) → IsTermList nodes → IsKept nodes l → IsKept (nodes ++ more) l
+kept_longer nodes more l all k =
     let e : state_of nodes l.entries ≡ state_of (nodes ++ more) l.entries = sym (same_state nodes more start l.entries k.steps) in
     record {
-      steps = steps_longer nodes more start l.entries k.steps;
+      steps = steps_longer nodes more all start l.entries k.steps;
       next = k.next ∙ ap (λ s. s.next) e;
       bits = λ t. k.bits t ∙ ap (λ s. s.bits t) e;
+      images = λ t. k.images t ∙ ap (λ s. s.images t) e;
       selectors = λ a. k.selectors a ∙ ap (λ s. literal_of (s.selectors a)) e;
       equals = λ t u. k.equals t u ∙ ap (λ s. s.equals t u) e;
       pairs = k.pairs;
@@ -69,19 +71,25 @@ kept_longer nodes more l k =
 -- what is kept stands over all terms
 pub stands_over : (nodes : List Node) (l : LogValue) → Stands nodes l → IsKept nodes l
 stands_over nodes l h =
-    subst (λ ns. IsKept ns l) (take-append-drop l.over nodes) (kept_longer (take l.over nodes) (drop l.over nodes) l h.kept)
+    subst (λ ns. IsKept ns l) (take-append-drop l.over nodes) (kept_longer (take l.over nodes) (drop l.over nodes) l h.terms h.kept)
 
-pub stands_all : (nodes : List Node) (l : LogValue) → l.over ≡ length nodes → IsKept nodes l → Stands nodes l
-stands_all nodes l e k = record {
-  within = omega arith;
-  kept = subst (λ ns. IsKept ns l) (sym (ap (λ n. take n nodes) e ∙ take-length nodes)) k;
-}
+pub stands_all : (nodes : List Node) (l : LogValue) → l.over ≡ length nodes → IsTermList nodes → IsKept nodes l → Stands nodes l
+stands_all nodes l e all k =
+    let whole = sym (ap (λ n. take n nodes) e ∙ take-length nodes) in
+    record {
+      within = omega arith;
+      terms = subst IsTermList whole all;
+      kept = subst (λ ns. IsKept ns l) whole k;
+    }
 
 pub stands_longer : (nodes more : List Node) (l : LogValue) → Stands nodes l → Stands (nodes ++ more) l
-stands_longer nodes more l h = record {
-  within = omega (arith, h.within, length-append nodes more);
-  kept = subst (λ ns. IsKept ns l) (sym (take-append-le l.over nodes more h.within)) h.kept;
-}
+stands_longer nodes more l h =
+    let same = sym (take-append-le l.over nodes more h.within) in
+    record {
+      within = omega (arith, h.within, length-append nodes more);
+      terms = subst IsTermList same h.terms;
+      kept = subst (λ ns. IsKept ns l) same h.kept;
+    }
 
 -- ---- widths
 
@@ -113,22 +121,45 @@ leaf_small nodes t n all within e =
 
 -- ---- one step more
 
--- a term's new bits are the last
-bits_more : (held : List TermBits) (t : ℕ) (row : List Literal) (u : ℕ) → bits_in held t ≡ None → bits_in (with_bits held t row) u ≡ with_value (bits_in held) t row u
-bits_more [] t row u n = ap (λ b. if b then Some row else None) (eqb_flip t u)
-bits_more (e ∷ held) t row u n = go (e.term == u) (e.term == t) refl refl n (bits_more held t row u)
+-- a term's new bits are the last, whether its own or those of an image
+bits_more : (held : List TermBits) (t : ℕ) (row : List Literal) (o : Option ℕ) (u : ℕ) → bits_in held t ≡ None → bits_in (held ++ record { term = t; bits = row; image = o } ∷ []) u ≡ with_value (bits_in held) t row u
+bits_more [] t row o u n = ap (λ b. if b then Some row else None) (eqb_flip t u)
+bits_more (e ∷ held) t row o u n = go (e.term == u) (e.term == t) refl refl n (bits_more held t row o u)
   where
     go : (b c : Bool) → (e.term == u) ≡ b → (e.term == t) ≡ c → (if c then Some e.bits else bits_in held t) ≡ None
-        → (bits_in held t ≡ None → bits_in (with_bits held t row) u ≡ with_value (bits_in held) t row u)
-        → (if b then Some e.bits else bits_in (with_bits held t row) u) ≡ (if u == t then Some row else (if b then Some e.bits else bits_in held u))
+        → (bits_in held t ≡ None → bits_in (held ++ record { term = t; bits = row; image = o } ∷ []) u ≡ with_value (bits_in held) t row u)
+        → (if b then Some e.bits else bits_in (held ++ record { term = t; bits = row; image = o } ∷ []) u) ≡ (if u == t then Some row else (if b then Some e.bits else bits_in held u))
     go b true p q m rest = let f : ⊥ = cc in absurd f
     go true false p q m rest =
         let ne : u ≡ t → ⊥ = λ x. (let r : (e.term == t) ≡ true = ap (λ w. e.term == w) (sym x) ∙ p in let f : ⊥ = cc in f) in
         sym (ap (λ b. if b then Some row else Some e.bits) (ne_eqb u t ne))
     go false false p q m rest = rest m
 
-short_more : (held : List TermBits) (t : ℕ) (row : List Literal) → EachShort held → length row ≤ 128 → EachShort (with_bits held t row)
-short_more held t row h le = each_append (λ e. length e.bits ≤ 128) held (record { term = t; bits = row; image = None } ∷ []) h (le, tt)
+-- bits of its own give a term no image
+own_image : (held : List TermBits) (t : ℕ) (row : List Literal) (u : ℕ) → image_in (with_bits held t row) u ≡ image_in held u
+own_image [] t row u = go (t == u)
+  where
+    go : (b : Bool) → (let o : Option ℕ = if b then None else None in o) ≡ None
+    go true = refl
+    go false = refl
+own_image (e ∷ held) t row u = ap (λ o. if e.term == u then e.image else o) (own_image held t row u)
+
+-- the bits of another give it that one as its image
+linked_image : (held : List TermBits) (t : ℕ) (row : List Literal) (w u : ℕ) → bits_in held t ≡ None → image_in (held ++ record { term = t; bits = row; image = Some w } ∷ []) u ≡ with_value (image_in held) t w u
+linked_image [] t row w u n = ap (λ b. if b then Some w else None) (eqb_flip t u)
+linked_image (e ∷ held) t row w u n = go (e.term == u) (e.term == t) refl refl n (linked_image held t row w u)
+  where
+    go : (b c : Bool) → (e.term == u) ≡ b → (e.term == t) ≡ c → (if c then Some e.bits else bits_in held t) ≡ None
+        → (bits_in held t ≡ None → image_in (held ++ record { term = t; bits = row; image = Some w } ∷ []) u ≡ with_value (image_in held) t w u)
+        → (if b then e.image else image_in (held ++ record { term = t; bits = row; image = Some w } ∷ []) u) ≡ (if u == t then Some w else (if b then e.image else image_in held u))
+    go b true p q m rest = let f : ⊥ = cc in absurd f
+    go true false p q m rest =
+        let ne : u ≡ t → ⊥ = λ x. (let r : (e.term == t) ≡ true = ap (λ z. e.term == z) (sym x) ∙ p in let f : ⊥ = cc in f) in
+        sym (ap (λ b. if b then Some w else e.image) (ne_eqb u t ne))
+    go false false p q m rest = rest m
+
+short_more : (held : List TermBits) (t : ℕ) (row : List Literal) (o : Option ℕ) → EachShort held → length row ≤ 128 → EachShort (held ++ record { term = t; bits = row; image = o } ∷ [])
+short_more held t row o h le = each_append (λ e. length e.bits ≤ 128) held (record { term = t; bits = row; image = o } ∷ []) h (le, tt)
 
 same_value : {A : Type 0} (f g : ℕ → Option A) (t : ℕ) (row : A) (u : ℕ) → f u ≡ g u → with_value f t row u ≡ with_value g t row u
 same_value f g t row u e = ap (λ o. if u == t then Some row else o) e
@@ -137,6 +168,7 @@ same_value f g t row u e = ap (λ o. if u == t then Some row else o) e
 pub record Matches (l : LogValue) (s : LogState) : Type 0 where
   pub next : l.next ≡ s.next
   pub bits : (t : ℕ) → bits_in l.bits t ≡ s.bits t
+  pub images : (t : ℕ) → image_in l.bits t ≡ s.images t
   pub selectors : (a : ℕ) → selector_in l.selectors a ≡ literal_of (s.selectors a)
   pub equals : (t u : ℕ) → equal_in l.equals t u ≡ s.equals t u
   pub clauses : l.clauses ≡ s.clauses
@@ -161,6 +193,7 @@ kept_after nodes l new e k i ee pairs m short =
       steps = subst (IsLog nodes) (sym ee) (steps_append nodes start l.entries (e ∷ []) k.steps (i, tt));
       next = m.next ∙ ap (λ s. s.next) g;
       bits = λ t. m.bits t ∙ ap (λ s. s.bits t) g;
+      images = λ t. m.images t ∙ ap (λ s. s.images t) g;
       selectors = λ a. m.selectors a ∙ ap (λ s. literal_of (s.selectors a)) g;
       equals = λ t u. m.equals t u ∙ ap (λ s. s.equals t u) g;
       pairs = pairs;
@@ -177,7 +210,7 @@ new_short nodes l e t row all k i b =
 pub kept_plain : (nodes : List Node) (l : LogValue) (e : Entry) → IsKept nodes l → IsStep nodes (state_of nodes l.entries) e → after nodes (state_of nodes l.entries) e ≡ with_row (state_of nodes l.entries) (clauses_of e []) → IsKept nodes (with_plain l (length nodes) e)
 kept_plain nodes l e k i a =
     kept_after nodes l (with_plain l (length nodes) e) e k i refl (pairs_longer l (with_plain l (length nodes) e) e refl refl k.pairs)
-    (subst (Matches (with_plain l (length nodes) e)) (sym a) (record { next = k.next; bits = k.bits; selectors = k.selectors; equals = k.equals; clauses = ap (λ cs. cs ++ clauses_of e [] ∷ []) k.clauses }))
+    (subst (Matches (with_plain l (length nodes) e)) (sym a) (record { next = k.next; bits = k.bits; images = k.images; selectors = k.selectors; equals = k.equals; clauses = ap (λ cs. cs ++ clauses_of e [] ∷ []) k.clauses }))
     k.short
 
 pub kept_leaf : (nodes : List Node) (l : LogValue) (t n : ℕ) → IsTermList nodes → IsKept nodes l → IsStep nodes (state_of nodes l.entries) (step.Leaf t) → leaf_width nodes t ≡ Some n → IsKept nodes (with_leaf l (length nodes) t n)
@@ -191,12 +224,13 @@ kept_leaf nodes l t n all k i w =
     kept_after nodes l (with_leaf l (length nodes) t n) (step.Leaf t) k i refl (pairs_longer l (with_leaf l (length nodes) t n) (step.Leaf t) refl refl k.pairs)
     (subst (Matches new) goes (record {
       next = ap (λ x. x + n) k.next;
-      bits = λ u. bits_more l.bits t (fresh_bits l.next n) u none ∙ same_value (bits_in l.bits) s.bits t (fresh_bits l.next n) u (k.bits u) ∙ ap (λ r. with_value s.bits t r u) row;
+      bits = λ u. bits_more l.bits t (fresh_bits l.next n) None u none ∙ same_value (bits_in l.bits) s.bits t (fresh_bits l.next n) u (k.bits u) ∙ ap (λ r. with_value s.bits t r u) row;
+      images = λ u. own_image l.bits t (fresh_bits l.next n) u ∙ k.images u;
       selectors = k.selectors;
       equals = k.equals;
       clauses = ap (λ cs. cs ++ [] ∷ []) k.clauses;
     }))
-    (short_more l.bits t (fresh_bits l.next n) k.short (subst (λ r. length r ≤ 128) (sym row) (new_short nodes l (step.Leaf t) t _ all k i here)))
+    (short_more l.bits t (fresh_bits l.next n) None k.short (subst (λ r. length r ≤ 128) (sym row) (new_short nodes l (step.Leaf t) t _ all k i here)))
 
 pub kept_block : (nodes : List Node) (l : LogValue) (t : ℕ) (b : Block) → IsTermList nodes → IsKept nodes l → IsStep nodes (state_of nodes l.entries) (step.Encode t) → block_of (state_of nodes l.entries).next (state_of nodes l.entries).bits (node_at nodes t) ≡ Some b → IsKept nodes (with_block l (length nodes) t b)
 kept_block nodes l t b all k i w =
@@ -207,12 +241,13 @@ kept_block nodes l t b all k i w =
     kept_after nodes l (with_block l (length nodes) t b) (step.Encode t) k i refl (pairs_longer l (with_block l (length nodes) t b) (step.Encode t) refl refl k.pairs)
     (subst (Matches (with_block l (length nodes) t b)) goes (record {
       next = ap (λ x. x + length b.gates) k.next;
-      bits = λ u. bits_more l.bits t b.bits u none ∙ same_value (bits_in l.bits) s.bits t b.bits u (k.bits u);
+      bits = λ u. bits_more l.bits t b.bits None u none ∙ same_value (bits_in l.bits) s.bits t b.bits u (k.bits u);
+      images = λ u. own_image l.bits t b.bits u ∙ k.images u;
       selectors = k.selectors;
       equals = k.equals;
       clauses = ap (λ cs. cs ++ gates_clauses l.next b.gates ∷ []) k.clauses ∙ ap (λ x. s.clauses ++ gates_clauses x b.gates ∷ []) k.next;
     }))
-    (short_more l.bits t b.bits k.short (new_short nodes l (step.Encode t) t b.bits all k i here))
+    (short_more l.bits t b.bits None k.short (new_short nodes l (step.Encode t) t b.bits all k i here))
 
 literal_more : (f : ℕ → Option Literal) (g : ℕ → Option Asserted) (a : ℕ) (r : Asserted) (x : ℕ) → f x ≡ literal_of (g x) → with_value f a r.literal x ≡ literal_of (with_value g a r x)
 literal_more f g a r x e = go (x == a)
@@ -229,6 +264,7 @@ kept_selector nodes l new a t bit k i w h =
     (subst (Matches new) goes (record {
       next = h.next ∙ ap suc k.next;
       bits = λ u. ap (λ b. bits_in b u) h.bits ∙ k.bits u;
+      images = λ u. ap (λ b. image_in b u) h.bits ∙ k.images u;
       selectors = λ x.
           h.selectors x ∙ ap (λ n. with_value (selector_in l.selectors) a (positive_of n) x) k.next
           ∙ literal_more (selector_in l.selectors) s.selectors a (record { literal = positive_of s.next; term = t }) x (k.selectors x);
@@ -278,6 +314,7 @@ kept_equal nodes l new t u a b k i e f h =
     (subst (Matches new) goes (record {
       next = h.next ∙ ap (λ n. n + length (equal_gates n true_literal a b)) k.next;
       bits = λ x. ap (λ bs. bits_in bs x) h.bits ∙ k.bits x;
+      images = λ x. ap (λ bs. image_in bs x) h.bits ∙ k.images x;
       selectors = λ x. ap (λ ss. selector_in ss x) h.selectors ∙ k.selectors x;
       equals = λ x y. ap row_literal (h.equals x y) ∙ pair_literal (found l.equals) s.equals t u row x y (k.equals x y) ∙ ap (λ n. with_pair s.equals t u (equal_bit n true_literal a b) x y) k.next;
       clauses =
@@ -292,8 +329,28 @@ kept_lemma nodes l a c k i e =
     let s = state_of nodes l.entries in
     let goes : with_row (state_of nodes l.entries) (c ∷ []) ≡ after nodes (state_of nodes l.entries) (step.Lemma a) = ap (lemma_after s) (sym e) in
     kept_after nodes l (with_lemma l (length nodes) a c) (step.Lemma a) k i refl (pairs_longer l (with_lemma l (length nodes) a c) (step.Lemma a) refl refl k.pairs)
-    (subst (Matches (with_lemma l (length nodes) a c)) goes (record { next = k.next; bits = k.bits; selectors = k.selectors; equals = k.equals; clauses = ap (λ cs. cs ++ (c ∷ []) ∷ []) k.clauses }))
+    (subst (Matches (with_lemma l (length nodes) a c)) goes (record { next = k.next; bits = k.bits; images = k.images; selectors = k.selectors; equals = k.equals; clauses = ap (λ cs. cs ++ (c ∷ []) ∷ []) k.clauses }))
     k.short
+
+-- a term with the bits of the one to which a rule takes it
+pub kept_rewrite : (nodes : List Node) (l : LogValue) (r : RuleUse) → IsTermList nodes → IsKept nodes l → IsStep nodes (state_of nodes l.entries) (step.Rewrite r) → IsKept nodes (with_rewrite l (length nodes) r)
+kept_rewrite nodes l r all k i =
+    let s = state_of nodes l.entries in
+    let b = some_value ((state_of nodes l.entries).bits r.to) i.held in
+    let goes : rewrite_after (state_of nodes l.entries) r (Some b.0) ≡ rewrite_after (state_of nodes l.entries) r ((state_of nodes l.entries).bits r.to) = ap (rewrite_after s r) (sym b.1) in
+    let here : (after nodes (state_of nodes l.entries) (step.Rewrite r)).bits r.from ≡ Some b.0 = ap (λ x. x.bits r.from) (sym goes) ∙ value_here s.bits r.from b.0 in
+    let none : bits_in l.bits r.from ≡ None = k.bits r.from ∙ i.new in
+    let row : unwrap_or (bits_in l.bits r.to) [] ≡ b.0 = ap (λ o. unwrap_or o []) (k.bits r.to ∙ b.1) in
+    kept_after nodes l (with_rewrite l (length nodes) r) (step.Rewrite r) k i refl (pairs_longer l (with_rewrite l (length nodes) r) (step.Rewrite r) refl refl k.pairs)
+    (subst (Matches (with_rewrite l (length nodes) r)) goes (record {
+      next = k.next;
+      bits = λ u. bits_more l.bits r.from (unwrap_or (bits_in l.bits r.to) []) (Some r.to) u none ∙ same_value (bits_in l.bits) s.bits r.from (unwrap_or (bits_in l.bits r.to) []) u (k.bits u) ∙ ap (λ x. with_value s.bits r.from x u) row;
+      images = λ u. linked_image l.bits r.from (unwrap_or (bits_in l.bits r.to) []) r.to u none ∙ same_value (image_in l.bits) s.images r.from r.to u (k.images u);
+      selectors = k.selectors;
+      equals = k.equals;
+      clauses = ap (λ cs. cs ++ [] ∷ []) k.clauses;
+    }))
+    (short_more l.bits r.from (unwrap_or (bits_in l.bits r.to) []) (Some r.to) k.short (subst (λ x. length x ≤ 128) (sym row) (new_short nodes l (step.Rewrite r) r.from b.0 all k i here)))
 
 -- ---- what a stored log has
 

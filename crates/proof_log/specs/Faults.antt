@@ -1,5 +1,5 @@
 -- Which steps are valid against a list of terms and a log, and what shows that one is not.
-use Rattle.std.specs.Prelude.{◌≡◌, ◌≢◌, ℕ, suc, ◌≤◌, List, length, position, Option, Some, None, Result, Ok, Err, Contains}
+use Rattle.std.specs.Prelude.{◌≡◌, ◌≢◌, ◌⊎◌, ℕ, suc, false, ◌≤◌, List, length, position, Option, Some, None, Result, Ok, Err, IsSome, Contains}
 use Rattle.cnf_base.specs.Literals.{Literal}
 use Rattle.cnf_base.specs.Assignments.{AreBelow}
 use Rattle.cnf_base.specs.declared.clause.ClauseId.{ClauseId}
@@ -11,9 +11,13 @@ use Rattle.smt_terms.specs.declared.fault.MakeError.{MakeError}
 use Rattle.smt_terms.specs.declared.fault.MakeError.TheVariants.{NoMemory, Fault}
 use Rattle.smt_terms.specs.Same.{same_node}
 use Rattle.smt_terms.specs.Terms.{TermsValue, Agrees, make, with_node}
+use Rattle.bv_rules.specs.declared.rule.Rule.{Rule}
+use Rattle.bv_rules.specs.Numbers.{number_of}
+use Rattle.bv_rules.specs.Matches.{matches}
 use Rattle.hint_chain.specs.Faults.{FirstFault}
 use Rattle.theory_terms.specs.declared.lemma.Lemma.{Lemma}
 use Rattle.theory_lemmas.specs.Clauses.{clause_of}
+use Rattle.proof_log.specs.declared.entry.RuleUse.{RuleUse}
 use Rattle.proof_log.specs.declared.entry.Entry.{Entry}
 use Rattle.proof_log.specs.declared.entry.Entry.TheVariants as step
 use Rattle.proof_log.specs.declared.entry.Role.TheVariants as role
@@ -114,13 +118,21 @@ ShowsChain next rows c hints (kept.Variable x) = (l : Literal) × Contains c l �
 ShowsChain next rows c hints (kept.Chain f) = AreBelow next c × FirstFault (clause_at rows) c hints f
 ShowsChain next rows c hints _ = ⊥
 
+-- The number that no rule has; the terms of which the rule does not take the one to the other; or the term that has bits, or
+-- its image that has none.
+abbrev pub ShowsRewrite : List Node → LogState → RuleUse → Kept → Type 0
+ShowsRewrite nodes s r (kept.NoRule n) = (n ≡ r.rule) × ((rule : Rule) → number_of rule ≡ n → ⊥)
+ShowsRewrite nodes s r (kept.Terms t u) = (t ≡ r.from) × (u ≡ r.to) × (rule : Rule) × (number_of rule ≡ r.rule) × (matches nodes s.images rule t u ≡ false)
+ShowsRewrite nodes s r (kept.Term t) = ((t ≡ r.from) × IsSome (s.bits t)) ⊎ ((t ≡ r.to) × (s.bits t ≡ None))
+ShowsRewrite nodes s r _ = ⊥
+
 abbrev pub Shows : TermsValue → LogState → Entry → Kept → Type 0
 Shows v s (step.Node n) k = ShowsNode v n k
 Shows v s (step.Leaf t) k = ShowsTerm t k
 Shows v s (step.Encode t) k = ShowsTerm t k
 Shows v s (step.Selector a t) k = ShowsSelector s a t k
 Shows v s (step.Chain c hints) k = ShowsChain s.next s.clauses c hints k
-Shows v s (step.Rewrite r) k = k ≡ kept.NoRule
+Shows v s (step.Rewrite r) k = ShowsRewrite v.nodes s r k
 Shows v s (step.Equal t u) k = ShowsEqual s t u k
 Shows v s (step.Lemma l) k = ShowsLemma v.nodes s l k
 

@@ -1,5 +1,5 @@
 -- Logs: which steps may stand after others, and what they leave.
-use Rattle.std.specs.Prelude.{◌≡◌, ℕ, zero, suc, ◌+◌, ◌<◌, ◌==◌, ◌&&◌, ltb, if◌then◌else◌, List, [], ◌∷◌, ◌++◌, length, Option, Some, None, Result, Ok, Err, IsSome, Contains, slice_get}
+use Rattle.std.specs.Prelude.{◌≡◌, ℕ, zero, suc, true, ◌+◌, ◌<◌, ◌==◌, ◌&&◌, ltb, if◌then◌else◌, List, [], ◌∷◌, ◌++◌, length, Option, Some, None, Result, Ok, Err, IsSome, Contains, slice_get}
 use Rattle.cnf_base.specs.Literals.{Literal, positive_of, negative_of, true_literal}
 use Rattle.cnf_base.specs.Assignments.{AreBelow, fresh_bits}
 use Rattle.cnf_base.specs.Choices.{equal_gates, equal_bit}
@@ -13,6 +13,9 @@ use Rattle.smt_terms.specs.declared.node.Node.{Node}
 use Rattle.smt_terms.specs.Nodes.{node_at}
 use Rattle.smt_terms.specs.Ranks.{is_array}
 use Rattle.smt_terms.specs.Terms.{sort_of}
+use Rattle.bv_rules.specs.declared.rule.Rule.{Rule}
+use Rattle.bv_rules.specs.Numbers.{number_of}
+use Rattle.bv_rules.specs.Matches.{matches}
 use Rattle.bit_blast.specs.Blocks.{Block, block_of}
 use Rattle.hint_chain.specs.Chains.{IsChain}
 use Rattle.theory_terms.specs.declared.shape.Shape.{Shape}
@@ -21,6 +24,7 @@ use Rattle.theory_terms.specs.declared.lemma.Lemma.{Lemma}
 use Rattle.theory_terms.specs.Shapes.{shape_at}
 use Rattle.theory_lemmas.specs.declared.fault.LemmaFault.{LemmaFault}
 use Rattle.theory_lemmas.specs.Clauses.{clause_of}
+use Rattle.proof_log.specs.declared.entry.RuleUse.{RuleUse}
 use Rattle.proof_log.specs.declared.entry.Entry.{Entry}
 use Rattle.proof_log.specs.declared.entry.Entry.TheVariants as step
 use Rattle.proof_log.specs.Pairs.{with_pair}
@@ -32,18 +36,19 @@ pub record Asserted : Type 0 where
   pub literal : Literal
   pub term : ℕ
 
--- The next variable, the bits of terms, the selectors of assertions, the literals of equalities, by the lower and the upper
--- term, and the clauses of each position.
+-- The next variable, the bits of terms, their images, the selectors of assertions, the literals of equalities, by the lower
+-- and the upper term, and the clauses of each position.
 pub record LogState : Type 0 where
   pub next : ℕ
   pub bits : ℕ → Option (List Literal)
+  pub images : ℕ → Option ℕ
   pub selectors : ℕ → Option Asserted
   pub equals : ℕ → ℕ → Option Literal
   pub clauses : List (List (List Literal))
 
 -- before the first step: position 0 has the clause that variable 1 is true
 abbrev pub start : LogState
-start = record { next = 2; bits = λ t. None; selectors = λ a. None; equals = λ t u. None; clauses = ((true_literal ∷ []) ∷ []) ∷ [] }
+start = record { next = 2; bits = λ t. None; images = λ t. None; selectors = λ a. None; equals = λ t u. None; clauses = ((true_literal ∷ []) ∷ []) ∷ [] }
 
 abbrev pub clause_in : Option (List (List Literal)) → ℕ → Option (List Literal)
 clause_in None k = None
@@ -145,15 +150,26 @@ pub record IsLemma (nodes : List Node) (s : LogState) (l : Lemma) : Type 0 where
   pub clause : List Literal
   pub is : clause_of nodes s.bits s.equals l ≡ Ok clause
 
--- The step may stand after what the log has, over these terms, among which the term of a Node step is. No rule lets a step of
--- rewriting stand yet.
+-- the rule of this number takes the one term to the other, over images that earlier steps gave
+pub record IsRuled (nodes : List Node) (images : ℕ → Option ℕ) (r : RuleUse) : Type 0 where
+  pub rule : Rule
+  pub number : number_of rule ≡ r.rule
+  pub takes : matches nodes images rule r.from r.to ≡ true
+
+-- a term without bits, which a rule takes to one that has bits
+pub record IsRewrite (nodes : List Node) (s : LogState) (r : RuleUse) : Type 0 where
+  pub ruled : IsRuled nodes s.images r
+  pub new : s.bits r.from ≡ None
+  pub held : IsSome (s.bits r.to)
+
+-- the step may stand after what the log has, over these terms, among which the term of a Node step is
 abbrev pub IsStep : List Node → LogState → Entry → Type 0
 IsStep nodes s (step.Node n) = Contains nodes n
 IsStep nodes s (step.Leaf t) = IsLeaf nodes s t
 IsStep nodes s (step.Encode t) = IsEncoding nodes s t
 IsStep nodes s (step.Selector a t) = IsSelector nodes s a t
 IsStep nodes s (step.Chain c hints) = AreBelow s.next c × IsChain (clause_at s.clauses) c hints
-IsStep nodes s (step.Rewrite r) = ⊥
+IsStep nodes s (step.Rewrite r) = IsRewrite nodes s r
 IsStep nodes s (step.Equal t u) = IsEqual nodes s t u
 IsStep nodes s (step.Lemma l) = IsLemma nodes s l
 
@@ -164,6 +180,7 @@ leaf_after s t None = with_row s []
 leaf_after s t (Some n) = record {
   next = s.next + n;
   bits = with_value s.bits t (fresh_bits s.next n);
+  images = s.images;
   selectors = s.selectors;
   equals = s.equals;
   clauses = s.clauses ++ [] ∷ [];
@@ -174,6 +191,7 @@ block_after s t None = with_row s []
 block_after s t (Some b) = record {
   next = s.next + length b.gates;
   bits = with_value s.bits t b.bits;
+  images = s.images;
   selectors = s.selectors;
   equals = s.equals;
   clauses = s.clauses ++ gates_clauses s.next b.gates ∷ [];
@@ -189,6 +207,7 @@ selector_after s a t (Some []) = with_row s []
 selector_after s a t (Some (bit ∷ bits)) = record {
   next = suc s.next;
   bits = s.bits;
+  images = s.images;
   selectors = with_value s.selectors a (record { literal = positive_of s.next; term = t });
   equals = s.equals;
   clauses = s.clauses ++ (selector_clause s.next bit ∷ []) ∷ [];
@@ -201,6 +220,7 @@ equal_after s t u (Some a) None = with_row s []
 equal_after s t u (Some a) (Some b) = record {
   next = s.next + length (equal_gates s.next true_literal a b);
   bits = s.bits;
+  images = s.images;
   selectors = s.selectors;
   equals = with_pair s.equals t u (equal_bit s.next true_literal a b);
   clauses = s.clauses ++ gates_clauses s.next (equal_gates s.next true_literal a b) ∷ [];
@@ -211,12 +231,25 @@ abbrev pub lemma_after : LogState → Result (List Literal) LemmaFault → LogSt
 lemma_after s (Err f) = with_row s []
 lemma_after s (Ok c) = with_row s (c ∷ [])
 
+-- the term gets the bits of the one to which it is taken, its image
+abbrev pub rewrite_after : LogState → RuleUse → Option (List Literal) → LogState
+rewrite_after s r None = with_row s []
+rewrite_after s r (Some bits) = record {
+  next = s.next;
+  bits = with_value s.bits r.from bits;
+  images = with_value s.images r.from r.to;
+  selectors = s.selectors;
+  equals = s.equals;
+  clauses = s.clauses ++ [] ∷ [];
+}
+
 -- what the log has after the step
 abbrev pub after : List Node → LogState → Entry → LogState
 after nodes s (step.Leaf t) = leaf_after s t (leaf_width nodes t)
 after nodes s (step.Encode t) = block_after s t (block_of s.next s.bits (node_at nodes t))
 after nodes s (step.Selector a t) = selector_after s a t (s.bits t)
 after nodes s (step.Chain c hints) = with_row s (c ∷ [])
+after nodes s (step.Rewrite r) = rewrite_after s r (s.bits r.to)
 after nodes s (step.Equal t u) = equal_after s t u (s.bits t) (s.bits u)
 after nodes s (step.Lemma l) = lemma_after s (clause_of nodes s.bits s.equals l)
 after nodes s _ = with_row s []

@@ -1,5 +1,5 @@
 -- What the variables of a log mean under an interpretation, and what is sound.
-use Rattle.std.specs.Prelude.{◌≡◌, ℕ, suc, ◌<◌, ◌≤◌, ◌==◌, Bool, true, List, [], ◌∷◌, ◌++◌, take, length, Option, Some, None, All, Contains, slice_get}
+use Rattle.std.specs.Prelude.{◌≡◌, ℕ, suc, ◌<◌, ◌≤◌, ◌==◌, Bool, true, List, [], ◌∷◌, ◌++◌, take, length, Option, Some, None, IsSome, All, Contains, slice_get}
 use Rattle.cnf_base.specs.Literals.{Literal, true_literal}
 use Rattle.cnf_base.specs.Clauses.{lit_true, clause_true, bit}
 use Rattle.cnf_base.specs.Assignments.{AgreeBelow, AreBelow, with_variable, with_number, with_gates}
@@ -9,6 +9,7 @@ use Rattle.smt_terms.specs.declared.node.Node.{Node}
 use Rattle.smt_terms.specs.Nodes.{node_at}
 use Rattle.smt_terms.specs.Terms.{sort_of}
 use Rattle.smt_terms.specs.Values.{Value, VBool, VWord, VArray, Interpretation, is_true, same_value, value}
+use Rattle.bv_rules.specs.Matches.{KeepValues}
 use Rattle.bit_blast.specs.Blocks.{Block, block_of}
 use Rattle.bit_blast.specs.Meanings.{AreBitsOf}
 use Rattle.hint_chain.specs.Chains.{FindsMore}
@@ -60,12 +61,14 @@ meaning M nodes log = mean_from M nodes start (λ x. x == 1) log
 abbrev pub IsSound : List Node → List Entry → List Literal → Type 0
 IsSound nodes log clause = (M : Interpretation) → clause_true (meaning M nodes log) clause ≡ true
 
--- In every interpretation each clause is true, the bits of a term are those of its value, the selector of an assertion is
--- the value of its term, and the literal of an equality tells whether two terms have one value.
+-- In every interpretation each clause is true, the bits of a term are those of its value, a term has the value of its image,
+-- the selector of an assertion is the value of its term, and the literal of an equality tells whether two terms have one
+-- value.
 pub record LogIsSound (nodes : List Node) (log : List Entry) : Type 0 where
   pub clauses : (id : ClauseId) (c : List Literal) → clause_at (state_of nodes log).clauses id ≡ Some c → IsSound nodes log c
   pub bits : (M : Interpretation) (t : ℕ) (b : List Literal) → (state_of nodes log).bits t ≡ Some b →
       AreBitsOf (meaning M nodes log) (sort_of nodes t) b (value M nodes t)
+  pub images : (M : Interpretation) → KeepValues nodes (value M nodes) (state_of nodes log).images
   pub selectors : (M : Interpretation) (a : ℕ) (r : Asserted) → (state_of nodes log).selectors a ≡ Some r →
       lit_true (meaning M nodes log) r.literal ≡ is_true (value M nodes r.term)
   pub equals : (M : Interpretation) (t u : ℕ) (l : Literal) → (state_of nodes log).equals t u ≡ Some l →
@@ -91,6 +94,22 @@ pub record LogIsOrdered (nodes : List Node) (log : List Entry) : Type 0 where
   pub once : (x p q : ℕ) → Owns nodes log p x → Owns nodes log q x → p ≡ q
   pub hints : (p : ℕ) (c : List Literal) (hints : List ClauseId) → slice_get log p ≡ Some (step.Chain c hints) → All (λ id. id.pos ≤ p) hints
 
+-- ---- images
+
+-- A term and its image: a step names both, and gave the term the bits that the image had before that step.
+pub record IsLinked (nodes : List Node) (log : List Entry) (t u : ℕ) : Type 0 where
+  pub before : List Entry
+  pub more : List Entry
+  pub rule : ℕ
+  pub parts : log ≡ before ++ step.Rewrite (record { rule = rule; from = t; to = u }) ∷ more
+  pub bits : List Literal
+  pub earlier : (state_of nodes before).bits u ≡ Some bits
+  pub own : (state_of nodes log).bits t ≡ Some bits
+
+-- so it is of each term with an image
+abbrev pub AreLinked : List Node → List Entry → Type 0
+AreLinked nodes log = (t u : ℕ) → (state_of nodes log).images t ≡ Some u → IsLinked nodes log t u
+
 -- ---- what stays
 
 -- what the one partial function gives, the other gives
@@ -101,12 +120,14 @@ GivesMore {A} f g = (x : ℕ) (a : A) → f x ≡ Some a → g x ≡ Some a
 abbrev pub GivesMorePairs : {A : Type 0} → (ℕ → ℕ → Option A) → (ℕ → ℕ → Option A) → Type 0
 GivesMorePairs {A} f g = (x y : ℕ) (a : A) → f x y ≡ Some a → g x y ≡ Some a
 
--- more steps keep the clauses, the bits, the selectors, the equalities, and the meaning of the variables
+-- more steps keep the clauses, the bits, the images of terms with bits, the selectors, the equalities, and the meaning of the
+-- variables
 pub record StaysLog (nodes : List Node) (log more : List Entry) : Type 0 where
   pub steps : IsLog nodes log
   pub next : (state_of nodes log).next ≤ (state_of nodes (log ++ more)).next
   pub clauses : FindsMore (clause_at (state_of nodes log).clauses) (clause_at (state_of nodes (log ++ more)).clauses)
   pub bits : GivesMore (state_of nodes log).bits (state_of nodes (log ++ more)).bits
+  pub images : (t : ℕ) → IsSome ((state_of nodes log).bits t) → (state_of nodes (log ++ more)).images t ≡ (state_of nodes log).images t
   pub selectors : GivesMore (state_of nodes log).selectors (state_of nodes (log ++ more)).selectors
   pub equals : GivesMorePairs (state_of nodes log).equals (state_of nodes (log ++ more)).equals
   pub meaning : (M : Interpretation) → AgreeBelow (state_of nodes log).next (meaning M nodes log) (meaning M nodes (log ++ more))

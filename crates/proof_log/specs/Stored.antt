@@ -1,5 +1,5 @@
 -- What contracts see of a stored log, and when it stands over a list of terms.
-use Rattle.std.specs.Prelude.{◌≡◌, ℕ, suc, ◌+◌, ◌<◌, ◌≤◌, Contains, Bool, true, false, List, ◌++◌, [], ◌∷◌, length, take, Option, Some, None, slice_index_or}
+use Rattle.std.specs.Prelude.{◌≡◌, ℕ, suc, ◌+◌, ◌<◌, ◌≤◌, Contains, Bool, true, false, List, ◌++◌, [], ◌∷◌, length, take, Option, Some, None, IsSome, slice_index_or}
 use Rattle.cnf_base.specs.Literals.{Literal, positive_of, true_literal}
 use Rattle.cnf_base.specs.Clauses.{lit_true}
 use Rattle.cnf_base.specs.Assignments.{AreBelow, fresh_bits}
@@ -7,12 +7,14 @@ use Rattle.cnf_base.specs.Choices.{equal_gates, equal_bit}
 use Rattle.cnf_base.specs.declared.clause.ClauseId.{ClauseId}
 use Rattle.cnf_base.specs.Gates.{gates_clauses}
 use Rattle.smt_terms.specs.declared.node.Node.{Node}
-use Rattle.smt_terms.specs.Terms.{sort_of}
+use Rattle.smt_terms.specs.Terms.{IsTermList, sort_of}
 use Rattle.smt_terms.specs.Values.{Interpretation, is_true, same_value, value}
-use Rattle.smt_terms.specs.Bits.{TermBits, bits_in, with_bits}
+use Rattle.smt_terms.specs.Bits.{TermBits, bits_in, image_in, with_bits, with_image}
+use Rattle.bv_rules.specs.Matches.{KeepValues}
 use Rattle.bit_blast.specs.Blocks.{Block, EachShort}
 use Rattle.bit_blast.specs.Meanings.{AreBitsOf}
 use Rattle.theory_terms.specs.declared.lemma.Lemma.{Lemma}
+use Rattle.proof_log.specs.declared.entry.RuleUse.{RuleUse}
 use Rattle.proof_log.specs.declared.entry.Entry.{Entry}
 use Rattle.proof_log.specs.declared.entry.Entry.TheVariants as step
 use Rattle.proof_log.specs.declared.equals.EqualRow.{EqualRow}
@@ -24,7 +26,7 @@ use Rattle.proof_log.specs.Meanings.{meaning, IsSound}
 abbrev pub EqualRows : Type 0
 EqualRows = List (ℕ × (ℕ × EqualRow))
 
--- The next variable, how many terms the log stands over, the bits of terms, the selectors of assertions by number, the
+-- The next variable, how many terms the log stands over, the bits of terms with their images, the selectors of assertions by number, the
 -- equalities that have a variable, the steps, and the clauses of each position.
 pub record LogValue : Type 0 where
   pub next : ℕ
@@ -63,20 +65,22 @@ pub record IsKept (nodes : List Node) (log : LogValue) : Type 0 where
   pub steps : IsLog nodes log.entries
   pub next : log.next ≡ (state_of nodes log.entries).next
   pub bits : (t : ℕ) → bits_in log.bits t ≡ (state_of nodes log.entries).bits t
+  pub images : (t : ℕ) → image_in log.bits t ≡ (state_of nodes log.entries).images t
   pub selectors : (a : ℕ) → selector_in log.selectors a ≡ literal_of ((state_of nodes log.entries).selectors a)
   pub equals : (t u : ℕ) → equal_in log.equals t u ≡ (state_of nodes log.entries).equals t u
   pub pairs : (t u : ℕ) (r : EqualRow) → found log.equals t u ≡ Some r → entry_at log.entries r.place ≡ Some (step.Equal t u)
   pub clauses : log.clauses ≡ (state_of nodes log.entries).clauses
   pub short : EachShort log.bits
 
--- these terms begin with those that the log stands over
+-- these terms begin with those that the log stands over, each of which is over earlier ones
 pub record Stands (nodes : List Node) (log : LogValue) : Type 0 where
   pub within : log.over ≤ length nodes
+  pub terms : IsTermList (take log.over nodes)
   pub kept : IsKept (take log.over nodes) log
 
 -- What a stored log has that stands over these terms: clauses that are sound, terms with the bits of their values, as
--- many as their sorts have, selectors that are variables and the values of the terms of their assertions, and equalities
--- whose variables tell whether their terms have one value.
+-- many as their sorts have, images that have the bits and the values of their terms, selectors that are variables and the
+-- values of the terms of their assertions, and equalities whose variables tell whether their terms have one value.
 pub record IsSettled (nodes : List Node) (log : LogValue) : Type 0 where
   pub kept : IsKept nodes log
   pub next : 1 < log.next
@@ -86,6 +90,8 @@ pub record IsSettled (nodes : List Node) (log : LogValue) : Type 0 where
       × (plain_width (sort_of nodes t) ≡ Some (length b))
       × AreBelow log.next b
       × ((M : Interpretation) → AreBitsOf (meaning M nodes log.entries) (sort_of nodes t) b (value M nodes t))
+  pub images : (M : Interpretation) → KeepValues nodes (value M nodes) (image_in log.bits)
+  pub linked : (t u : ℕ) → image_in log.bits t ≡ Some u → IsSome (bits_in log.bits u) × (bits_in log.bits t ≡ bits_in log.bits u)
   pub selectors : (a : ℕ) (s : Literal) → selector_in log.selectors a ≡ Some s →
       (t : ℕ)
       × Contains log.entries (step.Selector a t)
@@ -142,6 +148,18 @@ with_block l over t b = record {
   equals = l.equals;
   entries = l.entries ++ step.Encode t ∷ [];
   clauses = l.clauses ++ gates_clauses l.next b.gates ∷ [];
+}
+
+-- the bits of the term to which a rule takes another, for that other
+abbrev pub with_rewrite : LogValue → ℕ → RuleUse → LogValue
+with_rewrite l over r = record {
+  next = l.next;
+  over = over;
+  bits = with_image l.bits r.from r.to;
+  selectors = l.selectors;
+  equals = l.equals;
+  entries = l.entries ++ step.Rewrite r ∷ [];
+  clauses = l.clauses ++ [] ∷ [];
 }
 
 -- the term got this circuit, if there is one, else all is as before

@@ -19,7 +19,7 @@ pub struct RuleUse {
     pub to: TermId,
 }
 
-/// A step of a log. No rule makes a step of rewriting valid yet, so no log has one.
+/// A step of a log.
 #[derive(Debug, Drop)]
 pub enum Entry {
     /// A term that no command made.

@@ -26,9 +26,10 @@ pub enum Kept {
     Operator,
     /// The first fault of the node.
     Make(MakeFault),
-    /// The term that the node is already, or the term without what the step asks for.
+    /// The term that the node is already, or the term without what the step asks for, or with bits where it asks for none.
     Term(TermId),
-    /// The terms that are no pair of one sort with bits, the lower first.
+    /// The terms that are no pair of one sort with bits, the lower first; or of which the rule does not take the first to the
+    /// second.
     Terms(TermId, TermId),
     /// A variable of the clause that no step made, or the one that the assertion or the equality has already.
     Variable(u64),
@@ -36,8 +37,8 @@ pub enum Kept {
     Chain(ChainFault),
     /// The first fault of the lemma.
     Lemma(LemmaFault),
-    /// That no rule makes a step of the kind valid yet.
-    NoRule,
+    /// The number that no rule has.
+    NoRule(u8),
 }
 
 /// Why a step is not valid: of what kind it is, and what shows it.

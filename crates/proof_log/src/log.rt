@@ -103,7 +103,8 @@ impl Log {
         self.steps.entry(at)
     }
 
-    /// The position of the step that gave a term its bits, a Leaf or an Encode step; `None` exactly where there is none.
+    /// The position of the step that gave a term its bits, a Leaf, an Encode or a Rewrite step; `None` exactly where there
+    /// is none.
     pub fn step_of(&self, term: TermId) -> Option<Pos>
         ensures { IsPlaceOf (GivesBits self.now.entries term) result }
     {
@@ -189,8 +190,11 @@ impl Log {
             Entry::Lemma(lemma) => {
                 self.lemma(alloc, terms, lemma)?;
             }
-            // Excluded: a term by the condition on the kind, a step of rewriting since no rule makes it valid.
-            Entry::Node(_) | Entry::Rewrite(_) => unreachable!(),
+            Entry::Rewrite(used) => {
+                self.rewrite(alloc, terms, used)?;
+            }
+            // Excluded by the condition on the kind.
+            Entry::Node(_) => unreachable!(),
         }
         Ok(at)
     }
@@ -255,7 +259,7 @@ impl Log {
                 at,
                 self.chain(alloc, terms, clause, hints)?,
             ),
-            Entry::Rewrite(_) => Err(refused(StepKind::Rewrite, Kept::NoRule)),
+            Entry::Rewrite(used) => told(StepKind::Rewrite, at, self.rewrite(alloc, terms, used)?),
             Entry::Equal(lower, upper) => told(
                 StepKind::Equal,
                 at,

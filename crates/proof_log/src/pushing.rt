@@ -1,6 +1,6 @@
 //! Steps that are put into a log, kind by kind, with what they leave.
 
-ghost use Rattle.std.specs.Prelude.{◌≡◌, ◌<◌, ◌≤◌, ◌+◌, ◌^◌, ◌&&◌, ltb, if◌then◌else◌, List, [], ◌∷◌, None, Some, OnOk, OnErr, IfOk, length};
+ghost use Rattle.std.specs.Prelude.{◌≡◌, ◌<◌, ◌≤◌, ◌+◌, ◌^◌, ◌&&◌, ltb, if◌then◌else◌, List, [], ◌∷◌, None, Some, OnOk, OnErr, IfOk, IsSome, length};
 ghost use Rattle.cnf_base.specs.Literals.{Literal, true_literal};
 ghost use Rattle.cnf_base.specs.Choices.{equal_gates, equal_bit};
 ghost use Rattle.cnf_base.specs.Circuits.{Gains};
@@ -13,9 +13,9 @@ ghost use Rattle.smt_terms.specs.Terms.{sort_of};
 ghost use Rattle.proof_log.specs.Logs.{leaf_width, plain_width};
 ghost use Rattle.proof_log.specs.Pairs.{found};
 ghost use Rattle.proof_log.specs.Places.{IsPlain};
-ghost use Rattle.proof_log.specs.Stored.{with_leaf, with_lemma, with_plain, HaveEqualBits, IsPaired, IsSelected, Encodes};
+ghost use Rattle.proof_log.specs.Stored.{with_leaf, with_lemma, with_plain, with_rewrite, HaveEqualBits, IsPaired, IsSelected, Encodes};
 
-use crate::entry::{AssertId, Entry};
+use crate::entry::{AssertId, Entry, RuleUse};
 use crate::log::Log;
 use bit_blast::encode;
 use cnf_base::{Circuit, Clause, Lit};
@@ -250,6 +250,23 @@ impl Log {
     {
         let made = one_clause(alloc, clause)?;
         self.steps.push(Entry::Lemma(lemma), made)?;
+        self.over = over;
+        Ok(())
+    }
+
+    /// The bits of a term for one that a rule takes to it.
+    pub(crate) fn put_rewrite(
+        &mut self,
+        alloc: Global,
+        over: u32,
+        used: RuleUse,
+    ) -> Result<(), AllocError>
+        requires new { bits_in self.old.bits used.from ≡ None }
+        requires held { IsSome (bits_in self.old.bits used.to) }
+        ensures ok { OnOk result (self.new ≡ with_rewrite self.old over used) }
+        ensures err { OnErr result (self.new ≡ self.old) }
+    {
+        self.steps.push_link(alloc, &mut self.bits, used)?;
         self.over = over;
         Ok(())
     }

@@ -1,8 +1,8 @@
 //! The steps of a log, each with its clauses.
 
-ghost use Rattle.std.specs.Prelude.{◌≡◌, ℕ, [], ◌∷◌, suc, OnOk, OnErr, IfOk, None, length, slice_get};
+ghost use Rattle.std.specs.Prelude.{◌≡◌, ℕ, [], ◌∷◌, suc, OnOk, OnErr, IfOk, None, IsSome, length, slice_get};
 ghost use Rattle.std.specs.Option.{option_copied};
-ghost use Rattle.smt_terms.specs.Bits.{bits_in, with_bits};
+ghost use Rattle.smt_terms.specs.Bits.{bits_in, with_bits, with_image};
 ghost use Rattle.cnf_base.specs.Literals.{true_literal};
 ghost use Rattle.smt_terms.specs.Terms.{Agrees, make};
 ghost use Rattle.proof_log.specs.declared.entry.Entry.TheVariants as step;
@@ -12,7 +12,7 @@ ghost use Rattle.proof_log.specs.Places.{GivesBits, GivesSelector, IsPlaceOf, Is
 ghost use Rattle.proof_log.specs.Stored.{with_step, selector_in};
 ghost use Rattle.proof_log.specs.Faults.{NodeIsMade};
 
-use crate::entry::{AssertId, Entry};
+use crate::entry::{AssertId, Entry, RuleUse};
 use crate::equals::{EqualRow, Equals};
 use crate::{places, selectors};
 use cnf_base::{Clause, ClauseId, Lit, Pos};
@@ -185,6 +185,32 @@ impl Steps {
         bits.set(term, row)?;
         places::set(&mut self.terms, term, at);
         self.steps.push_reserved(Step { entry, made });
+        Ok(())
+    }
+
+    /// One step more, by which a rule gives a term the bits of another.
+    pub(crate) fn push_link(
+        &mut self,
+        alloc: Global,
+        bits: &mut Bits,
+        used: RuleUse,
+    ) -> Result<(), AllocError>
+        requires new { bits_in bits.old used.from ≡ None }
+        requires held { IsSome (bits_in bits.old used.to) }
+        ensures step { OnOk result (self.new ≡ with_step self.old (step.Rewrite used) []) }
+        ensures bits { OnOk result (bits.new ≡ with_image bits.old used.from used.to) }
+        ensures err { OnErr result (self.new ≡ self.old) }
+        ensures err_bits { OnErr result (bits.new ≡ bits.old) }
+    {
+        let at = self.len();
+        places::grow(&mut self.terms, used.from)?;
+        self.steps.reserve(1)?;
+        bits.link(used.from, used.to)?;
+        places::set(&mut self.terms, used.from, at);
+        self.steps.push_reserved(Step {
+            entry: Entry::Rewrite(used),
+            made: Vec::new(alloc),
+        });
         Ok(())
     }
 

@@ -77,7 +77,8 @@ pub(crate) enum Given {
     Selector(AssertId, TermId),
     // The clause that variable 2 is false, by these hints.
     Refuted(&'static [ClauseId]),
-    Rewrite(TermId, TermId),
+    // The rule of this number takes the first term to the second.
+    Rewrite(u8, TermId, TermId),
     Equal(TermId, TermId),
     // That two applications of a declaration to equal arguments are equal.
     Congruence(TermId, TermId),
@@ -100,6 +101,8 @@ enum Seen {
     SelectorStepOf(AssertId, Option<Pos>),
     // The next variable.
     Next(u64),
+    // The term whose bits a term was given, if it was given those of one.
+    Image(TermId, Option<TermId>),
     // The bits of a term.
     Bits(TermId, &'static [(u64, bool)]),
     // The variable of the equality of these terms, which is positive, and the position of its step, if it has one.
@@ -199,6 +202,7 @@ fn is_seen(proof: &Proof, seen: Seen) -> bool {
         Seen::StepOf(term, at) => log.step_of(term) == at,
         Seen::SelectorStepOf(assertion, at) => log.selector_step_of(assertion) == at,
         Seen::Next(next) => log.next() == next,
+        Seen::Image(term, image) => log.bits().image(term) == image,
         Seen::Bits(term, parts) => has_bits(log, term, parts),
         Seen::Equal(lower, upper, parts) => has_equal(log, lower, upper, parts),
         Seen::Counts(positions, terms) => log.len() == positions && log.over() == terms,
@@ -239,7 +243,7 @@ pub(crate) fn entry_of(alloc: Global, given: Given) -> Result<Entry, AllocError>
         Given::Encode(term) => Ok(Entry::Encode(term)),
         Given::Selector(assertion, term) => Ok(Entry::Selector(assertion, term)),
         Given::Refuted(hints) => refuted(alloc, hints),
-        Given::Rewrite(from, to) => Ok(Entry::Rewrite(RuleUse { rule: 1, from, to })),
+        Given::Rewrite(rule, from, to) => Ok(Entry::Rewrite(RuleUse { rule, from, to })),
         Given::Equal(first, second) => Ok(Entry::Equal(first, second)),
         Given::Congruence(first, second) => { Ok(Entry::Lemma(Lemma::Congruence(first, second))) }
         Given::Filling(array, index, select) => Ok(Entry::Lemma(Lemma::Arrays(
@@ -360,18 +364,61 @@ fn a_refused_step_shows_its_term(rt: HostRuntime) -> Result<(), Fail> {
 }
 
 #[test]
-fn steps_of_a_kind_without_a_rule_are_refused(rt: HostRuntime) -> Result<(), Fail> {
+fn a_rule_gives_a_term_the_bits_of_another(rt: HostRuntime) -> Result<(), Fail> {
+    let unmatched = fault(StepKind::Rewrite, Kept::Terms(2, 0));
+    let constant = Op::Constant {
+        declaration: 0,
+        sort: Sort::Bool,
+    };
     walk(
         &rt,
-        Op::Plain(Operator::True),
+        constant,
         &[
-            Step::Try(Given::Encode(0), Ok(1)),
-            Step::Try(Given::Rewrite(0, 0), fault(StepKind::Rewrite, Kept::NoRule)),
-            Step::See(Seen::Counts(2, 1)),
-            Step::See(Seen::Next(2)),
-            Step::See(Seen::StepOf(0, Some(1))),
-            Step::See(Seen::Bits(0, &[(1, true)])),
-            Step::Try(Given::Selector(0, 0), Ok(2)),
+            Step::Try(Given::Over(Operator::Not, &[0]), Ok(1)),
+            Step::Try(Given::Over(Operator::Not, &[1]), Ok(2)),
+            Step::Try(Given::Over(Operator::And, &[2, 1]), Ok(3)),
+            Step::Try(Given::Over(Operator::And, &[0, 1]), Ok(4)),
+            Step::Try(
+                Given::Rewrite(0, 2, 0),
+                fault(StepKind::Rewrite, Kept::NoRule(0)),
+            ),
+            Step::Try(
+                Given::Rewrite(41, 2, 0),
+                fault(StepKind::Rewrite, Kept::NoRule(41)),
+            ),
+            Step::Try(Given::Rewrite(1, 2, 0), unmatched),
+            Step::Try(Given::Rewrite(34, 2, 0), unmatched),
+            Step::Try(
+                Given::Rewrite(35, 2, 9),
+                fault(StepKind::Rewrite, Kept::Terms(2, 9)),
+            ),
+            // The term from which the rule leads is not yet rewritten, and the one to which it leads has no bits.
+            Step::Try(
+                Given::Rewrite(40, 3, 4),
+                fault(StepKind::Rewrite, Kept::Terms(3, 4)),
+            ),
+            Step::Try(
+                Given::Rewrite(35, 2, 0),
+                fault(StepKind::Rewrite, Kept::Term(0)),
+            ),
+            Step::Try(Given::Leaf(0), Ok(5)),
+            Step::Try(Given::Rewrite(35, 2, 0), Ok(6)),
+            Step::See(Seen::Bits(2, &[(2, true)])),
+            Step::See(Seen::Image(2, Some(0))),
+            Step::See(Seen::Image(0, None)),
+            Step::See(Seen::StepOf(2, Some(6))),
+            Step::See(Seen::Next(3)),
+            Step::See(Seen::Clause(ClauseId { pos: 6, part: 0 }, None)),
+            Step::Try(
+                Given::Rewrite(35, 2, 0),
+                fault(StepKind::Rewrite, Kept::Term(2)),
+            ),
+            Step::Try(Given::Encode(1), Ok(7)),
+            Step::Try(Given::Encode(4), Ok(8)),
+            // By the image of its first argument.
+            Step::Try(Given::Rewrite(40, 3, 4), Ok(9)),
+            Step::See(Seen::Bits(3, &[(3, true)])),
+            Step::See(Seen::Counts(10, 5)),
         ],
     )
 }

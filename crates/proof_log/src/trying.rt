@@ -8,17 +8,19 @@ ghost use Rattle.smt_terms.specs.Bits.{bits_in};
 ghost use Rattle.smt_terms.specs.Terms.{sort_of};
 ghost use Rattle.hint_chain.specs.Chains.{IsChain};
 ghost use Rattle.proof_log.specs.declared.entry.Entry.TheVariants as step;
-ghost use Rattle.proof_log.specs.Logs.{clause_at};
+ghost use Rattle.proof_log.specs.Logs.{clause_at, state_of, IsRewrite};
 ghost use Rattle.proof_log.specs.Pairs.{found};
 ghost use Rattle.theory_lemmas.specs.Clauses.{clause_of};
 ghost use Rattle.proof_log.specs.Stored.{Stands, equal_in};
-ghost use Rattle.proof_log.specs.Faults.{Tried, IsGiven, ShowsChain};
+ghost use Rattle.proof_log.specs.Faults.{Tried, IsGiven, ShowsChain, ShowsRewrite};
 
-use crate::entry::{AssertId, Entry, Hints};
+use crate::entry::{AssertId, Entry, Hints, RuleUse};
 use crate::equals::EqualRow;
 use crate::fault::Kept;
 use crate::log::Log;
 use crate::pushing::width_of;
+use bv_rules::matching::matches;
+use bv_rules::rule::Rule;
 use cnf_base::{Clause, Lit};
 use hint_chain::follows;
 use smt_terms::node::{Op, TermId};
@@ -117,6 +119,25 @@ impl Log {
         Ok(Some(Kept::Term(term)))
     }
 
+    /// The bits of a term to which a rule takes another, for that other.
+    pub(crate) fn rewrite(
+        &mut self,
+        alloc: Global,
+        terms: &Terms,
+        used: RuleUse,
+    ) -> Result<Option<Kept>, AllocError>
+        requires stands { Stands terms.now.nodes self.old }
+        ensures ok { IfOk result (Tried terms.now (step.Rewrite used) self.old self.new) }
+        ensures err { OnErr result (self.new ≡ self.old) }
+    {
+        let over = terms.len();
+        if let Some(kept) = self.not_rewritten(terms, used) {
+            return Ok(Some(kept));
+        }
+        self.put_rewrite(alloc, over, used)?;
+        Ok(None)
+    }
+
     /// A variable for an assertion, and the clause that it implies the bit of its term.
     pub(crate) fn select(
         &mut self,
@@ -195,6 +216,29 @@ impl Log {
                 Ok(None)
             }
         }
+    }
+
+    // What shows that a term does not get the bits of another by the rule.
+    fn not_rewritten(&self, terms: &Terms, used: RuleUse) -> Option<Kept>
+        requires stands { Stands terms.now.nodes self.now }
+        ensures { MatchOption result
+            (IsRewrite terms.now.nodes (state_of terms.now.nodes self.now.entries) used)
+            (λ k. (IsRewrite terms.now.nodes (state_of terms.now.nodes self.now.entries) used → ⊥)
+            × ShowsRewrite terms.now.nodes (state_of terms.now.nodes self.now.entries) used k) }
+    {
+        let Some(rule) = Rule::numbered(used.rule as u64) else {
+            return Some(Kept::NoRule(used.rule))
+        };
+        if !matches(rule, terms, &self.bits, used.from, used.to) {
+            return Some(Kept::Terms(used.from, used.to));
+        }
+        if self.has_bits(used.from) {
+            return Some(Kept::Term(used.from));
+        }
+        if !self.has_bits(used.to) {
+            return Some(Kept::Term(used.to));
+        }
+        None
     }
 
     // Whether a term has bits.

@@ -20,10 +20,6 @@ use Rattle.reached_steps.proofs.Blocks.{block_is_of}
 pub each_if : {A : Type 0} (P : A → Type 0) (xs : List A) → ((x : A) → Contains xs x → P x) → AllByRecursion P xs
 each_if P xs f = recursion_from_All P xs (All-weaker (Contains xs) P f xs (All-contains_itself xs))
 
-pub each_weaker : {A : Type 0} (P Q : A → Type 0) (xs : List A) → ((x : A) → P x → Q x) → AllByRecursion P xs → AllByRecursion Q xs
-each_weaker P Q [] f h = tt
-each_weaker P Q (x ∷ xs) f h = (f x h.0, each_weaker P Q xs f h.1)
-
 -- ---- what gates read
 
 -- a gate reads what holds of what it reads and of what stands before it

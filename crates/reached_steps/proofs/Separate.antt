@@ -1,6 +1,6 @@
 -- Each clause of a step that is none of those of reached terms has a variable that stands in no clause of these.
-use Rattle.std.proofs.Common.{◌≡◌, ℕ, zero, suc, ◌+◌, ◌<◌, ◌≤◌, Bool, true, false, List, [], ◌∷◌, length, Some, refl, sym, ap, ◌∙◌, subst, inl, inr, ⊎_elim, arith}
-use Rattle.std.specs.Prelude.{◌⊎◌, ◌==◌, Contains, slice_get}
+use Rattle.std.proofs.Common.{◌≡◌, ℕ, zero, suc, ◌+◌, ◌<◌, ◌≤◌, Bool, true, false, List, [], ◌∷◌, length, Option, Some, None, refl, sym, ap, ◌∙◌, subst, inl, inr, ⊎_elim, arith}
+use Rattle.std.specs.Prelude.{◌⊎◌, ◌==◌, Contains, is_some, slice_get}
 use Rattle.std.specs.List.{AllByRecursion}
 use Rattle.std.proofs.lemmas.Bool.{eqb-true, eq-eqb}
 use Rattle.std.proofs.lemmas.List.Elements.{All-contains, Contains-append_right, Contains-append_cases, Contains-push_cases}
@@ -11,22 +11,25 @@ use Rattle.cnf_base.proofs.Lists.{Contains-nil, each_member, Contains-one, slice
 use Rattle.smt_terms.specs.declared.node.Node.{Node}
 use Rattle.smt_terms.specs.Nodes.{node_at}
 use Rattle.smt_terms.specs.Terms.{IsTermList}
+use Rattle.proof_log.specs.declared.entry.RuleUse.{RuleUse}
 use Rattle.proof_log.specs.declared.entry.Entry.{Entry}
 use Rattle.proof_log.specs.declared.entry.Entry.TheVariants as step
 use Rattle.proof_log.specs.Logs.{start, clause_in, entry_at, selector_clause, state_of, IsLog}
 use Rattle.proof_log.specs.Meanings.{Owns}
 use Rattle.proof_log.specs.Places.{GivesBits, IsForTerm}
+use Rattle.proof_log.specs.Assigned.{stands_on}
 use Rattle.proof_log.specs.Diaries.{is_chain}
 use Rattle.proof_log.proofs.Growth.{clause_place, steps_rows}
 use Rattle.proof_log.proofs.Leaves.{word_at}
 use Rattle.proof_log.proofs.Ordered.{log_is_ordered}
+use Rattle.proof_log.proofs.Placed.{given_earlier}
 use Rattle.proof_log.proofs.Standing.{stands_over}
 use Rattle.cube_search.specs.Holding.{Occurs, AreSeparate}
 use Rattle.reached_steps.specs.Circuits.{IsOfBlock}
 use Rattle.reached_steps.specs.Reached.{IsOfTerms, AreReachedSteps, ReachedStepsAreSeparate, StoredStepsAreSeparate}
 use Rattle.reached_steps.proofs.Inputs.{AreOf}
-use Rattle.reached_steps.proofs.Clauses.{each_if, each_weaker}
-use Rattle.reached_steps.proofs.Steps.{row_has, before_step, IsEncodeStep, made, each_row, one_before, leaf_step, encode_step, selector_step, plain_row}
+use Rattle.reached_steps.proofs.Clauses.{each_if}
+use Rattle.reached_steps.proofs.Steps.{row_has, before_step, IsEncodeStep, each_row, bits_stay, one_before, leaf_step, encode_step, rewrite_step, selector_step, plain_row}
 
 -- ---- lists
 
@@ -81,51 +84,74 @@ module _ (nodes : List Node) (log : List Entry) (positions : List ℕ) (all : Is
       fresh_known zero g f = tt
       fresh_known (suc n) g f = (f g (omega arith) (omega arith), fresh_known n (suc g) (λ x le lt. f x (omega arith) (omega arith)))
 
+  -- the bits that a term had before a step
+  abbrev KnownAt : ℕ → ℕ → Type 0
+  KnownAt p t = (b : List Literal) → (before_step nodes log p).bits t ≡ Some b → AreOf Own b
+
   -- the variables of a block whose position is held, and whose arguments are known
-  block_own : (t p x : ℕ) (r : IsEncodeStep nodes log p t) → Contains positions (suc p) → AllByRecursion Known (node_at nodes t).args → IsOfBlock (before_step nodes log p).next r.rows r.block x → Own x
+  block_own : (t p x : ℕ) (r : IsEncodeStep nodes log p t) → Contains positions (suc p) → AllByRecursion (KnownAt p) (node_at nodes t).args → IsOfBlock (before_step nodes log p).next r.rows r.block x → Own x
   block_own t p x r k each (inl one) = inl one
   block_own t p x r k each (inr (inl in_row)) =
       let s = before_step nodes log p in
-      let known = each_weaker Known (λ u. (b : List Literal) → s.bits u ≡ Some b → AreOf Own b) (node_at nodes t).args (λ u f b e. f b (r.before.bits u b e)) each in
-      let rows = each_row (AreOf Own) s.bits (node_at nodes t).args r.rows known r.arguments in
+      let rows = each_row (AreOf Own) s.bits (node_at nodes t).args r.rows each r.arguments in
       subst Own in_row.4 (each_member (λ (l : Literal). Own l.variable) in_row.0 in_row.1 (each_member (AreOf Own) r.rows in_row.0 rows in_row.2) in_row.3)
   block_own t p x r k each (inr (inr gate)) = owned p x k r.within gate.0 (omega (arith, gate.1, r.next))
 
-  encode_known : (t p : ℕ) → Contains positions (suc p) → slice_get log p ≡ Some (step.Encode t) → AllByRecursion Known (node_at nodes t).args → Known t
+  encode_known : (t p : ℕ) → Contains positions (suc p) → slice_get log p ≡ Some (step.Encode t) → AllByRecursion (KnownAt p) (node_at nodes t).args → Known t
   encode_known t p k e each c q =
       let r = encode_step nodes log all is p t e in
       same_bits t r.block.bits c r.bits q (each_if (λ (l : Literal). Own l.variable) r.block.bits (λ l m. block_own t p l.variable r k each (r.stands.bits l m)))
 
-  -- the step that gave a term bits is one of two kinds
-  bits_step : (t p : ℕ) (e : Entry) → slice_get log p ≡ Some e → IsForTerm t e → (slice_get log p ≡ Some (step.Leaf t)) ⊎ (slice_get log p ≡ Some (step.Encode t))
+  -- the step that gave a term bits is one of three kinds
+  bits_step : (t p : ℕ) (e : Entry) → slice_get log p ≡ Some e → IsForTerm t e
+      → (slice_get log p ≡ Some (step.Leaf t)) ⊎ ((slice_get log p ≡ Some (step.Encode t)) ⊎ ((r : RuleUse) × (slice_get log p ≡ Some (step.Rewrite r)) × (r.from ≡ t)))
   bits_step t p (step.Leaf u) there is_for = let own : u ≡ t = cc in inl (there ∙ ap (λ x. Some (step.Leaf x)) own)
-  bits_step t p (step.Encode u) there is_for = let own : u ≡ t = cc in inr (there ∙ ap (λ x. Some (step.Encode x)) own)
-  bits_step t p (step.Rewrite r) there is_for = absurd (made nodes start log p (step.Rewrite r) is there).step
+  bits_step t p (step.Encode u) there is_for = let own : u ≡ t = cc in inr (inl (there ∙ ap (λ x. Some (step.Encode x)) own))
+  bits_step t p (step.Rewrite r) there is_for = let own : r.from ≡ t = cc in inr (inr (r, there, own))
   bits_step t p e there is_for = let f : ⊥ = cc in absurd f
 
-  gives_known : (t q : ℕ) → GivesBits log t q → Contains positions q → AllByRecursion Known (node_at nodes t).args → Known t
-  gives_known t zero (e, there, is) k each = let f : ⊥ = cc in absurd f
-  gives_known t (suc p) (e, there, is) k each = ⊎_elim (λ l. leaf_known t p k l) (λ l. encode_known t p k l each) (bits_step t p e there is)
+  -- ---- all terms, each behind those on which it stands
 
-  -- ---- all terms, each behind its arguments
+  -- on what a reached term stands is reached
+  leads : (t u : ℕ) (o : Option ℕ) → Contains h.reached t → (state_of nodes log).images t ≡ o → Contains (stands_on nodes t o) u → Contains h.reached u
+  leads t u o in_it image k = h.closed t u in_it (subst (λ x. Contains (stands_on nodes t x) u) (sym image) k)
 
-  gives_within : (t q : ℕ) → GivesBits log t q → t < length nodes
-  gives_within t zero (e, there, is_for) = let f : ⊥ = cc in absurd f
-  gives_within t (suc p) (e, there, is_for) = ⊎_elim (λ l. (leaf_step nodes log all is p t l).term) (λ l. (encode_step nodes log all is p t l).term) (bits_step t p e there is_for)
+  -- the reached terms that got their bits before a position are known
+  abbrev KnownBelow : ℕ → Type 0
+  KnownBelow n = (t q : ℕ) → q < n → Contains h.reached t → GivesBits log t q → Contains positions q → Known t
 
-  args_known : (n t : ℕ) (args : List ℕ) → ((u : ℕ) → u < n → Contains h.reached u → Known u) → t < suc n → AllByRecursion (λ a. a < t) args → ((u : ℕ) → Contains args u → Contains h.reached u) → AllByRecursion Known args
-  args_known n t [] ih lt earlier among = tt
-  args_known n t (u ∷ us) ih lt earlier among =
-      (ih u (omega (arith, earlier.0)) (among u (0, omega arith, refl)), args_known n t us ih lt earlier.1 (λ w k. among w (Contains-append_right (u ∷ []) us w k)))
+  -- so a reached term that had bits before a step
+  earlier_known : (n p t : ℕ) → suc p < suc n → KnownBelow n → Contains h.reached t → KnownAt p t
+  earlier_known n p t lt below in_it b e =
+      let k = All-contains (λ u. (q : ℕ) × GivesBits log u q × Contains positions q) h.reached t h.terms in_it in
+      let first : k.0 ≤ p = given_earlier nodes log p t k.0 is (ap is_some e) k.1 in
+      below t k.0 (omega (arith, first, lt)) in_it k.1 k.2 b (bits_stay nodes log is p t b e)
 
-  known_below : (n t : ℕ) → t < n → Contains h.reached t → Known t
-  known_below zero t lt in_it = absurd (omega arith)
-  known_below (suc n) t lt in_it =
-      let k = All-contains (λ u. (p : ℕ) × GivesBits log u p × Contains positions p) h.reached t h.terms in_it in
-      gives_known t k.0 k.1 k.2 (args_known n t (node_at nodes t).args (known_below n) lt (all t (gives_within t k.0 k.1)).earlier (λ u. h.closed t u in_it))
+  rewrite_known : (n p : ℕ) (r : RuleUse) → suc p < suc n → KnownBelow n → Contains h.reached r.from → slice_get log p ≡ Some (step.Rewrite r) → Known r.from
+  rewrite_known n p r lt below in_it l c q =
+      let k = rewrite_step nodes log all is p r l in
+      let among = leads r.from r.to (Some r.to) in_it k.image (0, omega arith, refl) in
+      same_bits r.from k.bits c k.own q (earlier_known n p r.to lt below among k.bits k.earlier)
+
+  gives_known : (n t q : ℕ) → q < suc n → KnownBelow n → Contains h.reached t → GivesBits log t q → Contains positions q → Known t
+  gives_known n t zero lt below in_it (e, there, is_for) k = let f : ⊥ = cc in absurd f
+  gives_known n t (suc p) lt below in_it (e, there, is_for) k =
+      ⊎_elim
+      (λ l. leaf_known t p k l)
+      (λ other. ⊎_elim
+      (λ l. encode_known t p k l (each_if (KnownAt p) (node_at nodes t).args (λ u m. earlier_known n p u lt below (leads t u None in_it (encode_step nodes log all is p t l).free m))))
+      (λ r. subst Known r.2 (rewrite_known n p r.0 lt below (subst (Contains h.reached) (sym r.2) in_it) r.1))
+      other)
+      (bits_step t p e there is_for)
+
+  known_below : (n : ℕ) → KnownBelow n
+  known_below zero t q lt in_it gives held = absurd (omega (arith, lt))
+  known_below (suc n) t q lt in_it gives held = gives_known n t q lt (known_below n) in_it gives held
 
   known : (t : ℕ) → Contains h.reached t → Known t
-  known t in_it = known_below (suc t) t (omega arith) in_it
+  known t in_it =
+      let k = All-contains (λ u. (q : ℕ) × GivesBits log u q × Contains positions q) h.reached t h.terms in_it in
+      known_below (suc k.0) t k.0 (omega arith) in_it k.1 k.2
 
   -- ---- clauses of the positions
 
@@ -134,12 +160,16 @@ module _ (nodes : List Node) (log : List Entry) (positions : List ℕ) (all : Is
   encode_clause t (suc p) k c l in_it held e g m =
       let r = encode_step nodes log all is p t e in
       let row = gates_clauses (before_step nodes log p).next r.block.gates in
-      block_own t p l.variable r held (each_if Known (node_at nodes t).args (λ u n. known u (h.closed t u in_it n)))
+      block_own t p l.variable r held (each_if (KnownAt p) (node_at nodes t).args (λ u n b has. known u (leads t u None in_it r.free n) b (r.before.bits u b has)))
       (r.stands.clauses c l (row_has (state_of nodes log).clauses (suc p) k row c r.row g) m)
 
   leaf_clause : (t q k : ℕ) (c : List Literal) → entry_at log q ≡ Some (step.Leaf t) → clause_in (slice_get (state_of nodes log).clauses q) k ≡ Some c → ⊥
   leaf_clause t zero k c e g = cc
   leaf_clause t (suc p) k c e g = Contains-nil c (row_has (state_of nodes log).clauses (suc p) k [] c (leaf_step nodes log all is p t e).row g)
+
+  rewrite_clause : (r : RuleUse) (q k : ℕ) (c : List Literal) → entry_at log q ≡ Some (step.Rewrite r) → clause_in (slice_get (state_of nodes log).clauses q) k ≡ Some c → ⊥
+  rewrite_clause r zero k c e g = cc
+  rewrite_clause r (suc p) k c e g = Contains-nil c (row_has (state_of nodes log).clauses (suc p) k [] c (rewrite_step nodes log all is p r e).row g)
 
   selector_clause_own : (a t q k : ℕ) (c : List Literal) (l : Literal) → Contains h.reached t → Contains positions q → entry_at log q ≡ Some (step.Selector a t) → clause_in (slice_get (state_of nodes log).clauses q) k ≡ Some c → Contains c l → Own l.variable
   selector_clause_own a t zero k c l in_it held e g m = let f : ⊥ = cc in absurd f
@@ -164,7 +194,10 @@ module _ (nodes : List Node) (log : List Entry) (positions : List ℕ) (all : Is
   position_own q k c l held (inl z) g m = first_clause k c l (ap (λ i. clause_in (slice_get (state_of nodes log).clauses i) k) (sym z) ∙ g) m
   position_own zero k c l held (inr (inl (t, in_it, (e, there, is_for)))) g m = let f : ⊥ = cc in absurd f
   position_own (suc p) k c l held (inr (inl (t, in_it, (e, there, is_for)))) g m =
-      ⊎_elim (λ r. absurd (leaf_clause t (suc p) k c r g)) (λ r. encode_clause t (suc p) k c l in_it held r g m) (bits_step t p e there is_for)
+      ⊎_elim
+      (λ r. absurd (leaf_clause t (suc p) k c r g))
+      (λ other. ⊎_elim (λ r. encode_clause t (suc p) k c l in_it held r g m) (λ r. absurd (rewrite_clause r.0 (suc p) k c r.1 g)) other)
+      (bits_step t p e there is_for)
   position_own q k c l held (inr (inr (a, t, in_it, e))) g m = selector_clause_own a t q k c l in_it held e g m
 
   occurs_own : (x : ℕ) → Occurs (state_of nodes log).clauses positions x → Own x
@@ -199,7 +232,7 @@ module _ (nodes : List Node) (log : List Entry) (positions : List ℕ) (all : Is
   other_clause p k c (step.Chain d hints) e plain out g = let f : ⊥ = cc in absurd f
   other_clause p k c (step.Equal t u) e plain out g = absurd (word_at nodes log (suc p) (step.Equal t u) h.words e)
   other_clause p k c (step.Lemma a) e plain out g = absurd (word_at nodes log (suc p) (step.Lemma a) h.words e)
-  other_clause p k c (step.Rewrite r) e plain out g = absurd (made nodes start log p (step.Rewrite r) is e).step
+  other_clause p k c (step.Rewrite r) e plain out g = absurd (rewrite_clause r (suc p) k c e g)
 
   separate_at : (q k : ℕ) (c : List Literal) → q ≤ length log → is_chain (entry_at log q) ≡ false → (Contains positions q → ⊥) → clause_in (slice_get (state_of nodes log).clauses q) k ≡ Some c → HasNew c
   separate_at zero k c le plain out g = absurd (out h.first)

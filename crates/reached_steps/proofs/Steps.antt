@@ -1,22 +1,26 @@
 -- What a step of a log found before it, and what it left: new variables, bits of a term, and the clauses of its position.
-use Rattle.std.proofs.Common.{◌≡◌, ℕ, zero, suc, ◌+◌, ◌<◌, List, [], ◌∷◌, ◌++◌, append_assoc, length, length-append, take, Option, Some, None, refl, sym, ap, ◌∙◌, subst, arith}
-use Rattle.std.specs.Prelude.{Contains, slice_get}
+use Rattle.std.proofs.Common.{◌≡◌, ℕ, zero, suc, ◌+◌, ◌<◌, List, [], ◌∷◌, ◌++◌, append_assoc, length, length-append, take, drop, Option, Some, None, refl, sym, ap, ◌∙◌, subst, arith}
+use Rattle.std.specs.Prelude.{Contains, IsSome, is_some, slice_get}
 use Rattle.std.specs.List.{AllByRecursion}
+use Rattle.std.proofs.lemmas.List.{take-append-drop}
 use Rattle.cnf_base.specs.Literals.{Literal}
 use Rattle.cnf_base.specs.Assignments.{AreBelow, fresh_bits}
 use Rattle.cnf_base.specs.Gates.{gates_clauses}
 use Rattle.cnf_base.proofs.Lists.{Contains-slice_get, slice_get-at}
+use Rattle.cnf_base.proofs.Options.{some_value}
 use Rattle.smt_terms.specs.declared.node.Node.{Node}
 use Rattle.smt_terms.specs.Nodes.{node_at}
 use Rattle.smt_terms.specs.Terms.{IsTermList}
-use Rattle.bit_blast.specs.Blocks.{Block, with_first, all_bits, block_of}
+use Rattle.bit_blast.specs.Blocks.{Block, with_first, all_bits}
+use Rattle.proof_log.specs.declared.entry.RuleUse.{RuleUse}
 use Rattle.proof_log.specs.declared.entry.Entry.{Entry}
 use Rattle.proof_log.specs.declared.entry.Entry.TheVariants as step
-use Rattle.proof_log.specs.Logs.{LogState, start, clause_in, IsStep, IsLeaf, IsEncoding, IsSelector, leaf_after, block_after, selector_clause, selector_after, after, state_from, state_of, AreSteps, IsLog}
+use Rattle.proof_log.specs.Logs.{LogState, start, clause_in, IsStep, IsLeaf, IsEncoding, IsRewrite, IsSelector, leaf_after, block_after, rewrite_after, selector_clause, selector_after, after, state_from, state_of, AreSteps, IsLog}
 use Rattle.proof_log.proofs.Ordered.{any_interpretation, log_is_ordered}
 use Rattle.proof_log.proofs.Sound.{log_suits, block_rows}
-use Rattle.proof_log.proofs.Staying.{Holds, steps_hold}
+use Rattle.proof_log.proofs.Staying.{Holds, steps_hold, log_stays}
 use Rattle.proof_log.proofs.Standing.{value_here}
+use Rattle.proof_log.proofs.Linked.{image_has_bits}
 use Rattle.proof_log.proofs.Growth.{block_row, selector_row, row_of, step_adds, steps_rows}
 use Rattle.reached_steps.specs.Circuits.{StandsOnArguments}
 use Rattle.reached_steps.proofs.Clauses.{blocks_stand}
@@ -79,6 +83,13 @@ first_steps nodes s log zero h = tt
 first_steps nodes s [] (suc p) h = tt
 first_steps nodes s (e ∷ log) (suc p) h = (h.0, first_steps nodes (after nodes s e) log p h.1)
 
+-- the bits that a term had before a step stay
+pub bits_stay : (nodes : List Node) (log : List Entry) → IsLog nodes log → (p t : ℕ) (b : List Literal) → (state_of nodes (take p log)).bits t ≡ Some b → (state_of nodes log).bits t ≡ Some b
+bits_stay nodes log is p t b e =
+    let both : take p log ++ drop p log ≡ log = take-append-drop p log in
+    let stays = log_stays nodes (take p log) (drop p log) (subst (IsLog nodes) (sym both) is) in
+    ap (λ l. (state_of nodes l).bits t) (sym both) ∙ stays.bits t b e
+
 -- ---- the steps of a log that make variables
 
 -- the state before the step with this number
@@ -103,7 +114,16 @@ pub record IsEncodeStep (nodes : List Node) (log : List Entry) (p t : ℕ) : Typ
   pub next : (before_step nodes log (suc p)).next ≡ (before_step nodes log p).next + length block.gates
   pub row : slice_get (state_of nodes log).clauses (suc p) ≡ Some (gates_clauses (before_step nodes log p).next block.gates)
   pub before : Holds (before_step nodes log p) (state_of nodes log)
+  pub free : (state_of nodes log).images t ≡ None
   pub within : p < length log
+
+-- the term has the bits of its image, which the image had before
+pub record IsRewriteStep (nodes : List Node) (log : List Entry) (p : ℕ) (r : RuleUse) : Type 0 where
+  pub bits : List Literal
+  pub earlier : (before_step nodes log p).bits r.to ≡ Some bits
+  pub own : (state_of nodes log).bits r.from ≡ Some bits
+  pub image : (state_of nodes log).images r.from ≡ Some r.to
+  pub row : slice_get (state_of nodes log).clauses (suc p) ≡ Some []
 
 pub record IsSelectorStep (nodes : List Node) (log : List Entry) (p t : ℕ) : Type 0 where
   pub bit : Literal
@@ -163,7 +183,9 @@ module _ (nodes : List Node) (log : List Entry) (all : IsTermList nodes) (is : I
       let node = node_at nodes t in
       let i : IsEncoding nodes (before_step nodes log p) t = m.step in
       let n : 1 + p ≡ suc p = omega arith in
-      let k = block_is s (before_step nodes log (suc p)) t i.block (m.leaves ∙ ap (block_after s t) i.circuit) m.behind in
+      let left : before_step nodes log (suc p) ≡ block_after (before_step nodes log p) t (Some i.block) = m.leaves ∙ ap (block_after s t) i.circuit in
+      let has : IsSome ((before_step nodes log (suc p)).bits t) = ap is_some (ap (λ x. x.bits t) left ∙ value_here s.bits t i.block.bits) in
+      let k = block_is s (before_step nodes log (suc p)) t i.block left m.behind in
       let rows = block_rows s (node_at nodes t) i.block i.circuit in
       let below = each_row (AreBelow s.next) s.bits node.args rows.0 (always (λ u. (b : List Literal) → s.bits u ≡ Some b → AreBelow s.next b) node.args (bits_before p)) rows.1 in
       record {
@@ -176,7 +198,25 @@ module _ (nodes : List Node) (log : List Entry) (all : IsTermList nodes) (is : I
         next = k.0;
         row = subst (λ q. slice_get (state_of nodes log).clauses q ≡ Some (gates_clauses s.next i.block.gates)) n (m.row ∙ ap (λ o. Some (block_row s o)) i.circuit);
         before = m.before;
+        free = m.behind.images t has ∙ ap (λ x. x.images t) left ∙ image_has_bits nodes (take p log) t (first_steps nodes start log p is) i.new;
         within = m.within;
+      }
+
+  pub rewrite_step : (p : ℕ) (r : RuleUse) → slice_get log p ≡ Some (step.Rewrite r) → IsRewriteStep nodes log p r
+  rewrite_step p r e =
+      let m = made nodes start log p (step.Rewrite r) is e in
+      let s = before_step nodes log p in
+      let i : IsRewrite nodes (before_step nodes log p) r = m.step in
+      let n : 1 + p ≡ suc p = omega arith in
+      let b = some_value ((before_step nodes log p).bits r.to) i.held in
+      let left : before_step nodes log (suc p) ≡ rewrite_after (before_step nodes log p) r (Some b.0) = m.leaves ∙ ap (rewrite_after s r) b.1 in
+      let has : (before_step nodes log (suc p)).bits r.from ≡ Some b.0 = ap (λ x. x.bits r.from) left ∙ value_here s.bits r.from b.0 in
+      record {
+        bits = b.0;
+        earlier = b.1;
+        own = m.behind.bits r.from b.0 has;
+        image = m.behind.images r.from (ap is_some has) ∙ ap (λ x. x.images r.from) left ∙ value_here s.images r.from r.to;
+        row = subst (λ q. slice_get (state_of nodes log).clauses q ≡ Some []) n m.row;
       }
 
   pub selector_step : (p a t : ℕ) → slice_get log p ≡ Some (step.Selector a t) → IsSelectorStep nodes log p t

@@ -17,12 +17,12 @@ abbrev pub IsOfTerms : List Entry → List ℕ → ℕ → Type 0
 IsOfTerms log terms p =
     (p ≡ 0) ⊎ (((t : ℕ) × Contains terms t × GivesBits log t p) ⊎ ((a : ℕ) × (t : ℕ) × Contains terms t × (entry_at log p ≡ Some (step.Selector a t))))
 
--- Of some terms, which are closed under arguments, these are the positions of the steps that gave them their bits, and beside
+-- Of some terms, with each of which is its image, or its arguments where it has none, these are the positions of the steps that gave them their bits, and beside
 -- these at most the positions of selectors of their assertions. Position 0 is one. The log is of Bools and words alone, since a
 -- lemma may have a clause over reached variables alone.
 pub record AreReachedSteps (nodes : List Node) (log : List Entry) (positions : List ℕ) : Type 0 where
   pub reached : List ℕ
-  pub closed : AreClosed nodes (Contains reached)
+  pub closed : AreClosed nodes (state_of nodes log).images (Contains reached)
   pub first : Contains positions 0
   pub terms : All (λ t. (p : ℕ) × GivesBits log t p × Contains positions p) reached
   pub only : (p : ℕ) → Contains positions p → IsOfTerms log reached p

@@ -9,9 +9,9 @@ pub fn blocks_stand_on_arguments()
     ensures { BlocksStandOnArguments }
 {}
 
-/// Where terms are closed under arguments, and positions are those of the steps that gave them bits and of selectors of their
-/// assertions, in a log of Bools and words, each clause of another position that is no chain's has a variable that stands in no
-/// clause of these.
+/// Where with each term is its image, or its arguments where it has none, and positions are those of the steps that gave these
+/// terms bits and of selectors of their assertions, in a log of Bools and words, each clause of another position that is no
+/// chain's has a variable that stands in no clause of these.
 pub fn reached_steps_are_separate()
     ensures log { ReachedStepsAreSeparate }
     ensures stored { StoredStepsAreSeparate }

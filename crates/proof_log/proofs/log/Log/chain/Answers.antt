@@ -11,5 +11,5 @@ returns-in-Some-clause-ok c =
 
 pub returns-in_ok-put_plain-in-None-clause-ok : goal.returns-in_ok-put_plain-in-None-clause-ok
 returns-in_ok-put_plain-in-None-clause-ok c =
-    chain_found c.args.terms.now c.args.self.now c.unfounded.new.self _ c.args.clause c.args.hints c.in_ok-kept.field-0 c.len-over.result c.requires.stands
+    chain_found c.args.terms.now c.args.self.now c.unfounded.new.self _ c.args.clause c.args.hints c.in_ok-kept.field-0 c.len-over.result c.len-over.ensures.terms c.requires.stands
     c.in_ok-kept.ensures.ok c.in-None.is c.in_ok-kept.ensures.same c.len-over.ensures.length c.in_ok-put_plain-in-None.ensures.ok
