@@ -4,6 +4,6 @@
 (declare-const q Bool)
 (assert (or p q))
 (assert (or p (not q)))
-(assert (or (not p) q))
-(assert (or (not p) (not q)))
+(assert (or q (not p)))
+(assert (or (not q) (not p)))
 (check-sat)

@@ -1,5 +1,5 @@
 #!/usr/bin/env python3
-"""Replays the proofs of the table on functions and arrays, of which crates/theory_rows tells what the checker says.
+"""Replays the proofs of the table on functions, arrays and rewriting, of which crates/theory_rows tells what the checker says.
 
 usage: lemmas.py    (no program is run)
 

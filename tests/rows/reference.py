@@ -7,13 +7,14 @@ Reads a script over Bools and words (declare-const, declare-fun, assert, push, p
 with all operators of Core and of words, `let` and `:named`), with the third word over functions and arrays too, and the
 proof file that the solver wrote for it, and replays every line by the rules of the format. Prints the verdict of each
 record and `accepted N`, or `refused line L: why`. It shares no code with the solver or its checker. terms.py reads the
-script, operators.py has the sorts and values of terms, circuits.py the gates of each operator, accesses.py the lemmas on
-functions and arrays, diaries.py the diaries of searches.
+script, operators.py has the sorts and values of terms, circuits.py the gates of each operator, rules.py the rules of rewriting,
+accesses.py the lemmas on functions and arrays, diaries.py the diaries of searches.
 """
 import re
 import sys
 
 import accesses
+import rules
 from circuits import CIRCUITS, TRUE, Circuit
 from diaries import Diary, given
 from operators import BOOL, NUMBERS, SORTS, Array, Refused, Table, is_array, need, zero_of
@@ -21,7 +22,7 @@ from terms import NUMERAL, Script
 
 # By which rule a line of this kind is refused, but for those that are no lines.
 RULES = {
-    "t": "node", "f": "leaf", "e": "encode", "s": "selector", "q": "equal", "l": "lemma", "c": "chain",
+    "t": "node", "f": "leaf", "e": "encode", "r": "rewrite", "s": "selector", "q": "equal", "l": "lemma", "c": "chain",
     "sat": "sat", "unsat": "unsat", "unknown": "diary",
 }
 
@@ -37,11 +38,11 @@ class BadLine(Refused):
 # ---- the log
 
 class Log:
-    """The clauses of each entry, the bits of terms, the equalities of terms and the selectors of assertions."""
+    """The clauses of each entry, the bits and the images of terms, their equalities and the selectors of assertions."""
 
     def __init__(self, script):
         self.script, self.terms = script, script.terms
-        self.next, self.bits, self.equalities, self.selectors = 2, {}, {}, {}
+        self.next, self.bits, self.images, self.equalities, self.selectors = 2, {}, {}, {}, {}
         self.rows = [[[1]]]
         # the declared constants with `f` lines, the hints of each chain by its position, and the last position of a step that
         # is none of a search
@@ -90,6 +91,10 @@ class Log:
         self.bits[t] = CIRCUITS[op](circuit, *numbers, *(self.bits[a] for a in args))
         self.next = circuit.next
         self.build(circuit.clauses)
+
+    def rewrite(self, rule, t, u):
+        rules.rewrite(self, rule, t, u)
+        self.build([])
 
     def selector(self, a):
         need(a < len(self.script.asserted), "s: no such assertion")
@@ -203,6 +208,8 @@ def step(log, kind, words):
             need("0" in words, "line: a clause without an end")
             end = words.index("0")
             log.chain(literals_of(words[:end]), [numbers_of(w.split("."), 2) for w in words[end + 1:]])
+        case "r", _:
+            log.rewrite(*numbers_of(words, 3))
         case "q", _:
             log.equal(*numbers_of(words, 2))
         case "l", ["c", *terms]:

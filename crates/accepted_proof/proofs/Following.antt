@@ -173,6 +173,7 @@ is_step (line.Header c b) = false
 is_step (line.Term h args) = true
 is_step (line.Leaf t) = true
 is_step (line.Encode t) = true
+is_step (line.Rewrite r t u) = true
 is_step (line.Selector a) = true
 is_step (line.Chain c hs) = true
 is_step (line.Equal t u) = true
@@ -213,6 +214,7 @@ steps_by j (line.Header c b) k e h = let f : ⊥ = cc in absurd f
 steps_by j (line.Term d args) k e h = h
 steps_by j (line.Leaf t) k e h = h
 steps_by j (line.Encode t) k e h = h
+steps_by j (line.Rewrite r t u) k e h = h
 steps_by j (line.Selector a) k e h = h
 steps_by j (line.Chain c hs) k e h = h
 steps_by j (line.Equal t u) k e h = h

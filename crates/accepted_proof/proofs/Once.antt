@@ -36,6 +36,7 @@ use Rattle.smt_build.specs.declared.symbols.LiveName.{LiveName}
 use Rattle.script_state.specs.States.{StateValue}
 use Rattle.proof_log.specs.declared.entry.Entry.{Entry}
 use Rattle.proof_log.specs.declared.entry.Entry.TheVariants as entry
+use Rattle.proof_log.specs.declared.entry.RuleUse.{RuleUse}
 use Rattle.proof_text.specs.declared.list.Letter.{Letter}
 use Rattle.proof_text.specs.declared.list.Letter.TheVariants as letter
 use Rattle.proof_text.specs.declared.list.WrittenMove.{WrittenMove}
@@ -209,11 +210,17 @@ not_lemma a l other e p n =
     let b : is_lemma_in (Some (lemma_line a)) ≡ is_lemma_in other = ap is_lemma_in (e ∙ sym p) in
     let c : is_lemma (lemma_line a) ≡ true = (lemma_is_one a).0 in cc
 
+same_uses : (r d : RuleUse) (l : Line) → entry_line (entry.Rewrite r) ≡ Some l → entry_line (entry.Rewrite d) ≡ Some l → r ≡ d
+same_uses r d l p q =
+    let e : Some (line.Rewrite r.rule r.from r.to) ≡ Some (line.Rewrite d.rule d.from d.to) = p ∙ sym q in
+    let a : r.rule ≡ d.rule = cc in
+    let b : r.from ≡ d.from = cc in
+    let c : r.to ≡ d.to = cc in
+    (λ i. record { rule = a i; from = b i; to = c i })
+
 -- a line is that of one step of the script
 pub same_entry : (s : StateValue) (l : Line) (e d : Entry) → entry_line e ≡ Some l → entry_line d ≡ Some l → IsOfScript s e → IsOfScript s d → e ≡ d
 same_entry s l (entry.Node n) (entry.Node m) p q i j = ap entry.Node (same_terms s l n m p q i j)
-same_entry s l (entry.Rewrite r) _ p q i j = let f : ⊥ = cc in absurd f
-same_entry s l _ (entry.Rewrite r) p q i j = let f : ⊥ = cc in absurd f
 same_entry s l (entry.Lemma a) (entry.Lemma b) p q i j = ap entry.Lemma (same_lemmas a b l p q)
 same_entry s l (entry.Node n) (entry.Lemma a) p q i j = absurd (not_term _ _ l _ p q (lemma_is_one a).1)
 same_entry s l (entry.Lemma a) (entry.Node n) p q i j = absurd (not_term _ _ l _ q p (lemma_is_one a).1)
@@ -226,6 +233,7 @@ same_entry s l (entry.Encode t) (entry.Encode u) p q i j = cc
 same_entry s l (entry.Selector a t) (entry.Selector b u) p q i j =
     let e : a ≡ b = cc in
     let f : t ≡ u = same_found (slice_get s.scopes.terms a) t u i (ap (slice_get s.scopes.terms) e ∙ j) in cc
+same_entry s l (entry.Rewrite r) (entry.Rewrite d) p q i j = ap entry.Rewrite (same_uses r d l p q)
 same_entry s l (entry.Equal t u) (entry.Equal v w) p q i j = cc
 same_entry s l (entry.Chain c hs) (entry.Chain d is) p q i j = same_chains c d hs is l p q
 same_entry s l _ _ p q i j = let f : ⊥ = cc in absurd f
@@ -406,6 +414,7 @@ at_step_once j (line.Header c b) k m x y = x ∙ sym y
 at_step_once j (line.Term h args) k m x y = stepped_once j _ k m x y
 at_step_once j (line.Leaf t) k m x y = stepped_once j _ k m x y
 at_step_once j (line.Encode t) k m x y = stepped_once j _ k m x y
+at_step_once j (line.Rewrite r t u) k m x y = stepped_once j _ k m x y
 at_step_once j (line.Selector a) k m x y = stepped_once j _ k m x y
 at_step_once j (line.Chain c hs) k m x y = stepped_once j _ k m x y
 at_step_once j (line.Equal t u) k m x y = stepped_once j _ k m x y

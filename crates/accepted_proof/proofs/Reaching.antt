@@ -4,7 +4,7 @@ use Rattle.std.specs.Prelude.{Contains, slice_get}
 use Rattle.std.proofs.lemmas.List.Elements.{Contains-append_cases}
 use Rattle.script_state.specs.Readings.{Reading}
 use Rattle.smt_terms.specs.declared.node.Node.{Node}
-use Rattle.smt_terms.specs.Terms.{TermsValue}
+use Rattle.smt_terms.specs.Terms.{TermsValue, IsTermList}
 use Rattle.script_state.specs.States.{StateValue, IsState, start_of, no_state}
 use Rattle.script_state.specs.Steps.{step}
 use Rattle.script_state.proofs.Asserting.{grown_state, standing_state}
@@ -28,8 +28,8 @@ pub record IsReached (s : StateValue) (log : List Entry) : Type 0 where
   pub selectors : (a t : ℕ) → Contains log (entry.Selector a t) → slice_get s.scopes.terms a ≡ Some t
 
 -- a log is one over more terms
-longer_log : (nodes more others : List Node) (log : List Entry) → others ≡ nodes ++ more → IsLog nodes log → IsLog others log
-longer_log nodes more others log e h = subst (λ ns. IsLog ns log) (sym e) (log_over nodes more log h).steps
+longer_log : (nodes more others : List Node) → IsTermList nodes → (log : List Entry) → others ≡ nodes ++ more → IsLog nodes log → IsLog others log
+longer_log nodes more others terms log e h = subst (λ ns. IsLog ns log) (sym e) (log_over nodes more terms log h).steps
 
 -- a command
 pub reached_by_command : (s : StateValue) (log : List Entry) (says : Reading) → IsReached s log → IsReached (step s says).1 log
@@ -37,7 +37,7 @@ reached_by_command s log says h =
     let on = step_goes_on s h.state says in
     record {
       state = on.state;
-      steps = longer_log s.terms.nodes on.keeps.behind (step s says).1.terms.nodes log on.keeps.nodes h.steps;
+      steps = longer_log s.terms.nodes on.keeps.behind (step s says).1.terms.nodes h.state.terms log on.keeps.nodes h.steps;
       selectors = λ a t c. on.keeps.assertions a t (h.selectors a t c);
     }
 
@@ -56,7 +56,7 @@ module _ (s : StateValue) (log : List Entry) (h : IsReached s log) where
   log_by_step : (e : Entry) → IsValid s.terms (state_of s.terms.nodes log) e → IsLog (terms_after s.terms e).nodes (log ++ e ∷ [])
   log_by_step e valid =
       let more = terms_longer s.terms e in
-      let over = log_over s.terms.nodes more.0 log h.steps in
+      let over = log_over s.terms.nodes more.0 h.state.terms log h.steps in
       let stands : IsStep (s.terms.nodes ++ more.0) (state_of s.terms.nodes log) e = subst (λ ns. IsStep ns (state_of s.terms.nodes log) e) more.1 (valid_stands s.terms (state_of s.terms.nodes log) e valid) in
       let next : IsStep (s.terms.nodes ++ more.0) (state_of (s.terms.nodes ++ more.0) log) e = subst (λ r. IsStep (s.terms.nodes ++ more.0) r e) (sym over.state) stands in
       subst (λ ns. IsLog ns (log ++ e ∷ [])) (sym more.1) (steps_append (s.terms.nodes ++ more.0) start log (e ∷ []) over.steps (next, tt))

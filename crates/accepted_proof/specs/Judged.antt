@@ -97,6 +97,7 @@ abbrev pub rule_of : Line → RuleName
 rule_of (line.Term head args) = rule.Node
 rule_of (line.Leaf t) = rule.Leaf
 rule_of (line.Encode t) = rule.Encode
+rule_of (line.Rewrite r t u) = rule.Rewrite
 rule_of (line.Selector a) = rule.Selector
 rule_of (line.Chain clause hints) = rule.Chain
 rule_of (line.Equal t u) = rule.Equal
@@ -130,6 +131,7 @@ AtStep j (line.Header cubes budget) k = k ≡ refused j rule.Line
 AtStep j (line.Term head args) k = StepsBy j (line.Term head args) k
 AtStep j (line.Leaf t) k = StepsBy j (line.Leaf t) k
 AtStep j (line.Encode t) k = StepsBy j (line.Encode t) k
+AtStep j (line.Rewrite r t u) k = StepsBy j (line.Rewrite r t u) k
 AtStep j (line.Selector a) k = StepsBy j (line.Selector a) k
 AtStep j (line.Chain clause hints) k = StepsBy j (line.Chain clause hints) k
 AtStep j (line.Equal t u) k = StepsBy j (line.Equal t u) k

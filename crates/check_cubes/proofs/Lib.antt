@@ -1,4 +1,5 @@
 mod Rising
+mod Unruled
 mod Drawn
 mod Splitting
 mod Cubed

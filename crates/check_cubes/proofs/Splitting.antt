@@ -11,7 +11,7 @@ use Rattle.cnf_base.specs.Literals.{Literal}
 use Rattle.cnf_base.proofs.Lists.{Contains-nil, Contains-first}
 use Rattle.smt_terms.specs.declared.node.Node.{Node}
 use Rattle.smt_terms.specs.Nodes.{node_at}
-use Rattle.smt_terms.specs.Terms.{TermsValue, IsTermList}
+use Rattle.smt_terms.specs.Terms.{TermsValue, IsTermList, AreDifferent, AreTerms}
 use Rattle.smt_terms.specs.Bits.{bits_in}
 use Rattle.term_reach.specs.Reach.{arguments, IsReach}
 use Rattle.term_reach.proofs.Rising.{AreApart, equal_flips, sorted_rises}
@@ -70,7 +70,7 @@ module _ (nodes : List Node) (log : LogValue) (kept : IsKept nodes log) where
       subst (λ n. Rise 2 n variables) (sym kept.next)
       (subst (Rise 2 left.next) (sym e) (rise_take 2 left.next limits.cubes (split_variables (roots s) nodes log.entries) (all_rise (roots s))))
 
-  module _ (list : IsTermList nodes) (from reached : List ℕ) (held : All (λ t. t < length nodes) from) (reach : IsReach (arguments nodes) from reached) where
+  module _ (list : IsTermList nodes) (different : AreDifferent nodes) (from reached : List ℕ) (held : All (λ t. t < length nodes) from) (reach : IsReach (arguments nodes) from reached) where
     abbrev own : ℕ → List ℕ
     own = declared_variables nodes log.bits
 
@@ -84,7 +84,7 @@ module _ (nodes : List Node) (log : LogValue) (kept : IsKept nodes log) where
     own_step : (t x : ℕ) → Contains (own t) x → Contains log.entries (entry.Leaf t)
     own_step t x c =
         let h = chosen_some (is_some (constant_width (node_at nodes t).op)) (bits_in log.bits t) x c in
-        drawn nodes t h.0 log.entries h.1 (sym (kept.bits t) ∙ h.2)
+        drawn nodes list different t h.0 log.entries h.1 kept.steps (sym (kept.bits t) ∙ h.2)
 
     step_variable : (t x : ℕ) → Contains reached t → Contains (own t) x → Contains (drew (entry.Leaf t)) x
     step_variable t x c h = subst (λ xs. Contains xs x) (sym (own_drawn t c)) h
@@ -129,16 +129,16 @@ module _ (nodes : List Node) (log : LogValue) (kept : IsKept nodes log) where
         (λ x c. Contains-permutation (flat_map own reached) sorted x moved (none_left x c))
 
   -- what was found, sorted and cut, splits the check
-  pub cut_split : (limits : Limits) (s : StateValue) (terms : TermsValue) (from reached found sorted cut : List ℕ) → IsState s → nodes ≡ s.terms.nodes → terms ≡ s.terms → from ≡ roots s → All (λ t. t < length s.terms.nodes) (roots s)
+  pub cut_split : (limits : Limits) (s : StateValue) (terms : TermsValue) (from reached found sorted cut : List ℕ) → IsState s → nodes ≡ s.terms.nodes → terms ≡ s.terms → AreTerms terms → from ≡ roots s → All (λ t. t < length s.terms.nodes) (roots s)
       → IsReach (arguments terms.nodes) from reached → found ≡ flat_map (declared_variables terms.nodes log.bits) reached → IsPermutation found sorted → IsNonDecreasing sorted → cut ≡ take limits.cubes sorted
       → cut ≡ cube_variables limits s nodes log.entries
-  cut_split limits s terms from reached found sorted cut is same e are held reach is_found moved order is_cut =
+  cut_split limits s terms from reached found sorted cut is same e apart are held reach is_found moved order is_cut =
       let own : terms.nodes ≡ nodes = ap (λ (v : TermsValue). v.nodes) e ∙ sym same in
       let list : IsTermList nodes = subst IsTermList (sym same) is.terms in
       let within : All (λ t. t < length nodes) (roots s) = subst (λ (ns : List Node). All (λ t. t < length ns) (roots s)) (sym same) held in
       let walk : IsReach (arguments nodes) (roots s) reached = subst (λ (ns : List Node). IsReach (arguments ns) (roots s) reached) own (subst (λ ts. IsReach (arguments terms.nodes) ts reached) are reach) in
       let all : flat_map (declared_variables nodes log.bits) reached ≡ found = ap (λ (ns : List Node). flat_map (declared_variables ns log.bits) reached) (sym own) ∙ sym is_found in
-      is_cut ∙ ap (take limits.cubes) (sorted_split list (roots s) reached within walk sorted (subst (λ vs. IsPermutation vs sorted) (sym all) moved) order)
+      is_cut ∙ ap (take limits.cubes) (sorted_split list (subst AreDifferent own apart.different) (roots s) reached within walk sorted (subst (λ vs. IsPermutation vs sorted) (sym all) moved) order)
 
 -- sorting and cutting keeps them variables
 pub still_variables : (found sorted cut : List ℕ) (n : ℕ) → AreVariables found → IsPermutation found sorted → cut ≡ take n sorted → AreVariables cut

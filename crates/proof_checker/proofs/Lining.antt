@@ -227,7 +227,7 @@ no_chain_line s log l literals hints stands w none (entry.Chain c names) is =
     none c names (is.written ∙ ap Some w)
     (subst (λ k. AreBelow k c) (sym kept.next) is.valid.0)
     (subst (λ rows. IsChain (clause_at rows) c names) (sym kept.clauses) is.valid.1)
-no_chain_line s log l literals hints stands w none (entry.Rewrite r) is = is.valid
+no_chain_line s log l literals hints stands w none (entry.Rewrite r) is = let p : Some (line.Rewrite r.rule r.from r.to) ≡ Some l = is.written in let f : ⊥ = cc in f
 no_chain_line s log l literals hints stands w none (entry.Equal t u) is = let p : Some (line.Equal t u) ≡ Some l = is.written in let f : ⊥ = cc in f
 no_chain_line s log l literals hints stands w none (entry.Lemma a) is = false≢true (sym (ap is_lemma w) ∙ sym (ap is_lemma_in is.written) ∙ (lemma_is_one a).0)
 

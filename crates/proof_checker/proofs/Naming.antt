@@ -64,7 +64,7 @@ module _ (s : StateValue) (log : List Entry) (l : Line) (held : ℕ) (count : he
   no_lemma_line w none (entry.Encode t) is = other_line w (ap is_lemma_in is.written)
   no_lemma_line w none (entry.Selector a t) is = other_line w (ap is_lemma_in is.written)
   no_lemma_line w none (entry.Chain c hints) is = other_line w (ap is_lemma_in is.written)
-  no_lemma_line w none (entry.Rewrite r) is = is.valid
+  no_lemma_line w none (entry.Rewrite r) is = other_line w (ap is_lemma_in is.written)
   no_lemma_line w none (entry.Equal t u) is = other_line w (ap is_lemma_in is.written)
   no_lemma_line w none (entry.Lemma a) is =
       let over = valid_over s.terms.nodes (state_of s.terms.nodes log) a is.valid in

@@ -9,14 +9,14 @@ use std::process::Abort;
 use std::test::Fail;
 
 /// A script, whether it may have functions and arrays, and the lines of a proof of it.
-struct Proof {
-    script: &'static [u8],
-    theories: bool,
-    lines: &'static [&'static [u8]],
+pub(crate) struct Proof {
+    pub script: &'static [u8],
+    pub theories: bool,
+    pub lines: &'static [&'static [u8]],
 }
 
 /// What is shown, a line that is changed, counted from 1, what stands there then, and the first bad line with its rule.
-type Change = (&'static str, usize, &'static [u8], Option<(u64, RuleName)>);
+pub(crate) type Change = (&'static str, usize, &'static [u8], Option<(u64, RuleName)>);
 
 /// Whether a proof with this line in place of its own is judged so.
 fn is_judged(
@@ -49,7 +49,11 @@ fn is_judged(
 }
 
 /// Checks a proof, and then each changed one.
-fn walk(rt: &(impl Abort + AllocGlobal), proof: &Proof, changes: &[Change]) -> Result<(), Fail> {
+pub(crate) fn walk(
+    rt: &(impl Abort + AllocGlobal),
+    proof: &Proof,
+    changes: &[Change],
+) -> Result<(), Fail> {
     let alloc = rt.alloc();
     let whole = is_judged(alloc, proof, 0, b"", None)?;
     assert!(rt; whole, "the proof as it is");

@@ -38,3 +38,5 @@ pub use check_laws::{
 
 #[cfg(test)]
 mod lemma_tests;
+#[cfg(test)]
+mod rewrite_tests;

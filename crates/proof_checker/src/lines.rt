@@ -23,7 +23,7 @@ ghost use Rattle.proof_text.specs.Entries.{head_of, written_literal, written_hin
 ghost use Rattle.accepted_proof.specs.Turns.{IsOfScript};
 ghost use Rattle.accepted_proof.specs.Judged.{IsStepOf};
 
-use crate::named::{lemma_of, pair_of, term_of};
+use crate::named::{lemma_of, pair_of, term_of, use_of};
 use cnf_base::{Clause, ClauseId, Lit, Pos};
 use proof_log::Log;
 use proof_log::entry::{Entry, Hints};
@@ -256,6 +256,10 @@ pub fn entry_of(
         },
         Line::Encode(number) => match term_of(held, *number) {
             Some(term) => Ok(Some(Entry::Encode(term))),
+            None => Ok(None),
+        },
+        Line::Rewrite { rule, from, to } => match use_of(held, *rule, *from, *to) {
+            Some(used) => Ok(Some(Entry::Rewrite(used))),
             None => Ok(None),
         },
         Line::Selector(number) => match asserted(state, *number) {

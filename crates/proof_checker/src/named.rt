@@ -1,10 +1,14 @@
-// The terms that lines name, and the lemmas that they say of them.
+// The terms that lines name, and the uses of rules and the lemmas that they say of them.
 
 ghost use Rattle.std.specs.Prelude.{◌≡◌, ◌≤◌, ◌<◌, map, IfOk, MatchOption};
 ghost use Rattle.std.specs.List.{AllByRecursion};
+ghost use Rattle.bv_rules.specs.declared.rule.Rule.{Rule as RuleValue};
+ghost use Rattle.bv_rules.specs.Numbers.{number_of};
 ghost use Rattle.proof_text.specs.Entries.{written_move, written_start, written_access, lemma_line};
 ghost use Rattle.proof_checker.specs.Naming.{IsStartOver, IsMoveOver, IsAccessOver, IsLemmaOver};
 
+use bv_rules::rule::Rule;
+use proof_log::entry::RuleUse;
 use proof_text::line::Line;
 use proof_text::list::{Letter, WrittenAccess, WrittenMove, WrittenStart};
 use smt_terms::node::TermId;
@@ -30,6 +34,22 @@ pub fn pair_of(held: u32, first: u64, second: u64) -> Option<(TermId, TermId)>
     let first = term_of(held, first)?;
     let second = term_of(held, second)?;
     Some((first, second))
+}
+
+/// The use of the rule of this number, if there is one, on the terms of these numbers, if both are
+/// held.
+pub fn use_of(held: u32, number: u64, from: u64, to: u64) -> Option<RuleUse>
+    ensures { MatchOption result
+        ((rule : RuleValue) → number_of rule ≡ number → (from < held) × (to < held) → ⊥)
+        (λ used. (used.rule ≡ number) × (used.from ≡ from) × (used.to ≡ to)) }
+{
+    let rule = Rule::numbered(number)?;
+    let (from, to) = pair_of(held, from, to)?;
+    Some(RuleUse {
+        rule: rule.number(),
+        from,
+        to,
+    })
 }
 
 /// Where an access starts, if its terms are held.

@@ -25,6 +25,11 @@ fn rule_of(line: &Line) -> RuleName
         Line::Term { head: _, args: _ } => RuleName::Node,
         Line::Leaf(_) => RuleName::Leaf,
         Line::Encode(_) => RuleName::Encode,
+        Line::Rewrite {
+            rule: _,
+            from: _,
+            to: _,
+        } => RuleName::Rewrite,
         Line::Selector(_) => RuleName::Selector,
         Line::Chain {
             clause: _,
@@ -86,6 +91,11 @@ impl Checker {
             Line::Term { head: _, args: _ } => self.step(alloc, line),
             Line::Leaf(_) => self.step(alloc, line),
             Line::Encode(_) => self.step(alloc, line),
+            Line::Rewrite {
+                rule: _,
+                from: _,
+                to: _,
+            } => self.step(alloc, line),
             Line::Selector(_) => self.step(alloc, line),
             Line::Chain {
                 clause: _,

@@ -171,6 +171,7 @@ words_clear (line.Header c b) h = (refl, (refl, (refl, (number_clear c h.0, (ref
 words_clear (line.Term head args) h = (refl, each_append (λ w. is_clear w ≡ true) (head_words head) (map decimal args) (head_clear head h.0) (all_map IsNumber (λ w. is_clear w ≡ true) decimal number_clear args h.1))
 words_clear (line.Leaf n) h = (refl, (number_clear n h, tt))
 words_clear (line.Encode n) h = (refl, (number_clear n h, tt))
+words_clear (line.Rewrite r t u) h = (refl, (number_clear r h.0, (number_clear t h.1, (number_clear u h.2, tt))))
 words_clear (line.Selector n) h = (refl, (number_clear n h, tt))
 words_clear (line.Chain clause hints) h = (
   refl,

@@ -30,6 +30,7 @@ some_words (line.Header c b) = omega arith
 some_words (line.Term head args) = omega arith
 some_words (line.Leaf n) = omega arith
 some_words (line.Encode n) = omega arith
+some_words (line.Rewrite r t u) = omega arith
 some_words (line.Selector n) = omega arith
 some_words (line.Chain clause hints) = omega arith
 some_words (line.Equal t u) = omega arith

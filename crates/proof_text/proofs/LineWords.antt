@@ -10,7 +10,7 @@ use Rattle.proof_text.specs.declared.list.WrittenAccess.{WrittenAccess}
 use Rattle.proof_text.specs.declared.line.Line.{Line}
 use Rattle.proof_text.specs.declared.line.Line.TheVariants as line
 use Rattle.proof_text.specs.Lines.{with_number, head_words, literal_text, hint_text, access_words, words_of, IsNumber, IsHint, IsAccess, IsLine}
-use Rattle.proof_text.specs.Reading.{◌>>=◌, look_up, number_in, number_at, ended, only_number, numbers_of, literals_at, hint_of, hints_of, chain_of, head_at, term_of, value_of, declared_of, exactly, access_at, accesses_of, two_numbers, one_number, lemma_names, lemma_by, lemma_of, header_of, unknown_of, keywords, line_by, line_of}
+use Rattle.proof_text.specs.Reading.{◌>>=◌, look_up, number_in, number_at, ended, only_number, numbers_of, literals_at, hint_of, hints_of, chain_of, head_at, term_of, value_of, declared_of, exactly, access_at, accesses_of, two_numbers, one_number, lemma_names, lemma_by, lemma_of, header_of, unknown_of, rewrite_of, keywords, line_by, line_of}
 use Rattle.proof_text.proofs.Literals.{bind_is, bind_some, each_reads, each_says, ended_says, hint_reads, hint_says, literals_read, literals_say, number_at_says, number_in_reads, number_in_says, only_number_says, same_text}
 use Rattle.proof_text.proofs.Heads.{head_reads, head_says, keyword_name, keyword_says, table_says}
 use Rattle.proof_text.proofs.WrittenValues.{value_reads, value_says}
@@ -33,6 +33,7 @@ words_read (line.Header c b) h = rw (number_in_reads c h.0, number_in_reads b h.
 words_read (line.Term head args) h = rw (head_reads head (map decimal args) h.0, each_reads number_in decimal IsNumber number_in_reads args h.1) refl
 words_read (line.Leaf t) h = rw (number_in_reads t h) refl
 words_read (line.Encode t) h = rw (number_in_reads t h) refl
+words_read (line.Rewrite r t u) h = rw (number_in_reads r h.0, number_in_reads t h.1, number_in_reads u h.2) refl
 words_read (line.Selector a) h = rw (number_in_reads a h) refl
 words_read (line.Chain clause hints) h = rw (literals_read clause (map hint_text hints) h.0, each_reads hint_of hint_text IsHint hint_reads hints h.1) refl
 words_read (line.Equal t u) h = rw (number_in_reads t h.0, number_in_reads u h.1) refl
@@ -130,6 +131,18 @@ unknown_says ws l e =
     subst (IsReadLine (codes "unknown" ∷ ws)) same
     (record { words = ap (λ vs. codes "unknown" ∷ vs) (s.words ∙ ap (λ vs. decimal a.0.0 ∷ vs) (t.words ∙ ap (λ vs. decimal b.0.0 ∷ vs) u.words)); fits = (s.bound, t.bound, u.bound) })
 
+rewrite_says : (ws : List (List ℕ)) (l : Line) → rewrite_of ws ≡ Some l → IsReadLine (codes "r" ∷ ws) l
+rewrite_says ws l e =
+    let a = bind_some (number_at ws) (λ a. number_at a.1 >>= λ b. only_number b.1 >>= λ n. Some (line.Rewrite a.0 b.0 n)) l e in
+    let b = bind_some (number_at a.0.1) (λ b. only_number b.1 >>= λ n. Some (line.Rewrite a.0.0 b.0 n)) l a.2 in
+    let n = bind_some (only_number b.0.1) (λ n. Some (line.Rewrite a.0.0 b.0.0 n)) l b.2 in
+    let same : line.Rewrite a.0.0 b.0.0 n.0 ≡ l = let q = n.2 in cc in
+    let s = number_at_says ws a.0 a.1 in
+    let t = number_at_says a.0.1 b.0 b.1 in
+    let u = only_number_says b.0.1 n.0 n.1 in
+    subst (IsReadLine (codes "r" ∷ ws)) same
+    (record { words = ap (λ vs. codes "r" ∷ vs) (s.words ∙ ap (λ vs. decimal a.0.0 ∷ vs) (t.words ∙ ap (λ vs. decimal b.0.0 ∷ vs) u.words)); fits = (s.bound, t.bound, u.bound) })
+
 -- ---- lemmas
 
 two_numbers_say : (make : ℕ → ℕ → Line) (front : List (List ℕ)) → ((t u : ℕ) → words_of (make t u) ≡ front ++ decimal t ∷ decimal u ∷ []) → ((t u : ℕ) → IsNumber t → IsNumber u → IsLine (make t u))
@@ -195,6 +208,7 @@ keyword_read key.Header ws l e = header_says ws l e
 keyword_read key.Term ws l e = term_says ws l e
 keyword_read key.Leaf ws l e = one_number_says line.Leaf (codes "f") (λ n. refl) (λ n k. k) ws l e
 keyword_read key.Encode ws l e = one_number_says line.Encode (codes "e") (λ n. refl) (λ n k. k) ws l e
+keyword_read key.Rewrite ws l e = rewrite_says ws l e
 keyword_read key.Selector ws l e = one_number_says line.Selector (codes "s") (λ n. refl) (λ n k. k) ws l e
 keyword_read key.Chain ws l e = chain_says ws l e
 keyword_read key.Equal ws l e = two_numbers_say line.Equal (codes "q" ∷ []) (λ t u. refl) (λ t u h k. (h, k)) ws l e

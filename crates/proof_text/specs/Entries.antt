@@ -24,7 +24,7 @@ use Rattle.proof_text.specs.declared.list.WrittenAccess.{WrittenAccess}
 use Rattle.proof_text.specs.declared.line.Head.{Head}
 use Rattle.proof_text.specs.declared.line.Head.TheVariants.{Plain, Word, Extract, ZeroExtend, SignExtend, RotateLeft, RotateRight, Repeat, Apply, ConstantArray}
 use Rattle.proof_text.specs.declared.line.Line.{Line}
-use Rattle.proof_text.specs.declared.line.Line.TheVariants.{Term, Leaf, Encode, Selector, Chain, Equal, Congruence, Witness, Accesses}
+use Rattle.proof_text.specs.declared.line.Line.TheVariants.{Term, Leaf, Encode, Rewrite, Selector, Chain, Equal, Congruence, Witness, Accesses}
 
 -- the head that is written for an operator; no line makes a declared constant or a parameter
 abbrev pub head_of : Op → Option Head
@@ -65,13 +65,13 @@ lemma_line (lemma.Congruence t u) = Congruence t u
 lemma_line (lemma.Witness t) = Witness t
 lemma_line (lemma.Arrays a b) = Accesses (written_access a) (written_access b)
 
--- the line of a step; a use of a rewrite rule has none, and no rule makes it valid yet
+-- the line of a step
 abbrev pub entry_line : Entry → Option Line
 entry_line (entry.Node n) = option_map (λ head. Term head n.args) (head_of n.op)
 entry_line (entry.Leaf t) = Some (Leaf t)
 entry_line (entry.Encode t) = Some (Encode t)
 entry_line (entry.Selector a t) = Some (Selector a)
 entry_line (entry.Chain clause hints) = Some (Chain (map written_literal clause) (map written_hint hints))
-entry_line (entry.Rewrite r) = None
+entry_line (entry.Rewrite r) = Some (Rewrite r.rule r.from r.to)
 entry_line (entry.Equal t u) = Some (Equal t u)
 entry_line (entry.Lemma l) = Some (lemma_line l)

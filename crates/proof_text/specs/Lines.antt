@@ -19,7 +19,7 @@ use Rattle.proof_text.specs.declared.line.Head.TheVariants.{Plain, Word, Extract
 use Rattle.proof_text.specs.declared.line.WrittenValue.{WrittenValue}
 use Rattle.proof_text.specs.declared.line.WrittenValue.TheVariants as value
 use Rattle.proof_text.specs.declared.line.Line.{Line}
-use Rattle.proof_text.specs.declared.line.Line.TheVariants.{Header, Term, Leaf, Encode, Selector, Chain, Equal, Congruence, Witness, Accesses, Sat, Value, Unsat, Unknown, Take, Put, Drop}
+use Rattle.proof_text.specs.declared.line.Line.TheVariants.{Header, Term, Leaf, Encode, Rewrite, Selector, Chain, Equal, Congruence, Witness, Accesses, Sat, Value, Unsat, Unknown, Take, Put, Drop}
 
 -- each behind a space
 abbrev pub spaced : List (List ℕ) → List ℕ
@@ -100,6 +100,7 @@ words_of (Header cubes budget) = codes "smt_proof" ∷ codes "1" ∷ codes "cube
 words_of (Term head args) = codes "t" ∷ (head_words head ++ map decimal args)
 words_of (Leaf t) = with_number (codes "f") t
 words_of (Encode t) = with_number (codes "e") t
+words_of (Rewrite rule t u) = codes "r" ∷ decimal rule ∷ decimal t ∷ decimal u ∷ []
 words_of (Selector a) = with_number (codes "s") a
 words_of (Chain clause hints) = codes "c" ∷ (map literal_text clause ++ codes "0" ∷ map hint_text hints)
 words_of (Equal t u) = codes "q" ∷ decimal t ∷ decimal u ∷ []
@@ -180,6 +181,7 @@ IsLine (Header cubes budget) = IsNumber cubes × IsNumber budget
 IsLine (Term head args) = IsHead head × AllByRecursion IsNumber args
 IsLine (Leaf t) = IsNumber t
 IsLine (Encode t) = IsNumber t
+IsLine (Rewrite rule t u) = IsNumber rule × IsNumber t × IsNumber u
 IsLine (Selector a) = IsNumber a
 IsLine (Chain clause hints) = AllByRecursion IsLiteral clause × AllByRecursion IsHint hints
 IsLine (Equal t u) = IsNumber t × IsNumber u

@@ -294,12 +294,16 @@ header_of ws =
 abbrev pub unknown_of : List (List ℕ) → Option Line
 unknown_of ws = number_at ws >>= λ a. number_at a.1 >>= λ b. only_number b.1 >>= λ n. Some (line.Unknown a.0 b.0 n)
 
+abbrev pub rewrite_of : List (List ℕ) → Option Line
+rewrite_of ws = number_at ws >>= λ a. number_at a.1 >>= λ b. only_number b.1 >>= λ u. Some (line.Rewrite a.0 b.0 u)
+
 abbrev pub keywords : List (List ℕ × Keyword)
 keywords =
     (codes "smt_proof", key.Header)
     ∷ (codes "t", key.Term)
     ∷ (codes "f", key.Leaf)
     ∷ (codes "e", key.Encode)
+    ∷ (codes "r", key.Rewrite)
     ∷ (codes "s", key.Selector)
     ∷ (codes "c", key.Chain)
     ∷ (codes "q", key.Equal)
@@ -318,6 +322,7 @@ line_by key.Header ws = header_of ws
 line_by key.Term ws = term_of ws
 line_by key.Leaf ws = one_number line.Leaf ws
 line_by key.Encode ws = one_number line.Encode ws
+line_by key.Rewrite ws = rewrite_of ws
 line_by key.Selector ws = one_number line.Selector ws
 line_by key.Chain ws = chain_of ws
 line_by key.Equal ws = two_numbers line.Equal ws

@@ -4,13 +4,13 @@ ghost use Rattle.std.specs.Prelude.{◌≡◌, ◌++◌, ◌∷◌, length, take
 ghost use Rattle.std.specs.List.{flat_map, AllByRecursion};
 ghost use Rattle.std.specs.Fmt.{decimal};
 ghost use Rattle.proof_text.specs.Lines.{spaced, head_words, joined, literal_text, hint_text, start_text, move_words, access_words, line_text, IsNumber, IsHead, IsLiteral, IsHint, IsStart, IsMove, IsAccess, IsLine};
-ghost use Rattle.proof_text.specs.declared.line.Line.TheVariants.{Equal, Congruence, Accesses};
+ghost use Rattle.proof_text.specs.declared.line.Line.TheVariants.{Rewrite, Equal, Congruence, Accesses};
 ghost use Rattle.proof_text.specs.Entries.{head_of, written_literal, written_hint, written_start, written_move, written_access, lemma_line, entry_line};
 
 use crate::operator::operator_name;
 use crate::write::{push_line, push_marked, push_spaced, push_spaced_wide, push_with_number};
 use cnf_base::{Clause, ClauseId, Lit};
-use proof_log::entry::{Entry, Hints};
+use proof_log::entry::{Entry, Hints, RuleUse};
 use smt_terms::node::{Node, Op, TermId};
 use smt_text::number::push_number;
 use smt_text::print::whole_or_none;
@@ -137,6 +137,18 @@ fn push_chain(clause: &Clause, hints: &Hints, out: &mut Text) -> Result<(), Allo
     out.push(b'\n')
 }
 
+fn push_rewrite(used: RuleUse, out: &mut Text) -> Result<(), AllocError>
+    ensures ok { OnOk result
+        (out.new ≡ out.old ++ line_text (Rewrite used.rule used.from used.to)) }
+    ensures line { OnOk result (IsLine (Rewrite used.rule used.from used.to)) }
+    ensures err { OnErr result (take (length out.old) out.new ≡ out.old) }
+{
+    push_with_number(out, b"r", used.rule as u64)?;
+    push_spaced(out, used.from as u64)?;
+    push_spaced(out, used.to as u64)?;
+    out.push(b'\n')
+}
+
 fn push_equal(lower: TermId, upper: TermId, out: &mut Text) -> Result<(), AllocError>
     ensures ok { OnOk result (out.new ≡ out.old ++ line_text (Equal lower upper)) }
     ensures line { OnOk result (IsLine (Equal lower upper)) }
@@ -248,14 +260,13 @@ fn push_entry(entry: &Entry, out: &mut Text) -> Result<(), AllocError>
         Entry::Chain(clause, hints) => push_chain(clause, hints, out),
         Entry::Equal(lower, upper) => push_equal(*lower, *upper, out),
         Entry::Lemma(lemma) => push_lemma(lemma, out),
-        // Excluded by the condition: it has no line yet.
-        Entry::Rewrite(_) => unreachable!(),
+        Entry::Rewrite(used) => push_rewrite(*used, out),
     }
 }
 
 /// Appends the line of a step. It can be read: its numbers are in range.
 pub fn write_entry(entry: &Entry, out: &mut Text) -> Result<(), AllocError>
-    // No line makes a declared constant or a parameter, and a use of a rewrite rule has none yet.
+    // No line makes a declared constant or a parameter.
     requires { IsSome (entry_line entry.now) }
     ensures ok { OnOk result
         (IfSome (entry_line entry.now) (λ line. out.new ≡ out.old ++ line_text line)) }

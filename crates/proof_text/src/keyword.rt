@@ -13,6 +13,7 @@ pub(crate) enum Keyword {
     Term,
     Leaf,
     Encode,
+    Rewrite,
     Selector,
     Chain,
     Equal,
@@ -49,11 +50,12 @@ pub(crate) enum Indexed {
 }
 
 /// The words that lines begin with.
-pub(crate) const KEYWORDS: [(&[u8], Keyword); 15] = [
+pub(crate) const KEYWORDS: [(&[u8], Keyword); 16] = [
     (b"smt_proof", Keyword::Header),
     (b"t", Keyword::Term),
     (b"f", Keyword::Leaf),
     (b"e", Keyword::Encode),
+    (b"r", Keyword::Rewrite),
     (b"s", Keyword::Selector),
     (b"c", Keyword::Chain),
     (b"q", Keyword::Equal),

@@ -1,4 +1,5 @@
-//! Lines of equalities and lemmas, and the values of arrays and functions: what is read of them, and what is not.
+//! Lines of rewriting, of equalities and of lemmas, and the values of arrays and functions: what is
+//! read of them, and what is not.
 
 use crate::list::{Letter, WrittenMove, WrittenStart};
 use crate::tests::{Next, Shown, Step, walk};
@@ -47,6 +48,30 @@ fn equalities_and_lemmas_are_read(rt: HostRuntime) -> Result<(), Fail> {
                 ),
             ),
             Step::Line(b"t const 4 0\n", Next::Filled(4, &[0])),
+        ],
+    )
+}
+
+#[test]
+fn uses_of_rules_are_three_numbers(rt: HostRuntime) -> Result<(), Fail> {
+    walk(
+        &rt,
+        &[
+            Step::Line(b"r 40 3 5\n", Next::Rewrite(40, 3, 5)),
+            // Whether a rule has the number is no matter of the form.
+            Step::Line(b"r 0 2 0\n", Next::Rewrite(0, 2, 0)),
+            Step::Line(
+                b"r 18446744073709551615 0 41\n",
+                Next::Rewrite(u64::MAX, 0, 41),
+            ),
+            Step::Line(b"r\n", Next::Fault(4)),
+            Step::Line(b"r 1 2\n", Next::Fault(5)),
+            Step::Line(b"r 1 2 0 0\n", Next::Fault(6)),
+            Step::Line(b"r 01 2 0\n", Next::Fault(7)),
+            Step::Line(b"r 1 02 0\n", Next::Fault(8)),
+            Step::Line(b"r 1 2 00\n", Next::Fault(9)),
+            Step::Line(b"r -1 2 0\n", Next::Fault(10)),
+            Step::Line(b"r 18446744073709551616 2 0\n", Next::Fault(11)),
         ],
     )
 }

@@ -58,6 +58,12 @@ pub enum Line {
     Leaf(u64),
     /// `e t`, the circuit of a term.
     Encode(u64),
+    /// `r R t u`, the bits of the term u for the term t, which rewrite rule R takes to u.
+    Rewrite {
+        rule: u64,
+        from: u64,
+        to: u64,
+    },
     /// `s A`, a variable that stands for an assertion.
     Selector(u64),
     /// `c L.. 0 P.K ..`, a clause and the clauses by which it follows.

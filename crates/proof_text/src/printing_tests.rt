@@ -10,7 +10,7 @@ use crate::header::write_header;
 use crate::record::{DeclaredValues, Record, write_record};
 use cnf_base::{Clause, ClauseId, Lit};
 use proof_log::diary::{Diary, DiaryLine, DiaryLines};
-use proof_log::entry::{Entry, Hints};
+use proof_log::entry::{Entry, Hints, RuleUse};
 use smt_terms::list::Arguments;
 use smt_terms::node::{Node, Op};
 use smt_terms::scalar::Scalar;
@@ -155,8 +155,14 @@ fn short_access(alloc: Global) -> Access {
     }
 }
 
-/// Prints an equality, a lemma of each kind, and a constant array.
+/// Prints a use of a rule, an equality, a lemma of each kind, and a constant array.
 fn print_lemmas(alloc: Global, out: &mut Text) -> Result<(), AllocError> {
+    let used = RuleUse {
+        rule: 34,
+        from: 5,
+        to: 6,
+    };
+    print_entry(Entry::Rewrite(used), out)?;
     print_entry(Entry::Equal(2, 4), out)?;
     print_entry(Entry::Lemma(Lemma::Congruence(5, 3)), out)?;
     print_entry(Entry::Lemma(Lemma::Witness(7)), out)?;
@@ -179,7 +185,9 @@ fn lemmas_are_printed_move_by_move(rt: HostRuntime) -> Result<(), Fail> {
     assert!(rt; printed == Ok(()));
     assert!(rt;
         out.as_slice()
-            == b"q 2 4\nl c 5 3\nl w 7\nl a 3 w 3 t 8 e 9 q 10 / 2@4\nt const 4 0\n".as_slice()
+            == b"r 34 5 6\nq 2 4\nl c 5 3\nl w 7\n\
+l a 3 w 3 t 8 e 9 q 10 / 2@4\nt const 4 0\n"
+                .as_slice()
     );
     Ok(())
 }

@@ -2,7 +2,7 @@
 
 ghost use Rattle.std.specs.Prelude.{◌≡◌, IfOk};
 ghost use Rattle.std.specs.Option.{option_map};
-ghost use Rattle.proof_text.specs.Reading.{fields, behind, numbers_of, literal_of, literals_at, hint_of, hints_of, chain_of, indexed_at, indexed_head_at, head_at, term_of, declared_of, header_of, unknown_of, one_number, two_numbers, line_by, line_of};
+ghost use Rattle.proof_text.specs.Reading.{fields, behind, numbers_of, literal_of, literals_at, hint_of, hints_of, chain_of, indexed_at, indexed_head_at, head_at, term_of, declared_of, header_of, unknown_of, rewrite_of, one_number, two_numbers, line_by, line_of};
 
 use crate::keyword::{INDEXED_NAMES, Indexed, KEYWORDS, Keyword, look_up};
 use crate::line::{Head, Line};
@@ -194,6 +194,15 @@ fn unknown(rest: &[u8]) -> Option<Line>
     Some(Line::Unknown { cube, start, count })
 }
 
+fn rewrite(rest: &[u8]) -> Option<Line>
+    ensures { result ≡ rewrite_of (behind 32 rest.now) }
+{
+    let (rule, rest) = number_at(b' ', rest)?;
+    let (from, rest) = number_at(b' ', rest)?;
+    let to = only_number(b' ', rest)?;
+    Some(Line::Rewrite { rule, from, to })
+}
+
 fn equal(rest: &[u8]) -> Option<Line>
     ensures { result ≡ two_numbers Line.Equal (behind 32 rest.now) }
 {
@@ -210,6 +219,7 @@ fn line_by(alloc: Global, keyword: Keyword, rest: &[u8]) -> Result<Option<Line>,
         Keyword::Term => term(alloc, rest),
         Keyword::Leaf => Ok(only_number(b' ', rest).map(Line::Leaf)),
         Keyword::Encode => Ok(only_number(b' ', rest).map(Line::Encode)),
+        Keyword::Rewrite => Ok(rewrite(rest)),
         Keyword::Selector => Ok(only_number(b' ', rest).map(Line::Selector)),
         Keyword::Chain => chain(alloc, rest),
         Keyword::Equal => Ok(equal(rest)),

@@ -44,6 +44,8 @@ pub(crate) enum Next {
     Chain(&'static [WrittenLiteral], &'static [WrittenHint]),
     /// A constant array of this index width, over these terms.
     Filled(u64, &'static [u64]),
+    /// A rule, and the terms from which and to which it leads.
+    Rewrite(u64, u64, u64),
     Equal(u64, u64),
     Congruence(u64, u64),
     Witness(u64),
@@ -164,6 +166,9 @@ fn has_numbers(line: &Line, next: Next) -> bool {
         (Line::Header { cubes, budget }, Next::Header(c, b)) => *cubes == c && *budget == b,
         (Line::Unknown { cube, start, count }, Next::Unknown(c, s, n)) => {
             *cube == c && *start == s && *count == n
+        }
+        (Line::Rewrite { rule, from, to }, Next::Rewrite(r, t, u)) => {
+            *rule == r && *from == t && *to == u
         }
         _ => false,
     }

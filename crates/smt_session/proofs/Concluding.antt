@@ -36,7 +36,7 @@ use Rattle.accepted_proof.specs.Models.{IsWrittenModel}
 use Rattle.accepted_proof.specs.Searching.{Limits, is_reached, variables_of, leaf_variables, Rise, cube_variables, selector_literals, bits_or_none, given_literals, HasSelector, HasBit, IsUnknown}
 use Rattle.reached_steps.specs.Reached.{IsOfTerms, AreReachedSteps}
 use Rattle.reached_steps.proofs.Separate.{reached_are_separate}
-use Rattle.smt_session.specs.Growing.{Grows, IsStepFor, AreBits, AreGiven, AreSelectors}
+use Rattle.smt_session.specs.Growing.{Grows, IsStepFor, IsUnruled, AreBits, AreGiven, AreSelectors}
 use Rattle.smt_session.specs.declared.solve.Found.{Found}
 use Rattle.smt_session.specs.declared.solve.Found.TheVariants as found
 use Rattle.smt_session.specs.Searched.{IsTermStep, IsAssertionStep, IsStepOf, AreEnough, AreSatisfied, HasTrueSelector, HasTrueBit, IsProblem, IsSpentCube, IsClosed, IsLowestSpent, IsFound, problem}
@@ -47,6 +47,7 @@ use Rattle.smt_session.proofs.Giving.{given_below, given_stays, selectors_true, 
 use Rattle.smt_session.proofs.Roots.{roots_live}
 use Rattle.smt_session.proofs.Satisfied.{satisfied}
 use Rattle.smt_session.proofs.Staying.{grows_more, grown_steps, words_of}
+use Rattle.smt_session.proofs.Unruled.{closed_over, no_images, unruled_of}
 use Rattle.smt_session.proofs.Turning.{refutation, true_selectors, grows_by_searches}
 
 -- ---- what is searched
@@ -96,7 +97,7 @@ module _ (s : StateValue) (log : LogValue) (session : IsSession s log) (position
       (All-contains (IsStepOf log enough.reached s.scopes.live) positions p enough.each.only among)
 
   reached_steps : AreReachedSteps s.terms.nodes log.entries positions
-  reached_steps = record { reached = enough.reached; closed = enough.closed; first = enough.each.first; terms = enough.each.terms; only = of_terms; words = words_of s log.entries session.each }
+  reached_steps = record { reached = enough.reached; closed = closed_over s.terms.nodes (state_of s.terms.nodes log.entries).images (Contains enough.reached) (no_images s.terms.nodes log.entries (stands_over s.terms.nodes log session.stands).steps (unruled_of s log.entries session.each)) enough.closed; first = enough.each.first; terms = enough.each.terms; only = of_terms; words = words_of s log.entries session.each }
 
   step_within : (p : ℕ) → Contains positions p → p < suc (length log.entries)
   step_within p among =
@@ -293,6 +294,9 @@ module _ (s : StateValue) (terms : TermsValue) (old new : LogValue) (places vari
 
     pub model_words : AllByRecursion (IsOfWords s.terms.nodes) new.entries
     model_words = words_of s new.entries (grown_steps s old new session.each grows)
+
+    pub model_unruled : AllByRecursion IsUnruled new.entries
+    model_unruled = unruled_of s new.entries (grown_steps s old new session.each grows)
 
     given_now : AreGiven s new given
     given_now = given_stays s old new given session.stands grows are

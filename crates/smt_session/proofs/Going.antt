@@ -28,7 +28,7 @@ more_for old new more e k i = tt
 pub more_steps : (old new : StateValue) (behind : List Node) (es : List Entry) → new.terms.nodes ≡ old.terms.nodes ++ behind → ((a t : ℕ) → slice_get old.scopes.terms a ≡ Some t → slice_get new.scopes.terms a ≡ Some t) → AreStepsFor old es → AreStepsFor new es
 more_steps old new behind [] terms more h = tt
 more_steps old new behind (e ∷ es) terms more h = (
-  (h.0.0, more_for old new more e h.0.0 h.0.1, subst (λ ns. IsOfWords ns e) (sym terms) (words_longer old.terms.nodes behind e h.0.2)),
+  (h.0.0, more_for old new more e h.0.0 h.0.1, subst (λ ns. IsOfWords ns e) (sym terms) (words_longer old.terms.nodes behind e h.0.2), h.0.3),
   more_steps old new behind es terms more h.1,
 )
 

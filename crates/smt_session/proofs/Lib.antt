@@ -7,6 +7,7 @@ pub mod Ended
 pub mod Resting
 pub mod Roots
 pub mod Satisfied
+pub mod Unruled
 pub mod Modeling
 pub mod Giving
 pub mod Turning

@@ -34,7 +34,6 @@ use Rattle.smt_session.proofs.Giving.{bit_of}
 
 lined : (nodes : List Node) (s : LogState) (e : Entry) → MakesNoTerm e → IsOfWords nodes e → IsStep nodes s e → IsSome (entry_line e)
 lined nodes s (step.Node n) h w i = absurd (h refl)
-lined nodes s (step.Rewrite r) h w i = absurd i
 lined nodes s (step.Equal t u) h w i = absurd w
 lined nodes s (step.Lemma l) h w i = absurd w
 lined nodes s e h w i = refl
@@ -135,7 +134,7 @@ true_selectors s l v (a ∷ live) (x ∷ given) listed h each known e all =
 
 search_steps : (s : StateValue) (es : List Entry) → AllByRecursion IsOfSearch es → AreStepsFor s es
 search_steps s [] h = tt
-search_steps s (step.Chain c hints ∷ es) h = ((search_step (step.Chain c hints) h.0, tt, tt), search_steps s es h.1)
+search_steps s (step.Chain c hints ∷ es) h = ((search_step (step.Chain c hints) h.0, tt, tt, tt), search_steps s es h.1)
 search_steps s (e ∷ es) h = let q = h.0 in let f : ⊥ = cc in absurd f
 
 -- a log that searches added to

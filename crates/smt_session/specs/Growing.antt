@@ -9,15 +9,22 @@ use Rattle.scope_selectors.specs.declared.live.Live.{Live}
 use Rattle.script_state.specs.declared.answer.Asked.{Asked}
 use Rattle.script_state.specs.States.{StateValue, assumptions}
 use Rattle.proof_log.specs.declared.entry.Entry.{Entry}
+use Rattle.proof_log.specs.declared.entry.Entry.TheVariants as step
 use Rattle.proof_log.specs.Faults.{MakesNoTerm}
 use Rattle.proof_log.specs.Stored.{LogValue, Stands, selector_in}
 use Rattle.proof_log.specs.Words.{IsOfWords}
 use Rattle.proof_text.specs.Entries.{entry_line}
 use Rattle.accepted_proof.specs.Turns.{IsOfScript}
 
--- the step makes no term, an assertion that it names has the term that it has in the script, and it is of Bools and words
+-- the step gives no term the bits of another
+abbrev pub IsUnruled : Entry → Type 0
+IsUnruled (step.Rewrite r) = ⊥
+IsUnruled _ = Unit {0}
+
+-- the step makes no term, an assertion that it names has the term that it has in the script, it is of Bools and words, and it
+-- gives no term the bits of another
 abbrev pub IsStepFor : StateValue → Entry → Type 0
-IsStepFor s e = MakesNoTerm e × IsOfScript s e × IsOfWords s.terms.nodes e
+IsStepFor s e = MakesNoTerm e × IsOfScript s e × IsOfWords s.terms.nodes e × IsUnruled e
 
 abbrev pub AreStepsFor : StateValue → List Entry → Type 0
 AreStepsFor s = AllByRecursion (IsStepFor s)

@@ -13,9 +13,10 @@ use Rattle.proof_log.specs.declared.diary.Diary.{Diary}
 use Rattle.proof_log.specs.Logs.{Asserted, clause_at, entry_at, state_of}
 use Rattle.proof_log.specs.Places.{GivesBits, GivesSelector}
 use Rattle.proof_log.specs.Stored.{LogValue}
-use Rattle.proof_log.specs.Assigned.{IsTrueAt, AreClosed}
+use Rattle.proof_log.specs.Assigned.{IsTrueAt}
 use Rattle.proof_log.specs.Boards.{LogBoardValue}
 use Rattle.proof_log.specs.Diaries.{Subject, IsSpent, is_chain}
+use Rattle.term_reach.specs.Reach.{arguments, IsClosed as IsReachClosed}
 use Rattle.cube_tree.specs.Cubes.{cube_of}
 use Rattle.cube_tree.specs.Closing.{Closes, AreClosing}
 use Rattle.cube_search.specs.Holding.{AreSeparate}
@@ -59,7 +60,7 @@ pub record ArePositions (log : LogValue) (reached : List ℕ) (live : List Live)
 -- the positions for all that these terms reach, and for these assertions
 pub record AreEnough (nodes : List Node) (log : LogValue) (from : List ℕ) (live : List Live) (positions : List ℕ) : Type 0 where
   pub reached : List ℕ
-  pub closed : AreClosed nodes (Contains reached)
+  pub closed : IsReachClosed (arguments nodes) (Contains reached)
   pub among : All (Contains reached) from
   pub each : ArePositions log reached live positions
 
@@ -162,7 +163,7 @@ IsFound p log v (found.Spent d) = IsLowestSpent p log (2 ^ length p.variables) d
 -- assertions
 pub record AreSatisfied (nodes : List Node) (log : LogValue) (from : List ℕ) (live : List Live) (v : ℕ → Bool) : Type 0 where
   pub reached : List ℕ
-  pub closed : AreClosed nodes (Contains reached)
+  pub closed : IsReachClosed (arguments nodes) (Contains reached)
   pub among : All (Contains reached) from
   pub first : IsTrueAt log v 0
   pub terms : (t : ℕ) → Contains reached t → (p : ℕ) × GivesBits log.entries t p × IsTrueAt log v p

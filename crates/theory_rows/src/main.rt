@@ -1,4 +1,4 @@
-//! Tells what the checker says of a table of proofs with functions and arrays.
+//! Tells what the checker says of a table of proofs with functions, arrays and rewriting.
 //!
 //! The table, which is standard input, has scripts, each with a proof, and changes of the proof's lines. Of each proof, and of
 //! each change, the program prints the line that ends its check: that it is accepted, or its first bad line with the rule. The

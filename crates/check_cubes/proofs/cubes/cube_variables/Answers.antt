@@ -31,7 +31,7 @@ returns-clause-variables c =
     let own = declared_variables c.terms-terms.result.now.nodes c.args.log.now.bits in
     let found : c.in_ok-variables.variables.items ≡ flat_map own c.reach_by_arguments.new.reached = c.in_ok-variables.ensures.variables ∙ ap (flat_map own) c.terms.ensures.terms in
     cut_split s.terms.nodes c.args.log.now (stands_over s.terms.nodes c.args.log.now c.requires) (limits_of c.args.limits) s c.terms-terms.result.now c.as_slice.result.now c.reach_by_arguments.new.reached c.in_ok-variables.variables.items sorted c.truncate.new.self.items
-    c.terms-terms.ensures.state refl c.terms-terms.ensures.terms (c.as_slice.ensures.value ∙ c.in_ok-roots.ensures.roots) (subst (All (λ t. t < length s.terms.nodes)) c.in_ok-roots.ensures.roots c.in_ok-roots.ensures.held)
+    c.terms-terms.ensures.state refl c.terms-terms.ensures.terms c.reach_by_arguments.ensures.terms (c.as_slice.ensures.value ∙ c.in_ok-roots.ensures.roots) (subst (All (λ t. t < length s.terms.nodes)) c.in_ok-roots.ensures.roots c.in_ok-roots.ensures.held)
     c.in_ok-reach_by_arguments.ensures.reach found c.sort_unstable.ensures.permutation (IsNonDecreasingBy-from_sort (λ x. x) sorted c.sort_unstable.ensures.sorted) c.truncate.ensures.items
 
 pub returns-clause-rise : goal.returns-clause-rise

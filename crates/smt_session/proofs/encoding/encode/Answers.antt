@@ -16,7 +16,7 @@ push-requires-clause-valid c =
 pub returns-then-is_constant-clause-grows : goal.returns-then-is_constant-clause-grows
 returns-then-is_constant-clause-grows c =
     grows_one c.args.state.now c.args.log.now c.push.new.self (step.Leaf c.args.term) c.in_ok-push.field-0
-    ((λ q. let f : ⊥ = cc in f), tt, plain_word c.args.state.now c.terms-terms.result.now c.args.term c.node.result.now c.terms-terms.ensures.state c.terms-terms.ensures.terms c.node.ensures.node c.requires.held c.requires.plain (c.is_constant.ensures.constant c.if-is_constant.true))
+    ((λ q. let f : ⊥ = cc in f), tt, plain_word c.args.state.now c.terms-terms.result.now c.args.term c.node.result.now c.terms-terms.ensures.state c.terms-terms.ensures.terms c.node.ensures.node c.requires.held c.requires.plain (c.is_constant.ensures.constant c.if-is_constant.true), tt)
     (pushed_over c.args.state.now c.terms-terms.result.now c.args.log.now c.push.new.self (step.Leaf c.args.term) c.in_ok-push.field-0 c.terms-terms.ensures.terms c.in_ok-push.ensures.pushed)
 
 pub returns-then-is_constant-clause-bits : goal.returns-then-is_constant-clause-bits
@@ -36,7 +36,7 @@ push-requires-2-clause-valid c =
 
 pub returns-clause-grows : goal.returns-clause-grows
 returns-clause-grows c =
-    grows_one c.args.state.now c.args.log.now c.push-2.new.self (step.Encode c.args.term) c.in_ok-push-2.field-0 ((λ q. let f : ⊥ = cc in f), tt, tt)
+    grows_one c.args.state.now c.args.log.now c.push-2.new.self (step.Encode c.args.term) c.in_ok-push-2.field-0 ((λ q. let f : ⊥ = cc in f), tt, tt, tt)
     (pushed_over c.args.state.now c.terms-terms.result.now c.args.log.now c.push-2.new.self (step.Encode c.args.term) c.in_ok-push-2.field-0 c.terms-terms.ensures.terms c.in_ok-push-2.ensures.pushed)
 
 pub returns-clause-bits : goal.returns-clause-bits
