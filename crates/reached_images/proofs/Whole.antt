@@ -1,0 +1,211 @@
+-- A term with all that it reaches and that is not known, and a way of uses, put behind a plan.
+use Rattle.std.proofs.Common.{◌≡◌, ℕ, suc, ◌<◌, ◌≤◌, ◌+◌, ◌-◌, Bool, true, false, List, [], ◌∷◌, ◌++◌, length, length-append, get_or, Some, None, refl, sym, ap, ◌∙◌, subst, arith, ⊎_elim}
+use Rattle.std.specs.Prelude.{if◌then◌else◌, All, Contains, slice_get}
+use Rattle.std.proofs.lemmas.Option.{slice_get-get_or, slice_get_within}
+use Rattle.std.proofs.lemmas.Bool.{cases_lt}
+use Rattle.std.proofs.lemmas.List.Elements.{All-contains, All-from_recursion, Contains-get_or}
+use Rattle.smt_terms.specs.declared.node.Node.{Node}
+use Rattle.smt_terms.specs.Nodes.{node_at}
+use Rattle.smt_terms.specs.Bits.{TermBits}
+use Rattle.smt_terms.specs.Terms.{AreTerms, IsTermList, TermsValue}
+use Rattle.term_reach.specs.Reach.{arguments, IsReach, IsAcyclic, LeadsBelow}
+use Rattle.term_reach.proofs.Ways.{argument_earlier, arguments_below, reached_closed, root_reached}
+use Rattle.term_reach.proofs.Tables.{at_contained}
+use Rattle.bv_rules.proofs.Known.{never}
+use Rattle.bv_rules.proofs.Keeping.{matched}
+use Rattle.bv_rewrite.specs.declared.simplifying.Use.{Use}
+use Rattle.bv_rewrite.specs.Simplifying.{AreNeeded, IsGrown, IsWay}
+use Rattle.bv_rewrite.proofs.Following.{grown_more, grown_none}
+use Rattle.reached_images.specs.declared.plan.Planned.{Planned}
+use Rattle.reached_images.specs.Plans.{is_known, known_image, open_arguments, start_at, uses_of, with_step, IsKnown, IsLater, IsNext, IsPlan, IsPlannedBy}
+use Rattle.reached_images.proofs.Knowing.{image_later, known_last, known_later, later_itself, later_on}
+use Rattle.reached_images.proofs.Needing.{needed_next, none_new}
+use Rattle.reached_images.proofs.Stepping.{matches_later, next_push, start_first, start_later, way_end, way_use}
+
+-- ---- a step
+
+step_cases : (C : List Planned → Type 0) (bits : List TermBits) (steps : List Planned) (p : Planned) → (IsKnown bits steps p.term → C steps) → ((IsKnown bits steps p.term → ⊥) → C (steps ++ p ∷ [])) → C (with_step bits steps p)
+step_cases C bits steps p f g = go (is_known bits steps p.term) refl where
+  go : (b : Bool) → is_known bits steps p.term ≡ b → C (if b then steps else steps ++ p ∷ [])
+  go true e = f e
+  go false e = g (λ h. never (sym e ∙ h))
+
+pub add_step : (nodes : List Node) (bits : List TermBits) (plan : List Planned) (p : Planned) → IsPlan nodes bits plan → ((IsKnown bits plan p.term → ⊥) → IsNext nodes bits plan p) → IsPlannedBy nodes bits plan (with_step bits plan p) p.term
+add_step nodes bits plan p h n =
+    step_cases (λ s. IsPlannedBy nodes bits plan s p.term) bits plan p
+    (λ k. record { plan = h; later = later_itself plan; known = k })
+    (λ nk. record { plan = next_push nodes bits [] plan p h (n nk); later = (p ∷ [], refl); known = known_last bits plan p })
+
+pub planned_on : (nodes : List Node) (bits : List TermBits) (a b c : List Planned) (t u : ℕ) → IsPlannedBy nodes bits a b t → IsPlannedBy nodes bits b c u → IsPlannedBy nodes bits a c u
+planned_on nodes bits a b c t u p q = record { plan = q.plan; later = later_on a b c p.later q.later; known = q.known }
+
+-- ---- the walk over arguments of what is not known
+
+module _ (nodes : List Node) (bits : List TermBits) (steps : List Planned) where
+  pub open_from : (t u : ℕ) → Contains (open_arguments nodes bits steps t) u → Contains (arguments nodes t) u
+  open_from t u = go (is_known bits steps t) where
+    go : (b : Bool) → Contains (if b then [] else (node_at nodes t).args) u → Contains (arguments nodes t) u
+    go true c = absurd (omega (arith, c.1))
+    go false c = c
+
+  pub open_to : (t u : ℕ) → (IsKnown bits steps t → ⊥) → Contains (arguments nodes t) u → Contains (open_arguments nodes bits steps t) u
+  open_to t u new c = go (is_known bits steps t) refl where
+    go : (b : Bool) → is_known bits steps t ≡ b → Contains (if b then [] else (node_at nodes t).args) u
+    go true e = absurd (new e)
+    go false e = c
+
+  pub open_acyclic : IsTermList nodes → IsAcyclic (open_arguments nodes bits steps)
+  open_acyclic list = (λ t. t, λ t u c. argument_earlier nodes list t u (open_from t u c))
+
+  pub open_below : IsTermList nodes → LeadsBelow (length nodes) (open_arguments nodes bits steps)
+  open_below list t u c = arguments_below nodes list t u (open_from t u c)
+
+  pub open_held : (roots reached : List ℕ) → IsTermList nodes → All (λ t. t < length nodes) roots → IsReach (open_arguments nodes bits steps) roots reached → (t : ℕ) → Contains reached t → t < length nodes
+  open_held roots reached list held r t c =
+      reached_closed (open_arguments nodes bits steps) (λ u. u < length nodes) roots (λ a b lt l. open_below list a b l)
+      (λ u root. All-contains (λ a. a < length nodes) roots u held root) t (r.only t c)
+
+-- ---- a term with all that it reaches
+
+-- the terms before a place are known behind the plan
+pub record IsWholeTo (nodes : List Node) (bits : List TermBits) (old now : List Planned) (reached : List ℕ) (i : ℕ) : Type 0 where
+  pub plan : IsPlan nodes bits now
+  pub later : IsLater old now
+  pub done : (j u : ℕ) → j < i → slice_get reached j ≡ Some u → IsKnown bits now u
+
+pub whole_begun : (nodes : List Node) (bits : List TermBits) (old : List Planned) (reached : List ℕ) → IsPlan nodes bits old → IsWholeTo nodes bits old old reached 0
+whole_begun nodes bits old reached h = record { plan = h; later = later_itself old; done = λ j u lt e. absurd (omega (arith, lt)) }
+
+module _ (nodes : List Node) (bits : List TermBits) (old : List Planned) (roots reached : List ℕ) (list : IsTermList nodes) (held : All (λ t. t < length nodes) roots) (r : IsReach (open_arguments nodes bits old) roots reached) where
+  pub whole_next : (plan : List Planned) (i t : ℕ) → IsWholeTo nodes bits old plan reached i → slice_get reached i ≡ Some t → (let p : Planned = record { term = t; used = None } in IsWholeTo nodes bits old (with_step bits plan p) reached (i + 1))
+  whole_next plan i t w e =
+      let p : Planned = record { term = t; used = None } in
+      let added = add_step nodes bits plan p w.plan (λ new. record {
+        held = open_held nodes bits old roots reached list held r t (i, slice_get_within reached i t e, at_place i t e);
+        new = new;
+        needs = λ k d lt. needed new (get_or (arguments nodes t) k d) (Contains-get_or (arguments nodes t) k d lt);
+      }) in
+      record {
+        plan = added.plan;
+        later = later_on old plan (with_step bits plan p) w.later added.later;
+        done = λ j u lt f. ⊎_elim
+            (λ less. known_later bits plan (with_step bits plan p) u added.later (w.done j u less f))
+            (λ le. (let same : j ≡ i = omega (arith, lt, le) in
+            let is : Some u ≡ Some t = sym f ∙ ap (slice_get reached) same ∙ e in
+            let own : u ≡ t = cc in
+            subst (IsKnown bits (with_step bits plan p)) (sym own) added.known))
+            (cases_lt j i);
+      }
+    where
+      at_place : (i t : ℕ) → slice_get reached i ≡ Some t → get_or reached i t ≡ t
+      at_place i t e = let q : Some (get_or reached i t) ≡ Some t = sym (slice_get-get_or reached i t (slice_get_within reached i t e)) ∙ e in cc
+
+      needed : (IsKnown bits plan t → ⊥) → (u : ℕ) → Contains (arguments nodes t) u → IsKnown bits plan u
+      needed new u c =
+          let before = r.order i t u e (open_to nodes bits old t u (λ k. new (known_later bits old plan t w.later k)) c) in
+          w.done before.0 u before.1 before.2
+
+  pub whole_done : (plan : List Planned) (i t : ℕ) → IsWholeTo nodes bits old plan reached i → length reached ≤ i → Contains roots t → IsKnown bits plan t
+  whole_done plan i t w le c =
+      let at = at_contained reached t (r.all t (root_reached (open_arguments nodes bits old) roots t c)) in
+      let lt = slice_get_within reached at.0 t at.1 in
+      w.done at.0 t (omega (arith, lt, le)) at.1
+
+pub same_reach : (nodes : List Node) (bits told : List TermBits) (old before : List Planned) (roots reached items : List ℕ) → told ≡ bits → before ≡ old → IsReach (open_arguments nodes told before) roots reached → items ≡ reached → IsReach (open_arguments nodes bits old) roots items
+same_reach nodes bits told old before roots reached items eb eo r ei =
+    subst (IsReach (open_arguments nodes bits old) roots) (sym ei)
+    (subst (λ x. IsReach (open_arguments nodes bits x) roots reached) eo (subst (λ x. IsReach (open_arguments nodes x before) roots reached) eb r))
+
+pub whole_step : (nodes : List Node) (bits told : List TermBits) (old before plan new : List Planned) (roots reached items : List ℕ) (i d : ℕ)
+    → IsTermList nodes → All (λ t. t < length nodes) roots → told ≡ bits → before ≡ old → IsReach (open_arguments nodes told before) roots reached → items ≡ reached
+    → IsWholeTo nodes bits old plan items i → i < length items → new ≡ with_step bits plan (record { term = get_or items i d; used = None }) → IsWholeTo nodes bits old new items (i + 1)
+whole_step nodes bits told old before plan new roots reached items i d list held eb eo r ei w lt e =
+    subst (λ l. IsWholeTo nodes bits old l items (i + 1)) (sym e)
+    (whole_next nodes bits old roots items list held (same_reach nodes bits told old before roots reached items eb eo r ei) plan i (get_or items i d) w (slice_get-get_or items i d lt))
+
+pub one_held : (nodes : List Node) (t : ℕ) → t < length nodes → All (λ u. u < length nodes) (t ∷ [])
+one_held nodes t lt = All-from_recursion (λ u. u < length nodes) (t ∷ []) (lt, tt)
+
+pub whole_planned : (nodes : List Node) (bits told : List TermBits) (old before plan : List Planned) (t : ℕ) (reached items : List ℕ) (i : ℕ)
+    → IsTermList nodes → t < length nodes → told ≡ bits → before ≡ old → IsReach (open_arguments nodes told before) (t ∷ []) reached → items ≡ reached
+    → IsWholeTo nodes bits old plan items i → length items ≤ i → IsPlannedBy nodes bits old plan t
+whole_planned nodes bits told old before plan t reached items i list held eb eo r ei w le = record {
+  plan = w.plan;
+  later = w.later;
+  known = whole_done nodes bits old (t ∷ []) items list (one_held nodes t held) (same_reach nodes bits told old before (t ∷ []) reached items eb eo r ei) plan i t w le (0, omega arith, refl);
+}
+
+-- ---- a way of uses
+
+module _ (nodes : List Node) (bits : List TermBits) (before old : List Planned) (t : ℕ) (uses : List Use) (last : ℕ) (begun : IsLater before old) (way : IsWay nodes (known_image bits before) t uses last) where
+  -- the term from which the use at the place leads is known
+  abbrev pub IsWayFrom : List Planned → ℕ → Type 0
+  IsWayFrom plan i = IsPlannedBy nodes bits old plan (start_at t uses i)
+
+  pub way_begun : IsPlan nodes bits old → IsKnown bits old last → IsWayFrom old (length uses)
+  way_begun h k = record { plan = h; later = later_itself old; known = subst (IsKnown bits old) (sym (way_end nodes (known_image bits before) t uses last way)) k }
+
+  pub way_next : (plan : List Planned) (k : ℕ) (s : Use) → IsWayFrom plan (suc k) → slice_get uses k ≡ Some s → (let p : Planned = record { term = start_at t uses k; used = Some s } in IsWayFrom (with_step bits plan p) k)
+  way_next plan k s h e =
+      let p : Planned = record { term = start_at t uses k; used = Some s } in
+      let takes = matches_later (known_image bits before) (known_image bits plan) (λ a b f. image_later bits before plan a b (later_on before old plan begun h.later) f) nodes (start_at t uses k) s.to s.rule (way_use nodes (known_image bits before) t uses last k s way e) in
+      let added = add_step nodes bits plan p h.plan (λ new. record {
+        held = (matched nodes (known_image bits plan) s.rule (start_at t uses k) s.to takes).from;
+        new = new;
+        needs = (takes, subst (IsKnown bits plan) (start_later t uses k s e) h.known);
+      }) in
+      planned_on nodes bits old plan (with_step bits plan p) (start_at t uses (suc k)) (start_at t uses k) h added
+
+  pub way_step : (plan new : List Planned) (i : ℕ) (d : Use) (from : ℕ) → 0 < i → i ≤ length uses → IsWayFrom plan i → from ≡ start_at t uses (i - 1) → new ≡ with_step bits plan (record { term = from; used = Some (get_or uses (i - 1) d) }) → IsWayFrom new (i - 1)
+  way_step plan new i d from some le h is e =
+      let back : i ≡ suc (i - 1) = omega (arith, some) in
+      let there = slice_get-get_or uses (i - 1) d (omega (arith, some, le)) in
+      let next = way_next plan (i - 1) (get_or uses (i - 1) d) (subst (IsWayFrom plan) back h) there in
+      subst (λ l. IsWayFrom l (i - 1)) (sym (e ∙ ap (λ f. with_step bits plan (record { term = f; used = Some (get_or uses (i - 1) d) })) is)) next
+
+  pub way_ended : (plan : List Planned) (i : ℕ) → i ≤ 0 → IsWayFrom plan i → IsPlannedBy nodes bits old plan t
+  way_ended plan i none h =
+      let first : i ≡ 0 = omega (arith, none) in
+      subst (IsPlannedBy nodes bits old plan) (ap (start_at t uses) first ∙ start_first t uses) h
+
+-- ---- terms one after the other
+
+-- the terms before a place are known behind the plan, over terms that have perhaps grown, by those that its uses need
+pub record ArePlannedTo (v w : TermsValue) (bits : List TermBits) (now : List Planned) (order : List ℕ) (i : ℕ) : Type 0 where
+  pub grown : IsGrown v w
+  pub plan : IsPlan w.nodes bits now
+  pub needed : AreNeeded (length v.nodes) w.nodes (uses_of now)
+  pub done : (j u : ℕ) → j < i → slice_get order j ≡ Some u → IsKnown bits now u
+
+pub terms_begun : (v : TermsValue) (bits : List TermBits) (order : List ℕ) → AreTerms v → ArePlannedTo v v bits [] order 0
+terms_begun v bits order h = record { grown = grown_none v h; plan = tt; needed = none_new v.nodes (uses_of []); done = λ j u lt e. absurd (omega (arith, lt)) }
+
+pub terms_next : (v w x : TermsValue) (bits : List TermBits) (plan new : List Planned) (order : List ℕ) (i d : ℕ)
+    → ArePlannedTo v w bits plan order i → i < length order → IsGrown w x → IsPlannedBy x.nodes bits plan new (get_or order i d) → AreNeeded (length w.nodes) x.nodes (uses_of new) → ArePlannedTo v x bits new order (i + 1)
+terms_next v w x bits plan new order i d h within g p n = record {
+  grown = grown_more v w x h.grown g;
+  plan = p.plan;
+  needed = needed_next v w x plan new g p.later h.needed n;
+  done = λ j u lt e. ⊎_elim
+      (λ less. known_later bits plan new u p.later (h.done j u less e))
+      (λ le. (let same : j ≡ i = omega (arith, lt, le) in
+      let is : Some u ≡ Some (get_or order i d) = sym e ∙ ap (slice_get order) same ∙ slice_get-get_or order i d within in
+      let own : u ≡ get_or order i d = cc in
+      subst (IsKnown bits new) (sym own) p.known))
+      (cases_lt j i);
+}
+
+pub terms_held : (v w : TermsValue) (bits : List TermBits) (steps : List Planned) (roots order : List ℕ) (i d : ℕ)
+    → IsTermList v.nodes → All (λ t. t < length v.nodes) roots → IsReach (open_arguments v.nodes bits steps) roots order → i < length order → IsGrown v w → get_or order i d < length w.nodes
+terms_held v w bits steps roots order i d list held r lt g =
+    let below = open_held v.nodes bits steps roots order list held r (get_or order i d) (Contains-get_or order i d lt) in
+    let more : length w.nodes ≡ length (v.nodes ++ g.more) = ap length g.nodes in
+    omega (arith, below, more, length-append v.nodes g.more)
+
+pub terms_known : (v w : TermsValue) (bits : List TermBits) (steps plan : List Planned) (roots order : List ℕ) (i : ℕ)
+    → IsReach (open_arguments v.nodes bits steps) roots order → ArePlannedTo v w bits plan order i → length order ≤ i → All (IsKnown bits plan) roots
+terms_known v w bits steps plan roots order i r h le k d lt =
+    let t = get_or roots k d in
+    let at = at_contained order t (r.all t (root_reached (open_arguments v.nodes bits steps) roots t (Contains-get_or roots k d lt))) in
+    let within = slice_get_within order at.0 t at.1 in
+    h.done at.0 t (omega (arith, within, le)) at.1
