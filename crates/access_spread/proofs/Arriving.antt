@@ -1,5 +1,5 @@
 -- One row more.
-use Rattle.std.proofs.Common.{◌≡◌, ℕ, ◌<◌, ◌≤◌, List, [], ◌∷◌, ◌++◌, length, Option, Some, None, refl, sym, ap, ◌∙◌, subst, ⊎_elim, arith, length-append}
+use Rattle.std.proofs.Common.{◌≡◌, ℕ, ◌+◌, ◌<◌, ◌≤◌, List, [], ◌∷◌, ◌++◌, length, Option, Some, None, refl, sym, ap, ◌∙◌, subst, ⊎_elim, arith, length-append}
 use Rattle.std.specs.Prelude.{◌⊎◌, slice_get, slice_set}
 use Rattle.std.proofs.lemmas.Option.{slice_get_within}
 use Rattle.std.proofs.lemmas.List.{length-set}
@@ -8,8 +8,10 @@ use Rattle.access_spread.specs.declared.graph.Graph.{Graph}
 use Rattle.access_spread.specs.declared.spreading.Start.{Start}
 use Rattle.access_spread.specs.declared.spreading.Link.{Link}
 use Rattle.access_spread.specs.declared.spreading.Row.{Row}
+use Rattle.access_spread.specs.declared.spreading.Refusal.{Refusal}
 use Rattle.access_spread.specs.declared.spreading.State.{State}
-use Rattle.access_spread.specs.Spreads.{index_in, value_in, AreStartsOf, CameBy, IsFrom, AreDerived, IsStanding, NoneStands, Fits, IsClash, HasArrived}
+use Rattle.std.specs.Global.{Vec}
+use Rattle.access_spread.specs.Spreads.{index_in, value_in, AreStartsOf, CameBy, IsFrom, AreDerived, IsStanding, NoneStands, Fits, Grows, IsClash, IsOther, IsRefused, AreRefused, HasRefused, HasArrived}
 use Rattle.access_spread.proofs.Lists.{set_same, set_other, eq_or_not, get_front, get_last, get_push}
 
 module _ (g : Graph) (gates : List Gate) (starts : List Start) where
@@ -34,36 +36,97 @@ module _ (g : Graph) (gates : List Gate) (starts : List Start) where
       (λ old. d p r old)
       (get_push rows row r p e)
 
-  module _ (st : State) (row : Row) (fits : Fits g gates starts st) (within : row.array < length g.fans.items) (start : row.start < length starts) (index : index_in starts row ≡ st.index) (from : IsFrom g gates starts st.rows.items (length st.rows.items) row) where
-    pub clash_is : (rows : List Row) (p : ℕ) → rows ≡ st.rows.items ++ row ∷ [] → IsStanding starts st row.array (index_in starts row) p → ((r : Row) → slice_get st.rows.items p ≡ Some r → value_in starts r ≡ value_in starts row → ⊥) → IsClash g gates starts rows p
-    clash_is rows p e stands ne =
-        let l = fits.last row.array p stands.0 in
-        let same : l.0 ≡ stands.1 = let x = l.1 in let y = stands.2 in cc in
-        rw e (record {
-          derived = derived_push st.rows.items row fits.derived from;
-          started = started_push st.rows.items row fits.started start;
-          last = length st.rows.items;
-          more = omega (arith, length-append st.rows.items (row ∷ []));
-          left = stands.1;
-          right = row;
-          at_left = get_front st.rows.items (row ∷ []) p stands.1 stands.2;
-          at_right = get_last st.rows.items row;
-          array = ap (λ r. r.array) (sym same) ∙ l.2;
-          index = stands.3;
-          value = ne stands.1 stands.2;
-        })
+  -- more rows
+  came_later : (old new : List Row) → ((p : ℕ) (r : Row) → slice_get old p ≡ Some r → slice_get new p ≡ Some r) → (p q : ℕ) → p ≤ q → (r : Row) (o : Option Link) → CameBy g gates starts old p r o → CameBy g gates starts new q r o
+  came_later old new grow p q le r None h = h
+  came_later old new grow p q le r (Some l) h = (let lt = h.0 in omega (arith, lt, le), h.1, h.2, grow l.row h.1 h.3, h.4, h.5, h.6, h.7, h.8)
 
+  pub refused_grows : (old new : List Row) → ((p : ℕ) (r : Row) → slice_get old p ≡ Some r → slice_get new p ≡ Some r) → length old ≤ length new → (c : Refusal) → IsRefused g gates starts old c → IsRefused g gates starts new c
+  refused_grows old new grow le c h = record {
+    start = h.start;
+    from = came_later old new grow (length old) (length new) le c.row c.row.from h.from;
+    left = h.left;
+    at_left = grow c.standing h.left h.at_left;
+    array = h.array;
+    index = h.index;
+    value = h.value;
+  }
+
+  -- a refused row behind the others clashes
+  pub refused_clash : (rows : List Row) (c : Refusal) → AreDerived g gates starts rows → AreStartsOf starts rows → IsRefused g gates starts rows c → IsClash g gates starts (rows ++ c.row ∷ []) c.standing
+  refused_clash rows c derived started h = record {
+    derived = derived_push rows c.row derived h.from;
+    started = started_push rows c.row started h.start;
+    last = length rows;
+    more = omega (arith, length-append rows (c.row ∷ []));
+    left = h.left;
+    right = c.row;
+    at_left = get_front rows (c.row ∷ []) c.standing h.left h.at_left;
+    at_right = get_last rows c.row;
+    array = h.array;
+    index = h.index;
+    value = h.value;
+  }
+
+  abbrev pub with_refused : State → Vec Refusal → State
+  with_refused st v = record { rows = st.rows; refused = v; last = st.last; begun = st.begun; index = st.index }
+
+  pub is_refused : (st : State) (row : Row) (p : ℕ) → Fits g gates starts st → row.start < length starts → IsFrom g gates starts st.rows.items (length st.rows.items) row → IsStanding starts st row.array (index_in starts row) p → IsOther starts st.rows.items p row → IsRefused g gates starts st.rows.items (record { row = row; standing = p })
+  is_refused st row p fits start from stands other =
+      let l = fits.last row.array p stands.0 in
+      let same : l.0 ≡ stands.1 = let x = l.1 in let y = stands.2 in cc in
+      record {
+        start = start;
+        from = from;
+        left = stands.1;
+        at_left = stands.2;
+        array = ap (λ r. r.array) (sym same) ∙ l.2;
+        index = stands.3;
+        value = other stands.1 stands.2;
+      }
+
+  pub refused_push : (st : State) (v : Vec Refusal) (c : Refusal) → Fits g gates starts st → v.items ≡ st.refused.items ++ c ∷ [] → IsRefused g gates starts st.rows.items c → HasRefused g gates starts st (with_refused st v)
+  refused_push st v c fits e h = record {
+    fits = record {
+      count = fits.count;
+      within = fits.within;
+      started = fits.started;
+      derived = fits.derived;
+      last = fits.last;
+      latest = fits.latest;
+      rising = fits.rising;
+      below = fits.below;
+      present = fits.present;
+      refused = λ k d q. ⊎_elim (λ n. subst (IsRefused g gates starts st.rows.items) n.1 h) (λ old. fits.refused k d old) (get_push st.refused.items c d k (ap (λ xs. slice_get xs k) (sym e) ∙ q));
+    };
+    grows = record { rows = λ p r q. q; none = λ n. absurd (some n); begun = refl; index = refl };
+    some = some;
+  } where
+    some : v.items ≡ [] → ⊥
+    some n = no st.refused.items (sym e ∙ n) where
+      no : (xs : List Refusal) → xs ++ c ∷ [] ≡ [] → ⊥
+      no [] q = let z : ⊥ = cc in z
+      no (x ∷ xs) q = let z : ⊥ = cc in z
+
+  pub refused_before : (st : State) (k : ℕ) → Fits g gates starts st → k < length st.refused.items → HasRefused g gates starts st st
+  refused_before st k fits lt = record {
+    fits = fits;
+    grows = record { rows = λ p r q. q; none = λ n. n; begun = refl; index = refl };
+    some = λ n. let z : length st.refused.items ≡ 0 = ap length n in omega (arith, z, lt);
+  }
+
+  module _ (st : State) (row : Row) (fits : Fits g gates starts st) (within : row.array < length g.fans.items) (start : row.start < length starts) (index : index_in starts row ≡ st.index) (from : IsFrom g gates starts st.rows.items (length st.rows.items) row) where
     pub stands_has : (p : ℕ) → IsStanding starts st row.array (index_in starts row) p → ((r : Row) → slice_get st.rows.items p ≡ Some r → value_in starts r ≡ value_in starts row) → HasArrived g gates starts st st row
     stands_has p stands eq =
         let l = fits.last row.array p stands.0 in
         let same : l.0 ≡ stands.1 = let x = l.1 in let y = stands.2 in cc in
         record {
           fits = fits;
-          grows = record { rows = λ q r e. e; begun = refl; index = refl };
-          has = (p, stands.1, stands.2, ap (λ r. r.array) (sym same) ∙ l.2, stands.3, eq stands.1 stands.2);
+          grows = record { rows = λ q r e. e; none = λ n. n; begun = refl; index = refl };
+          has = λ n. (p, stands.1, stands.2, ap (λ r. r.array) (sym same) ∙ l.2, stands.3, eq stands.1 stands.2);
         }
 
-    module _ (new : State) (none : NoneStands starts st row.array (index_in starts row)) (rows : new.rows.items ≡ st.rows.items ++ row ∷ []) (last : new.last.items ≡ slice_set st.last.items row.array (Some (length st.rows.items))) (begun : new.begun ≡ st.begun) (now : new.index ≡ st.index) where
+    module _ (new : State) (none : NoneStands starts st row.array (index_in starts row)) (rows : new.rows.items ≡ st.rows.items ++ row ∷ []) (last : new.last.items ≡ slice_set st.last.items row.array (Some (length st.rows.items))) (begun : new.begun ≡ st.begun) (now : new.index ≡ st.index) (refused : new.refused.items ≡ st.refused.items) where
       cases : (p : ℕ) (r : Row) → slice_get new.rows.items p ≡ Some r → ((p ≡ length st.rows.items) × (row ≡ r)) ⊎ (slice_get st.rows.items p ≡ Some r)
       cases p r e = get_push st.rows.items row r p (ap (λ xs. slice_get xs p) (sym rows) ∙ e)
 
@@ -143,11 +206,12 @@ module _ (g : Graph) (gates : List Gate) (starts : List Start) where
             (λ h. ap (index_in starts) (sym h.1) ∙ index ∙ sym now)
             (λ old. fits.present p r (omega (arith, le, begun)) old ∙ sym now)
             (cases p r e);
+        refused = λ k c q. refused_grows st.rows.items new.rows.items old_at (let n : length new.rows.items ≡ length st.rows.items + 1 = ap length rows ∙ length-append st.rows.items (row ∷ []) in omega (arith, n)) c (fits.refused k c (ap (λ xs. slice_get xs k) (sym refused) ∙ q));
       }
 
       pub new_has : HasArrived g gates starts st new row
       new_has = record {
         fits = new_fits;
-        grows = record { rows = old_at; begun = begun; index = now };
-        has = (length st.rows.items, row, new_at, refl, refl, refl);
+        grows = record { rows = old_at; none = λ n. sym refused ∙ n; begun = begun; index = now };
+        has = λ n. (length st.rows.items, row, new_at, refl, refl, refl);
       }

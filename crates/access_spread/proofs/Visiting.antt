@@ -23,10 +23,10 @@ module _ (g : Graph) (gates : List Gate) (starts : List Start) where
   has_grows old new grows a k x h = (h.0, h.1, grows.rows h.0 h.1 h.2, h.3, h.4, h.5)
 
   pub grows_refl : (st : State) → Grows st st
-  grows_refl st = record { rows = λ p r e. e; begun = refl; index = refl }
+  grows_refl st = record { rows = λ p r e. e; none = λ n. n; begun = refl; index = refl }
 
   pub grows_trans : (a b c : State) → Grows a b → Grows b c → Grows a c
-  grows_trans a b c h k = record { rows = λ p r e. k.rows p r (h.rows p r e); begun = k.begun ∙ h.begun; index = k.index ∙ h.index }
+  grows_trans a b c h k = record { rows = λ p r e. k.rows p r (h.rows p r e); none = λ n. h.none (k.none n); begun = k.begun ∙ h.begun; index = k.index ∙ h.index }
 
   pub lead_next : (fan : List ℕ) (n j : ℕ) (e : Edge) (old new : State) (r : Row) → Grows old new → slice_get fan n ≡ Some j → slice_get g.edges.items j ≡ Some e
       → (passes (gate_at gates e.gate) (index_in starts r) ≡ true → HasRow starts new.rows.items e.to (index_in starts r) (value_in starts r))

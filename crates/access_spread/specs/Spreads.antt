@@ -1,16 +1,18 @@
 -- Rows of accesses, and when they are all.
-use Rattle.std.specs.Prelude.{◌≡◌, ◌≤◌, ◌<◌, ◌+◌, ℕ, true, List, length, Option, Some, None, slice_get, slice_index_or}
+use Rattle.std.specs.Prelude.{◌≡◌, ◌≤◌, ◌<◌, ◌+◌, ℕ, true, false, List, [], length, Option, Some, None, slice_get, slice_index_or}
 use Rattle.access_spread.specs.declared.graph.Edge.{Edge}
 use Rattle.access_spread.specs.declared.graph.Gate.{Gate}
 use Rattle.access_spread.specs.declared.graph.Graph.{Graph}
+use Rattle.access_spread.specs.declared.lane.Lane.{Lane}
 use Rattle.access_spread.specs.declared.spreading.Start.{Start}
 use Rattle.access_spread.specs.declared.spreading.Link.{Link}
 use Rattle.access_spread.specs.declared.spreading.Row.{Row}
+use Rattle.access_spread.specs.declared.spreading.Refusal.{Refusal}
 use Rattle.access_spread.specs.declared.spreading.State.{State}
 use Rattle.access_spread.specs.Graphs.{passes, gate_at, IsTrail}
 
 abbrev pub no_start : Start
-no_start = record { array = 0; index = 0; value = 0 }
+no_start = record { array = 0; index = 0; value = 0; wide = false }
 
 abbrev pub start_at : List Start → ℕ → Start
 start_at starts s = slice_index_or starts s no_start
@@ -60,6 +62,27 @@ IsStanding starts st a k p = (slice_get st.last.items a ≡ Some (Some p)) × (r
 abbrev pub NoneStands : List Start → State → ℕ → ℕ → Type 0
 NoneStands starts st a k = (p : ℕ) (r : Row) → slice_get st.last.items a ≡ Some (Some p) → slice_get st.rows.items p ≡ Some r → index_in starts r ≡ k → ⊥
 
+-- the row at this place has another value
+abbrev pub IsOther : List Start → List Row → ℕ → Row → Type 0
+IsOther starts rows p row = (r : Row) → slice_get rows p ≡ Some r → value_in starts r ≡ value_in starts row → ⊥
+
+-- the row could stand behind these rows, but for the one at the other's place, which is at its array with its index and another value
+pub record IsRefused (g : Graph) (gates : List Gate) (starts : List Start) (rows : List Row) (c : Refusal) : Type 0 where
+  pub start : c.row.start < length starts
+  pub from : IsFrom g gates starts rows (length rows) c.row
+  pub left : Row
+  pub at_left : slice_get rows c.standing ≡ Some left
+  pub array : left.array ≡ c.row.array
+  pub index : index_in starts left ≡ index_in starts c.row
+  pub value : value_in starts left ≡ value_in starts c.row → ⊥
+
+abbrev pub AreRefused : Graph → List Gate → List Start → List Row → List Refusal → Type 0
+AreRefused g gates starts rows refused = (k : ℕ) (c : Refusal) → slice_get refused k ≡ Some c → IsRefused g gates starts rows c
+
+-- no edge was left out and no row refused
+abbrev pub IsComplete : List Lane → List Refusal → Type 0
+IsComplete lanes refused = (lanes ≡ []) × (refused ≡ [])
+
 -- Each array has at most one row for each index, the last one by its place; the rows came by edges; those from a place on have the
 -- present index, and those before none above it.
 pub record Fits (g : Graph) (gates : List Gate) (starts : List Start) (st : State) : Type 0 where
@@ -72,10 +95,12 @@ pub record Fits (g : Graph) (gates : List Gate) (starts : List Start) (st : Stat
   pub rising : (p q : ℕ) (r s : Row) → p < q → slice_get st.rows.items p ≡ Some r → slice_get st.rows.items q ≡ Some s → r.array ≡ s.array → index_in starts r < index_in starts s
   pub below : (p : ℕ) (r : Row) → slice_get st.rows.items p ≡ Some r → index_in starts r ≤ st.index
   pub present : (p : ℕ) (r : Row) → st.begun ≤ p → slice_get st.rows.items p ≡ Some r → index_in starts r ≡ st.index
+  pub refused : AreRefused g gates starts st.rows.items st.refused.items
 
--- rows stay at their places
+-- rows stay at their places, and a row that was refused stays so
 pub record Grows (old new : State) : Type 0 where
   pub rows : (p : ℕ) (r : Row) → slice_get old.rows.items p ≡ Some r → slice_get new.rows.items p ≡ Some r
+  pub none : new.refused.items ≡ [] → old.refused.items ≡ []
   pub begun : new.begun ≡ old.begun
   pub index : new.index ≡ old.index
 
@@ -103,28 +128,35 @@ LeadOn g gates starts rows r =
 abbrev pub AreVisited : Graph → List Gate → List Start → List Row → ℕ → Type 0
 AreVisited g gates starts rows at = (p : ℕ) (r : Row) → p < at → slice_get rows p ≡ Some r → LeadOn g gates starts rows r
 
--- a row with the index and value of this one is at its array, and what stood stands
+-- a row was refused, and nothing else changed
+pub record HasRefused (g : Graph) (gates : List Gate) (starts : List Start) (old new : State) : Type 0 where
+  pub fits : Fits g gates starts new
+  pub grows : Grows old new
+  pub some : new.refused.items ≡ [] → ⊥
+
+-- a row with the index and value of this one is at its array, or some row was refused; and what stood stands
 pub record HasArrived (g : Graph) (gates : List Gate) (starts : List Start) (old new : State) (row : Row) : Type 0 where
   pub fits : Fits g gates starts new
   pub grows : Grows old new
-  pub has : HasRow starts new.rows.items row.array (index_in starts row) (value_in starts row)
+  pub has : new.refused.items ≡ [] → HasRow starts new.rows.items row.array (index_in starts row) (value_in starts row)
 
-pub record IsVisited (g : Graph) (gates : List Gate) (starts : List Start) (old new : State) (here : ℕ) : Type 0 where
+pub record IsVisited (g : Graph) (gates : List Gate) (lanes : List Lane) (starts : List Start) (old new : State) (here : ℕ) : Type 0 where
   pub fits : Fits g gates starts new
   pub grows : Grows old new
-  pub leads : (r : Row) → slice_get new.rows.items here ≡ Some r → LeadOn g gates starts new.rows.items r
+  pub leads : IsComplete lanes new.refused.items → (r : Row) → slice_get new.rows.items here ≡ Some r → LeadOn g gates starts new.rows.items r
 
-pub record IsDrained (g : Graph) (gates : List Gate) (starts : List Start) (old new : State) : Type 0 where
+pub record IsDrained (g : Graph) (gates : List Gate) (lanes : List Lane) (starts : List Start) (old new : State) : Type 0 where
   pub fits : Fits g gates starts new
   pub grows : Grows old new
-  pub visited : AreVisited g gates starts new.rows.items (length new.rows.items)
+  pub visited : IsComplete lanes new.refused.items → AreVisited g gates starts new.rows.items (length new.rows.items)
 
-pub record HasBegun (g : Graph) (gates : List Gate) (starts : List Start) (old new : State) (start : ℕ) : Type 0 where
+pub record HasBegun (g : Graph) (gates : List Gate) (lanes : List Lane) (starts : List Start) (old new : State) (start : ℕ) : Type 0 where
   pub fits : Fits g gates starts new
   pub kept : (p : ℕ) (r : Row) → slice_get old.rows.items p ≡ Some r → slice_get new.rows.items p ≡ Some r
-  pub visited : AreVisited g gates starts new.rows.items (length new.rows.items)
+  pub none : new.refused.items ≡ [] → old.refused.items ≡ []
+  pub visited : IsComplete lanes new.refused.items → AreVisited g gates starts new.rows.items (length new.rows.items)
   pub index : new.index ≡ (start_at starts start).index
-  pub has : HasRow starts new.rows.items (start_at starts start).array (start_at starts start).index (start_at starts start).value
+  pub has : new.refused.items ≡ [] → HasRow starts new.rows.items (start_at starts start).array (start_at starts start).index (start_at starts start).value
 
 -- All starts have rows, the rows are closed under the edges through which they pass and came by them, and no two are at one array with
 -- one index.
@@ -135,7 +167,10 @@ pub record IsTable (g : Graph) (gates : List Gate) (starts : List Start) (rows :
   pub derived : AreDerived g gates starts rows
   pub started : AreStartsOf starts rows
 
--- the rows of all starts, or a clash
-abbrev pub IsSpread : Graph → List Gate → List Start → List Row → Option ℕ → Type 0
-IsSpread g gates starts rows None = IsTable g gates starts rows
-IsSpread g gates starts rows (Some p) = IsClash g gates starts rows p
+-- Each row came from a start by edges, and so would each that is refused; and where no edge is left out by choice and no row is
+-- refused, the rows are all.
+pub record IsSpread (g : Graph) (gates : List Gate) (lanes : List Lane) (starts : List Start) (rows : List Row) (refused : List Refusal) : Type 0 where
+  pub derived : AreDerived g gates starts rows
+  pub started : AreStartsOf starts rows
+  pub refused_are : AreRefused g gates starts rows refused
+  pub table : IsComplete lanes refused → IsTable g gates starts rows

@@ -1,18 +1,24 @@
 // Accesses that spread over edges.
 
-ghost use Rattle.std.specs.Prelude.{◌≡◌, ◌<◌, ◌≤◌, ℕ, Some, None, length, slice_get, [], IfOk, OnOk, MatchOption};
-ghost use Rattle.access_spread.specs.Graphs.{IsGraph, AreGated};
-ghost use Rattle.access_spread.specs.Spreads.{Fits, Grows, AreDerived, IsFrom, index_in, value_in, HasRow, IsStanding, NoneStands, IsClash, AreVisited, LeadOn, AreStartsOf, AreRising, IsSpread, start_at, HasArrived, IsVisited, IsDrained, HasBegun};
+ghost use Rattle.std.specs.Prelude.{◌≡◌, ◌<◌, ◌≤◌, ℕ, Some, None, true, false, length, slice_get, [], OnOk, MatchBool, MatchOption};
+ghost use Rattle.access_spread.specs.Graphs.{passes, gate_at, IsGraph, AreGated};
+ghost use Rattle.access_spread.specs.Spreads.{Fits, IsFrom, index_in, IsStanding, NoneStands, IsComplete, AreVisited, AreStartsOf, AreRising, IsSpread, start_at, HasArrived, IsVisited, IsDrained, HasBegun, IsOther, HasRefused};
 
 use crate::graph::{Edge, Gate, Graph};
+use crate::lane::{Lane, takes};
 use std::alloc::{AllocError, Global};
 
-/// An access where it starts: an array, the number of its index, and the number of the value there.
+/// Refused rows that are kept at most.
+const MOST: usize = 30;
+
+/// An access where it starts: an array, the number of its index, and the number of the value there; and whether it takes the
+/// edges that are for wide accesses.
 #[derive(Clone, Copy, Debug)]
 pub struct Start {
     pub array: usize,
     pub index: u128,
     pub value: u128,
+    pub wide: bool,
 }
 
 /// From which row, and over which edge.
@@ -30,10 +36,19 @@ pub struct Row {
     pub from: Option<Link>,
 }
 
-/// What was met: the rows, and for each array the place of the last of its rows.
+/// A row that is not put, since the one at this place is at its array with its index and another value.
+#[derive(Clone, Copy, Debug)]
+pub struct Refusal {
+    pub row: Row,
+    pub standing: usize,
+}
+
+/// What was met: the rows, those that were refused, and for each array the place of the last of its rows. It can be used again
+/// for other starts.
 #[derive(Drop)]
 pub struct State {
     pub rows: Vec<Row>,
+    pub refused: Vec<Refusal>,
     pub last: Vec<Option<usize>>,
     /// Where the rows of the present start begin.
     pub begun: usize,
@@ -41,12 +56,37 @@ pub struct State {
     pub index: u128,
 }
 
-/// The rows of all starts; or up to the first clash: the last row and this one are at one array with one index and have
-/// different values.
-#[derive(Drop)]
-pub struct Outcome {
-    pub rows: Vec<Row>,
-    pub clash: Option<usize>,
+impl State {
+    /// No rows; takes no memory.
+    pub fn new(alloc: Global) -> State
+        ensures { result.rows.items ≡ [] }
+    {
+        State {
+            rows: Vec::new(alloc),
+            refused: Vec::new(alloc),
+            last: Vec::new(alloc),
+            begun: 0,
+            index: 0,
+        }
+    }
+
+    /// No rows, and room for so many arrays.
+    fn reset(&mut self, count: usize) -> Result<(), AllocError>
+        ensures rows { OnOk result (self.new.rows.items ≡ []) }
+        ensures refused { OnOk result (self.new.refused.items ≡ []) }
+        ensures index { OnOk result (self.new.index ≡ 0) }
+        ensures count { OnOk result (length self.new.last.items ≡ count) }
+        ensures last { OnOk result ((a : ℕ) → a < count
+            → slice_get self.new.last.items a ≡ Some None) }
+    {
+        self.rows.clear();
+        self.refused.clear();
+        self.last.clear();
+        self.last.resize(count, None)?;
+        self.begun = 0;
+        self.index = 0;
+        Ok(())
+    }
 }
 
 /// The place of the row of an array and an index.
@@ -70,60 +110,109 @@ fn standing(state: &State, starts: &[Start], array: usize, index: u128) -> Optio
     }
 }
 
-/// Puts a row, unless its array and index have one; gives the place of one that has another value.
+/// Whether no more refused rows are kept.
+fn is_full(state: &State) -> bool
+    ensures { state.now.refused.items ≡ [] → result ≡ false }
+{
+    state.refused.len() >= MOST
+}
+
+/// Whether a refused row is at an array with an index.
+fn is_at(starts: &[Start], refusal: &Refusal, array: usize, index: u128) -> bool
+    requires { refusal.now.row.start < length starts.now }
+{
+    refusal.row.array == array && starts[refusal.row.start].index == index
+}
+
+/// Keeps a refused row, unless one of the same array and index is kept.
+fn refuse(
+    state: &mut State,
+    graph: &Graph,
+    gates: &[Gate],
+    starts: &[Start],
+    row: Row,
+    standing: usize,
+) -> Result<(), AllocError>
+    requires fits { Fits graph.now gates.now starts.now state.old }
+    requires start { row.start < length starts.now }
+    requires from { IsFrom graph.now gates.now starts.now state.old.rows.items
+        (length state.old.rows.items) row }
+    requires stands { IsStanding starts.now state.old row.array (index_in starts.now row) standing }
+    requires other { IsOther starts.now state.old.rows.items standing row }
+    ensures { OnOk result (HasRefused graph.now gates.now starts.now state.old state.new) }
+{
+    let _graph = graph;
+    let _gates = gates;
+    let index = starts[row.start].index;
+    for refusal in &state.refused {
+        if is_at(starts, refusal, row.array, index) {
+            return Ok(());
+        }
+    }
+    state.refused.push(Refusal { row, standing })?;
+    Ok(())
+}
+
+/// Puts a row, unless its array and index have one.
 fn arrive(
     state: &mut State,
     graph: &Graph,
     gates: &[Gate],
     starts: &[Start],
     row: Row,
-) -> Result<Option<usize>, AllocError>
+) -> Result<(), AllocError>
     requires fits { Fits graph.now gates.now starts.now state.old }
     requires array { row.array < length graph.now.fans.items }
     requires start { row.start < length starts.now }
     requires index { index_in starts.now row ≡ state.old.index }
     requires from { IsFrom graph.now gates.now starts.now state.old.rows.items
         (length state.old.rows.items) row }
-    ensures { IfOk result
-        (λ o. MatchOption o (HasArrived graph.now gates.now starts.now state.old state.new row)
-        (IsClash graph.now gates.now starts.now state.new.rows.items)) }
+    ensures { OnOk result (HasArrived graph.now gates.now starts.now state.old state.new row) }
 {
     let start = starts[row.start];
     if let Some(place) = standing(state, starts, row.array, start.index) {
         if starts[state.rows[place].start].value == start.value {
-            return Ok(None);
+            return Ok(());
         }
-        state.rows.push(row)?;
-        return Ok(Some(place));
+        return refuse(state, graph, gates, starts, row, place);
     }
     let place = state.rows.len();
     state.rows.push(row)?;
     state.last[row.array] = Some(place);
-    Ok(None)
+    Ok(())
 }
 
-/// Goes over each edge from a row through which it passes.
+/// Whether an access of a start takes an edge and passes its gate.
+fn goes_over(gates: &[Gate], lanes: &[Lane], start: Start, place: usize, edge: Edge) -> bool
+    requires { edge.gate < length gates.now }
+    ensures { MatchBool result (passes (gate_at gates.now edge.gate) start.index ≡ true)
+        (lanes.now ≡ [] → passes (gate_at gates.now edge.gate) start.index ≡ false) }
+{
+    takes(lanes, place, start.wide) && gates[edge.gate].passes(start.index)
+}
+
+/// Goes over each edge from a row that it takes and through which it passes.
 fn visit(
     state: &mut State,
     graph: &Graph,
     gates: &[Gate],
+    lanes: &[Lane],
     starts: &[Start],
     here: usize,
-) -> Result<Option<usize>, AllocError>
+) -> Result<(), AllocError>
     requires graph { IsGraph graph.now }
     requires gated { AreGated graph.now gates.now }
     requires fits { Fits graph.now gates.now starts.now state.old }
     requires here { here < length state.old.rows.items }
     requires present { state.old.begun ≤ here }
-    ensures { IfOk result
-        (λ o. MatchOption o (IsVisited graph.now gates.now starts.now state.old state.new here)
-        (IsClash graph.now gates.now starts.now state.new.rows.items)) }
+    ensures { OnOk result
+        (IsVisited graph.now gates.now lanes.now starts.now state.old state.new here) }
 {
     let row = state.rows[here];
-    let index = starts[row.start].index;
+    let start = starts[row.start];
     for place in graph.fans[row.array].places() {
         let edge = graph.edges[*place];
-        if gates[edge.gate].passes(index) {
+        if goes_over(gates, lanes, start, *place, edge) {
             let next = Row {
                 array: edge.to,
                 start: row.start,
@@ -132,12 +221,10 @@ fn visit(
                     edge: *place,
                 }),
             };
-            if let Some(clash) = arrive(state, graph, gates, starts, next)? {
-                return Ok(Some(clash));
-            }
+            arrive(state, graph, gates, starts, next)?;
         }
     }
-    Ok(None)
+    Ok(())
 }
 
 /// Visits the rows of the present start, and those that come meanwhile.
@@ -145,27 +232,25 @@ fn drain(
     state: &mut State,
     graph: &Graph,
     gates: &[Gate],
+    lanes: &[Lane],
     starts: &[Start],
-) -> Result<Option<usize>, AllocError>
+) -> Result<(), AllocError>
     requires graph { IsGraph graph.now }
     requires gated { AreGated graph.now gates.now }
     requires fits { Fits graph.now gates.now starts.now state.old }
-    requires visited { AreVisited graph.now gates.now starts.now state.old.rows.items
-        state.old.begun }
+    requires visited { IsComplete lanes.now state.old.refused.items
+        → AreVisited graph.now gates.now starts.now state.old.rows.items state.old.begun }
     requires begun { state.old.begun ≤ length state.old.rows.items }
-    ensures { IfOk result
-        (λ o. MatchOption o (IsDrained graph.now gates.now starts.now state.old state.new)
-        (IsClash graph.now gates.now starts.now state.new.rows.items)) }
+    ensures { OnOk result
+        (IsDrained graph.now gates.now lanes.now starts.now state.old state.new) }
 {
     for at in state.begun..usize::MAX {
-        if at >= state.rows.len() {
+        if is_full(state) || at >= state.rows.len() {
             break;
         }
-        if let Some(clash) = visit(state, graph, gates, starts, at)? {
-            return Ok(Some(clash));
-        }
+        visit(state, graph, gates, lanes, starts, at)?;
     }
-    Ok(None)
+    Ok(())
 }
 
 /// The rows of a start more.
@@ -173,20 +258,21 @@ fn begin(
     state: &mut State,
     graph: &Graph,
     gates: &[Gate],
+    lanes: &[Lane],
     starts: &[Start],
     start: usize,
-) -> Result<Option<usize>, AllocError>
+) -> Result<(), AllocError>
     requires graph { IsGraph graph.now }
     requires gated { AreGated graph.now gates.now }
     requires fits { Fits graph.now gates.now starts.now state.old }
     requires start { start < length starts.now }
     requires within { (start_at starts.now start).array < length graph.now.fans.items }
     requires later { state.old.index ≤ (start_at starts.now start).index }
-    requires visited { AreVisited graph.now gates.now starts.now state.old.rows.items
+    requires visited { IsComplete lanes.now state.old.refused.items
+        → AreVisited graph.now gates.now starts.now state.old.rows.items
         (length state.old.rows.items) }
-    ensures { IfOk result
-        (λ o. MatchOption o (HasBegun graph.now gates.now starts.now state.old state.new start)
-        (IsClash graph.now gates.now starts.now state.new.rows.items)) }
+    ensures { OnOk result
+        (HasBegun graph.now gates.now lanes.now starts.now state.old state.new start) }
 {
     state.begun = state.rows.len();
     state.index = starts[start].index;
@@ -195,52 +281,35 @@ fn begin(
         start,
         from: None,
     };
-    if let Some(clash) = arrive(state, graph, gates, starts, row)? {
-        return Ok(Some(clash));
-    }
-    drain(state, graph, gates, starts)
+    arrive(state, graph, gates, starts, row)?;
+    drain(state, graph, gates, lanes, starts)?;
+    Ok(())
 }
 
-/// The rows of all starts, which rise by their indexes; or up to the first clash.
+/// The rows of all starts, which rise by their indexes, and those that are refused, one of each array and index. Where so many
+/// are refused that no more are kept, it stops. Edges without a lane are taken by all.
 pub fn spread(
-    alloc: Global,
+    state: &mut State,
     graph: &Graph,
     gates: &[Gate],
+    lanes: &[Lane],
     starts: &[Start],
-) -> Result<Outcome, AllocError>
+) -> Result<(), AllocError>
     requires graph { IsGraph graph.now }
     requires gated { AreGated graph.now gates.now }
     requires within { (s : ℕ) → s < length starts.now
         → (start_at starts.now s).array < length graph.now.fans.items }
     requires rising { AreRising starts.now }
-    ensures { IfOk result (λ s. IsSpread graph.now gates.now starts.now s.rows.items s.clash) }
+    ensures { OnOk result
+        (IsSpread graph.now gates.now lanes.now starts.now state.new.rows.items
+        state.new.refused.items) }
 {
-    let mut state = empty(alloc, graph.fans.len())?;
+    state.reset(graph.fans.len())?;
     for start in 0..starts.len() {
-        if let Some(clash) = begin(&mut state, graph, gates, starts, start)? {
-            return Ok(Outcome {
-                rows: state.rows,
-                clash: Some(clash),
-            });
+        if is_full(state) {
+            break;
         }
+        begin(state, graph, gates, lanes, starts, start)?;
     }
-    Ok(Outcome {
-        rows: state.rows,
-        clash: None,
-    })
-}
-
-/// No rows.
-fn empty(alloc: Global, count: usize) -> Result<State, AllocError>
-    ensures { IfOk result (λ st. (st.rows.items ≡ []) × (st.index ≡ 0)
-        × (length st.last.items ≡ count)
-        × ((a : ℕ) → a < count → slice_get st.last.items a ≡ Some None)) }
-{
-    let last = vec![in alloc; None; count]?;
-    Ok(State {
-        rows: Vec::new(alloc),
-        last,
-        begun: 0,
-        index: 0,
-    })
+    Ok(())
 }

@@ -39,7 +39,7 @@ at_mapped f (x ∷ rows) (suc p) l e = at_mapped f rows p l e
 mapped_row : (f : Row → Landing) (rows : List Row) (p : ℕ) (r : Row) → slice_get rows p ≡ Some r → Contains (map f rows) (f r)
 mapped_row f rows p r e = let h = mapped_at f rows p r e in (p, slice_get_within (map f rows) p (f r) h, get_or_from_slice_get (map f rows) p (f r) (f r) h)
 
-row_mapped : (f : Row → Landing) (rows : List Row) (l : Landing) → Contains (map f rows) l → (p : ℕ) × (r : Row) × (slice_get rows p ≡ Some r) × (l ≡ f r)
+pub row_mapped : (f : Row → Landing) (rows : List Row) (l : Landing) → Contains (map f rows) l → (p : ℕ) × (r : Row) × (slice_get rows p ≡ Some r) × (l ≡ f r)
 row_mapped f rows l c = let h = at_mapped f rows c.0 l (slice_get-get_or (map f rows) c.0 l c.1 ∙ ap Some c.2) in (c.0, h.0, h.1, h.2)
 
 module _ (nodes : List Node) (image : ℕ → Option ℕ) (Here : ℕ → Type 0) (val : ℕ → Value) (arrays : List ℕ) (moves : List Move) (origins : List of.Start) (landings : List Landing) (g : Graph) (gates : List Gate) (starts : List Start)

@@ -1,37 +1,34 @@
 -- Equalities of arrays, and the lemmas of those that are false although the selects at their witness agree.
-use Rattle.std.proofs.Common.{◌≡◌, ℕ, zero, suc, ◌+◌, ◌<◌, ◌≤◌, Bool, true, false, not, ◌||◌, List, [], ◌∷◌, ◌++◌, length, Option, Some, None, refl, sym, ap, ◌∙◌, subst, inl, inr, ⊎_elim, arith}
-use Rattle.std.specs.Prelude.{◌⊎◌, slice_get, Contains, IsSome, MatchOption, option_to_list}
-use Rattle.std.proofs.lemmas.Bool.{cases_lt}
+use Rattle.std.proofs.Common.{◌≡◌, ℕ, ◌+◌, ◌<◌, ◌≤◌, Bool, true, false, not, ◌||◌, List, [], ◌∷◌, ◌++◌, length, Option, Some, None, refl, sym, ap, ◌∙◌, subst, inl, inr, ⊎_elim, arith}
+use Rattle.std.specs.Prelude.{◌⊎◌, ◌==◌, ◌↔◌, slice_get, Contains, IsSome, MatchOption, option_to_list}
+use Rattle.std.proofs.lemmas.Bool.{cases_lt, eqb-true, eqb-false}
 use Rattle.std.proofs.lemmas.List.Elements.{Contains-append_right}
-use Rattle.std.specs.List.{AllByRecursion}
-use Rattle.smt_terms.specs.declared.sort.Sort.{Sort}
 use Rattle.smt_terms.specs.declared.sort.Sort.TheVariants as sort
 use Rattle.smt_terms.specs.declared.node.Node.{Node}
 use Rattle.smt_terms.specs.Bits.{TermBits, image_in}
 use Rattle.smt_terms.specs.Nodes.{node_at}
 use Rattle.smt_terms.specs.Terms.{sort_of, IsTermList}
-use Rattle.smt_terms.specs.Values.{Value, HasSort, Interpretation, no_value, value, is_true, number_of, same_value}
+use Rattle.smt_terms.specs.Values.{Interpretation, no_value, value, is_true, number_of, same_value}
 use Rattle.smt_terms.proofs.Evaluating.{value_is_evaluation}
 use Rattle.theory_terms.specs.declared.shape.Shape.{Shape}
 use Rattle.theory_terms.specs.declared.shape.Shape.TheVariants.{Equating, Selecting, Other}
+use Rattle.theory_terms.specs.declared.lemma.Lemma.{Lemma}
 use Rattle.theory_terms.specs.declared.lemma.Lemma.TheVariants.{Witness}
 use Rattle.theory_terms.specs.declared.atom.Watch.{Watch}
-use Rattle.theory_terms.specs.declared.atom.Atom.{Atom}
 use Rattle.theory_terms.specs.declared.atom.Atom.TheVariants.{Holds, Differ}
 use Rattle.theory_terms.specs.Shapes.{IsPlain, shape_at}
-use Rattle.theory_terms.specs.Lemmas.{watch, watch_atoms, witness_atoms, atoms_of, some_true}
+use Rattle.theory_terms.specs.Lemmas.{watch, watch_atoms, witness_atoms}
 use Rattle.theory_terms.proofs.Shapes.{FactsOf, facts, shape_within}
 use Rattle.theory_terms.proofs.Sound.{watch_is, same_refl}
 use Rattle.term_reach.specs.Reach.{IsClosed}
 use Rattle.access_tables.specs.Leading.{leads, leads_by, watched, selects_of}
 use Rattle.access_tables.specs.Encoded.{HaveBits}
 use Rattle.access_tables.specs.Ready.{IsOwn}
-use Rattle.access_tables.specs.Held.{HasRow, assigned_value}
+use Rattle.access_tables.specs.Held.{assigned_value}
 use Rattle.access_walk.specs.declared.witnesses.Watched.{Watched}
 use Rattle.access_walk.specs.Networks.{AreApart}
-use Rattle.access_walk.specs.Walked.{IsEncodedAtom, IsFalseLemma}
-use Rattle.access_walk.specs.Watched.{HaveWatches, IsNoEquality, IsWatched, AreWatches, IsJoined, IsWitnessConflict}
-use Rattle.access_walk.proofs.Lists.{append_nil, place_of, at_place, within, same_at, not_nil, old_member, new_member, member_cases}
+use Rattle.access_walk.specs.Watched.{HaveWatches, IsNoEquality, IsWatched, AreWatches, IsJoined, IsWitnessConflict, AreApartAt, AreWitnessConflicts}
+use Rattle.access_walk.proofs.Lists.{append_nil, at_place, within, same_at, not_nil, old_member, new_member, member_cases}
 use Rattle.access_walk.proofs.Words.{word_value, equal_words}
 
 nothing : Interpretation
@@ -160,12 +157,72 @@ module _ (nodes : List Node) (bits : List TermBits) (f : ℕ → Bool) (Here : �
     none : (a b : Bool) → a ≡ false → b ≡ true → (a || (not b || false)) ≡ false
     none a b p q = rw (p, q) refl
 
-  pub apart : (ws : List Watched) → AreWatches nodes bits Here ws → ((w : Watched) → Contains ws w → IsJoined (assigned_value nodes bits f) w → ⊥) → AreApart nodes (image_in bits) Here (assigned_value nodes bits f)
-  apart ws all none t a b n m own shape sides denied =
+  apart_at : (ws : List Watched) → AreWatches nodes bits Here ws → (t a b n m : ℕ) → IsOwn Here (image_in bits) t → shape_at nodes t ≡ Equating a b → sort_of nodes a ≡ sort.Array n m
+      → (w : Watched) × Contains ws w × (w.equality ≡ t) × (watch nodes a b ≡ Some w.watch)
+  apart_at ws all t a b n m own shape sides =
       let w = all.all t a b n m own shape sides in
       let h = all.each w.0 w.1 in
       let shapes : Equating h.left h.right ≡ Equating a b = sym h.shape ∙ ap (shape_at nodes) w.2 ∙ shape in
       let left : h.left ≡ a = cc in
       let right : h.right ≡ b = cc in
       let is : watch nodes a b ≡ Some w.0.watch = ap (λ x. watch nodes x b) (sym left) ∙ ap (watch nodes h.left) (sym right) ∙ h.is in
-      (w.0.watch, is, λ e. none w.0 w.1 (ap (λ x. is_true (assigned_value nodes bits f x)) w.2 ∙ denied, e))
+      (w.0, w.1, w.2, is)
+
+  decided : (w : Watched) → IsWatched nodes bits Here w → is_true (assigned_value nodes bits f w.equality) ≡ false → IsJoined (assigned_value nodes bits f) w ⊎ (assigned_value nodes bits f w.watch.left ≡ assigned_value nodes bits f w.watch.right → ⊥)
+  decided w h denied = go (number_of (assigned_value nodes bits f w.watch.left) == number_of (assigned_value nodes bits f w.watch.right)) refl where
+    go : (q : Bool) → (number_of (assigned_value nodes bits f w.watch.left) == number_of (assigned_value nodes bits f w.watch.right)) ≡ q → IsJoined (assigned_value nodes bits f) w ⊎ (assigned_value nodes bits f w.watch.left ≡ assigned_value nodes bits f w.watch.right → ⊥)
+    go true e = inl (joined_from w h denied (eqb-true (number_of (assigned_value nodes bits f w.watch.left)) (number_of (assigned_value nodes bits f w.watch.right)) e))
+    go false e = inr (λ same. eqb-false (number_of (assigned_value nodes bits f w.watch.left)) (number_of (assigned_value nodes bits f w.watch.right)) e (ap number_of same))
+
+  -- the conflicts of the watches before a place
+  pub record AreConflictsTo (ws : List Watched) (count : ℕ) (lemmas : List Lemma) : Type 0 where
+    pub each : (l : Lemma) → Contains lemmas l → IsWitnessConflict nodes bits f Here l
+    pub all : (k : ℕ) (w : Watched) → k < count → slice_get ws k ≡ Some w → IsJoined (assigned_value nodes bits f) w → Contains lemmas (Witness w.equality)
+
+  pub conflicts_none : (ws : List Watched) → AreConflictsTo ws 0 []
+  conflicts_none ws = record { each = λ l c. absurd (not_nil l c); all = λ k w lt. absurd (omega (arith, lt)) }
+
+  conflicts_kept : (ws : List Watched) (count : ℕ) (w : Watched) (lemmas : List Lemma) → AreConflictsTo ws count lemmas → slice_get ws count ≡ Some w → (IsJoined (assigned_value nodes bits f) w → ⊥) → AreConflictsTo ws (count + 1) lemmas
+  conflicts_kept ws count w lemmas h e none = record {
+    each = h.each;
+    all = λ k x lt at joined. ⊎_elim (λ less. h.all k x less at joined)
+        (λ le. absurd (none (subst (IsJoined (assigned_value nodes bits f)) (same_at ws count x w (subst (λ i. slice_get ws i ≡ Some x) (let q : k ≡ count = omega (arith, lt, le) in q) at) e) joined)))
+        (cases_lt k count);
+  }
+
+  conflicts_more : (ws : List Watched) (count : ℕ) (w : Watched) (lemmas new : List Lemma) (l : Lemma) → AreConflictsTo ws count lemmas → slice_get ws count ≡ Some w → IsWatched nodes bits Here w → IsJoined (assigned_value nodes bits f) w → l ≡ Witness w.equality → new ≡ lemmas ++ l ∷ [] → AreConflictsTo ws (count + 1) new
+  conflicts_more ws count w lemmas new l h e is joined same push =
+      let own : IsWitnessConflict nodes bits f Here l = subst (IsWitnessConflict nodes bits f Here) (sym same) (conflict w is joined) in
+      record {
+        each = λ x c. ⊎_elim (λ old. h.each x old) (λ (q : l ≡ x). subst (IsWitnessConflict nodes bits f Here) q own) (member_cases lemmas new l x push c);
+        all = λ k x lt at other. ⊎_elim (λ less. old_member lemmas new l (Witness x.equality) push (h.all k x less at other))
+            (λ le.
+            let here : w ≡ x = same_at ws count w x e (subst (λ i. slice_get ws i ≡ Some x) (let q : k ≡ count = omega (arith, lt, le) in q) at) in
+            subst (λ (y : Watched). Contains new (Witness y.equality)) here (subst (Contains new) same (new_member lemmas new l push)))
+            (cases_lt k count);
+      }
+
+  pub conflicts_step : (ws : List Watched) (count : ℕ) (w : Watched) (lemmas new : List Lemma) (o : Option Lemma) → AreConflictsTo ws count lemmas → slice_get ws count ≡ Some w → IsWatched nodes bits Here w
+      → MatchOption o (IsJoined (assigned_value nodes bits f) w → ⊥) (λ l. IsJoined (assigned_value nodes bits f) w × (l ≡ Witness w.equality)) → new ≡ lemmas ++ option_to_list o → AreConflictsTo ws (count + 1) new
+  conflicts_step ws count w lemmas new None h at is e push = subst (AreConflictsTo ws (count + 1)) (sym (push ∙ append_nil lemmas)) (conflicts_kept ws count w lemmas h at e)
+  conflicts_step ws count w lemmas new (Some l) h at is e push = conflicts_more ws count w lemmas new l h at is e.0 e.1 push
+
+  pub conflicts_all : (ws : List Watched) → AreWatches nodes bits Here ws → (count : ℕ) (lemmas : List Lemma) → AreConflictsTo ws count lemmas → length ws ≤ count → AreWitnessConflicts nodes bits f Here lemmas
+  conflicts_all ws watches count lemmas h past = record { each = h.each; all = λ t a b n m own shape sides denied. all t a b n m own shape sides denied } where
+    all : (t a b n m : ℕ) → IsOwn Here (image_in bits) t → shape_at nodes t ≡ Equating a b → sort_of nodes a ≡ sort.Array n m → is_true (assigned_value nodes bits f t) ≡ false → AreApartAt nodes (assigned_value nodes bits f) a b ⊎ Contains lemmas (Witness t)
+    all t a b n m own shape sides denied =
+        let w = apart_at ws watches t a b n m own shape sides in
+        let false_here : is_true (assigned_value nodes bits f w.0.equality) ≡ false = ap (λ x. is_true (assigned_value nodes bits f x)) w.2 ∙ denied in
+        let at = at_place ws w.0 w.1 in
+        let inside = within ws at.0 w.0 at.1 in
+        ⊎_elim (λ joined. inr (subst (λ x. Contains lemmas (Witness x)) w.2 (h.all at.0 w.0 (omega (arith, inside, past)) at.1 joined))) (λ apart. inl (w.0.watch, w.3, apart)) (decided w.0 (watches.each w.0 w.1) false_here)
+
+  -- none exactly where arrays that are said to differ do
+  pub none_where_apart : (lemmas : List Lemma) → AreWitnessConflicts nodes bits f Here lemmas → (lemmas ≡ []) ↔ AreApart nodes (image_in bits) Here (assigned_value nodes bits f)
+  none_where_apart lemmas h = (
+    λ none t a b n m own shape sides denied. ⊎_elim (λ apart. apart) (λ c. absurd (not_nil (Witness t) (subst (λ xs. Contains xs (Witness t)) none c))) (h.all t a b n m own shape sides denied),
+    λ apart. go lemmas (λ l c. (h.each l c).never apart),
+  ) where
+    go : (ls : List Lemma) → ((l : Lemma) → Contains ls l → ⊥) → ls ≡ []
+    go [] none = refl
+    go (l ∷ ls) none = absurd (none l (0, omega arith, refl))

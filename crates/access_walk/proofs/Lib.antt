@@ -12,3 +12,13 @@ pub mod Words
 pub mod Joined
 pub mod Gaps
 pub mod Taken
+pub mod Sorting
+pub mod Marks
+pub mod Passing
+pub mod Permuted
+pub mod Clashed
+pub mod Tabled
+pub mod Encoded
+pub mod Applied
+pub mod Calling
+pub mod Conflicting

@@ -7,3 +7,9 @@ pub mod Filled
 pub mod Rows
 pub mod Watched
 pub mod Spared
+pub mod Lanes
+pub mod Valuing
+pub mod Spread
+pub mod Congruent
+pub mod Called
+pub mod Searched

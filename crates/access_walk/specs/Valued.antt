@@ -1,5 +1,5 @@
 -- Guards and accesses that have values.
-use Rattle.std.specs.Prelude.{◌≡◌, ◌<◌, ℕ, true, List, length}
+use Rattle.std.specs.Prelude.{◌≡◌, ◌<◌, ℕ, Bool, true, List, length}
 use Rattle.smt_terms.specs.declared.sort.Sort.TheVariants as sort
 use Rattle.smt_terms.specs.declared.node.Node.{Node}
 use Rattle.smt_terms.specs.Bits.{TermBits}
@@ -25,6 +25,6 @@ IsGuarded nodes bits (Differs j) = IsWordTerm nodes bits j
 IsGuarded nodes bits (Holds c) = IsTruthTerm nodes bits c
 IsGuarded nodes bits (Fails c) = IsTruthTerm nodes bits c
 
--- the start of an access of the array with this number
-abbrev pub start_of : (ℕ → Value) → Landing → ℕ → Start
-start_of val l place = record { array = place; index = number_of (val l.index); value = number_of (val l.value) }
+-- the start of an access of the array with this number, which takes the edges for wide accesses or does not
+abbrev pub start_of : (ℕ → Value) → Landing → ℕ → Bool → Start
+start_of val l place wide = record { array = place; index = number_of (val l.index); value = number_of (val l.value); wide = wide }

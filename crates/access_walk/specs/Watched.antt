@@ -1,5 +1,5 @@
 -- Equalities of arrays, and the selects of their sides at their witness.
-use Rattle.std.specs.Prelude.{◌≡◌, ℕ, Bool, false, List, Some, None, Contains, IsSome}
+use Rattle.std.specs.Prelude.{◌≡◌, ◌⊎◌, ℕ, Bool, false, List, Some, None, Contains, IsSome}
 use Rattle.smt_terms.specs.declared.sort.Sort.TheVariants as sort
 use Rattle.smt_terms.specs.declared.node.Node.{Node}
 use Rattle.smt_terms.specs.Bits.{TermBits, image_in}
@@ -9,6 +9,8 @@ use Rattle.theory_terms.specs.declared.shape.Shape.TheVariants.{Equating}
 use Rattle.theory_terms.specs.Shapes.{shape_at}
 use Rattle.theory_terms.specs.Lemmas.{watch}
 use Rattle.theory_terms.specs.declared.lemma.Lemma.{Lemma}
+use Rattle.theory_terms.specs.declared.lemma.Lemma.TheVariants.{Witness}
+use Rattle.theory_terms.specs.declared.atom.Watch.{Watch}
 use Rattle.access_tables.specs.Ready.{IsOwn}
 use Rattle.access_tables.specs.Held.{HasRow, assigned_value}
 use Rattle.access_walk.specs.declared.witnesses.Watched.{Watched}
@@ -55,3 +57,13 @@ pub record AreWatches (nodes : List Node) (bits : List TermBits) (Here : ℕ →
 pub record IsWitnessConflict (nodes : List Node) (bits : List TermBits) (f : ℕ → Bool) (Here : ℕ → Type 0) (lemma : Lemma) : Type 0 where
   pub falses : IsFalseLemma nodes bits f lemma
   pub never : AreApart nodes (image_in bits) Here (assigned_value nodes bits f) → ⊥
+
+-- the selects of these arrays at their witness have different values
+abbrev pub AreApartAt : List Node → (ℕ → Value) → ℕ → ℕ → Type 0
+AreApartAt nodes val a b = (w : Watch) × (watch nodes a b ≡ Some w) × (val w.left ≡ val w.right → ⊥)
+
+-- each lemma is such a conflict, and of each equality that is false its arrays differ at their witness or its lemma is among them
+pub record AreWitnessConflicts (nodes : List Node) (bits : List TermBits) (f : ℕ → Bool) (Here : ℕ → Type 0) (lemmas : List Lemma) : Type 0 where
+  pub each : (l : Lemma) → Contains lemmas l → IsWitnessConflict nodes bits f Here l
+  pub all : (t a b n m : ℕ) → IsOwn Here (image_in bits) t → shape_at nodes t ≡ Equating a b → sort_of nodes a ≡ sort.Array n m → is_true (assigned_value nodes bits f t) ≡ false
+      → AreApartAt nodes (assigned_value nodes bits f) a b ⊎ Contains lemmas (Witness t)

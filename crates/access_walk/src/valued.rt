@@ -1,6 +1,6 @@
 // Gates and starts under an assignment.
 
-ghost use Rattle.std.specs.Prelude.{◌≡◌, All, IfOk, map};
+ghost use Rattle.std.specs.Prelude.{◌≡◌, All, OnOk, map};
 ghost use Rattle.bit_blast.specs.Assigned.{assigned};
 ghost use Rattle.access_tables.specs.Held.{assigned_value};
 ghost use Rattle.access_walk.specs.Maps.{gate_of};
@@ -12,7 +12,7 @@ use access_tables::values::{truth_of, word_of};
 use bit_blast::Assignment;
 use smt_terms::bits::Bits;
 use smt_terms::terms::Terms;
-use std::alloc::{AllocError, Global};
+use std::alloc::AllocError;
 use theory_terms::atom::Landing;
 
 /// The gate of a guard.
@@ -40,44 +40,45 @@ fn gate_of(terms: &Terms, bits: &Bits, assignment: &Assignment, guard: Guard) ->
     }
 }
 
-/// The gates of guards.
-pub fn gates_of(
-    alloc: Global,
+/// The gates of guards, in place of those that there are.
+pub fn put_gates(
     terms: &Terms,
     bits: &Bits,
     assignment: &Assignment,
     guards: &[Guard],
-) -> Result<Vec<Gate>, AllocError>
+    gates: &mut Vec<Gate>,
+) -> Result<(), AllocError>
     requires { All (IsGuarded terms.now.nodes bits.now) guards.now }
-    ensures { IfOk result
-        (λ gates. gates.items
+    ensures { OnOk result (gates.new.items
         ≡ map (gate_of (assigned_value terms.now.nodes bits.now (assigned assignment.now)))
         guards.now) }
 {
-    let mut gates = Vec::new(alloc);
+    gates.clear();
     for guard in guards {
         gates.push(gate_of(terms, bits, assignment, *guard))?;
     }
-    Ok(gates)
+    Ok(())
 }
 
-/// The start of an access of the array at this place.
+/// The start of an access of the array at this place, which takes the edges for wide accesses or does not.
 pub fn start_of(
     terms: &Terms,
     bits: &Bits,
     assignment: &Assignment,
     landing: Landing,
     place: usize,
+    wide: bool,
 ) -> Start
     requires index { IsWordTerm terms.now.nodes bits.now landing.index }
     requires value { IsWordTerm terms.now.nodes bits.now landing.value }
     ensures { result
         ≡ start_of (assigned_value terms.now.nodes bits.now (assigned assignment.now)) landing
-        place }
+        place wide }
 {
     Start {
         array: place,
         index: word_of(terms, bits, assignment, landing.index).value(),
         value: word_of(terms, bits, assignment, landing.value).value(),
+        wide,
     }
 }

@@ -1,14 +1,15 @@
 // Arrays that are said to differ and have one word at their witness.
 
-ghost use Rattle.std.specs.Prelude.{◌≡◌, None, Contains, IfOk, MatchBool, MatchOption};
+ghost use Rattle.std.specs.Prelude.{◌≡◌, ◌↔◌, [], None, Contains, IfOk, MatchBool, MatchOption};
 ghost use Rattle.smt_terms.specs.Bits.{image_in};
 ghost use Rattle.bit_blast.specs.Assigned.{assigned};
 ghost use Rattle.term_reach.specs.Reach.{IsClosed};
+ghost use Rattle.theory_terms.specs.declared.lemma.Lemma.TheVariants.{Witness};
 ghost use Rattle.access_tables.specs.Leading.{leads};
 ghost use Rattle.access_tables.specs.Encoded.{HaveBits};
 ghost use Rattle.access_tables.specs.Held.{assigned_value};
 ghost use Rattle.access_walk.specs.Networks.{AreApart};
-ghost use Rattle.access_walk.specs.Watched.{HaveWatches, IsNoEquality, IsWatched, AreWatches, IsJoined, IsWitnessConflict};
+ghost use Rattle.access_walk.specs.Watched.{HaveWatches, IsNoEquality, IsWatched, AreWatches, IsJoined, AreWitnessConflicts};
 
 use crate::putting::put;
 use access_tables::values::{truth_of, word_of};
@@ -129,26 +130,49 @@ fn is_joined(
     !truth_of(terms, bits, assignment, watched.equality) && left.value() == right.value()
 }
 
-/// The lemma of an equality that is false although the selects at its witness have one value; none exactly where there is no
-/// such equality.
-pub fn witness_conflict(
+/// The lemma of an equality that is false although the selects at its witness have one value.
+fn conflict_of(
+    terms: &Terms,
+    bits: &Bits,
+    assignment: &Assignment,
+    reached: &Reached,
+    watched: Watched,
+) -> Option<Lemma>
+    requires { IsWatched terms.now.nodes bits.now (Contains reached.now) watched }
+    ensures { MatchOption result
+        (IsJoined (assigned_value terms.now.nodes bits.now (assigned assignment.now)) watched → ⊥)
+        (λ l. IsJoined (assigned_value terms.now.nodes bits.now (assigned assignment.now)) watched
+        × (l ≡ Witness watched.equality)) }
+{
+    if is_joined(terms, bits, assignment, reached, watched) {
+        Some(Lemma::Witness(watched.equality))
+    } else {
+        None
+    }
+}
+
+/// The lemmas of all equalities that are false although the selects at their witness have one
+/// value; none exactly where there is no such equality.
+pub fn witness_conflicts(
+    alloc: Global,
     terms: &Terms,
     bits: &Bits,
     assignment: &Assignment,
     reached: &Reached,
     watches: &[Watched],
-) -> Option<Lemma>
+) -> Result<Vec<Lemma>, AllocError>
     requires { AreWatches terms.now.nodes bits.now (Contains reached.now) watches.now }
-    ensures { MatchOption result
-        (AreApart terms.now.nodes (image_in bits.now) (Contains reached.now)
-        (assigned_value terms.now.nodes bits.now (assigned assignment.now)))
-        (IsWitnessConflict terms.now.nodes bits.now (assigned assignment.now)
-        (Contains reached.now)) }
+    ensures conflicts { IfOk result
+        (λ found. AreWitnessConflicts terms.now.nodes bits.now (assigned assignment.now)
+        (Contains reached.now) found.items) }
+    ensures none { IfOk result (λ found. (found.items ≡ []) ↔ AreApart terms.now.nodes
+        (image_in bits.now) (Contains reached.now)
+        (assigned_value terms.now.nodes bits.now (assigned assignment.now))) }
 {
+    let mut conflicts = Vec::new(alloc);
     for watched in watches {
-        if is_joined(terms, bits, assignment, reached, *watched) {
-            return Some(Lemma::Witness(watched.equality));
-        }
+        let found = conflict_of(terms, bits, assignment, reached, *watched);
+        put(&mut conflicts, found)?;
     }
-    None
+    Ok(conflicts)
 }

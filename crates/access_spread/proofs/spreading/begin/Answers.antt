@@ -5,18 +5,19 @@ use Rattle.access_spread.proofs.Visiting.{grows_length, visited_grows}
 use Rattle.access_spread.proofs.spreading.begin.Goals as goal
 
 abbrev mid : goal.After-drain-arg-1 → State
-mid c = record { rows = c.args.state.now.rows; last = c.args.state.now.last; begun = c.arrive.new.state.begun; index = c.arrive.new.state.index }
+mid c = record { rows = c.args.state.now.rows; refused = c.args.state.now.refused; last = c.args.state.now.last; begun = c.arrive.new.state.begun; index = c.arrive.new.state.index }
 
 grown : (c : goal.After-drain-arg-1) → Grows (mid c) c.arrive.new.state × (c.arrive.new.state.begun ≡ length c.args.state.now.rows.items)
 grown c =
-    let h = rw c.in_default.is at c.in_ok-clash.ensures in
+    let h = c.in_ok-arrive.ensures in
     let n : c.len-state.result ≡ length c.args.state.now.rows.items = omega arith in
-    (record { rows = h.grows.rows; begun = refl; index = refl }, h.grows.begun ∙ n)
+    (record { rows = h.grows.rows; none = h.grows.none; begun = refl; index = refl }, h.grows.begun ∙ n)
 
 pub drain-requires-clause-visited : goal.drain-requires-clause-visited
 drain-requires-clause-visited c =
     let g = grown c in
-    let v = visited_grows c.args.graph.now c.args.gates.now c.args.starts.now (mid c) c.arrive.new.state (length c.args.state.now.rows.items) g.0 (omega arith) c.requires.visited in
+    λ n.
+    let v = visited_grows c.args.graph.now c.args.gates.now c.args.starts.now (mid c) c.arrive.new.state (length c.args.state.now.rows.items) g.0 (omega arith) (c.requires.visited (n.0, g.0.none n.1)) in
     subst (AreVisited c.args.graph.now c.args.gates.now c.args.starts.now c.arrive.new.state.rows.items) (sym g.1) v
 
 pub drain-requires-clause-begun : goal.drain-requires-clause-begun
@@ -24,3 +25,16 @@ drain-requires-clause-begun c =
     let g = grown c in
     let l = grows_length c.args.graph.now c.args.gates.now c.args.starts.now (mid c) c.arrive.new.state g.0 in
     omega (arith, l, g.1)
+
+pub returns : goal.returns
+returns c =
+    let a = c.in_ok-arrive.ensures in
+    let d = c.in_ok-drain.ensures in
+    record {
+      fits = d.fits;
+      kept = λ p r q. d.grows.rows p r (a.grows.rows p r q);
+      none = λ n. a.grows.none (d.grows.none n);
+      visited = d.visited;
+      index = d.grows.index ∙ a.grows.index;
+      has = λ n. let h = a.has (d.grows.none n) in (h.0, h.1, d.grows.rows h.0 h.1 h.2, h.3, h.4, h.5);
+    }

@@ -6,18 +6,15 @@ use Rattle.access_spread.proofs.spreading.spread.Goals as goal
 
 pub loop-start-preserved : goal.loop-start-preserved
 loop-start-preserved c =
-    let h : HasBegun c.args.graph.now c.args.gates.now c.args.starts.now c.loop-start.state c.begin.new.state c.loop-start.start = rw c.in_default.is at c.in_ok-clash.ensures in
+    let h : HasBegun c.args.graph.now c.args.gates.now c.args.lanes.now c.args.starts.now c.loop-start.state c.begin.new.state c.loop-start.start = c.in_ok-begin.ensures in
     let inv = c.loop-start.invariant in
     record {
       fits = h.fits;
       visited = h.visited;
       index = λ s le lt. let r = c.requires.rising c.loop-start.start s (omega (arith, le)) lt in omega (arith, h.index, r);
-      have = λ s lt.
+      have = λ n s lt.
           ⊎_elim
-          (λ less. let k = inv.have s less in (k.0, k.1, h.kept k.0 k.1 k.2, k.3, k.4, k.5))
-          (λ le. let same : s ≡ c.loop-start.start = omega arith in subst (λ z. HasRow c.args.starts.now c.begin.new.state.rows.items (start_at c.args.starts.now z).array (start_at c.args.starts.now z).index (start_at c.args.starts.now z).value) (sym same) h.has)
+          (λ less. let k = inv.have (h.none n) s less in (k.0, k.1, h.kept k.0 k.1 k.2, k.3, k.4, k.5))
+          (λ le. let same : s ≡ c.loop-start.start = omega arith in subst (λ z. HasRow c.args.starts.now c.begin.new.state.rows.items (start_at c.args.starts.now z).array (start_at c.args.starts.now z).index (start_at c.args.starts.now z).value) (sym same) (h.has n))
           (cases_lt s c.loop-start.start);
     }
-
-pub returns : goal.returns
-returns c = table c.args.graph.now c.args.gates.now c.args.starts.now c.loop-start.state c.loop-start.invariant.fits c.loop-start.invariant.visited (λ s lt. c.loop-start.invariant.have s (omega (arith, lt)))

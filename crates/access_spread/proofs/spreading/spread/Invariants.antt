@@ -1,11 +1,11 @@
-use Rattle.std.proofs.Common.{ℕ, ◌≤◌, ◌<◌, length}
-use Rattle.access_spread.specs.Spreads.{Fits, HasRow, AreVisited, start_at}
+use Rattle.std.proofs.Common.{◌≡◌, [], ℕ, ◌≤◌, ◌<◌, length}
+use Rattle.access_spread.specs.Spreads.{Fits, HasRow, IsComplete, AreVisited, start_at}
 use Rattle.access_spread.proofs.spreading.spread.Given as goal
 
 abbrev pub invariant-loop-start : goal.invariant-loop-start
 invariant-loop-start l = record {
   fits : Fits l.graph l.gates l.starts l.state;
-  visited : AreVisited l.graph l.gates l.starts l.state.rows.items (length l.state.rows.items);
+  visited : IsComplete l.lanes l.state.refused.items → AreVisited l.graph l.gates l.starts l.state.rows.items (length l.state.rows.items);
   index : (s : ℕ) → l.start ≤ s → s < length l.starts → l.state.index ≤ (start_at l.starts s).index;
-  have : (s : ℕ) → s < l.start → HasRow l.starts l.state.rows.items (start_at l.starts s).array (start_at l.starts s).index (start_at l.starts s).value;
+  have : l.state.refused.items ≡ [] → (s : ℕ) → s < l.start → HasRow l.starts l.state.rows.items (start_at l.starts s).array (start_at l.starts s).index (start_at l.starts s).value;
 }

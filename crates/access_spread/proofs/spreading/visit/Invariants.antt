@@ -1,5 +1,5 @@
 use Rattle.std.proofs.Common.{◌≡◌, slice_get, Some}
-use Rattle.access_spread.specs.Spreads.{Fits, Grows, index_in}
+use Rattle.access_spread.specs.Spreads.{Fits, Grows, IsComplete, start_at}
 use Rattle.access_spread.proofs.Visiting.{LeadBefore}
 use Rattle.access_spread.proofs.spreading.visit.Given as goal
 
@@ -9,6 +9,6 @@ invariant-loop-place l = record {
   grows : Grows l.fn.state l.state;
   fan : slice_get l.graph.fans.items l.row.array ≡ Some l.place-items;
   row : slice_get l.fn.state.rows.items l.here ≡ Some l.row;
-  index : l.index ≡ index_in l.starts l.row;
-  leads : LeadBefore l.graph l.gates l.starts l.place-items l.place-index l.state.rows.items l.row;
+  start : l.start ≡ start_at l.starts l.row.start;
+  leads : IsComplete l.lanes l.state.refused.items → LeadBefore l.graph l.gates l.starts l.place-items l.place-index l.state.rows.items l.row;
 }

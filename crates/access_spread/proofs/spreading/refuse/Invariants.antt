@@ -1,0 +1,9 @@
+use Rattle.std.proofs.Common.{◌≡◌, ℕ, ◌<◌, length, Some, slice_get}
+use Rattle.access_spread.specs.declared.spreading.Refusal.{Refusal}
+use Rattle.access_spread.proofs.spreading.refuse.Given as goal
+
+abbrev pub invariant-loop-refusal : goal.invariant-loop-refusal
+invariant-loop-refusal l = record {
+  started : (k : ℕ) (c : Refusal) → slice_get l.refusal-items k ≡ Some c → c.row.start < length l.starts;
+  items : l.refusal-items ≡ l.fn.state.refused.items;
+}

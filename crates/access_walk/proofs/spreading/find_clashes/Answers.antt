@@ -1,0 +1,38 @@
+use Rattle.std.proofs.Common.{◌≡◌, ℕ, true, false, length, sym, ap, ◌∙◌, arith}
+use Rattle.std.specs.Prelude.{◌==◌}
+use Rattle.std.specs.Vec.{vec_len}
+use Rattle.std.proofs.lemmas.Bool.{eq-eqb, eqb-true}
+use Rattle.bit_blast.specs.Assigned.{assigned}
+use Rattle.access_walk.specs.Networks.{landings_of}
+use Rattle.access_walk.specs.Valuing.{landings_in}
+use Rattle.access_walk.proofs.Tabled.{table_closed, lemmas_false, lemmas_some}
+use Rattle.access_walk.proofs.spreading.find_clashes.Goals as goal
+
+pub returns-then-is_empty : goal.returns-then-is_empty
+returns-then-is_empty c =
+    let values = c.fill.new.self in
+    let state = c.spread_down_first.new.state in
+    let none : vec_len state.refused ≡ 0 = eqb-true (vec_len state.refused) 0 (sym c.is_empty.ensures ∙ c.if-is_empty.true) in
+    let D1 = c.deref-then-is_empty.result.now in
+    let D2 = c.deref-then-is_empty-2.result.now in
+    let same : c.in_ok-rows.rows.items ≡ landings_of c.args.reached.now (landings_in values.entries.items) state.rows.items =
+    c.in_ok-rows.ensures ∙ ap (λ xs. landings_of xs (landings_in D1) D2) c.terms.ensures.terms ∙ ap (λ xs. landings_of c.args.reached.now (landings_in xs) D2) c.deref-then-is_empty.ensures.value ∙ ap (landings_of c.args.reached.now (landings_in values.entries.items)) c.deref-then-is_empty-2.ensures.value in
+    table_closed c.args.terms.now.nodes c.args.bits.now c.args.reached.now c.args.network.now c.requires.network (assigned c.args.assignment.now) values.entries.items values.gates.items values.starts.items c.in_ok-fill.ensures
+    state.rows.items state.refused.items c.in_ok-spread_down_first.ensures c.in_ok-rows.rows.items (omega (arith, none)) same
+
+pub returns : goal.returns
+returns c =
+    let values = c.fill.new.self in
+    let state = c.spread_down_first.new.state in
+    let nodes = c.args.terms.now.nodes in
+    let bits = c.args.bits.now in
+    let f = assigned c.args.assignment.now in
+    let some : length state.refused.items ≡ 0 → ⊥ = λ z.
+    let w : vec_len state.refused ≡ 0 = omega (arith, z) in
+    let t : true ≡ false = sym (eq-eqb (vec_len state.refused) 0 w) ∙ sym c.is_empty.ensures ∙ c.if-is_empty.false in
+    let q : ⊥ = cc in q in
+    record {
+      some = lemmas_some nodes bits c.args.reached.now c.args.network.now c.requires.network f values.entries.items values.gates.items values.starts.items c.in_ok-fill.ensures state.rows.items state.refused.items c.in_ok-spread_down_first.ensures c.in_ok-falses.falses.items some c.in_ok-falses.ensures;
+      falses = lemmas_false nodes bits c.args.reached.now c.args.network.now c.requires.network f values.entries.items values.gates.items values.starts.items c.in_ok-fill.ensures state.rows.items state.refused.items c.in_ok-spread_down_first.ensures c.in_ok-falses.falses.items c.in_ok-falses.ensures;
+      siblings = c.in_ok-siblings.ensures;
+    }

@@ -1,0 +1,119 @@
+// Bits of their own for terms, and declarations that are new.
+
+ghost use Rattle.std.specs.Prelude.{◌≡◌, ◌<◌, [], None, Some, length, MatchBool};
+ghost use Rattle.smt_terms.specs.Nodes.{node_at};
+ghost use Rattle.smt_terms.specs.Terms.{declaration_of};
+ghost use Rattle.walk_rows.specs.Fitting.{AreUnlinked, IsUnused};
+
+use cnf_base::Lit;
+use smt_terms::bits::Bits;
+use smt_terms::list::Arguments;
+use smt_terms::node::{Node, Op, TermId};
+use smt_terms::sort::{DeclId, Sort};
+use smt_terms::terms::Terms;
+use std::alloc::{AllocError, Global};
+use std::marker::Model;
+
+/// Bits of terms, none of which has those of another.
+#[derive(Debug, Drop)]
+pub struct OwnBits {
+    bits: Bits,
+}
+
+impl Model for OwnBits {
+    ghost use Rattle.std.specs.Prelude.{List};
+    ghost use Rattle.smt_terms.specs.Bits.{TermBits};
+    ghost use Rattle.walk_rows.specs.Fitting.{AreUnlinked};
+
+    ghost Value = { List TermBits };
+
+    ghost view = { λ o. o.bits };
+
+    ghost invariant = { λ o. AreUnlinked o.bits };
+}
+
+impl OwnBits {
+    /// No term has bits yet.
+    pub fn new(alloc: Global) -> OwnBits
+        ensures { result ≡ [] }
+    {
+        OwnBits {
+            bits: Bits::new(alloc),
+        }
+    }
+
+    /// Gives a term these bits, if it has none.
+    pub fn give(&mut self, term: TermId, row: &[Lit]) -> Result<(), AllocError> {
+        if self.bits.of(term).is_some() {
+            return Ok(());
+        }
+        self.bits.set(term, row)
+    }
+
+    /// The bits; takes no memory.
+    pub fn bits(&self) -> &Bits
+        ensures same { result.now ≡ self.now }
+        ensures unlinked { AreUnlinked self.now }
+    {
+        &self.bits
+    }
+}
+
+/// Whether a term is of another declaration, or of none.
+fn is_other(terms: &Terms, term: TermId, declaration: DeclId) -> bool
+    requires held { term < length terms.now.nodes }
+    ensures { MatchBool result
+        (declaration_of (node_at terms.now.nodes term).op ≡ Some declaration → ⊥) (Unit {0}) }
+{
+    match &terms.node(term).op {
+        Op::Constant { declaration: d, .. } => *d != declaration,
+        Op::Apply { declaration: d, .. } => *d != declaration,
+        Op::Plain(_) | Op::Word { .. } | Op::ConstantArray(_) => true,
+        _ => false,
+    }
+}
+
+/// Whether no term is of a declaration.
+pub fn is_unused(terms: &Terms, declaration: DeclId) -> bool
+    ensures { MatchBool result (IsUnused terms.now.nodes declaration) (Unit {0}) }
+{
+    for term in 0..terms.len() {
+        if !is_other(terms, term, declaration) {
+            return false;
+        }
+    }
+    true
+}
+
+/// The constant of a declaration and a sort: the one that there is, or one more. None where the
+/// declaration has another sort, or memory ends.
+pub fn declare(
+    alloc: Global,
+    terms: &mut Terms,
+    declaration: DeclId,
+    sort: Sort,
+) -> Option<TermId> {
+    let node = Node::leaf(alloc, Op::Constant { declaration, sort });
+    if let Some(term) = terms.find(&node) {
+        return Some(term);
+    }
+    if !is_unused(terms, declaration) {
+        return None;
+    }
+    match terms.make(node) {
+        Ok(term) => Some(term),
+        Err(_) => None,
+    }
+}
+
+/// The term of an operator that names no declaration. None where its sorts do not fit, or memory
+/// ends.
+pub fn apply(alloc: Global, terms: &mut Terms, op: Op, args: &[TermId]) -> Option<TermId>
+    requires { declaration_of op ≡ None }
+{
+    let args = Arguments::of(alloc, args).ok()?;
+    match terms.make(Node { op, args }) {
+        Ok(term) => Some(term),
+        Err(_) => None,
+    }
+}
