@@ -38,6 +38,10 @@ is_held_slot ks (Some s) = is_held (kind_at ks s)
 abbrev pub held_of : Watches → ClauseId → Option (List Literal)
 held_of w id = cond (is_held_slot w.kinds.items (slot_in w.slots id)) (clause_of w id) None
 
+-- the clause that forced the literal at this place of the trail, None for a decided one and where none stands
+abbrev pub reason_of : Watches → Trail → ℕ → Option (List Literal)
+reason_of w t p = option_and_then (λ (r : Row). option_and_then (clause_of w) r.2) (slice_get (literals_of t) p)
+
 -- every clause that is kept is held
 abbrev pub AreAllHeld : Watches → Type 0
 AreAllHeld w = (id : ClauseId) → held_of w id ≡ clause_of w id

@@ -159,6 +159,11 @@ fn a_dropped_clause_is_gone(rt: HostRuntime) -> Result<(), Fail> {
     assert!(rt; watches.clause(name(1)).is_none());
     assert_eq!(rt; assume(&mut watches, &mut trail, yes(1)), None);
     assert_eq!(rt; trail.literals().len(), 2);
+    assert_eq!(rt; trail.stamp(yes(3)), 2);
+    assert_eq!(rt; trail.stamp(no(3)), 0);
+    assert!(rt; watches.reason(&trail, 0).is_none());
+    assert!(rt; watches.reason(&trail, 1).is_some());
+    assert!(rt; watches.reason(&trail, 2).is_none());
     Ok(())
 }
 

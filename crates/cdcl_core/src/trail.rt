@@ -79,6 +79,14 @@ impl Trail {
         0 < stamp_of(self.stamps.as_slice(), l.code() as usize)
     }
 
+    /// One more than the decision level at which the literal became true, 0 where it is not true.
+    #[inline(always)]
+    pub fn stamp(&self, l: Lit) -> u64
+        ensures { result ≡ slice_index self.now.stamps.items (code_of l) }
+    {
+        stamp_of(self.stamps.as_slice(), l.code() as usize)
+    }
+
     /// The place of a literal that is true, None where it is not.
     pub fn place(&self, l: Lit) -> Option<usize>
         requires trail { IsConsistent self.now }

@@ -4,7 +4,7 @@ ghost use Rattle.std.specs.Prelude.{◌≡◌, None, IfOk};
 ghost use Rattle.std.specs.Option.{option_copied};
 ghost use Rattle.cnf_base.specs.declared.clause.ClauseId.{ClauseId};
 ghost use Rattle.cdcl_core.specs.declared.trail.Trail.{Trail};
-ghost use Rattle.cdcl_core.specs.Search.{clause_of, held_of};
+ghost use Rattle.cdcl_core.specs.Search.{clause_of, held_of, reason_of};
 ghost use Rattle.cdcl_core.specs.Slots.{slot_in};
 ghost use Rattle.cdcl_core.specs.State.{IsNew, IsSettled};
 
@@ -95,5 +95,20 @@ impl Watches {
             }
         }
         self.clause(id)
+    }
+
+    /// The clause that forced the literal at this place of the trail, None for a decided one and where none stands.
+    pub fn reason(&self, trail: &Trail, place: usize) -> Option<&Clause>
+        requires { IsSettled self.now trail.now }
+        ensures { option_copied result ≡ reason_of self.now trail.now place }
+    {
+        if place >= trail.len {
+            return None;
+        }
+        let slot = trail.reasons[place];
+        if slot == 0 {
+            return None;
+        }
+        Some(&self.clauses[slot])
     }
 }

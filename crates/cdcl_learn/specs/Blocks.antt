@@ -1,6 +1,6 @@
--- Marks by place, and by block of 64 places whether one of them was marked.
+-- Marks by place, and by block of 16 places whether one of them was marked.
 use Rattle.std.specs.Prelude.{ℕ, ◌≡◌, ◌*◌, ◌/◌, ◌<◌, Bool, true, false, List, length, slice_index_or}
 
 pub record HaveBlocks (places blocks : List Bool) : Type 0 where
-  pub each : (p : ℕ) → slice_index_or places p false ≡ true → slice_index_or blocks (p / 64) false ≡ true
-  pub room : length places < 64 * length blocks
+  pub each : (p : ℕ) → slice_index_or places p false ≡ true → slice_index_or blocks (p / 16) false ≡ true
+  pub room : length places < 16 * length blocks

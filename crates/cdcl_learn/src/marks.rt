@@ -7,7 +7,7 @@ use std::alloc::{AllocError, Global};
 use std::marker::Model;
 
 // So many places are passed over at once where none of them was marked.
-const BLOCK: usize = 64;
+const BLOCK: usize = 16;
 
 /// Which places are marked.
 #[derive(Drop)]

@@ -24,13 +24,6 @@ enum Finding {
     Below(usize, usize),
 }
 
-/// The marked places of a walk.
-#[derive(Clone, Copy)]
-pub(crate) struct Marked<'a> {
-    pub rows: &'a [Row],
-    pub marks: &'a Marks,
-}
-
 /// Looks below a literal for what it rests on, each place once (N. Sörensson and A. Biere, "Minimizing learned clauses",
 /// 2009).
 #[derive(Drop)]
@@ -59,16 +52,16 @@ impl Minimizer {
     }
 
     /// Looks at no level but those of the marked literals before `end`.
-    pub(crate) fn keep_levels(&mut self, marked: Marked<'_>, end: usize)
-        requires { end ≤ length marked.marks.now }
+    pub(crate) fn keep_levels(&mut self, rows: &[Row], marks: &Marks, end: usize)
+        requires { end ≤ length marks.now }
     {
         self.levels = 0;
-        let mut i = marked.marks.top(end);
+        let mut i = marks.top(end);
         'marked: while i > 0 {
-            if let Some(row) = marked.rows.get(i - 1) {
+            if let Some(row) = rows.get(i - 1) {
                 self.levels |= level_bit(row.1);
             }
-            i = marked.marks.top(i - 1);
+            i = marks.top(i - 1);
         }
     }
 
@@ -87,43 +80,42 @@ impl Minimizer {
     }
 
     // What is known of a literal that the reason of another one has.
-    fn judge(&self, marked: Marked<'_>, place: usize) -> Verdict {
-        let Some(row) = marked.rows.get(place) else {
-            return Verdict::Stands;
-        };
-        if row.1 == 0 || marked.marks.has(place) {
-            return Verdict::Rests;
+    fn judge(&self, marks: &Marks, place: usize) -> Verdict {
+        if marks.has(place) {
+            Verdict::Rests
+        } else {
+            self.verdict(place)
         }
-        if row.2.is_none() || self.levels & level_bit(row.1) == 0 {
-            return Verdict::Stands;
-        }
-        self.verdict(place)
     }
 
-    // Goes on through the reason of the literal at a place.
+    // Goes on through the reason of the literal at a place. The literals of level 0 say nothing.
     fn look(
         &self,
         watches: &Watches,
         trail: &Trail,
-        marked: Marked<'_>,
+        marks: &Marks,
         place: usize,
         from: usize,
     ) -> Finding
         requires { IsSettled watches.now trail.now }
     {
-        let Some(&(_, _, Some(id))) = marked.rows.get(place) else {
-            return Finding::Known(Verdict::Stands);
-        };
-        let Some(clause) = watches.clause_at(trail, place, id) else {
+        let Some(clause) = watches.reason(trail, place) else {
             return Finding::Known(Verdict::Stands);
         };
         let literals = clause.literals();
         for k in from..literals.len() {
-            if let Some(below) = trail.place(literals[k].negated()) {
-                match self.judge(marked, below) {
-                    Verdict::Rests => {}
-                    Verdict::Stands => return Finding::Known(Verdict::Stands),
-                    Verdict::Unknown => return Finding::Below(below, k),
+            let literal = literals[k].negated();
+            let stamp = trail.stamp(literal);
+            if stamp > 1 && self.levels & level_bit(stamp - 1) == 0 {
+                return Finding::Known(Verdict::Stands);
+            }
+            if stamp > 1 {
+                if let Some(below) = trail.place(literal) {
+                    match self.judge(marks, below) {
+                        Verdict::Rests => {}
+                        Verdict::Stands => return Finding::Known(Verdict::Stands),
+                        Verdict::Unknown => return Finding::Below(below, k),
+                    }
                 }
             }
         }
@@ -135,7 +127,7 @@ impl Minimizer {
         &mut self,
         watches: &Watches,
         trail: &Trail,
-        marked: Marked<'_>,
+        marks: &Marks,
         place: usize,
     ) -> Result<bool, AllocError>
         requires { IsSettled watches.now trail.now }
@@ -149,7 +141,7 @@ impl Minimizer {
             let Some((top, from)) = self.waiting.pop() else {
                 return Ok(true);
             };
-            match self.look(watches, trail, marked, top, from) {
+            match self.look(watches, trail, marks, top, from) {
                 Finding::Known(Verdict::Rests) => self.settle(top, Verdict::Rests),
                 Finding::Known(_) => {
                     self.settle(top, Verdict::Stands);

@@ -8,7 +8,7 @@ ghost use Rattle.cdcl_learn.specs.Rows.{literal_at, level_at, reason_at, IsFront
 ghost use Rattle.cdcl_learn.specs.Walks.{IsSet, IsMarked, IsWalk, IsResolved, IsExplained, IsTop, MeetsReasons};
 
 use crate::marks::Marks;
-use crate::minimizer::{Marked, Minimizer};
+use crate::minimizer::Minimizer;
 use cdcl_core::{Trail, Watches};
 use cnf_base::{Clause, ClauseId, Lit};
 use std::alloc::{AllocError, Global};
@@ -60,7 +60,8 @@ fn place_of(trail: &Trail, rows: &[Row], l: Lit) -> Option<usize>
     let Some(place) = trail.place(l) else {
         return last_place(rows, l);
     };
-    if stands_at(rows, place, l) {
+    let last = rows.len().saturating_sub(1);
+    if place < last {
         return Some(place);
     }
     last_place(rows, l)
@@ -81,19 +82,6 @@ fn mark(trail: &Trail, marks: &mut Marks, clause: &[Lit], rows: &[Row])
             marks.set(place);
         }
     }
-}
-
-// How many places are marked.
-fn count(marks: &Marks, places: usize) -> usize
-    requires { places ≤ length marks.now }
-{
-    let mut count = 0usize;
-    let mut end = marks.top(places);
-    'marked: while end > 0 {
-        count = count.wrapping_add(1);
-        end = marks.top(end - 1);
-    }
-    count
 }
 
 impl Walk {
@@ -188,11 +176,7 @@ impl Walk {
         if whole || rows[i].1 == 0 {
             return Ok(true);
         }
-        let marked = Marked {
-            rows,
-            marks: &self.marks,
-        };
-        self.minimizer.rests(watches, trail, marked, i)
+        self.minimizer.rests(watches, trail, &self.marks, i)
     }
 
     // Resolves the literal of a place, if it is marked, has a reason, and is to be resolved.
@@ -251,13 +235,7 @@ impl Walk {
             → ((IsTrue whole) ⊎ (level_at rows.now p ≡ 0)) → IsSet self.new.marks p
             → reason_at rows.now p ≡ None) }
     {
-        self.minimizer.keep_levels(
-            Marked {
-                rows,
-                marks: &self.marks,
-            },
-            rows.len(),
-        );
+        self.minimizer.keep_levels(rows, &self.marks, rows.len());
         let mut i = self.top(end);
         'back: while i > 0 {
             self.visit(watches, trail, rows, i - 1, whole)?;
@@ -276,13 +254,14 @@ impl Walk {
             × ((p < length rows.now)
             × (IsSet self.now.marks p × (l ≡ negated (literal_at rows.now p))))) }
     {
-        let mut literals: Vec<Lit> = Vec::with_capacity(alloc, count(&self.marks, rows.len()))?;
+        let mut literals: Vec<Lit> = Vec::with_capacity(alloc, 64)?;
         let mut i = self.top(rows.len());
         'back: while i > 0 {
             literals.push(rows[i - 1].0.negated())?;
             i = self.top(i - 1);
         }
-        Ok(Clause::from_vec(literals))
+        let exact = Vec::from_slice(alloc, literals.as_slice())?;
+        Ok(Clause::from_vec(exact))
     }
 
     /// The hints, in the order of a chain.

@@ -24,16 +24,44 @@ pub struct Choices {
     phases: Phases,
     restarts: Restarts,
     counter: GlueCounter,
-    // by variable: the level at which it got its value
-    levels: Vec<u64>,
     // by variable: the number of the last conflict that met it
     met: Vec<u64>,
-    // how many rows of the trail were seen
-    seen: usize,
     conflicts: u64,
     // the chains that may be dropped, mostly in order, with their worth: those that were learnt, and those that were taken
     chains: Vec<Pos>,
     learnt: Vec<Learnt>,
+}
+
+// The level at which the variable of a literal got its value, 0 where it has none.
+fn level_at(trail: &Trail, literal: Lit) -> u64 {
+    (trail.stamp(literal) | trail.stamp(literal.negated())).saturating_sub(1)
+}
+
+// Whether the variable of one of the literals got its value at the level.
+fn reaches(trail: &Trail, literals: &[Lit], level: u64) -> bool {
+    for literal in literals {
+        if level_at(trail, *literal) == level {
+            return true;
+        }
+    }
+    false
+}
+
+// The hints behind the last one that has no literal of the level.
+fn last_of_level<'a>(
+    watches: &Watches,
+    trail: &Trail,
+    hints: &'a [ClauseId],
+    level: u64,
+) -> &'a [ClauseId] {
+    for i in (0..hints.len()).rev() {
+        if let Some(found) = watches.clause(hints[i]) {
+            if !reaches(trail, found.literals(), level) {
+                return &hints[i + 1..];
+            }
+        }
+    }
+    hints
 }
 
 impl Choices {
@@ -45,9 +73,7 @@ impl Choices {
             phases: Phases::new(alloc),
             restarts: Restarts::new(),
             counter: GlueCounter::new(alloc),
-            levels: Vec::new(alloc),
             met: Vec::new(alloc),
-            seen: 0,
             conflicts: 0,
             chains: Vec::new(alloc),
             learnt: Vec::new(alloc),
@@ -56,16 +82,14 @@ impl Choices {
 
     /// Has a row for the variable in each table. Where one comes, more come with it, so that this is seldom.
     pub(crate) fn reserve(&mut self, variable: u64) -> Result<(), AllocError> {
-        if variable < self.levels.len() as u64 {
+        if variable < self.met.len() as u64 {
             return Ok(());
         }
         let more = variable / 4;
         let rows = variable.saturating_add(more).saturating_add(64) as usize;
         self.order.reserve(rows)?;
         self.phases.reserve(rows)?;
-        self.counter.reserve(rows)?;
         self.met.resize(rows, 0)?;
-        self.levels.resize(rows, 0)?;
         Ok(())
     }
 
@@ -73,17 +97,6 @@ impl Choices {
     pub(crate) fn renew(&mut self) {
         self.order.forget();
         self.restarts = Restarts::new();
-    }
-
-    /// Sees the new rows of the trail.
-    pub(crate) fn see(&mut self, rows: &[Row]) {
-        for i in self.seen..rows.len() {
-            let variable = rows[i].0.variable() as usize;
-            if variable < self.levels.len() {
-                self.levels[variable] = rows[i].1;
-            }
-        }
-        self.seen = rows.len();
     }
 
     /// Keeps the signs of the literals above the level, whose variables become open.
@@ -100,25 +113,23 @@ impl Choices {
             self.order.insert(row.0.variable());
             end = end.wrapping_sub(1);
         }
-        self.seen = end;
     }
 
     // Raises the activity of a variable that is not fixed, once for each conflict.
-    fn meet(&mut self, literal: Lit) {
+    fn meet(&mut self, trail: &Trail, literal: Lit) {
         let variable = literal.variable() as usize;
         if variable < self.met.len()
-            && variable < self.levels.len()
             && self.met[variable] != self.conflicts
-            && self.levels[variable] != 0
+            && level_at(trail, literal) != 0
         {
             self.met[variable] = self.conflicts;
             self.order.bump(literal.variable());
         }
     }
 
-    fn meet_all(&mut self, literals: &[Lit]) {
+    fn meet_all(&mut self, trail: &Trail, literals: &[Lit]) {
         for literal in literals {
-            self.meet(*literal);
+            self.meet(trail, *literal);
         }
     }
 
@@ -127,14 +138,11 @@ impl Choices {
     fn meet_reasons(&mut self, watches: &Watches, trail: &Trail, clause: &[Lit], base: u64)
         requires { IsSettled watches.now trail.now }
     {
-        let rows = trail.literals();
         for literal in clause {
-            if let Some(place) = trail.place(literal.negated()) {
-                if let Some(&(_, level, Some(id))) = rows.get(place) {
-                    if level > base {
-                        if let Some(found) = watches.clause_at(trail, place, id) {
-                            self.meet_all(found.literals());
-                        }
+            if level_at(trail, *literal) > base {
+                if let Some(place) = trail.place(literal.negated()) {
+                    if let Some(found) = watches.reason(trail, place) {
+                        self.meet_all(trail, found.literals());
                     }
                 }
             }
@@ -142,33 +150,28 @@ impl Choices {
     }
 
     // Tells the glue of a learnt clause anew, from which a conflict came: where it is less now, it counts.
-    fn tell_anew(&mut self, id: ClauseId, literals: &[Lit], base: u64) {
+    fn tell_anew(&mut self, trail: &Trail, id: ClauseId, literals: &[Lit], base: u64) {
+        let Some(first) = self.chains.first() else {
+            return;
+        };
+        if id.part != 0 || id.pos < *first {
+            return;
+        }
         let Ok(place) = self.chains.as_slice().binary_search(&id.pos) else {
             return;
         };
         if place >= self.learnt.len() || self.learnt[place].glue <= 2 {
             return;
         }
-        let worth = self.worth(literals, base);
+        let worth = self.worth(trail, literals, base);
         if place < self.learnt.len() && worth.glue < self.learnt[place].glue {
             self.learnt[place].glue = worth.glue;
         }
     }
 
-    // Whether a literal of the clause got its value at the level.
-    fn reaches(&self, literals: &[Lit], level: u64) -> bool {
-        for literal in literals {
-            let variable = literal.variable() as usize;
-            if variable < self.levels.len() && self.levels[variable] == level {
-                return true;
-            }
-        }
-        false
-    }
-
-    /// Weighs a clause that was learnt from a conflict at this level, and of its hints those that have a literal of the level:
-    /// the others made the clause shorter. Up to the base the levels are of given literals, which stay, so the literals of these
-    /// levels weigh nothing.
+    /// Weighs a clause that was learnt from a conflict at this level, and the last of its hints, which have a literal of the level:
+    /// those before them made the clause shorter. Up to the base the levels are of given literals, which stay, so the literals of
+    /// these levels weigh nothing.
     pub(crate) fn weigh(
         &mut self,
         watches: &Watches,
@@ -181,17 +184,16 @@ impl Choices {
         requires { IsSettled watches.now trail.now }
     {
         self.conflicts = self.conflicts.wrapping_add(1);
-        for hint in hints {
+        self.counter.reserve((level as usize).saturating_add(1))?;
+        for hint in last_of_level(watches, trail, hints, level) {
             if let Some(found) = watches.clause(*hint) {
-                if self.reaches(found.literals(), level) {
-                    self.meet_all(found.literals());
-                    self.tell_anew(*hint, found.literals(), base);
-                }
+                self.meet_all(trail, found.literals());
+                self.tell_anew(trail, *hint, found.literals(), base);
             }
         }
         self.meet_reasons(watches, trail, clause, base);
         self.order.decay();
-        let worth = self.worth(clause, base);
+        let worth = self.worth(trail, clause, base);
         self.restarts.meet(u64::from(worth.glue));
         // where the clause that was weighed before was not kept, it has no name
         self.learnt.truncate(self.chains.len());
@@ -214,14 +216,14 @@ impl Choices {
     }
 
     // The number of those literals that got their values above the base, and that of their levels.
-    fn worth(&mut self, literals: &[Lit], base: u64) -> Learnt {
+    fn worth(&mut self, trail: &Trail, literals: &[Lit], base: u64) -> Learnt {
         let mut size = 0u32;
         self.counter.begin();
         for literal in literals {
-            let variable = literal.variable() as usize;
-            if variable < self.levels.len() && self.levels[variable] > base {
+            let level = level_at(trail, *literal);
+            if level > base {
                 size = size.wrapping_add(1);
-                self.counter.meet(self.levels[variable]);
+                self.counter.meet(level);
             }
         }
         let glue = (self.counter.glue() % (1 << 32)) as u32;

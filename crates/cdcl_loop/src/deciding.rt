@@ -58,7 +58,6 @@ impl Engine {
         self.watches.decide(&mut self.trail, literal);
         self.base = self.trail.level();
         let conflict = self.watches.propagate(&mut self.trail);
-        self.choices.see(self.trail.literals());
         match conflict {
             Some(id) => Ok(Some(Clash::Held(id))),
             None => Ok(None),

@@ -213,8 +213,6 @@ impl Engine {
             × IsAtRest self.new.watches self.new.trail)
             (IsConflict self.new.watches self.new.trail) }
     {
-        let conflict = self.watches.propagate(&mut self.trail);
-        self.choices.see(self.trail.literals());
-        conflict
+        self.watches.propagate(&mut self.trail)
     }
 }

@@ -55,7 +55,6 @@ impl Engine {
             → held_of self.new.watches q ≡ held_of self.old.watches q }
     {
         self.watches.wake(&mut self.trail, id);
-        self.choices.see(self.trail.literals());
     }
 
     /// Holds the clause of this name no longer, and keeps it, at level 0. It takes no memory.

@@ -1,6 +1,6 @@
 //! Variables by activity (N. Eén and N. Sörensson, "An extensible SAT-solver", 2003).
 
-use crate::table::{at, put};
+use crate::table::{MOST, at, number_at, put, put_number};
 use std::alloc::{AllocError, Global};
 
 // At this activity, all are made smaller.
@@ -16,11 +16,11 @@ pub struct VariableOrder {
     // by variable, 0 where it was not bumped
     activities: Vec<u64>,
     // the heap, and by variable one more than its place there, 0 where it has none
-    heap: Vec<u64>,
-    places: Vec<u64>,
+    heap: Vec<u32>,
+    places: Vec<u32>,
     len: u64,
     // the variables that were bumped, each once
-    bumped: Vec<u64>,
+    bumped: Vec<u32>,
     count: u64,
     increment: u64,
 }
@@ -41,6 +41,9 @@ impl VariableOrder {
 
     /// Has the variables below the bound, the new ones with no activity.
     pub fn reserve(&mut self, bound: usize) -> Result<(), AllocError> {
+        if bound > MOST {
+            return Err(AllocError);
+        }
         if self.places.len() < bound {
             self.activities.resize(bound, 0)?;
             self.heap.resize(bound, 0)?;
@@ -53,9 +56,9 @@ impl VariableOrder {
     /// Forgets all activities. It visits the variables that were bumped alone.
     pub fn forget(&mut self) {
         for i in 0..self.count {
-            let variable = at(&self.bumped, i);
+            let variable = number_at(&self.bumped, i);
             put(&mut self.activities, variable, 0);
-            put(&mut self.places, variable, 0);
+            put_number(&mut self.places, variable, 0);
         }
         self.len = 0;
         self.count = 0;
@@ -64,7 +67,7 @@ impl VariableOrder {
 
     /// Puts a variable back that is open again, where it was bumped.
     pub fn insert(&mut self, variable: u64) {
-        if at(&self.activities, variable) == 0 || at(&self.places, variable) != 0 {
+        if at(&self.activities, variable) == 0 || number_at(&self.places, variable) != 0 {
             return;
         }
         let place = self.len;
@@ -78,11 +81,11 @@ impl VariableOrder {
         if self.len == 0 {
             return None;
         }
-        let variable = at(&self.heap, 0);
-        put(&mut self.places, variable, 0);
+        let variable = number_at(&self.heap, 0);
+        put_number(&mut self.places, variable, 0);
         self.len -= 1;
         if self.len > 0 {
-            let last = at(&self.heap, self.len);
+            let last = number_at(&self.heap, self.len);
             self.settle(0, last);
             self.sink(0);
         }
@@ -96,12 +99,12 @@ impl VariableOrder {
         }
         let before = at(&self.activities, variable);
         if before == 0 {
-            put(&mut self.bumped, self.count, variable);
+            put_number(&mut self.bumped, self.count, variable);
             self.count = self.count.wrapping_add(1);
         }
         let activity = before.wrapping_add(self.increment);
         put(&mut self.activities, variable, activity);
-        let place = at(&self.places, variable);
+        let place = number_at(&self.places, variable);
         if place != 0 {
             self.rise(place - 1);
         }
@@ -121,7 +124,7 @@ impl VariableOrder {
     // Makes all activities smaller in the same measure; none becomes 0.
     fn shrink(&mut self) {
         for i in 0..self.count {
-            let variable = at(&self.bumped, i);
+            let variable = number_at(&self.bumped, i);
             let activity = at(&self.activities, variable);
             put(&mut self.activities, variable, (activity >> 40) | 1);
         }
@@ -129,17 +132,17 @@ impl VariableOrder {
     }
 
     fn activity_at(&self, place: u64) -> u64 {
-        at(&self.activities, at(&self.heap, place))
+        at(&self.activities, number_at(&self.heap, place))
     }
 
     fn settle(&mut self, place: u64, variable: u64) {
-        put(&mut self.heap, place, variable);
-        put(&mut self.places, variable, place.wrapping_add(1));
+        put_number(&mut self.heap, place, variable);
+        put_number(&mut self.places, variable, place.wrapping_add(1));
     }
 
     // Moves the variable of this place up to where the one above is at least as active.
     fn rise(&mut self, start: u64) {
-        let variable = at(&self.heap, start);
+        let variable = number_at(&self.heap, start);
         let activity = at(&self.activities, variable);
         let mut place = start;
         for _ in 0..DEEPEST {
@@ -150,7 +153,7 @@ impl VariableOrder {
             if self.activity_at(up) >= activity {
                 break;
             }
-            let above = at(&self.heap, up);
+            let above = number_at(&self.heap, up);
             self.settle(place, above);
             place = up;
         }
@@ -159,7 +162,7 @@ impl VariableOrder {
 
     // Moves the variable of this place down to where those below are at most as active.
     fn sink(&mut self, start: u64) {
-        let variable = at(&self.heap, start);
+        let variable = number_at(&self.heap, start);
         let activity = at(&self.activities, variable);
         let mut place = start;
         for _ in 0..DEEPEST {
@@ -173,7 +176,7 @@ impl VariableOrder {
             if self.activity_at(child) <= activity {
                 break;
             }
-            let below = at(&self.heap, child);
+            let below = number_at(&self.heap, child);
             self.settle(place, below);
             place = child;
         }

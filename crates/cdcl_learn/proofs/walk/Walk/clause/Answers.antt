@@ -22,7 +22,7 @@ back-preserved c = record {
 }
 
 pub returns-clause-each : goal.returns-clause-each
-returns-clause-each c = λ p h s. rw c.from_vec.ensures (c.back.invariant.collected.each p (omega (arith, c.back-test.false)) h s)
+returns-clause-each c = λ p h s. rw (c.from_vec.ensures, c.in_ok-exact.ensures.items, c.as_slice.ensures.value) (c.back.invariant.collected.each p (omega (arith, c.back-test.false)) h s)
 
 pub returns-clause-only : goal.returns-clause-only
-returns-clause-only c = λ l h. c.back.invariant.collected.only l (rw c.from_vec.ensures at h)
+returns-clause-only c = λ l h. c.back.invariant.collected.only l (rw (c.from_vec.ensures, c.in_ok-exact.ensures.items, c.as_slice.ensures.value) at h)

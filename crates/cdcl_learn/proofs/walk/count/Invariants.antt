@@ -1,8 +1,0 @@
-use Rattle.std.proofs.Common.{◌≤◌, length}
-use Rattle.cdcl_learn.proofs.walk.count.Given as goal
-
-abbrev pub invariant-marked : goal.invariant-marked
-invariant-marked l = l.end ≤ length l.marks
-
-abbrev pub decreases-marked : goal.decreases-marked
-decreases-marked l = l.end
