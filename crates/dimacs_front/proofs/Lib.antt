@@ -1,0 +1,5 @@
+pub mod Splitting
+pub mod Tables
+pub mod Reading
+pub mod Hints
+pub mod Sound

@@ -1,0 +1,9 @@
+use Rattle.std.proofs.Common.{◌≡◌, ◌++◌, ℕ, List, length}
+use Rattle.dimacs_front.specs.Cnf.{goes_on}
+use Rattle.dimacs_front.proofs.cnf.CnfReader.feed.Given as goal
+
+abbrev pub invariant-lines : goal.invariant-lines
+invariant-lines l = (more : List ℕ) → goes_on l.self (l.rest ++ more) ≡ goes_on l.fn.self (l.piece ++ more)
+
+abbrev pub decreases-lines : goal.decreases-lines
+decreases-lines l = length l.rest

@@ -1,0 +1,5 @@
+pub mod Words
+pub mod Rows
+pub mod Cnf
+pub mod Lrat
+pub mod Marks
