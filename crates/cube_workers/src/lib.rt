@@ -1,0 +1,21 @@
+//! The search of a check's cubes.
+//!
+//! A check is searched under each of its cubes. One worker takes the cubes in their order, over the log alone, and starts no
+//! thread. What is found is a model, a clause of opposites of assumed literals alone, which the cubes' clauses are joined to,
+//! or the lowest cube on which the budget was spent; for want of memory the log comes back with what it gained. Each search
+//! that is kept goes over to the next check with what it learnt. Gates are for several workers, which are still to come. The
+//! crate stands on `cube_search`, `cube_tree` and `proof_log`.
+#![tactic(auto)]
+
+mod alone;
+mod check;
+mod gate;
+mod kept;
+mod outcome;
+mod tried;
+
+pub use alone::search_alone;
+pub use check::{Check, Settings};
+pub use gate::{Gate, NoGate, PairGate, Point};
+pub use kept::KeptSearch;
+pub use outcome::{Lost, Outcome};
