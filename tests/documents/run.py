@@ -201,7 +201,7 @@ def check_definitions(text):
 # Each script that docs/PROOFS.md goes through, with its proof behind it: the example and the row that have it, or the base
 # of the table and its verdicts.
 WORKED = [("proof.smt2", "proof_that_is_explained.row"), ("unknown.smt2", "diary_that_is_explained.row")]
-WORKED_BASES = [("store_that_is_read_back", ["unsat"])]
+WORKED_BASES = [("store_that_is_read_back", ["unsat"]), ("complement_twice_is_left_out", ["unsat"])]
 
 
 def worked_proofs():
