@@ -1,3 +1,5 @@
 pub mod Cubes
 pub mod CubeEnds
 pub mod Resting
+pub mod OnHub
+pub mod Telling

@@ -3,19 +3,23 @@
 //! A check is searched under each of its cubes. One worker takes the cubes in their order, over the log alone, and starts no
 //! thread. What is found is a model, a clause of opposites of assumed literals alone, which the cubes' clauses are joined to,
 //! or the lowest cube on which the budget was spent; for want of memory the log comes back with what it gained. Each search
-//! that is kept goes over to the next check with what it learnt. Gates are for several workers, which are still to come. The
-//! crate stands on `cube_search`, `cube_tree` and `proof_log`.
+//! that is kept goes over to the next check with what it learnt. Of several workers each has a board over a pass of the hub:
+//! it claims cubes and tells what became of each, until none is left. That they start, and what they come to together, is
+//! still to come. The crate stands on `cube_search`, `cube_tree`, `hub_board` and `proof_log`.
 #![tactic(auto)]
 
 mod alone;
 mod check;
 mod gate;
 mod kept;
+mod moving;
 mod outcome;
 mod tried;
+mod worker;
 
 pub use alone::search_alone;
 pub use check::{Check, Settings};
 pub use gate::{Gate, NoGate, PairGate, Point};
 pub use kept::KeptSearch;
 pub use outcome::{Lost, Outcome};
+pub use worker::{Reached, work_cubes};
