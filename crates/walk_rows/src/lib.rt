@@ -1,11 +1,14 @@
-//! What a caller of walks looks at, term by term, before a walk may be called for.
+//! Walks over all small terms of arrays, and what they answer.
 //!
-//! [`own`] holds bits of terms, none of which has those of another. [`fitting`] says where a walk
-//! over them may be called for, and under which assignments; [`bridge`] reaches terms, and builds
-//! the interpretation of the table that a walk answered. The crate stands on `access_walk` and
-//! `model_build`.
+//! [`fitting`] looks at terms with bits of their own, and says where a walk may be called for;
+//! [`bridge`] reaches them and builds interpretations, [`own`] holds their bits. The tests enumerate
+//! terms over two arrays of index width 1 and element width 1, and all assignments of their bits:
+//! where a walk answers a table, the built interpretation has the values of the bits, and where it
+//! answers lemmas, they are false.
 #![tactic(auto)]
 
 pub mod bridge;
 pub mod fitting;
 pub mod own;
+#[cfg(test)]
+mod tests;
