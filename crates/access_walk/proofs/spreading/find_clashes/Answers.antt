@@ -13,10 +13,10 @@ returns-then-is_empty c =
     let values = c.fill.new.self in
     let state = c.spread_down_first.new.state in
     let none : vec_len state.refused ≡ 0 = eqb-true (vec_len state.refused) 0 (sym c.is_empty.ensures ∙ c.if-is_empty.true) in
-    let D1 = c.deref-then-is_empty.result.now in
-    let D2 = c.deref-then-is_empty-2.result.now in
+    let held = c.deref-then-is_empty.result.now in
+    let spread = c.deref-then-is_empty-2.result.now in
     let same : c.in_ok-rows.rows.items ≡ landings_of c.args.reached.now (landings_in values.entries.items) state.rows.items =
-    c.in_ok-rows.ensures ∙ ap (λ xs. landings_of xs (landings_in D1) D2) c.terms.ensures.terms ∙ ap (λ xs. landings_of c.args.reached.now (landings_in xs) D2) c.deref-then-is_empty.ensures.value ∙ ap (landings_of c.args.reached.now (landings_in values.entries.items)) c.deref-then-is_empty-2.ensures.value in
+    c.in_ok-rows.ensures ∙ ap (λ xs. landings_of xs (landings_in held) spread) c.terms.ensures.terms ∙ ap (λ xs. landings_of c.args.reached.now (landings_in xs) spread) c.deref-then-is_empty.ensures.value ∙ ap (landings_of c.args.reached.now (landings_in values.entries.items)) c.deref-then-is_empty-2.ensures.value in
     table_closed c.args.terms.now.nodes c.args.bits.now c.args.reached.now c.args.network.now c.requires.network (assigned c.args.assignment.now) values.entries.items values.gates.items values.starts.items c.in_ok-fill.ensures
     state.rows.items state.refused.items c.in_ok-spread_down_first.ensures c.in_ok-rows.rows.items (omega (arith, none)) same
 
