@@ -1,5 +1,5 @@
 -- One row more.
-use Rattle.std.proofs.Common.{◌≡◌, ℕ, ◌+◌, ◌<◌, ◌≤◌, List, [], ◌∷◌, ◌++◌, length, Option, Some, None, refl, sym, ap, ◌∙◌, subst, ⊎_elim, arith, length-append}
+use Rattle.std.proofs.Common.{◌≡◌, ℕ, ◌+◌, ◌<◌, ◌≤◌, List, [], ◌∷◌, ◌++◌, length, Option, Some, None, refl, sym, ap, ◌∙◌, subst, inl, ⊎_elim, arith, length-append}
 use Rattle.std.specs.Prelude.{◌⊎◌, slice_get, slice_set}
 use Rattle.std.proofs.lemmas.Option.{slice_get_within}
 use Rattle.std.proofs.lemmas.List.{length-set}
@@ -11,7 +11,7 @@ use Rattle.access_spread.specs.declared.spreading.Row.{Row}
 use Rattle.access_spread.specs.declared.spreading.Refusal.{Refusal}
 use Rattle.access_spread.specs.declared.spreading.State.{State}
 use Rattle.std.specs.Global.{Vec}
-use Rattle.access_spread.specs.Spreads.{index_in, value_in, AreStartsOf, CameBy, IsFrom, AreDerived, IsStanding, NoneStands, Fits, Grows, IsClash, IsOther, IsRefused, AreRefused, HasRefused, HasArrived}
+use Rattle.access_spread.specs.Spreads.{index_in, value_in, AreStartsOf, CameBy, IsFrom, AreDerived, IsStanding, NoneStands, Fits, Grows, IsClash, IsOther, IsRefused, AreFew, HasRefusal, most_refused, HasRefused, HasArrived}
 use Rattle.access_spread.proofs.Lists.{set_same, set_other, eq_or_not, get_front, get_last, get_push}
 
 module _ (g : Graph) (gates : List Gate) (starts : List Start) where
@@ -68,6 +68,25 @@ module _ (g : Graph) (gates : List Gate) (starts : List Start) where
     value = h.value;
   }
 
+  few_push : (refused : List Refusal) (c : Refusal) → AreFew starts refused → length refused < most_refused
+      → ((k : ℕ) (d : Refusal) → slice_get refused k ≡ Some d → d.row.array ≡ c.row.array → index_in starts d.row ≡ index_in starts c.row → ⊥) → AreFew starts (refused ++ c ∷ [])
+  few_push refused c few lt apart = record {
+    most = omega (arith, lt, length-append refused (c ∷ []));
+    single = λ i j d e p q array index.
+        ⊎_elim
+        (λ new.
+        ⊎_elim
+        (λ same. new.0 ∙ sym same.0)
+        (λ old. absurd (apart j e old (sym array ∙ ap (λ z. z.row.array) (sym new.1)) (sym index ∙ ap (λ z. index_in starts z.row) (sym new.1))))
+        (get_push refused c e j q))
+        (λ before.
+        ⊎_elim
+        (λ same. absurd (apart i d before (array ∙ ap (λ z. z.row.array) (sym same.1)) (index ∙ ap (λ z. index_in starts z.row) (sym same.1))))
+        (λ old. few.single i j d e before old array index)
+        (get_push refused c e j q))
+        (get_push refused c d i p);
+  }
+
   abbrev pub with_refused : State → Vec Refusal → State
   with_refused st v = record { rows = st.rows; refused = v; last = st.last; begun = st.begun; index = st.index }
 
@@ -85,8 +104,10 @@ module _ (g : Graph) (gates : List Gate) (starts : List Start) where
         value = other stands.1 stands.2;
       }
 
-  pub refused_push : (st : State) (v : Vec Refusal) (c : Refusal) → Fits g gates starts st → v.items ≡ st.refused.items ++ c ∷ [] → IsRefused g gates starts st.rows.items c → HasRefused g gates starts st (with_refused st v)
-  refused_push st v c fits e h = record {
+  pub refused_push : (st : State) (v : Vec Refusal) (c : Refusal) → Fits g gates starts st → v.items ≡ st.refused.items ++ c ∷ [] → IsRefused g gates starts st.rows.items c
+      → length st.refused.items < most_refused → ((k : ℕ) (d : Refusal) → slice_get st.refused.items k ≡ Some d → d.row.array ≡ c.row.array → index_in starts d.row ≡ index_in starts c.row → ⊥)
+      → HasRefused g gates starts st (with_refused st v) c.row
+  refused_push st v c fits e h lt apart = record {
     fits = record {
       count = fits.count;
       within = fits.within;
@@ -98,22 +119,20 @@ module _ (g : Graph) (gates : List Gate) (starts : List Start) where
       below = fits.below;
       present = fits.present;
       refused = λ k d q. ⊎_elim (λ n. subst (IsRefused g gates starts st.rows.items) n.1 h) (λ old. fits.refused k d old) (get_push st.refused.items c d k (ap (λ xs. slice_get xs k) (sym e) ∙ q));
+      few = subst (AreFew starts) (sym e) (few_push st.refused.items c fits.few lt apart);
     };
-    grows = record { rows = λ p r q. q; none = λ n. absurd (some n); begun = refl; index = refl };
-    some = some;
-  } where
-    some : v.items ≡ [] → ⊥
-    some n = no st.refused.items (sym e ∙ n) where
-      no : (xs : List Refusal) → xs ++ c ∷ [] ≡ [] → ⊥
-      no [] q = let z : ⊥ = cc in z
-      no (x ∷ xs) q = let z : ⊥ = cc in z
-
-  pub refused_before : (st : State) (k : ℕ) → Fits g gates starts st → k < length st.refused.items → HasRefused g gates starts st st
-  refused_before st k fits lt = record {
-    fits = fits;
-    grows = record { rows = λ p r q. q; none = λ n. n; begun = refl; index = refl };
-    some = λ n. let z : length st.refused.items ≡ 0 = ap length n in omega (arith, z, lt);
+    grows = record { rows = λ p r q. q; refusals = λ k d q. ap (λ xs. slice_get xs k) e ∙ get_front st.refused.items (c ∷ []) k d q; begun = refl; index = refl };
+    has = λ room. (length st.refused.items, c, ap (λ xs. slice_get xs (length st.refused.items)) e ∙ get_last st.refused.items c, refl, refl);
   }
+
+  same_refused : (st : State) → Grows st st
+  same_refused st = record { rows = λ p r q. q; refusals = λ k c q. q; begun = refl; index = refl }
+
+  pub refused_before : (st : State) (row : Row) → Fits g gates starts st → HasRefusal starts st.refused.items row.array (index_in starts row) → HasRefused g gates starts st st row
+  refused_before st row fits has = record { fits = fits; grows = same_refused st; has = λ room. has }
+
+  pub refused_full : (st : State) (row : Row) → Fits g gates starts st → most_refused ≤ length st.refused.items → HasRefused g gates starts st st row
+  refused_full st row fits full = record { fits = fits; grows = same_refused st; has = λ room. let z : ⊥ = omega (arith, room, full) in absurd z }
 
   module _ (st : State) (row : Row) (fits : Fits g gates starts st) (within : row.array < length g.fans.items) (start : row.start < length starts) (index : index_in starts row ≡ st.index) (from : IsFrom g gates starts st.rows.items (length st.rows.items) row) where
     pub stands_has : (p : ℕ) → IsStanding starts st row.array (index_in starts row) p → ((r : Row) → slice_get st.rows.items p ≡ Some r → value_in starts r ≡ value_in starts row) → HasArrived g gates starts st st row
@@ -122,8 +141,8 @@ module _ (g : Graph) (gates : List Gate) (starts : List Start) where
         let same : l.0 ≡ stands.1 = let x = l.1 in let y = stands.2 in cc in
         record {
           fits = fits;
-          grows = record { rows = λ q r e. e; none = λ n. n; begun = refl; index = refl };
-          has = λ n. (p, stands.1, stands.2, ap (λ r. r.array) (sym same) ∙ l.2, stands.3, eq stands.1 stands.2);
+          grows = same_refused st;
+          met = λ room. inl (p, stands.1, stands.2, ap (λ r. r.array) (sym same) ∙ l.2, stands.3, eq stands.1 stands.2);
         }
 
     module _ (new : State) (none : NoneStands starts st row.array (index_in starts row)) (rows : new.rows.items ≡ st.rows.items ++ row ∷ []) (last : new.last.items ≡ slice_set st.last.items row.array (Some (length st.rows.items))) (begun : new.begun ≡ st.begun) (now : new.index ≡ st.index) (refused : new.refused.items ≡ st.refused.items) where
@@ -207,11 +226,12 @@ module _ (g : Graph) (gates : List Gate) (starts : List Start) where
             (λ old. fits.present p r (omega (arith, le, begun)) old ∙ sym now)
             (cases p r e);
         refused = λ k c q. refused_grows st.rows.items new.rows.items old_at (let n : length new.rows.items ≡ length st.rows.items + 1 = ap length rows ∙ length-append st.rows.items (row ∷ []) in omega (arith, n)) c (fits.refused k c (ap (λ xs. slice_get xs k) (sym refused) ∙ q));
+        few = subst (AreFew starts) (sym refused) fits.few;
       }
 
       pub new_has : HasArrived g gates starts st new row
       new_has = record {
         fits = new_fits;
-        grows = record { rows = old_at; none = λ n. sym refused ∙ n; begun = begun; index = now };
-        has = λ n. (length st.rows.items, row, new_at, refl, refl, refl);
+        grows = record { rows = old_at; refusals = λ k c q. ap (λ xs. slice_get xs k) refused ∙ q; begun = begun; index = now };
+        met = λ room. inl (length st.rows.items, row, new_at, refl, refl, refl);
       }

@@ -1,5 +1,5 @@
 -- Lists, one element more.
-use Rattle.std.proofs.Common.{◌≡◌, ℕ, zero, suc, ◌<◌, List, [], ◌∷◌, ◌++◌, length, Some, refl, ap, inl, inr, ⊎_elim, arith}
+use Rattle.std.proofs.Common.{◌≡◌, ℕ, zero, suc, ◌<◌, ◌≤◌, List, [], ◌∷◌, ◌++◌, length, Some, refl, ap, inl, inr, ⊎_elim, arith}
 use Rattle.std.specs.Prelude.{◌⊎◌, slice_get, slice_set}
 use Rattle.std.proofs.lemmas.Bool.{cases_lt}
 
@@ -32,3 +32,8 @@ get_push [] x y zero e = inl (refl, cc)
 get_push [] x y (suc i) e = let f : ⊥ = cc in absurd f
 get_push (z ∷ xs) x y zero e = inr e
 get_push (z ∷ xs) x y (suc i) e = ⊎_elim (λ h. inl (ap suc h.0, h.1)) (λ h. inr h) (get_push xs x y i e)
+
+pub longer : {A : Type 0} (xs ys : List A) → ((i : ℕ) (x : A) → slice_get xs i ≡ Some x → slice_get ys i ≡ Some x) → length xs ≤ length ys
+longer [] ys h = omega arith
+longer (x ∷ xs) [] h = let e : slice_get [] zero ≡ Some x = h zero x refl in let f : ⊥ = cc in absurd f
+longer (x ∷ xs) (y ∷ ys) h = let k = longer xs ys (λ i z e. h (suc i) z e) in omega (arith, k)

@@ -4,6 +4,8 @@ use Rattle.access_spread.specs.declared.graph.Edge.{Edge}
 use Rattle.access_spread.specs.declared.graph.Gate.{Gate}
 use Rattle.access_spread.specs.declared.graph.Gate.TheVariants as gate
 use Rattle.access_spread.specs.declared.graph.Graph.{Graph}
+use Rattle.access_spread.specs.declared.lane.Lane.{Lane}
+use Rattle.access_spread.specs.declared.lane.Lane.TheVariants as lane
 
 -- an access of this index passes
 abbrev pub passes : Gate → ℕ → Bool
@@ -13,6 +15,16 @@ passes (gate.Except j) k = not (k == j)
 
 abbrev pub gate_at : List Gate → ℕ → Gate
 gate_at gates n = slice_index_or gates n gate.Open
+
+-- an access takes an edge of this lane, if it is wide or is not
+abbrev pub lane_takes : Lane → Bool → Bool
+lane_takes lane.Open wide = true
+lane_takes lane.Wide wide = wide
+lane_takes lane.Shut wide = false
+
+-- an access takes an edge, by the lanes of the edges; one that has none is taken by all
+abbrev pub takes : List Lane → ℕ → Bool → Bool
+takes lanes j wide = lane_takes (slice_index_or lanes j lane.Open) wide
 
 -- edges are between the arrays, and the fan of each array has the places of its edges and no others
 pub record IsGraph (g : Graph) : Type 0 where

@@ -1,5 +1,5 @@
 -- Rows of accesses, and when they are all.
-use Rattle.std.specs.Prelude.{◌≡◌, ◌≤◌, ◌<◌, ◌+◌, ℕ, true, false, List, [], length, Option, Some, None, slice_get, slice_index_or}
+use Rattle.std.specs.Prelude.{◌≡◌, ◌⊎◌, ◌≤◌, ◌<◌, ◌+◌, ℕ, true, false, List, [], length, Option, Some, None, slice_get, slice_index_or}
 use Rattle.access_spread.specs.declared.graph.Edge.{Edge}
 use Rattle.access_spread.specs.declared.graph.Gate.{Gate}
 use Rattle.access_spread.specs.declared.graph.Graph.{Graph}
@@ -9,7 +9,7 @@ use Rattle.access_spread.specs.declared.spreading.Link.{Link}
 use Rattle.access_spread.specs.declared.spreading.Row.{Row}
 use Rattle.access_spread.specs.declared.spreading.Refusal.{Refusal}
 use Rattle.access_spread.specs.declared.spreading.State.{State}
-use Rattle.access_spread.specs.Graphs.{passes, gate_at, IsTrail}
+use Rattle.access_spread.specs.Graphs.{passes, gate_at, IsTrail, takes}
 
 abbrev pub no_start : Start
 no_start = record { array = 0; index = 0; value = 0; wide = false }
@@ -79,6 +79,23 @@ pub record IsRefused (g : Graph) (gates : List Gate) (starts : List Start) (rows
 abbrev pub AreRefused : Graph → List Gate → List Start → List Row → List Refusal → Type 0
 AreRefused g gates starts rows refused = (k : ℕ) (c : Refusal) → slice_get refused k ≡ Some c → IsRefused g gates starts rows c
 
+-- a row that is refused at this array with an index of this number is kept
+abbrev pub HasRefusal : List Start → List Refusal → ℕ → ℕ → Type 0
+HasRefusal starts refused a k = (i : ℕ) × (c : Refusal) × (slice_get refused i ≡ Some c) × (c.row.array ≡ a) × (index_in starts c.row ≡ k)
+
+-- some row is at this array with an index and a value of these numbers, or one with this index is refused there
+abbrev pub IsMet : List Start → List Row → List Refusal → ℕ → ℕ → ℕ → Type 0
+IsMet starts rows refused a k x = HasRow starts rows a k x ⊎ HasRefusal starts refused a k
+
+-- refused rows that are kept at most
+abbrev pub most_refused : ℕ
+most_refused = 30
+
+-- at most so many, and no two at one array with one index
+pub record AreFew (starts : List Start) (refused : List Refusal) : Type 0 where
+  pub most : length refused ≤ most_refused
+  pub single : (i j : ℕ) (c d : Refusal) → slice_get refused i ≡ Some c → slice_get refused j ≡ Some d → c.row.array ≡ d.row.array → index_in starts c.row ≡ index_in starts d.row → i ≡ j
+
 -- no edge was left out and no row refused
 abbrev pub IsComplete : List Lane → List Refusal → Type 0
 IsComplete lanes refused = (lanes ≡ []) × (refused ≡ [])
@@ -96,11 +113,12 @@ pub record Fits (g : Graph) (gates : List Gate) (starts : List Start) (st : Stat
   pub below : (p : ℕ) (r : Row) → slice_get st.rows.items p ≡ Some r → index_in starts r ≤ st.index
   pub present : (p : ℕ) (r : Row) → st.begun ≤ p → slice_get st.rows.items p ≡ Some r → index_in starts r ≡ st.index
   pub refused : AreRefused g gates starts st.rows.items st.refused.items
+  pub few : AreFew starts st.refused.items
 
--- rows stay at their places, and a row that was refused stays so
+-- rows stay at their places, and so do those that are refused
 pub record Grows (old new : State) : Type 0 where
   pub rows : (p : ℕ) (r : Row) → slice_get old.rows.items p ≡ Some r → slice_get new.rows.items p ≡ Some r
-  pub none : new.refused.items ≡ [] → old.refused.items ≡ []
+  pub refusals : (k : ℕ) (c : Refusal) → slice_get old.refused.items k ≡ Some c → slice_get new.refused.items k ≡ Some c
   pub begun : new.begun ≡ old.begun
   pub index : new.index ≡ old.index
 
@@ -124,39 +142,49 @@ LeadOn g gates starts rows r =
     (j : ℕ) (e : Edge) → slice_get g.edges.items j ≡ Some e → e.from ≡ r.array → passes (gate_at gates e.gate) (index_in starts r) ≡ true
     → HasRow starts rows e.to (index_in starts r) (value_in starts r)
 
--- so it is with the rows before a place
-abbrev pub AreVisited : Graph → List Gate → List Start → List Row → ℕ → Type 0
-AreVisited g gates starts rows at = (p : ℕ) (r : Row) → p < at → slice_get rows p ≡ Some r → LeadOn g gates starts rows r
+-- each edge that the row takes and through which it passes leads to a row with its index and value, or to where one is refused
+abbrev pub Meets : Graph → List Gate → List Lane → List Start → List Row → List Refusal → Row → Type 0
+Meets g gates lanes starts rows refused r =
+    (j : ℕ) (e : Edge) → slice_get g.edges.items j ≡ Some e → e.from ≡ r.array → takes lanes j (start_at starts r.start).wide ≡ true → passes (gate_at gates e.gate) (index_in starts r) ≡ true
+    → IsMet starts rows refused e.to (index_in starts r) (value_in starts r)
 
--- a row was refused, and nothing else changed
-pub record HasRefused (g : Graph) (gates : List Gate) (starts : List Start) (old new : State) : Type 0 where
+-- so it is with the rows before a place
+abbrev pub AreVisited : Graph → List Gate → List Lane → List Start → List Row → List Refusal → ℕ → Type 0
+AreVisited g gates lanes starts rows refused at = (p : ℕ) (r : Row) → p < at → slice_get rows p ≡ Some r → Meets g gates lanes starts rows refused r
+
+-- fewer are refused than are kept at most
+abbrev pub IsRoomy : State → Type 0
+IsRoomy st = length st.refused.items < most_refused
+
+-- a row was refused, which is kept if there is room, and nothing else changed
+pub record HasRefused (g : Graph) (gates : List Gate) (starts : List Start) (old new : State) (row : Row) : Type 0 where
   pub fits : Fits g gates starts new
   pub grows : Grows old new
-  pub some : new.refused.items ≡ [] → ⊥
+  pub has : IsRoomy new → HasRefusal starts new.refused.items row.array (index_in starts row)
 
--- a row with the index and value of this one is at its array, or some row was refused; and what stood stands
+-- a row with the index and value of this one is at its array, or it was refused; and what stood stands
 pub record HasArrived (g : Graph) (gates : List Gate) (starts : List Start) (old new : State) (row : Row) : Type 0 where
   pub fits : Fits g gates starts new
   pub grows : Grows old new
-  pub has : new.refused.items ≡ [] → HasRow starts new.rows.items row.array (index_in starts row) (value_in starts row)
+  pub met : IsRoomy new → IsMet starts new.rows.items new.refused.items row.array (index_in starts row) (value_in starts row)
 
 pub record IsVisited (g : Graph) (gates : List Gate) (lanes : List Lane) (starts : List Start) (old new : State) (here : ℕ) : Type 0 where
   pub fits : Fits g gates starts new
   pub grows : Grows old new
-  pub leads : IsComplete lanes new.refused.items → (r : Row) → slice_get new.rows.items here ≡ Some r → LeadOn g gates starts new.rows.items r
+  pub meets : IsRoomy new → (r : Row) → slice_get new.rows.items here ≡ Some r → Meets g gates lanes starts new.rows.items new.refused.items r
 
 pub record IsDrained (g : Graph) (gates : List Gate) (lanes : List Lane) (starts : List Start) (old new : State) : Type 0 where
   pub fits : Fits g gates starts new
   pub grows : Grows old new
-  pub visited : IsComplete lanes new.refused.items → AreVisited g gates starts new.rows.items (length new.rows.items)
+  pub visited : IsRoomy new → AreVisited g gates lanes starts new.rows.items new.refused.items (length new.rows.items)
 
 pub record HasBegun (g : Graph) (gates : List Gate) (lanes : List Lane) (starts : List Start) (old new : State) (start : ℕ) : Type 0 where
   pub fits : Fits g gates starts new
   pub kept : (p : ℕ) (r : Row) → slice_get old.rows.items p ≡ Some r → slice_get new.rows.items p ≡ Some r
-  pub none : new.refused.items ≡ [] → old.refused.items ≡ []
-  pub visited : IsComplete lanes new.refused.items → AreVisited g gates starts new.rows.items (length new.rows.items)
+  pub refusals : (k : ℕ) (c : Refusal) → slice_get old.refused.items k ≡ Some c → slice_get new.refused.items k ≡ Some c
+  pub visited : IsRoomy new → AreVisited g gates lanes starts new.rows.items new.refused.items (length new.rows.items)
   pub index : new.index ≡ (start_at starts start).index
-  pub has : new.refused.items ≡ [] → HasRow starts new.rows.items (start_at starts start).array (start_at starts start).index (start_at starts start).value
+  pub met : IsRoomy new → IsMet starts new.rows.items new.refused.items (start_at starts start).array (start_at starts start).index (start_at starts start).value
 
 -- All starts have rows, the rows are closed under the edges through which they pass and came by them, and no two are at one array with
 -- one index.
@@ -167,10 +195,17 @@ pub record IsTable (g : Graph) (gates : List Gate) (starts : List Start) (rows :
   pub derived : AreDerived g gates starts rows
   pub started : AreStartsOf starts rows
 
--- Each row came from a start by edges, and so would each that is refused; and where no edge is left out by choice and no row is
--- refused, the rows are all.
+-- Each row came from a start by edges, and so would each that is refused, of which there are few; and where no edge is left out by
+-- choice and no row is refused, the rows are all.
 pub record IsSpread (g : Graph) (gates : List Gate) (lanes : List Lane) (starts : List Start) (rows : List Row) (refused : List Refusal) : Type 0 where
   pub derived : AreDerived g gates starts rows
   pub started : AreStartsOf starts rows
   pub refused_are : AreRefused g gates starts rows refused
+  pub few : AreFew starts refused
   pub table : IsComplete lanes refused → IsTable g gates starts rows
+
+-- Unless as many rows are refused as are kept at most, each start has a row, and so has each edge that a row takes and passes, or one
+-- is refused there.
+pub record AreTold (g : Graph) (gates : List Gate) (lanes : List Lane) (starts : List Start) (rows : List Row) (refused : List Refusal) : Type 0 where
+  pub starts_met : length refused < most_refused → (s : ℕ) → s < length starts → IsMet starts rows refused (start_at starts s).array (start_at starts s).index (start_at starts s).value
+  pub rows_met : length refused < most_refused → (p : ℕ) (r : Row) → slice_get rows p ≡ Some r → Meets g gates lanes starts rows refused r

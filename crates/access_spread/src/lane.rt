@@ -1,6 +1,7 @@
 // Edges that accesses leave out by choice.
 
-ghost use Rattle.std.specs.Prelude.{◌≡◌, [], true};
+ghost use Rattle.std.specs.Prelude.{◌≡◌};
+ghost use Rattle.access_spread.specs.Graphs.{takes};
 
 /// Which accesses take an edge, where its gate lets them pass.
 #[derive(Clone, Copy, Debug)]
@@ -13,9 +14,9 @@ pub enum Lane {
     Shut,
 }
 
-/// Whether an access takes an edge, by the lanes of the edges; where there are none, each takes all.
+/// Whether an access takes an edge, by the lanes of the edges; one that has none is taken by all.
 pub fn takes(lanes: &[Lane], edge: usize, wide: bool) -> bool
-    ensures { lanes.now ≡ [] → result ≡ true }
+    ensures { result ≡ takes lanes.now edge wide }
 {
     if edge >= lanes.len() {
         return true;

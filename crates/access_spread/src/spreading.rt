@@ -1,8 +1,8 @@
 // Accesses that spread over edges.
 
-ghost use Rattle.std.specs.Prelude.{◌≡◌, ◌<◌, ◌≤◌, ℕ, Some, None, true, false, length, slice_get, [], OnOk, MatchBool, MatchOption};
-ghost use Rattle.access_spread.specs.Graphs.{passes, gate_at, IsGraph, AreGated};
-ghost use Rattle.access_spread.specs.Spreads.{Fits, IsFrom, index_in, IsStanding, NoneStands, IsComplete, AreVisited, AreStartsOf, AreRising, IsSpread, start_at, HasArrived, IsVisited, IsDrained, HasBegun, IsOther, HasRefused};
+ghost use Rattle.std.specs.Prelude.{◌≡◌, ◌<◌, ◌≤◌, ◌&&◌, ℕ, Some, None, length, slice_get, [], OnOk, MatchBool, MatchOption};
+ghost use Rattle.access_spread.specs.Graphs.{passes, gate_at, takes, IsGraph, AreGated};
+ghost use Rattle.access_spread.specs.Spreads.{Fits, IsFrom, index_in, IsStanding, NoneStands, IsRoomy, AreVisited, AreStartsOf, AreRising, IsSpread, AreTold, start_at, HasArrived, IsVisited, IsDrained, HasBegun, IsOther, HasRefused, most_refused};
 
 use crate::graph::{Edge, Gate, Graph};
 use crate::lane::{Lane, takes};
@@ -11,8 +11,8 @@ use std::alloc::{AllocError, Global};
 /// Refused rows that are kept at most.
 const MOST: usize = 30;
 
-/// An access where it starts: an array, the number of its index, and the number of the value there; and whether it takes the
-/// edges that are for wide accesses.
+/// An access where it starts: an array, the number of its index, and the number of the value there;
+/// and whether it takes the edges that are for wide accesses.
 #[derive(Clone, Copy, Debug)]
 pub struct Start {
     pub array: usize,
@@ -36,15 +36,16 @@ pub struct Row {
     pub from: Option<Link>,
 }
 
-/// A row that is not put, since the one at this place is at its array with its index and another value.
+/// A row that is not put, since the one at this place is at its array with its index and another
+/// value.
 #[derive(Clone, Copy, Debug)]
 pub struct Refusal {
     pub row: Row,
     pub standing: usize,
 }
 
-/// What was met: the rows, those that were refused, and for each array the place of the last of its rows. It can be used again
-/// for other starts.
+/// What was met: the rows, those that were refused, and for each array the place of the last of its
+/// rows. It can be used again for other starts.
 #[derive(Drop)]
 pub struct State {
     pub rows: Vec<Row>,
@@ -112,7 +113,8 @@ fn standing(state: &State, starts: &[Start], array: usize, index: u128) -> Optio
 
 /// Whether no more refused rows are kept.
 fn is_full(state: &State) -> bool
-    ensures { state.now.refused.items ≡ [] → result ≡ false }
+    ensures { MatchBool result (most_refused ≤ length state.now.refused.items)
+        (IsRoomy state.now) }
 {
     state.refused.len() >= MOST
 }
@@ -120,11 +122,15 @@ fn is_full(state: &State) -> bool
 /// Whether a refused row is at an array with an index.
 fn is_at(starts: &[Start], refusal: &Refusal, array: usize, index: u128) -> bool
     requires { refusal.now.row.start < length starts.now }
+    ensures { MatchBool result
+        ((refusal.now.row.array ≡ array) × (index_in starts.now refusal.now.row ≡ index))
+        (refusal.now.row.array ≡ array → index_in starts.now refusal.now.row ≡ index → ⊥) }
 {
     refusal.row.array == array && starts[refusal.row.start].index == index
 }
 
-/// Keeps a refused row, unless one of the same array and index is kept.
+/// Keeps a refused row, unless one of the same array and index is kept, or as many as are kept at
+/// most.
 fn refuse(
     state: &mut State,
     graph: &Graph,
@@ -139,10 +145,11 @@ fn refuse(
         (length state.old.rows.items) row }
     requires stands { IsStanding starts.now state.old row.array (index_in starts.now row) standing }
     requires other { IsOther starts.now state.old.rows.items standing row }
-    ensures { OnOk result (HasRefused graph.now gates.now starts.now state.old state.new) }
+    ensures { OnOk result (HasRefused graph.now gates.now starts.now state.old state.new row) }
 {
-    let _graph = graph;
-    let _gates = gates;
+    if is_full(state) {
+        return Ok(());
+    }
     let index = starts[row.start].index;
     for refusal in &state.refused {
         if is_at(starts, refusal, row.array, index) {
@@ -185,8 +192,8 @@ fn arrive(
 /// Whether an access of a start takes an edge and passes its gate.
 fn goes_over(gates: &[Gate], lanes: &[Lane], start: Start, place: usize, edge: Edge) -> bool
     requires { edge.gate < length gates.now }
-    ensures { MatchBool result (passes (gate_at gates.now edge.gate) start.index ≡ true)
-        (lanes.now ≡ [] → passes (gate_at gates.now edge.gate) start.index ≡ false) }
+    ensures { result ≡ (takes lanes.now place start.wide
+        && passes (gate_at gates.now edge.gate) start.index) }
 {
     takes(lanes, place, start.wide) && gates[edge.gate].passes(start.index)
 }
@@ -238,8 +245,9 @@ fn drain(
     requires graph { IsGraph graph.now }
     requires gated { AreGated graph.now gates.now }
     requires fits { Fits graph.now gates.now starts.now state.old }
-    requires visited { IsComplete lanes.now state.old.refused.items
-        → AreVisited graph.now gates.now starts.now state.old.rows.items state.old.begun }
+    requires visited { IsRoomy state.old
+        → AreVisited graph.now gates.now lanes.now starts.now state.old.rows.items
+        state.old.refused.items state.old.begun }
     requires begun { state.old.begun ≤ length state.old.rows.items }
     ensures { OnOk result
         (IsDrained graph.now gates.now lanes.now starts.now state.old state.new) }
@@ -268,9 +276,9 @@ fn begin(
     requires start { start < length starts.now }
     requires within { (start_at starts.now start).array < length graph.now.fans.items }
     requires later { state.old.index ≤ (start_at starts.now start).index }
-    requires visited { IsComplete lanes.now state.old.refused.items
-        → AreVisited graph.now gates.now starts.now state.old.rows.items
-        (length state.old.rows.items) }
+    requires visited { IsRoomy state.old
+        → AreVisited graph.now gates.now lanes.now starts.now state.old.rows.items
+        state.old.refused.items (length state.old.rows.items) }
     ensures { OnOk result
         (HasBegun graph.now gates.now lanes.now starts.now state.old state.new start) }
 {
@@ -286,8 +294,9 @@ fn begin(
     Ok(())
 }
 
-/// The rows of all starts, which rise by their indexes, and those that are refused, one of each array and index. Where so many
-/// are refused that no more are kept, it stops. Edges without a lane are taken by all.
+/// The rows of all starts, which rise by their indexes, and those that are refused, one of each
+/// array and index and at most 30. Where so many are refused, it stops. Edges without a lane are
+/// taken by all.
 pub fn spread(
     state: &mut State,
     graph: &Graph,
@@ -300,8 +309,11 @@ pub fn spread(
     requires within { (s : ℕ) → s < length starts.now
         → (start_at starts.now s).array < length graph.now.fans.items }
     requires rising { AreRising starts.now }
-    ensures { OnOk result
+    ensures spread { OnOk result
         (IsSpread graph.now gates.now lanes.now starts.now state.new.rows.items
+        state.new.refused.items) }
+    ensures told { OnOk result
+        (AreTold graph.now gates.now lanes.now starts.now state.new.rows.items
         state.new.refused.items) }
 {
     state.reset(graph.fans.len())?;

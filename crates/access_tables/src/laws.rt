@@ -11,8 +11,9 @@ ghost use Rattle.access_tables.specs.Encoded.{HaveBits, AreSatisfied};
 ghost use Rattle.access_tables.specs.Held.{TableValue, IsClosedUnder};
 ghost use Rattle.access_tables.specs.Modeled.{IsFrom, IsModel};
 
-/// In an interpretation that has the values of an assignment for declared constants and applications, and the arrays of a
-/// table that is closed under it, every term without a witness has the assignment's value, or the table's words.
+/// In an interpretation that has the values of an assignment for declared constants and
+/// applications, and the arrays of a table that is closed under it, every term without a witness
+/// has the assignment's value, or the table's words.
 pub fn closed_tables_give_models()
     ensures { (nodes : List Node) (bits : List TermBits) (f : ℕ → Bool) (table : TableValue)
         (M : Interpretation)

@@ -12,8 +12,8 @@ use term_reach::Next;
 use theory_lemmas::atoms::watch;
 use theory_terms::shape::{Shape, shape_at};
 
-/// A term with an image leads to it alone. Any other leads to its arguments, and an equality of arrays to the selects of its
-/// sides at their witness too.
+/// A term with an image leads to it alone. Any other leads to its arguments, and an equality of
+/// arrays to the selects of its sides at their witness too.
 #[derive(Drop)]
 pub struct Links<'a> {
     bits: &'a Bits,

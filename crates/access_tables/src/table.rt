@@ -8,7 +8,8 @@ use smt_words::Word;
 use std::marker::Model;
 use theory_terms::atom::Landing;
 
-/// The terms that some terms reach, accesses of the arrays among them, and the spare index of each width that has one.
+/// The terms that some terms reach, accesses of the arrays among them, and the spare index of each
+/// width that has one.
 #[derive(Debug, Drop)]
 pub struct AccessTable {
     terms: Vec<TermId>,

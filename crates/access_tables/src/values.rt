@@ -38,7 +38,6 @@ pub fn truth_of(terms: &Terms, bits: &Bits, assignment: &Assignment, term: TermI
     ensures { result
         ≡ is_true (assigned_value terms.now.nodes bits.now (assigned assignment.now) term) }
 {
-    let _terms = terms;
     let row = bits.of(term).unwrap();
     assignment.value(row[0])
 }

@@ -1,5 +1,5 @@
 -- The terms of a lemma of two rows have bits, and the lemma is false.
-use Rattle.std.proofs.Common.{◌≡◌, ℕ, ◌+◌, ◌<◌, Bool, true, List, [], ◌∷◌, ◌++◌, length, map, Option, Some, None, refl, sym, ap, ◌∙◌, subst, arith, length-append}
+use Rattle.std.proofs.Common.{◌≡◌, ℕ, ◌+◌, ◌<◌, Bool, List, [], ◌∷◌, ◌++◌, length, Some, None, refl, sym, ap, ◌∙◌, subst, arith, length-append}
 use Rattle.std.specs.Prelude.{if◌then◌else◌, slice_get, slice_index_or, Contains}
 use Rattle.std.specs.List.{AllByRecursion}
 use Rattle.std.proofs.lemmas.Bool.{eq-eqb}
@@ -8,7 +8,7 @@ use Rattle.smt_terms.specs.declared.node.Node.{Node}
 use Rattle.smt_terms.specs.Bits.{TermBits, image_in}
 use Rattle.smt_terms.specs.Terms.{sort_of}
 use Rattle.smt_terms.specs.Ranks.{index_sort}
-use Rattle.theory_terms.specs.declared.lemma.Move.{Move}
+use Rattle.smt_terms.specs.Values.{number_of}
 use Rattle.theory_terms.specs.declared.lemma.Access.{Access}
 use Rattle.theory_terms.specs.declared.lemma.Lemma.{Lemma}
 use Rattle.theory_terms.specs.declared.lemma.Lemma.TheVariants.{Arrays}
@@ -22,8 +22,9 @@ use Rattle.access_spread.specs.declared.spreading.Refusal.{Refusal}
 use Rattle.access_spread.specs.declared.spreading.Row.{Row}
 use Rattle.access_spread.specs.declared.spreading.Start.{Start}
 use Rattle.access_spread.specs.Graphs.{IsTrail}
-use Rattle.access_spread.specs.Spreads.{start_at, index_in, AreDerived, AreStartsOf, IsClash, IsRefused, IsWayOf}
+use Rattle.access_spread.specs.Spreads.{start_at, index_in, AreDerived, AreStartsOf, IsClash, IsRefused}
 use Rattle.access_spread.proofs.Arriving.{refused_clash}
+use Rattle.access_spread.proofs.Lists.{get_front}
 use Rattle.access_tables.specs.Held.{HasRow, IsAccess, assigned_value}
 use Rattle.access_walk.specs.declared.guard.Guard.{Guard}
 use Rattle.access_walk.specs.declared.guard.Guard.TheVariants.{Differs, Holds, Fails}
@@ -31,13 +32,13 @@ use Rattle.access_walk.specs.declared.network.Network.{Network}
 use Rattle.access_walk.specs.declared.values.Entry.{Entry}
 use Rattle.access_walk.specs.Maps.{HasIndex, unless_of}
 use Rattle.access_walk.specs.Networks.{IsAccessOf, landing_at, no_landing, no_move, moves_at}
-use Rattle.access_walk.specs.Spread.{IsAccessAt, IsClashLemma}
+use Rattle.access_walk.specs.Spread.{IsAccessAt, IsClashLemma, IsClashAt}
 use Rattle.access_walk.specs.Valued.{IsGuarded}
-use Rattle.access_walk.specs.Valuing.{IsNetworkOf, AreValues, landings_in, origins_in, starts_in}
+use Rattle.access_walk.specs.Valuing.{IsNetworkOf, AreValues, landings_in, origins_in}
 use Rattle.access_walk.specs.Walked.{IsEncodedAtom, IsFalseLemma}
 use Rattle.access_walk.proofs.Clashing.{clash_false}
 use Rattle.access_walk.proofs.Closing.{read_is}
-use Rattle.access_walk.proofs.Lists.{place_of, read, some_at, within, one_of, mapped, map_long, same_at}
+use Rattle.access_walk.proofs.Lists.{place_of, read, some_at, one_of, mapped, map_long, same_at}
 
 all_append : {A : Type 0} (P : A → Type 0) (xs ys : List A) → AllByRecursion P xs → AllByRecursion P ys → AllByRecursion P (xs ++ ys)
 all_append P [] ys p q = q
@@ -136,6 +137,7 @@ module _ (nodes : List Node) (bits : List TermBits) (terms : List ℕ) (n : Netw
       landing : landing_at (landings_in entries) s ≡ entry.landing
       starts_at : landing_of nodes entry.origin ≡ Some entry.landing
       array : slice_get terms (start_at starts s).array ≡ Some entry.landing.array
+      index : (start_at starts s).index ≡ number_of (assigned_value nodes bits f entry.landing.index)
       access : IsAccess nodes bits terms entry.landing
 
     pub entries_long : length entries ≡ length starts
@@ -152,6 +154,7 @@ module _ (nodes : List Node) (bits : List TermBits) (terms : List ℕ) (n : Netw
           landing = read (landings_in entries) s e.landing no_landing l;
           starts_at = ap (landing_of nodes) (sym same) ∙ h.2.starts;
           array = h.2.array;
+          index = h.2.index;
           access = vals.accesses e (place_of entries s e q);
         }
 
@@ -193,3 +196,25 @@ module _ (nodes : List Node) (bits : List TermBits) (terms : List ℕ) (n : Netw
         let long : length (rows ++ c.row ∷ []) ≡ length rows + 1 = omega (arith, length-append rows (c.row ∷ [])) in
         subst (IsFalseLemma nodes bits f) (sym h.is)
         (clash_lemma d (rows ++ c.row ∷ []) clash.derived clash.started c.standing (length rows) h.left h.right clash long h.at_left h.at_right)
+
+    -- the lemma is at the array and the index of the refused row
+    pub clash_at : (d : Entry) (rows : List Row) → AreDerived n.graph gates starts rows → AreStartsOf starts rows → (c : Refusal) (l : Lemma) → IsRefused n.graph gates starts rows c → IsClashLemma n entries gates starts rows c l
+        → (t : ℕ) × (slice_get terms c.row.array ≡ Some t) × IsClashAt nodes (assigned_value nodes bits f) l t (index_in starts c.row)
+    clash_at d rows derived started c l refused h =
+        let clash = refused_clash n.graph gates starts rows c derived started refused in
+        let all : List Row = rows ++ c.row ∷ [] in
+        let at_left : slice_get all c.standing ≡ Some refused.left = get_front rows (c.row ∷ []) c.standing refused.left refused.at_left in
+        let b = begins refused.left.start d (clash.started c.standing refused.left at_left) in
+        let lands : Lands b.entry.landing refused.left.array h.left = row_lands d all clash.derived clash.started c.standing refused.left h.left at_left h.at_left in (
+          lands.arrival.landing.array,
+          ap (slice_get terms) (sym refused.array) ∙ lands.to,
+          record {
+            left = h.left;
+            right = h.right;
+            is = h.is;
+            arrival = lands.arrival;
+            comes = lands.is;
+            array = refl;
+            index = ap (λ i. number_of (assigned_value nodes bits f i)) lands.index ∙ sym b.index ∙ refused.index;
+          },
+        )

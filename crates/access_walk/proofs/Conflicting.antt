@@ -1,6 +1,6 @@
 -- What is walkable over reached terms, and lemmas behind others.
-use Rattle.std.proofs.Common.{◌≡◌, ℕ, ◌<◌, Bool, false, List, [], ◌∷◌, ◌++◌, length, None, Some, refl, sym, ap, ◌∙◌, subst, inl, inr, ⊎_elim, arith}
-use Rattle.std.specs.Prelude.{◌⊎◌, Contains}
+use Rattle.std.proofs.Common.{◌≡◌, ℕ, Bool, List, [], ◌∷◌, ◌++◌, length, Some, refl, sym, subst, inl, inr, ⊎_elim, arith}
+use Rattle.std.specs.Prelude.{Contains, slice_get}
 use Rattle.std.proofs.lemmas.List.Elements.{Contains-append_left, Contains-append_right, Contains-append_cases}
 use Rattle.smt_terms.specs.declared.sort.Sort.TheVariants as sort
 use Rattle.smt_terms.specs.declared.node.Node.{Node}
@@ -16,15 +16,12 @@ use Rattle.access_tables.specs.Leading.{leads}
 use Rattle.access_tables.specs.Encoded.{HaveBits}
 use Rattle.access_tables.specs.Held.{assigned_value}
 use Rattle.access_tables.specs.Ready.{IsOwn}
-use Rattle.access_walk.specs.declared.walking.Conflicts.{Conflicts}
-use Rattle.access_walk.specs.declared.spreading.Clashes.{Clashes}
 use Rattle.access_walk.specs.Networks.{AreApart, AreCongruent}
 use Rattle.access_walk.specs.Walked.{IsWalkable, HasHeldWords, IsFalseLemma}
-use Rattle.access_walk.specs.Watched.{HaveWatches, AreApartAt, AreWitnessConflicts}
-use Rattle.access_walk.specs.Congruent.{AreAlike, HasConflict, AreCongruenceConflicts}
-use Rattle.access_walk.specs.Spread.{AreEncodedLemmas}
-use Rattle.access_walk.specs.Searched.{AreAllConflicts, AreConflicts}
-use Rattle.access_walk.proofs.Lists.{not_nil}
+use Rattle.access_walk.specs.Watched.{HaveWatches, AreWitnessConflicts}
+use Rattle.access_walk.specs.Congruent.{HasConflict, AreCongruenceConflicts}
+use Rattle.access_walk.specs.Searched.{AreAllConflicts, IsNoClash, AreNoClashes, HaveFewClashes}
+use Rattle.access_walk.proofs.Lists.{append_nil, not_nil}
 
 -- ---- conditions
 
@@ -73,6 +70,11 @@ module _ (nodes : List Node) (bits : List TermBits) (f : ℕ → Bool) (Here : �
     apart = λ t x y n m own shape sides denied. ⊎_elim (λ p. inl p) (λ c. inr (Contains-append_left old more (Witness t) c)) (a.apart t x y n m own shape sides denied);
   })
 
+  -- neither kind is on accesses
+  pub no_clashes : (old more new : List Lemma) → new ≡ old ++ more → AreCongruenceConflicts nodes bits f Here old → AreWitnessConflicts nodes bits f Here more → AreNoClashes new
+  no_clashes old more new e a b = subst AreNoClashes (sym e)
+      (λ l c. ⊎_elim (λ h. subst IsNoClash (sym (a.each l h).is) tt) (λ h. subst IsNoClash (sym (b.each l h).is) tt) (Contains-append_cases old more l c))
+
   -- where there is no lemma, applications are congruent and arrays that are said to differ do
   pub congruent_where_none : (lemmas : List Lemma) → lemmas ≡ [] → AreAllConflicts nodes bits f Here lemmas → AreCongruent nodes (image_in bits) Here (assigned_value nodes bits f)
   congruent_where_none lemmas none h t u d own other shape like args =
@@ -87,3 +89,19 @@ module _ (nodes : List Node) (bits : List TermBits) (f : ℕ → Bool) (Here : �
 pub none_of : (lemmas : List Lemma) → length lemmas ≡ 0 → lemmas ≡ []
 none_of [] e = refl
 none_of (l ∷ ls) e = absurd (omega (arith, e))
+
+-- no clash at all
+pub no_clash_is_few : (nodes : List Node) (bits : List TermBits) (f : ℕ → Bool) (lemmas : List Lemma) → AreNoClashes lemmas → HaveFewClashes nodes bits f lemmas
+no_clash_is_few nodes bits f lemmas none = record {
+  others = lemmas;
+  clashes = [];
+  are = sym (append_nil lemmas);
+  others_are = none;
+  few = record {
+    most = omega arith;
+    each = λ l c. absurd (not_nil l c);
+    single = λ i j l m a k p q u v. absurd (nothing i l p);
+  };
+} where
+  nothing : (i : ℕ) (l : Lemma) → slice_get [] i ≡ Some l → ⊥
+  nothing i l p = let z : ⊥ = cc in z

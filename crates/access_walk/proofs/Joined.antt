@@ -142,6 +142,8 @@ module _ (nodes : List Node) (bits : List TermBits) (f : ℕ → Bool) (Here : �
 
   pub conflict : (w : Watched) → IsWatched nodes bits Here w → IsJoined (assigned_value nodes bits f) w → IsWitnessConflict nodes bits f Here (Witness w.equality)
   conflict w h joined = record {
+    equality = w.equality;
+    is = refl;
     falses = record {
       atoms = Holds w.equality ∷ Differ w.watch.left w.watch.right ∷ [];
       are = ap (witness_atoms nodes w.equality) h.shape ∙ ap (watch_atoms w.equality) h.is;

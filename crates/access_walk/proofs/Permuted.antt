@@ -17,10 +17,9 @@ use Rattle.theory_terms.specs.Lemmas.{landing_of}
 use Rattle.access_spread.specs.declared.graph.Gate.{Gate}
 use Rattle.access_spread.specs.declared.spreading.Start.{Start}
 use Rattle.access_spread.specs.Graphs.{AreGated}
-use Rattle.access_spread.specs.Spreads.{AreRising, no_start, start_at}
+use Rattle.access_spread.specs.Spreads.{no_start, start_at}
 use Rattle.access_tables.specs.Ready.{IsOwn}
 use Rattle.access_tables.specs.Held.{HasRow, IsAccess, assigned_value}
-use Rattle.access_walk.specs.declared.guard.Guard.{Guard}
 use Rattle.access_walk.specs.declared.guard.Guard.TheVariants.{Differs}
 use Rattle.access_walk.specs.declared.network.Network.{Network}
 use Rattle.access_walk.specs.declared.values.Entry.{Entry}

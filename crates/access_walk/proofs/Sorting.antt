@@ -1,6 +1,6 @@
 -- Lists that are sorted by a number first.
 use Rattle.std.proofs.Common.{Ordering, Less, ◌≡◌, ℕ, ◌+◌, ◌≤◌, Bool, true, false, List, refl, sym, ap, ◌∙◌, arith}
-use Rattle.std.specs.Prelude.{◌==◌, nat_lt, slice_index_or}
+use Rattle.std.specs.Prelude.{nat_lt, slice_index_or}
 use Rattle.std.specs.Ordering.{is_lt, nat_cmp, ordering_then}
 use Rattle.std.specs.List.Sorted.{IsSortedByKey, IsNonDecreasingBy}
 use Rattle.std.proofs.lemmas.Bool.{ltb-false}

@@ -4,13 +4,12 @@ use Rattle.std.specs.Prelude.{slice_get, slice_index_or, Contains}
 use Rattle.std.proofs.lemmas.Option.{slice_get_within}
 use Rattle.smt_terms.specs.declared.node.Node.{Node}
 use Rattle.smt_terms.specs.Bits.{TermBits, image_in}
-use Rattle.smt_terms.specs.Terms.{sort_of}
 use Rattle.theory_terms.specs.declared.atom.Landing.{Landing}
 use Rattle.access_spread.specs.declared.graph.Gate.{Gate}
 use Rattle.access_spread.specs.declared.spreading.Refusal.{Refusal}
 use Rattle.access_spread.specs.declared.spreading.Row.{Row}
 use Rattle.access_spread.specs.declared.spreading.Start.{Start}
-use Rattle.access_spread.specs.Spreads.{AreDerived, AreStartsOf, IsTable, IsSpread}
+use Rattle.access_spread.specs.Spreads.{index_in, AreDerived, AreStartsOf, IsTable, IsSpread}
 use Rattle.access_tables.specs.Held.{IsAccess, assigned_value}
 use Rattle.access_walk.specs.declared.network.Network.{Network}
 use Rattle.access_walk.specs.declared.values.Entry.{Entry}
@@ -19,11 +18,14 @@ use Rattle.access_walk.specs.Rows.{AreClosedRows}
 use Rattle.access_walk.specs.Valuing.{AreValues, landings_in, origins_in}
 use Rattle.access_walk.proofs.Closing.{row_mapped, stands, closed}
 use Rattle.access_walk.proofs.Lists.{place_of, at_place, read, some_at, within, mapped}
-use Rattle.access_walk.proofs.Clashed.{entries_long, refused_false}
+use Rattle.access_walk.proofs.Clashed.{entries_long, refused_false, clash_at}
 use Rattle.access_walk.proofs.Permuted.{no_entry}
-use Rattle.access_walk.specs.Spread.{AreClashLemmas}
+use Rattle.access_walk.specs.Spread.{AreClashLemmas, IsClashAt, AreFewClashes}
 use Rattle.access_walk.specs.Walked.{IsFalseLemma}
 use Rattle.theory_terms.specs.declared.lemma.Lemma.{Lemma}
+use Rattle.theory_terms.specs.declared.lemma.Lemma.TheVariants.{Arrays}
+use Rattle.theory_terms.specs.Lemmas.{arrival_of}
+use Rattle.smt_terms.specs.Values.{Value, number_of}
 use Rattle.access_walk.specs.Valuing.{IsNetworkOf}
 
 -- what stands past the end
@@ -66,6 +68,15 @@ module _ (nodes : List Node) (bits : List TermBits) (terms : List ℕ) (n : Netw
     closed = λ congruent apart. closed nodes (image_in bits) (Contains terms) (assigned_value nodes bits f) terms n.moves.items (origins_in entries) (landings_in entries) n.graph gates starts vals.network rows derived started table congruent apart;
   }
 
+-- a lemma is at one array and one index number
+one_clash : (nodes : List Node) (val : ℕ → Value) (l : Lemma) (a k b m : ℕ) → IsClashAt nodes val l a k → IsClashAt nodes val l b m → (a ≡ b) × (k ≡ m)
+one_clash nodes val l a k b m u v =
+    let lemmas : Arrays u.left u.right ≡ Arrays v.left v.right = sym u.is ∙ v.is in
+    let lefts : u.left ≡ v.left = cc in
+    let arrivals : Some u.arrival ≡ Some v.arrival = sym u.comes ∙ ap (arrival_of nodes) lefts ∙ v.comes in
+    let same : u.arrival ≡ v.arrival = cc in
+    (sym u.array ∙ ap (λ x. x.landing.array) same ∙ v.array, sym u.index ∙ ap (λ x. number_of (val x.landing.index)) same ∙ v.index)
+
 module _ (nodes : List Node) (bits : List TermBits) (terms : List ℕ) (n : Network) (net : IsNetworkOf nodes bits terms n) (f : ℕ → Bool) (entries : List Entry) (gates : List Gate) (starts : List Start) (vals : AreValues nodes bits f terms n entries gates starts)
     (rows : List Row) (refused : List Refusal) (spread : IsSpread n.graph gates [] starts rows refused) where
   -- where none is refused
@@ -87,3 +98,26 @@ module _ (nodes : List Node) (bits : List TermBits) (terms : List ℕ) (n : Netw
 
   pub lemmas_some : (lemmas : List Lemma) → (length refused ≡ 0 → ⊥) → AreClashLemmas n entries gates starts rows refused lemmas → length lemmas ≡ 0 → ⊥
   lemmas_some lemmas some are none = some (sym are.count ∙ none)
+
+  -- each lemma is at its refused row
+  refusal_at : (lemmas : List Lemma) → AreClashLemmas n entries gates starts rows refused lemmas → (i : ℕ) (l : Lemma) → slice_get lemmas i ≡ Some l
+      → (c : Refusal) × (slice_get refused i ≡ Some c) × (t : ℕ) × (slice_get terms c.row.array ≡ Some t) × IsClashAt nodes (assigned_value nodes bits f) l t (index_in starts c.row)
+  refusal_at lemmas are i l p =
+      let lt : i < length refused = let w = within lemmas i l p in let q = are.count in omega (arith, w, q) in
+      let c = slice_index_or refused i no_refusal in
+      let q : slice_get refused i ≡ Some c = some_at refused i no_refusal lt in
+      let h = clash_at nodes bits terms n net f entries gates starts vals no_entry rows spread.derived spread.started c l (spread.refused_are i c q) (are.each i c l q p) in
+      (c, q, h.0, h.1, h.2)
+
+  pub lemmas_few : (lemmas : List Lemma) → AreClashLemmas n entries gates starts rows refused lemmas → AreFewClashes nodes (assigned_value nodes bits f) lemmas
+  lemmas_few lemmas are = record {
+    most = omega (arith, are.count, spread.few.most);
+    each = λ l c. let at = at_place lemmas l c in let h = refusal_at lemmas are at.0 l at.1 in (h.2, index_in starts h.0.row, h.4);
+    single = λ i j l m a k p q u v.
+        let x = refusal_at lemmas are i l p in
+        let y = refusal_at lemmas are j m q in
+        let ux = one_clash nodes (assigned_value nodes bits f) l a k x.2 (index_in starts x.0.row) u x.4 in
+        let vy = one_clash nodes (assigned_value nodes bits f) m a k y.2 (index_in starts y.0.row) v y.4 in
+        let arrays = vals.network.numbers x.0.row.array y.0.row.array a (x.3 ∙ ap Some (sym ux.0)) (y.3 ∙ ap Some (sym vy.0)) in
+        spread.few.single i j x.0 y.0 x.1 y.1 arrays (sym ux.1 ∙ vy.1);
+  }

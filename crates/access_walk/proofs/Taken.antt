@@ -1,30 +1,27 @@
 -- The numbers of indexes, and the spare ones.
 use Rattle.std.proofs.Common.{◌≡◌, ℕ, zero, suc, ◌+◌, ◌<◌, ◌≤◌, ◌^◌, Bool, true, false, List, [], ◌∷◌, ◌++◌, length, Option, Some, None, refl, sym, ap, ◌∙◌, subst, inl, inr, ⊎_elim, arith}
 use Rattle.std.specs.Prelude.{◌⊎◌, ◌==◌, ◌↔◌, slice_get, if◌then◌else◌, Contains, IsPermutation, IsSome, IfSome, MatchOption, option_to_list}
-use Rattle.std.proofs.lemmas.Bool.{cases_lt, eqb-true, eqb-false, eq-eqb}
+use Rattle.std.proofs.lemmas.Bool.{cases_lt, eqb-true, eqb-false}
 use Rattle.std.proofs.lemmas.List.Sorted.{Contains-permutation, IsPermutation-sym}
 use Rattle.smt_words.specs.Words.{WordValue, IsWord, word}
-use Rattle.smt_terms.specs.declared.sort.Sort.{Sort}
 use Rattle.smt_terms.specs.declared.sort.Sort.TheVariants as sort
 use Rattle.smt_terms.specs.declared.node.Node.{Node}
 use Rattle.smt_terms.specs.Bits.{TermBits, image_in}
 use Rattle.smt_terms.specs.Nodes.{node_at}
-use Rattle.smt_terms.specs.Ranks.{is_word}
 use Rattle.smt_terms.specs.Terms.{sort_of, IsTermList, IsSort}
 use Rattle.smt_terms.proofs.Widths.{sort_bounded}
 use Rattle.smt_terms.specs.Values.{Value, number_of}
 use Rattle.theory_terms.specs.declared.shape.Shape.{Shape}
 use Rattle.theory_terms.specs.declared.shape.Shape.TheVariants.{Selecting, Storing, Filling, Choosing, Equating, Witnessing, Applying, Declaring, Other}
 use Rattle.theory_terms.specs.declared.atom.Landing.{Landing}
-use Rattle.theory_terms.specs.Shapes.{IsPlain, shape_at}
+use Rattle.theory_terms.specs.Shapes.{shape_at}
 use Rattle.theory_terms.specs.Lemmas.{start_of}
 use Rattle.std.proofs.lemmas.List.Elements.{Contains-append_left}
 use Rattle.term_reach.specs.Reach.{IsClosed}
 use Rattle.access_tables.specs.Leading.{leads, leads_by, watched}
 use Rattle.access_tables.specs.Encoded.{HaveBits}
-use Rattle.access_tables.specs.Ready.{IsOwn}
 use Rattle.access_tables.specs.Tables.{IsTaken, IsSpare, IsSpareOf, AreSpare}
-use Rattle.access_tables.specs.Held.{HasRow, spare_in, assigned_value}
+use Rattle.access_tables.specs.Held.{spare_in}
 use Rattle.access_tables.proofs.Building.{args_at}
 use Rattle.access_walk.specs.Spared.{HasIndexTerm, HasWidth, Widens, AreIndexTerms, AreFilledWidths, AreTaken, IsGap, IsSpareWord}
 use Rattle.access_walk.proofs.Lists.{append_nil, later_member, place_of, at_place, within, same_at, not_nil, old_member, new_member, member_cases}

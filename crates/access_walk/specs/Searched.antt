@@ -1,12 +1,12 @@
 -- What a search prepares for its walks, and what a walk answers.
-use Rattle.std.specs.Prelude.{◌≡◌, ◌⊎◌, ℕ, Bool, false, List, length, Contains}
+use Rattle.std.specs.Prelude.{◌≡◌, ◌⊎◌, ◌++◌, ℕ, Bool, false, List, length, Contains}
 use Rattle.smt_terms.specs.declared.sort.Sort.TheVariants as sort
 use Rattle.smt_terms.specs.declared.node.Node.{Node}
 use Rattle.smt_terms.specs.Bits.{TermBits, image_in}
 use Rattle.smt_terms.specs.Terms.{sort_of}
 use Rattle.smt_terms.specs.Values.{is_true}
 use Rattle.theory_terms.specs.declared.lemma.Lemma.{Lemma}
-use Rattle.theory_terms.specs.declared.lemma.Lemma.TheVariants.{Witness}
+use Rattle.theory_terms.specs.declared.lemma.Lemma.TheVariants.{Arrays, Congruence, Witness}
 use Rattle.theory_terms.specs.declared.shape.Shape.TheVariants.{Equating}
 use Rattle.theory_terms.specs.Shapes.{shape_at}
 use Rattle.access_tables.specs.Held.{assigned_value}
@@ -17,7 +17,7 @@ use Rattle.access_walk.specs.declared.walking.Walked.{Walked}
 use Rattle.access_walk.specs.declared.walking.Walked.TheVariants as of
 use Rattle.access_walk.specs.Congruent.{AreApplications, AreAlike, HasConflict}
 use Rattle.access_walk.specs.Spared.{AreIndexesOf}
-use Rattle.access_walk.specs.Spread.{AreEncodedLemmas}
+use Rattle.access_walk.specs.Spread.{AreEncodedLemmas, AreFewClashes}
 use Rattle.access_walk.specs.Valuing.{IsNetworkOf}
 use Rattle.access_walk.specs.Walked.{IsFalseLemma, IsWalkedTable}
 use Rattle.access_walk.specs.Watched.{AreWatches, AreApartAt}
@@ -38,10 +38,28 @@ pub record AreAllConflicts (nodes : List Node) (bits : List TermBits) (f : ℕ �
   pub apart : (t a b n m : ℕ) → IsOwn Here (image_in bits) t → shape_at nodes t ≡ Equating a b → sort_of nodes a ≡ sort.Array n m → is_true (assigned_value nodes bits f t) ≡ false
       → AreApartAt nodes (assigned_value nodes bits f) a b ⊎ Contains lemmas (Witness t)
 
--- false lemmas, of which there is one at least and all that functions and witnesses give; and further lemmas
+-- the lemma is not on accesses
+abbrev pub IsNoClash : Lemma → Type 0
+IsNoClash (Arrays a b) = ⊥
+IsNoClash (Congruence t u) = Unit {0}
+IsNoClash (Witness t) = Unit {0}
+
+abbrev pub AreNoClashes : List Lemma → Type 0
+AreNoClashes lemmas = (l : Lemma) → Contains lemmas l → IsNoClash l
+
+-- the lemmas on accesses stand behind the others, and are few
+pub record HaveFewClashes (nodes : List Node) (bits : List TermBits) (f : ℕ → Bool) (lemmas : List Lemma) : Type 0 where
+  pub others : List Lemma
+  pub clashes : List Lemma
+  pub are : lemmas ≡ others ++ clashes
+  pub others_are : AreNoClashes others
+  pub few : AreFewClashes nodes (assigned_value nodes bits f) clashes
+
+-- False lemmas, of which there is one at least and all that functions and witnesses give, but few on accesses; and further lemmas.
 pub record AreConflicts (nodes : List Node) (bits : List TermBits) (f : ℕ → Bool) (Here : ℕ → Type 0) (c : Conflicts) : Type 0 where
   pub some : length c.falses.items ≡ 0 → ⊥
   pub all : AreAllConflicts nodes bits f Here c.falses.items
+  pub few : HaveFewClashes nodes bits f c.falses.items
   pub siblings : AreEncodedLemmas nodes bits c.siblings.items
 
 -- a closed table of what is reached, or conflicts

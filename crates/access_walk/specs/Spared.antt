@@ -1,5 +1,5 @@
 -- The indexes of selects and stores, and the index widths of constant arrays.
-use Rattle.std.specs.Prelude.{◌≡◌, ◌⊎◌, ◌<◌, ◌≤◌, ◌^◌, ℕ, List, Option, Some, None, Contains}
+use Rattle.std.specs.Prelude.{◌≡◌, ◌⊎◌, ◌<◌, ◌^◌, ℕ, List, Option, Some, None, Contains}
 use Rattle.smt_words.specs.Words.{WordValue}
 use Rattle.smt_terms.specs.declared.sort.Sort.TheVariants as sort
 use Rattle.smt_terms.specs.declared.node.Node.{Node}
@@ -10,7 +10,6 @@ use Rattle.theory_terms.specs.declared.atom.Landing.{Landing}
 use Rattle.theory_terms.specs.declared.shape.Shape.TheVariants.{Filling}
 use Rattle.theory_terms.specs.Shapes.{shape_at}
 use Rattle.theory_terms.specs.Lemmas.{start_of}
-use Rattle.access_tables.specs.Ready.{IsOwn}
 use Rattle.access_tables.specs.Tables.{IsTaken, IsSpareOf}
 use Rattle.access_walk.specs.declared.spares.Indexes.{Indexes}
 

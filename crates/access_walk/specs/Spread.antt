@@ -1,19 +1,20 @@
 -- What the accesses of a network come to under an assignment: a closed table, or clashes.
-use Rattle.std.specs.Prelude.{◌≡◌, ◌<◌, ◌++◌, ◌∷◌, [], ℕ, Bool, List, length, Some, Contains, slice_get}
+use Rattle.std.specs.Prelude.{◌≡◌, ◌≤◌, ◌<◌, ◌++◌, ◌∷◌, [], ℕ, Bool, List, length, Some, Contains, slice_get}
 use Rattle.std.specs.List.{AllByRecursion}
 use Rattle.smt_terms.specs.declared.node.Node.{Node}
 use Rattle.smt_terms.specs.Bits.{TermBits}
+use Rattle.smt_terms.specs.Values.{Value, number_of}
 use Rattle.theory_terms.specs.declared.atom.Atom.{Atom}
 use Rattle.theory_terms.specs.declared.lemma.Access.{Access}
 use Rattle.theory_terms.specs.declared.lemma.Lemma.{Lemma}
 use Rattle.theory_terms.specs.declared.lemma.Lemma.TheVariants.{Arrays}
-use Rattle.theory_terms.specs.Lemmas.{atoms_of}
+use Rattle.theory_terms.specs.Lemmas.{Arrival, arrival_of, atoms_of}
 use Rattle.access_spread.specs.declared.graph.Gate.{Gate}
 use Rattle.access_spread.specs.declared.spreading.Refusal.{Refusal}
 use Rattle.access_spread.specs.declared.spreading.Row.{Row}
 use Rattle.access_spread.specs.declared.spreading.Start.{Start}
-use Rattle.access_spread.specs.Spreads.{IsWayOf}
-use Rattle.access_tables.specs.Held.{HasRow}
+use Rattle.access_spread.specs.Spreads.{IsWayOf, most_refused}
+use Rattle.access_tables.specs.Held.{HasRow, assigned_value}
 use Rattle.access_walk.specs.declared.network.Network.{Network}
 use Rattle.access_walk.specs.declared.spreading.Clashes.{Clashes}
 use Rattle.access_walk.specs.declared.spreading.Spreading.{Spreading}
@@ -56,10 +57,27 @@ AreEncodedLemmas nodes bits lemmas = (l : Lemma) → Contains lemmas l → IsEnc
 abbrev pub IsHeldRow : List Node → List TermBits → ℕ → Type 0
 IsHeldRow nodes bits t = (t < length nodes) × HasRow nodes bits t
 
--- false lemmas, of which there is one at least, and further lemmas
+-- the lemma is on two accesses of this array, the first of which has an index of this number
+pub record IsClashAt (nodes : List Node) (val : ℕ → Value) (lemma : Lemma) (a k : ℕ) : Type 0 where
+  pub left : Access
+  pub right : Access
+  pub is : lemma ≡ Arrays left right
+  pub arrival : Arrival
+  pub comes : arrival_of nodes left ≡ Some arrival
+  pub array : arrival.landing.array ≡ a
+  pub index : number_of (val arrival.landing.index) ≡ k
+
+-- lemmas on accesses, as many at most as refused rows are kept, and no two at one array with one index number
+pub record AreFewClashes (nodes : List Node) (val : ℕ → Value) (lemmas : List Lemma) : Type 0 where
+  pub most : length lemmas ≤ most_refused
+  pub each : (l : Lemma) → Contains lemmas l → (a : ℕ) × (k : ℕ) × IsClashAt nodes val l a k
+  pub single : (i j : ℕ) (l m : Lemma) (a k : ℕ) → slice_get lemmas i ≡ Some l → slice_get lemmas j ≡ Some m → IsClashAt nodes val l a k → IsClashAt nodes val m a k → i ≡ j
+
+-- false lemmas, of which there is one at least, but few, and further lemmas
 pub record AreClashes (nodes : List Node) (bits : List TermBits) (f : ℕ → Bool) (c : Clashes) : Type 0 where
   pub some : length c.falses.items ≡ 0 → ⊥
   pub falses : (l : Lemma) → Contains c.falses.items l → IsFalseLemma nodes bits f l
+  pub few : AreFewClashes nodes (assigned_value nodes bits f) c.falses.items
   pub siblings : AreEncodedLemmas nodes bits c.siblings.items
 
 -- rows that are closed, or clashes

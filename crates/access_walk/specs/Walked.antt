@@ -1,5 +1,5 @@
 -- What a walk asks for, and what it answers: a table that is closed under the assignment, or a lemma that is false under it.
-use Rattle.std.specs.Prelude.{◌≡◌, ◌<◌, ◌≤◌, ◌^◌, ℕ, Bool, false, List, length, Some, IsSome, Contains}
+use Rattle.std.specs.Prelude.{◌≡◌, ◌<◌, ◌≤◌, ◌^◌, ℕ, Bool, false, List, length, Some, IsSome}
 use Rattle.std.specs.List.{AllByRecursion}
 use Rattle.smt_terms.specs.declared.sort.Sort.TheVariants as sort
 use Rattle.smt_terms.specs.declared.node.Node.{Node}
@@ -10,9 +10,8 @@ use Rattle.theory_terms.specs.declared.shape.Shape.TheVariants.{Filling, Equatin
 use Rattle.theory_terms.specs.declared.lemma.Lemma.{Lemma}
 use Rattle.theory_terms.specs.declared.atom.Atom.{Atom}
 use Rattle.theory_terms.specs.declared.atom.Atom.TheVariants.{Same, Differ, Holds, Fails}
-use Rattle.theory_terms.specs.declared.atom.Landing.{Landing}
 use Rattle.theory_terms.specs.Shapes.{shape_at}
-use Rattle.theory_terms.specs.Lemmas.{start_of, watch, atoms_of, some_true}
+use Rattle.theory_terms.specs.Lemmas.{watch, atoms_of, some_true}
 use Rattle.term_reach.specs.Reach.{IsReached, IsReach}
 use Rattle.access_tables.specs.Leading.{leads}
 use Rattle.access_tables.specs.Ready.{IsOwn}
@@ -35,12 +34,6 @@ pub record HasHeldWords (nodes : List Node) (bits : List TermBits) (Here : ℕ �
   pub indexes : List ℕ
   pub among : AreAllIndexes nodes (image_in bits) Here n indexes
   pub words : (k : ℕ) → k < 2 ^ n → k ≤ length indexes → IsHeldWord nodes bits n k
-
--- the same, and their bits are those of their numbers
-pub record HasIndexWords (nodes : List Node) (bits : List TermBits) (f : ℕ → Bool) (Here : ℕ → Type 0) (n : ℕ) : Type 0 where
-  pub indexes : List ℕ
-  pub among : (t : ℕ) (l : Landing) → IsOwn Here (image_in bits) t → start_of t (shape_at nodes t) ≡ Some l → sort_of nodes l.index ≡ sort.Word n → Contains indexes l.index
-  pub words : (k : ℕ) → k < 2 ^ n → k ≤ length indexes → (w : ℕ) × IsWordOf nodes n k w × HasRow nodes bits w × (number_of (assigned_value nodes bits f w) ≡ k)
 
 -- What these terms reach has bits, and images are held. Each reached equality of arrays has the selects of its sides at their
 -- witness, and where a constant array is reached the index words of its width are made.

@@ -55,6 +55,8 @@ pub record AreWatches (nodes : List Node) (bits : List TermBits) (Here : ℕ →
 
 -- The lemma is false under the assignment, and some arrays that are said to differ have one word at their witness.
 pub record IsWitnessConflict (nodes : List Node) (bits : List TermBits) (f : ℕ → Bool) (Here : ℕ → Type 0) (lemma : Lemma) : Type 0 where
+  pub equality : ℕ
+  pub is : lemma ≡ Witness equality
   pub falses : IsFalseLemma nodes bits f lemma
   pub never : AreApart nodes (image_in bits) Here (assigned_value nodes bits f) → ⊥
 

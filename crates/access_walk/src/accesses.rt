@@ -60,7 +60,8 @@ fn access_of(
     })
 }
 
-/// The lemma that a refused row and the one that stands in its place are one array's accesses with one index.
+/// The lemma that a refused row and the one that stands in its place are one array's accesses with
+/// one index.
 fn lemma_of(
     alloc: Global,
     network: &Network,

@@ -68,7 +68,6 @@ fn application_at(
         (λ a. IsApplied terms.now.nodes bits.now (Contains reached.now) a × (a.term ≡ term)) }
 {
     let _count = terms.len();
-    let _reached = reached;
     match bits.image(term) {
         Some(_) => None,
         None => match shape_at(terms, term) {
@@ -162,7 +161,6 @@ fn enter_calls(
         (assigned_value terms.now.nodes bits.now (assigned assignment.now)) applications.now
         keys.new.items calls.new.items) }
 {
-    let _reached = reached;
     keys.clear();
     calls.clear();
     for application in applications {
@@ -267,8 +265,6 @@ fn conflicts_in(
         (Contains reached.now) found.items) }
 {
     let _count = terms.len();
-    let _reached = reached;
-    let _applications = applications;
     let mut conflicts = Vec::new(alloc);
     for place in 1..calls.len() {
         let (left, right) = (calls[place - 1], calls[place]);

@@ -66,7 +66,8 @@ fn word_with_bits(
     }
 }
 
-/// Puts the words of a width from 0 up, as long as they are made and have bits, and at most so many.
+/// Puts the words of a width from 0 up, as long as they are made and have bits, and at most so
+/// many.
 fn push_words(
     alloc: Global,
     terms: &Terms,
@@ -137,9 +138,6 @@ fn fill_at(
         ≡ Some l → Contains network.new.landings.items l) }
 {
     let _count = terms.len();
-    let _bits = bits;
-    let _reached = reached;
-    let _indexes = indexes;
     let origin = Start::Const(term, index);
     if let Some(landing) = landing_of(terms, origin) {
         network.origins.push(origin)?;
@@ -237,8 +235,9 @@ fn indexes_in(alloc: Global, network: &Network) -> Result<Vec<TermId>, AllocErro
     Ok(indexes)
 }
 
-/// The accesses and the moves of reached terms without images; of a constant array at each index that a select or a store has,
-/// and at the first words of its index width. These are the widths of all constant arrays.
+/// The accesses and the moves of reached terms without images; of a constant array at each index
+/// that a select or a store has, and at the first words of its index width. These are the widths of
+/// all constant arrays.
 pub fn network_of(
     alloc: Global,
     terms: &Terms,

@@ -12,8 +12,9 @@ use std::alloc::{AllocError, Global};
 use term_reach::Reached;
 use theory_terms::lemma::Move;
 
-/// Which accesses take the edges of a network on the way down: from a store or a choice to what it is of, and over an equality,
-/// all do. Up they go only under the sides of an equality that is true; those of stores go up over stores besides.
+/// Which accesses take the edges of a network on the way down: from a store or a choice to what it
+/// is of, and over an equality, all do. Up they go only under the sides of an equality that is
+/// true; those of stores go up over stores besides.
 #[derive(Drop)]
 pub struct Lanes {
     pub lanes: Vec<Lane>,
@@ -94,7 +95,6 @@ impl Lanes {
         ensures marks { OnOk result (AreMarks self.new.under.items self.new.marked.items) }
         ensures count { OnOk result (length self.new.under.items ≡ length reached.now) }
     {
-        let _terms = terms;
         self.under.clear();
         self.under.resize(reached.terms().len(), false)?;
         self.marked.clear();
@@ -122,7 +122,6 @@ impl Lanes {
         ensures marks { OnOk result (AreMarks self.new.under.items self.new.marked.items) }
         ensures count { OnOk result (length self.new.under.items ≡ length reached.now) }
     {
-        let _terms = terms;
         let here = reached.terms()[array];
         for place in network.graph.fans[array].places() {
             let edge = network.graph.edges[*place];

@@ -48,7 +48,8 @@ pub fn clashes_are_false()
         × (some_true val atoms ≡ false) }
 {}
 
-/// The map of reached terms is a network under each assignment, with the gates and starts that the assignment gives.
+/// The map of reached terms is a network under each assignment, with the gates and starts that the
+/// assignment gives.
 pub fn maps_are_networks()
     ensures { (nodes : List Node) (image : ℕ → Option ℕ) (terms : List ℕ) (val : ℕ → Value)
         (arrays : List ℕ) (moves : List Move) (guards : List Guard) (origins : List of.Start)

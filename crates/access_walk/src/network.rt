@@ -29,8 +29,8 @@ use theory_terms::atom::Landing;
 use theory_terms::lemma::{Move, Start};
 use theory_terms::shape::{Shape, shape_at};
 
-/// Edges between arrays, which stand under the places of their terms among those that are reached, each with its move and
-/// guard; and the accesses that begin.
+/// Edges between arrays, which stand under the places of their terms among those that are reached,
+/// each with its move and guard; and the accesses that begin.
 #[derive(Drop)]
 pub struct Network {
     pub graph: Graph,
@@ -80,7 +80,6 @@ impl Network {
         ensures grows { OnOk result (Grows self.old self.new) }
         ensures has { OnOk result (Contains self.new.moves.items by) }
     {
-        let _terms = terms;
         let _once = reached.terms();
         self.add_edge(a, b, by, guard)?;
         self.add_edge(b, a, by, guard)?;
@@ -103,8 +102,6 @@ impl Network {
         ensures grows { OnOk result (Grows self.old self.new) }
         ensures has { OnOk result (Contains self.new.landings.items landing) }
     {
-        let _terms = terms;
-        let _reached = reached;
         self.origins.push(origin)?;
         self.landings.push(landing)?;
         Ok(())
@@ -303,7 +300,6 @@ impl Network {
     fn new(alloc: Global, terms: &Terms, reached: &Reached) -> Result<Network, AllocError>
         ensures { IfOk result (λ n. IsEntered terms.now.nodes reached.now n) }
     {
-        let _terms = terms;
         Ok(Network {
             graph: Graph::new(alloc, reached.terms().len())?,
             moves: Vec::new(alloc),

@@ -122,8 +122,8 @@ fn other_branch(terms: &Terms, here: TermId, by: Move) -> Option<(Move, TermId)>
     }
 }
 
-/// Goes on from an array over its stores, at most so far, up to one of the arrays where it is led back; the moves are put. Gives
-/// the place among these arrays.
+/// Goes on from an array over its stores, at most so far, up to one of the arrays where it is led
+/// back; the moves are put. Gives the place among these arrays.
 fn lead_back(
     terms: &Terms,
     start: TermId,
@@ -144,7 +144,8 @@ fn lead_back(
     Ok(arrays.iter().position(|array| *array == here))
 }
 
-/// An access like this one, but for the choice that the move at a place passes: by its other branch, if that leads back.
+/// An access like this one, but for the choice that the move at a place passes: by its other
+/// branch, if that leads back.
 fn sibling_at(
     alloc: Global,
     terms: &Terms,
@@ -231,8 +232,8 @@ fn put_siblings(
     Ok(())
 }
 
-/// The lemmas like these, of accesses that pass one choice by its other branch where that leads back within few moves. Each has
-/// its shape, and its terms have bits; none needs to be false.
+/// The lemmas like these, of accesses that pass one choice by its other branch where that leads
+/// back within few moves. Each has its shape, and its terms have bits; none needs to be false.
 pub fn siblings_of(
     alloc: Global,
     terms: &Terms,

@@ -129,7 +129,8 @@ fn filled_widths(
     Ok(found)
 }
 
-/// The indexes of selects and stores among reached terms without images, and the index widths of constant arrays.
+/// The indexes of selects and stores among reached terms without images, and the index widths of
+/// constant arrays.
 pub fn indexes_of(
     alloc: Global,
     terms: &Terms,
@@ -161,7 +162,6 @@ fn number_of(
         × (k ≡ number_of
         (assigned_value terms.now.nodes bits.now (assigned assignment.now) term))) }
 {
-    let _reached = reached;
     let _count = terms.len();
     match terms.sort(term) {
         Sort::Word(own) => {
@@ -240,7 +240,8 @@ fn spare_of(
     Ok(Word::new(width, gap_of(numbers.as_slice())))
 }
 
-/// The least index of each width of a constant array that no select and no store has, if there is one.
+/// The least index of each width of a constant array that no select and no store has, if there is
+/// one.
 pub fn spares_of(
     alloc: Global,
     terms: &Terms,
@@ -290,10 +291,6 @@ pub fn table_of(
     ensures { IfOk result
         (IsWalkedTable terms.now.nodes bits.now (assigned assignment.now) live.now) }
 {
-    let _terms = terms;
-    let _bits = bits;
-    let _assignment = assignment;
-    let _live = live;
     let reached_terms = Vec::from_slice(alloc, reached.terms())?;
     Ok(AccessTable::new(reached_terms, rows, spares))
 }

@@ -37,8 +37,8 @@ pub struct Workspace {
     state: State,
 }
 
-/// Lemmas on accesses of one array with equal indexes and different values: false ones, one for each array and index, and
-/// further ones that are like them, over the other branch of a choice.
+/// Lemmas on accesses of one array with equal indexes and different values: false ones, one for
+/// each array and index, and further ones that are like them, over the other branch of a choice.
 #[derive(Debug, Drop)]
 pub struct Clashes {
     pub falses: Vec<Lemma>,
@@ -88,8 +88,8 @@ fn spread_down_first(
     Ok(())
 }
 
-/// Where accesses clash, lemmas of which the first ones are false under the assignment, at most 30; else all accesses, which are
-/// closed.
+/// Where accesses clash, lemmas of which the first ones are false under the assignment, at most 30;
+/// else all accesses, which are closed.
 pub fn find_clashes(
     alloc: Global,
     terms: &Terms,

@@ -60,7 +60,8 @@ pub fn put_gates(
     Ok(())
 }
 
-/// The start of an access of the array at this place, which takes the edges for wide accesses or does not.
+/// The start of an access of the array at this place, which takes the edges for wide accesses or
+/// does not.
 pub fn start_of(
     terms: &Terms,
     bits: &Bits,

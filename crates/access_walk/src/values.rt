@@ -35,8 +35,8 @@ pub struct Entry {
     pub landing: Landing,
 }
 
-/// The accesses of a network under an assignment, by rising index numbers, and the gates of its edges. The tables are kept from
-/// one assignment to the next.
+/// The accesses of a network under an assignment, by rising index numbers, and the gates of its
+/// edges. The tables are kept from one assignment to the next.
 #[derive(Drop)]
 pub struct Values {
     pub entries: Vec<Entry>,

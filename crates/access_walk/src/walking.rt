@@ -8,7 +8,7 @@ ghost use Rattle.access_tables.specs.Leading.{leads};
 ghost use Rattle.access_tables.specs.Held.{assigned_value};
 ghost use Rattle.access_walk.specs.Networks.{AreApart, AreCongruent};
 ghost use Rattle.access_walk.specs.Rows.{AreClosedRows};
-ghost use Rattle.access_walk.specs.Searched.{IsPrepared, AreAllConflicts, AreConflicts, IsWalked};
+ghost use Rattle.access_walk.specs.Searched.{IsPrepared, AreAllConflicts, AreNoClashes, AreConflicts, IsWalked};
 ghost use Rattle.access_walk.specs.Spread.{AreClashes};
 ghost use Rattle.access_walk.specs.Walked.{IsWalkable, HaveWordValues, IsWalkedTable};
 
@@ -84,7 +84,6 @@ pub fn prepare(
     requires reach { IsReach (leads terms.now.nodes (image_in bits.now)) live.now reached.now }
     ensures { IfOk result (IsPrepared terms.now.nodes bits.now reached.now) }
 {
-    let _live = live;
     let indexes = indexes_of(alloc, terms, bits, reached)?;
     let network = network_of(alloc, terms, bits, reached, indexes.widths.as_slice())?;
     let applications = applications_of(alloc, terms, bits, reached)?;
@@ -108,9 +107,10 @@ fn conflicts_of(
     calls: &mut Calls,
 ) -> Result<Vec<Lemma>, AllocError>
     requires { IsPrepared terms.now.nodes bits.now reached.now prepared.now }
-    ensures { IfOk result
+    ensures all { IfOk result
         (λ found. AreAllConflicts terms.now.nodes bits.now (assigned assignment.now)
         (Contains reached.now) found.items) }
+    ensures others { IfOk result (λ found. AreNoClashes found.items) }
 {
     let mut conflicts = congruence_conflicts(
         alloc,
@@ -165,14 +165,11 @@ fn joined(
 ) -> Result<Conflicts, AllocError>
     requires conflicts { AreAllConflicts terms.now.nodes bits.now (assigned assignment.now)
         (Contains reached.now) conflicts.items }
+    requires others { AreNoClashes conflicts.items }
     requires clashes { AreClashes terms.now.nodes bits.now (assigned assignment.now) found }
     ensures { IfOk result
         (AreConflicts terms.now.nodes bits.now (assigned assignment.now) (Contains reached.now)) }
 {
-    let _terms = terms;
-    let _bits = bits;
-    let _assignment = assignment;
-    let _reached = reached;
     conflicts.append(&mut found.falses)?;
     Ok(Conflicts {
         falses: conflicts,
@@ -180,8 +177,42 @@ fn joined(
     })
 }
 
+/// Where no accesses clash: the table of these rows, or the other lemmas, if there are some.
+fn answered(
+    alloc: Global,
+    terms: &Terms,
+    bits: &Bits,
+    assignment: &Assignment,
+    live: &[TermId],
+    reached: &Reached,
+    prepared: &Prepared,
+    falses: Vec<Lemma>,
+    rows: Vec<Landing>,
+) -> Result<Walked, AllocError>
+    requires walkable { IsWalkable terms.now.nodes bits.now live.now }
+    requires reach { IsReach (leads terms.now.nodes (image_in bits.now)) live.now reached.now }
+    requires prepared { IsPrepared terms.now.nodes bits.now reached.now prepared.now }
+    requires rows { AreClosedRows terms.now.nodes bits.now (assigned assignment.now) reached.now
+        rows.items }
+    requires all { AreAllConflicts terms.now.nodes bits.now (assigned assignment.now)
+        (Contains reached.now) falses.items }
+    requires others { AreNoClashes falses.items }
+    ensures { IfOk result
+        (IsWalked terms.now.nodes bits.now (assigned assignment.now) live.now reached.now) }
+{
+    if falses.is_empty() {
+        let table = table_at(
+            alloc, terms, bits, assignment, live, reached, prepared, rows,
+        )?;
+        return Ok(Walked::Table(table));
+    }
+    let siblings = Vec::new(alloc);
+    Ok(Walked::Conflicts(Conflicts { falses, siblings }))
+}
+
 /// Under an assignment a table that is closed, of exactly what the live terms reach; or lemmas,
-/// false under it: all that functions and witnesses give, and of accesses that clash at most 30.
+/// false under it: all that functions and witnesses give, and of accesses that clash at most 30, no
+/// two of which are on one array and one index number.
 pub fn walk(
     alloc: Global,
     terms: &Terms,
@@ -199,29 +230,15 @@ pub fn walk(
     ensures { IfOk result
         (IsWalked terms.now.nodes bits.now (assigned assignment.now) live.now reached.now) }
 {
-    let falses = conflicts_of(
-        alloc,
-        terms,
-        bits,
-        assignment,
-        reached,
-        prepared,
-        &mut workspace.calls,
-    )?;
+    let calls = &mut workspace.calls;
+    let falses = conflicts_of(alloc, terms, bits, assignment, reached, prepared, calls)?;
     let network = &prepared.network;
     let spreading = &mut workspace.spreading;
     let found = find_clashes(alloc, terms, bits, assignment, reached, network, spreading)?;
     match found {
-        Spreading::Table(rows) => {
-            if falses.is_empty() {
-                let table = table_at(
-                    alloc, terms, bits, assignment, live, reached, prepared, rows,
-                )?;
-                return Ok(Walked::Table(table));
-            }
-            let siblings = Vec::new(alloc);
-            Ok(Walked::Conflicts(Conflicts { falses, siblings }))
-        }
+        Spreading::Table(rows) => answered(
+            alloc, terms, bits, assignment, live, reached, prepared, falses, rows,
+        ),
         Spreading::Clashes(clashes) => {
             let conflicts = joined(terms, bits, assignment, reached, falses, clashes)?;
             Ok(Walked::Conflicts(conflicts))

@@ -50,8 +50,6 @@ fn watched_own(
         (λ w. IsWatched terms.now.nodes bits.now (Contains reached.now) w × (w.equality ≡ term))) }
 {
     let _count = terms.len();
-    let _bits = bits;
-    let _reached = reached;
     let Shape::Equating { left, right } = shape_at(terms, term) else {
         return Ok(None);
     };
@@ -123,7 +121,6 @@ fn is_joined(
         (IsJoined (assigned_value terms.now.nodes bits.now (assigned assignment.now)) watched)
         (IsJoined (assigned_value terms.now.nodes bits.now (assigned assignment.now)) watched → ⊥) }
 {
-    let _reached = reached;
     let _count = terms.len();
     let left = word_of(terms, bits, assignment, watched.watch.left);
     let right = word_of(terms, bits, assignment, watched.watch.right);

@@ -16,8 +16,8 @@ use smt_terms::terms::Terms;
 use smt_values::interp::Interp;
 use std::alloc::{AllocError, Global};
 
-/// An interpretation in which each term of the table in which no witness stands has the assignment's value, or the table's
-/// words.
+/// An interpretation in which each term of the table in which no witness stands has the
+/// assignment's value, or the table's words.
 pub fn build(
     alloc: Global,
     terms: &Terms,

@@ -90,7 +90,6 @@ fn enter_own(
         (assigned_value terms.now.nodes bits.now (assigned assignment.now)) term
         (shape_at terms.now.nodes term) draft.old draft.new) }
 {
-    let _table = table;
     let _count = terms.len();
     match shape_at(terms, term) {
         Shape::Declaring { declaration, sort } => {

@@ -43,7 +43,6 @@ fn set_default(
         table.now.spares row declaration index element draft.old draft.new) }
 {
     let _count = terms.len();
-    let _element = element;
     let Some(spare) = table.spare(index) else {
         return Ok(());
     };
@@ -112,9 +111,7 @@ fn set_element(
         (SetsElement (assigned_value terms.now.nodes bits.now (assigned assignment.now)) row
         declaration index element draft.old draft.new) }
 {
-    let _table = table;
     let _count = terms.len();
-    let _widths = (index, element);
     let at = word_of(terms, bits, assignment, row.index);
     let value = word_of(terms, bits, assignment, row.value);
     draft.enter(declaration, at, value)

@@ -1,9 +1,10 @@
 //! From a closed table of accesses to an interpretation.
 //!
-//! [`build`] sets a value for each declaration that the terms of a table reach: those of the assignment for Bools and words,
-//! the rows of its applications for a function, and the accesses of the table for an array. It promises that then every term
-//! in which no witness stands has the assignment's value, index width 1 and constant arrays included. The crate stands on
-//! the law of `access_tables` and the interpretations of `smt_values`.
+//! [`build`] sets a value for each declaration that the terms of a table reach: those of the
+//! assignment for Bools and words, the rows of its applications for a function, and the accesses of
+//! the table for an array. It promises that then every term in which no witness stands has the
+//! assignment's value, index width 1 and constant arrays included. The crate stands on the law of
+//! `access_tables` and the interpretations of `smt_values`.
 #![tactic(auto)]
 
 mod building;

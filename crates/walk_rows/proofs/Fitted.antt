@@ -1,6 +1,6 @@
 -- From what is looked at term by term to what a walk and an interpretation ask for.
 use Rattle.std.proofs.Common.{◌≡◌, ℕ, zero, suc, ◌+◌, ◌*◌, ◌<◌, ◌≤◌, ◌^◌, Bool, true, false, not, List, [], ◌∷◌, length, Option, Some, None, refl, sym, ap, ◌∙◌, subst, inl, inr, ⊎_elim, arith}
-use Rattle.std.specs.Prelude.{◌⊎◌, All, get_or, Contains, MatchBool, if◌then◌else◌, ◌==◌, Result, Ok, Err, OnOk, OnErr}
+use Rattle.std.specs.Prelude.{All, get_or, Contains, MatchBool, if◌then◌else◌, ◌==◌, Result, Ok, Err, OnOk, OnErr}
 use Rattle.std.specs.List.{AllByRecursion, range_with_len}
 use Rattle.std.proofs.lemmas.Bool.{cases_lt}
 use Rattle.std.proofs.lemmas.List.{get_or_past}
@@ -12,7 +12,7 @@ use Rattle.smt_terms.specs.declared.sort.Sort.TheVariants as sort
 use Rattle.smt_terms.specs.declared.node.Op.{Op}
 use Rattle.smt_terms.specs.declared.node.Op.TheVariants.{Word}
 use Rattle.smt_terms.specs.declared.node.Node.{Node}
-use Rattle.smt_terms.specs.Nodes.{node_at, no_node, leaf, at_term}
+use Rattle.smt_terms.specs.Nodes.{node_at, no_node, leaf}
 use Rattle.smt_terms.specs.Bits.{TermBits, bits_in, image_in, with_bits}
 use Rattle.smt_terms.specs.Terms.{sort_of, op_sort, IsTermList}
 use Rattle.smt_terms.specs.Values.{number_of}
@@ -25,18 +25,17 @@ use Rattle.theory_terms.specs.Shapes.{IsPlain, shape_at}
 use Rattle.theory_terms.specs.Lemmas.{watch}
 use Rattle.theory_terms.proofs.Shapes.{shape_within}
 use Rattle.theory_terms.proofs.Sound.{watch_is}
-use Rattle.term_reach.specs.Reach.{arguments, IsReached, IsAcyclic, LeadsBelow}
+use Rattle.term_reach.specs.Reach.{arguments, IsAcyclic, LeadsBelow}
 use Rattle.term_reach.proofs.Ways.{way_closed}
 use Rattle.bit_blast.specs.Blocks.{block_of}
 use Rattle.bit_blast.specs.Circuits.{literal_bits}
 use Rattle.access_tables.specs.Leading.{selects_of, watched, leads_by, leads}
 use Rattle.access_tables.specs.Encoded.{IsSatisfied, AreSatisfied}
-use Rattle.access_tables.specs.Held.{HasRow, assigned_value, value_by}
+use Rattle.access_tables.specs.Held.{assigned_value, value_by}
 use Rattle.access_tables.proofs.Descending.{no_way_back}
-use Rattle.access_walk.specs.Maps.{IsWordOf}
-use Rattle.access_walk.specs.Walked.{Reached, IsHeldWord, HasHeldWords, IsWalkable, HaveWordValues}
+use Rattle.access_walk.specs.Walked.{Reached, IsHeldWord, HasHeldWords, IsWalkable}
 use Rattle.access_walk.proofs.Words.{word_within}
-use Rattle.walk_rows.specs.Fitting.{AreUnlinked, IsFit, HasWords, IsLiteral, IsGiven, IsReady}
+use Rattle.walk_rows.specs.Fitting.{AreUnlinked, IsFit, IsLiteral, IsGiven, IsReady}
 
 abbrev number_in : Op → ℕ
 number_in (Word n x) = x

@@ -1,5 +1,5 @@
 -- What is looked at, term by term, before a walk may be called for: terms with bits of their own.
-use Rattle.std.specs.Prelude.{◌≡◌, ◌⊎◌, ◌<◌, ℕ, Bool, true, List, [], Option, Some, None, length, IsSome}
+use Rattle.std.specs.Prelude.{◌≡◌, ◌⊎◌, ◌<◌, ℕ, Bool, List, Some, None, length, IsSome}
 use Rattle.cnf_base.specs.Literals.{Literal}
 use Rattle.smt_terms.specs.declared.sort.Sort.TheVariants as sort
 use Rattle.smt_terms.specs.declared.node.Node.{Node}
@@ -7,13 +7,12 @@ use Rattle.smt_terms.specs.declared.node.Op.TheVariants.{Word}
 use Rattle.smt_terms.specs.Nodes.{node_at, leaf}
 use Rattle.smt_terms.specs.Bits.{TermBits, bits_in, image_in}
 use Rattle.smt_terms.specs.Terms.{sort_of, declaration_of}
-use Rattle.smt_terms.specs.Values.{number_of}
 use Rattle.theory_terms.specs.declared.shape.Shape.TheVariants.{Filling, Equating}
 use Rattle.theory_terms.specs.Shapes.{IsPlain, shape_at}
 use Rattle.theory_terms.specs.Lemmas.{watch}
 use Rattle.bit_blast.specs.Circuits.{literal_bits}
-use Rattle.access_tables.specs.Encoded.{IsSatisfied, AreSatisfied}
-use Rattle.access_tables.specs.Held.{HasRow, assigned_value}
+use Rattle.access_tables.specs.Encoded.{AreSatisfied}
+use Rattle.access_tables.specs.Held.{HasRow}
 use Rattle.access_tables.specs.Ready.{IsFree}
 use Rattle.access_walk.specs.Walked.{IsHeldWord, HaveWordValues}
 

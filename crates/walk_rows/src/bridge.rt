@@ -58,7 +58,6 @@ pub fn model_of(
         (λ m. IsModel terms.now.nodes bits.now (assigned assignment.now) table.now
         (interpretation_of m)) }
 {
-    let _live = live;
     let _count = terms.len();
     build(alloc, terms, bits, assignment, table)
 }

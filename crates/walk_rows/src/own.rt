@@ -117,3 +117,49 @@ pub fn apply(alloc: Global, terms: &mut Terms, op: Op, args: &[TermId]) -> Optio
         Err(_) => None,
     }
 }
+
+/// An application of a function that is new. None where some term is of its declaration, the sorts
+/// of the arguments do not fit, or memory ends.
+pub fn apply_first(alloc: Global, terms: &mut Terms, op: Op, args: &[TermId]) -> Option<TermId> {
+    let Op::Apply { declaration, .. } = &op else {
+        return None;
+    };
+    if !is_unused(terms, *declaration) {
+        return None;
+    }
+    let args = Arguments::of(alloc, args).ok()?;
+    match terms.make(Node { op, args }) {
+        Ok(term) => Some(term),
+        Err(_) => None,
+    }
+}
+
+/// Whether a term is of an operator.
+fn has_op(terms: &Terms, term: TermId, op: &Op) -> bool
+    requires held { term < length terms.now.nodes }
+    ensures { MatchBool result ((node_at terms.now.nodes term).op ≡ op.now) (Unit {0}) }
+{
+    terms.node(term).op == *op
+}
+
+/// A term of an operator that another term has. None where that has another operator, the sorts of
+/// the arguments do not fit, or memory ends.
+pub fn apply_again(
+    alloc: Global,
+    terms: &mut Terms,
+    like: TermId,
+    op: Op,
+    args: &[TermId],
+) -> Option<TermId> {
+    if like >= terms.len() {
+        return None;
+    }
+    if !has_op(terms, like, &op) {
+        return None;
+    }
+    let args = Arguments::of(alloc, args).ok()?;
+    match terms.make(Node { op, args }) {
+        Ok(term) => Some(term),
+        Err(_) => None,
+    }
+}

@@ -1,4 +1,11 @@
 //! All small terms over two arrays, and all assignments of their bits, with ample memory.
+//!
+//! Over two declared arrays of index width 1 and element width 1, two declared indexes, two declared
+//! words and a declared Bool there are sixteen arrays with at most one operator. Of each two of them,
+//! and of each with itself, the terms are the equality, the selects of both sides at both indexes,
+//! and what is below them; each Bool and each word among these has bits of its own. All assignments
+//! of these bits are enumerated. The terms over a declared function of one argument are three
+//! applications, to two words and to a select, under all assignments too.
 
 ghost use Rattle.std.specs.Prelude.{Contains};
 ghost use Rattle.smt_terms.specs.Bits.{image_in};
@@ -10,16 +17,17 @@ ghost use Rattle.walk_rows.specs.Fitting.{AreUnlinked};
 
 use crate::bridge::{model_of, reached_from};
 use crate::fitting::{are_suited, is_ready, is_walkable};
-use crate::own::{OwnBits, apply, declare};
+use crate::own::{OwnBits, apply, apply_again, apply_first, declare};
 use access_tables::table::AccessTable;
 use access_walk::walking::{Prepared, Walked, Workspace, prepare, walk};
 use bit_blast::Assignment;
 use cnf_base::Lit;
 use smt_eval::Values;
 use smt_terms::bits::Bits;
+use smt_terms::list::Sorts;
 use smt_terms::node::{Op, TermId};
 use smt_terms::operator::Operator;
-use smt_terms::sort::{DeclId, Sort};
+use smt_terms::sort::{DeclId, Signature, Sort};
 use smt_terms::terms::Terms;
 use smt_values::interp::Interp;
 use smt_values::value::Value;
@@ -40,6 +48,9 @@ const MOST_VARIABLES: u64 = 30;
 /// The condition of each choice.
 const CONDITION: DeclId = 6;
 
+/// The function that is applied.
+const FUNCTION: DeclId = 7;
+
 /// An array, over the declared arrays 0 and 1, indexes 2 and 3, and elements 4 and 5.
 #[derive(Clone, Copy)]
 enum Form {
@@ -49,14 +60,24 @@ enum Form {
     Filled(DeclId),
 }
 
-/// The arrays of one operator at most, up to other declarations of the same sorts.
-const FORMS: [Form; 6] = [
+/// The arrays of one operator at most.
+const FORMS: [Form; 16] = [
     Form::Declared(0),
     Form::Declared(1),
     Form::Stored(0, 2, 4),
+    Form::Stored(0, 2, 5),
+    Form::Stored(0, 3, 4),
+    Form::Stored(0, 3, 5),
+    Form::Stored(1, 2, 4),
+    Form::Stored(1, 2, 5),
+    Form::Stored(1, 3, 4),
     Form::Stored(1, 3, 5),
+    Form::Chosen(0, 0),
     Form::Chosen(0, 1),
+    Form::Chosen(1, 0),
+    Form::Chosen(1, 1),
     Form::Filled(4),
+    Form::Filled(5),
 ];
 
 /// What a walk answered, and whether it was right.
@@ -74,6 +95,12 @@ struct Tally {
     conflicts: u32,
     wrong: u32,
 }
+
+const NONE: Tally = Tally {
+    tables: 0,
+    conflicts: 0,
+    wrong: 0,
+};
 
 fn array_of(alloc: Global, terms: &mut Terms, form: Form) -> Option<TermId> {
     match form {
@@ -105,8 +132,8 @@ fn array_of(alloc: Global, terms: &mut Terms, form: Form) -> Option<TermId> {
     }
 }
 
-/// An equality of two arrays with its selects, and a select of each.
-fn roots_of(alloc: Global, terms: &mut Terms, left: Form, right: Form) -> Option<[TermId; 3]> {
+/// An equality of two arrays with its selects, and the selects of each at both indexes.
+fn roots_of(alloc: Global, terms: &mut Terms, left: Form, right: Form) -> Option<[TermId; 5]> {
     let left = array_of(alloc, terms, left)?;
     let right = array_of(alloc, terms, right)?;
     let equality = apply(alloc, terms, Op::Plain(Operator::Equal), &[left, right])?;
@@ -115,9 +142,39 @@ fn roots_of(alloc: Global, terms: &mut Terms, left: Form, right: Form) -> Option
     apply(alloc, terms, Op::Plain(Operator::Select), &[right, witness])?;
     let first = declare(alloc, terms, 2, WORD)?;
     let second = declare(alloc, terms, 3, WORD)?;
-    let of_left = apply(alloc, terms, Op::Plain(Operator::Select), &[left, first])?;
-    let of_right = apply(alloc, terms, Op::Plain(Operator::Select), &[right, second])?;
-    Some([equality, of_left, of_right])
+    Some([
+        equality,
+        apply(alloc, terms, Op::Plain(Operator::Select), &[left, first])?,
+        apply(alloc, terms, Op::Plain(Operator::Select), &[left, second])?,
+        apply(alloc, terms, Op::Plain(Operator::Select), &[right, first])?,
+        apply(alloc, terms, Op::Plain(Operator::Select), &[right, second])?,
+    ])
+}
+
+/// A function from words to words, applied.
+fn function(alloc: Global) -> Option<Op> {
+    let signature = Signature {
+        args: Sorts::of(alloc, &[WORD]).ok()?,
+        value: WORD,
+    };
+    Some(Op::Apply {
+        declaration: FUNCTION,
+        signature,
+    })
+}
+
+/// Applications of one function to two words and to a select.
+fn calls_of(alloc: Global, terms: &mut Terms) -> Option<[TermId; 3]> {
+    let array = declare(alloc, terms, 0, ARRAY)?;
+    let first = declare(alloc, terms, 2, WORD)?;
+    let second = declare(alloc, terms, 3, WORD)?;
+    let read = apply(alloc, terms, Op::Plain(Operator::Select), &[array, first])?;
+    let op = function(alloc)?;
+    let call = apply_first(alloc, terms, op, &[first])?;
+    let op = function(alloc)?;
+    let other = apply_again(alloc, terms, call, op, &[second])?;
+    let op = function(alloc)?;
+    Some([call, other, apply_again(alloc, terms, call, op, &[read])?])
 }
 
 /// Gives each Bool and each word a bit; answers how many variables there are then, the first of
@@ -349,20 +406,54 @@ fn walk_over(alloc: Global, left: Form, right: Form, tally: &mut Tally) -> Resul
     walk_all(alloc, &terms, own.bits(), &live, variables, tally)
 }
 
-#[test]
-fn walks_answer_models_or_false_lemmas(rt: HostRuntime) -> Result<(), Fail> {
-    let alloc = rt.alloc();
-    let mut tally = Tally {
-        tables: 0,
-        conflicts: 0,
-        wrong: 0,
-    };
-    for place in 0..FORMS.len() {
+/// Walks over each of these arrays and itself and each later one, of all.
+fn walk_pairs(alloc: Global, from: usize, to: usize) -> Result<Tally, AllocError> {
+    let mut tally = NONE;
+    for place in from..to.min(FORMS.len()) {
         for other in place..FORMS.len() {
             walk_over(alloc, FORMS[place], FORMS[other], &mut tally)?;
-            assert!(rt; tally.wrong == 0, "arrays {place} and {other}");
         }
     }
-    assert!(rt; tally.tables > 0 && tally.conflicts > 0);
+    Ok(tally)
+}
+
+/// Walks over applications.
+fn walk_calls(alloc: Global) -> Result<Tally, AllocError> {
+    let mut tally = NONE;
+    let mut terms = Terms::new(alloc);
+    let mut own = OwnBits::new(alloc);
+    let Some(live) = calls_of(alloc, &mut terms) else {
+        return Ok(tally);
+    };
+    let variables = give_bits(&terms, &mut own)?;
+    walk_all(alloc, &terms, own.bits(), &live, variables, &mut tally)?;
+    Ok(tally)
+}
+
+#[test]
+fn walks_over_declared_arrays(rt: HostRuntime) -> Result<(), Fail> {
+    let tally = walk_pairs(rt.alloc(), 0, 2)?;
+    assert!(rt; tally.wrong == 0 && tally.tables > 0 && tally.conflicts > 0);
+    Ok(())
+}
+
+#[test]
+fn walks_over_stores(rt: HostRuntime) -> Result<(), Fail> {
+    let tally = walk_pairs(rt.alloc(), 2, 10)?;
+    assert!(rt; tally.wrong == 0 && tally.tables > 0 && tally.conflicts > 0);
+    Ok(())
+}
+
+#[test]
+fn walks_over_choices_and_constant_arrays(rt: HostRuntime) -> Result<(), Fail> {
+    let tally = walk_pairs(rt.alloc(), 10, 16)?;
+    assert!(rt; tally.wrong == 0 && tally.tables > 0 && tally.conflicts > 0);
+    Ok(())
+}
+
+#[test]
+fn walks_over_applications(rt: HostRuntime) -> Result<(), Fail> {
+    let tally = walk_calls(rt.alloc())?;
+    assert!(rt; tally.wrong == 0 && tally.tables > 0 && tally.conflicts > 0);
     Ok(())
 }

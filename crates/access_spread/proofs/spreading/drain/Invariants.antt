@@ -1,5 +1,5 @@
 use Rattle.std.proofs.Common.{◌≤◌, length}
-use Rattle.access_spread.specs.Spreads.{Fits, Grows, IsComplete, AreVisited}
+use Rattle.access_spread.specs.Spreads.{Fits, Grows, IsRoomy, AreVisited}
 use Rattle.access_spread.proofs.spreading.drain.Given as goal
 
 abbrev pub invariant-loop-at : goal.invariant-loop-at
@@ -8,5 +8,5 @@ invariant-loop-at l = record {
   grows : Grows l.fn.state l.state;
   within : l.at ≤ length l.state.rows.items;
   begun : l.fn.state.begun ≤ l.at;
-  visited : IsComplete l.lanes l.state.refused.items → AreVisited l.graph l.gates l.starts l.state.rows.items l.at;
+  visited : IsRoomy l.state → AreVisited l.graph l.gates l.lanes l.starts l.state.rows.items l.state.refused.items l.at;
 }

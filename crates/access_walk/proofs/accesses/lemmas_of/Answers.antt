@@ -1,8 +1,6 @@
-use Rattle.std.proofs.Common.{◌≡◌, ℕ, [], ◌∷◌, ◌+◌, ◌<◌, Some, length, refl, sym, ap, ◌∙◌, subst, ⊎_elim, arith, length-append}
+use Rattle.std.proofs.Common.{◌≡◌, [], ◌∷◌, ◌<◌, Some, length, refl, sym, ap, ◌∙◌, subst, ⊎_elim, arith, length-append}
 use Rattle.std.specs.Prelude.{slice_get}
 use Rattle.std.proofs.lemmas.Option.{slice_get_read}
-use Rattle.theory_terms.specs.declared.lemma.Lemma.{Lemma}
-use Rattle.access_spread.specs.declared.spreading.Refusal.{Refusal}
 use Rattle.access_spread.specs.Spreads.{IsRefused}
 use Rattle.access_spread.proofs.Lists.{get_push}
 use Rattle.access_walk.specs.Spread.{IsClashLemma}

@@ -1,4 +1,4 @@
-use Rattle.std.proofs.Common.{◌≡◌, ℕ, ◌<◌, length, Some}
+use Rattle.std.proofs.Common.{◌≡◌, ℕ, length, Some}
 use Rattle.std.specs.Prelude.{slice_get}
 use Rattle.theory_terms.specs.declared.lemma.Lemma.{Lemma}
 use Rattle.access_spread.specs.declared.spreading.Refusal.{Refusal}

@@ -1,4 +1,4 @@
-use Rattle.std.proofs.Common.{◌≡◌, subst}
+use Rattle.std.proofs.Common.{subst}
 use Rattle.std.specs.List.{AllByRecursion}
 use Rattle.theory_terms.specs.Lemmas.{atoms_of}
 use Rattle.theory_lemmas.specs.Arriving.{AreAtoms}

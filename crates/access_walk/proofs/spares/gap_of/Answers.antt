@@ -1,5 +1,5 @@
-use Rattle.std.proofs.Common.{◌≡◌, ◌<◌, ◌≤◌, ◌+◌, length, subst, sym, ap, ◌∙◌, arith}
-use Rattle.std.specs.Prelude.{Some, slice_get, slice_index_or}
+use Rattle.std.proofs.Common.{◌≡◌, ◌<◌, ◌+◌, subst, ap, ◌∙◌, arith}
+use Rattle.std.specs.Prelude.{Some, slice_index_or}
 use Rattle.access_walk.proofs.Lists.{some_at}
 use Rattle.access_walk.proofs.Gaps.{IsGapTo, gap_more, gap_kept, gap_end}
 use Rattle.access_walk.proofs.spares.gap_of.Goals.{then-number-gap-2, else-number-gap-2}

@@ -3,7 +3,7 @@ use Rattle.std.specs.Prelude.{Some, Contains, slice_get, slice_index_or}
 use Rattle.bit_blast.specs.Assigned.{assigned}
 use Rattle.access_tables.specs.Held.{assigned_value}
 use Rattle.access_walk.proofs.Lists.{some_at, place_of}
-use Rattle.access_walk.proofs.Taken.{spares_none, spares_step, are_spare, width_wide}
+use Rattle.access_walk.proofs.Taken.{spares_step, are_spare, width_wide}
 use Rattle.access_walk.proofs.spares.spares_of.Goals as goal
 
 pub spare_of-requires-clause-wide : goal.spare_of-requires-clause-wide

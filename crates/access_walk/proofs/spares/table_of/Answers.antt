@@ -1,10 +1,8 @@
-use Rattle.std.proofs.Common.{◌≡◌, List, ℕ, sym, ◌∙◌, subst}
-use Rattle.std.specs.Prelude.{Contains}
+use Rattle.std.proofs.Common.{◌≡◌, sym, subst}
 use Rattle.bit_blast.specs.Assigned.{assigned}
 use Rattle.term_reach.proofs.Ways.{reached_further}
 use Rattle.smt_terms.specs.Bits.{image_in}
 use Rattle.access_tables.specs.Leading.{leads}
-use Rattle.access_tables.specs.Held.{TableValue}
 use Rattle.access_walk.specs.Walked.{IsWalkedTable}
 use Rattle.access_walk.proofs.spares.table_of.Goals as goal
 

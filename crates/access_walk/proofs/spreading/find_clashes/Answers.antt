@@ -1,11 +1,10 @@
-use Rattle.std.proofs.Common.{◌≡◌, ℕ, true, false, length, sym, ap, ◌∙◌, arith}
-use Rattle.std.specs.Prelude.{◌==◌}
+use Rattle.std.proofs.Common.{◌≡◌, true, false, length, sym, ap, ◌∙◌, arith}
 use Rattle.std.specs.Vec.{vec_len}
 use Rattle.std.proofs.lemmas.Bool.{eq-eqb, eqb-true}
 use Rattle.bit_blast.specs.Assigned.{assigned}
 use Rattle.access_walk.specs.Networks.{landings_of}
 use Rattle.access_walk.specs.Valuing.{landings_in}
-use Rattle.access_walk.proofs.Tabled.{table_closed, lemmas_false, lemmas_some}
+use Rattle.access_walk.proofs.Tabled.{table_closed, lemmas_false, lemmas_few, lemmas_some}
 use Rattle.access_walk.proofs.spreading.find_clashes.Goals as goal
 
 pub returns-then-is_empty : goal.returns-then-is_empty
@@ -34,5 +33,6 @@ returns c =
     record {
       some = lemmas_some nodes bits c.args.reached.now c.args.network.now c.requires.network f values.entries.items values.gates.items values.starts.items c.in_ok-fill.ensures state.rows.items state.refused.items c.in_ok-spread_down_first.ensures c.in_ok-falses.falses.items some c.in_ok-falses.ensures;
       falses = lemmas_false nodes bits c.args.reached.now c.args.network.now c.requires.network f values.entries.items values.gates.items values.starts.items c.in_ok-fill.ensures state.rows.items state.refused.items c.in_ok-spread_down_first.ensures c.in_ok-falses.falses.items c.in_ok-falses.ensures;
+      few = lemmas_few nodes bits c.args.reached.now c.args.network.now c.requires.network f values.entries.items values.gates.items values.starts.items c.in_ok-fill.ensures state.rows.items state.refused.items c.in_ok-spread_down_first.ensures c.in_ok-falses.falses.items c.in_ok-falses.ensures;
       siblings = c.in_ok-siblings.ensures;
     }

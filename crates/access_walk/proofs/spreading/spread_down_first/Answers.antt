@@ -1,5 +1,4 @@
-use Rattle.std.proofs.Common.{◌≡◌, ℕ, [], true, false, length, refl, sym, ap, ◌∙◌, subst, arith}
-use Rattle.std.specs.Prelude.{◌==◌}
+use Rattle.std.proofs.Common.{◌≡◌, [], true, false, length, sym, ap, ◌∙◌, subst, arith}
 use Rattle.std.specs.Vec.{vec_len}
 use Rattle.std.proofs.lemmas.Bool.{eq-eqb}
 use Rattle.access_spread.specs.Spreads.{IsSpread}
@@ -10,11 +9,12 @@ returns c =
     let g = c.args.network.now.graph in
     let rows = c.spread.new.state.rows.items in
     let refused = c.spread.new.state.refused in
-    let s = c.in_ok-spread.ensures in
+    let s = c.in_ok-spread.ensures.spread in
     let r : IsSpread g c.deref.result.now [] c.deref-2.result.now rows refused.items = record {
       derived = s.derived;
       started = s.started;
       refused_are = s.refused_are;
+      few = s.few;
       table = λ n.
           let z : length refused.items ≡ 0 = ap length n.1 in
           let w : vec_len refused ≡ 0 = omega (arith, z) in

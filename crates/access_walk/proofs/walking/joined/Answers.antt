@@ -1,4 +1,4 @@
-use Rattle.std.proofs.Common.{◌≡◌, length, ap, arith}
+use Rattle.std.proofs.Common.{length, ap, arith}
 use Rattle.std.proofs.lemmas.List.{length-append}
 use Rattle.std.specs.Prelude.{Contains}
 use Rattle.bit_blast.specs.Assigned.{assigned}
@@ -9,5 +9,12 @@ pub returns : goal.returns
 returns c = record {
   some = λ none. c.requires.clashes.some (let e = ap length c.in_ok-append.ensures.items in let long = length-append c.args.conflicts.items c.args.found.falses.items in omega (arith, none, e, long));
   all = more_falses c.args.terms.now.nodes c.args.bits.now (assigned c.args.assignment.now) (Contains c.args.reached.now) c.args.conflicts.items c.args.found.falses.items _ c.in_ok-append.ensures.items c.requires.conflicts c.requires.clashes.falses;
+  few = record {
+    others = c.args.conflicts.items;
+    clashes = c.args.found.falses.items;
+    are = c.in_ok-append.ensures.items;
+    others_are = c.requires.others;
+    few = c.requires.clashes.few;
+  };
   siblings = c.requires.clashes.siblings;
 }

@@ -1,7 +1,7 @@
 use Rattle.std.proofs.Common.{length, sym, subst}
 use Rattle.std.specs.Prelude.{slice_index_or}
 use Rattle.std.proofs.lemmas.List.Elements.{All-contains_itself}
-use Rattle.smt_terms.specs.Bits.{TermBits, image_in}
+use Rattle.smt_terms.specs.Bits.{image_in}
 use Rattle.term_reach.specs.Reach.{LeadsBelow}
 use Rattle.term_reach.proofs.Ways.{root_reached}
 use Rattle.access_tables.specs.Leading.{leads}

@@ -1,4 +1,4 @@
-use Rattle.std.proofs.Common.{◌≡◌, ◌<◌, sym, subst, ⊎_elim, arith}
+use Rattle.std.proofs.Common.{◌≡◌, subst, ⊎_elim, arith}
 use Rattle.std.proofs.lemmas.Bool.{MatchBool-at_true, cases_lt}
 use Rattle.walk_rows.specs.Fitting.{IsFit}
 use Rattle.walk_rows.proofs.fitting.are_fit.Goals as goal

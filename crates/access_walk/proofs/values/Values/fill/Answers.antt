@@ -1,4 +1,4 @@
-use Rattle.std.proofs.Common.{◌≡◌, map, sym, ap, ◌∙◌, subst}
+use Rattle.std.proofs.Common.{map, sym, ap, ◌∙◌, subst}
 use Rattle.bit_blast.specs.Assigned.{assigned}
 use Rattle.access_tables.specs.Held.{assigned_value}
 use Rattle.access_walk.specs.Maps.{gate_of}
