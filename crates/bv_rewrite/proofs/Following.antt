@@ -16,6 +16,7 @@ use Rattle.smt_terms.specs.declared.sort.Sort.{Sort}
 use Rattle.smt_terms.specs.declared.node.Node.{Node}
 use Rattle.smt_terms.specs.declared.fault.MakeError.{MakeError}
 use Rattle.smt_terms.specs.declared.fault.MakeError.TheVariants.{NoMemory, Fault}
+use Rattle.smt_terms.specs.declared.fault.MakeFault.TheVariants.{TermLimit}
 use Rattle.smt_terms.specs.Ranks.{is_plain, is_word, ranked, two_words, two_truths, truth}
 use Rattle.smt_terms.specs.Terms.{TermsValue, AreTerms, IsTermList, make, Makes, op_rank, sort_of}
 use Rattle.smt_terms.proofs.Growing.{sort_longer, node_longer}
@@ -31,12 +32,12 @@ use Rattle.bv_rewrite.specs.declared.simplifying.Use.{Use}
 use Rattle.bv_rewrite.specs.declared.simplifying.Simplified.{Simplified}
 use Rattle.bv_rewrite.specs.Becoming.{becomes}
 use Rattle.bv_rewrite.specs.Making.{made_shape, IsRanked, IsOfShape}
-use Rattle.bv_rewrite.specs.Simplifying.{from_image, end_in, in_order, settled, first_use, IsSimplified, IsWay, AreOfTable, IsGrown, IsNeeded, IsOnWay, IsFollowed, IsRefused}
+use Rattle.bv_rewrite.specs.Simplifying.{from_image, end_in, in_order, settled, first_use, IsSimplified, IsWay, AreNeeded, AreOfTable, IsCrowded, IsGrown, IsNeeded, IsOnWay, IsFollowed, IsRefused, IsStopped}
 use Rattle.bv_rewrite.proofs.Fitting.{made, not_inner}
 use Rattle.bv_rewrite.specs.Weights.{weight}
 use Rattle.bv_rewrite.proofs.Ranking.{ranked_shape}
 use Rattle.bv_rewrite.proofs.Lighter.{lighter_shape}
-use Rattle.bv_rewrite.proofs.Made.{IsReady, IsThere, there, refused, made_of_shape, shape_refused}
+use Rattle.bv_rewrite.proofs.Made.{IsReady, IsThere, there, refused, refused_full, made_of_shape, shape_full, shape_refused}
 use Rattle.bv_rewrite.proofs.Lasting.{becomes_longer}
 
 both : (a b : Bool) → a ≡ true → b ≡ true → (a && b) ≡ true
@@ -132,6 +133,17 @@ went_on v w x t before uses u n rule z h e m =
 pub stopped : (t v x : TermsValue) (s : Sort) (z : Shape) (e : MakeError) → IsGrown t v → IsRanked v.nodes s z → Makes (made_shape v s z) (Err e) v x → IsRefused t x e
 stopped t v x s z NoMemory g r h = record { grown = subst (IsGrown t) (sym h) g; cause = inl refl }
 stopped t v x s z (Fault f) g r h = record { grown = subst (IsGrown t) (sym h.1) g; cause = inr (ap Fault (shape_refused v s z f g.terms r h.0)) }
+
+-- and no room for it
+pub stopped_full : (t v x : TermsValue) (from : ℕ) (before uses : List Use) (rule : Rule) (u : ℕ) (s : Sort) (z : Shape) (e : MakeError) → IsOnWay t v from before uses u → s ≡ sort_of v.nodes u → becomes v.nodes rule u ≡ Some z
+    → Makes (made_shape v s z) (Err e) v x → e ≡ Fault TermLimit → IsStopped t from before
+stopped_full t v x from before uses rule u s z e o q b h f =
+    let m : Makes (made_shape v (sort_of v.nodes u) z) (Err (Fault TermLimit)) v x = subst (λ d. Makes (made_shape v (sort_of v.nodes u) z) (Err d) v x) f (subst (λ r. Makes (made_shape v r z) (Err e) v x) q h) in
+    record { terms = v; uses = uses; at = u; on_way = o; full = shape_full v (sort_of v.nodes u) z TermLimit o.grown.terms (ranked_shape v.nodes rule u z o.grown.terms.list o.held b) m.0 }
+
+-- want of memory is no fault
+pub no_fault : {A : Type 0} (e : MakeError) → e ≡ NoMemory → e ≡ Fault TermLimit → A
+no_fault e p q = let z : NoMemory ≡ Fault TermLimit = sym p ∙ q in let n : ⊥ = cc in absurd n
 
 -- a step to an image
 pub stepped : (images : ℕ → Option ℕ) (n i a c : ℕ) → i < n → Some c ≡ images a → end_in images (n - (i + 1)) c ≡ end_in images (n - i) a
@@ -321,6 +333,29 @@ module _ (v : TermsValue) (images : ℕ → Option ℕ) (h : AreImages v.nodes i
         (both (is_plain (sort_of N t)) (same_sort (sort_of N t) (sort_of N u) && has_reached N images t u) pn
         (both (same_sort (sort_of N t) (sort_of N u)) (has_reached N images t u) same r)))
 
+    first_needed : (x : TermsValue) (before uses : List Use) (z : ℕ) (o : IsOnWay w x u before uses z) (k : ℕ) → length v.nodes ≤ k → k < length w.nodes → IsNeeded x.nodes (first_use t u ++ o.rest) k
+    first_needed x before uses z o k le less = go (t == u) refl
+      where
+        is : u ≡ k
+        is = start.new k le less
+
+        go : (c : Bool) → (t == u) ≡ c → IsNeeded x.nodes ((if c then [] else record { rule = Inner; to = u } ∷ []) ++ o.rest) k
+        go true e = let same = eqb-true t u e in absurd (none_between (length v.nodes) t (subst (λ y. length v.nodes ≤ y) (sym (same ∙ is)) le) lt)
+        go false e = record { by = record { rule = Inner; to = u }; among = (0, omega arith, refl); held = held_grown w x u o.grown start.held; is = inl is }
+
+    all_needed : (x : TermsValue) (before uses : List Use) (z : ℕ) (o : IsOnWay w x u before uses z) → AreNeeded (length v.nodes) x.nodes (first_use t u ++ o.rest)
+    all_needed x before uses z o k le more = ⊎_elim
+        (λ less. first_needed x before uses z o k le less)
+        (λ later. needed_grown x x o.rest (first_use t u ++ o.rest) k (grown_none x o.grown.terms) (λ e c. Contains-append_right (first_use t u) o.rest e c) (o.needed k later more))
+        (cases_lt k (length w.nodes))
+
+    first_way : is_plain (sort_of v.nodes t) ≡ true → (x : TermsValue) (before uses : List Use) (z : ℕ) (o : IsOnWay w x u before uses z) → IsWay x.nodes images t (first_use t u ++ o.rest) z
+    first_way p x before uses z o = go (t == u) refl
+      where
+        go : (c : Bool) → (t == u) ≡ c → IsWay x.nodes images t ((if c then [] else record { rule = Inner; to = u } ∷ []) ++ o.rest) z
+        go true c = subst (λ y. IsWay x.nodes images y o.rest z) (sym (eqb-true t u c)) (o.way images)
+        go false c = (subst (λ l. matches l images Inner t u ≡ true) (sym o.grown.nodes) (matches_more w.nodes o.grown.more images Inner t u start.terms.list (start_matches p)), o.way images)
+
     -- the whole way
     pub simplified : (keeps : List Node → ℕ → Bool) (x : TermsValue) (before uses : List Use) (z : ℕ) (s : Simplified) → is_plain (sort_of v.nodes t) ≡ true → before ≡ first_use t u → IsFollowed keeps w x u before uses z → s.term ≡ z → s.uses.items ≡ uses → IsSimplified keeps v x images t s
     simplified keeps x before uses z s p b f q r =
@@ -333,30 +368,37 @@ module _ (v : TermsValue) (images : ℕ → Option ℕ) (h : AreImages v.nodes i
           rest = o.rest;
           uses = all;
           table = o.table;
-          way = rw (all, q) (first_way (t == u) refl x o);
+          way = rw (all, q) (first_way p x before uses z o);
           held = rw q o.held;
           end = rw q f.end;
-          needed = rw all (λ k le more. ⊎_elim (λ less. first_needed x o k le less) (λ later. needed_grown x x o.rest (first_use t u ++ o.rest) k (grown_none x o.grown.terms) (λ e c. Contains-append_right (first_use t u) o.rest e c) (o.needed k later more)) (cases_lt k (length w.nodes)));
+          needed = rw all (all_needed x before uses z o);
         }
-      where
-        first_needed : (x : TermsValue) (o : IsOnWay w x u before uses z) (k : ℕ) → length v.nodes ≤ k → k < length w.nodes → IsNeeded x.nodes (first_use t u ++ o.rest) k
-        first_needed x o k le less = go (t == u) refl
-          where
-            is : u ≡ k
-            is = start.new k le less
 
-            go : (c : Bool) → (t == u) ≡ c → IsNeeded x.nodes ((if c then [] else record { rule = Inner; to = u } ∷ []) ++ o.rest) k
-            go true e = let same = eqb-true t u e in absurd (none_between (length v.nodes) t (subst (λ y. length v.nodes ≤ y) (sym (same ∙ is)) le) lt)
-            go false e = record { by = record { rule = Inner; to = u }; among = (0, omega arith, refl); held = held_grown w x u o.grown start.held; is = inl is }
-
-        first_way : (c : Bool) → (t == u) ≡ c → (x : TermsValue) (o : IsOnWay w x u before uses z) → IsWay x.nodes images t ((if c then [] else record { rule = Inner; to = u } ∷ []) ++ o.rest) z
-        first_way true c x o = subst (λ y. IsWay x.nodes images y o.rest z) (sym (eqb-true t u c)) (o.way images)
-        first_way false c x o = (subst (λ l. matches l images Inner t u ≡ true) (sym o.grown.nodes) (matches_more w.nodes o.grown.more images Inner t u start.terms.list (start_matches p)), o.way images)
+    -- a way that leaves no room to go on
+    pub start_crowded : (before : List Use) → is_plain (sort_of v.nodes t) ≡ true → IsStopped w u before → IsCrowded v images t
+    start_crowded before p h =
+        let o = h.on_way in
+        record {
+          terms = h.terms;
+          grown = grown_more v w h.terms start_grown o.grown;
+          uses = first_use t u ++ o.rest;
+          at = h.at;
+          way = first_way p h.terms before h.uses h.at o;
+          needed = all_needed h.terms before h.uses h.at o;
+          full = h.full;
+        }
 
   -- and the limit alone refuses it
   pub start_refused : (w : TermsValue) (e : MakeError) → Makes (make v (settled v.nodes images t)) (Err e) v w → IsRefused v w e
   start_refused w NoMemory m = record { grown = subst (IsGrown v) (sym m) (grown_none v terms); cause = inl refl }
   start_refused w (Fault f) m = record { grown = subst (IsGrown v) (sym m.1) (grown_none v terms); cause = inr (ap Fault (refused v (settled v.nodes images t) (sort_of v.nodes t) f settled_ready m.0)) }
+
+  -- and where it does, there is no room to begin
+  pub start_full : (w : TermsValue) (e : MakeError) → Makes (make v (settled v.nodes images t)) (Err e) v w → e ≡ Fault TermLimit → IsCrowded v images t
+  start_full w e m f =
+      let q : Makes (make v (settled v.nodes images t)) (Err (Fault TermLimit)) v w = subst (λ d. Makes (make v (settled v.nodes images t)) (Err d) v w) f m in
+      let full = refused_full v (settled v.nodes images t) (sort_of v.nodes t) TermLimit settled_ready q.0 in
+      record { terms = v; grown = grown_none v terms; uses = []; at = t; way = refl; needed = λ k le more. absurd (none_between (length v.nodes) k le more); full = omega (arith, full) }
 
 pub refused_more : (v w x : TermsValue) (e : MakeError) → IsGrown v w → IsRefused w x e → IsRefused v x e
 refused_more v w x e g r = record { grown = grown_more v w x g r.grown; cause = r.cause }

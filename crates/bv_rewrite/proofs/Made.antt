@@ -2,7 +2,7 @@
 use Rattle.std.proofs.Common.{◌≡◌, ℕ, zero, suc, ◌+◌, ◌-◌, ◌^◌, ◌<◌, ◌≤◌, Bool, true, false, List, [], ◌∷◌, ◌++◌, length, map, take, refl, sym, ap, ◌∙◌, subst, arith, append_assoc, append-nil, length-append, ⊎_elim, inl, inr, Option, Some, None, Result, Ok, Err}
 use Rattle.std.specs.Prelude.{◌==◌, ◌&&◌, ◌||◌, nat_lt, if◌then◌else◌, position, slice_index_or, Contains}
 use Rattle.std.specs.List.{AllByRecursion}
-use Rattle.std.proofs.lemmas.Bool.{eq-eqb, lt-ltb, and_parts, cases_lt}
+use Rattle.std.proofs.lemmas.Bool.{eq-eqb, lt-ltb, ltb-false, and_parts, cases_lt}
 use Rattle.smt_terms.specs.declared.sort.Sort.{Sort}
 use Rattle.smt_terms.specs.declared.sort.Sort.TheVariants as sort
 use Rattle.smt_terms.specs.declared.operator.Operator.{Operator}
@@ -101,6 +101,19 @@ refused v n s f r e = go (position (same_node n) v.nodes) (ap (λ q. and_then q 
         at_end true q = let z : ⊥ = cc in absurd z
         at_end false q = let z : TermLimit ≡ f = cc in sym z
 
+-- and where it does, there is no room
+pub refused_full : (v : TermsValue) (n : Node) (s : Sort) (f : MakeFault) → IsReady v.nodes n s → make v n ≡ Err f → v.limit ≤ length v.nodes
+unfolding make
+refused_full v n s f r e = go (position (same_node n) v.nodes) (ap (λ q. and_then q (λ _. numbered v n (position (same_node n) v.nodes))) (sym (rank_is v n s r)) ∙ e)
+  where
+    go : (o : Option ℕ) → numbered v n o ≡ Err f → v.limit ≤ length v.nodes
+    go (Some t) q = let z : ⊥ = cc in absurd z
+    go None q = at_end (nat_lt (length v.nodes) v.limit) refl q
+      where
+        at_end : (b : Bool) → nat_lt (length v.nodes) v.limit ≡ b → if◌then◌else◌ {A = Result (ℕ × TermsValue) MakeFault} b (Ok (length v.nodes, with_node v n)) (Err TermLimit) ≡ Err f → v.limit ≤ length v.nodes
+        at_end true i q = let z : ⊥ = cc in absurd z
+        at_end false i q = ltb-false (length v.nodes) v.limit i
+
 -- terms that were added are forgotten
 pub forgotten : (v w : TermsValue) (n : Node) (u : ℕ) → make v n ≡ Ok (u, w) → cut_at w (length v.nodes) ≡ v
 forgotten v w n u e =
@@ -116,6 +129,16 @@ forgotten v w n u e =
     take_all : (xs : List Node) → take (length xs) xs ≡ xs
     take_all [] = refl
     take_all (x ∷ xs) = ap (λ l. x ∷ l) (take_all xs)
+
+one_short : (v : TermsValue) → v.limit ≤ length v.nodes → v.limit ≤ length v.nodes + 1
+one_short v h = omega (arith, h)
+
+-- one node is one term more at most
+one_more : (v w : TermsValue) (n : Node) (u : ℕ) → make v n ≡ Ok (u, w) → length w.nodes ≤ length v.nodes + 1
+one_more v w n u e = ⊎_elim
+    (λ q. (let same : length w.nodes ≡ length v.nodes = ap (λ x. length x.nodes) q in omega (arith, same)))
+    (λ new. (let more : length w.nodes ≡ length (v.nodes ++ n ∷ []) = ap (λ x. length x.nodes) new.pushed in let k = length-append v.nodes (n ∷ []) in omega (arith, more, k)))
+    (made v w n u e).grown
 
 -- a refusal of the second of two nodes
 pub beside_stopped : (v w z : TermsValue) (o : Operator) (x y : ℕ) (other : Node) (e : MakeError) → make v other ≡ Ok (y, w) → Makes (make w (on_two (op.Plain o) x y)) (Err e) w z → Makes (made_beside v o x other) (Err e) v (cut_at z (length v.nodes))
@@ -190,6 +213,18 @@ module _ (v : TermsValue) (o : Operator) (x : ℕ) (other : Node) (s r : Sort) (
       go : (m : Result (ℕ × TermsValue) MakeFault) → make v other ≡ m → and_then m (λ q. make q.1 (on_two (op.Plain o) x q.0)) ≡ Err f → f ≡ TermLimit
       go (Ok q) p h = let t = there v q.1 other r q.0 terms ready p in refused q.1 (on_two (op.Plain o) x q.0) s f (second_ready q.0 q.1 t) h
       go (Err g) p h = let z : g ≡ f = cc in sym z ∙ refused v other r g ready p
+
+  beside_full : (f : MakeFault) → made_beside v o x other ≡ Err f → v.limit ≤ length v.nodes + 1
+  beside_full f e = go (make v other) refl e
+    where
+      go : (m : Result (ℕ × TermsValue) MakeFault) → make v other ≡ m → and_then m (λ q. make q.1 (on_two (op.Plain o) x q.0)) ≡ Err f → v.limit ≤ length v.nodes + 1
+      go (Ok q) p h =
+          let t = there v q.1 other r q.0 terms ready p in
+          let full = refused_full q.1 (on_two (op.Plain o) x q.0) s f (second_ready q.0 q.1 t) h in
+          let few = one_more v q.1 other q.0 p in
+          let same = t.limit in
+          omega (arith, full, few, same)
+      go (Err g) p h = let full = refused_full v other r g ready p in omega (arith, full)
 
   -- the whole list of terms behind both
   beside_shape : (w : TermsValue) (z : Shape) (u : ℕ) (b : IsBeside v w o x other s u) → has_shape w.nodes z u ≡ true → operator_weight o + (weight v.nodes x + (op_weight other.op + total (map (weight v.nodes) other.args))) ≡ shape_weight v.nodes z → IsOfShape v w s z u
@@ -345,3 +380,18 @@ shape_refused v s (shape.WithWord o x k) f terms r e =
 shape_refused v s (shape.WithNegated x y) f terms r e =
     beside_refused v plain.Bvadd x (on_one (op.Plain plain.Bvneg) y) s (sort_of v.nodes y) terms r.0.0 (one_ready v.nodes (sort_of v.nodes y) (op.Plain plain.Bvneg) y refl r.1) r.0.2 f e
 shape_refused v s (shape.Bits i j x) f terms r e = refused v (on_one (op.Extract i j) x) s f (one_ready v.nodes s (op.Extract i j) x refl r.0) e
+
+-- there is room for one term at most where the limit refuses a shape
+pub shape_full : (v : TermsValue) (s : Sort) (z : Shape) (f : MakeFault) → AreTerms v → IsRanked v.nodes s z → made_shape v s z ≡ Err f → v.limit ≤ length v.nodes + 1
+shape_full v s (shape.Term x) f terms r e = let z : ⊥ = cc in absurd z
+shape_full v s (shape.Truth b) f terms r e = one_short v (refused_full v (leaf (op.Plain (if b then plain.True else plain.False))) s f (truth_ready v.nodes b s r) e)
+shape_full v s (shape.Word k) f terms r e = one_short v (refused_full v (word_node (width_of s) k) s f (word_ready v.nodes s (width_of s) k r) e)
+shape_full v s shape.Ones f terms r e = one_short v (refused_full v (word_node (width_of s) (2 ^ width_of s - 1)) s f (word_ready v.nodes s (width_of s) (2 ^ width_of s - 1) (ones_sort (width_of s) s r)) e)
+shape_full v s (shape.One o x) f terms r e = one_short v (refused_full v (on_one (op.Plain o) x) s f (one_ready v.nodes s (op.Plain o) x refl r) e)
+shape_full v s (shape.Two o x y) f terms r e = one_short v (refused_full v (on_two (op.Plain o) x y) s f (two_ready v.nodes s (op.Plain o) x y refl r) e)
+shape_full v s (shape.WithWord o x k) f terms r e =
+    let m = width_of (sort_of v.nodes x) in
+    beside_full v o x (word_node m k) s (sort_of v.nodes x) terms r.0.0 (word_ready v.nodes (sort_of v.nodes x) m k r.1) r.0.2 f e
+shape_full v s (shape.WithNegated x y) f terms r e =
+    beside_full v plain.Bvadd x (on_one (op.Plain plain.Bvneg) y) s (sort_of v.nodes y) terms r.0.0 (one_ready v.nodes (sort_of v.nodes y) (op.Plain plain.Bvneg) y refl r.1) r.0.2 f e
+shape_full v s (shape.Bits i j x) f terms r e = one_short v (refused_full v (on_one (op.Extract i j) x) s f (one_ready v.nodes s (op.Extract i j) x refl r.0) e)

@@ -1,5 +1,5 @@
 -- Ways along rules, from a term to one to which no rule but that on arguments applies.
-use Rattle.std.specs.Prelude.{◌≡◌, ◌⊎◌, ℕ, zero, suc, ◌<◌, ◌≤◌, ◌==◌, nat_lt, Bool, true, ◌&&◌, if◌then◌else◌, List, [], ◌∷◌, ◌++◌, length, map, Option, Some, None, Contains}
+use Rattle.std.specs.Prelude.{◌≡◌, ◌⊎◌, ℕ, zero, suc, ◌+◌, ◌<◌, ◌≤◌, ◌==◌, nat_lt, Bool, true, ◌&&◌, if◌then◌else◌, List, [], ◌∷◌, ◌++◌, length, map, Option, Some, None, Contains}
 use Rattle.std.specs.List.{AllByRecursion}
 use Rattle.smt_terms.specs.declared.node.Op.{Op}
 use Rattle.smt_terms.specs.declared.node.Node.{Node}
@@ -106,6 +106,28 @@ IsCause e = (e ≡ NoMemory) ⊎ (e ≡ Fault TermLimit)
 pub record IsRefused (v w : TermsValue) (e : MakeError) : Type 0 where
   pub grown : IsGrown v w
   pub cause : IsCause e
+
+-- There is room for one term more at most: a rule makes a term, and perhaps one beside it.
+abbrev pub IsFull : TermsValue → Type 0
+IsFull w = w.limit ≤ length w.nodes + 1
+
+-- from t so many uses more lead to a term, where there is no room to go on
+pub record IsStopped (v : TermsValue) (t : ℕ) (before : List Use) : Type 0 where
+  pub terms : TermsValue
+  pub uses : List Use
+  pub at : ℕ
+  pub on_way : IsOnWay v terms t before uses at
+  pub full : IsFull terms
+
+-- Uses of rules lead from t to a term, and with what they need, and nothing else, the terms leave no room to go on.
+pub record IsCrowded (v : TermsValue) (images : ℕ → Option ℕ) (t : ℕ) : Type 0 where
+  pub terms : TermsValue
+  pub grown : IsGrown v terms
+  pub uses : List Use
+  pub at : ℕ
+  pub way : IsWay terms.nodes images t uses at
+  pub needed : AreNeeded (length v.nodes) terms.nodes uses
+  pub full : IsFull terms
 
 -- First the arguments are settled, then rules of the table lead to a term that is kept, or to which none of them applies. No
 -- term is made but those of the uses and their arguments.

@@ -11,7 +11,7 @@ ghost use Rattle.bv_rules.specs.Matches.{AreImages};
 ghost use Rattle.bv_rules.specs.declared.rule.Rule.{Rule as RuleValue};
 ghost use Rattle.bv_rewrite.specs.Becoming.{becomes};
 ghost use Rattle.bv_rewrite.specs.Simplifying.{end_in, first_use, in_order, settled, IsSimplified, IsCause, IsEnd};
-ghost use Rattle.bv_rewrite.specs.Simplifying.{IsFollowed, IsRefused};
+ghost use Rattle.bv_rewrite.specs.Simplifying.{IsCrowded, IsFollowed, IsRefused, IsStopped};
 
 use crate::finding::{Found, becomes, find};
 use crate::kept::Kept;
@@ -158,6 +158,8 @@ fn follow<K: Kept>(
     ensures followed { IfOk result
         (λ u. IsFollowed (K.keeps kept.now) terms.old terms.new t uses.old.items uses.new.items u) }
     ensures refused { IfErr result (λ e. IsRefused terms.old terms.new e) }
+    ensures stopped { IfErr result
+        (λ e. e ≡ Fault TermLimit → IsStopped terms.old t uses.old.items) }
 {
     shapes_are_made_by_rules();
     shapes_have_the_sort_of_the_term();
@@ -190,6 +192,8 @@ fn walk<I: Images, K: Kept>(
     ensures simplified { IfOk result
         (λ s. IsSimplified (K.keeps kept.now) terms.old terms.new (I.image_of images.now) t s) }
     ensures refused { IfErr result (λ e. IsRefused terms.old terms.new e) }
+    ensures crowded { IfErr result
+        (λ e. e ≡ Fault TermLimit → IsCrowded terms.old (I.image_of images.now) t) }
 {
     let node = settle(alloc, terms, images, t)?;
     let start = terms.make(node)?;
@@ -201,7 +205,8 @@ fn walk<I: Images, K: Kept>(
 /// What a held Bool or word becomes over these images: its arguments are settled first, and then the rules of the table are
 /// followed, that on literals before the others by number, to a term that is kept, or to which none of them applies. It tells
 /// each use of a rule, and makes no term but those of the uses and their arguments. Where the limit of terms or memory refuses
-/// a term that a rule needs, the terms are as before.
+/// a term that a rule needs, the terms are as before; the limit does so only where uses of rules with what they need leave no
+/// room to go on.
 pub fn simplify<I: Images, K: Kept>(
     alloc: Global,
     terms: &mut Terms,
@@ -215,6 +220,8 @@ pub fn simplify<I: Images, K: Kept>(
     ensures simplified { IfOk result
         (λ s. IsSimplified (K.keeps kept.now) terms.old terms.new (I.image_of images.now) t s) }
     ensures refused { IfErr result (λ e. (terms.new ≡ terms.old) × IsCause e) }
+    ensures crowded { IfErr result
+        (λ e. e ≡ Fault TermLimit → IsCrowded terms.old (I.image_of images.now) t) }
 {
     let before = terms.len();
     match walk(alloc, terms, images, kept, t) {

@@ -1,6 +1,6 @@
 -- The uses of steps, the terms that they need, and steps and terms that are undone.
-use Rattle.std.proofs.Common.{◌≡◌, ℕ, ◌-◌, ◌<◌, ◌≤◌, Bool, true, false, List, [], ◌∷◌, ◌++◌, length, length-append, get_or, Some, refl, sym, ap, ◌∙◌, subst, arith, inl, inr, ⊎_elim}
-use Rattle.std.specs.Prelude.{not, take, if◌then◌else◌, Contains, slice_get}
+use Rattle.std.proofs.Common.{◌≡◌, ℕ, zero, suc, ◌-◌, ◌<◌, ◌≤◌, Bool, true, false, List, [], ◌∷◌, ◌++◌, length, length-append, get_or, Some, refl, sym, ap, ◌∙◌, subst, arith, inl, inr, ⊎_elim}
+use Rattle.std.specs.Prelude.{◌==◌, not, take, if◌then◌else◌, Contains, slice_get}
 use Rattle.std.proofs.Math.Seq.{take-append_seam}
 use Rattle.std.proofs.lemmas.Option.{slice_get-get_or, slice_get_within}
 use Rattle.std.proofs.lemmas.Bool.{cases_lt}
@@ -9,11 +9,12 @@ use Rattle.smt_terms.specs.declared.node.Node.{Node}
 use Rattle.smt_terms.specs.Bits.{TermBits}
 use Rattle.smt_terms.specs.Terms.{TermsValue, cut_at}
 use Rattle.smt_terms.proofs.Growing.{node_longer}
+use Rattle.bv_rules.specs.declared.rule.Rule.TheVariants.{Inner}
 use Rattle.bv_rules.proofs.Known.{never}
 use Rattle.bv_rewrite.specs.declared.simplifying.Use.{Use}
-use Rattle.bv_rewrite.specs.Simplifying.{AreNeeded, IsGrown, IsNeeded}
+use Rattle.bv_rewrite.specs.Simplifying.{first_use, AreNeeded, AreOfTable, IsGrown, IsNeeded}
 use Rattle.reached_images.specs.declared.plan.Planned.{Planned}
-use Rattle.reached_images.specs.Plans.{is_known, uses_of, with_step, AreAmong, IsLater}
+use Rattle.reached_images.specs.Plans.{is_known, uses_of, with_step, AreAmong, AreInnerFirst, IsLater}
 use Rattle.reached_images.proofs.Knowing.{later_itself, later_on}
 
 -- ---- the uses of more steps
@@ -28,7 +29,7 @@ use_last steps t s =
     let p : Planned = record { term = t; used = Some s } in
     subst (λ x. Contains x s) (sym (filter_map-append (λ (p : Planned). p.used) steps (p ∷ []))) (Contains-append_right (uses_of steps) (s ∷ []) s (0, omega arith, refl))
 
-later_with : (bits : List TermBits) (steps : List Planned) (p : Planned) → IsLater steps (with_step bits steps p)
+pub later_with : (bits : List TermBits) (steps : List Planned) (p : Planned) → IsLater steps (with_step bits steps p)
 later_with bits steps p = go (is_known bits steps p.term) where
   go : (b : Bool) → IsLater steps (if b then steps else steps ++ p ∷ [])
   go true = later_itself steps
@@ -42,7 +43,7 @@ open_of : (x b : Bool) → b ≡ not x → b ≡ true → x ≡ false
 open_of true b e h = never (sym e ∙ h)
 open_of false b e h = refl
 
-added_is : (bits : List TermBits) (plan new : List Planned) (p : Planned) (b : Bool) → new ≡ with_step bits plan p → b ≡ not (is_known bits plan p.term) → b ≡ true → new ≡ plan ++ p ∷ []
+pub added_is : (bits : List TermBits) (plan new : List Planned) (p : Planned) (b : Bool) → new ≡ with_step bits plan p → b ≡ not (is_known bits plan p.term) → b ≡ true → new ≡ plan ++ p ∷ []
 added_is bits plan new p b e n h = e ∙ ap (λ x. if x then plan else plan ++ p ∷ []) (open_of (is_known bits plan p.term) b n h)
 
 -- ---- a way of uses, from its end
@@ -71,6 +72,23 @@ used_step bits uses plan new i d from b some le h e n added k s low at =
 
 pub used_ended : (uses : List Use) (plan : List Planned) (i : ℕ) → i ≤ 0 → AreUsedFrom uses plan i → AreAmong uses (uses_of plan)
 used_ended uses plan i none h s c = h c.0 s (omega (arith, none)) (slice_get-get_or uses c.0 s c.1 ∙ ap Some c.2)
+
+-- ---- the rule on arguments
+
+table_at : (uses : List Use) (k : ℕ) (s : Use) → AreOfTable uses → slice_get uses k ≡ Some s → s.rule ≡ Inner → ⊥
+table_at [] k s h e = let z : ⊥ = cc in absurd z
+table_at (x ∷ xs) zero s h e = let q : x ≡ s = cc in subst (λ (y : Use). y.rule ≡ Inner → ⊥) q h.0
+table_at (x ∷ xs) (suc k) s h e = table_at xs k s h.1 e
+
+-- only the first of the uses of a simplified term may be of it
+pub inner_first : (t u : ℕ) (rest uses : List Use) → uses ≡ first_use t u ++ rest → AreOfTable rest → AreInnerFirst uses
+inner_first t u rest uses e h k s at = go (t == u) (ap (λ l. slice_get l (suc k)) (sym e) ∙ at) where
+  go : (b : Bool) → slice_get ((if b then [] else record { rule = Inner; to = u } ∷ []) ++ rest) (suc k) ≡ Some s → s.rule ≡ Inner → ⊥
+  go true f = table_at rest (suc k) s h f
+  go false f = table_at rest k s h f
+
+pub none_first : AreInnerFirst []
+none_first k s e = let z : ⊥ = cc in absurd z
 
 -- ---- terms that are needed
 

@@ -1,2 +1,4 @@
+pub mod Needed
 pub mod Plans
+pub mod Settled
 pub mod Tables

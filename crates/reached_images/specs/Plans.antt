@@ -1,9 +1,10 @@
 -- Which terms are to get bits, in which order, and what they become.
-use Rattle.std.specs.Prelude.{◌≡◌, ◌<◌, ◌==◌, ℕ, zero, suc, Bool, true, ◌||◌, is_some, if◌then◌else◌, List, [], ◌∷◌, ◌++◌, All, Contains, length, Option, Some, None}
+use Rattle.std.specs.Prelude.{◌≡◌, ◌<◌, ◌==◌, ℕ, zero, suc, Bool, true, ◌||◌, is_some, if◌then◌else◌, List, [], ◌∷◌, ◌++◌, All, Contains, length, slice_get, Option, Some, None, IsSome}
 use Rattle.std.specs.List.{find, filter_map}
 use Rattle.smt_terms.specs.declared.node.Node.{Node}
 use Rattle.smt_terms.specs.Nodes.{node_at}
 use Rattle.smt_terms.specs.Bits.{TermBits, bits_in, image_in}
+use Rattle.bv_rules.specs.declared.rule.Rule.TheVariants.{Inner}
 use Rattle.bv_rules.specs.Matches.{matches}
 use Rattle.bv_rewrite.specs.declared.simplifying.Use.{Use}
 use Rattle.bv_rewrite.specs.Kept.{stays_difference}
@@ -56,6 +57,10 @@ step_image (Some p) = led_to p.used
 abbrev pub known_image : List TermBits → List Planned → ℕ → Option ℕ
 known_image bits steps t = if is_some (bits_in bits t) then image_in bits t else step_image (planned_in steps t)
 
+-- the image of a term has bits
+abbrev pub ImagesHaveBits : List TermBits → Type 0
+ImagesHaveBits bits = (t u : ℕ) → image_in bits t ≡ Some u → IsSome (bits_in bits u)
+
 -- terms that are known are kept, and differences whose sums no rule takes further
 abbrev pub keeps_known : List TermBits → List Planned → List Node → ℕ → Bool
 keeps_known bits steps nodes t = is_known bits steps t || stays_difference nodes t
@@ -86,11 +91,41 @@ AreNext nodes bits before (p ∷ ps) = IsNext nodes bits before p × AreNext nod
 abbrev pub IsPlan : List Node → List TermBits → List Planned → Type 0
 IsPlan nodes bits steps = AreNext nodes bits [] steps
 
+-- the use is of the rule on arguments, which looks through their images
+abbrev pub IsOnArguments : Option Use → Type 0
+IsOnArguments None = ⊥
+IsOnArguments (Some u) = u.rule ≡ Inner
+
+-- the step may stand behind these, and where it looks through the images of its term's arguments, these are known
+pub record IsNextWhole (nodes : List Node) (bits : List TermBits) (before : List Planned) (p : Planned) : Type 0 where
+  pub next : IsNext nodes bits before p
+  pub arguments : IsOnArguments p.used → All (IsKnown bits before) (node_at nodes p.term).args
+
+abbrev pub AreNextWhole : List Node → List TermBits → List Planned → List Planned → Type 0
+AreNextWhole nodes bits before [] = Unit {0}
+AreNextWhole nodes bits before (p ∷ ps) = IsNextWhole nodes bits before p × AreNextWhole nodes bits (before ++ p ∷ []) ps
+
+-- a plan in which no image comes behind a use that looks through it
+abbrev pub IsWholePlan : List Node → List TermBits → List Planned → Type 0
+IsWholePlan nodes bits steps = AreNextWhole nodes bits [] steps
+
 -- there is such a plan, which has these steps and more behind them, so that the term is known
 pub record IsPlannedBy (nodes : List Node) (bits : List TermBits) (old new : List Planned) (t : ℕ) : Type 0 where
   pub plan : IsPlan nodes bits new
   pub later : IsLater old new
   pub known : IsKnown bits new t
+
+-- no use but the first is of the rule on arguments
+abbrev pub AreInnerFirst : List Use → Type 0
+AreInnerFirst uses = (k : ℕ) (s : Use) → slice_get uses (suc k) ≡ Some s → s.rule ≡ Inner → ⊥
+
+-- the steps are such a plan, where the old ones are
+abbrev pub StaysWhole : List Node → List TermBits → List Planned → List Planned → Type 0
+StaysWhole nodes bits old new = IsWholePlan nodes bits old → IsWholePlan nodes bits new
+
+-- the arguments of the term are known
+abbrev pub HasKnownArguments : List Node → List TermBits → List Planned → ℕ → Type 0
+HasKnownArguments nodes bits steps t = All (IsKnown bits steps) (node_at nodes t).args
 
 -- the term from which the use at a place leads, where the first leads from t
 abbrev pub start_at : ℕ → List Use → ℕ → ℕ

@@ -3,7 +3,7 @@ use Rattle.std.specs.Prelude.{Ok, Err}
 use Rattle.std.proofs.lemmas.Result.{err_from_is_err_and}
 use Rattle.smt_terms.specs.Terms.{make, Makes}
 use Rattle.bv_rewrite.specs.Simplifying.{IsRefused}
-use Rattle.bv_rewrite.proofs.Following.{start_grown, start_held, start_plain, start_refused, simplified, refused_more, no_memory}
+use Rattle.bv_rewrite.proofs.Following.{start_grown, start_held, start_plain, start_crowded, start_full, start_refused, simplified, refused_more, no_fault, no_memory}
 use Rattle.bv_rewrite.proofs.simplifying.walk.Goals as goal
 
 pub returns-in_err-start-clause-refused : goal.returns-in_err-start-clause-refused
@@ -53,3 +53,22 @@ returns-clause-simplified g c =
     let e = subst (λ n. make c.args.terms.now n ≡ Ok (c.in_ok-start.start, c.make.new.self)) c.in_ok-node.ensures c.in_ok-start.ensures in
     simplified c.args.terms.now image c.requires.images c.requires.terms c.args.t c.requires.held c.make.new.self c.in_ok-start.start e (g.K.Kept.keeps c.args.kept.now) c.follow.new.terms c.in_ok-uses.uses.items c.follow.new.uses.items c.in_ok-term.term
     (record { term = c.in_ok-term.term; uses = c.follow.new.uses }) c.requires.plain c.in_ok-uses.ensures c.in_ok-term.ensures.followed refl refl
+
+pub returns-in_err-start-clause-crowded : goal.returns-in_err-start-clause-crowded
+returns-in_err-start-clause-crowded g c =
+    let p = err_from_is_err_and c.from_residual-in_err-start.result c.from_residual-in_err-start.ensures.1 in
+    let image = g.I.Images.image_of c.args.images.now in
+    rw (p.1, p.2) (start_full c.args.terms.now image c.requires.images c.requires.terms c.args.t c.requires.held c.make.new.self _
+    (subst (λ n. Makes (make c.args.terms.now n) (Err c.in_err-start.field-0.0) c.args.terms.now c.make.new.self) c.in_ok-node.ensures c.in_err-start.ensures))
+
+pub returns-in_err-uses-clause-crowded : goal.returns-in_err-uses-clause-crowded
+returns-in_err-uses-clause-crowded g c =
+    let p = err_from_is_err_and c.from_residual-in_err-uses.result c.from_residual-in_err-uses.ensures.1 in
+    rw p.1 (λ f. no_fault p.0 p.2 f)
+
+pub returns-in_err-term-clause-crowded : goal.returns-in_err-term-clause-crowded
+returns-in_err-term-clause-crowded g c =
+    let p = err_from_is_err_and c.from_residual-in_err-term.result c.from_residual-in_err-term.ensures.1 in
+    let image = g.I.Images.image_of c.args.images.now in
+    let e = subst (λ n. make c.args.terms.now n ≡ Ok (c.in_ok-start.start, c.make.new.self)) c.in_ok-node.ensures c.in_ok-start.ensures in
+    rw (p.1, p.2) (λ f. start_crowded c.args.terms.now image c.requires.images c.requires.terms c.args.t c.requires.held c.make.new.self c.in_ok-start.start e c.in_ok-uses.uses.items c.requires.plain (c.in_err-term.ensures.stopped f))

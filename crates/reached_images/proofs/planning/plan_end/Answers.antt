@@ -1,0 +1,47 @@
+use Rattle.std.proofs.Common.{◌≡◌, sym, ap, ◌∙◌, subst}
+use Rattle.std.specs.Prelude.{All}
+use Rattle.smt_terms.specs.declared.node.Node.{Node}
+use Rattle.smt_terms.specs.Nodes.{node_at}
+use Rattle.bv_rules.proofs.Known.{never}
+use Rattle.reached_images.specs.Plans.{is_known, IsKnown}
+use Rattle.reached_images.specs.Settled.{IsSupported}
+use Rattle.reached_images.proofs.Owning.{args_next, end_next}
+use Rattle.reached_images.proofs.planning.plan_end.Goals as goal
+
+pub returns-then-not-are_supported-clause-unsupported : goal.returns-then-not-are_supported-clause-unsupported
+returns-then-not-are_supported-clause-unsupported c e all =
+    let same : c.as_slice-args.result.now ≡ (node_at c.args.terms.now.nodes c.args.term).args = c.as_slice-args.ensures ∙ ap (λ (n : Node). n.args) c.node.ensures.node in
+    c.if-not-are_supported.ensures (subst (All (IsSupported c.args.terms.now.nodes c.args.bits.now c.args.plan.now)) (sym same) all)
+
+pub arguments-preserved : goal.arguments-preserved
+arguments-preserved c =
+    let same : c.as_slice-args.result.now ≡ (node_at c.args.terms.now.nodes c.args.term).args = c.as_slice-args.ensures ∙ ap (λ (n : Node). n.args) c.node.ensures.node in
+    args_next c.args.terms.now c.args.bits.now c.args.plan.now c.arguments.plan c.add.new.self c.args.term c.as_slice-args.result.now c.arguments.argument-index _ c.node.ensures.terms.list same c.if-not-are_supported.ensures c.arguments.invariant c.arguments-test.true c.in_ok-add.ensures.ok
+
+pub returns-clause-planned : goal.returns-clause-planned
+returns-clause-planned c =
+    let same : c.as_slice-args.result.now ≡ (node_at c.args.terms.now.nodes c.args.term).args = c.as_slice-args.ensures ∙ ap (λ (n : Node). n.args) c.node.ensures.node in
+    let new : IsKnown c.args.bits.now c.args.plan.now c.args.term → ⊥ = λ k. never (sym c.if-has.false ∙ c.has.ensures ∙ (λ i. is_known (c.new.ensures.bits i) (c.new.ensures.plan i) c.args.term) ∙ k) in
+    let r = end_next c.args.terms.now c.args.bits.now c.args.plan.now c.arguments.plan c.add-2.new.self c.args.term c.as_slice-args.result.now c.arguments.argument-index c.requires.held same (c.requires.settled new) c.arguments.invariant c.arguments-test.false c.in_ok-add-2.ensures.ok in
+    (r.0.plan, r.0.later)
+
+pub returns-clause-known : goal.returns-clause-known
+returns-clause-known c e =
+    let same : c.as_slice-args.result.now ≡ (node_at c.args.terms.now.nodes c.args.term).args = c.as_slice-args.ensures ∙ ap (λ (n : Node). n.args) c.node.ensures.node in
+    let new : IsKnown c.args.bits.now c.args.plan.now c.args.term → ⊥ = λ k. never (sym c.if-has.false ∙ c.has.ensures ∙ (λ i. is_known (c.new.ensures.bits i) (c.new.ensures.plan i) c.args.term) ∙ k) in
+    let r = end_next c.args.terms.now c.args.bits.now c.args.plan.now c.arguments.plan c.add-2.new.self c.args.term c.as_slice-args.result.now c.arguments.argument-index c.requires.held same (c.requires.settled new) c.arguments.invariant c.arguments-test.false c.in_ok-add-2.ensures.ok in
+    r.1
+
+pub returns-clause-whole : goal.returns-clause-whole
+returns-clause-whole c =
+    let same : c.as_slice-args.result.now ≡ (node_at c.args.terms.now.nodes c.args.term).args = c.as_slice-args.ensures ∙ ap (λ (n : Node). n.args) c.node.ensures.node in
+    let new : IsKnown c.args.bits.now c.args.plan.now c.args.term → ⊥ = λ k. never (sym c.if-has.false ∙ c.has.ensures ∙ (λ i. is_known (c.new.ensures.bits i) (c.new.ensures.plan i) c.args.term) ∙ k) in
+    let r = end_next c.args.terms.now c.args.bits.now c.args.plan.now c.arguments.plan c.add-2.new.self c.args.term c.as_slice-args.result.now c.arguments.argument-index c.requires.held same (c.requires.settled new) c.arguments.invariant c.arguments-test.false c.in_ok-add-2.ensures.ok in
+    r.0.whole
+
+pub returns-clause-own : goal.returns-clause-own
+returns-clause-own c =
+    let same : c.as_slice-args.result.now ≡ (node_at c.args.terms.now.nodes c.args.term).args = c.as_slice-args.ensures ∙ ap (λ (n : Node). n.args) c.node.ensures.node in
+    let new : IsKnown c.args.bits.now c.args.plan.now c.args.term → ⊥ = λ k. never (sym c.if-has.false ∙ c.has.ensures ∙ (λ i. is_known (c.new.ensures.bits i) (c.new.ensures.plan i) c.args.term) ∙ k) in
+    let r = end_next c.args.terms.now c.args.bits.now c.args.plan.now c.arguments.plan c.add-2.new.self c.args.term c.as_slice-args.result.now c.arguments.argument-index c.requires.held same (c.requires.settled new) c.arguments.invariant c.arguments-test.false c.in_ok-add-2.ensures.ok in
+    r.0.own

@@ -1,5 +1,0 @@
-use Rattle.reached_images.proofs.Whole.{ArePlannedTo}
-use Rattle.reached_images.proofs.planning.plan_terms.Given as goal
-
-abbrev pub invariant-terms : goal.invariant-terms
-invariant-terms l = ArePlannedTo l.fn.terms l.terms l.bits l.plan l.term-items l.term-index
