@@ -16,6 +16,7 @@ use Rattle.proof_log.proofs.Growth.{chain_part}
 use Rattle.proof_log.proofs.Lines.{are_lines_snoc, lines_after_snoc, held_cases}
 use Rattle.cdcl_core.specs.declared.watches.Watches.{Watches}
 use Rattle.cdcl_core.specs.Search.{clause_of, held_of}
+use Rattle.cdcl_core.proofs.Held.{held_kept}
 use Rattle.cdcl_loop.specs.Engines.{IsSameBut}
 use Rattle.cdcl_learn.specs.Puts as learnt
 use Rattle.cube_search.specs.Holding.{IsForeign}
@@ -93,6 +94,21 @@ module _ (g : Subject) (w v : Watches) (variables : List ℕ) (held : ℕ → Bo
       let d = dropped_cases held at id.pos k in
       ⊎_elim (λ x. inl (others.held id (λ a. d.0 (ap (λ (y : ClauseId). y.pos) a)) ∙ x)) (λ x. inr x) (h id c d.1 e)
 
+  more_stored : clause_of v (record { pos = at; part = 0 }) ≡ Some clause → ((p : ℕ) → held p ≡ true → is_chain (entry_at g.log p) ≡ true → (c : List Literal) × (clause_of w (record { pos = p; part = 0 }) ≡ Some c)) → (p : ℕ) → with_held held at true p ≡ true → is_chain (entry_at g.log p) ≡ true → (c : List Literal) × (clause_of v (record { pos = p; part = 0 }) ≡ Some c)
+  more_stored here h p k chained = elim (same_id (record { pos = p; part = 0 }) (record { pos = at; part = 0 })) [
+    | inl a ↦ (clause, ap (clause_of v) a ∙ here)
+    | inr a ↦ ⊎_elim
+        (λ e. absurd (a (λ i. record { pos = e i; part = 0 })))
+        (λ old. let q = h p old chained in (q.0, others.kept (record { pos = p; part = 0 }) a ∙ q.1))
+        (held_cases held at true p k)
+  ]
+
+  less_stored : ((p : ℕ) → held p ≡ true → is_chain (entry_at g.log p) ≡ true → (c : List Literal) × (clause_of w (record { pos = p; part = 0 }) ≡ Some c)) → (p : ℕ) → with_held held at false p ≡ true → is_chain (entry_at g.log p) ≡ true → (c : List Literal) × (clause_of v (record { pos = p; part = 0 }) ≡ Some c)
+  less_stored h p k chained =
+      let d = dropped_cases held at p k in
+      let q = h p d.1 chained in
+      (q.0, others.kept (record { pos = p; part = 0 }) (λ a. d.0 (ap (λ (y : ClauseId). y.pos) a)) ∙ q.1)
+
 -- ---- the three lines
 
 module _ (g : Subject) (w v : Watches) (variables : List ℕ) (k l : Keeper) (seen at : ℕ) (clause : List Literal) (hints : List ClauseId) (chain : entry_at g.log at ≡ Some (step.Chain clause hints)) (others : IsSameBut (record { pos = at; part = 0 }) w v) (same : l.start ≡ k.start) (h : IsKept g w variables k seen) where
@@ -118,14 +134,15 @@ module _ (g : Subject) (w v : Watches) (variables : List ℕ) (k l : Keeper) (se
             omega (arith, ap (λ r. r.drops) s, left, allowed_more l.puts (suc (state_in g k).puts) l.chains (suc (state_in g k).chains) n m);
         held = λ id c x. ap (λ r. r.held id.pos) s ∙ more_held g w v variables (state_in g k).held at clause hints chain others h.held id c x;
         complete = λ id c x y. more_complete g w v variables (state_in g k).held at clause hints chain others h.complete (inl here) id c (sym (ap (λ r. r.held id.pos) s) ∙ x) y;
+        stored = λ p x e. more_stored g w v variables (state_in g k).held at clause hints chain others (held_kept v (record { pos = at; part = 0 }) clause here) h.stored p (sym (ap (λ r. r.held p) s) ∙ x) e;
         lined = lined_still (Put at) e;
         start = omega (arith, same, h.start);
         begun = omega (arith, same, h.begun);
         later = λ p c. ⊎_elim (λ old. omega (arith, same, h.later p old)) (λ q. let r : at ≡ p = cc in omega (arith, r, start, same)) (Contains-push_cases k.lines.items (Put at) (Put p) (subst (λ ls. Contains ls (Put p)) e c));
       }
 
-  pub kept_take : l.lines.items ≡ k.lines.items ++ Take at ∷ [] → l.puts ≡ k.puts → l.chains ≡ k.chains → l.left ≡ 0 → at ≤ length g.log → (held_of v (record { pos = at; part = 0 }) ≡ Some clause) ⊎ IsForeign variables clause → IsKept g v variables l seen
-  kept_take e puts chains left within here =
+  pub kept_take : l.lines.items ≡ k.lines.items ++ Take at ∷ [] → l.puts ≡ k.puts → l.chains ≡ k.chains → l.left ≡ 0 → at ≤ length g.log → clause_of v (record { pos = at; part = 0 }) ≡ Some clause → (held_of v (record { pos = at; part = 0 }) ≡ Some clause) ⊎ IsForeign variables clause → IsKept g v variables l seen
+  kept_take e puts chains left within kept here =
       let s = after (Take at) e in
       record {
         stand = stands (Take at) e within;
@@ -134,6 +151,7 @@ module _ (g : Subject) (w v : Watches) (variables : List ℕ) (k l : Keeper) (se
         drops = omega (arith, left);
         held = λ id c x. ap (λ r. r.held id.pos) s ∙ more_held g w v variables (state_in g k).held at clause hints chain others h.held id c x;
         complete = λ id c x y. more_complete g w v variables (state_in g k).held at clause hints chain others h.complete here id c (sym (ap (λ r. r.held id.pos) s) ∙ x) y;
+        stored = λ p x e. more_stored g w v variables (state_in g k).held at clause hints chain others kept h.stored p (sym (ap (λ r. r.held p) s) ∙ x) e;
         lined = lined_still (Take at) e;
         start = omega (arith, same, h.start);
         begun = omega (arith, same, h.begun);
@@ -150,6 +168,7 @@ module _ (g : Subject) (w v : Watches) (variables : List ℕ) (k l : Keeper) (se
         drops = omega (arith, ap (λ r. r.drops) s, left, h.drops);
         held = λ id d x. ap (λ r. r.held id.pos) s ∙ less_held g w v variables (state_in g k).held at clause hints chain others sound none h.held id d x;
         complete = λ id d x y. less_complete g w v variables (state_in g k).held at clause hints chain others h.complete id d (sym (ap (λ r. r.held id.pos) s) ∙ x) y;
+        stored = λ p x y. less_stored g w v variables (state_in g k).held at clause hints chain others h.stored p (sym (ap (λ r. r.held p) s) ∙ x) y;
         lined = lined_still (Drop at) e;
         start = omega (arith, same, h.start);
         begun = omega (arith, same, h.begun);

@@ -1,5 +1,5 @@
 -- A search over a log that grew.
-use Rattle.std.proofs.Common.{◌≡◌, ℕ, suc, ◌<◌, ◌≤◌, true, List, [], ◌∷◌, length, Option, Some, None, refl, sym, ap, ◌∙◌, subst, inl, inr, ⊎_elim, arith}
+use Rattle.std.proofs.Common.{◌≡◌, ℕ, suc, ◌<◌, ◌≤◌, true, List, [], ◌∷◌, ◌++◌, length, Option, Some, None, refl, sym, ap, ◌∙◌, subst, inl, inr, ⊎_elim, arith}
 use Rattle.std.specs.Prelude.{Contains}
 use Rattle.cnf_base.specs.Literals.{Literal, negated}
 use Rattle.cnf_base.specs.Assignments.{AreBelow}
@@ -12,10 +12,10 @@ use Rattle.smt_terms.specs.declared.node.Node.{Node}
 use Rattle.proof_log.specs.declared.entry.Entry.{Entry}
 use Rattle.proof_log.specs.declared.entry.Entry.TheVariants as step
 use Rattle.proof_log.specs.Logs.{clause_at, entry_at, state_of, IsStep, IsLog}
-use Rattle.proof_log.specs.Boards.{Grows, IsLater, IsPutAt}
+use Rattle.proof_log.specs.Boards.{IsLater, IsPutAt}
 use Rattle.proof_log.specs.Diaries.{Subject, look_of, is_chain, blank}
-use Rattle.proof_log.proofs.Growth.{grown_holds, grown_length, clause_stays, clause_place, entry_stays, entry_within, clauses_exist, put_is_new}
-use Rattle.proof_log.proofs.Lines.{IsProlonged, blank_within, lines_within, diary_longer}
+use Rattle.proof_log.proofs.Growth.{clause_place, entry_within, clauses_exist, put_is_new}
+use Rattle.proof_log.proofs.Lines.{blank_within, lines_within}
 use Rattle.proof_log.proofs.Growing.{below_member}
 use Rattle.cdcl_core.specs.declared.watches.Watches.{Watches}
 use Rattle.cdcl_core.specs.Search.{clause_of, held_of}
@@ -24,6 +24,7 @@ use Rattle.cube_search.specs.Holding.{AreAmong, IsTold}
 use Rattle.cube_search.specs.Keeping.{IsKept}
 use Rattle.cube_search.specs.declared.keeper.Keeper.{Keeper}
 use Rattle.cube_search.specs.Running.{IsSearchOf}
+use Rattle.cube_search.proofs.Longer.{IsExtended, log_longer, entry_longer, longer_holds, clause_longer, diary_longer}
 use Rattle.cube_search.proofs.Told.{told_agrees}
 
 -- ---- chains
@@ -37,26 +38,25 @@ chain_within log p e = let k = chain_entry (entry_at log p) e in entry_within lo
 
 -- ---- what is held
 
-same_nodes : (w : Watches) (variables opening taken : List ℕ) (from seen : ℕ) (nodes : List Node) (log log' : List Entry) → Grows log log' → IsLog nodes log' → IsSearchOf w variables opening taken from seen nodes log → IsSearchOf w variables opening taken from seen nodes log'
-same_nodes w variables opening taken from seen nodes log log' grows stands h =
-    let more = grown_holds nodes log log' grows stands in
-    let longer = grown_length log log' grows in
-    let kept_entry : (id : ClauseId) (c : List Literal) → clause_of w id ≡ Some c → entry_at log' id.pos ≡ entry_at log id.pos = λ id c e. entry_stays log log' id.pos grows (clause_place nodes log id c (h.holding.sound id c e)) in
+-- over a log that steps of any kind were added to
+pub longer_search : (w : Watches) (variables opening taken : List ℕ) (from seen : ℕ) (nodes : List Node) (log log' extra : List Entry) → log' ≡ log ++ extra → IsLog nodes log' → IsSearchOf w variables opening taken from seen nodes log → IsSearchOf w variables opening taken from seen nodes log'
+longer_search w variables opening taken from seen nodes log log' extra is stands h =
+    let more = longer_holds nodes log log' extra is stands in
+    let longer = log_longer log log' extra is in
+    let kept_entry : (id : ClauseId) (c : List Literal) → clause_of w id ≡ Some c → entry_at log' id.pos ≡ entry_at log id.pos = λ id c e. entry_longer log log' extra is id.pos (clause_place nodes log id c (h.holding.sound id c e)) in
     record {
       holding = record {
         sound = λ id c e. more.clauses id c (h.holding.sound id c e);
         among = h.holding.among;
         covered = h.holding.covered;
-        complete = λ id c k e.
-            let low = h.placed.before id.pos k in
-            h.holding.complete id c k (sym (clause_stays nodes log log' id grows (omega (arith, low, h.placed.from_seen, h.placed.within))) ∙ e);
+        complete = λ id c k e. h.holding.complete id c k (sym (clause_longer nodes log log' extra is id (let lt = h.placed.before id.pos k in omega (arith, lt))) ∙ e);
         waiting = h.holding.waiting;
         occurs = λ x k. let o = h.holding.occurs x k in (o.0, o.1, o.2, o.3, more.clauses o.0 o.1 o.4, o.5, o.6);
       };
       placed = record {
-        before = h.placed.before;
-        plain = λ p k. let low = h.placed.before p k in ap is_chain (entry_stays log log' p grows (omega (arith, low, h.placed.from_seen, h.placed.within))) ∙ h.placed.plain p k;
-        chains = λ p k. let q = h.placed.chains p k in ap is_chain (entry_stays log log' p grows (chain_within log p q)) ∙ q;
+        before = λ p k. let lt = h.placed.before p k in omega (arith, lt, longer);
+        plain = λ p k. ap is_chain (entry_longer log log' extra is p (let lt = h.placed.before p k in omega (arith, lt))) ∙ h.placed.plain p k;
+        chains = λ p k. let q = h.placed.chains p k in ap is_chain (entry_longer log log' extra is p (chain_within log p q)) ∙ q;
         stored = λ id c e. ⊎_elim (λ x. inl (ap is_chain (kept_entry id c e) ∙ x)) (λ x. inr x) (h.placed.stored id c e);
         below = λ id c e x. h.placed.below id c e (sym (ap is_chain (kept_entry id c e)) ∙ x);
         from_seen = h.placed.from_seen;
@@ -69,28 +69,32 @@ same_nodes w variables opening taken from seen nodes log log' grows stands h =
 pub search_later : (w : Watches) (variables opening taken : List ℕ) (from seen : ℕ) (nodes nodes' : List Node) (log log' : List Entry) (known known' : ℕ → Type 0) → IsLater nodes nodes' log log' known known' → IsSearchOf w variables opening taken from seen nodes log → IsSearchOf w variables opening taken from seen nodes' log'
 search_later w variables opening taken from seen nodes nodes' log log' known known' l h =
     subst (λ n. IsSearchOf w variables opening taken from seen n log') (sym l.nodes)
-    (same_nodes w variables opening taken from seen nodes log log' l.grows (subst (λ n. IsLog n log') l.nodes l.stands) h)
+    (longer_search w variables opening taken from seen nodes log log' l.grows.more l.grows.is (subst (λ n. IsLog n log') l.nodes l.stands) h)
 
 -- the variables that were listed are those of the same positions
+pub longer_told : (variables opening ends : List ℕ) (nodes : List Node) (log log' extra : List Entry) → log' ≡ log ++ extra → IsLog nodes log' → ((p : ℕ) → Contains opening p → p ≤ length log) → IsTold (state_of nodes log).clauses variables opening ends → IsTold (state_of nodes log').clauses variables opening ends
+longer_told variables opening ends nodes log log' extra is stands within h =
+    told_agrees (state_of nodes log).clauses variables opening ends h (state_of nodes log').clauses
+    (longer_holds nodes log log' extra is stands).clauses
+    (λ id k. clause_longer nodes log log' extra is id (within id.pos k))
+
 pub told_later : (variables opening ends : List ℕ) (nodes nodes' : List Node) (log log' : List Entry) (known known' : ℕ → Type 0) → IsLater nodes nodes' log log' known known' → ((p : ℕ) → Contains opening p → p ≤ length log) → IsTold (state_of nodes log).clauses variables opening ends → IsTold (state_of nodes' log').clauses variables opening ends
 told_later variables opening ends nodes nodes' log log' known known' l within h =
     subst (λ n. IsTold (state_of n log').clauses variables opening ends) (sym l.nodes)
-    (told_agrees (state_of nodes log).clauses variables opening ends h (state_of nodes log').clauses
-    (grown_holds nodes log log' l.grows (subst (λ n. IsLog n log') l.nodes l.stands)).clauses
-    (λ id k. clause_stays nodes log log' id l.grows (within id.pos k)))
+    (longer_told variables opening ends nodes log log' l.grows.more l.grows.is (subst (λ n. IsLog n log') l.nodes l.stands) within h)
 
 -- the next variable does not fall
-below_later_same : (nodes : List Node) (log log' : List Entry) (given : List Literal) → Grows log log' → IsLog nodes log' → AreBelow (state_of nodes log).next given → AreBelow (state_of nodes log').next given
-below_later_same nodes log log' given grows stands h = AreBelow-more (state_of nodes log).next (state_of nodes log').next (grown_holds nodes log log' grows stands).next given h
+pub longer_below : (nodes : List Node) (log log' extra : List Entry) (given : List Literal) → log' ≡ log ++ extra → IsLog nodes log' → AreBelow (state_of nodes log).next given → AreBelow (state_of nodes log').next given
+longer_below nodes log log' extra given is stands h = AreBelow-more (state_of nodes log).next (state_of nodes log').next (longer_holds nodes log log' extra is stands).next given h
 
 pub below_later : (nodes nodes' : List Node) (log log' : List Entry) (known known' : ℕ → Type 0) (given : List Literal) → IsLater nodes nodes' log log' known known' → AreBelow (state_of nodes log).next given → AreBelow (state_of nodes' log').next given
 below_later nodes nodes' log log' known known' given l h =
-    subst (λ n. AreBelow (state_of n log').next given) (sym l.nodes) (below_later_same nodes log log' given l.grows (subst (λ n. IsLog n log') l.nodes l.stands) h)
+    subst (λ n. AreBelow (state_of n log').next given) (sym l.nodes) (longer_below nodes log log' l.grows.more given l.grows.is (subst (λ n. IsLog n log') l.nodes l.stands) h)
 
 -- ---- the diary
 
-kept_prolonged : (g g' : Subject) (w : Watches) (variables : List ℕ) (k : Keeper) (seen : ℕ) → IsProlonged g g' → g.from ≤ suc (length g.log) → seen ≤ suc (length g.log) → ((i : ClauseId) → i.pos ≤ length g.log → look_of g' i ≡ look_of g i) → IsKept g w variables k seen → IsKept g' w variables k seen
-kept_prolonged g g' w variables k seen p from within same h =
+kept_extended : (g g' : Subject) (w : Watches) (variables : List ℕ) (k : Keeper) (seen : ℕ) → IsExtended g g' → g.from ≤ suc (length g.log) → seen ≤ suc (length g.log) → ((i : ClauseId) → i.pos ≤ length g.log → look_of g' i ≡ look_of g i) → IsKept g w variables k seen → IsKept g' w variables k seen
+kept_extended g g' w variables k seen p from within same h =
     let d = diary_longer g g' p from k.lines.items h.stand in
     let inside = lines_within g (blank g) k.lines.items h.stand (blank_within g from) in
     record {
@@ -102,21 +106,24 @@ kept_prolonged g g' w variables k seen p from within same h =
       complete = λ id c held e.
           let old = sym (ap (λ s. s.held id.pos) d.1) ∙ held in
           h.complete id c old (sym (same id (inside id.pos old)) ∙ e);
-      lined = λ q le lt e. h.lined q le lt (sym (ap is_chain (entry_stays g.log g'.log q p.grows (omega (arith, lt, within)))) ∙ e);
+      stored = λ q held e.
+          let old = sym (ap (λ s. s.held q) d.1) ∙ held in
+          h.stored q old (sym (ap is_chain (entry_longer g.log g'.log p.more p.is q (inside q old))) ∙ e);
+      lined = λ q le lt e. h.lined q le lt (sym (ap is_chain (entry_longer g.log g'.log p.more p.is q (omega (arith, lt, within)))) ∙ e);
       start = omega (arith, h.start, p.from);
       begun = h.begun;
       later = h.later;
     }
 
-same_kept : (nodes : List Node) (log log' : List Entry) (given : List Literal) (from seen : ℕ) (w : Watches) (variables : List ℕ) (k : Keeper) → Grows log log' → from ≤ suc (length log) → seen ≤ suc (length log) → IsKept (record { nodes = nodes; log = log; given = given; from = from }) w variables k seen → IsKept (record { nodes = nodes; log = log'; given = given; from = from }) w variables k seen
-same_kept nodes log log' given from seen w variables k grows low within h =
-    kept_prolonged (record { nodes = nodes; log = log; given = given; from = from }) (record { nodes = nodes; log = log'; given = given; from = from }) w variables k seen
-    (record { nodes = refl; given = refl; from = refl; grows = grows }) low within (λ i le. clause_stays nodes log log' i grows le) h
+pub longer_kept : (nodes : List Node) (log log' extra : List Entry) (given : List Literal) (from seen : ℕ) (w : Watches) (variables : List ℕ) (k : Keeper) → log' ≡ log ++ extra → from ≤ suc (length log) → seen ≤ suc (length log) → IsKept (record { nodes = nodes; log = log; given = given; from = from }) w variables k seen → IsKept (record { nodes = nodes; log = log'; given = given; from = from }) w variables k seen
+longer_kept nodes log log' extra given from seen w variables k is low within h =
+    kept_extended (record { nodes = nodes; log = log; given = given; from = from }) (record { nodes = nodes; log = log'; given = given; from = from }) w variables k seen
+    (record { nodes = refl; given = refl; from = refl; more = extra; is = is }) low within (λ i le. clause_longer nodes log log' extra is i le) h
 
 pub kept_later : (nodes nodes' : List Node) (log log' : List Entry) (known known' : ℕ → Type 0) (given : List Literal) (from seen : ℕ) (w : Watches) (variables : List ℕ) (k : Keeper) → IsLater nodes nodes' log log' known known' → from ≤ suc (length log) → seen ≤ suc (length log) → IsKept (record { nodes = nodes; log = log; given = given; from = from }) w variables k seen → IsKept (record { nodes = nodes'; log = log'; given = given; from = from }) w variables k seen
 kept_later nodes nodes' log log' known known' given from seen w variables k l low within h =
     subst (λ n. IsKept (record { nodes = n; log = log'; given = given; from = from }) w variables k seen) (sym l.nodes)
-    (same_kept nodes log log' given from seen w variables k l.grows low within h)
+    (longer_kept nodes log log' l.grows.more given from seen w variables k l.grows.is low within h)
 
 -- ---- chains that may be put
 

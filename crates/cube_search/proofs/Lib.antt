@@ -1,6 +1,7 @@
 pub mod Told
 pub mod Filling
 pub mod Leaving
+pub mod Longer
 pub mod Later
 pub mod Keeping
 pub mod Putting
@@ -11,3 +12,4 @@ pub mod Waking
 pub mod Steps
 pub mod Models
 pub mod Resting
+pub mod Adding

@@ -55,6 +55,7 @@ kept_same g w v variables k seen same h = record {
   drops = h.drops;
   held = λ id c e. h.held id c (sym (same.kept id) ∙ e);
   complete = λ id c x e. ⊎_elim (λ y. inl (same.held id ∙ y)) (λ y. inr y) (h.complete id c x e);
+  stored = λ p x e. let q = h.stored p x e in (q.0, same.kept (record { pos = p; part = 0 }) ∙ q.1);
   lined = h.lined;
   start = h.start;
   begun = h.begun;
@@ -74,54 +75,63 @@ module _ (nodes : List Node) (log : List Entry) (w v : Watches) (variables openi
   apart : (id : ClauseId) → Contains opening id.pos → id ≡ record { pos = at; part = 0 } → ⊥
   apart id k a = both_ways (is_chain (entry_at log id.pos)) (plain id.pos k) (ap (λ (x : ClauseId). is_chain (entry_at log x.pos)) a ∙ chain)
 
-  -- the position is noted: its clause is not kept, or is held already, or has another variable
-  pub holding_noted : IsSameStore w v → ((c : List Literal) → clause_of w (record { pos = at; part = 0 }) ≡ Some c → (held_of w (record { pos = at; part = 0 }) ≡ Some c) ⊎ IsForeign variables c) → IsHolding v (state_of nodes log).clauses variables opening (taken ++ at ∷ [])
-  holding_noted same rest =
-      let k = holding_same w v (state_of nodes log).clauses variables variables opening taken same refl h in
-      record {
-        sound = k.sound;
-        among = k.among;
-        covered = λ id c e. ⊎_elim (λ x. inl x) (λ x. inr (Contains-append_left taken (at ∷ []) id.pos x)) (k.covered id c e);
-        complete = k.complete;
-        waiting = λ id c m e. ⊎_elim (λ old. k.waiting id c old e) (λ p. here id c (sym p) e) (Contains-push_cases taken at id.pos m);
-        occurs = k.occurs;
-      }
-    where
-      here : (id : ClauseId) (c : List Literal) → id.pos ≡ at → clause_of v id ≡ Some c → (held_of v id ≡ Some c) ⊎ IsForeign variables c
-      here id c p e =
-          let old = sym (same.kept id) ∙ e in
-          let a = one_part id c p (h.sound id c old) in
-          ⊎_elim (λ x. inl (same.held id ∙ ap (held_of w) a ∙ x)) (λ x. inr x) (rest c (ap (clause_of w) (sym a) ∙ old))
-
   module _ (others : IsSameBut (record { pos = at; part = 0 }) w v) where
-    -- its clause is held from here on
-    pub holding_held : (clause : List Literal) → clause_of v (record { pos = at; part = 0 }) ≡ Some clause → held_of v (record { pos = at; part = 0 }) ≡ Some clause → clause_at (state_of nodes log).clauses (record { pos = at; part = 0 }) ≡ Some clause → AreAmong variables clause → IsHolding v (state_of nodes log).clauses variables opening (taken ++ at ∷ [])
-    holding_held clause kept held there among = record {
-      sound = sound;
-      among = λ id c e. elim (same_id id (record { pos = at; part = 0 })) [
-        | inl a ↦ (let r : Some clause ≡ Some c = sym (ap (held_of v) a ∙ held) ∙ e in let s : clause ≡ c = cc in subst (AreAmong variables) s among)
-        | inr a ↦ h.among id c (sym (others.held id a) ∙ e)
-      ];
-      covered = λ id c e. elim (same_id id (record { pos = at; part = 0 })) [
-        | inl a ↦ inr (subst (Contains (taken ++ at ∷ [])) (sym (ap (λ (x : ClauseId). x.pos) a)) (Contains-push taken at))
-        | inr a ↦ ⊎_elim (λ x. inl x) (λ x. inr (Contains-append_left taken (at ∷ []) id.pos x)) (h.covered id c (sym (others.held id a) ∙ e))
-      ];
-      complete = λ id c k e. others.held id (λ a. apart id k a) ∙ h.complete id c k e;
-      waiting = λ id c k e. elim (same_id id (record { pos = at; part = 0 })) [
-        | inl a ↦ inl (ap (held_of v) a ∙ held ∙ sym (ap (clause_of v) a ∙ kept) ∙ e)
-        | inr a ↦ ⊎_elim
-            (λ old. ⊎_elim (λ x. inl (others.held id a ∙ x)) (λ x. inr x) (h.waiting id c old (sym (others.kept id a) ∙ e)))
-            (λ p. absurd (a (one_part id c (sym p) (sound id c e))))
-            (Contains-push_cases taken at id.pos k)
-      ];
-      occurs = h.occurs;
-    }
-      where
-        sound : (id : ClauseId) (c : List Literal) → clause_of v id ≡ Some c → clause_at (state_of nodes log).clauses id ≡ Some c
-        sound id c e = elim (same_id id (record { pos = at; part = 0 })) [
-          | inl a ↦ ap (clause_at (state_of nodes log).clauses) a ∙ there ∙ sym (ap (clause_of v) a ∙ kept) ∙ e
-          | inr a ↦ h.sound id c (sym (others.kept id a) ∙ e)
-        ]
+    -- its clause comes
+    module _ (clause : List Literal) (kept : clause_of v (record { pos = at; part = 0 }) ≡ Some clause) (there : clause_at (state_of nodes log).clauses (record { pos = at; part = 0 }) ≡ Some clause) where
+      more_sound : (id : ClauseId) (c : List Literal) → clause_of v id ≡ Some c → clause_at (state_of nodes log).clauses id ≡ Some c
+      more_sound id c e = elim (same_id id (record { pos = at; part = 0 })) [
+        | inl a ↦ ap (clause_at (state_of nodes log).clauses) a ∙ there ∙ sym (ap (clause_of v) a ∙ kept) ∙ e
+        | inr a ↦ h.sound id c (sym (others.kept id a) ∙ e)
+      ]
+
+      same_clause : (id : ClauseId) (c : List Literal) → id ≡ record { pos = at; part = 0 } → clause_of v id ≡ Some c → clause ≡ c
+      same_clause id c a e = let r : Some clause ≡ Some c = sym (ap (clause_of v) a ∙ kept) ∙ e in cc
+
+      -- and is held from here on
+      pub holding_held : held_of v (record { pos = at; part = 0 }) ≡ Some clause → AreAmong variables clause → IsHolding v (state_of nodes log).clauses variables opening (taken ++ at ∷ [])
+      holding_held held among = record {
+        sound = more_sound;
+        among = λ id c e. elim (same_id id (record { pos = at; part = 0 })) [
+          | inl a ↦ subst (AreAmong variables) (same_clause id c a (held_kept v id c e)) among
+          | inr a ↦ h.among id c (sym (others.held id a) ∙ e)
+        ];
+        covered = λ id c e. elim (same_id id (record { pos = at; part = 0 })) [
+          | inl a ↦ inr (subst (Contains (taken ++ at ∷ [])) (sym (ap (λ (x : ClauseId). x.pos) a)) (Contains-push taken at))
+          | inr a ↦ ⊎_elim (λ x. inl x) (λ x. inr (Contains-append_left taken (at ∷ []) id.pos x)) (h.covered id c (sym (others.held id a) ∙ e))
+        ];
+        complete = λ id c k e. others.held id (λ a. apart id k a) ∙ h.complete id c k e;
+        waiting = λ id c k e. elim (same_id id (record { pos = at; part = 0 })) [
+          | inl a ↦ inl (ap (held_of v) a ∙ held ∙ sym (ap (clause_of v) a ∙ kept) ∙ e)
+          | inr a ↦ ⊎_elim
+              (λ old. ⊎_elim (λ x. inl (others.held id a ∙ x)) (λ x. inr x) (h.waiting id c old (sym (others.kept id a) ∙ e)))
+              (λ p. absurd (a (one_part id c (sym p) (more_sound id c e))))
+              (Contains-push_cases taken at id.pos k)
+        ];
+        occurs = h.occurs;
+      }
+
+      -- and is kept without being held
+      pub holding_stored : held_of v (record { pos = at; part = 0 }) ≡ None → IsForeign variables clause → IsHolding v (state_of nodes log).clauses variables opening (taken ++ at ∷ [])
+      holding_stored parked foreign = record {
+        sound = more_sound;
+        among = λ id c e. elim (same_id id (record { pos = at; part = 0 })) [
+          | inl a ↦ (let f : Some c ≡ None = sym e ∙ ap (held_of v) a ∙ parked in let z : ⊥ = cc in absurd z)
+          | inr a ↦ h.among id c (sym (others.held id a) ∙ e)
+        ];
+        covered = λ id c e. elim (same_id id (record { pos = at; part = 0 })) [
+          | inl a ↦ inr (subst (Contains (taken ++ at ∷ [])) (sym (ap (λ (x : ClauseId). x.pos) a)) (Contains-push taken at))
+          | inr a ↦ ⊎_elim (λ x. inl x) (λ x. inr (Contains-append_left taken (at ∷ []) id.pos x)) (h.covered id c (sym (others.held id a) ∙ e))
+        ];
+        complete = λ id c k e. others.held id (λ a. apart id k a) ∙ h.complete id c k e;
+        waiting = λ id c k e. elim (same_id id (record { pos = at; part = 0 })) [
+          | inl a ↦ inr (subst (IsForeign variables) (same_clause id c a e) foreign)
+          | inr a ↦ ⊎_elim
+              (λ old. ⊎_elim (λ x. inl (others.held id a ∙ x)) (λ x. inr x) (h.waiting id c old (sym (others.kept id a) ∙ e)))
+              (λ p. absurd (a (one_part id c (sym p) (more_sound id c e))))
+              (Contains-push_cases taken at id.pos k)
+        ];
+        occurs = h.occurs;
+      }
 
     -- its clause is kept no longer
     pub holding_dropped : clause_of v (record { pos = at; part = 0 }) ≡ None → IsHolding v (state_of nodes log).clauses variables opening taken
@@ -154,17 +164,6 @@ module _ (nodes : List Node) (log : List Entry) (w v : Watches) (variables openi
 module _ (log : List Entry) (w v : Watches) (opening taken : List ℕ) (from seen at : ℕ) (chain : is_chain (entry_at log at) ≡ true) (h : ArePlaced (clause_of w) log opening taken from seen) where
   more_chains : (p : ℕ) → Contains (taken ++ at ∷ []) p → is_chain (entry_at log p) ≡ true
   more_chains p k = ⊎_elim (λ old. h.chains p old) (λ e. subst (λ q. is_chain (entry_at log q) ≡ true) e chain) (Contains-push_cases taken at p k)
-
-  pub placed_noted : IsSameStore w v → ArePlaced (clause_of v) log opening (taken ++ at ∷ []) from seen
-  placed_noted same = record {
-    before = h.before;
-    plain = h.plain;
-    chains = more_chains;
-    stored = λ id c e. ⊎_elim (λ x. inl x) (λ x. inr (Contains-append_left taken (at ∷ []) id.pos x)) (h.stored id c (sym (same.kept id) ∙ e));
-    below = λ id c e. h.below id c (sym (same.kept id) ∙ e);
-    from_seen = h.from_seen;
-    within = h.within;
-  }
 
   module _ (others : IsSameBut (record { pos = at; part = 0 }) w v) where
     pub placed_more : ArePlaced (clause_of v) log opening (taken ++ at ∷ []) from seen
@@ -204,24 +203,25 @@ module _ (log : List Entry) (w v : Watches) (opening taken : List ℕ) (from see
 -- ---- a search
 
 module _ (w v : Watches) (variables opening taken : List ℕ) (from seen : ℕ) (nodes : List Node) (log : List Entry) (at : ℕ) (chain : is_chain (entry_at log at) ≡ true) (h : IsSearchOf w variables opening taken from seen nodes log) where
-  -- the position is noted, and its clause is not kept
-  pub search_noted : IsSameStore w v → clause_of w (record { pos = at; part = 0 }) ≡ None → IsSearchOf v variables opening (taken ++ at ∷ []) from seen nodes log
-  search_noted same none = record {
-    holding = holding_noted nodes log w v variables opening taken at chain h.placed.plain h.holding same (λ c e. let f : Some c ≡ None = sym e ∙ none in let z : ⊥ = cc in absurd z);
-    placed = placed_noted log w v opening taken from seen at chain h.placed same;
-    listed = h.listed;
-    stands = h.stands;
-  }
-
   module _ (others : IsSameBut (record { pos = at; part = 0 }) w v) where
     -- its clause comes
-    pub search_held : (clause : List Literal) → clause_of v (record { pos = at; part = 0 }) ≡ Some clause → held_of v (record { pos = at; part = 0 }) ≡ Some clause → clause_at (state_of nodes log).clauses (record { pos = at; part = 0 }) ≡ Some clause → AreAmong variables clause → IsSearchOf v variables opening (taken ++ at ∷ []) from seen nodes log
-    search_held clause kept held there among = record {
-      holding = holding_held nodes log w v variables opening taken at chain h.placed.plain h.holding others clause kept held there among;
-      placed = placed_more log w v opening taken from seen at chain h.placed others;
-      listed = h.listed;
-      stands = h.stands;
-    }
+    module _ (clause : List Literal) (kept : clause_of v (record { pos = at; part = 0 }) ≡ Some clause) (there : clause_at (state_of nodes log).clauses (record { pos = at; part = 0 }) ≡ Some clause) where
+      pub search_held : held_of v (record { pos = at; part = 0 }) ≡ Some clause → AreAmong variables clause → IsSearchOf v variables opening (taken ++ at ∷ []) from seen nodes log
+      search_held held among = record {
+        holding = holding_held nodes log w v variables opening taken at chain h.placed.plain h.holding others clause kept there held among;
+        placed = placed_more log w v opening taken from seen at chain h.placed others;
+        listed = h.listed;
+        stands = h.stands;
+      }
+
+      -- and is not held
+      pub search_stored : held_of v (record { pos = at; part = 0 }) ≡ None → IsForeign variables clause → IsSearchOf v variables opening (taken ++ at ∷ []) from seen nodes log
+      search_stored parked foreign = record {
+        holding = holding_stored nodes log w v variables opening taken at chain h.placed.plain h.holding others clause kept there parked foreign;
+        placed = placed_more log w v opening taken from seen at chain h.placed others;
+        listed = h.listed;
+        stands = h.stands;
+      }
 
     -- its clause goes
     pub search_dropped : clause_of v (record { pos = at; part = 0 }) ≡ None → IsSearchOf v variables opening taken from seen nodes log

@@ -23,7 +23,7 @@ search_rests s nodes log h = record {
   engine = h.0;
   sound = h.1.holding.sound;
   covered = h.1.holding.covered;
-  plain = λ p k. let low = h.1.placed.before p k in (omega (arith, low, h.1.placed.from_seen, h.1.placed.within), h.1.placed.plain p k);
+  plain = λ p k. (let lt = h.1.placed.before p k in omega (arith, lt), h.1.placed.plain p k);
   chains = h.1.placed.chains;
   stored = h.1.placed.stored;
   whole = h.1.holding.complete;

@@ -30,7 +30,7 @@ use Rattle.cube_search.specs.Holding.{AreAmong, IsForeign, IsTold, IsAdmitted}
 use Rattle.cube_search.specs.declared.keeper.Keeper.{Keeper}
 use Rattle.cube_search.specs.Keeping.{HasLine, IsKept, IsTaken, state_in}
 use Rattle.cube_search.specs.Running.{variables_in, given_in, IsSearch, IsSearchOf, IsRunning, IsWriting, IsUpToDate, IsCaughtUp, HasLooked, IsSameRun, IsLearnt, IsKeptAt, subject_of}
-use Rattle.cube_search.specs.Ends.{IsClosing, IsEarlierPut, IsSpentDiary, IsEnd}
+use Rattle.cube_search.specs.Ends.{IsClosing, IsEarlierPut, IsSpentDiary, IsEnd, IsModelEnd}
 use Rattle.cube_search.specs.declared.ends.End.{End}
 use Rattle.cube_search.specs.declared.ends.End.TheVariants.{Closed, Model, Spent, Stopped}
 use Rattle.cdcl_loop.specs.declared.engine.Engine.{Engine}
@@ -39,7 +39,7 @@ use Rattle.cdcl_loop.proofs.Courses.{true_later}
 use Rattle.cube_search.proofs.Keeping.{kept_put, kept_take, line_still}
 use Rattle.cube_search.proofs.Putting.{good_put}
 use Rattle.cube_search.proofs.Later.{learnt_among, search_later, told_later, below_later, kept_later, chain_within, chain_entry}
-use Rattle.cube_search.proofs.Moving.{search_moved, kept_moved, search_same, search_held, search_noted, kept_same}
+use Rattle.cube_search.proofs.Moving.{search_moved, kept_moved, search_same, search_held, search_stored, kept_same}
 
 pub running_board : (s : Search) (nodes : List Node) (log : List Entry) (known : ℕ → Type 0) → IsRunning s nodes log → IsLater nodes nodes log log known known
 running_board s nodes log known h = later_same nodes log known h.1.stands
@@ -69,7 +69,7 @@ pub still_search : (s : Search) (nodes nodes' : List Node) (log log' : List Entr
 still_search s nodes nodes' log log' known known' later h = (
   h.0,
   search_later s.engine.watches (variables_in s) s.opening.items s.taken.items s.from s.seen nodes nodes' log log' known known' later h.1,
-  told_later (variables_in s) s.opening.items s.ends.items nodes nodes' log log' known known' later (λ p k. let low = h.1.placed.before p k in omega (arith, low, h.1.placed.from_seen, h.1.placed.within)) h.2,
+  told_later (variables_in s) s.opening.items s.ends.items nodes nodes' log log' known known' later (λ p k. let lt = h.1.placed.before p k in omega (arith, lt)) h.2,
 )
 
 -- the variables that were listed stay, and are those of the same positions
@@ -149,8 +149,8 @@ module _ (s t : Search) (nodes nodes' : List Node) (log log' : List Entry) (know
   kept_search same k =
       search_moved t.engine.watches t.engine.watches (variables_in s) (variables_in t) s.opening.items t.opening.items (s.taken.items ++ at ∷ []) t.taken.items s.from t.from s.seen t.seen nodes' log'
       refl same.listed (ap (λ v. v.items) same.opening) k.taken same.from k.seen
-      (search_held s.engine.watches t.engine.watches (variables_in s) s.opening.items s.taken.items s.from s.seen nodes' log' at (ap is_chain there) after.1 k.others clause k.kept k.held
-      (put_clause nodes' log log' clause learnt.hints at learnt.put) among)
+      (search_held s.engine.watches t.engine.watches (variables_in s) s.opening.items s.taken.items s.from s.seen nodes' log' at (ap is_chain there) after.1 k.others clause k.kept
+      (put_clause nodes' log log' clause learnt.hints at learnt.put) k.held among)
 
   pub kept_running : IsSameRun s t → IsKeptAt s t clause level at → IsEngine t.engine → IsOnCourse t.engine → IsRunning t nodes' log'
   kept_running same k engine course = (
@@ -213,11 +213,11 @@ kept_at old new (Err e) clause level at kept held others taken seen start lines 
 
 -- ---- a chain of another that is taken
 
-module _ (s t : Search) (nodes : List Node) (log : List Entry) (at : ℕ) (clause : List Literal) (run : IsRunning s nodes log) (chain : is_chain (entry_at log at) ≡ true) (fresh : clause_of s.engine.watches (record { pos = at; part = 0 }) ≡ None) (there : clause_at (state_of nodes log).clauses (record { pos = at; part = 0 }) ≡ Some clause) (came : IsAdmitted s.engine.watches t.engine.watches (variables_in s) at clause) where
+module _ (s t : Search) (nodes : List Node) (log : List Entry) (at : ℕ) (clause : List Literal) (run : IsRunning s nodes log) (chain : is_chain (entry_at log at) ≡ true) (there : clause_at (state_of nodes log).clauses (record { pos = at; part = 0 }) ≡ Some clause) (came : IsAdmitted s.engine.watches t.engine.watches (variables_in s) at clause) where
   pub taken_search : IsSearchOf t.engine.watches (variables_in s) s.opening.items (s.taken.items ++ at ∷ []) s.from s.seen nodes log
   taken_search = ⊎_elim
-      (λ x. search_held s.engine.watches t.engine.watches (variables_in s) s.opening.items s.taken.items s.from s.seen nodes log at chain run.1 came.others clause x.0 x.1 there x.2)
-      (λ x. search_noted s.engine.watches t.engine.watches (variables_in s) s.opening.items s.taken.items s.from s.seen nodes log at chain run.1 x.0 fresh)
+      (λ x. search_held s.engine.watches t.engine.watches (variables_in s) s.opening.items s.taken.items s.from s.seen nodes log at chain run.1 came.others clause came.kept there x.0 x.1)
+      (λ x. search_stored s.engine.watches t.engine.watches (variables_in s) s.opening.items s.taken.items s.from s.seen nodes log at chain run.1 came.others clause came.kept there x.0 x.1)
       came.came
 
   pub taken_writing : (l : Keeper) → l.lines.items ≡ s.diary.lines.items ++ Take at ∷ [] → l.start ≡ s.diary.start → l.puts ≡ s.diary.puts → l.chains ≡ s.diary.chains → l.left ≡ 0 → IsWriting s nodes log → IsKept (subject_of s nodes log) t.engine.watches (variables_in s) l s.seen
@@ -225,7 +225,8 @@ module _ (s t : Search) (nodes : List Node) (log : List Entry) (at : ℕ) (claus
       let e = chain_entry (entry_at log at) chain in
       let same = (chain_part nodes log (record { pos = at; part = 0 }) e.0 clause e.1 e.2 there).1 in
       kept_take (subject_of s nodes log) s.engine.watches t.engine.watches (variables_in s) s.diary l s.seen at e.0 e.1 e.2 came.others start w lines puts chains left (chain_within log at chain)
-      (subst (λ (c : List Literal). (held_of t.engine.watches (record { pos = at; part = 0 }) ≡ Some c) ⊎ IsForeign (variables_in s) c) same (⊎_elim (λ x. inl x.1) (λ x. inr x.1) came.came))
+      (subst (λ (c : List Literal). clause_of t.engine.watches (record { pos = at; part = 0 }) ≡ Some c) same came.kept)
+      (subst (λ (c : List Literal). (held_of t.engine.watches (record { pos = at; part = 0 }) ≡ Some c) ⊎ IsForeign (variables_in s) c) same (⊎_elim (λ x. inl x.0) (λ x. inr x.1) came.came))
 
 -- the position of a chain has its clause
 pub no_chain : (nodes : List Node) (log : List Entry) (at : ℕ) → is_chain (entry_at log at) ≡ true → clause_at (state_of nodes log).clauses (record { pos = at; part = 0 }) ≡ None → ⊥
@@ -234,7 +235,7 @@ no_chain nodes log at chain none =
     let f : Some (e.0) ≡ None = sym (chain_clause nodes log at e.0 e.1 e.2) ∙ none in
     cc
 
-module _ (s t : Search) (nodes : List Node) (log : List Entry) (at : ℕ) (clause : List Literal) (run : IsRunning s nodes log) (chain : is_chain (entry_at log at) ≡ true) (fresh : clause_of s.engine.watches (record { pos = at; part = 0 }) ≡ None) (there : clause_at (state_of nodes log).clauses (record { pos = at; part = 0 }) ≡ Some clause) (opening : t.opening.items ≡ s.opening.items) (taken : t.taken.items ≡ s.taken.items ++ at ∷ []) (from : t.from ≡ s.from) (seen : t.seen ≡ s.seen) (task : IsSameTask s.engine t.engine) where
+module _ (s t : Search) (nodes : List Node) (log : List Entry) (at : ℕ) (clause : List Literal) (run : IsRunning s nodes log) (chain : is_chain (entry_at log at) ≡ true) (there : clause_at (state_of nodes log).clauses (record { pos = at; part = 0 }) ≡ Some clause) (opening : t.opening.items ≡ s.opening.items) (taken : t.taken.items ≡ s.taken.items ++ at ∷ []) (from : t.from ≡ s.from) (seen : t.seen ≡ s.seen) (task : IsSameTask s.engine t.engine) where
   took_given : given_in t ≡ given_in s
   took_given = ap (λ v. v.items) task.given
 
@@ -243,7 +244,7 @@ module _ (s t : Search) (nodes : List Node) (log : List Entry) (at : ℕ) (claus
   took_running (Ok u) engine course came = (
     engine,
     search_moved t.engine.watches t.engine.watches (variables_in s) (variables_in t) s.opening.items t.opening.items (s.taken.items ++ at ∷ []) t.taken.items s.from t.from s.seen t.seen nodes log refl task.listed opening taken from seen
-        (taken_search s t nodes log at clause run chain fresh there came),
+        (taken_search s t nodes log at clause run chain there came),
     course run.2,
     subst (λ (l : List Literal). AreBelow (state_of nodes log).next l) (sym took_given) run.3,
   )
@@ -252,7 +253,7 @@ module _ (s t : Search) (nodes : List Node) (log : List Entry) (at : ℕ) (claus
   took_writing (Err e) came k = tt
   took_writing (Ok u) came k = λ w.
       kept_moved nodes log (given_in s) (given_in t) s.from t.from t.engine.watches t.engine.watches (variables_in s) (variables_in t) t.diary s.seen t.seen took_given from refl task.listed seen
-      (taken_writing s t nodes log at clause run chain fresh there came t.diary k.lines k.start k.puts k.chains k.left w)
+      (taken_writing s t nodes log at clause run chain there came t.diary k.lines k.start k.puts k.chains k.left w)
 
 pub took_line : (old new : Keeper) (at : ℕ) → IsTaken old new at → HasLine new.lines.items at
 took_line old new at k = subst (λ (ls : List DiaryLine). HasLine ls at) (sym k.lines) (inl (Contains-push old.lines.items (Take at)))
@@ -278,6 +279,7 @@ kept_seen g w variables k seen n le lined h = record {
   drops = h.drops;
   held = h.held;
   complete = h.complete;
+  stored = h.stored;
   lined = lined;
   start = h.start;
   begun = omega (arith, h.begun, le);
@@ -390,3 +392,30 @@ run_end P Q s nodes log known found told v given from opening cube budget x w a 
     (subst (λ (o : List ℕ). IsEnd P (record { nodes = nodes; log = log; given = given; from = from }) known found told o v cube budget x) c
     (subst (λ (f : ℕ). IsEnd P (record { nodes = nodes; log = log; given = given; from = f }) known found told s.opening.items v cube budget x) b
     (subst (λ (l : List Literal). IsEnd P (record { nodes = nodes; log = log; given = l; from = s.from }) known found told s.opening.items v cube budget x) a h)))
+
+-- ---- what a call gives on
+
+pub on_any : (r : Result End AllocError) (X : Type 0) → X → OnOk r X
+on_any (Ok x) X h = h
+on_any (Err e) X h = tt
+
+pub on_end : (r : Result End AllocError) (X Y : Type 0) → (X → Y) → OnOk r X → OnOk r Y
+on_end (Ok x) X Y f h = f h
+on_end (Err e) X Y f h = tt
+
+pub ended : (r : Result End AllocError) (P Q : Type 0) (g : Subject) (given : List Literal) (from : ℕ) (known : ℕ → Type 0) (found : Bool) (told : Sync) (opening opening' : List ℕ) (v : ℕ → Bool) (cube budget : ℕ) → (Q → P) → g.given ≡ given → g.from ≡ from → opening ≡ opening' → IfOk r (IsEnd P g known found told opening v cube budget) → IfOk r (IsEnd Q (record { nodes = g.nodes; log = g.log; given = given; from = from }) known found told opening' v cube budget)
+ended (Err x) P Q g given from known found told opening opening' v cube budget w a b c h = tt
+ended (Ok x) P Q g given from known found told opening opening' v cube budget w a b c h =
+    end_where P Q (record { nodes = g.nodes; log = g.log; given = given; from = from }) known found told opening' v cube budget x w
+    (subst (λ (o : List ℕ). IsEnd P (record { nodes = g.nodes; log = g.log; given = given; from = from }) known found told o v cube budget x) c
+    (subst (λ (f : ℕ). IsEnd P (record { nodes = g.nodes; log = g.log; given = given; from = f }) known found told opening v cube budget x) b
+    (subst (λ (l : List Literal). IsEnd P (record { nodes = g.nodes; log = g.log; given = l; from = g.from }) known found told opening v cube budget x) a h)))
+
+pub model_where : (r : Result End AllocError) (P Q X : Type 0) → (Q → P) → IfOk r (λ e. IsModelEnd e → P → X) → IfOk r (λ e. IsModelEnd e → Q → X)
+model_where (Err x) P Q X f h = tt
+model_where (Ok x) P Q X f h = λ is q. h is (f q)
+
+pub models : (r : Result (Option End) AllocError) (P Q X : Type 0) → (Q → P) → IfOk r (λ o. MatchOption o (Unit {0}) (λ e. IsModelEnd e → P → X)) → IfOk r (λ o. MatchOption o (Unit {0}) (λ e. IsModelEnd e → Q → X))
+models (Err x) P Q X f h = tt
+models (Ok None) P Q X f h = tt
+models (Ok (Some e)) P Q X f h = λ is q. h is (f q)

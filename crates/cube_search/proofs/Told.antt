@@ -37,6 +37,12 @@ longer_then xs ys zs h k = (h.0 ++ k.0, k.1 ∙ ap (λ (r : List ℕ). r ++ k.0)
 pub shared_more : (xs ys : List ℕ) (k d e : ℕ) → k < length xs → k < length ys → get_or xs k d ≡ get_or ys k e → take k xs ≡ take k ys → take (k + 1) xs ≡ take (k + 1) ys
 shared_more xs ys k d e lt lt' same h = take_more xs k d lt ∙ (λ i. h i ++ same i ∷ []) ∙ sym (take_more ys k e lt')
 
+pub take_less : (xs : List ℕ) (i d x : ℕ) → i < length xs → Contains (take i xs) x → Contains (take (i + 1) xs) x
+take_less xs i d x lt k = subst (λ (ys : List ℕ). Contains ys x) (sym (take_more xs i d lt)) (Contains-append_left (take i xs) (get_or xs i d ∷ []) x k)
+
+pub take_has : (xs : List ℕ) (i d : ℕ) → i < length xs → Contains (take (i + 1) xs) (get_or xs i d)
+take_has xs i d lt = subst (λ (ys : List ℕ). Contains ys (get_or xs i d)) (sym (take_more xs i d lt)) (Contains-push (take i xs) (get_or xs i d))
+
 -- ---- where variables stand
 
 pub occurs_more : (rows : List (List (List Literal))) (ps qs : List ℕ) (x : ℕ) → ((p : ℕ) → Contains ps p → Contains qs p) → Occurs rows ps x → Occurs rows qs x

@@ -1,5 +1,5 @@
 -- How a search goes over to another check.
-use Rattle.std.proofs.Common.{◌≡◌, ℕ, suc, ◌+◌, ◌<◌, ◌≤◌, true, false, List, [], ◌∷◌, ◌++◌, length, take, get_or, Option, Some, None, refl, sym, ap, ◌∙◌, subst, inl, inr, ⊎_elim, arith}
+use Rattle.std.proofs.Common.{◌≡◌, ℕ, suc, ◌+◌, ◌<◌, ◌≤◌, true, false, List, [], ◌∷◌, ◌++◌, length, take, get_or, Option, Some, None, refl, sym, ap, ◌∙◌, subst, inl, inr, ⊎_elim}
 use Rattle.std.specs.Prelude.{◌≢◌, ◌⊎◌, Contains}
 use Rattle.std.proofs.lemmas.Bool.{both_ways, cases_eq}
 use Rattle.std.proofs.lemmas.List.Elements.{Contains-append_cases}
@@ -18,7 +18,7 @@ use Rattle.cdcl_core.specs.declared.watches.Watches.{Watches}
 use Rattle.cdcl_core.specs.Search.{clause_of, held_of}
 use Rattle.cdcl_core.proofs.Held.{held_kept}
 use Rattle.cube_search.specs.declared.search.Search.{Search}
-use Rattle.cube_search.specs.Holding.{AreAmong, IsForeign, IsThinned, IsParking, IsGapless, listed_before, IsTold, IsFilling, IsSorted, AreLeft, AreStored, AreStoredBelow}
+use Rattle.cube_search.specs.Holding.{AreAmong, IsForeign, IsThinned, IsParking, IsGapless, listed_before, IsTold, IsFilling, IsSorted, AreLeft, AreStored, AreStoredAt}
 use Rattle.cube_search.specs.Running.{IsResting, IsSearchOf}
 use Rattle.cube_search.proofs.Filling.{no_later}
 use Rattle.cube_search.proofs.Later.{chain_entry}
@@ -140,8 +140,8 @@ module _ (first w v : Watches) (variables ps : List ℕ) (i at : ℕ) (lt : i < 
 -- ---- the search of the next check
 
 module _ (nodes : List Node) (log : List Entry) (old w n : Watches) (variables opening ends taken left : List ℕ) (from seen : ℕ) (listed : IsTermList nodes) (stands : IsLog nodes log)
-    (before : (p : ℕ) → Contains opening p → p < from) (plain : (p : ℕ) → Contains opening p → is_chain (entry_at log p) ≡ false)
-    (chains : (p : ℕ) → Contains taken p → is_chain (entry_at log p) ≡ true) (stored : AreStored (clause_of old) log taken) (below : AreStoredBelow (clause_of old) log from)
+    (before : (p : ℕ) → Contains opening p → p < suc (length log)) (plain : (p : ℕ) → Contains opening p → is_chain (entry_at log p) ≡ false)
+    (chains : (p : ℕ) → Contains taken p → is_chain (entry_at log p) ≡ true) (stored : AreStored (clause_of old) log taken) (below : AreStoredAt (clause_of old) log opening from)
     (came : (id : ClauseId) (c : List Literal) → clause_of w id ≡ Some c → (clause_of old id ≡ Some c) ⊎ Contains opening id.pos)
     (filling : IsFilling w (state_of nodes log).clauses variables opening ends opening taken)
     (kept : (q : ClauseId) → clause_of n q ≡ clause_of w q)
@@ -182,8 +182,8 @@ module _ (nodes : List Node) (log : List Entry) (old w n : Watches) (variables o
   untaken : (p : ℕ) → Contains opening p → Contains taken p → ⊥
   untaken p k m = both_ways (is_chain (entry_at log p)) (plain p k) (chains p m)
 
-  pub retargeted : seen ≡ from → from ≤ suc (length log) → IsSearchOf n variables opening left from seen nodes log
-  retargeted e within = record {
+  pub retargeted : from ≤ seen → seen ≤ suc (length log) → IsSearchOf n variables opening left from seen nodes log
+  retargeted from_seen within = record {
     holding = record {
       sound = sound;
       among = λ id c h. ⊎_elim
@@ -206,9 +206,9 @@ module _ (nodes : List Node) (log : List Entry) (old w n : Watches) (variables o
           (λ was. ⊎_elim (λ x. inl x) (λ x. inr (left_kept nodes log (clause_of n) taken left sound chains left_now id c q x)) (stored id c was))
           (λ k. inl (plain id.pos k))
           (came id c (sym (kept id) ∙ q));
-      below = λ id c q not_chain. ⊎_elim (λ was. below id c was not_chain) (λ k. before id.pos k) (came id c (sym (kept id) ∙ q));
-      from_seen = omega (arith, e);
-      within = omega (arith, e, within);
+      below = λ id c q not_chain. ⊎_elim (λ was. below id c was not_chain) (λ k. inr k) (came id c (sym (kept id) ∙ q));
+      from_seen = from_seen;
+      within = within;
     };
     listed = listed;
     stands = stands;

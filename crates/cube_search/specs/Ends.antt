@@ -45,3 +45,10 @@ IsEnd condition g knows found told positions v cube budget (Closed p) = IsClosin
 IsEnd condition g knows found told positions v cube budget Model = IsModel (state_of g.nodes g.log).clauses positions g.given v
 IsEnd condition g knows found told positions v cube budget (Spent d) = (d.cube ≡ cube) × (condition → IsSpentDiary g knows told budget d)
 IsEnd condition g knows found told positions v cube budget Stopped = (found ≡ true) × (told.found ≡ true)
+
+-- the search has found a model
+abbrev pub IsModelEnd : End → Type 0
+IsModelEnd (Closed p) = ⊥
+IsModelEnd Model = Unit {0}
+IsModelEnd (Spent d) = ⊥
+IsModelEnd Stopped = ⊥

@@ -8,7 +8,7 @@ use Rattle.proof_log.specs.Logs.{clause_at, entry_at}
 use Rattle.proof_log.specs.Diaries.{is_chain}
 use Rattle.cdcl_core.specs.declared.watches.Watches.{Watches}
 use Rattle.cdcl_core.specs.Search.{clause_of, held_of}
-use Rattle.cdcl_loop.specs.Engines.{IsSameStore, IsSameBut}
+use Rattle.cdcl_loop.specs.Engines.{IsSameBut}
 
 -- every variable of the clause is one of these
 abbrev pub AreAmong : List ℕ → List Literal → Type 0
@@ -106,14 +106,18 @@ AreStored look log taken = (id : ClauseId) (c : List Literal) → look id ≡ So
 abbrev pub AreStoredBelow : Lookup → List Entry → ℕ → Type 0
 AreStoredBelow look log from = (id : ClauseId) (c : List Literal) → look id ≡ Some c → is_chain (entry_at log id.pos) ≡ false → id.pos < from
 
--- The opening positions are before the search's own and no chains', and those that were taken are chains'; what is kept was taken, or
--- is no chain's and before the search's own. Of its own it has seen those below `seen`.
+-- it stands below this position or is one of these, where it is no chain
+abbrev pub AreStoredAt : Lookup → List Entry → List ℕ → ℕ → Type 0
+AreStoredAt look log positions from = (id : ClauseId) (c : List Literal) → look id ≡ Some c → is_chain (entry_at log id.pos) ≡ false → (id.pos < from) ⊎ Contains positions id.pos
+
+-- The opening positions are of the log and no chains', and those that were taken are chains'; what is kept was taken, or is no chain's,
+-- and is of an opening position or before the search's own. Of its own it has seen those below `seen`.
 pub record ArePlaced (look : Lookup) (log : List Entry) (opening taken : List ℕ) (from seen : ℕ) : Type 0 where
-  pub before : (p : ℕ) → Contains opening p → p < from
+  pub before : (p : ℕ) → Contains opening p → p < suc (length log)
   pub plain : (p : ℕ) → Contains opening p → is_chain (entry_at log p) ≡ false
   pub chains : (p : ℕ) → Contains taken p → is_chain (entry_at log p) ≡ true
   pub stored : AreStored look log taken
-  pub below : AreStoredBelow look log from
+  pub below : AreStoredAt look log opening from
   pub from_seen : from ≤ seen
   pub within : seen ≤ suc (length log)
 
@@ -122,11 +126,13 @@ pub record AreLeft (look : Lookup) (positions left : List ℕ) : Type 0 where
   pub among : (p : ℕ) → Contains left p → Contains positions p
   pub all : (p : ℕ) (c : List Literal) → Contains positions p → look (record { pos = p; part = 0 }) ≡ Some c → Contains left p
 
--- the clause of a chain at this position came, beside the others, where all its variables are among these; else nothing did
+-- The clause of a chain at this position came, beside the others: it is held where all its variables are among these, and kept alone
+-- where another is.
 pub record IsAdmitted (old new : Watches) (variables : List ℕ) (at : ℕ) (clause : List Literal) : Type 0 where
   pub others : IsSameBut (record { pos = at; part = 0 }) old new
-  pub came : ((clause_of new (record { pos = at; part = 0 }) ≡ Some clause) × (held_of new (record { pos = at; part = 0 }) ≡ Some clause) × AreAmong variables clause)
-      ⊎ (IsSameStore old new × IsForeign variables clause)
+  pub kept : clause_of new (record { pos = at; part = 0 }) ≡ Some clause
+  pub came : ((held_of new (record { pos = at; part = 0 }) ≡ Some clause) × AreAmong variables clause)
+      ⊎ ((held_of new (record { pos = at; part = 0 }) ≡ None) × IsForeign variables clause)
 
 -- The chain at this position, where it is kept, is held where all its variables are among these, and not held else.
 abbrev pub IsSorted : Watches → Watches → List ℕ → ℕ → Type 0

@@ -1,9 +1,11 @@
 -- A diary that is kept while a search goes on.
-use Rattle.std.specs.Prelude.{◌≡◌, ◌≤◌, ◌<◌, ◌⊎◌, ◌++◌, ◌∷◌, [], ℕ, true, List, Some, Contains}
+use Rattle.std.specs.Prelude.{◌≡◌, ◌≤◌, ◌<◌, ◌⊎◌, ◌++◌, ◌∷◌, [], ℕ, Bool, true, false, List, Option, Some, Contains}
 use Rattle.cnf_base.specs.Literals.{Literal}
 use Rattle.cnf_base.specs.declared.clause.ClauseId.{ClauseId}
+use Rattle.hint_chain.specs.Chains.{Lookup}
 use Rattle.smt_terms.specs.declared.node.Node.{Node}
 use Rattle.proof_log.specs.declared.entry.Entry.{Entry}
+use Rattle.proof_log.specs.declared.entry.Entry.TheVariants as step
 use Rattle.proof_log.specs.declared.diary.DiaryLine.{DiaryLine}
 use Rattle.proof_log.specs.declared.diary.DiaryLine.TheVariants.{Take, Put}
 use Rattle.proof_log.specs.Logs.{entry_at, state_of}
@@ -21,8 +23,13 @@ HasLine lines p = Contains lines (Take p) ⊎ Contains lines (Put p)
 abbrev pub state_in : Subject → Keeper → DiaryState
 state_in g k = lines_after g (blank g) k.lines.items
 
+-- the clause of each chain that is held by the lines is kept
+abbrev pub AreChainsKept : Subject → Lookup → Keeper → Type 0
+AreChainsKept g look k = (p : ℕ) → (state_in g k).held p ≡ true → is_chain (entry_at g.log p) ≡ true → (c : List Literal) × (look (record { pos = p; part = 0 }) ≡ Some c)
+
 -- The lines stand; the numbers are theirs, or less; what the search keeps is held by them, and what is held by them is what the search
--- holds, and clauses with a variable that it does not have; and from the start on each chain that was seen has a line.
+-- holds, and clauses with a variable that it does not have, of which it keeps the chains'; and from the start on each chain that was seen
+-- has a line.
 pub record IsKept (g : Subject) (w : Watches) (variables : List ℕ) (k : Keeper) (seen : ℕ) : Type 0 where
   pub stand : AreLines g (blank g) k.lines.items
   pub puts : (state_in g k).puts ≡ k.puts
@@ -30,6 +37,7 @@ pub record IsKept (g : Subject) (w : Watches) (variables : List ℕ) (k : Keeper
   pub drops : k.left ≤ (state_in g k).drops
   pub held : (id : ClauseId) (c : List Literal) → clause_of w id ≡ Some c → (state_in g k).held id.pos ≡ true
   pub complete : (id : ClauseId) (c : List Literal) → (state_in g k).held id.pos ≡ true → look_of g id ≡ Some c → (held_of w id ≡ Some c) ⊎ IsForeign variables c
+  pub stored : AreChainsKept g (clause_of w) k
   pub lined : (p : ℕ) → k.start ≤ p → p < seen → is_chain (entry_at g.log p) ≡ true → HasLine k.lines.items p
   pub start : g.from ≤ k.start
   pub begun : k.start ≤ seen
@@ -50,6 +58,7 @@ pub record IsNoting (g : Subject) (w : Watches) (variables : List ℕ) (k : Keep
   pub grown : (p : ℕ) → (blank g).held p ≡ true → (state_in g k).held p ≡ true
   pub only : (p : ℕ) → (state_in g k).held p ≡ true → ((blank g).held p ≡ true) ⊎ ((id : ClauseId) (c : List Literal) → id.pos ≡ p → look_of g id ≡ Some c → (held_of w id ≡ Some c) ⊎ IsForeign variables c)
   pub takes : (p : ℕ) → Contains k.lines.items (Put p) → ⊥
+  pub stored : AreChainsKept g (clause_of w) k
 
 -- one position more is taken
 pub record IsTaken (old new : Keeper) (at : ℕ) : Type 0 where
@@ -73,3 +82,37 @@ NotesTaken w taken done old new =
     IsNoting (record { nodes = nodes; log = log; given = given; from = from }) w variables old →
     IsNotedAll (record { nodes = nodes; log = log; given = given; from = from }) w variables old new
     × ((id : ClauseId) (c : List Literal) → Contains done id.pos → clause_of w id ≡ Some c → (state_in (record { nodes = nodes; log = log; given = given; from = from }) new).held id.pos ≡ true)
+
+-- those of these positions that are not below the start of the search's own are noted
+abbrev pub NotesAdded : Watches → List ℕ → Keeper → Keeper → ℕ → Type 0
+NotesAdded w done old new from =
+    (nodes : List Node) (log : List Entry) (given : List Literal) (variables opening taken : List ℕ) (seen : ℕ) →
+    ((p : ℕ) → Contains done p → Contains opening p) →
+    IsHolding w (state_of nodes log).clauses variables opening taken → ArePlaced (clause_of w) log opening taken from seen →
+    IsNoting (record { nodes = nodes; log = log; given = given; from = from }) w variables old →
+    IsNotedAll (record { nodes = nodes; log = log; given = given; from = from }) w variables old new
+    × ((p : ℕ) → Contains done p → from ≤ p → (state_in (record { nodes = nodes; log = log; given = given; from = from }) new).held p ≡ true)
+
+-- ---- equalities and lemmas
+
+-- a step that gives an equality a variable, or adds the clause of a lemma
+abbrev pub is_theory : Option Entry → Bool
+is_theory (Some (step.Equal t u)) = true
+is_theory (Some (step.Lemma l)) = true
+is_theory _ = false
+
+-- The lines of further positions, which are no chains', came behind the others: each of these positions is held by them, and no other is
+-- held besides.
+pub record IsNotedMore (g : Subject) (old new : Keeper) (positions positions' : List ℕ) : Type 0 where
+  pub stand : AreLines g (blank g) old.lines.items → AreLines g (blank g) new.lines.items
+  pub counts : ((state_in g new).puts ≡ (state_in g old).puts) × ((state_in g new).chains ≡ (state_in g old).chains)
+  pub start : new.start ≡ old.start
+  pub puts : new.puts ≡ old.puts
+  pub chains : new.chains ≡ old.chains
+  pub drops : old.left ≤ (state_in g old).drops → new.left ≤ (state_in g new).drops
+  pub grown : (p : ℕ) → (state_in g old).held p ≡ true → (state_in g new).held p ≡ true
+  pub only : (p : ℕ) → (state_in g new).held p ≡ true → ((state_in g old).held p ≡ true) ⊎ (Contains positions' p × (is_chain (entry_at g.log p) ≡ false))
+  pub noted : (p : ℕ) → Contains positions' p → Contains positions p ⊎ ((state_in g new).held p ≡ true)
+  pub lined : (p : ℕ) → Contains positions' p → Contains positions p ⊎ HasLine new.lines.items p
+  pub lines : (p : ℕ) → HasLine old.lines.items p → HasLine new.lines.items p
+  pub later : (p : ℕ) → Contains new.lines.items (Put p) → Contains old.lines.items (Put p)

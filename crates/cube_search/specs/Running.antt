@@ -19,8 +19,8 @@ use Rattle.cdcl_learn.specs.Puts.{IsGoodPut, IsUnitAfter, StandsIn}
 use Rattle.cdcl_loop.specs.Engines.{IsEngine, IsOnCourse, IsSameBut}
 use Rattle.cdcl_loop.specs.Values.{valuation}
 use Rattle.cube_search.specs.declared.search.Search.{Search}
-use Rattle.cube_search.specs.Holding.{IsTold, IsHolding, ArePlaced, AreStored}
-use Rattle.cube_search.specs.Keeping.{IsKept, AreImported}
+use Rattle.cube_search.specs.Holding.{IsLonger, IsTold, IsHolding, IsFilling, ArePlaced, AreStored}
+use Rattle.cube_search.specs.Keeping.{IsKept, IsNotedMore, is_theory, AreImported}
 
 -- what is held of a log over its terms
 pub record IsSearchOf (w : Watches) (variables opening taken : List ℕ) (from seen : ℕ) (nodes : List Node) (log : List Entry) : Type 0 where
@@ -118,3 +118,17 @@ pub record IsKeptAt (old new : Search) (clause : List Literal) (level at : ℕ) 
   pub puts : new.diary.puts ≡ old.diary.puts + 1
   pub chains : new.diary.chains ≡ old.diary.chains + 1
   pub left : new.diary.left ≡ allowed new.diary.puts new.diary.chains
+
+-- Behind the opening positions came further ones, of equalities and lemmas, with all their clauses; each has a line in the diary. Chains
+-- are kept as before.
+pub record IsAdding (nodes : List Node) (log : List Entry) (old new : Search) : Type 0 where
+  pub opening : IsLonger old.opening.items new.opening.items
+  pub only : (p : ℕ) → Contains new.opening.items p → Contains old.opening.items p ⊎ (is_theory (entry_at log p) ≡ true)
+  pub filling : IsFilling new.engine.watches (state_of nodes log).clauses (variables_in new) new.opening.items new.ends.items new.opening.items new.taken.items
+  pub came : (id : ClauseId) (c : List Literal) → clause_of new.engine.watches id ≡ Some c → (clause_of old.engine.watches id ≡ Some c) ⊎ Contains new.opening.items id.pos
+  pub chains : (id : ClauseId) → is_chain (entry_at log id.pos) ≡ true → clause_of new.engine.watches id ≡ clause_of old.engine.watches id
+  pub noted : (given : List Literal) (from : ℕ) → IsNotedMore (record { nodes = nodes; log = log; given = given; from = from }) old.diary new.diary old.opening.items new.opening.items
+  pub taken : new.taken ≡ old.taken
+  pub from : new.from ≡ old.from
+  pub seen : new.seen ≡ old.seen
+  pub given : new.engine.given ≡ old.engine.given

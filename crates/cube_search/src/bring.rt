@@ -78,6 +78,7 @@ fn hold(alloc: Global, engine: &mut Engine, id: ClauseId, clause: &Clause) -> Re
         (clause_of engine.new.watches id ≡ Some clause.now)
         × (held_of engine.new.watches id ≡ Some clause.now)) }
     ensures others { OnOk result (IsSameBut id engine.old.watches engine.new.watches) }
+    ensures given { OnOk result (engine.new.given ≡ engine.old.given) }
 {
     list_all(engine, clause.literals())?;
     store(alloc, engine, id, clause)?;
@@ -97,6 +98,7 @@ fn hold_position<B: Board>(
     requires known { B.knows board.now pos }
     ensures engine { OnOk result (IsEngine engine.new) }
     ensures level { OnOk result (level_of engine.new.trail ≡ 0) }
+    ensures given { OnOk result (engine.new.given ≡ engine.old.given) }
     ensures brought { OnOk result
         (((id : ClauseId) (c : List Literal) → clause_of engine.old.watches id ≡ Some c
         → clause_at (state_of (B.nodes board.now) (B.log board.now)).clauses id ≡ Some c) →
@@ -126,6 +128,7 @@ pub(crate) fn bring<B: Board>(
     requires known { B.knows board.now pos }
     ensures engine { OnOk result (IsEngine engine.new) }
     ensures level { OnOk result (level_of engine.new.trail ≡ 0) }
+    ensures given { OnOk result (engine.new.given ≡ engine.old.given) }
     ensures brought { OnOk result
         (((id : ClauseId) (c : List Literal) → clause_of engine.old.watches id ≡ Some c
         → clause_at (state_of (B.nodes board.now) (B.log board.now)).clauses id ≡ Some c) →

@@ -1,9 +1,10 @@
 //! What others put on the board, and how a run begins.
 
-ghost use Rattle.std.specs.Prelude.{ℕ, ◌≡◌, ◌⊎◌, ◌++◌, ◌∷◌, [], List, Some, None, true, IfOk, OnOk, MatchBool};
+ghost use Rattle.std.specs.Prelude.{ℕ, ◌≡◌, ◌<◌, ◌⊎◌, ◌++◌, ◌∷◌, [], List, Some, None, true, IfOk, OnOk, MatchBool};
 ghost use Rattle.cnf_base.specs.Literals.{Literal};
 ghost use Rattle.cnf_base.specs.Assignments.{AreBelow};
 ghost use Rattle.smt_terms.specs.declared.node.Node.{Node};
+ghost use Rattle.cdcl_core.specs.declared.watches.Watches.{Watches};
 ghost use Rattle.cdcl_core.specs.Search.{clause_of};
 ghost use Rattle.cdcl_loop.specs.Engines.{IsEngine, IsOnCourse, IsSameTask};
 ghost use Rattle.proof_log.specs.declared.entry.Entry.{Entry};
@@ -11,7 +12,7 @@ ghost use Rattle.proof_log.specs.Logs.{state_of, entry_at};
 ghost use Rattle.proof_log.specs.Boards.{IsLater};
 ghost use Rattle.proof_log.specs.Diaries.{is_chain};
 ghost use Rattle.cube_search.specs.Holding.{AreSeparate, IsAdmitted, AreLeft};
-ghost use Rattle.cube_search.specs.Keeping.{HasLine, IsTaken, NotesTaken};
+ghost use Rattle.cube_search.specs.Keeping.{HasLine, IsTaken, NotesTaken, NotesAdded};
 ghost use Rattle.cube_search.specs.Running.{variables_in, given_in, IsSearch, IsRunning, IsWriting, IsUpToDate, IsCaughtUp, IsSameRun};
 
 use crate::bring::are_listed;
@@ -64,8 +65,31 @@ fn note_taken(
     Ok(left)
 }
 
+// Notes a position in a diary where it is not below the bound.
+fn note_from(at: Pos, bound: Pos, diary: &mut Keeper) -> Result<(), AllocError>
+    ensures { OnOk result
+        (((at < bound) × (diary.new ≡ diary.old)) ⊎ IsTaken diary.old diary.new at) }
+{
+    if at < bound {
+        return Ok(());
+    }
+    diary.take(at)?;
+    Ok(())
+}
+
+// Notes those of these positions in a diary that are not below the bound.
+fn note_added(positions: &[Pos], bound: Pos, diary: &mut Keeper) -> Result<(), AllocError>
+    ensures { OnOk result ((w : Watches)
+        → NotesAdded w positions.now diary.old diary.new bound) }
+{
+    'positions: for at in positions {
+        note_from(*at, bound, diary)?;
+    }
+    Ok(())
+}
+
 impl Search {
-    // Holds the clause of a chain where it has no variable of its own.
+    // Holds the clause of a chain where each of its variables is listed, and keeps it alone where one is not.
     fn admit(&mut self, at: Pos, clause: &Clause) -> Result<(), AllocError>
         requires engine { IsEngine self.old.engine }
         requires fresh { clause_of self.old.engine.watches (record { pos = at; part = 0 }) ≡ None }
@@ -77,15 +101,16 @@ impl Search {
             (IsAdmitted self.old.engine.watches self.new.engine.watches (variables_in self.old) at
             clause.now) }
     {
+        let own = clause.copy(self.alloc)?;
         if !are_listed(&self.engine, clause.literals()) {
+            self.engine.store(ClauseId { pos: at, part: 0 }, own)?;
             return Ok(());
         }
-        let own = clause.copy(self.alloc)?;
         self.engine.admit(own, at)?;
         Ok(())
     }
 
-    // Takes a chain that another put, and holds it where it speaks of the same variables.
+    // Takes a chain that another put: it is kept, and held where it speaks of the same variables.
     fn take<B: Board>(&mut self, board: &B, at: Pos) -> Result<(), AllocError>
         requires running { IsRunning self.old (B.nodes board.now) (B.log board.now) }
         requires known { B.knows board.now at }
@@ -160,8 +185,29 @@ impl Search {
         let given = Vec::from_slice(self.alloc, given)?;
         self.engine.begin(given);
         let mut diary = Keeper::new(self.alloc, self.seen);
+        note_added(self.opening.as_slice(), self.from, &mut diary)?;
         self.taken = note_taken(self.alloc, &self.engine, self.taken.as_slice(), &mut diary)?;
         self.diary = diary;
+        Ok(())
+    }
+
+    // Begins again under the same literals, with the same diary.
+    pub(crate) fn begin_again(&mut self, given: &[Lit]) -> Result<(), AllocError>
+        requires engine { IsEngine self.old.engine }
+        ensures opening { self.new.opening ≡ self.old.opening }
+        ensures ends { self.new.ends ≡ self.old.ends }
+        ensures listed { variables_in self.new ≡ variables_in self.old }
+        ensures from { self.new.from ≡ self.old.from }
+        ensures given { OnOk result (given_in self.new ≡ given.now) }
+        ensures running { OnOk result ((nodes : List Node) (log : List Entry)
+            → IsSearch self.old nodes log → AreBelow (state_of nodes log).next given.now
+            → IsRunning self.new nodes log) }
+        ensures writing { OnOk result ((nodes : List Node) (log : List Entry)
+            → given_in self.old ≡ given.now → IsWriting self.old nodes log
+            → IsWriting self.new nodes log) }
+    {
+        let given = Vec::from_slice(self.alloc, given)?;
+        self.engine.begin(given);
         Ok(())
     }
 }

@@ -44,6 +44,7 @@ fn sort_chain(engine: &mut Engine, at: Pos, left: &mut Vec<Pos>) -> Result<(), A
     ensures engine { OnOk result (IsEngine engine.new) }
     ensures level { OnOk result (level_of engine.new.trail ≡ 0) }
     ensures listed { OnOk result (engine.new.agenda.list ≡ engine.old.agenda.list) }
+    ensures given { OnOk result (engine.new.given ≡ engine.old.given) }
     ensures kept { OnOk result ((q : ClauseId)
         → clause_of engine.new.watches q ≡ clause_of engine.old.watches q) }
     ensures others { OnOk result ((q : ClauseId) → q ≢ record { pos = at; part = 0 }
@@ -72,7 +73,7 @@ fn sort_chain(engine: &mut Engine, at: Pos, left: &mut Vec<Pos>) -> Result<(), A
 }
 
 // Holds of the chains that are kept, at level 0, those whose variables are listed; gives the positions of what is kept.
-fn sort_chains(
+pub(crate) fn sort_chains(
     alloc: Global,
     engine: &mut Engine,
     positions: &[Pos],
@@ -81,6 +82,7 @@ fn sort_chains(
     requires level { level_of engine.old.trail ≡ 0 }
     ensures engine { IfOk result (λ left. IsEngine engine.new) }
     ensures listed { IfOk result (λ left. engine.new.agenda.list ≡ engine.old.agenda.list) }
+    ensures given { IfOk result (λ left. engine.new.given ≡ engine.old.given) }
     ensures kept { IfOk result (λ left. (q : ClauseId)
         → clause_of engine.new.watches q ≡ clause_of engine.old.watches q) }
     ensures others { IfOk result (λ left. (q : ClauseId) → (Contains positions.now q.pos → ⊥)

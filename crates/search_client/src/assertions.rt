@@ -45,7 +45,7 @@ fn two_constants(alloc: Global) -> Result<Terms, AllocError> {
 }
 
 // A node over others.
-fn over(alloc: Global, operator: Operator, args: &[TermId]) -> Result<Node, AllocError>
+pub(crate) fn over(alloc: Global, operator: Operator, args: &[TermId]) -> Result<Node, AllocError>
     ensures { IfOk result (λ n. declaration_of n.op ≡ None) }
 {
     let args = Arguments::of(alloc, args)?;
@@ -99,7 +99,7 @@ pub(crate) struct Proof {
 }
 
 // A step that is valid, or want of memory.
-fn add(proof: &mut Proof, alloc: Global, entry: Entry) -> Result<(), AllocError>
+pub(crate) fn add(proof: &mut Proof, alloc: Global, entry: Entry) -> Result<(), AllocError>
     requires stands { Stands proof.old.terms.nodes proof.old.log }
     requires declared { IsDeclared proof.old.terms entry }
     ensures { Stands proof.new.terms.nodes proof.new.log }
@@ -129,7 +129,7 @@ fn log_assertions(proof: &mut Proof, alloc: Global, assertions: u32) -> Result<(
 }
 
 // A log without a step over these terms.
-fn opened(alloc: Global, terms: Terms) -> Result<Proof, AllocError>
+pub(crate) fn opened(alloc: Global, terms: Terms) -> Result<Proof, AllocError>
     ensures { IfOk result (λ p. Stands p.terms.nodes p.log) }
 {
     match Log::new(alloc) {
@@ -156,7 +156,7 @@ fn logged(alloc: Global, assertions: u32) -> Result<Proof, AllocError>
     }
 }
 
-fn are_below(variables: u64, literals: &[Lit]) -> bool
+pub(crate) fn are_below(variables: u64, literals: &[Lit]) -> bool
     ensures { IsTrue result ↔ AreBelow variables literals.now }
 {
     literals.iter().all(|l| l.variable() < variables)

@@ -8,7 +8,7 @@ ghost use Rattle.proof_log.specs.Logs.{state_of, entry_at};
 ghost use Rattle.proof_log.specs.Diaries.{is_chain};
 ghost use Rattle.cdcl_core.specs.Search.{clause_of};
 ghost use Rattle.cube_search.specs.Holding.{AreStoredBelow};
-ghost use Rattle.cube_search.specs.Running.{IsResting, IsSearch};
+ghost use Rattle.cube_search.specs.Running.{given_in, IsResting, IsSearch};
 
 use cnf_base::{Lit, Pos};
 use cube_search::{End, Search};
@@ -71,6 +71,8 @@ fn go_over<B: Board>(
     requires from { from ≤ suc (length (B.log board.now)) }
     ensures search { OnOk result (IsSearch search.new (B.nodes board.now) (B.log board.now)) }
     ensures from { OnOk result (search.new.from ≡ from) }
+    ensures opening { OnOk result
+        ((p : ℕ) → Contains search.new.opening.items p → p < search.new.from) }
 {
     let _stands = board.bits();
     let positions = positions(alloc, board, bound)?;
@@ -79,13 +81,20 @@ fn go_over<B: Board>(
 }
 
 // A search that holds the positions of the board below the bound.
-fn begun<B: Board>(alloc: Global, board: &B, bound: u64, from: u64) -> Result<Search, AllocError>
+pub(crate) fn begun<B: Board>(
+    alloc: Global,
+    board: &B,
+    bound: u64,
+    from: u64,
+) -> Result<Search, AllocError>
     requires listed { IsTermList (B.nodes board.now) }
     requires known { (p : ℕ) → p < bound → B.knows board.now p }
     requires within { bound ≤ from }
     requires from { from ≤ suc (length (B.log board.now)) }
     ensures search { IfOk result (λ s. IsSearch s (B.nodes board.now) (B.log board.now)) }
     ensures from { IfOk result (λ s. s.from ≡ from) }
+    ensures opening { IfOk result
+        (λ s. (p : ℕ) → Contains s.opening.items p → p < s.from) }
 {
     let mut search = Search::new(alloc)?;
     match go_over(alloc, board, &mut search, bound, from) {
@@ -105,6 +114,8 @@ pub(crate) enum Ended {
     Model,
     // these variables below 12 are true, and no others
     ModelOf(&'static [u64]),
+    // this variable below 12 is true
+    ModelWith(u64),
     // with so many lines in the diary of this cube
     Spent(u32, usize),
 }
@@ -120,12 +131,23 @@ fn are_true(search: &Search, variables: &[u64]) -> bool {
     true
 }
 
-fn is_end(search: &Search, end: &End, wanted: Ended) -> bool {
+// Whether this variable below 12 is true.
+fn has_true(search: &Search, wanted: u64) -> bool {
+    for variable in 1..12 {
+        if variable == wanted && search.is_true(Lit::new(variable, true)) {
+            return true;
+        }
+    }
+    false
+}
+
+pub(crate) fn is_end(search: &Search, end: &End, wanted: Ended) -> bool {
     match (end, wanted) {
         (End::Closed(_), Ended::Closed) => true,
         (End::Closed(at), Ended::ClosedAt(pos)) => *at == pos,
         (End::Model, Ended::Model) => true,
         (End::Model, Ended::ModelOf(variables)) => are_true(search, variables),
+        (End::Model, Ended::ModelWith(variable)) => has_true(search, variable),
         (End::Spent(diary), Ended::Spent(cube, lines)) => {
             diary.cube == cube && diary.lines.as_slice().len() == lines
         }
@@ -134,7 +156,7 @@ fn is_end(search: &Search, end: &End, wanted: Ended) -> bool {
 }
 
 // Whether a run of a search ends so.
-fn is_run<B: Board>(
+pub(crate) fn is_run<B: Board>(
     board: &mut B,
     search: &mut Search,
     given: &[Lit],
@@ -147,6 +169,8 @@ fn is_run<B: Board>(
         (B.log board.new) (B.knows board.old) (B.knows board.new) }
     ensures search { OnOk result (IsSearch search.new (B.nodes board.new) (B.log board.new)) }
     ensures from { search.new.from ≡ search.old.from }
+    ensures opening { search.new.opening ≡ search.old.opening }
+    ensures given { OnOk result (given_in search.new ≡ given.now) }
 {
     let end = search.run(board, CUBE, given, budget)?;
     let is_so = is_end(&*search, &end, wanted);
@@ -278,6 +302,7 @@ fn is_run_over<B: Board>(
 ) -> Result<bool, AllocError>
     requires search { IsSearch search.old (B.nodes board.old) (B.log board.old) }
     requires own { search.old.from ≡ from }
+    requires opening { (p : ℕ) → Contains search.old.opening.items p → p < search.old.from }
     requires listed { IsTermList (B.nodes board.old) }
     requires known { (p : ℕ) → p < bound → B.knows board.old p }
     requires within { bound ≤ from }
@@ -287,9 +312,12 @@ fn is_run_over<B: Board>(
         (B.knows board.old) (B.knows board.new)) }
     ensures search { OnOk result (IsSearch search.new (B.nodes board.new) (B.log board.new)) }
     ensures own { OnOk result (search.new.from ≡ from) }
+    ensures opening { OnOk result
+        ((p : ℕ) → Contains search.new.opening.items p → p < search.new.from) }
 {
     go_over(alloc, &*board, search, bound, from)?;
-    is_run(board, search, given, 0, wanted)
+    let is_so = is_run(board, search, given, 0, wanted)?;
+    Ok(is_so)
 }
 
 // Whether a search over the whole log ends closed within one put, then has this model over the positions below the bound alone, and
@@ -305,6 +333,7 @@ fn goes_and_comes<B: Board>(
 ) -> Result<bool, AllocError>
     requires search { IsSearch search.old (B.nodes board.old) (B.log board.old) }
     requires own { search.old.from ≡ from }
+    requires opening { (p : ℕ) → Contains search.old.opening.items p → p < search.old.from }
     requires listed { IsTermList (B.nodes board.old) }
     requires known { (p : ℕ) → p < from → B.knows board.old p }
     requires within { bound ≤ from }

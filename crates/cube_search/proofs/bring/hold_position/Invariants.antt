@@ -11,6 +11,7 @@ abbrev pub invariant-parts : goal.invariant-parts
 invariant-parts g l = record {
   engine : IsEngine l.engine;
   level : level_of l.engine.trail ≡ 0;
+  given : l.engine.given ≡ l.fn.engine.given;
   bringing : ((id : ClauseId) (c : List Literal) → clause_of l.fn.engine.watches id ≡ Some c → clause_at (state_of (g.B.Board.nodes l.board) (g.B.Board.log l.board)).clauses id ≡ Some c) →
       IsBringing (λ part. part < l.part) l.fn.engine.watches l.engine.watches (state_of (g.B.Board.nodes l.board) (g.B.Board.log l.board)).clauses l.fn.engine.agenda.list l.engine.agenda.list l.pos;
 }

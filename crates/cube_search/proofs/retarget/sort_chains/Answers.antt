@@ -13,6 +13,7 @@ positions-init c = record {
   engine = c.requires.engine;
   level = c.requires.level;
   listed = refl;
+  given = refl;
   kept = λ q. refl;
   others = λ q un. refl;
   came = λ q d e. inl e;
@@ -36,6 +37,7 @@ positions-preserved c =
       engine = k.engine;
       level = k.level;
       listed = k.listed ∙ c.positions.invariant.listed;
+      given = k.given ∙ c.positions.invariant.given;
       kept = λ q. k.kept q ∙ c.positions.invariant.kept q;
       others = sorted_others old.watches w v xs ps i at lt is c.positions.invariant.kept k.others c.positions.invariant.others;
       came = sorted_came old.watches w v xs ps i at lt is c.positions.invariant.kept k.others c.positions.invariant.came;
@@ -46,6 +48,9 @@ positions-preserved c =
 
 pub returns-clause-sorted : goal.returns-clause-sorted
 returns-clause-sorted c = λ p m. c.positions.invariant.sorted p (subst (λ (xs : List ℕ). Contains xs p) (sym (take_all c.positions.at-index c.args.positions.now c.positions-test.false)) m)
+
+pub returns-clause-given : goal.returns-clause-given
+returns-clause-given c = c.positions.invariant.given
 
 pub returns-clause-left : goal.returns-clause-left
 returns-clause-left c =

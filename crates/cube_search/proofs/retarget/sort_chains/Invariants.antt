@@ -12,6 +12,7 @@ invariant-positions l = record {
   engine : IsEngine l.engine;
   level : level_of l.engine.trail ≡ 0;
   listed : l.engine.agenda.list ≡ l.fn.engine.agenda.list;
+  given : l.engine.given ≡ l.fn.engine.given;
   kept : (q : ClauseId) → clause_of l.engine.watches q ≡ clause_of l.fn.engine.watches q;
   others : (q : ClauseId) → (Contains l.positions q.pos → ⊥) → held_of l.engine.watches q ≡ held_of l.fn.engine.watches q;
   came : (q : ClauseId) (c : List Literal) → held_of l.engine.watches q ≡ Some c → (held_of l.fn.engine.watches q ≡ Some c) ⊎ Contains l.positions q.pos;

@@ -1,4 +1,4 @@
-use Rattle.std.proofs.Common.{◌≡◌, ℕ, List, refl, ap, ◌∙◌, subst, sym, ⊎_elim, inl, inr}
+use Rattle.std.proofs.Common.{◌≡◌, ℕ, List, ap, ◌∙◌, subst, sym, ⊎_elim, inl, inr, arith}
 use Rattle.std.specs.Prelude.{Contains}
 use Rattle.proof_log.specs.Logs.{state_of}
 use Rattle.cdcl_core.specs.Search.{clause_of}
@@ -25,14 +25,15 @@ returns-clause-search g c =
     let left = c.in_ok-self.field-0.items in
     let search : IsSearchOf n.watches b.engine.agenda.list ps left c.args.from c.args.from nodes log =
     retargeted nodes log old.engine.watches b.engine.watches n.watches b.engine.agenda.list ps b.ends.items old.taken.items left c.args.from c.args.from c.requires.listed c.requires.stands
-    c.requires.below c.requires.plain c.requires.resting.chains c.requires.resting.stored c.requires.stored
+    (λ p k. let lt = c.requires.below p k in omega (arith, lt, c.requires.from)) c.requires.plain c.requires.resting.chains c.requires.resting.stored
+    (λ id d e not_chain. inl (c.requires.stored id d e not_chain))
     (λ id d e. ⊎_elim (λ x. inl (c.in_ok-stay.ensures.fewer id d x)) (λ k. inr k) (c.in_ok-go_on.ensures.came id d e))
     filling c.in_ok-self.ensures.kept
     (λ q un. c.in_ok-self.ensures.others q (λ k. un (subst (λ (ts : List ℕ). Contains ts q.pos) was k)))
     (λ q d e. ⊎_elim (λ x. inl x) (λ k. inr (subst (λ (ts : List ℕ). Contains ts q.pos) was k)) (c.in_ok-self.ensures.came q d e))
     (λ p k. c.in_ok-self.ensures.sorted p (subst (λ (ts : List ℕ). Contains ts p) (sym was) k))
     (subst (λ (ts : List ℕ). AreLeft (clause_of b.engine.watches) ts left) was c.in_ok-self.ensures.left)
-    refl c.requires.from in (
+    (omega arith) c.requires.from in (
       c.in_ok-self.ensures.engine,
       subst (λ (xs : List ℕ). IsSearchOf n.watches xs b.opening.items left c.args.from c.args.from nodes log) (sym listed)
           (subst (λ (os : List ℕ). IsSearchOf n.watches b.engine.agenda.list os left c.args.from c.args.from nodes log) (sym same) search),

@@ -84,3 +84,12 @@ returns-clause-later g c = later_then (g.B.Board.nodes c.args.board.now) (g.B.Bo
 
 pub returns-clause-end : goal.returns-clause-end
 returns-clause-end g c = λ h. MatchBool-at_false _ _ c.if-branch.false c.in_ok-take_news.ensures.news (c.in_ok-clean.ensures.writing (conflict_writing c.args.self.now c.learn.new.self c.keep.new.self c.restart.new.self (g.B.Board.nodes c.args.board.now) (g.B.Board.nodes c.learn.new.board) (g.B.Board.log c.args.board.now) (g.B.Board.log c.learn.new.board) (g.B.Board.knows c.args.board.now) (g.B.Board.knows c.learn.new.board) c.in_ok-clause.ensures.later c.in_ok-clause.clause c.in_ok-clause.level c.in_ok-clause.at c.requires.running (omega (arith, c.requires.running.2.0.lower)) c.in_ok-clause.ensures.learnt c.in_ok-clause.ensures.same c.in_ok-keep.ensures.run c.in_ok-keep.ensures.kept c.in_ok-keep.ensures.engine c.in_ok-keep.ensures.course (ap (λ (x : Engine). x.watches) c.restart.ensures.same) c.restart.ensures.task h.0))
+
+pub returns-then-level-base-clause-model : goal.returns-then-level-base-clause-model
+returns-then-level-base-clause-model g c = λ is. absurd is
+
+pub returns-then-self-budget-clause-model : goal.returns-then-self-budget-clause-model
+returns-then-self-budget-clause-model g c = λ is. absurd is
+
+pub returns-then-branch-clause-model : goal.returns-then-branch-clause-model
+returns-then-branch-clause-model g c = λ is. absurd is

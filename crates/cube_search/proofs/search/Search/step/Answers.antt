@@ -9,7 +9,7 @@ use Rattle.cube_search.specs.declared.search.Search.{Search}
 use Rattle.cube_search.specs.Ends.{IsClosing, IsModel}
 use Rattle.cube_search.specs.Running.{given_in, valuation_of}
 use Rattle.cube_search.proofs.Models.{model_holds}
-use Rattle.cube_search.proofs.Steps.{running_board, running_later, looked_now, looked_still, moved_running, moved_upto, end_from}
+use Rattle.cube_search.proofs.Steps.{running_board, running_later, looked_now, looked_still, moved_running, moved_upto, end_from, models}
 use Rattle.cube_search.proofs.search.Search.step.Goals as goal
 
 pub settle-requires-clause-running : goal.settle-requires-clause-running
@@ -79,3 +79,14 @@ pub returns-clause-looked : goal.returns-clause-looked
 returns-clause-looked g c =
     looked_still c.args.self.now (record c.args.self.now { engine = c.decide.new.self }) (g.B.Board.log c.args.board.now) (g.B.Board.told c.args.board.now) (g.B.Board.told c.args.board.now) refl refl
     (looked_now c.args.self.now (g.B.Board.nodes c.args.board.now) (g.B.Board.log c.args.board.now) (g.B.Board.told c.args.board.now) c.requires.told c.requires.running)
+
+pub returns-clause-model : goal.returns-clause-model
+returns-clause-model g c = λ is h. moved_upto (record c.args.self.now { engine = c.assume.new.self }) c.decide.new.self c.decide.ensures.task c.decide.ensures.store (g.B.Board.nodes c.args.board.now) (g.B.Board.log c.args.board.now) (g.B.Board.knows c.args.board.now) (moved_upto (record c.args.self.now { engine = c.propagate.new.self }) c.assume.new.self c.assume.ensures.task c.assume.ensures.store (g.B.Board.nodes c.args.board.now) (g.B.Board.log c.args.board.now) (g.B.Board.knows c.args.board.now) (moved_upto c.args.self.now c.propagate.new.self c.propagate.ensures.task c.propagate.ensures.store (g.B.Board.nodes c.args.board.now) (g.B.Board.log c.args.board.now) (g.B.Board.knows c.args.board.now) h))
+
+pub returns-in-Some-2-clause-model : goal.returns-in-Some-2-clause-model
+returns-in-Some-2-clause-model g c = λ is. absurd is
+
+pub returns-in-Some-clause-model : goal.returns-in-Some-clause-model
+returns-in-Some-clause-model g c =
+    models c.settle.result _ _ _
+    (moved_upto c.args.self.now c.propagate.new.self c.propagate.ensures.task c.propagate.ensures.store (g.B.Board.nodes c.args.board.now) (g.B.Board.log c.args.board.now) (g.B.Board.knows c.args.board.now)) c.settle.ensures.model

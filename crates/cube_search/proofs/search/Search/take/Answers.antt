@@ -19,7 +19,7 @@ pub returns-clause-running : goal.returns-clause-running
 returns-clause-running g c =
     let s = c.args.self.now in
     let t = c.admit.new.self in
-    took_running s t (g.B.Board.nodes c.args.board.now) (g.B.Board.log c.args.board.now) c.args.at c.in-Some-clause.clause.now c.requires.running (c.if-not-is_chain.ensures.shown refl) (sym c.in_default.ensures) c.in-Some-clause.ensures
+    took_running s t (g.B.Board.nodes c.args.board.now) (g.B.Board.log c.args.board.now) c.args.at c.in-Some-clause.clause.now c.requires.running (c.if-not-is_chain.ensures.shown refl) c.in-Some-clause.ensures
     (ap (λ (x : Search). x.opening.items) c.admit.ensures.same) (ap (λ (x : Search). x.taken.items) c.admit.ensures.same ∙ c.in_ok-push.ensures.items)
     (ap (λ (x : Search). x.from) c.admit.ensures.same) (ap (λ (x : Search). x.seen) c.admit.ensures.same) c.admit.ensures.task
     c.admit.result c.admit.ensures.engine c.admit.ensures.course c.admit.ensures.admitted
@@ -28,7 +28,7 @@ pub returns-clause-writing : goal.returns-clause-writing
 returns-clause-writing g c =
     let s = c.args.self.now in
     let t = c.admit.new.self in
-    took_writing s t (g.B.Board.nodes c.args.board.now) (g.B.Board.log c.args.board.now) c.args.at c.in-Some-clause.clause.now c.requires.running (c.if-not-is_chain.ensures.shown refl) (sym c.in_default.ensures) c.in-Some-clause.ensures
+    took_writing s t (g.B.Board.nodes c.args.board.now) (g.B.Board.log c.args.board.now) c.args.at c.in-Some-clause.clause.now c.requires.running (c.if-not-is_chain.ensures.shown refl) c.in-Some-clause.ensures
     (ap (λ (x : Search). x.opening.items) c.admit.ensures.same) (ap (λ (x : Search). x.taken.items) c.admit.ensures.same ∙ c.in_ok-push.ensures.items)
     (ap (λ (x : Search). x.from) c.admit.ensures.same) (ap (λ (x : Search). x.seen) c.admit.ensures.same) c.admit.ensures.task
     c.admit.result c.admit.ensures.admitted
