@@ -18,6 +18,7 @@ use Rattle.script_state.specs.States.{StateValue, assumptions, roots}
 use Rattle.proof_log.specs.declared.entry.Entry.{Entry}
 use Rattle.proof_log.specs.declared.entry.Entry.TheVariants as step
 use Rattle.proof_log.specs.declared.diary.Diary.{Diary}
+use Rattle.proof_log.specs.Assigned.{AreClosed}
 use Rattle.proof_log.specs.Boards.{IsOfSearch, Grows as Prolongs}
 use Rattle.proof_log.specs.Diaries.{IsSpent, is_chain}
 use Rattle.proof_log.specs.Places.{IsForTerm}
@@ -30,24 +31,22 @@ use Rattle.cube_tree.specs.Cubes.{cube_of}
 use Rattle.cube_tree.proofs.Resolving.{members}
 use Rattle.cube_search.specs.Ends.{IsModel}
 use Rattle.proof_text.specs.Records.{AreWritten}
-use Rattle.proof_text.specs.declared.record.Record.{Record}
 use Rattle.proof_text.specs.declared.record.Record.TheVariants.{Sat, Unsat, Unknown}
 use Rattle.accepted_proof.specs.Models.{IsWrittenModel}
 use Rattle.accepted_proof.specs.Searching.{Limits, is_reached, variables_of, leaf_variables, Rise, cube_variables, selector_literals, bits_or_none, given_literals, HasSelector, HasBit, IsUnknown}
 use Rattle.reached_steps.specs.Reached.{IsOfTerms, AreReachedSteps}
 use Rattle.reached_steps.proofs.Separate.{reached_are_separate}
-use Rattle.smt_session.specs.Growing.{Grows, IsStepFor, IsUnruled, AreBits, AreGiven, AreSelectors}
+use Rattle.smt_session.specs.Growing.{Grows, IsStepFor, AreBits, AreGiven, AreSelectors}
 use Rattle.smt_session.specs.declared.solve.Found.{Found}
 use Rattle.smt_session.specs.declared.solve.Found.TheVariants as found
 use Rattle.smt_session.specs.Searched.{IsTermStep, IsAssertionStep, IsStepOf, AreEnough, AreSatisfied, HasTrueSelector, HasTrueBit, IsProblem, IsSpentCube, IsClosed, IsLowestSpent, IsFound, problem}
 use Rattle.smt_session.specs.Thorough.{IsClosedCube, AreOthersSearched}
-use Rattle.smt_session.specs.Sessions.{IsSession, IsChecked}
+use Rattle.smt_session.specs.Sessions.{IsSession, IsConcluded}
 use Rattle.smt_session.proofs.Cubes.{grown_chain}
 use Rattle.smt_session.proofs.Giving.{given_below, given_stays, selectors_true, true_bits}
 use Rattle.smt_session.proofs.Roots.{roots_live}
 use Rattle.smt_session.proofs.Satisfied.{satisfied}
-use Rattle.smt_session.proofs.Staying.{grows_more, grown_steps, words_of}
-use Rattle.smt_session.proofs.Unruled.{closed_over, no_images, unruled_of}
+use Rattle.smt_session.proofs.Staying.{grown_steps, words_of}
 use Rattle.smt_session.proofs.Turning.{refutation, true_selectors, grows_by_searches}
 
 -- ---- what is searched
@@ -83,7 +82,7 @@ module _ (s : StateValue) (log : LogValue) (session : IsSession s log) (position
   selector_reached a p t live e =
       let known = All-contains (λ (b : Live). slice_get s.scopes.terms b.assertion ≡ Some b.term) s.scopes.live a session.state.scopes.known live in
       let for_script = All-contains (IsStepFor s) log.entries (step.Selector a.assertion t) (All-from_recursion (IsStepFor s) log.entries session.each) (entry_among log.entries p (step.Selector a.assertion t) e) in
-      subst (Contains enough.reached) (same_found _ a.term t known for_script.1)
+      subst (Contains enough.reached) (same_found _ a.term t known for_script.0)
       (All-contains (λ (b : Live). Contains enough.reached b.term) s.scopes.live a (roots_live (Contains enough.reached) s enough.among) live)
 
   of_terms : (p : ℕ) → Contains positions p → IsOfTerms log.entries enough.reached p
@@ -97,7 +96,7 @@ module _ (s : StateValue) (log : LogValue) (session : IsSession s log) (position
       (All-contains (IsStepOf log enough.reached s.scopes.live) positions p enough.each.only among)
 
   reached_steps : AreReachedSteps s.terms.nodes log.entries positions
-  reached_steps = record { reached = enough.reached; closed = closed_over s.terms.nodes (state_of s.terms.nodes log.entries).images (Contains enough.reached) (no_images s.terms.nodes log.entries (stands_over s.terms.nodes log session.stands).steps (unruled_of s log.entries session.each)) enough.closed; first = enough.each.first; terms = enough.each.terms; only = of_terms; words = words_of s log.entries session.each }
+  reached_steps = record { reached = enough.reached; closed = subst (λ (f : ℕ → Option ℕ). AreClosed s.terms.nodes f (Contains enough.reached)) (λ i t. (stands_over s.terms.nodes log session.stands).images t i) enough.closed; first = enough.each.first; terms = enough.each.terms; only = of_terms; words = words_of s log.entries session.each }
 
   step_within : (p : ℕ) → Contains positions p → p < suc (length log.entries)
   step_within p among =
@@ -250,10 +249,6 @@ module _ (limits : Limits) (s : StateValue) (old new : LogValue) (positions vari
 
 -- ---- what a check comes to
 
--- steps before the search
-pub checked_more : (limits : Limits) (s : StateValue) (old mid new : LogValue) (r : Record) → Grows s old mid → IsChecked limits s mid new r → IsChecked limits s old new r
-checked_more limits s old mid new r g h = record { grows = grows_more s old mid new g h.grows; shown = h.shown; cubes = h.cubes }
-
 module _ (s : StateValue) (terms : TermsValue) (old new : LogValue) (places variables : List ℕ) (given : List Literal) (budget : ℕ) (v : ℕ → Bool) (f : Found)
     (own : terms ≡ s.terms) (session : IsSession s old) (are : AreGiven s old given) (prolongs : Prolongs old.entries new.entries) (after : Stands terms.nodes new)
     (is : IsFound (problem terms.nodes old.entries places variables given budget) new.entries v f) where
@@ -269,10 +264,10 @@ module _ (s : StateValue) (terms : TermsValue) (old new : LogValue) (places vari
   found_as : (g : Found) → f ≡ g → IsFound (problem s.terms.nodes old.entries places variables given budget) new.entries v g
   found_as g e = subst (IsFound (problem s.terms.nodes old.entries places variables given budget) new.entries v) e found_in
 
-  pub refuted_checked : (limits : Limits) (at : ℕ) → f ≡ found.Refuted at → IsChecked limits s old new (Unsat at)
+  pub refuted_checked : (limits : Limits) (at : ℕ) → f ≡ found.Refuted at → IsConcluded limits s old new (Unsat at)
   refuted_checked limits at e = record { grows = grows; shown = refutation s old new given at session.stands grows are (found_as (found.Refuted at) e); cubes = tt }
 
-  pub unknown_checked : (limits : Limits) (d : Diary) → budget ≡ limits.budget → variables ≡ cube_variables limits s s.terms.nodes old.entries → f ≡ found.Spent d → IsChecked limits s old new (Unknown d)
+  pub unknown_checked : (limits : Limits) (d : Diary) → budget ≡ limits.budget → variables ≡ cube_variables limits s s.terms.nodes old.entries → f ≡ found.Spent d → IsConcluded limits s old new (Unknown d)
   unknown_checked limits d b split e =
       let spent : IsLowestSpent (problem s.terms.nodes old.entries places variables given limits.budget) new.entries (2 ^ length variables) d =
       subst (λ n. IsLowestSpent (problem s.terms.nodes old.entries places variables given n) new.entries (2 ^ length variables) d) b (found_as (found.Spent d) e) in
@@ -282,7 +277,7 @@ module _ (s : StateValue) (terms : TermsValue) (old new : LogValue) (places vari
         cubes = others_searched limits s old new places variables given session.stands stands prolongs grows split are d spent;
       }
 
-  pub model_checked : (limits : Limits) (values : List (ℕ × Value)) → AreWritten (Sat values) × IsWrittenModel s values → IsChecked limits s old new (Sat values)
+  pub model_checked : (limits : Limits) (values : List (ℕ × Value)) → AreWritten (Sat values) × IsWrittenModel s values → IsConcluded limits s old new (Sat values)
   model_checked limits values shown = record { grows = grows; shown = shown; cubes = tt }
 
   module _ (model : f ≡ found.Model) where
@@ -295,15 +290,12 @@ module _ (s : StateValue) (terms : TermsValue) (old new : LogValue) (places vari
     pub model_words : AllByRecursion (IsOfWords s.terms.nodes) new.entries
     model_words = words_of s new.entries (grown_steps s old new session.each grows)
 
-    pub model_unruled : AllByRecursion IsUnruled new.entries
-    model_unruled = unruled_of s new.entries (grown_steps s old new session.each grows)
-
     given_now : AreGiven s new given
     given_now = given_stays s old new given session.stands grows are
 
     pub model_satisfies : AreEnough s.terms.nodes old (roots s) s.scopes.live places → AreSatisfied s.terms.nodes new (roots s) s.scopes.live v
     model_satisfies enough =
-        satisfied s.terms.nodes old new (roots s) s.scopes.live places v prolongs enough
+        satisfied s.terms.nodes old new (roots s) s.scopes.live places v session.stands stands prolongs enough
         (λ at among k c q.
         is_model.clauses (record { pos = at; part = k }) c among
         (sym (ap (λ rows. clause_at rows (record { pos = at; part = k })) (stands_over s.terms.nodes new stands).clauses) ∙ q))

@@ -1,6 +1,7 @@
 -- A session goes on over the terms and the assertions that a command leaves.
-use Rattle.std.proofs.Common.{◌≡◌, ℕ, false, List, [], ◌∷◌, ◌++◌, refl, sym, ◌∙◌, subst, Some}
+use Rattle.std.proofs.Common.{◌≡◌, ℕ, false, List, [], ◌∷◌, ◌++◌, sym, ◌∙◌, subst, Some}
 use Rattle.std.specs.Prelude.{slice_get}
+use Rattle.smt_terms.specs.declared.sort.Signature.{Signature}
 use Rattle.smt_terms.specs.declared.node.Node.{Node}
 use Rattle.script_state.specs.Readings.{Reading}
 use Rattle.script_state.specs.declared.answer.Answer.{Answer}
@@ -10,7 +11,6 @@ use Rattle.script_state.proofs.Keeping.{GoesOn, step_goes_on}
 use Rattle.script_state.proofs.Theories.{theories_stay}
 use Rattle.proof_log.specs.declared.entry.Entry.{Entry}
 use Rattle.proof_log.specs.declared.entry.Entry.TheVariants as entry
-use Rattle.proof_log.specs.Faults.{MakesNoTerm}
 use Rattle.proof_log.specs.Stored.{LogValue, Stands}
 use Rattle.proof_log.specs.Words.{IsOfWords}
 use Rattle.proof_log.proofs.Leaves.{words_longer}
@@ -19,17 +19,17 @@ use Rattle.accepted_proof.specs.Turns.{IsOfScript}
 use Rattle.smt_session.specs.Growing.{AreStepsFor}
 use Rattle.smt_session.specs.Sessions.{IsSession}
 
-more_for : (old new : StateValue) → ((a t : ℕ) → slice_get old.scopes.terms a ≡ Some t → slice_get new.scopes.terms a ≡ Some t) → (e : Entry) → MakesNoTerm e → IsOfScript old e → IsOfScript new e
-more_for old new more (entry.Node n) k i = absurd (k refl)
-more_for old new more (entry.Selector a t) k i = more a t i
-more_for old new more e k i = tt
+more_for : (old new : StateValue) → ((d : ℕ) (g : Signature) → slice_get old.symbols.signatures d ≡ Some g → slice_get new.symbols.signatures d ≡ Some g) → ((a t : ℕ) → slice_get old.scopes.terms a ≡ Some t → slice_get new.scopes.terms a ≡ Some t) → (e : Entry) → IsOfScript old e → IsOfScript new e
+more_for old new known more (entry.Node n) i = record { each = λ d e. known d _ (i.each d e) }
+more_for old new known more (entry.Selector a t) i = more a t i
+more_for old new known more e i = tt
 
 -- steps for a script are for one with more assertions and more terms
-pub more_steps : (old new : StateValue) (behind : List Node) (es : List Entry) → new.terms.nodes ≡ old.terms.nodes ++ behind → ((a t : ℕ) → slice_get old.scopes.terms a ≡ Some t → slice_get new.scopes.terms a ≡ Some t) → AreStepsFor old es → AreStepsFor new es
-more_steps old new behind [] terms more h = tt
-more_steps old new behind (e ∷ es) terms more h = (
-  (h.0.0, more_for old new more e h.0.0 h.0.1, subst (λ ns. IsOfWords ns e) (sym terms) (words_longer old.terms.nodes behind e h.0.2), h.0.3),
-  more_steps old new behind es terms more h.1,
+pub more_steps : (old new : StateValue) (behind : List Node) (es : List Entry) → new.terms.nodes ≡ old.terms.nodes ++ behind → ((d : ℕ) (g : Signature) → slice_get old.symbols.signatures d ≡ Some g → slice_get new.symbols.signatures d ≡ Some g) → ((a t : ℕ) → slice_get old.scopes.terms a ≡ Some t → slice_get new.scopes.terms a ≡ Some t) → AreStepsFor old es → AreStepsFor new es
+more_steps old new behind [] terms known more h = tt
+more_steps old new behind (e ∷ es) terms known more h = (
+  (more_for old new known more e h.0.0, subst (λ ns. IsOfWords ns e) (sym terms) (words_longer old.terms.nodes behind e h.0.1), h.0.2),
+  more_steps old new behind es terms known more h.1,
 )
 
 goes_on : (old new : StateValue) (a : Answer) (es : Reading) → IsState old → ◌≡◌ {A = Step} (step old es) (a, new) → GoesOn old new
@@ -43,5 +43,5 @@ still_session old new log a es h e =
       state = g.state;
       theories = subst (λ (to : Step). to.1.symbols.theories ≡ false) e (theories_stay old es ∙ h.theories);
       stands = subst (λ ns. Stands ns log) (sym g.keeps.nodes) (stands_longer old.terms.nodes g.keeps.behind log h.stands);
-      each = more_steps old new g.keeps.behind log.entries g.keeps.nodes g.keeps.assertions h.each;
+      each = more_steps old new g.keeps.behind log.entries g.keeps.nodes g.keeps.signatures g.keeps.assertions h.each;
     }

@@ -1,4 +1,3 @@
-pub mod PlainTerms
 pub mod Staying
 pub mod HeldSteps
 pub mod Validity
@@ -7,10 +6,15 @@ pub mod Ended
 pub mod Resting
 pub mod Roots
 pub mod Satisfied
-pub mod Unruled
 pub mod Modeling
 pub mod Giving
 pub mod Turning
+pub mod Leading
+pub mod PlanSteps
+pub mod Plans
+pub mod Checked
+pub mod Acyclic
+pub mod Reaching
 pub mod Concluding
 pub mod Going
 pub mod Printing

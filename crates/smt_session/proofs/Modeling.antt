@@ -23,7 +23,7 @@ use Rattle.smt_terms.specs.Same.{same_node}
 use Rattle.smt_terms.specs.Terms.{TermsValue, IsSort, IsTermList, AreTerms, op_rank, sort_of, constant_signature, declaration_of, signature_of}
 use Rattle.smt_terms.specs.Values as of
 use Rattle.smt_terms.specs.Values.{HasSort, Interpretation, is_true, default_of, read_at, value}
-use Rattle.smt_terms.specs.Bits.{bits_in, image_in}
+use Rattle.smt_terms.specs.Bits.{bits_in}
 use Rattle.smt_terms.proofs.Typing.{constant_sort_ok, default_has_sort, value_is}
 use Rattle.smt_terms.proofs.Made.{no_place, at_place}
 use Rattle.bit_blast.specs.Assigned.{IsLongAsWord}
@@ -49,9 +49,7 @@ use Rattle.proof_text.specs.declared.record.Record.TheVariants.{Sat}
 use Rattle.accepted_proof.specs.Models.{IsModel, value_for, interpretation_of, IsOfSignature, IsWrittenModel}
 use Rattle.accepted_proof.proofs.Constants.{to_constant}
 use Rattle.smt_session.specs.Searched.{AreSatisfied, HasTrueBit, HasTrueSelector}
-use Rattle.smt_session.specs.Growing.{IsUnruled}
 use Rattle.smt_session.proofs.Roots.{roots_live, roots_assumed}
-use Rattle.smt_session.proofs.Unruled.{closed_over, kept_images}
 use Rattle.smt_session.specs.Modeled.{IsValueIn, IsDeclaredValue, AreDeclaredValues}
 
 -- ---- declared constants
@@ -283,7 +281,7 @@ value_given v log nodes d (Some g) = value_at v log g.value (position (same_node
 
 -- The values of live declarations, and for each other declaration the one that the assignment gives: under it each assertion
 -- that has a true selector is true, whether its declarations are live or not.
-module _ (s : StateValue) (log : LogValue) (v : ℕ → Bool) (values : List (ℕ × Value)) (state : IsState s) (terms : AreTerms s.terms) (stands : Stands s.terms.nodes log) (words : AllByRecursion (IsOfWords s.terms.nodes) log.entries) (unruled : AllByRecursion IsUnruled log.entries)
+module _ (s : StateValue) (log : LogValue) (v : ℕ → Bool) (values : List (ℕ × Value)) (state : IsState s) (terms : AreTerms s.terms) (stands : Stands s.terms.nodes log) (words : AllByRecursion (IsOfWords s.terms.nodes) log.entries)
     (items : AreDeclaredValues s log v s.symbols.live values) where
   abbrev constant_by : Bool → ℕ → of.Value
   constant_by true d = constant_of (value_for values d)
@@ -366,7 +364,7 @@ module _ (s : StateValue) (log : LogValue) (v : ℕ → Bool) (values : List (�
   model_of satisfied selected assumed =
       let h = terms_valued given s.terms.nodes (Contains satisfied.reached) log v state.terms stands (record {
         first = satisfied.first;
-        closed = closed_over s.terms.nodes (image_in log.bits) (Contains satisfied.reached) (kept_images s.terms.nodes log stands unruled) satisfied.closed;
+        closed = satisfied.closed;
         steps = satisfied.terms;
         leaves = λ t p b among there e. leaf_bits t p b there e;
       }) in

@@ -1,5 +1,5 @@
 -- What is answered and written is that of a turn.
-use Rattle.std.proofs.Common.{◌≡◌, ℕ, Bool, true, false, List, [], ◌∷◌, ◌++◌, length, drop, Option, Some, None, refl, sym, ap, ◌∙◌, subst, append-nil}
+use Rattle.std.proofs.Common.{◌≡◌, ℕ, Bool, true, false, List, [], ◌∷◌, ◌++◌, length, drop, Option, Some, None, refl, sym, ap, ◌∙◌, subst, append-nil, arith}
 use Rattle.std.specs.List.{flat_map, AllByRecursion}
 use Rattle.std.specs.Io.KnownBytes.{Appends}
 use Rattle.std.proofs.KnownBytes.{Appends-nil}
@@ -27,12 +27,11 @@ use Rattle.accepted_proof.specs.Cores.{refuting_clause}
 use Rattle.smt_session.specs.declared.response.Response.{Response}
 use Rattle.smt_session.specs.declared.response.Stop.{Stop}
 use Rattle.smt_session.specs.declared.response.Stop.TheVariants.{Failed, NoMemory}
-use Rattle.smt_session.specs.Thorough.{AreSearched, IsThorough}
+use Rattle.smt_session.specs.Thorough.{IsThorough}
 use Rattle.smt_session.specs.Sessions.{IsSession, IsChecked, Responds, IsAnswered, CutsCheck, CutsTurn, Leaves, WritesFront, response, asks_values, is_end}
 use Rattle.smt_session.proofs.Ending.{ends_is}
 use Rattle.smt_session.proofs.Going.{more_steps}
-use Rattle.smt_session.proofs.Staying.{grown_steps}
-use Rattle.smt_session.proofs.Turning.{are_steps, make_no_term, same_after}
+use Rattle.smt_session.proofs.Leading.{session_led}
 
 -- an answer without steps and a record
 module _ (limits : Limits) (line : ℕ) (a : Answer) (s : StateValue) (l : LogValue) (last : Option Record) (r : Response) (w : Option (List ℕ)) where
@@ -42,7 +41,7 @@ module _ (limits : Limits) (line : ℕ) (a : Answer) (s : StateValue) (l : LogVa
     steps = [];
     shown = None;
     proof = proof;
-    thorough = record { terms = tt; cubes = tt };
+    thorough = record { terms = λ t le lt. absurd (omega (arith, le, lt)); cubes = tt };
     state = refl;
     log = sym (append-nil l.entries);
     kept = refl;
@@ -90,79 +89,73 @@ pub of_check : (limits : Limits) (line : ℕ) (s t : StateValue) (l m : LogValue
     → Responds limits line Check s t l m last now r w x → Responds limits line a s t l m last now r w x
 of_check limits line s t l m last now r w x a e h = subst (λ b. Responds limits line b s t l m last now r w x) (sym e) h
 
-module _ (limits : Limits) (s : StateValue) (old new : LogValue) (shown : Record) (checked : IsChecked limits s old new shown) where
-  added_is : drop (length old.entries) new.entries ≡ checked.grows.added
-  added_is = ap (drop (length old.entries)) checked.grows.entries ∙ drop_at old.entries checked.grows.added (length old.entries) refl
-
-  same_state : s ≡ with_steps s checked.grows.added
-  same_state = sym (same_after s checked.grows.added checked.grows.each)
+module _ (limits : Limits) (s s' : StateValue) (old new : LogValue) (shown : Record) (checked : IsChecked limits s s' old new shown) where
+  added_is : drop (length old.entries) new.entries ≡ checked.leads.added
+  added_is = ap (drop (length old.entries)) checked.leads.entries ∙ drop_at old.entries checked.leads.added (length old.entries) refl
 
   -- the steps of a check and its record are those of a proof
-  check_proof : HasProof limits Check s old.entries checked.grows.added (Some shown)
+  check_proof : HasProof limits Check s old.entries checked.leads.added (Some shown)
   check_proof =
-      let nodes : IsShown limits s (with_steps s checked.grows.added).terms.nodes new.entries shown = subst (λ q. IsShown limits s q.terms.nodes new.entries shown) same_state checked.shown in
-      (are_steps s old new checked.grows, subst (λ es. IsShown limits s (with_steps s checked.grows.added).terms.nodes es shown) checked.grows.entries nodes)
+      let nodes : IsShown limits s (with_steps s checked.leads.added).terms.nodes new.entries shown = subst (λ (q : StateValue). IsShown limits s q.terms.nodes new.entries shown) checked.leads.state checked.shown in
+      (checked.leads.steps, subst (λ es. IsShown limits s (with_steps s checked.leads.added).terms.nodes es shown) checked.leads.entries nodes)
 
-  check_readable : AllByRecursion IsLine (step_lines (drop (length old.entries) new.entries) ++ record_lines shown) → AllByRecursion IsLine (step_lines checked.grows.added ++ record_lines shown)
+  check_readable : AllByRecursion IsLine (step_lines (drop (length old.entries) new.entries) ++ record_lines shown) → AllByRecursion IsLine (step_lines checked.leads.added ++ record_lines shown)
   check_readable = subst (λ es. AllByRecursion IsLine (step_lines es ++ record_lines shown)) added_is
 
   check_text : (text : List ℕ) → text ≡ flat_map line_text (step_lines (drop (length old.entries) new.entries)) ++ flat_map line_text (record_lines shown)
-      → text ≡ flat_map line_text (step_lines checked.grows.added ++ record_lines shown)
+      → text ≡ flat_map line_text (step_lines checked.leads.added ++ record_lines shown)
   check_text text printed =
       printed
       ∙ ap (λ es. flat_map line_text (step_lines es) ++ flat_map line_text (record_lines shown)) added_is
-      ∙ sym (flat_map-append line_text (step_lines checked.grows.added) (record_lines shown))
+      ∙ sym (flat_map-append line_text (step_lines checked.leads.added) (record_lines shown))
 
-pub check_responds : (limits : Limits) (line : ℕ) (s new_state : StateValue) (old new : LogValue) (shown : Record) (text : List ℕ) (r : Response) (w x : Option (List ℕ)) (last : Option Record)
-    → IsChecked limits s old new shown
+pub check_responds : (limits : Limits) (line : ℕ) (s s' new_state : StateValue) (old new : LogValue) (shown : Record) (text : List ℕ) (r : Response) (w x : Option (List ℕ)) (last : Option Record)
+    → IsChecked limits s s' old new shown
     → text ≡ flat_map line_text (step_lines (drop (length old.entries) new.entries)) ++ flat_map line_text (record_lines shown)
     → AllByRecursion IsLine (step_lines (drop (length old.entries) new.entries) ++ record_lines shown)
-    → Appends w x text → r ≡ response (verdict_text (verdict_of shown)) false false → new_state ≡ concluded s (verdict_of shown)
+    → Appends w x text → r ≡ response (verdict_text (verdict_of shown)) false false → new_state ≡ concluded s' (verdict_of shown)
     → Responds limits line Check s new_state old new last (Some shown) r w x
-check_responds limits line s new_state old new shown text r w x last checked printed readable appended answered stands =
-    let g = checked.grows in
-    let same = same_state limits s old new shown checked in
-    let cubes : AreSearched limits s (with_steps s checked.grows.added).terms.nodes new.entries (Some shown) = subst (λ q. AreSearched limits s q.terms.nodes new.entries (Some shown)) same checked.cubes in
-    record {
-      steps = g.added;
-      shown = Some shown;
-      thorough = record { terms = make_no_term s g.added g.each; cubes = subst (λ es. AreSearched limits s (with_steps s g.added).terms.nodes es (Some shown)) g.entries cubes };
-      proof = check_proof limits s old new shown checked;
-      state = stands ∙ ap (λ q. concluded q (verdict_of shown)) same;
-      log = g.entries;
-      kept = refl;
-      lines = subst (Appends w x) (check_text limits s old new shown checked text printed) appended;
-      readable = check_readable limits s old new shown checked readable;
-      text = ap (λ q. q.text) answered;
-      error = ap (λ q. q.error) answered;
-      ends = ap (λ q. q.ends) answered;
-    }
+check_responds limits line s s' new_state old new shown text r w x last checked printed readable appended answered stands = record {
+  steps = checked.leads.added;
+  shown = Some shown;
+  thorough = checked.thorough;
+  proof = check_proof limits s s' old new shown checked;
+  state = stands ∙ ap (λ q. concluded q (verdict_of shown)) checked.leads.state;
+  log = checked.leads.entries;
+  kept = refl;
+  lines = subst (Appends w x) (check_text limits s s' old new shown checked text printed) appended;
+  readable = check_readable limits s s' old new shown checked readable;
+  text = ap (λ q. q.text) answered;
+  error = ap (λ q. q.error) answered;
+  ends = ap (λ q. q.ends) answered;
+}
 
 -- where a write failed, a front of the lines of the check stands
-pub check_cut : (limits : Limits) (s : StateValue) (old new : LogValue) (shown : Record) (text : List ℕ) (w x : Option (List ℕ)) → IsChecked limits s old new shown
+pub check_cut : (limits : Limits) (s s' : StateValue) (old new : LogValue) (shown : Record) (text : List ℕ) (w x : Option (List ℕ)) → IsChecked limits s s' old new shown
     → text ≡ flat_map line_text (step_lines (drop (length old.entries) new.entries)) ++ flat_map line_text (record_lines shown)
     → AllByRecursion IsLine (step_lines (drop (length old.entries) new.entries) ++ record_lines shown)
     → WritesFront text w x → CutsCheck limits Check s old.entries w x
-check_cut limits s old new shown text w x checked printed readable written = record {
-  steps = checked.grows.added;
+check_cut limits s s' old new shown text w x checked printed readable written = record {
+  steps = checked.leads.added;
   shown = Some shown;
-  proof = check_proof limits s old new shown checked;
-  readable = check_readable limits s old new shown checked readable;
-  lines = subst (λ t. WritesFront t w x) (check_text limits s old new shown checked text printed) written;
+  proof = check_proof limits s s' old new shown checked;
+  readable = check_readable limits s s' old new shown checked readable;
+  lines = subst (λ t. WritesFront t w x) (check_text limits s s' old new shown checked text printed) written;
 }
 
 -- what is cut off of a check is that of what is one
 pub cut_of_check : (limits : Limits) (s : StateValue) (log : List Entry) (w x : Option (List ℕ)) (a : Answer) (stop : Stop) → a ≡ Check → Leaves stop (CutsCheck limits Check s log w x) w x → Leaves stop (CutsCheck limits a s log w x) w x
 cut_of_check limits s log w x a stop e h = subst (λ b. Leaves stop (CutsCheck limits b s log w x) w x) (sym e) h
 
-pub check_keeps : (limits : Limits) (s new_state : StateValue) (old new : LogValue) (shown : Record) → IsSession s old → IsChecked limits s old new shown → new_state ≡ concluded s (verdict_of shown) → IsSession new_state new
-check_keeps limits s new_state old new shown h checked e =
+pub check_keeps : (limits : Limits) (s s' new_state : StateValue) (old new : LogValue) (shown : Record) → IsSession s old → IsChecked limits s s' old new shown → new_state ≡ concluded s' (verdict_of shown) → IsSession new_state new
+check_keeps limits s s' new_state old new shown h checked e =
+    let k = session_led s s' old new h checked.leads in
     subst (λ q. IsSession q new) (sym e)
     (record {
-      state = standing_state s (Some (verdict_of shown)) h.state;
-      theories = h.theories;
-      stands = checked.grows.stands;
-      each = more_steps s (concluded s (verdict_of shown)) [] new.entries (sym (append-nil s.terms.nodes)) (λ a t k. k) (grown_steps s old new h.each checked.grows);
+      state = standing_state s' (Some (verdict_of shown)) k.state;
+      theories = k.theories;
+      stands = k.stands;
+      each = more_steps s' (concluded s' (verdict_of shown)) [] new.entries (sym (append-nil s'.terms.nodes)) (λ d g q. q) (λ a t q. q) k.each;
     })
 
 pub is_answered : (limits : Limits) (chunk : Chunk) (s mid last final : StateValue) (l new : LogValue) (before now : Option Record) (a : Answer) (es : Reading) (r : Response) (w x : Option (List ℕ)) → ReadsAs chunk es → ◌≡◌ {A = Step} (step s es) (a, mid) → Responds limits chunk.line a mid last l new before now r w x

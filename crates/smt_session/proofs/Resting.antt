@@ -8,15 +8,16 @@ use Rattle.proof_log.specs.Logs.{start, state_of}
 use Rattle.proof_log.specs.Boards.{Grows as Prolongs}
 use Rattle.proof_log.specs.Stored.{LogValue, Stands}
 use Rattle.proof_log.proofs.Growth.{clause_place, positions, steps_rows}
-use Rattle.proof_log.proofs.Standing.{stands_over}
+use Rattle.proof_log.proofs.Standing.{stands_longer, stands_over}
 use Rattle.proof_log.proofs.Staying.{state_from-append}
 use Rattle.cdcl_core.specs.Search.{clause_of}
 use Rattle.cube_search.specs.declared.search.Search.{Search}
 use Rattle.cube_search.specs.Holding.{AreStoredBelow}
 use Rattle.cube_search.specs.Running.{IsResting, IsSearch}
 use Rattle.cube_search.proofs.Resting.{rests_longer, search_rests}
-use Rattle.smt_session.specs.Growing.{Grows}
+use Rattle.smt_session.specs.Growing.{LeadsTo}
 use Rattle.smt_session.specs.Sessions.{RestsBeside}
+use Rattle.smt_session.proofs.Leading.{behind_of}
 
 -- the rows that are stored are those that the steps leave
 pub rests_by_steps : (nodes : List Node) (log : LogValue) (x : Search) → Stands nodes log → RestsBeside log x → IsResting x (state_of nodes log.entries).clauses log.entries
@@ -39,9 +40,11 @@ rests_more nodes old new x more before after is h =
     (subst (λ cs. IsResting x cs (old.entries ++ more)) (sym rows.1)
     (rests_longer x (state_of nodes old.entries).clauses rows.0 old.entries more (positions nodes old.entries) (rests_by_steps nodes old x before h))))
 
--- where the steps of a check are added
-pub rests_grown : (s : StateValue) (old new : LogValue) (x : Search) → Stands s.terms.nodes old → Grows s old new → RestsBeside old x → RestsBeside new x
-rests_grown s old new x stands g h = rests_more s.terms.nodes old new x g.added stands g.stands g.entries h
+-- where the steps of a check lead to another state
+pub rests_led : (s s' : StateValue) (old new : LogValue) (x : Search) → Stands s.terms.nodes old → LeadsTo s old s' new → RestsBeside old x → RestsBeside new x
+rests_led s s' old new x stands l h =
+    let more = behind_of s s' old new l in
+    rests_more s'.terms.nodes old new x l.added (subst (λ ns. Stands ns old) (sym more.1) (stands_longer s.terms.nodes more.0 old stands)) l.stands l.entries h
 
 -- where searches added chains
 pub rests_prolonged : (nodes : List Node) (old new : LogValue) (x : Search) → Stands nodes old → Stands nodes new → Prolongs old.entries new.entries → RestsBeside old x → RestsBeside new x

@@ -5,6 +5,7 @@ use Rattle.std.specs.List.{AllByRecursion}
 use Rattle.std.proofs.lemmas.List.Elements.{recursion_from_All}
 use Rattle.std.proofs.lemmas.Option.{slice_get_within}
 use Rattle.smt_terms.specs.declared.sort.Sort.{Sort}
+use Rattle.smt_terms.specs.declared.node.Node.{Node}
 use Rattle.smt_terms.specs.declared.sort.Sort.TheVariants as sort
 use Rattle.smt_terms.specs.declared.sort.Signature.{Signature}
 use Rattle.smt_terms.specs.Terms.{IsSort}
@@ -45,7 +46,7 @@ digits_of : (signatures : List Signature) (values : List (ℕ × Value)) → All
 digits_of signatures [] all h = tt
 digits_of signatures (p ∷ ps) all h = (constant_digit signatures p.0 p.1 (slice_get signatures p.0) all refl h.0, digits_of signatures ps all h.1)
 
-pub shown_digits : (limits : Limits) (s : StateValue) (log : List Entry) (r : Record) → IsState s → s.symbols.theories ≡ false → IsShown limits s s.terms.nodes log r → HaveDigits r
-shown_digits limits s log (Sat values) state words h = digits_of s.symbols.signatures values (word_constants s state words) (recursion_from_All _ _ h.1.sorted)
-shown_digits limits s log (Unsat p) state words h = tt
-shown_digits limits s log (Unknown d) state words h = tt
+pub shown_digits : (limits : Limits) (s : StateValue) (nodes : List Node) (log : List Entry) (r : Record) → IsState s → s.symbols.theories ≡ false → IsShown limits s nodes log r → HaveDigits r
+shown_digits limits s nodes log (Sat values) state words h = digits_of s.symbols.signatures values (word_constants s state words) (recursion_from_All _ _ h.1.sorted)
+shown_digits limits s nodes log (Unsat p) state words h = tt
+shown_digits limits s nodes log (Unknown d) state words h = tt

@@ -1,20 +1,17 @@
 -- Bits and selectors stay where a log grows.
-use Rattle.std.proofs.Common.{◌≡◌, ℕ, zero, suc, ◌+◌, ◌<◌, false, take, ⊎_elim, List, [], ◌∷◌, ◌++◌, length, get_or, Option, Some, None, refl, sym, ap, ◌∙◌, subst, append_assoc, append-nil, arith}
-use Rattle.std.specs.Prelude.{map, IsSome, is_some, All, Contains}
+use Rattle.std.proofs.Common.{◌≡◌, ℕ, zero, suc, ◌+◌, ◌<◌, false, take, List, [], ◌∷◌, ◌++◌, length, get_or, Option, Some, None, refl, sym, ap, ◌∙◌, subst, append_assoc, append-nil, arith}
+use Rattle.std.specs.Prelude.{map, IsSome, is_some, Contains}
 use Rattle.std.specs.List.{AllByRecursion}
 use Rattle.std.specs.Option.{option_map}
-use Rattle.std.proofs.lemmas.Bool.{cases_lt}
 use Rattle.std.proofs.lemmas.List.{take_more, map_push}
-use Rattle.std.proofs.lemmas.Option.{slice_get-get_or, slice_get_within, get_or_from_slice_get}
-use Rattle.std.specs.Prelude.{slice_get}
 use Rattle.cnf_base.specs.Literals.{Literal}
 use Rattle.cnf_base.proofs.Lists.{each_append}
 use Rattle.cnf_base.proofs.Options.{some_value, IsSome-from}
 use Rattle.smt_terms.specs.Bits.{bits_in}
-use Rattle.smt_terms.specs.Nodes.{node_at}
 use Rattle.scope_selectors.specs.declared.live.Live.{Live}
 use Rattle.script_state.specs.States.{StateValue}
 use Rattle.proof_log.specs.declared.entry.Entry.{Entry}
+use Rattle.proof_log.specs.Faults.{MakesNoTerm}
 use Rattle.proof_log.specs.Logs.{state_of, IsLog}
 use Rattle.proof_log.specs.Meanings.{StaysLog}
 use Rattle.proof_log.specs.Stored.{LogValue, Stands, IsPushed, selector_in, literal_of}
@@ -22,8 +19,6 @@ use Rattle.proof_log.specs.Words.{IsOfWords}
 use Rattle.proof_log.proofs.Standing.{stands_over, some_literal}
 use Rattle.proof_log.proofs.Staying.{log_stays}
 use Rattle.smt_session.specs.Growing.{IsStepFor, AreStepsFor, Grows, HasBits, AreSelectors}
-use Rattle.smt_session.specs.Reaching.{AreOrdered}
-use Rattle.cube_tree.proofs.Resolving.{members}
 
 pub none_of_not : {A : Type 0} (o : Option A) → (IsSome o → ⊥) → o ≡ None
 none_of_not None h = refl
@@ -32,23 +27,24 @@ none_of_not (Some x) h = absurd (h refl)
 -- ---- growing
 
 pub grows_none : (s : StateValue) (l : LogValue) → Stands s.terms.nodes l → Grows s l l
-grows_none s l h = record { added = []; entries = sym (append-nil l.entries); each = tt; stands = h }
+grows_none s l h = record { added = []; entries = sym (append-nil l.entries); each = tt; still = tt; stands = h }
 
-pub grows_one : (s : StateValue) (old new : LogValue) (e : Entry) (p : ℕ) → IsStepFor s e → IsPushed s.terms.nodes old new e p → Grows s old new
-grows_one s old new e p step h = record { added = e ∷ []; entries = h.entries; each = (step, tt); stands = h.stands }
+pub grows_one : (s : StateValue) (old new : LogValue) (e : Entry) (p : ℕ) → IsStepFor s e → MakesNoTerm e → IsPushed s.terms.nodes old new e p → Grows s old new
+grows_one s old new e p step none h = record { added = e ∷ []; entries = h.entries; each = (step, tt); still = (none, tt); stands = h.stands }
 
 pub grows_more : (s : StateValue) (a b c : LogValue) → Grows s a b → Grows s b c → Grows s a c
 grows_more s a b c g h = record {
   added = g.added ++ h.added;
   entries = h.entries ∙ ap (λ x. x ++ h.added) g.entries ∙ append_assoc a.entries g.added h.added;
   each = each_append (IsStepFor s) g.added h.added g.each h.each;
+  still = each_append MakesNoTerm g.added h.added g.still h.still;
   stands = h.stands;
 }
 
 -- each step is of Bools and words
 pub words_of : (s : StateValue) (es : List Entry) → AreStepsFor s es → AllByRecursion (IsOfWords s.terms.nodes) es
 words_of s [] h = tt
-words_of s (e ∷ es) h = (h.0.2, words_of s es h.1)
+words_of s (e ∷ es) h = (h.0.1, words_of s es h.1)
 
 -- ---- staying
 
@@ -115,33 +111,6 @@ selector_of l (a ∷ live) (g ∷ given) x (suc k) e lt at =
 pub none_mapped : {A B : Type 0} (f : A → B) (r : Option A) (o : Option B) → option_map f r ≡ o → is_some r ≡ false → o ≡ None
 none_mapped f None o e h = sym e
 none_mapped f (Some x) o e h = let q : ⊥ = cc in absurd q
-
--- the first terms of the list have bits
-pub record AreEncoded (s : StateValue) (old new : LogValue) (reached : List ℕ) (at : ℕ) : Type 0 where
-  pub grows : Grows s old new
-  pub done : (k d : ℕ) → k < at → k < length reached → HasBits new (get_or reached k d)
-
-pub encoded_none : (s : StateValue) (old : LogValue) (reached : List ℕ) → Stands s.terms.nodes old → AreEncoded s old old reached 0
-encoded_none s old reached h = record { grows = grows_none s old h; done = λ k d lt less. absurd (omega (arith, lt)) }
-
-pub encoded_more : (s : StateValue) (old mid new : LogValue) (reached : List ℕ) (at t : ℕ) → AreEncoded s old mid reached at → Grows s mid new → ((d : ℕ) → t ≡ get_or reached at d) → HasBits new t → AreEncoded s old new reached (at + 1)
-encoded_more s old mid new reached at t h g own here = record {
-  grows = grows_more s old mid new h.grows g;
-  done = λ k d lt less.
-      ⊎_elim
-      (λ before. bits_stay s mid new (get_or reached k d) h.grows.stands g (h.done k d before less))
-      (λ le. (let e : at ≡ k = omega (arith, le, lt) in subst (λ i. HasBits new (get_or reached i d)) e (subst (HasBits new) (own d) here)))
-      (cases_lt k at);
-}
-
--- arguments of a term of the list stand before it
-pub encoded_arguments : (s : StateValue) (old new : LogValue) (reached : List ℕ) (at d t : ℕ) → AreOrdered s.terms.nodes reached → AreEncoded s old new reached at → at < length reached → t ≡ get_or reached at d → All (HasBits new) (node_at s.terms.nodes t).args
-encoded_arguments s old new reached at d t ordered h lt own =
-    members (HasBits new) (node_at s.terms.nodes t).args (λ u p.
-    let here : slice_get reached at ≡ Some t = slice_get-get_or reached at d lt ∙ ap Some (sym own) in
-    let j = ordered.order at t u here p in
-    let less = slice_get_within reached j.0 u j.2 in
-    subst (HasBits new) (get_or_from_slice_get reached j.0 u d j.2) (h.done j.0 d j.1 less))
 
 -- one assertion more has its selector
 pub chosen_more : (s : StateValue) (mid new : LogValue) (live : List Live) (given more : List Literal) (k : ℕ) (a : Live) (x : Literal) → k < length live → a ≡ get_or live k a → Stands s.terms.nodes mid → Grows s mid new → AreSelectors mid (take k live) given → selector_in new.selectors a.assertion ≡ Some x → more ≡ given ++ x ∷ [] → AreSelectors new (take (k + 1) live) more

@@ -1,28 +1,25 @@
 -- The steps of a check are those of a turn, and its record is one that may end it.
 use Rattle.std.proofs.Common.{◌≡◌, ℕ, List, [], ◌∷◌, ◌++◌, Some, refl, sym, ap, ◌∙◌, subst, inl, inr, ⊎_elim, arith}
-use Rattle.std.specs.Prelude.{◌⊎◌, map, slice_get, Contains, IsSome, Bool, true}
+use Rattle.std.specs.Prelude.{◌⊎◌, map, slice_get, Contains, Bool, true}
 use Rattle.std.specs.List.{AllByRecursion}
 use Rattle.std.proofs.lemmas.List.Elements.{All-contains, All-from_recursion, All-weaker, recursion_from_All, Contains-append_cases}
 use Rattle.cnf_base.specs.Literals.{Literal, negated}
 use Rattle.cnf_base.specs.Clauses.{lit_true}
 use Rattle.cnf_base.proofs.Codes.{negated-negated}
 use Rattle.cnf_base.proofs.Options.{same_found}
-use Rattle.smt_terms.specs.declared.node.Node.{Node}
 use Rattle.smt_terms.specs.Terms.{TermsValue, IsTermList}
 use Rattle.scope_selectors.specs.declared.live.Live.{Live}
 use Rattle.script_state.specs.States.{StateValue, assumptions}
 use Rattle.proof_log.specs.declared.entry.Entry.{Entry}
 use Rattle.proof_log.specs.declared.entry.Entry.TheVariants as step
-use Rattle.proof_log.specs.Logs.{Asserted, LogState, start, clause_at, IsStep, after, state_of, AreSteps, IsLog}
+use Rattle.proof_log.specs.Logs.{Asserted, LogState, start, clause_at, IsStep, state_of, AreSteps, IsLog}
 use Rattle.proof_log.specs.Faults.{IsValid, MakesNoTerm}
 use Rattle.proof_log.specs.Stored.{LogValue, Stands, selector_in}
 use Rattle.proof_log.specs.Boards.{IsOfSearch, Grows as Prolongs}
-use Rattle.proof_log.specs.Words.{IsOfWords}
 use Rattle.proof_log.proofs.Growth.{search_step}
 use Rattle.proof_log.proofs.Ordered.{log_is_ordered}
 use Rattle.proof_log.proofs.Standing.{stands_over, some_literal}
 use Rattle.proof_log.proofs.Staying.{state_from-append, steps_parts}
-use Rattle.proof_text.specs.Entries.{entry_line}
 use Rattle.cube_tree.specs.Closing.{Closes}
 use Rattle.accepted_proof.specs.Turns.{AreStepsOf, with_step, with_steps, IsAgainstOne, IsRefutation}
 use Rattle.smt_session.specs.Growing.{IsStepFor, AreStepsFor, AreLined, Grows, AreGiven, AreSelectors}
@@ -32,11 +29,10 @@ use Rattle.smt_session.proofs.Giving.{bit_of}
 
 -- ---- the steps
 
-lined : (nodes : List Node) (s : LogState) (e : Entry) → MakesNoTerm e → IsOfWords nodes e → IsStep nodes s e → IsSome (entry_line e)
-lined nodes s (step.Node n) h w i = absurd (h refl)
-lined nodes s (step.Equal t u) h w i = absurd w
-lined nodes s (step.Lemma l) h w i = absurd w
-lined nodes s e h w i = refl
+-- each step for the script has a line
+pub log_lined : (s : StateValue) (es : List Entry) → AreStepsFor s es → AreLined es
+log_lined s [] h = tt
+log_lined s (e ∷ es) h = (h.0.2, log_lined s es h.1)
 
 valid : (v : TermsValue) (s : LogState) (e : Entry) → MakesNoTerm e → IsStep v.nodes s e → IsValid v s e
 valid v s (step.Node n) h i = absurd (h refl)
@@ -46,33 +42,21 @@ same_state : (s : StateValue) (e : Entry) → MakesNoTerm e → with_step s e �
 same_state s (step.Node n) h = absurd (h refl)
 same_state s e h = refl
 
-all_lined : (s : StateValue) (r : LogState) (es : List Entry) → AreStepsFor s es → AreSteps s.terms.nodes r es → AreLined es
-all_lined s r [] h i = tt
-all_lined s r (e ∷ es) h i = (lined s.terms.nodes r e h.0.0 h.0.2 i.0, all_lined s (after s.terms.nodes r e) es h.1 i.1)
-
--- each step of a log for the script has a line
-pub log_lined : (s : StateValue) (log : LogValue) → AreStepsFor s log.entries → Stands s.terms.nodes log → AreLined log.entries
-log_lined s log h stands = all_lined s start log.entries h (stands_over s.terms.nodes log stands).steps
-
--- a script's steps make no term
-pub same_after : (s : StateValue) (es : List Entry) → AreStepsFor s es → with_steps s es ≡ s
+-- steps that make no term leave the state
+pub same_after : (s : StateValue) (es : List Entry) → AllByRecursion MakesNoTerm es → with_steps s es ≡ s
 same_after s [] h = refl
-same_after s (e ∷ es) h = ap (λ r. with_steps r es) (same_state s e h.0.0) ∙ same_after s es h.1
+same_after s (e ∷ es) h = ap (λ r. with_steps r es) (same_state s e h.0) ∙ same_after s es h.1
 
-pub make_no_term : (s : StateValue) (es : List Entry) → AreStepsFor s es → AllByRecursion MakesNoTerm es
-make_no_term s [] h = tt
-make_no_term s (e ∷ es) h = (h.0.0, make_no_term s es h.1)
-
-steps_of : (s : StateValue) (log es : List Entry) → AreSteps s.terms.nodes (state_of s.terms.nodes log) es → AreStepsFor s es → AreStepsOf s log es
-steps_of s log [] i h = tt
-steps_of s log (e ∷ es) i h =
-    let rest = steps_of s (log ++ e ∷ []) es (subst (λ r. AreSteps s.terms.nodes r es) (sym (state_from-append s.terms.nodes start log (e ∷ []))) i.1) h.1 in
-    (valid s.terms (state_of s.terms.nodes log) e h.0.0 i.0, h.0.1, lined s.terms.nodes (state_of s.terms.nodes log) e h.0.0 h.0.2 i.0, subst (λ r. AreStepsOf r (log ++ e ∷ []) es) (sym (same_state s e h.0.0)) rest)
+steps_of : (s : StateValue) (log es : List Entry) → AreSteps s.terms.nodes (state_of s.terms.nodes log) es → AreStepsFor s es → AllByRecursion MakesNoTerm es → AreStepsOf s log es
+steps_of s log [] i h n = tt
+steps_of s log (e ∷ es) i h n =
+    let rest = steps_of s (log ++ e ∷ []) es (subst (λ r. AreSteps s.terms.nodes r es) (sym (state_from-append s.terms.nodes start log (e ∷ []))) i.1) h.1 n.1 in
+    (valid s.terms (state_of s.terms.nodes log) e n.0 i.0, h.0.0, h.0.2, subst (λ r. AreStepsOf r (log ++ e ∷ []) es) (sym (same_state s e n.0)) rest)
 
 pub are_steps : (s : StateValue) (old new : LogValue) (g : Grows s old new) → AreStepsOf s old.entries g.added
 are_steps s old new g =
     let log = subst (IsLog s.terms.nodes) g.entries (stands_over s.terms.nodes new g.stands).steps in
-    steps_of s old.entries g.added (steps_parts s.terms.nodes start old.entries g.added log).1 g.each
+    steps_of s old.entries g.added (steps_parts s.terms.nodes start old.entries g.added log).1 g.each g.still
 
 -- ---- refutations
 
@@ -118,7 +102,7 @@ selector_term s l a r listed h each known e =
     let k = stands_over s.terms.nodes l h in
     let among = ((log_is_ordered s.terms.nodes l.entries listed k.steps).selectors a.assertion r e).2 in
     let step = All-contains (IsStepFor s) l.entries (step.Selector a.assertion r.term) (All-from_recursion (IsStepFor s) l.entries each) among in
-    same_found _ r.term a.term step.1 known
+    same_found _ r.term a.term step.0 known
 
 -- where the given literals are true, so are the selectors of the assertions
 pub true_selectors : (s : StateValue) (l : LogValue) (v : ℕ → Bool) (live : List Live) (given : List Literal) → IsTermList s.terms.nodes → Stands s.terms.nodes l → AreStepsFor s l.entries → AllByRecursion (IsKnown s) live → AreSelectors l live given → AllByRecursion (λ x. lit_true v x ≡ true) given → AllByRecursion (HasTrueSelector s.terms.nodes l v) live
@@ -134,9 +118,13 @@ true_selectors s l v (a ∷ live) (x ∷ given) listed h each known e all =
 
 search_steps : (s : StateValue) (es : List Entry) → AllByRecursion IsOfSearch es → AreStepsFor s es
 search_steps s [] h = tt
-search_steps s (step.Chain c hints ∷ es) h = ((search_step (step.Chain c hints) h.0, tt, tt, tt), search_steps s es h.1)
+search_steps s (step.Chain c hints ∷ es) h = ((tt, tt, refl), search_steps s es h.1)
 search_steps s (e ∷ es) h = let q = h.0 in let f : ⊥ = cc in absurd f
+
+searches_still : (es : List Entry) → AllByRecursion IsOfSearch es → AllByRecursion MakesNoTerm es
+searches_still [] h = tt
+searches_still (e ∷ es) h = (search_step e h.0, searches_still es h.1)
 
 -- a log that searches added to
 pub grows_by_searches : (s : StateValue) (old new : LogValue) → Prolongs old.entries new.entries → Stands s.terms.nodes new → Grows s old new
-grows_by_searches s old new g h = record { added = g.more; entries = g.is; each = search_steps s g.more g.of_search; stands = h }
+grows_by_searches s old new g h = record { added = g.more; entries = g.is; each = search_steps s g.more g.of_search; still = searches_still g.more g.of_search; stands = h }

@@ -9,22 +9,15 @@ use Rattle.scope_selectors.specs.declared.live.Live.{Live}
 use Rattle.script_state.specs.declared.answer.Asked.{Asked}
 use Rattle.script_state.specs.States.{StateValue, assumptions}
 use Rattle.proof_log.specs.declared.entry.Entry.{Entry}
-use Rattle.proof_log.specs.declared.entry.Entry.TheVariants as step
 use Rattle.proof_log.specs.Faults.{MakesNoTerm}
 use Rattle.proof_log.specs.Stored.{LogValue, Stands, selector_in}
 use Rattle.proof_log.specs.Words.{IsOfWords}
 use Rattle.proof_text.specs.Entries.{entry_line}
-use Rattle.accepted_proof.specs.Turns.{IsOfScript}
+use Rattle.accepted_proof.specs.Turns.{IsOfScript, AreStepsOf, with_steps}
 
--- the step gives no term the bits of another
-abbrev pub IsUnruled : Entry → Type 0
-IsUnruled (step.Rewrite r) = ⊥
-IsUnruled _ = Unit {0}
-
--- the step makes no term, an assertion that it names has the term that it has in the script, it is of Bools and words, and it
--- gives no term the bits of another
+-- what the step names of the script is as the script has it, it is of Bools and words, and it has a line
 abbrev pub IsStepFor : StateValue → Entry → Type 0
-IsStepFor s e = MakesNoTerm e × IsOfScript s e × IsOfWords s.terms.nodes e × IsUnruled e
+IsStepFor s e = IsOfScript s e × IsOfWords s.terms.nodes e × IsSome (entry_line e)
 
 abbrev pub AreStepsFor : StateValue → List Entry → Type 0
 AreStepsFor s = AllByRecursion (IsStepFor s)
@@ -33,12 +26,22 @@ AreStepsFor s = AllByRecursion (IsStepFor s)
 abbrev pub AreLined : List Entry → Type 0
 AreLined = AllByRecursion (λ e. IsSome (entry_line e))
 
--- the log has more steps, all of them for the script, and stands over its terms
+-- the log has more steps, all of them for the script, none of which makes a term, and stands over its terms
 pub record Grows (s : StateValue) (old new : LogValue) : Type 0 where
   pub added : List Entry
   pub entries : new.entries ≡ old.entries ++ added
   pub each : AreStepsFor s added
+  pub still : AllByRecursion MakesNoTerm added
   pub stands : Stands s.terms.nodes new
+
+-- the log has more steps, which may follow one after the other in the one state, and lead to the other
+pub record LeadsTo (s : StateValue) (old : LogValue) (s' : StateValue) (new : LogValue) : Type 0 where
+  pub added : List Entry
+  pub entries : new.entries ≡ old.entries ++ added
+  pub steps : AreStepsOf s old.entries added
+  pub state : s' ≡ with_steps s added
+  pub words : AllByRecursion (IsOfWords s'.terms.nodes) added
+  pub stands : Stands s'.terms.nodes new
 
 -- the term has bits
 abbrev pub HasBits : LogValue → ℕ → Type 0

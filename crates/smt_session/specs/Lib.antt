@@ -1,4 +1,5 @@
 pub mod Growing
+pub mod Planning
 pub mod Reaching
 pub mod Searched
 pub mod Modeled

@@ -5,7 +5,7 @@ use Rattle.cnf_base.specs.Clauses.{lit_true}
 use Rattle.cnf_base.specs.Assignments.{AreBelow}
 use Rattle.hint_chain.specs.Chains.{Lookup}
 use Rattle.smt_terms.specs.declared.node.Node.{Node}
-use Rattle.smt_terms.specs.Bits.{bits_in}
+use Rattle.smt_terms.specs.Bits.{bits_in, image_in}
 use Rattle.scope_selectors.specs.declared.live.Live.{Live}
 use Rattle.script_state.specs.declared.answer.Asked.{Asked}
 use Rattle.proof_log.specs.declared.entry.Entry.{Entry}
@@ -13,10 +13,9 @@ use Rattle.proof_log.specs.declared.diary.Diary.{Diary}
 use Rattle.proof_log.specs.Logs.{Asserted, clause_at, entry_at, state_of}
 use Rattle.proof_log.specs.Places.{GivesBits, GivesSelector}
 use Rattle.proof_log.specs.Stored.{LogValue}
-use Rattle.proof_log.specs.Assigned.{IsTrueAt}
+use Rattle.proof_log.specs.Assigned.{AreClosed, IsTrueAt}
 use Rattle.proof_log.specs.Boards.{LogBoardValue}
 use Rattle.proof_log.specs.Diaries.{Subject, IsSpent, is_chain}
-use Rattle.term_reach.specs.Reach.{arguments, IsClosed as IsReachClosed}
 use Rattle.cube_tree.specs.Cubes.{cube_of}
 use Rattle.cube_tree.specs.Closing.{Closes, AreClosing}
 use Rattle.cube_search.specs.Holding.{AreSeparate}
@@ -57,10 +56,10 @@ pub record ArePositions (log : LogValue) (reached : List ℕ) (live : List Live)
   pub selectors : All (IsHeldAssertion log positions) live
   pub only : All (IsStepOf log reached live) positions
 
--- the positions for all that these terms reach, and for these assertions
+-- the positions for all on whose bits those of these terms stand, and for these assertions
 pub record AreEnough (nodes : List Node) (log : LogValue) (from : List ℕ) (live : List Live) (positions : List ℕ) : Type 0 where
   pub reached : List ℕ
-  pub closed : IsReachClosed (arguments nodes) (Contains reached)
+  pub closed : AreClosed nodes (image_in log.bits) (Contains reached)
   pub among : All (Contains reached) from
   pub each : ArePositions log reached live positions
 
@@ -159,11 +158,11 @@ IsFound p log v (found.Spent d) = IsLowestSpent p log (2 ^ length p.variables) d
 
 -- ---- assignments
 
--- the clauses of position 0 are true, and those of the steps of all that these terms reach and of the selectors of these
--- assertions
+-- the clauses of position 0 are true, and those of the steps of all on whose bits those of these terms stand, and of the
+-- selectors of these assertions
 pub record AreSatisfied (nodes : List Node) (log : LogValue) (from : List ℕ) (live : List Live) (v : ℕ → Bool) : Type 0 where
   pub reached : List ℕ
-  pub closed : IsReachClosed (arguments nodes) (Contains reached)
+  pub closed : AreClosed nodes (image_in log.bits) (Contains reached)
   pub among : All (Contains reached) from
   pub first : IsTrueAt log v 0
   pub terms : (t : ℕ) → Contains reached t → (p : ℕ) × GivesBits log.entries t p × IsTrueAt log v p

@@ -22,7 +22,7 @@ use Rattle.smt_session.specs.declared.response.Stop.TheVariants.{Failed, NoMemor
 use Rattle.smt_session.specs.declared.settings.Settings.{Settings}
 use Rattle.cube_search.specs.declared.search.Search.{Search}
 use Rattle.cube_search.specs.Running.{IsResting}
-use Rattle.smt_session.specs.Growing.{AreStepsFor, Grows}
+use Rattle.smt_session.specs.Growing.{AreStepsFor, Grows, LeadsTo}
 use Rattle.smt_session.specs.Thorough.{AreSearched, IsThorough}
 
 -- the limits that settings give
@@ -66,11 +66,18 @@ abbrev pub AreHeld : StateValue → Answer → Type 0
 AreHeld s (Values asked) = All (λ (a : Asked). a.term < length s.terms.nodes) asked
 AreHeld s _ = Unit {0}
 
--- the log grew by the steps of a check, which the record may end within these limits, and all cubes were searched
-pub record IsChecked (limits : Limits) (s : StateValue) (old new : LogValue) (r : Record) : Type 0 where
+-- the log grew by the steps of a search, which the record may end within these limits, and all cubes were searched
+pub record IsConcluded (limits : Limits) (s : StateValue) (old new : LogValue) (r : Record) : Type 0 where
   pub grows : Grows s old new
   pub shown : IsShown limits s s.terms.nodes new.entries r
   pub cubes : AreSearched limits s s.terms.nodes new.entries (Some r)
+
+-- The steps of a check lead from the one state to the other, and the record may end it within these limits. It was as thorough
+-- as checks are.
+pub record IsChecked (limits : Limits) (s s' : StateValue) (old new : LogValue) (r : Record) : Type 0 where
+  pub leads : LeadsTo s old s' new
+  pub shown : IsShown limits s s'.terms.nodes new.entries r
+  pub thorough : IsThorough limits s old.entries leads.added (Some r)
 
 -- How what the state says of a command is answered within these limits, which begins on this line, where the last check
 -- before has a record; and what the state, before terms are forgotten, the log and the record of the last check are then.
@@ -89,7 +96,8 @@ pub record Responds (limits : Limits) (line : ℕ) (answer : Answer) (s s' : Sta
   pub ends : r.ends ≡ is_end answer
 
 -- The command is applied, and what is answered and written is that of a turn which may follow within the limits, which stay,
--- so that each line that is written can be read. No step makes a term, and a spent cube does not stop the later ones.
+-- so that each line that is written can be read. No step makes a term that no use of a rule needs, and a spent cube does not stop
+-- the later ones.
 pub record IsAnswered (chunk : Chunk) (old new : SessionValue) (r : Response) (written written' : Option (List ℕ)) : Type 0 where
   pub turn : Turn
   pub line : turn.line ≡ chunk.line

@@ -1,13 +1,14 @@
--- What a check does beside what its proof shows: it makes no term, and searches each of its cubes.
-use Rattle.std.specs.Prelude.{◌≡◌, ◌⊎◌, ℕ, ◌<◌, ◌^◌, List, [], ◌∷◌, ◌++◌, length, All, Contains, Option, Some}
-use Rattle.std.specs.List.{AllByRecursion}
+-- What a check does beside what its proof shows: it makes no term but for its uses of rules, and searches each of its cubes.
+use Rattle.std.specs.Prelude.{◌≡◌, ◌⊎◌, ℕ, ◌<◌, ◌≤◌, ◌^◌, List, [], ◌∷◌, ◌++◌, length, All, Contains, Option, Some}
 use Rattle.cnf_base.specs.Literals.{Literal, negated}
 use Rattle.smt_terms.specs.declared.node.Node.{Node}
+use Rattle.smt_terms.specs.Nodes.{node_at}
 use Rattle.script_state.specs.States.{StateValue}
 use Rattle.script_state.specs.Steps.{step}
+use Rattle.proof_log.specs.declared.entry.RuleUse.{RuleUse}
 use Rattle.proof_log.specs.declared.entry.Entry.{Entry}
+use Rattle.proof_log.specs.declared.entry.Entry.TheVariants as entry
 use Rattle.proof_log.specs.declared.diary.Diary.{Diary}
-use Rattle.proof_log.specs.Faults.{MakesNoTerm}
 use Rattle.proof_log.specs.Logs.{clause_at, state_of}
 use Rattle.proof_text.specs.declared.record.Record.{Record}
 use Rattle.proof_text.specs.declared.record.Record.TheVariants.{Unknown}
@@ -36,9 +37,20 @@ abbrev pub AreSearched : Limits → StateValue → List Node → List Entry → 
 AreSearched limits s nodes log (Some (Unknown d)) = AreOthersSearched limits s nodes log d
 AreSearched limits s nodes log _ = Unit {0}
 
--- No step makes a term: a check needs none but those of its own text, and no other is told. And all cubes were searched.
+-- a use of a rule among these steps leads to the term, or to one that has it as an argument
+pub record IsUsed (nodes : List Node) (steps : List Entry) (t : ℕ) : Type 0 where
+  pub by : RuleUse
+  pub among : Contains steps (entry.Rewrite by)
+  pub is : (by.to ≡ t) ⊎ Contains (node_at nodes by.to).args t
+
+-- each term that is not among the first so many is used so
+abbrev pub AreUsed : ℕ → List Node → List Entry → Type 0
+AreUsed count nodes steps = (t : ℕ) → count ≤ t → t < length nodes → IsUsed nodes steps t
+
+-- No term is made but what uses of rules lead to, and their arguments: a check needs none but those of its own text and these,
+-- so no idle term is told. And all cubes were searched.
 pub record IsThorough (limits : Limits) (s : StateValue) (log steps : List Entry) (shown : Option Record) : Type 0 where
-  pub terms : AllByRecursion MakesNoTerm steps
+  pub terms : AreUsed (length s.terms.nodes) (with_steps s steps).terms.nodes steps
   pub cubes : AreSearched limits s (with_steps s steps).terms.nodes (log ++ steps) shown
 
 -- the same of each of the turns

@@ -9,16 +9,17 @@ ghost use Rattle.script_state.specs.States.{roots};
 ghost use Rattle.accepted_proof.specs.Searching.{AreLimits, Rise, cube_variables};
 ghost use Rattle.accepted_proof.specs.Turns.{verdict_of, step_lines};
 ghost use Rattle.check_cubes.specs.Searches.{limits_of};
-ghost use Rattle.smt_session.specs.Growing.{AreGiven, AreLined, Grows};
+ghost use Rattle.smt_session.specs.Growing.{AreGiven, AreLined};
+ghost use Rattle.smt_session.specs.Planning.{Prepares};
 ghost use Rattle.smt_session.specs.Searched.{AreEnough};
-ghost use Rattle.smt_session.specs.Sessions.{IsChecked, IsSession, RestsBeside};
+ghost use Rattle.smt_session.specs.Sessions.{IsChecked, IsConcluded, IsSession, RestsBeside};
 
-use crate::encoding::encode_all;
 use crate::given::give;
 use crate::model::model;
 use crate::positions::positions;
-use crate::reach::{reach, roots};
+use crate::reach::{reach_by_images, roots};
 use crate::solve::{Found, solve};
+use crate::taking::rewrite;
 use crate::workspace::Workspace;
 use check_cubes::{Limits, cube_variables};
 use cnf_base::{Lit, Pos};
@@ -79,7 +80,7 @@ fn conclude(
     requires given { AreGiven state.now workspace.old.log given.now }
     requires limits { AreLimits (limits_of limits) }
     ensures checked { IfOk result
-        (λ r. IsChecked (limits_of limits) state.now workspace.old.log workspace.new.log r) }
+        (λ r. IsConcluded (limits_of limits) state.now workspace.old.log workspace.new.log r) }
     ensures resting { OnOk result (RestsBeside workspace.new.log workspace.new.search) }
 {
     let tree = split(alloc, state, &workspace.log, limits, &mut workspace.reached)?;
@@ -109,43 +110,53 @@ struct Prepared {
     given: Vec<Lit>,
 }
 
-/// Gives what the live assertions and the assumptions reach its bits, and each live assertion a selector.
+/// Simplifies what the live assertions and the assumptions reach and that has no bits, gives bits to what needs them then, and
+/// gives each live assertion a selector.
 fn prepare(
     alloc: Global,
-    state: &State,
-    log: &mut Log,
-    reached: &mut Reached,
+    state: &mut State,
+    workspace: &mut Workspace,
 ) -> Result<Prepared, AllocError>
-    requires { IsSession state.now log.old }
-    ensures grows { IfOk result (λ _. Grows state.now log.old log.new) }
+    requires session { IsSession state.old workspace.old.log }
+    requires resting { RestsBeside workspace.old.log workspace.old.search }
+    ensures prepares { OnOk result
+        (Prepares state.old workspace.old.log state.new workspace.new.log) }
+    ensures resting { OnOk result (RestsBeside workspace.new.log workspace.new.search) }
     ensures steps { IfOk result
-        (λ p. AreEnough state.now.terms.nodes log.new (roots state.now) state.now.scopes.live
-        p.steps.items) }
-    ensures given { IfOk result (λ p. AreGiven state.now log.new p.given.items) }
+        (λ p. AreEnough state.new.terms.nodes workspace.new.log (roots state.new)
+        state.new.scopes.live p.steps.items) }
+    ensures given { IfOk result (λ p. AreGiven state.new workspace.new.log p.given.items) }
 {
     let roots = roots(alloc, state)?;
-    reach(alloc, state.terms(), roots.as_slice(), reached)?;
-    encode_all(alloc, state, log, reached.terms())?;
-    let given = give(alloc, state, log)?;
-    let steps = positions(alloc, state.terms(), log, reached.terms(), state.live())?;
+    rewrite(alloc, state, workspace, roots.as_slice())?;
+    let given = give(alloc, state, &mut workspace.log)?;
+    reach_by_images(
+        alloc,
+        state,
+        &workspace.log,
+        roots.as_slice(),
+        &mut workspace.reached,
+    )?;
+    let reached = workspace.reached.terms();
+    let steps = positions(alloc, state.terms(), &workspace.log, reached, state.live())?;
     Ok(Prepared { steps, given })
 }
 
 /// Prepares a check, searches for its verdict, and gives the record that shows it.
 fn check(
     alloc: Global,
-    state: &State,
+    state: &mut State,
     workspace: &mut Workspace,
     limits: Limits,
 ) -> Result<Record, AllocError>
-    requires session { IsSession state.now workspace.old.log }
+    requires session { IsSession state.old workspace.old.log }
     requires resting { RestsBeside workspace.old.log workspace.old.search }
     requires limits { AreLimits (limits_of limits) }
-    ensures checked { IfOk result
-        (λ r. IsChecked (limits_of limits) state.now workspace.old.log workspace.new.log r) }
+    ensures checked { IfOk result (λ r. IsChecked (limits_of limits) state.old state.new
+        workspace.old.log workspace.new.log r) }
     ensures resting { OnOk result (RestsBeside workspace.new.log workspace.new.search) }
 {
-    let prepared = prepare(alloc, state, &mut workspace.log, &mut workspace.reached)?;
+    let prepared = prepare(alloc, state, workspace)?;
     let Prepared { steps, given } = prepared;
     conclude(
         alloc,
@@ -197,16 +208,17 @@ fn lines(alloc: Global, log: &Log, from: Pos, shown: &Record) -> Result<Text, Al
 /// Checks the live assertions under the assumptions within the limits: the record of the check, and its lines.
 pub(crate) fn run_check(
     alloc: Global,
-    state: &State,
+    state: &mut State,
     workspace: &mut Workspace,
     limits: Limits,
 ) -> Result<(Record, Text), AllocError>
-    requires session { IsSession state.now workspace.old.log }
+    requires session { IsSession state.old workspace.old.log }
     requires resting { RestsBeside workspace.old.log workspace.old.search }
     requires limits { AreLimits (limits_of limits) }
     ensures resting { OnOk result (RestsBeside workspace.new.log workspace.new.search) }
     ensures checked { IfOk result
-        (λ r. IsChecked (limits_of limits) state.now workspace.old.log workspace.new.log r.0) }
+        (λ r. IsChecked (limits_of limits) state.old state.new workspace.old.log workspace.new.log
+        r.0) }
     ensures text { IfOk result
         (λ r. r.1 ≡ flat_map line_text
         (step_lines (drop (length workspace.old.log.entries) workspace.new.log.entries))

@@ -7,7 +7,7 @@ ghost use Rattle.proof_log.specs.Stored.{Stands};
 ghost use Rattle.smt_session.specs.Growing.{Grows, HasBit, HasBits, AreBits, AreGiven};
 ghost use Rattle.script_state.specs.States.{roots};
 
-use crate::encoding::select_all;
+use crate::selecting::select_all;
 use cnf_base::Lit;
 use proof_log::Log;
 use script_state::answer::Asked;

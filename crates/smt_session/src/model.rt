@@ -17,7 +17,6 @@ ghost use Rattle.proof_log.specs.Words.{IsOfWords};
 ghost use Rattle.proof_text.specs.Records.{AreWritten};
 ghost use Rattle.proof_text.specs.declared.record.Record.TheVariants.{Sat};
 ghost use Rattle.accepted_proof.specs.Models.{IsWrittenModel};
-ghost use Rattle.smt_session.specs.Growing.{IsUnruled};
 ghost use Rattle.smt_session.specs.Searched.{AreSatisfied, HasTrueBit, HasTrueSelector};
 ghost use Rattle.smt_session.specs.Modeled.{IsValueIn, AreDeclaredValues};
 
@@ -119,7 +118,6 @@ pub(crate) fn model(
     requires stands { Stands state.now.terms.nodes log.now }
     requires words { state.now.symbols.theories ≡ false }
     requires steps { AllByRecursion (IsOfWords state.now.terms.nodes) log.now.entries }
-    requires unruled { AllByRecursion IsUnruled log.now.entries }
     requires satisfied { AreSatisfied state.now.terms.nodes log.now (roots state.now)
         state.now.scopes.live (valuation_of search.now) }
     requires selectors { All

@@ -1,15 +1,20 @@
-// Which terms some terms reach, through all arguments.
+// Which terms a check needs.
 
 ghost use Rattle.std.specs.Prelude.{◌≡◌, false, All, IfOk, OnOk, Contains};
-ghost use Rattle.term_reach.specs.Reach.{arguments, IsReach};
+ghost use Rattle.smt_terms.specs.Bits.{image_in};
 ghost use Rattle.script_state.specs.States.{roots};
-ghost use Rattle.smt_session.specs.Reaching.{IsPlainTerm, AreOrdered};
+ghost use Rattle.proof_log.specs.Assigned.{AreClosed};
+ghost use Rattle.smt_session.specs.Growing.{HasBits};
+ghost use Rattle.smt_session.specs.Reaching.{IsPlainTerm};
+ghost use Rattle.smt_session.specs.Sessions.{IsSession};
 
+use proof_log::Log;
 use script_state::state::State;
+use smt_terms::bits::Bits;
 use smt_terms::node::TermId;
 use smt_terms::terms::Terms;
 use std::alloc::{AllocError, Global};
-use term_reach::{Reached, reach_by_arguments};
+use term_reach::{Next, Reached, reach};
 
 /// The terms of the live assertions, and then those of the assumptions.
 pub(crate) fn roots(alloc: Global, state: &State) -> Result<Vec<TermId>, AllocError>
@@ -20,18 +25,51 @@ pub(crate) fn roots(alloc: Global, state: &State) -> Result<Vec<TermId>, AllocEr
     state.roots(alloc)
 }
 
-/// The terms that plain terms reach, themselves among them, and no others: each once, behind its arguments.
-pub(crate) fn reach(
+/// A term leads to its image, where these bits tell one, and else to its arguments.
+#[derive(Clone, Copy, Debug)]
+struct ByImages<'a> {
+    bits: &'a Bits,
+}
+
+impl<'a> Next for ByImages<'a> {
+    ghost use Rattle.smt_session.specs.Reaching.{by_images};
+
+    ghost next_of = { λ n nodes. by_images nodes n.bits.now };
+
+    fn next(
+        &self,
+        terms: &Terms,
+        term: TermId,
+        place: usize,
+    ) -> Result<Option<TermId>, AllocError> {
+        let Some(image) = self.bits.image(term) else {
+            return Ok(terms.node(term).args.as_slice().get(place).copied())
+        };
+        if place == 0 {
+            return Ok(Some(image));
+        }
+        Ok(None)
+    }
+}
+
+/// The terms on whose bits those of these stand, themselves among them, and no others.
+pub(crate) fn reach_by_images(
     alloc: Global,
-    terms: &Terms,
+    state: &State,
+    log: &Log,
     from: &[TermId],
     reached: &mut Reached,
 ) -> Result<(), AllocError>
-    requires plain { All (IsPlainTerm terms.now.nodes) from.now }
-    ensures ordered { OnOk result (AreOrdered terms.now.nodes reached.new) }
+    requires session { IsSession state.now log.now }
+    requires bits { All (HasBits log.now) from.now }
+    ensures closed { OnOk result
+        (AreClosed state.now.terms.nodes (image_in log.now.bits) (Contains reached.new)) }
     ensures from { OnOk result (All (Contains reached.new) from.now) }
-    ensures exactly { OnOk result (IsReach (arguments terms.now.nodes) from.now reached.new) }
+    ensures bits { OnOk result (All (HasBits log.now) reached.new) }
 {
-    reach_by_arguments(alloc, terms, from, reached)?;
+    let terms = state.terms();
+    // The contract of `len` says that no two terms are equal.
+    let _count = terms.len();
+    reach(alloc, terms, &ByImages { bits: log.bits() }, from, reached)?;
     Ok(())
 }

@@ -23,6 +23,7 @@ use crate::workspace::Workspace;
 use check_cubes::Limits;
 use cube_search::Search;
 use proof_log::Log;
+use reached_images::Plan;
 use script_state::answer::Answer;
 use script_state::state::State;
 use smt_desk::stream::{Sink, write_whole};
@@ -268,6 +269,7 @@ impl Session {
                 search,
                 made: 0,
                 reached: Reached::new(alloc),
+                plan: Plan::new(alloc),
             },
             last: Last::new(),
             limits: settings.limits(),

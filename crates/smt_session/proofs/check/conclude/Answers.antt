@@ -1,7 +1,7 @@
 use Rattle.std.proofs.Common.{refl}
 use Rattle.check_cubes.specs.Searches.{limits_of}
 use Rattle.cube_search.specs.Running.{valuation_of}
-use Rattle.smt_session.proofs.Concluding.{is_problem, refuted_checked, unknown_checked, model_checked, model_unruled, model_words, model_satisfies, model_selects, model_assumes}
+use Rattle.smt_session.proofs.Concluding.{is_problem, refuted_checked, unknown_checked, model_checked, model_words, model_satisfies, model_selects, model_assumes}
 use Rattle.smt_session.proofs.check.conclude.Goals as goal
 
 pub solve-requires-clause-listed : goal.solve-requires-clause-listed
@@ -25,11 +25,6 @@ model-requires-clause-satisfied c =
 pub model-requires-clause-steps : goal.model-requires-clause-steps
 model-requires-clause-steps c =
     model_words c.args.state.now c.terms.result.now c.args.workspace.now.log c.solve.new.workspace.log c.args.steps.now c.in_ok-tree.tree c.args.given.now c.args.limits.budget (valuation_of c.solve.new.workspace.search) c.in_ok-found.found
-    c.terms.ensures.terms c.requires.session c.requires.given c.in_ok-found.ensures.grows c.in_ok-found.ensures.stands c.in_ok-found.ensures.found c.in-Model.is
-
-pub model-requires-clause-unruled : goal.model-requires-clause-unruled
-model-requires-clause-unruled c =
-    model_unruled c.args.state.now c.terms.result.now c.args.workspace.now.log c.solve.new.workspace.log c.args.steps.now c.in_ok-tree.tree c.args.given.now c.args.limits.budget (valuation_of c.solve.new.workspace.search) c.in_ok-found.found
     c.terms.ensures.terms c.requires.session c.requires.given c.in_ok-found.ensures.grows c.in_ok-found.ensures.stands c.in_ok-found.ensures.found c.in-Model.is
 
 pub model-requires-clause-selectors : goal.model-requires-clause-selectors

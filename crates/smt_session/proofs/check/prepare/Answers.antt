@@ -1,40 +1,52 @@
 use Rattle.std.proofs.Common.{◌≡◌, sym, ◌∙◌, subst}
 use Rattle.std.specs.Prelude.{All, IsSome}
 use Rattle.scope_selectors.specs.declared.live.Live.{Live}
+use Rattle.script_state.specs.States.{roots}
 use Rattle.proof_log.specs.Stored.{selector_in}
 use Rattle.smt_session.specs.Growing.{HasBits}
-use Rattle.script_state.specs.States.{roots}
-use Rattle.smt_session.specs.Reaching.{AreOrdered}
 use Rattle.smt_session.specs.Searched.{ArePositions}
-use Rattle.smt_session.proofs.Staying.{grows_more}
-use Rattle.smt_session.proofs.Satisfied.{root_bits, reached_bits, have_selectors, enough}
+use Rattle.smt_session.proofs.Leading.{grows_leads, prepares_more, roots_led, session_led}
+use Rattle.smt_session.proofs.Resting.{rests_led}
+use Rattle.smt_session.proofs.Satisfied.{enough, have_selectors, reached_bits}
 use Rattle.smt_session.proofs.check.prepare.Goals as goal
 
 pub give-requires-clause-bits : goal.give-requires-clause-bits
 give-requires-clause-bits c =
-    let from : c.as_slice.result.now ≡ roots c.args.state.now = c.as_slice.ensures.value ∙ c.in_ok-roots.ensures.roots in
-    let bits : All (HasBits c.encode_all.new.log) c.reach.new.reached = subst (All (HasBits c.encode_all.new.log)) c.terms-2.ensures.terms c.in_ok-encode_all.ensures.bits in
-    root_bits c.args.state.now c.encode_all.new.log c.as_slice.result.now c.reach.new.reached from c.in_ok-reach.ensures.from bits
+    rw (roots_led c.args.state.now c.rewrite.new.state c.args.workspace.now.log c.rewrite.new.workspace.log c.in_ok-rewrite.ensures.prepares.leads)
+    (subst (All (HasBits c.rewrite.new.workspace.log)) (c.as_slice.ensures.value ∙ c.in_ok-roots.ensures.roots) c.in_ok-rewrite.ensures.roots)
+
+pub reach_by_images-requires-clause-session : goal.reach_by_images-requires-clause-session
+reach_by_images-requires-clause-session c =
+    session_led c.rewrite.new.state c.rewrite.new.state c.rewrite.new.workspace.log c.give.new.log
+    (session_led c.args.state.now c.rewrite.new.state c.args.workspace.now.log c.rewrite.new.workspace.log c.requires.session c.in_ok-rewrite.ensures.prepares.leads)
+    (grows_leads c.rewrite.new.state c.rewrite.new.workspace.log c.give.new.log c.in_ok-given.ensures.grows)
+
+pub reach_by_images-requires-clause-bits : goal.reach_by_images-requires-clause-bits
+reach_by_images-requires-clause-bits c =
+    subst (All (HasBits c.give.new.log)) (c.as_slice.ensures.value ∙ sym c.as_slice-2.ensures.value)
+    (reached_bits c.rewrite.new.state c.rewrite.new.workspace.log c.give.new.log c.as_slice.result.now c.in_ok-rewrite.ensures.prepares.leads.stands c.in_ok-given.ensures.grows c.in_ok-rewrite.ensures.roots)
 
 pub positions-requires-clause-bits : goal.positions-requires-clause-bits
-positions-requires-clause-bits c =
-    let same : c.terms-2.result.now ≡ c.terms-4.result.now = c.terms-2.ensures.terms ∙ sym c.terms-4.ensures.terms in
-    subst (All (HasBits c.give.new.log)) same
-    (reached_bits c.args.state.now c.encode_all.new.log c.give.new.log c.terms-2.result.now c.in_ok-encode_all.ensures.grows.stands c.in_ok-given.ensures.grows c.in_ok-encode_all.ensures.bits)
+positions-requires-clause-bits c = rw c.terms-reached.ensures.terms c.in_ok-reach_by_images.ensures.bits
 
 pub positions-requires-clause-selectors : goal.positions-requires-clause-selectors
 positions-requires-clause-selectors c =
     subst (All (λ (a : Live). IsSome (selector_in c.give.new.log.selectors a.assertion))) (sym c.live.ensures.live)
-    (have_selectors c.give.new.log c.args.state.now.scopes.live c.in_ok-given.ensures.given.selectors c.in_ok-given.ensures.given.chosen)
+    (have_selectors c.give.new.log c.rewrite.new.state.scopes.live c.in_ok-given.ensures.given.selectors c.in_ok-given.ensures.given.chosen)
 
-pub returns-clause-grows : goal.returns-clause-grows
-returns-clause-grows c =
-    grows_more c.args.state.now c.args.log.now c.encode_all.new.log c.give.new.log c.in_ok-encode_all.ensures.grows c.in_ok-given.ensures.grows
+pub returns-clause-prepares : goal.returns-clause-prepares
+returns-clause-prepares c = prepares_more c.args.state.now c.rewrite.new.state c.args.workspace.now.log c.rewrite.new.workspace.log c.give.new.log c.in_ok-rewrite.ensures.prepares c.in_ok-given.ensures.grows
+
+pub returns-clause-resting : goal.returns-clause-resting
+returns-clause-resting c =
+    rw c.in_ok-rewrite.ensures.search
+    (rests_led c.args.state.now c.rewrite.new.state c.args.workspace.now.log c.give.new.log c.args.workspace.now.search c.requires.session.stands
+    (prepares_more c.args.state.now c.rewrite.new.state c.args.workspace.now.log c.rewrite.new.workspace.log c.give.new.log c.in_ok-rewrite.ensures.prepares c.in_ok-given.ensures.grows).leads c.requires.resting)
 
 pub returns-clause-steps : goal.returns-clause-steps
 returns-clause-steps c =
-    let from : c.as_slice.result.now ≡ roots c.args.state.now = c.as_slice.ensures.value ∙ c.in_ok-roots.ensures.roots in
-    let each : ArePositions c.give.new.log c.reach.new.reached c.live.result.now c.in_ok-steps.steps.items =
-    subst (λ l. ArePositions c.give.new.log l c.live.result.now c.in_ok-steps.steps.items) c.terms-4.ensures.terms c.in_ok-steps.ensures in
-    enough c.args.state.now c.give.new.log c.as_slice.result.now c.reach.new.reached c.in_ok-steps.steps.items c.live.result.now from c.live.ensures.live
-    (subst (λ v. AreOrdered v.nodes c.reach.new.reached) c.terms.ensures.terms c.in_ok-reach.ensures.ordered) c.in_ok-reach.ensures.from each
+    let from : c.as_slice-2.result.now ≡ roots c.rewrite.new.state =
+    c.as_slice-2.ensures.value ∙ c.in_ok-roots.ensures.roots ∙ sym (roots_led c.args.state.now c.rewrite.new.state c.args.workspace.now.log c.rewrite.new.workspace.log c.in_ok-rewrite.ensures.prepares.leads) in
+    let each : ArePositions c.give.new.log c.reach_by_images.new.reached c.live.result.now c.in_ok-steps.steps.items =
+    subst (λ l. ArePositions c.give.new.log l c.live.result.now c.in_ok-steps.steps.items) c.terms-reached.ensures.terms c.in_ok-steps.ensures in
+    enough c.rewrite.new.state c.give.new.log c.as_slice-2.result.now c.reach_by_images.new.reached c.in_ok-steps.steps.items c.live.result.now from c.live.ensures.live c.in_ok-reach_by_images.ensures.closed c.in_ok-reach_by_images.ensures.from each

@@ -11,19 +11,19 @@ use Rattle.smt_session.proofs.session.answer_check.Goals as goal
 
 pub returns-clause-session : goal.returns-clause-session
 returns-clause-session g c =
-    check_keeps (limits_of c.args.limits) c.args.state.now c.conclude.new.self c.args.workspace.now.log c.run_check.new.workspace.log c.in_ok-shown.shown c.requires.session c.in_ok-shown.ensures.checked
-    (c.conclude.ensures ∙ ap (concluded c.args.state.now) c.verdict_of-verdict.ensures)
+    check_keeps (limits_of c.args.limits) c.args.state.now c.run_check.new.state c.conclude.new.self c.args.workspace.now.log c.run_check.new.workspace.log c.in_ok-shown.shown c.requires.session c.in_ok-shown.ensures.checked
+    (c.conclude.ensures ∙ ap (concluded c.run_check.new.state) c.verdict_of-verdict.ensures)
 
 pub returns-clause-response : goal.returns-clause-response
 returns-clause-response g c =
     subst
     (λ now. Responds (limits_of c.args.limits) c.args.line answer.Check c.args.state.now c.conclude.new.self c.args.workspace.now.log c.run_check.new.workspace.log c.args.last.now now c.in_ok-response.response (g.Q.Sink.written c.args.proof.now) (g.Q.Sink.written c.write_lines.new.proof))
     (sym c.put.ensures)
-    (check_responds (limits_of c.args.limits) c.args.line c.args.state.now c.conclude.new.self c.args.workspace.now.log c.run_check.new.workspace.log c.in_ok-shown.shown c.in_ok-shown.text c.in_ok-response.response
+    (check_responds (limits_of c.args.limits) c.args.line c.args.state.now c.run_check.new.state c.conclude.new.self c.args.workspace.now.log c.run_check.new.workspace.log c.in_ok-shown.shown c.in_ok-shown.text c.in_ok-response.response
     (g.Q.Sink.written c.args.proof.now) (g.Q.Sink.written c.write_lines.new.proof) c.args.last.now
     c.in_ok-shown.ensures.checked c.in_ok-shown.ensures.text c.in_ok-shown.ensures.readable c.in_ok-write_lines.ensures.ok
     (c.in_ok-response.ensures ∙ ap (λ v. response (verdict_text v) false false) c.verdict_of-verdict.ensures)
-    (c.conclude.ensures ∙ ap (concluded c.args.state.now) c.verdict_of-verdict.ensures))
+    (c.conclude.ensures ∙ ap (concluded c.run_check.new.state) c.verdict_of-verdict.ensures))
 
 pub returns-in_err-shown-clause-cut : goal.returns-in_err-shown-clause-cut
 returns-in_err-shown-clause-cut g c =
@@ -40,6 +40,6 @@ returns-in_err-write_lines-clause-cut g c =
     let p = err_from_is_err_and c.from_residual-in_err-write_lines.result c.from_residual-in_err-write_lines.ensures.1 in
     let cut = c.in_err-write_lines.ensures.cut in
     rw (p.1, p.2, cut.0)
-    (check_cut (limits_of c.args.limits) c.args.state.now c.args.workspace.now.log c.run_check.new.workspace.log c.in_ok-shown.shown c.in_ok-shown.text
+    (check_cut (limits_of c.args.limits) c.args.state.now c.run_check.new.state c.args.workspace.now.log c.run_check.new.workspace.log c.in_ok-shown.shown c.in_ok-shown.text
     (g.Q.Sink.written c.args.proof.now) (g.Q.Sink.written c.write_lines.new.proof)
     c.in_ok-shown.ensures.checked c.in_ok-shown.ensures.text c.in_ok-shown.ensures.readable cut.1)

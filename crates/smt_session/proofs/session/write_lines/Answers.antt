@@ -1,4 +1,4 @@
-use Rattle.std.proofs.Common.{◌<◌, take, drop, length, refl, sym, take-append-drop, arith, length-drop}
+use Rattle.std.proofs.Common.{take, drop, refl, sym, take-append-drop, arith, length-drop}
 use Rattle.smt_session.proofs.session.write_lines.Goals as goal
 
 pub returns-in-Err-clause-cut : goal.returns-in-Err-clause-cut

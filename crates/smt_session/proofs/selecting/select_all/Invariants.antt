@@ -1,6 +1,6 @@
 use Rattle.std.proofs.Common.{take}
 use Rattle.smt_session.specs.Growing.{Grows, AreSelectors}
-use Rattle.smt_session.proofs.encoding.select_all.Given as goal
+use Rattle.smt_session.proofs.selecting.select_all.Given as goal
 
 abbrev pub invariant-live : goal.invariant-live
 invariant-live l = record {

@@ -2,7 +2,7 @@ use Rattle.std.proofs.Common.{sym, subst}
 use Rattle.scope_selectors.specs.declared.live.Live.{Live}
 use Rattle.smt_session.specs.Growing.{HasBits}
 use Rattle.smt_session.proofs.Staying.{bits_stay, grows_more, chosen_more}
-use Rattle.smt_session.proofs.encoding.select_all.Goals as goal
+use Rattle.smt_session.proofs.selecting.select_all.Goals as goal
 
 pub select-requires-clause-bits : goal.select-requires-clause-bits
 select-requires-clause-bits c =

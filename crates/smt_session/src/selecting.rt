@@ -1,4 +1,4 @@
-// The steps that give terms bits and assertions selectors.
+// The steps that give assertions selectors.
 
 ghost use Rattle.std.specs.Prelude.{◌≡◌, ◌<◌, ℕ, All, IfOk, IsTrue, IsFalse, IsSome, None, Some, length, true};
 ghost use Rattle.scope_selectors.specs.declared.live.Live.{Live as LiveValue};
@@ -10,7 +10,6 @@ ghost use Rattle.script_state.specs.Plain.{is_plain, is_plain_op};
 ghost use Rattle.proof_log.specs.Logs.{constant_width};
 ghost use Rattle.proof_log.specs.Stored.{Stands, selector_in};
 ghost use Rattle.smt_session.specs.Growing.{Grows, HasBits, IsAsserted, AreSelectors};
-ghost use Rattle.smt_session.specs.Reaching.{AreOrdered};
 
 use cnf_base::Lit;
 use proof_log::Log;
@@ -19,55 +18,6 @@ use scope_selectors::live::Live;
 use script_state::state::State;
 use smt_terms::node::{Op, TermId};
 use std::alloc::{AllocError, Global};
-
-/// Whether the operator is a declared constant.
-fn is_constant(op: &Op) -> bool
-    ensures constant { IsTrue result → is_plain_op op.now ≡ true → IsSome (constant_width op.now) }
-    ensures other { IsFalse result → is_plain_op op.now ≡ true → is_fixed op.now ≡ true }
-{
-    matches!(op, Op::Constant { .. })
-}
-
-/// Gives a plain term bits, unless it has them.
-fn encode(alloc: Global, state: &State, log: &mut Log, term: TermId) -> Result<(), AllocError>
-    requires held { term < length state.now.terms.nodes }
-    requires plain { is_plain state.now.terms.nodes term ≡ true }
-    requires stands { Stands state.now.terms.nodes log.old }
-    requires arguments { bits_in log.old.bits term ≡ None
-        → All (HasBits log.old) (node_at state.now.terms.nodes term).args }
-    ensures grows { IfOk result (λ _. Grows state.now log.old log.new) }
-    ensures bits { IfOk result (λ _. HasBits log.new term) }
-{
-    if log.bits().of(term).is_some() {
-        return Ok(());
-    }
-    let terms = state.terms();
-    if is_constant(&terms.node(term).op) {
-        log.push(alloc, terms, Entry::Leaf(term))?;
-        return Ok(());
-    }
-    log.push(alloc, terms, Entry::Encode(term))?;
-    Ok(())
-}
-
-/// Gives each of the terms bits, in their order.
-pub(crate) fn encode_all(
-    alloc: Global,
-    state: &State,
-    log: &mut Log,
-    reached: &[TermId],
-) -> Result<(), AllocError>
-    requires listed { IsTermList state.now.terms.nodes }
-    requires ordered { AreOrdered state.now.terms.nodes reached.now }
-    requires stands { Stands state.now.terms.nodes log.old }
-    ensures grows { IfOk result (λ _. Grows state.now log.old log.new) }
-    ensures bits { IfOk result (λ _. All (HasBits log.new) reached.now) }
-{
-    'terms: for term in reached {
-        encode(alloc, state, log, *term)?;
-    }
-    Ok(())
-}
 
 /// Gives an assertion that has no selector one.
 fn add_selector(

@@ -1,7 +1,8 @@
+use Rattle.std.proofs.Common.{refl}
 use Rattle.proof_log.specs.declared.entry.Entry.TheVariants as step
 use Rattle.smt_session.proofs.Staying.{grows_one}
 use Rattle.smt_session.proofs.Validity.{valid_over, pushed_over, select_valid, select_leaves}
-use Rattle.smt_session.proofs.encoding.add_selector.Goals as goal
+use Rattle.smt_session.proofs.selecting.add_selector.Goals as goal
 
 pub push-requires-clause-valid : goal.push-requires-clause-valid
 push-requires-clause-valid c =
@@ -10,7 +11,7 @@ push-requires-clause-valid c =
 
 pub returns-clause-grows : goal.returns-clause-grows
 returns-clause-grows c =
-    grows_one c.args.state.now c.args.log.now c.push.new.self (step.Selector c.args.assertion.now.assertion c.args.assertion.now.term) c.in_ok-push.field-0 ((λ q. let f : ⊥ = cc in f), c.requires.asserted.known, tt, tt)
+    grows_one c.args.state.now c.args.log.now c.push.new.self (step.Selector c.args.assertion.now.assertion c.args.assertion.now.term) c.in_ok-push.field-0 (c.requires.asserted.known, tt, refl) (λ q. let f : ⊥ = cc in f)
     (pushed_over c.args.state.now c.terms.result.now c.args.log.now c.push.new.self (step.Selector c.args.assertion.now.assertion c.args.assertion.now.term) c.in_ok-push.field-0 c.terms.ensures.terms c.in_ok-push.ensures.pushed)
 
 pub returns-clause-selector : goal.returns-clause-selector

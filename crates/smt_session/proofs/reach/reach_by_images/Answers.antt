@@ -1,0 +1,32 @@
+use Rattle.smt_session.proofs.Acyclic.{log_acyclic}
+use Rattle.smt_session.proofs.Reaching.{images_below, with_bits_held, reached_is_closed, roots_reached, reached_have_bits}
+use Rattle.smt_session.proofs.Staying.{words_of}
+use Rattle.smt_session.proofs.reach.reach_by_images.Goals as goal
+
+pub reach-requires-clause-acyclic : goal.reach-requires-clause-acyclic
+reach-requires-clause-acyclic c =
+    rw (c.terms-terms.ensures.terms, c.bits.ensures)
+    (log_acyclic c.args.state.now.terms.nodes c.args.log.now c.requires.session.state.terms c.requires.session.stands (words_of c.args.state.now c.args.log.now.entries c.requires.session.each))
+
+pub reach-requires-clause-within : goal.reach-requires-clause-within
+reach-requires-clause-within c =
+    rw (c.terms-terms.ensures.terms, c.bits.ensures)
+    (images_below c.args.state.now.terms.nodes c.args.log.now c.requires.session.state.terms c.requires.session.stands (rw c.terms-terms.ensures.terms at c.len-count.ensures.terms.different))
+
+pub reach-requires-clause-held : goal.reach-requires-clause-held
+reach-requires-clause-held c =
+    rw c.terms-terms.ensures.terms
+    (with_bits_held c.args.state.now.terms.nodes c.args.log.now c.requires.session.state.terms c.requires.session.stands c.args.from.now c.requires.bits)
+
+pub returns-clause-closed : goal.returns-clause-closed
+returns-clause-closed c =
+    reached_is_closed c.args.state.now.terms.nodes c.args.log.now c.requires.session.state.terms c.requires.session.stands c.args.from.now c.reach.new.reached (rw (c.terms-terms.ensures.terms, c.bits.ensures) at c.in_ok-reach.ensures)
+
+pub returns-clause-from : goal.returns-clause-from
+returns-clause-from c =
+    roots_reached c.args.state.now.terms.nodes c.args.log.now c.requires.session.state.terms c.requires.session.stands c.args.from.now c.reach.new.reached (rw (c.terms-terms.ensures.terms, c.bits.ensures) at c.in_ok-reach.ensures)
+
+pub returns-clause-bits : goal.returns-clause-bits
+returns-clause-bits c =
+    reached_have_bits c.args.state.now.terms.nodes c.args.log.now c.requires.session.state.terms c.requires.session.stands c.args.from.now c.reach.new.reached (rw (c.terms-terms.ensures.terms, c.bits.ensures) at c.in_ok-reach.ensures)
+    (words_of c.args.state.now c.args.log.now.entries c.requires.session.each) c.requires.bits

@@ -1,0 +1,220 @@
+// The steps that make a log of a plan.
+
+ghost use Rattle.std.specs.Prelude.{◌≡◌, ◌<◌, ◌≤◌, ◌+◌, ◌∷◌, ◌++◌, [], ℕ, List, All, OnOk, Ok, None, false, is_some, take, length};
+ghost use Rattle.smt_terms.specs.declared.node.Node.{Node as NodeValue};
+ghost use Rattle.smt_terms.specs.Terms.{declaration_of};
+ghost use Rattle.proof_log.specs.declared.entry.Entry.TheVariants as step;
+ghost use Rattle.proof_log.specs.Faults.{Answers};
+ghost use Rattle.proof_log.specs.Logs.{constant_width};
+ghost use Rattle.proof_log.specs.Stored.{Stands};
+ghost use Rattle.reached_images.specs.declared.plan.Planned.{Planned as PlannedValue};
+ghost use Rattle.smt_session.specs.Growing.{HasBits, LeadsTo};
+ghost use Rattle.smt_session.specs.Sessions.{IsSession};
+ghost use Rattle.smt_session.specs.Planning.{AreTaken, IsForPlanned, Prepares};
+
+use crate::planned::plan_check;
+use crate::workspace::Workspace;
+use proof_log::Log;
+use proof_log::entry::{Entry, RuleUse};
+use reached_images::Planned;
+use script_state::state::State;
+use smt_terms::node::{Node, Op, TermId};
+use smt_terms::sort::Sort;
+use smt_terms::terms::Terms;
+use std::alloc::{AllocError, Global};
+use std::mem;
+
+/// Whether an operator names what a script declared or a parameter of a definition, which no step makes.
+fn is_named(op: &Op) -> bool
+    ensures { result ≡ false → declaration_of op.now ≡ None }
+{
+    match op {
+        Op::Constant { .. } => true,
+        Op::Apply { .. } => true,
+        Op::Param { .. } => true,
+        _ => false,
+    }
+}
+
+/// Makes a term by a step of the log. A plan makes none that a log refuses; a refusal would be an error like want of memory.
+fn push_node(alloc: Global, terms: &mut Terms, log: &mut Log, node: Node) -> Result<(), AllocError>
+    requires stands { Stands terms.old.nodes log.old }
+    requires unnamed { declaration_of node.op ≡ None }
+    ensures { OnOk result ((at : ℕ)
+        × Answers terms.old terms.new (step.Node node) log.old log.new (Ok at)) }
+{
+    match log.try_push(alloc, terms, Entry::Node(node)) {
+        Ok(_) => Ok(()),
+        Err(_) => Err(AllocError),
+    }
+}
+
+/// The same over the terms of a state.
+fn take_node(alloc: Global, state: &mut State, log: &mut Log, node: Node) -> Result<(), AllocError>
+    requires session { IsSession state.old log.old }
+    ensures leads { OnOk result (LeadsTo state.old log.old state.new log.new) }
+    ensures made { OnOk result (state.new.terms.nodes ≡ state.old.terms.nodes ++ node ∷ []) }
+{
+    if is_named(&node.op) {
+        drop(node);
+        return Err(AllocError);
+    }
+    let (mut terms, rest) = mem::replace(state, State::new(alloc)).into_parts();
+    let Ok(()) = push_node(alloc, &mut terms, log, node) else {
+        drop((terms, rest));
+        return Err(AllocError);
+    };
+    *state = State::from_parts(terms, rest);
+    Ok(())
+}
+
+/// Makes the terms at these places.
+fn take_nodes(
+    alloc: Global,
+    state: &mut State,
+    log: &mut Log,
+    nodes: &[Node],
+    from: usize,
+    end: usize,
+) -> Result<(), AllocError>
+    requires session { IsSession state.old log.old }
+    requires places { (from ≤ end) × (end ≤ length nodes.now) }
+    ensures leads { OnOk result (LeadsTo state.old log.old state.new log.new) }
+    ensures made { OnOk result ((base : List NodeValue)
+        → state.old.terms.nodes ≡ base ++ take from nodes.now
+        → state.new.terms.nodes ≡ base ++ take end nodes.now) }
+{
+    'nodes: for at in from..end {
+        let node = nodes[at].copy()?;
+        take_node(alloc, state, log, node)?;
+    }
+    Ok(())
+}
+
+/// Whether the operator is a declared Bool or word.
+fn is_leaf(op: &Op) -> bool
+    ensures { result ≡ is_some (constant_width op.now) }
+{
+    match op {
+        Op::Constant {
+            declaration: _,
+            sort,
+        } => match sort {
+            Sort::Bool => true,
+            Sort::Word(_) => true,
+            Sort::Array(_, _) => false,
+        },
+        _ => false,
+    }
+}
+
+/// The step that gives a term its bits.
+fn step_for(terms: &Terms, planned: &Planned) -> Entry
+    requires { planned.now.term < length terms.now.nodes }
+    ensures { IsForPlanned terms.now.nodes planned.now result }
+{
+    match planned.used {
+        Some(used) => Entry::Rewrite(RuleUse {
+            rule: used.rule.number(),
+            from: planned.term,
+            to: used.to,
+        }),
+        None => {
+            if is_leaf(&terms.node(planned.term).op) {
+                Entry::Leaf(planned.term)
+            } else {
+                Entry::Encode(planned.term)
+            }
+        }
+    }
+}
+
+/// Adds the step that gives a term its bits. No step of a plan is refused; a refusal would be an error like want of memory.
+fn take_step(
+    alloc: Global,
+    state: &State,
+    log: &mut Log,
+    planned: &Planned,
+) -> Result<(), AllocError>
+    requires session { IsSession state.now log.old }
+    requires held { planned.now.term < length state.now.terms.nodes }
+    ensures { OnOk result (AreTaken state.now log.old state.now log.new (planned.now ∷ [])) }
+{
+    let terms = state.terms();
+    match log.try_put(alloc, terms, step_for(terms, planned)) {
+        Ok(_) => Ok(()),
+        Err(_) => Err(AllocError),
+    }
+}
+
+/// How many of the terms of a plan, of which so many are made, are to be made before a step. There are terms before them.
+fn end_for(planned: &Planned, before: usize, done: usize, count: usize) -> usize
+    requires places { done ≤ count }
+    ensures places { (done ≤ result) × (result ≤ count) }
+    ensures held { planned.now.term < before + count → planned.now.term < before + result }
+{
+    let last = match planned.used {
+        Some(used) => planned.term.max(used.to),
+        None => planned.term,
+    };
+    let end = (last as usize + 1).saturating_sub(before);
+    end.min(count).max(done)
+}
+
+/// Takes the steps of a plan in their order, and makes each of its terms before the first step that needs it.
+fn take_plan(
+    alloc: Global,
+    state: &mut State,
+    log: &mut Log,
+    steps: &[Planned],
+    made: &[Node],
+) -> Result<(), AllocError>
+    requires session { IsSession state.old log.old }
+    requires held { All
+        (λ (p : PlannedValue). p.term < length state.old.terms.nodes + length made.now) steps.now }
+    ensures taken { OnOk result (AreTaken state.old log.old state.new log.new steps.now) }
+    ensures made { OnOk result (state.new.terms.nodes ≡ state.old.terms.nodes ++ made.now) }
+{
+    let before = state.terms().len() as usize;
+    let mut done: usize = 0;
+    'steps: for planned in steps {
+        let end = end_for(planned, before, done, made.len());
+        take_nodes(alloc, state, log, made, done, end)?;
+        done = end;
+        take_step(alloc, state, log, planned)?;
+    }
+    take_nodes(alloc, state, log, made, done, made.len())?;
+    Ok(())
+}
+
+/// Gives all that the roots reach and that needs them bits: those of what it becomes by the rules of rewriting.
+pub(crate) fn rewrite(
+    alloc: Global,
+    state: &mut State,
+    workspace: &mut Workspace,
+    roots: &[TermId],
+) -> Result<(), AllocError>
+    requires session { IsSession state.old workspace.old.log }
+    requires held { All (λ t. t < length state.old.terms.nodes) roots.now }
+    ensures prepares { OnOk result
+        (Prepares state.old workspace.old.log state.new workspace.new.log) }
+    ensures roots { OnOk result (All (HasBits workspace.new.log) roots.now) }
+    ensures search { OnOk result (workspace.new.search ≡ workspace.old.search) }
+{
+    let made = plan_check(
+        alloc,
+        state,
+        &workspace.log,
+        roots,
+        &mut workspace.plan,
+        &mut workspace.reached,
+    )?;
+    take_plan(
+        alloc,
+        state,
+        &mut workspace.log,
+        workspace.plan.steps(),
+        made.as_slice(),
+    )?;
+    Ok(())
+}
