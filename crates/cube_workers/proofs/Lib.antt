@@ -3,3 +3,7 @@ pub mod CubeEnds
 pub mod Resting
 pub mod OnHub
 pub mod Telling
+pub mod PutBack
+pub mod Adding
+pub mod Concluding
+pub mod Settling

@@ -1,2 +1,5 @@
 pub mod Searched
 pub mod Workers
+pub mod Histories
+pub mod Crews
+pub mod Closed

@@ -95,8 +95,8 @@ fn search_cube<'h, 'a, R: Wait>(
     search_lent::<Brand, R>(board, search, check, given, cube)
 }
 
-// The lower of two spent cubes.
-fn lower(spent: Option<Diary>, diary: Diary) -> Diary
+/// The lower of two spent cubes.
+pub(crate) fn lower(spent: Option<Diary>, diary: Diary) -> Diary
     ensures { MatchOption spent (result ≡ diary)
         (λ d. ((result ≡ d) × (d.cube ≤ diary.cube)) ⊎ ((result ≡ diary) × (diary.cube ≤ d.cube))) }
 {
