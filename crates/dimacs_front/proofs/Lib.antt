@@ -3,3 +3,4 @@ pub mod Tables
 pub mod Reading
 pub mod Hints
 pub mod Sound
+pub mod Chains

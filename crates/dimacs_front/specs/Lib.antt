@@ -3,3 +3,4 @@ pub mod Rows
 pub mod Cnf
 pub mod Lrat
 pub mod Marks
+pub mod Chains

@@ -1,11 +1,13 @@
 //! LRAT texts, checked as they come in pieces.
 
-ghost use Rattle.std.specs.Prelude.{◌≡◌, ◌∷◌, ◌++◌, [], ℕ, List, Ok, MatchResult, IfOk, OnOk};
+ghost use Rattle.std.specs.Prelude.{◌≡◌, ◌↔◌, ◌∷◌, ◌++◌, [], ℕ, true, List, Ok, MatchResult, IfOk, OnOk};
 ghost use Rattle.std.specs.List.{list_any};
 ghost use Rattle.cnf_base.specs.Literals.{Literal};
 ghost use Rattle.dimacs_front.specs.Cnf.{StopsAt, CnfValue, IsUnsatisfiable};
-ghost use Rattle.dimacs_front.specs.Lrat.{is_empty, leads, is_good, with_added, judge_line, nothing_judged, lrat_on_lines, lrat_goes_on, lrat_of};
+ghost use Rattle.dimacs_front.specs.Lrat.{TableValue, is_empty, leads, is_good, with_added, judge_line, nothing_judged, lrat_on_lines, lrat_goes_on, lrat_of};
 ghost use Rattle.dimacs_front.specs.Marks.{AreMarked};
+ghost use Rattle.dimacs_front.specs.Chains.{BeginsWithChain};
+ghost use Rattle.dimacs_front.specs.declared.number.Number.{Number as NumberValue};
 
 use crate::cnf::Cnf;
 use crate::lines::take_line;
@@ -295,4 +297,10 @@ impl LratChecker {
 /// A text that refutes clauses is right: no assignment makes them all true.
 pub fn refutations_are_right()
     ensures { (cnf : CnfValue) (text : List ℕ) → lrat_of cnf text ≡ Ok tt → IsUnsatisfiable cnf }
+{}
+
+/// A line is good exactly where the first of its hints are a chain for its clause.
+pub fn good_lines_have_chains()
+    ensures { (t : TableValue) (clause : List Literal) (hints : List NumberValue)
+        → (is_good t clause hints ≡ true) ↔ BeginsWithChain t clause hints }
 {}

@@ -9,10 +9,11 @@ use Rattle.clap.specs.Simple.{Shape, rows_at, built, built_leaf, inherited, fill
 use Rattle.clap.specs.Takes.{is_given}
 use Rattle.clap.specs.Faults.{fault_of, level_fault, check_fault, entered_fault}
 use Rattle.clap.proofs.OnLiterals.{clap_on_literals}
-use Rattle.smt_run.specs.declared.words.Command.TheVariants.{Solve, Check}
+use Rattle.smt_run.specs.declared.words.Command.{Command}
+use Rattle.smt_run.specs.declared.words.Command.TheVariants.{Solve, Check, Lrat}
 use Rattle.accepted_proof.specs.Searching.{Limits}
 use Rattle.smt_run.proofs.OneValue.{ArePlain, AreFine, only_one, level_end, fine_after, value_given, number_of_option, no_option}
-use Rattle.smt_run.specs.Words.{proof_argument, script_argument, number_option, app_named, solve_app, program, limits_in, AreUpTo, AsksFor}
+use Rattle.smt_run.specs.Words.{proof_argument, script_argument, number_option, app_named, solve_app, program, name_of, limits_in, AreUpTo, AsksFor}
 
 -- ---- the command line as it is built
 
@@ -43,7 +44,10 @@ solve_leaf = built_leaf (inherited above solve_app.top)
 abbrev check_leaf : Shape
 check_leaf = built_leaf (inherited above (app_named (codes "check")).top)
 
-subs_are : (built program).subs ≡ solve_leaf ∷ check_leaf ∷ []
+abbrev lrat_leaf : Shape
+lrat_leaf = built_leaf (inherited above (app_named (codes "lrat")).top)
+
+subs_are : (built program).subs ≡ solve_leaf ∷ check_leaf ∷ lrat_leaf ∷ []
 unfolding clap_on_literals
 subs_are = refl
 
@@ -54,6 +58,10 @@ solve_rules = refl
 check_rules : check_leaf.rules ≡ files
 unfolding clap_on_literals
 check_rules = refl
+
+lrat_rules : lrat_leaf.rules ≡ files
+unfolding clap_on_literals
+lrat_rules = refl
 
 files_plain : ArePlain files
 unfolding clap_on_literals
@@ -76,9 +84,9 @@ numbers_of_solve rows h = record {
   budget = number_of_option with_limits (codes "budget") 1000000000 refl rows h;
 }
 
-numbers_of_check : (rows : List Row) → AreFine files rows → AreUpTo rows
+numbers_of_files : (rows : List Row) → AreFine files rows → AreUpTo rows
 unfolding clap_on_literals
-numbers_of_check rows h = record { cubes = no_option files (codes "cubes") 10 refl rows h; budget = no_option files (codes "budget") 1000000000 refl rows h }
+numbers_of_files rows h = record { cubes = no_option files (codes "cubes") 10 refl rows h; budget = no_option files (codes "budget") 1000000000 refl rows h }
 
 -- ---- the program
 
@@ -90,7 +98,7 @@ pub record IsFound (found : Option (Text × List Row)) (name : Text) : Type 0 wh
   pub numbers : AreUpTo rows
 
 abbrev pub Found : Option (Text × List Row) → Type 0
-Found found = IsFound found (codes "solve") ⊎ IsFound found (codes "check")
+Found found = IsFound found (codes "solve") ⊎ (IsFound found (codes "check") ⊎ IsFound found (codes "lrat"))
 
 given_of : (b : Bool) → check_kinds false false (not b || false) ≡ [] → b ≡ true
 given_of true e = refl
@@ -110,19 +118,28 @@ check_found words e =
     let rows = rows_after files [] words in
     let fine : AreFine files rows = fine_after check_leaf refl files_plain words ends in
     let v = value_given files (codes "PROOF") rows fine (given_of (is_given (codes "PROOF") rows) ends.check) in
-    record { rows = rows; command = refl; proof = v.0; proof_is = v.1; numbers = numbers_of_check rows fine }
+    record { rows = rows; command = refl; proof = v.0; proof_is = v.1; numbers = numbers_of_files rows fine }
 
-abbrev either : Bool → Bool → Option Shape
-either b c = if b then Some solve_leaf else (if c then Some check_leaf else None)
+lrat_found : (words : List Text) → level_fault lrat_leaf [] nothing_held words false [] ≡ [] → IsFound (Some (rows_at lrat_leaf words)) (codes "lrat")
+lrat_found words e =
+    let ends = level_end lrat_leaf [] words false [] e in
+    let rows = rows_after files [] words in
+    let fine : AreFine files rows = fine_after lrat_leaf refl files_plain words ends in
+    let v = value_given files (codes "PROOF") rows fine (given_of (is_given (codes "PROOF") rows) ends.check) in
+    record { rows = rows; command = refl; proof = v.0; proof_is = v.1; numbers = numbers_of_files rows fine }
 
-one_found : (b c : Bool) (words : List Text) → is_some (option_map (λ s. rows_at s words) (either b c)) ≡ true → option_map_or (λ s. level_fault s [] nothing_held words false []) (either b c) [] ≡ [] → Found (option_map (λ s. rows_at s words) (either b c))
-one_found true c words h e = inl (solve_found words e)
-one_found false true words h e = inr (check_found words e)
-one_found false false words h e = let q : ⊥ = cc in absurd q
+abbrev either : Bool → Bool → Bool → Option Shape
+either b c d = if b then Some solve_leaf else (if c then Some check_leaf else (if d then Some lrat_leaf else None))
+
+one_found : (b c d : Bool) (words : List Text) → is_some (option_map (λ s. rows_at s words) (either b c d)) ≡ true → option_map_or (λ s. level_fault s [] nothing_held words false []) (either b c d) [] ≡ [] → Found (option_map (λ s. rows_at s words) (either b c d))
+one_found true c d words h e = inl (solve_found words e)
+one_found false true d words h e = inr (inl (check_found words e))
+one_found false false true words h e = inr (inr (lrat_found words e))
+one_found false false false words h e = let q : ⊥ = cc in absurd q
 
 stop_found : (o : Option (Text × List Text)) → is_some (entered (built program) o) ≡ true → entered_fault (built program) o ≡ [] → Found (entered (built program) o)
 stop_found None h e = let q : ⊥ = cc in absurd q
-stop_found (Some p) h e = one_found (answers_to p.0 (label_of solve_leaf)) (answers_to p.0 (label_of check_leaf)) p.1 h e
+stop_found (Some p) h e = one_found (answers_to p.0 (label_of solve_leaf)) (answers_to p.0 (label_of check_leaf)) (answers_to p.0 (label_of lrat_leaf)) p.1 h e
 
 wanted : (b : Bool) (rows : List Row) → check_fault above rows b ≡ [] → b ≡ true
 wanted true rows e = refl
@@ -140,17 +157,21 @@ rows_in (Some p) = p.1
 
 -- the words of a command that is found give numbers in range
 pub numbers_found : (words : List Text) (name : Text) (rows : List Row) → fault_of program words ≡ [] → subcommand_of program words ≡ Some (name, rows) → AreUpTo rows
-numbers_found words name rows e found = ⊎_elim (λ f. from _ f) (λ f. from _ f) (faultless_found words e)
+numbers_found words name rows e found = ⊎_elim (λ f. from _ f) (λ k. ⊎_elim (λ f. from _ f) (λ f. from _ f) k) (faultless_found words e)
   where
     from : (n : Text) → IsFound (subcommand_of program words) n → AreUpTo rows
     from n f =
         let same : f.rows ≡ rows = ap rows_in (sym f.command ∙ found) in
         subst AreUpTo same f.numbers
 
--- words without a fault ask for one of both
-pub faultless_asks : (words : List Text) → fault_of program words ≡ [] → ((l : Limits) × AsksFor Solve l words) ⊎ ((l : Limits) × AsksFor Check l words)
+-- what is found asks for a command
+asked : (command : Command) (words : List Text) → fault_of program words ≡ [] → IsFound (subcommand_of program words) (name_of command) → (l : Limits) × AsksFor command l words
+asked command words e f = (limits_in f.rows, (f.proof, first_of (codes "SCRIPT") f.rows, record { taken = e; names = record { rows = f.rows; command = f.command; proof_is = f.proof_is; script_is = refl; limits_are = refl } }))
+
+-- words without a fault ask for one of the three
+pub faultless_asks : (words : List Text) → fault_of program words ≡ [] → ((l : Limits) × AsksFor Solve l words) ⊎ (((l : Limits) × AsksFor Check l words) ⊎ ((l : Limits) × AsksFor Lrat l words))
 faultless_asks words e =
     ⊎_elim
-    (λ f. inl (limits_in f.rows, (f.proof, first_of (codes "SCRIPT") f.rows, record { taken = e; names = record { rows = f.rows; command = f.command; proof_is = f.proof_is; script_is = refl; limits_are = refl } })))
-    (λ f. inr (limits_in f.rows, (f.proof, first_of (codes "SCRIPT") f.rows, record { taken = e; names = record { rows = f.rows; command = f.command; proof_is = f.proof_is; script_is = refl; limits_are = refl } })))
+    (λ f. inl (asked Solve words e f))
+    (λ k. inr (⊎_elim (λ f. inl (asked Check words e f)) (λ f. inr (asked Lrat words e f)) k))
     (faultless_found words e)

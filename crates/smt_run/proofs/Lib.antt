@@ -7,3 +7,4 @@ pub mod OneValue
 pub mod Faultless
 pub mod WordsTaken
 pub mod Cutting
+pub mod Refuted

@@ -12,10 +12,10 @@ use Rattle.clap.proofs.WalkLemmas.{first_value-rows}
 use Rattle.clap.specs.declared.parser.matches.ArgMatches.{ArgMatches}
 use Rattle.clap.specs.declared.parser.matches.ArgMatches.TheViews.{out-ArgMatches}
 use Rattle.smt_run.specs.declared.words.Command.{Command}
-use Rattle.smt_run.specs.declared.words.Command.TheVariants.{Solve, Check}
+use Rattle.smt_run.specs.declared.words.Command.TheVariants.{Solve, Check, Lrat}
 use Rattle.smt_run.proofs.Faultless.{faultless_asks, numbers_found}
 use Rattle.accepted_proof.specs.Searching.{Limits, AreLimits}
-use Rattle.smt_run.specs.Words.{program, Names, name_of, Asks, IsToSolve, IsToSolveWithin, IsToCheck, AreTaken, limits_in, number_or, IsUpTo, AreUpTo}
+use Rattle.smt_run.specs.Words.{program, Names, name_of, Asks, AsksFor, IsToSolve, IsToSolveWithin, IsToCheck, IsToRefute, AreTaken, limits_in, number_or, IsUpTo, AreUpTo}
 
 -- a name and rows
 abbrev Entry : Type 0
@@ -88,10 +88,8 @@ found_same app m words e h = (h (ap is_simple e ∙ simple)).1 ∙ ap (λ a. sub
 pub nothing_asked : (app : App) (m : ArgMatches) (words : List Text) → app ≡ program → HasMatchesOf app words m → ((command : Command) (proof : Text) (script : Option Text) (limits : Limits) → Names (subcommand_rows_of m) (name_of command) proof script limits → ⊥) → AreTaken words → ⊥
 nothing_asked app m words e h none k =
     let found : subcommand_rows_of m ≡ subcommand_of program words = found_same app m words e h in
-    ⊎_elim
-    (λ s. none Solve s.1.0 s.1.1 s.0 (subst (λ o. Names o (name_of Solve) s.1.0 s.1.1 s.0) (sym found) s.1.2.names))
-    (λ s. none Check s.1.0 s.1.1 s.0 (subst (λ o. Names o (name_of Check) s.1.0 s.1.1 s.0) (sym found) s.1.2.names))
-    (faultless_asks words k)
+    let no_one : (command : Command) → ((l : Limits) × AsksFor command l words) → ⊥ = λ command s. none command s.1.0 s.1.1 s.0 (subst (λ o. Names o (name_of command) s.1.0 s.1.1 s.0) (sym found) s.1.2.names) in
+    ⊎_elim (no_one Solve) (⊎_elim (no_one Check) (no_one Lrat)) (faultless_asks words k)
 
 free : is_simple_and_free program ≡ true
 unfolding clap_on_literals
@@ -119,16 +117,25 @@ abbrev name_in : Option Entry → Text
 name_in None = []
 name_in (Some p) = p.0
 
--- the words ask for one of both
+-- the words ask for one command
+same_name : (a b : Command) (words : List Text) → ((l : Limits) × AsksFor a l words) → ((l : Limits) × AsksFor b l words) → get_or (name_of a) 0 0 ≡ get_or (name_of b) 0 0
+same_name a b words s k =
+    let e : name_of a ≡ name_of b = sym (ap name_in s.1.2.names.command) ∙ ap name_in k.1.2.names.command in
+    ap (λ (t : Text). get_or t 0 0) e
+
 pub one_command : (words : List Text) → IsToSolve words → IsToCheck words → ⊥
-one_command words s k =
-    let e : codes "solve" ≡ codes "check" = sym (ap name_in s.1.2.names.command) ∙ ap name_in k.1.2.names.command in
-    let f : 115 ≡ 99 = ap (λ (t : Text). get_or t 0 0) e in
-    omega (arith, f)
+one_command words s k = let f : 115 ≡ 99 = same_name Solve Check words s k in omega (arith, f)
+
+pub solve_or_refute : (words : List Text) → IsToSolve words → IsToRefute words → ⊥
+solve_or_refute words s k = let f : 115 ≡ 108 = same_name Solve Lrat words s k in omega (arith, f)
+
+pub check_or_refute : (words : List Text) → IsToCheck words → IsToRefute words → ⊥
+check_or_refute words s k = let f : 99 ≡ 108 = same_name Check Lrat words s k in omega (arith, f)
 
 pub asks_solve : (k : Command) (words : List Text) (proof : Text) (script : Option Text) (l : Limits) → k ≡ Solve → Asks k words proof script l → IsToSolve words
 asks_solve Solve words proof script l e h = (l, (proof, script, h))
 asks_solve Check words proof script l e h = let z : ⊥ = cc in absurd z
+asks_solve Lrat words proof script l e h = let z : ⊥ = cc in absurd z
 
 -- the words give one pair of limits
 pub same_limits : (k : Command) (words : List Text) (proof : Text) (script : Option Text) (l m : Limits) → k ≡ Solve → Asks k words proof script l → IsToSolveWithin m words → l ≡ m
@@ -139,3 +146,9 @@ same_limits k words proof script l m e h w =
 pub asks_check : (k : Command) (words : List Text) (proof : Text) (script : Option Text) (l : Limits) → k ≡ Check → Asks k words proof script l → IsToCheck words
 asks_check Solve words proof script l e h = let z : ⊥ = cc in absurd z
 asks_check Check words proof script l e h = (l, (proof, script, h))
+asks_check Lrat words proof script l e h = let z : ⊥ = cc in absurd z
+
+pub asks_refute : (k : Command) (words : List Text) (proof : Text) (script : Option Text) (l : Limits) → k ≡ Lrat → Asks k words proof script l → IsToRefute words
+asks_refute Solve words proof script l e h = let z : ⊥ = cc in absurd z
+asks_refute Check words proof script l e h = let z : ⊥ = cc in absurd z
+asks_refute Lrat words proof script l e h = (l, (proof, script, h))

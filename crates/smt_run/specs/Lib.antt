@@ -3,3 +3,4 @@ pub mod Solving
 pub mod Adding
 pub mod Beside
 pub mod Commands
+pub mod Refuting

@@ -1,5 +1,5 @@
--- The words that the program takes, those after its own name: as `clap` takes them for a program of two commands, each with
--- the name of a proof file and perhaps that of a script. The first has two options too, the limits of its search.
+-- The words that the program takes, those after its own name: as `clap` takes them for a program of three commands, each with
+-- the name of a proof file and perhaps that of a script, or of clauses. The first has two options too, the limits of its search.
 use Rattle.std.specs.Prelude.{◌≡◌, ℕ, true, List, [], codes, Option, Some, None}
 use Rattle.std.specs.Str.Parse.{without_leading_plus, digits_value}
 use Rattle.clap.specs.Walk.{Text, Rule, Row, first_of, one_of}
@@ -9,7 +9,7 @@ use Rattle.clap.specs.Faults.{fault_of}
 use Rattle.clap.specs.declared.builder.value_parser.ValueParser.TheVariants.{Unsigned}
 use Rattle.accepted_proof.specs.Searching.{Limits}
 use Rattle.smt_run.specs.declared.words.Command.{Command}
-use Rattle.smt_run.specs.declared.words.Command.TheVariants.{Solve, Check}
+use Rattle.smt_run.specs.declared.words.Command.TheVariants.{Solve, Check, Lrat}
 
 -- ---- the program's command line
 
@@ -46,7 +46,7 @@ bare_program =
     (new_app (codes "smt_tool"))
 
 abbrev pub program : App
-program = with_subcommand (with_subcommand bare_program solve_app.top) (app_named (codes "check")).top
+program = with_subcommand (with_subcommand (with_subcommand bare_program solve_app.top) (app_named (codes "check")).top) (app_named (codes "lrat")).top
 
 -- ---- limits
 
@@ -84,6 +84,7 @@ pub record Names (found : Option (Text × List Row)) (name proof : Text) (script
 abbrev pub name_of : Command → Text
 name_of Solve = codes "solve"
 name_of Check = codes "check"
+name_of Lrat = codes "lrat"
 
 -- the words are taken: there is no fault in them
 abbrev pub AreTaken : List (List ℕ) → Type 0
@@ -106,3 +107,6 @@ IsToSolve words = (limits : Limits) × IsToSolveWithin limits words
 
 abbrev pub IsToCheck : List (List ℕ) → Type 0
 IsToCheck words = (limits : Limits) × AsksFor Check limits words
+
+abbrev pub IsToRefute : List (List ℕ) → Type 0
+IsToRefute words = (limits : Limits) × AsksFor Lrat limits words

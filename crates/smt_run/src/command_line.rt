@@ -24,7 +24,7 @@ const MOST_CUBES: u64 = 10;
 /// The greatest budget of a search.
 const MOST_BUDGET: u64 = 1_000_000_000;
 
-/// A command with the name of a proof file, and perhaps that of a script.
+/// A command with the name of a proof file, and perhaps that of a script or of clauses.
 fn command_of<'a>(alloc: Global, name: &'a str) -> Result<CommandLine<'a>, AllocError>
     ensures app { IfOk result (λ c. app_of c ≡ app_named name.entry.now) }
     ensures local { IfOk result (λ c. (fields_of c).has_globals ≡ false) }
@@ -72,7 +72,11 @@ fn command_line<'a>(alloc: Global) -> Result<CommandLine<'a>, AllocError>
 {
     let solve = solve_command(alloc)?;
     let check = command_of(alloc, "check")?;
-    bare(alloc).subcommand(solve)?.subcommand(check)
+    let lrat = command_of(alloc, "lrat")?;
+    bare(alloc)
+        .subcommand(solve)?
+        .subcommand(check)?
+        .subcommand(lrat)
 }
 
 /// The command of this name.
@@ -82,6 +86,7 @@ fn command_named(name: &str) -> Option<Command>
     match name {
         "solve" => Some(Command::Solve),
         "check" => Some(Command::Check),
+        "lrat" => Some(Command::Lrat),
         _ => None,
     }
 }
@@ -136,7 +141,8 @@ fn refusal(error: &Error) -> Unplanned
 }
 
 /// The plan of the words after the program's name: `solve` with the name of a proof file, perhaps that of a script, and
-/// perhaps limits of its search; or `check` with both files. `clap` reads them.
+/// perhaps limits of its search; `check` with both files; or `lrat` with the name of a refutation and perhaps that of the
+/// clauses. `clap` reads them.
 pub fn plan<'a>(alloc: Global, words: &'a [&'a str]) -> Result<Plan<'a>, Unplanned>
     ensures asked { MatchResult result
         (λ plan. Asks plan.command (map (λ w. w.now) words.now) plan.proof.now

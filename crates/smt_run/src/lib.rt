@@ -2,16 +2,18 @@
 //!
 //! [`command_line::plan`] reads the words by `clap`, and [`running::run`] does what they ask for. The contract of `run` says
 //! that whatever was answered stands beside an accepted proof and is right: each `sat` has a written model, where there is an
-//! `unsat` there is none, an `unknown` has the diary of a cube on which the budget of the words was spent, and models, values,
-//! cores and assumptions that are printed are those of the check that stands. Of a check it says that what is told was judged
-//! of both texts, and that what is accepted is right, whoever wrote it. It says when each status comes, how much of each input
-//! is read, and that a fault is told only where a count rose. The crate stands on `smt_session` for the answers and their
-//! proof, on `smt_check` for the check of a proof, on `proof_checker` and `accepted_proof` for the laws that join them, and on
-//! `smt_text` and `smt_desk`.
+//! `unsat` there is none, an `unknown` has the diary of a cube on which the budget of the words was spent, and models,
+//! values, cores and assumptions that are printed are those of the check that stands. Of a check it says that what is told
+//! was judged of both texts, and that what is accepted is right, whoever wrote it; the same of a refutation of clauses, which
+//! leaves no assignment that makes them all true. It says when each status comes, how much of each input is read, and that a
+//! fault is told only where a count rose. The crate stands on `smt_session` for the answers and their proof, on `smt_check`
+//! for the check of a proof, on `dimacs_run` for that of a refutation, on `proof_checker` and `accepted_proof` for the laws
+//! that join them, and on `smt_text` and `smt_desk`.
 #![tactic(auto)]
 
 mod answering;
 pub mod command_line;
+mod refuting;
 pub mod running;
 mod scripts;
 pub mod words;

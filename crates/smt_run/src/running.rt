@@ -5,15 +5,17 @@ ghost use Rattle.std.specs.Io.KnownBytes.{Appends};
 ghost use Rattle.accepted_proof.specs.Searching.{Limits, AreLimits};
 ghost use Rattle.accepted_proof.specs.Answers.{header_text};
 ghost use Rattle.smt_session.specs.Sessions.{limits_of};
-ghost use Rattle.smt_run.specs.Words.{IsToSolve, IsToSolveWithin, IsToCheck, AreTaken};
+ghost use Rattle.smt_run.specs.Words.{IsToSolve, IsToSolveWithin, IsToCheck, IsToRefute, AreTaken};
 ghost use Rattle.smt_check.specs.Runs.{AddsTo, ReadsBytes, ReadsWithin, IsLater, HasCause, counts, input_limit};
 ghost use Rattle.smt_run.specs.Solving.{BeginsWith, StopsWriting, FailsToRead};
 ghost use Rattle.smt_run.specs.Beside.{Told, IsBeside, IsAllAnswered, IsPrefix, IsAnsweredToRead, IsReadOut};
 ghost use Rattle.smt_run.specs.Commands.{files, stream, IsEnd, IsNoProof, Solves, Checks, AddsToFiles};
+ghost use Rattle.smt_run.specs.Refuting.{Refutes};
 ghost use Rattle.smt_check.specs.Checks.{ReadsForStatus, HasCheckCause, ToldOf, IsEndOfCheck, IsFrontOfCheck, IsRightlyAccepted};
 
 use crate::answering::end_status;
 use crate::command_line::plan;
+use crate::refuting::check_refutation;
 use crate::scripts::answer_script;
 use crate::words::{Command, Unplanned};
 use accepted_proof::{answers_are_right, what_is_printed_is_right};
@@ -151,6 +153,7 @@ fn check_proof<S: Source, P: Source, W: Sink>(
 /// Does what the words ask for. `solve` answers the script on `answers`, each check within the limits that the words give, and
 /// writes its proof to `proof_out`, each check's lines and record before its answer. `check` reads the script and the proof
 /// `proof_in`, and tells on `answers` the verdict of each record as soon as it is accepted, and then what is judged of them.
+/// `lrat` reads clauses in place of a script and then the refutation `proof_in`, and tells what is judged of them.
 pub fn run<S: Source, P: Source, W: Sink, Q: Sink>(
     alloc: Global,
     words: &[&str],
@@ -166,9 +169,10 @@ pub fn run<S: Source, P: Source, W: Sink, Q: Sink>(
     ensures untouched { result ≡ Status.Usage → (script.new ≡ script.old)
         × (proof_in.new ≡ proof_in.old)
         × (answers.new ≡ answers.old) × (proof_out.new ≡ proof_out.old) }
-    // Words that are taken ask for one of the two commands.
+    // Words that are taken ask for one of the three commands.
     ensures asked { AreTaken (map (λ w. w.now) words.now)
-        → IsToSolve (map (λ w. w.now) words.now) ⊎ IsToCheck (map (λ w. w.now) words.now) }
+        → IsToSolve (map (λ w. w.now) words.now)
+        ⊎ (IsToCheck (map (λ w. w.now) words.now) ⊎ IsToRefute (map (λ w. w.now) words.now)) }
 
     // `solve` reads no proof, answers the script, and writes a proof that is accepted.
     ensures solves { (limits : Limits) → IsToSolveWithin limits (map (λ w. w.now) words.now)
@@ -190,6 +194,16 @@ pub fn run<S: Source, P: Source, W: Sink, Q: Sink>(
         (files (stream (S.left script.new) (S.faults script.new))
         (stream (W.written answers.new) (W.faults answers.new))
         (stream (P.left proof_in.new) (P.faults proof_in.new))) }
+    // `lrat` writes no proof, and judges the clauses and the refutation that it reads.
+    ensures refutes { IsToRefute (map (λ w. w.now) words.now)
+        → (proof_out.new ≡ proof_out.old)
+        × Refutes result
+        (files (stream (S.left script.old) (S.faults script.old))
+        (stream (W.written answers.old) (W.faults answers.old))
+        (stream (P.left proof_in.old) (P.faults proof_in.old)))
+        (files (stream (S.left script.new) (S.faults script.new))
+        (stream (W.written answers.new) (W.faults answers.new))
+        (stream (P.left proof_in.new) (P.faults proof_in.new))) }
 
     // Whatever the words ask for, what is written stays, and no count of faults falls.
     ensures stays { AddsToFiles
@@ -205,6 +219,7 @@ pub fn run<S: Source, P: Source, W: Sink, Q: Sink>(
         Ok(plan) => match plan.command {
             Command::Solve => solve(alloc, plan.settings, script, answers, proof_out),
             Command::Check => check_proof(alloc, script, proof_in, answers),
+            Command::Lrat => check_refutation(alloc, script, proof_in, answers),
         },
         Err(Unplanned::Usage) => Status::Usage,
         Err(Unplanned::NoMemory) => Status::NoMemory,

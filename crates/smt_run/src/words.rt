@@ -3,13 +3,15 @@
 use smt_session::settings::Settings;
 use std::alloc::AllocError;
 
-/// What is to be done with a script.
+/// What is to be done.
 #[derive(Clone, Copy, Debug, PartialEq, Eq)]
 pub enum Command {
-    /// To answer it, and to write its proof into a file.
+    /// To answer a script, and to write its proof into a file.
     Solve,
-    /// To check a proof of it, which stands in a file.
+    /// To check a proof of a script, which stands in a file.
     Check,
+    /// To check a refutation of clauses, which stands in a file.
+    Lrat,
 }
 
 #[derive(Clone, Copy, Debug)]
@@ -17,7 +19,7 @@ pub struct Plan<'a> {
     pub command: Command,
     /// The name of the proof file.
     pub proof: &'a str,
-    /// The name of the script's file; without one the script is read from standard input.
+    /// The name of the file of the script, or of the clauses; without one that is read from standard input.
     pub script: Option<&'a str>,
     pub settings: Settings,
 }

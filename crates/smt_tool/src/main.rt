@@ -1,4 +1,5 @@
-//! Answers scripts of SMT-LIB 2.6 over truth values and words, writes the proof of each answer, and checks such proofs.
+//! Answers scripts of SMT-LIB 2.6 over truth values and words, writes the proof of each answer, and checks such proofs, and
+//! refutations of clauses by LRAT.
 //!
 //! The program hands `run` of `smt_run`, which does what its words ask for, the script's file or standard input, standard output
 //! and the proof file, and ends with the number of its status. The tests of sessions, of runs and of checks stand here, each a
@@ -48,14 +49,14 @@ use smt_desk::stream::Source;
 use smt_run::command_line::plan;
 use smt_run::running::run;
 use smt_run::words::Unplanned;
-use std::env;
 use std::io::ErrorKind;
 use std::process::ExitCode;
 use std::rt::Files;
+use std::{env, fs};
 
 // What is told where the words are not taken, and where memory is wanting.
 const USAGE: &str =
-    "usage: smt_tool solve PROOF [SCRIPT] [--cubes 0..10] [--budget 0..1000000000] | check PROOF [SCRIPT]";
+    "usage: smt_tool solve PROOF [SCRIPT] [--cubes 0..10] [--budget 0..1000000000] | check PROOF [SCRIPT] | lrat PROOF [CNF]";
 
 const NO_MEMORY: &str = "smt_tool: memory is wanting";
 
@@ -160,6 +161,9 @@ fn unplanned(why: Unplanned) -> Ending {
 }
 
 fn main(rt: HostRuntime) -> ExitCode {
+    // The numbers of those of the three standard streams that are closed are taken, so that no file of a run gets one of them: a
+    // folder opens, and can be neither read nor written.
+    let taken = [fs::open(&rt, "/"), fs::open(&rt, "/"), fs::open(&rt, "/")];
     let ending = match run_given(&rt) {
         Ok(ending) => ending,
         Err(why) => unplanned(why),
@@ -168,5 +172,6 @@ fn main(rt: HostRuntime) -> ExitCode {
         // Where standard error cannot be written, the status tells it alone.
         let _ = eprintln!(&rt; "{cause}");
     }
+    drop(taken);
     exit_code(ending.status)
 }

@@ -9,13 +9,14 @@ use std::alloc::Global;
 const FIRST: &[u8] =
     b"(declare-const x (_ BitVec 8)) (declare-const y (_ BitVec 8)) (assert (= (bvadd x y) #x0f)) (assert (= (bvand x #xf0) (bvnot #x0f))) (assert (= y #x1f)) (check-sat) (assert (= x y)) (check-sat)\n";
 
-// Terms: x, y, x + y, #x0f, the first equality, #xf0, the conjunction, the negation, the second equality, #x1f, the third.
+// Terms: x, y, x + y, #x0f, the first equality, #xf0, the conjunction, the negation, the second equality, #x1f, the third. The
+// negation is that of a literal, so it becomes #xf0, term 5, and the second equality becomes that of the conjunction with it, term 11.
 const FIRST_CHECK: &[u8] =
-    b"smt_proof 1 cubes 0 budget 100000\nf 0\nf 1\ne 2\ne 3\ne 4\ne 5\ne 6\ne 7\ne 8\ne 9\ne 10\ns 0\ns 1\ns 2\nsat 2\nv 0 #b11110000\nv 1 #b00011111\n";
+    b"smt_proof 1 cubes 0 budget 100000\nf 0\nf 1\ne 2\ne 3\ne 4\ne 5\ne 6\nr 39 7 5\nt = 6 5\ne 11\nr 40 8 11\ne 9\ne 10\ns 0\ns 1\ns 2\nsat 2\nv 0 #b11110000\nv 1 #b00011111\n";
 
 // Behind it the lines of the second check begin: the last equality, and its assertion.
 const SECOND_CHECK: &[u8] =
-    b"smt_proof 1 cubes 0 budget 100000\nf 0\nf 1\ne 2\ne 3\ne 4\ne 5\ne 6\ne 7\ne 8\ne 9\ne 10\ns 0\ns 1\ns 2\nsat 2\nv 0 #b11110000\nv 1 #b00011111\ne 11\ns 3\n";
+    b"smt_proof 1 cubes 0 budget 100000\nf 0\nf 1\ne 2\ne 3\ne 4\ne 5\ne 6\nr 39 7 5\nt = 6 5\ne 11\nr 40 8 11\ne 9\ne 10\ns 0\ns 1\ns 2\nsat 2\nv 0 #b11110000\nv 1 #b00011111\ne 12\ns 3\n";
 
 /// Which calls fail: of the script, of the answers, of the proof.
 type Failing<'a> = [&'a [u64]; 3];
@@ -195,7 +196,7 @@ fn is_front_behind(
 const STREAMS: [(u8, u64, Status); 3] = [
     (0, 195, Status::ReadFault),
     (1, 10, Status::WriteFault),
-    (2, 9, Status::WriteFault),
+    (2, 10, Status::WriteFault),
 ];
 
 #[test]

@@ -9,7 +9,8 @@ use Rattle.smt_run.proofs.Written.{within_none}
 use Rattle.smt_run.proofs.Telling.{told_silent, unbegun_beside, unbegun_prefix}
 use Rattle.smt_run.proofs.Ends.{answered_unless, judged_unless, memory_usage, memory_done, memory_refused, memory_end, memory_long, memory_reads}
 use Rattle.smt_run.proofs.Faultless.{faultless_asks}
-use Rattle.smt_run.proofs.WordsTaken.{asks_solve, asks_check, one_command, same_limits}
+use Rattle.dimacs_run.proofs.Told.{front_none}
+use Rattle.smt_run.proofs.WordsTaken.{asks_solve, asks_check, asks_refute, one_command, solve_or_refute, check_or_refute, same_limits}
 use Rattle.smt_run.proofs.running.run.Goals as goal
 
 pub solve-requires : goal.solve-requires
@@ -52,6 +53,9 @@ returns-in-Solve-clause-solves g c = λ limits w.
 pub returns-in-Solve-clause-checks : goal.returns-in-Solve-clause-checks
 returns-in-Solve-clause-checks g c = λ k. absurd (one_command _ (asks_solve _ _ _ _ _ c.in-Solve.is c.in-Ok.ensures.asked) k)
 
+pub returns-in-Solve-clause-refutes : goal.returns-in-Solve-clause-refutes
+returns-in-Solve-clause-refutes g c = λ k. absurd (solve_or_refute _ (asks_solve _ _ _ _ _ c.in-Solve.is c.in-Ok.ensures.asked) k)
+
 pub returns-in-Solve-clause-stays : goal.returns-in-Solve-clause-stays
 returns-in-Solve-clause-stays g c = record { answers = c.solve.ensures.answers; proof = c.solve.ensures.proof; later = c.solve.ensures.later }
 
@@ -89,6 +93,9 @@ returns-in-Check-clause-checks g c = λ _. (
   },
 )
 
+pub returns-in-Check-clause-refutes : goal.returns-in-Check-clause-refutes
+returns-in-Check-clause-refutes g c = λ k. absurd (check_or_refute _ (asks_check _ _ _ _ _ c.in-Check.is c.in-Ok.ensures.asked) k)
+
 pub returns-in-Check-clause-stays : goal.returns-in-Check-clause-stays
 returns-in-Check-clause-stays g c = record {
   answers = c.check_proof.ensures.answers;
@@ -98,6 +105,49 @@ returns-in-Check-clause-stays g c = record {
 
 pub returns-in-Check-clause-later : goal.returns-in-Check-clause-later
 returns-in-Check-clause-later g c = c.check_proof.ensures.later.proof
+
+-- ---- a refutation was judged
+
+pub returns-in-Lrat-clause-usage : goal.returns-in-Lrat-clause-usage
+returns-in-Lrat-clause-usage g c = λ e. absurd (c.check_refutation.ensures.usage e)
+
+pub returns-in-Lrat-clause-usage_always : goal.returns-in-Lrat-clause-usage_always
+returns-in-Lrat-clause-usage_always g c = λ n. absurd (n (asks_refute _ _ _ _ _ c.in-Lrat.is c.in-Ok.ensures.asked).1.2.taken)
+
+pub returns-in-Lrat-clause-untouched : goal.returns-in-Lrat-clause-untouched
+returns-in-Lrat-clause-untouched g c = λ e. absurd (c.check_refutation.ensures.usage e)
+
+pub returns-in-Lrat-clause-asked : goal.returns-in-Lrat-clause-asked
+returns-in-Lrat-clause-asked g c = λ t. faultless_asks _ t
+
+pub returns-in-Lrat-clause-solves : goal.returns-in-Lrat-clause-solves
+returns-in-Lrat-clause-solves g c = λ limits s. absurd (solve_or_refute _ (limits, s) (asks_refute _ _ _ _ _ c.in-Lrat.is c.in-Ok.ensures.asked))
+
+pub returns-in-Lrat-clause-checks : goal.returns-in-Lrat-clause-checks
+returns-in-Lrat-clause-checks g c = λ k. absurd (check_or_refute _ k (asks_refute _ _ _ _ _ c.in-Lrat.is c.in-Ok.ensures.asked))
+
+pub returns-in-Lrat-clause-refutes : goal.returns-in-Lrat-clause-refutes
+returns-in-Lrat-clause-refutes g c = λ _. (
+  refl,
+  record {
+    judged = c.check_refutation.ensures.ended;
+    accepted = c.check_refutation.ensures.right;
+    front = c.check_refutation.ensures.front;
+    always = λ x y z. judged_unless _ _ _ _ _ _ _ c.check_refutation.ensures.usage c.check_refutation.ensures.read c.check_refutation.ensures.cause x y z;
+    within = c.check_refutation.ensures.read;
+    cause = c.check_refutation.ensures.cause;
+  },
+)
+
+pub returns-in-Lrat-clause-stays : goal.returns-in-Lrat-clause-stays
+returns-in-Lrat-clause-stays g c = record {
+  answers = c.check_refutation.ensures.answers;
+  proof = adds_none _;
+  later = record { script = c.check_refutation.ensures.later.script; answers = c.check_refutation.ensures.later.answers; proof = omega arith };
+}
+
+pub returns-in-Lrat-clause-later : goal.returns-in-Lrat-clause-later
+returns-in-Lrat-clause-later g c = c.check_refutation.ensures.later.proof
 
 -- ---- the words are not taken
 
@@ -118,6 +168,9 @@ returns-in-Err-Usage-clause-solves g c = λ _ s. absurd (c.in-Err-Usage.ensures.
 
 pub returns-in-Err-Usage-clause-checks : goal.returns-in-Err-Usage-clause-checks
 returns-in-Err-Usage-clause-checks g c = λ k. absurd (c.in-Err-Usage.ensures.asked c.in-Err-Usage.field-0-is k.1.2.taken)
+
+pub returns-in-Err-Usage-clause-refutes : goal.returns-in-Err-Usage-clause-refutes
+returns-in-Err-Usage-clause-refutes g c = λ k. absurd (c.in-Err-Usage.ensures.asked c.in-Err-Usage.field-0-is k.1.2.taken)
 
 pub returns-in-Err-Usage-clause-stays : goal.returns-in-Err-Usage-clause-stays
 returns-in-Err-Usage-clause-stays g c = record { answers = adds_none _; proof = adds_none _; later = later_same _ }
@@ -164,6 +217,19 @@ returns-in-Err-NoMemory-clause-checks g c = λ _. (
     accepted = λ e. memory_done _ e;
     refused = λ e. memory_refused _ e;
     front = told_nothing (g.S.Source.left c.args.script.now) (g.P.Source.left c.args.proof_in.now) (g.W.Sink.written c.args.answers.now);
+    always = λ _ _ _. inr (inr refl);
+    within = (within_none _, within_none _);
+    cause = tt;
+  },
+)
+
+pub returns-in-Err-NoMemory-clause-refutes : goal.returns-in-Err-NoMemory-clause-refutes
+returns-in-Err-NoMemory-clause-refutes g c = λ _. (
+  refl,
+  record {
+    judged = λ e. memory_end _ e;
+    accepted = λ e. memory_done _ e;
+    front = front_none (g.S.Source.left c.args.script.now) (g.P.Source.left c.args.proof_in.now) (g.W.Sink.written c.args.answers.now);
     always = λ _ _ _. inr (inr refl);
     within = (within_none _, within_none _);
     cause = tt;

@@ -1,0 +1,15 @@
+use Rattle.std.proofs.Common.{◌<◌, ◌≤◌, ℕ, List, length}
+use Rattle.dimacs_front.specs.Lrat.{lrat_of, lrat_goes_on}
+use Rattle.dimacs_run.proofs.Ways.{UnderWay}
+use Rattle.dimacs_run.proofs.reading.check_refutation.Given as goal
+
+abbrev pub invariant-pieces : goal.invariant-pieces
+invariant-pieces g l =
+    record {
+      room : 0 < length l.buffer;
+      way : UnderWay (λ (text : List ℕ). lrat_of l.fn.cnf text) (λ (more : List ℕ). lrat_goes_on l.checker more) (g.S.Source.left l.fn.source) (g.S.Source.left l.source) l.left;
+      later : g.S.Source.faults l.fn.source ≤ g.S.Source.faults l.source;
+    }
+
+abbrev pub decreases-pieces : goal.decreases-pieces
+decreases-pieces g l = l.left

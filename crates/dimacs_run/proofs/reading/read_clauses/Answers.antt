@@ -1,0 +1,33 @@
+use Rattle.std.proofs.Common.{◌<◌, length, take, arith}
+use Rattle.std.proofs.lemmas.List.{length-take-le}
+use Rattle.dimacs_run.specs.Reads.{HaltsAt, halt_of}
+use Rattle.dimacs_run.proofs.Ways.{way_more, way_read, way_stopped, way_fails, stop_halts, stop_reads}
+use Rattle.dimacs_run.proofs.reading.read_clauses.Goals as goal
+
+pub returns-in-Err-clause-read : goal.returns-in-Err-clause-read
+returns-in-Err-clause-read g c = way_stopped _ _ _ _ _ c.pieces.invariant.way _ _ c.in-Err.ensures.read
+
+pub returns-in-Ok-finish-clause-read : goal.returns-in-Ok-finish-clause-read
+returns-in-Ok-finish-clause-read g c = way_read _ _ _ _ _ c.pieces.invariant.way _ _ c.in-Ok.ensures.read.0 c.in-Ok.ensures.read.1
+
+pub returns-in-Err-finish-clause-read : goal.returns-in-Err-finish-clause-read
+returns-in-Err-finish-clause-read g c = rw c.halted.ensures (stop_reads _ _ _ (way_read _ _ _ _ _ c.pieces.invariant.way _ _ c.in-Ok.ensures.read.0 c.in-Ok.ensures.read.1))
+
+pub returns-in-Err-feed-clause-judged : goal.returns-in-Err-feed-clause-judged
+returns-in-Err-feed-clause-judged g c =
+    rw c.halted-halt.ensures
+    (way_fails _ _ _ _ _ c.pieces.invariant.way _ (take c.in-Ok.size c.read_piece.new.buffer) (λ r. HaltsAt r (halt_of c.in-Err-feed.stop)) c.in-Ok.ensures.bytes
+    (λ more. stop_halts _ _ (c.in-Err-feed.ensures more)))
+
+pub returns-in-Err-feed-clause-read : goal.returns-in-Err-feed-clause-read
+returns-in-Err-feed-clause-read g c = rw c.halted-halt.ensures (stop_reads _ _ _ (way_read _ _ _ _ _ c.pieces.invariant.way _ _ c.in-Ok.ensures.read.0 c.in-Ok.ensures.read.1))
+
+pub pieces-preserved : goal.pieces-preserved
+pieces-preserved g c =
+    let room : 0 < length c.read_piece.new.buffer = omega (arith, c.pieces.invariant.room) in
+    let size = c.in-Ok.ensures in
+    record {
+      room = room;
+      way = way_more _ _ _ _ _ c.pieces.invariant.way _ _ c.in-Ok.size (take c.in-Ok.size c.read_piece.new.buffer) size.read.0 size.bytes (length-take-le c.in-Ok.size c.read_piece.new.buffer size.within) (λ more. c.in-Ok-feed.ensures more);
+      later = omega (arith, c.pieces.invariant.later, c.read_piece.ensures.later);
+    }
