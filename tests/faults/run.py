@@ -14,10 +14,13 @@ folder). Each time:
 - `check`, which has all the memory it wants, accepts a record for each verdict that was answered whole.
 
 Words that are not taken, bytes that are no text among them, give status 2, also where standard error cannot be written.
+Where a standard stream is closed from the start, no file of the run gets its number: closed answers cannot be written, a closed
+script cannot be read, and what is told on a closed standard error goes nowhere.
 
 numbers.py makes one allocation, read or write after the other fail. Neither is a part of the gate.
 """
 
+import os
 import pathlib
 import re
 import resource
@@ -115,6 +118,43 @@ def refused(program, proof, script, folder, full):
         yield None if got == (status, b"", b"smt_tool: " + cause + b"\n") else f"{got} where {cause.decode()}"
 
 
+def run_without(program, words, script, closed):
+    """The status, the answers and what standard error has of a run that starts with a closed stream."""
+    with tempfile.TemporaryFile() as source:
+        source.write(script)
+        source.seek(0)
+        done = subprocess.run(
+            [program, *words], stdin=source, stdout=subprocess.PIPE, stderr=subprocess.PIPE, preexec_fn=lambda: os.close(closed))
+    return done.returncode, done.stdout, done.stderr
+
+
+def closed_streams(program, script, folder):
+    """The faults of runs that start with a closed stream, and their number."""
+    whole, proof = str(folder / "whole"), str(folder / "closed")
+    full = run(program, ["solve", whole], script)
+    written = pathlib.Path(whole).read_bytes()
+    unread = (3, b"", b"smt_tool: the script cannot be read\n")
+    unwritten = (4, b"", b"smt_tool: the answers cannot be written\n")
+    judged = run(program, ["check", whole], script)
+    tried = [
+        (["solve", proof], 0, unread),
+        (["solve", proof], 1, unwritten if full[1] else full),
+        (["solve", proof], 2, (full[0], full[1], b"")),
+        (["check", whole], 0, unread),
+        (["check", whole], 1, unwritten),
+        (["check", whole], 2, (judged[0], judged[1], b"")),
+    ]
+    faults = []
+    for words, closed, wanted in tried:
+        got = run_without(program, words, script, closed)
+        if got != wanted:
+            faults.append(f"{got} of {words[0]} where stream {closed} is closed")
+        held = pathlib.Path(proof).read_bytes() if pathlib.Path(proof).exists() else b""
+        if not written.startswith(held):
+            faults.append(f"stream {closed} is closed, and the proof is no front of the undisturbed one")
+    return faults, len(tried)
+
+
 def not_taken(program):
     """The faults of runs whose words are not taken, and their number."""
     faults, tried = [], [[], ["solve"], ["solve", b"\xff\xfe"], ["check", b"\xff\xfe"]]
@@ -140,6 +180,8 @@ def main(words):
     with tempfile.TemporaryDirectory() as name:
         for number, script in enumerate(scripts()):
             faults, count, short = disturbed(program, script, pathlib.Path(name), least)
+            more, others = closed_streams(program, script, pathlib.Path(name))
+            faults, count = faults + more, count + others
             all_faults, runs, wanted = all_faults + len(faults), runs + count, wanted + short
             for text in faults:
                 print(f"script {number}: {text}")
