@@ -11,7 +11,7 @@ usage: run.py    (reads README.md, docs/ and the sources; no program is run)
 - docs/ARCHITECTURE.md has a row for each crate of crates.txt and of crates/. The second column names crates that it stands on,
   from which the others of crates.txt follow. A row that ends in a file of specs/ names definitions of that file, and those of
   `run`'s contract all have one. The table of files has every file of src/.
-- In the tables of docs/CLAIMS.md, what follows `CALL`: is a clause of that call, by its label or by a definition that it
+- In the tables of docs/CLAIMS.md and docs/CONTRACTS.md, what follows `CALL`: is a clause of that call, by its label or by a definition that it
   names; and `Record.part` is a part of that record.
 - The scripts and the proofs that docs/PROOFS.md goes through are those of examples and of rows, or of the table of
   crates/theory_rows, and the replayer of tests/rows accepts the proofs; a clause that the page names there is the one of the replayed log.
@@ -262,7 +262,7 @@ def faults():
     for document in DOCUMENTS:
         text = (ROOT / document).read_text()
         found = [*check_paths(text), *check_names(text, sources, crates), *check_options(text)]
-        if document == "docs/CLAIMS.md":
+        if document in ("docs/CLAIMS.md", "docs/CONTRACTS.md"):
             found += check_clauses(text, sources)
         if document == "docs/ARCHITECTURE.md":
             found += [*check_rooms(text, crates), *check_files(text, crates), *check_definitions(text)]
