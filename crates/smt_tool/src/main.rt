@@ -32,6 +32,8 @@ mod named_tests;
 #[cfg(test)]
 mod odd_command_tests;
 #[cfg(test)]
+mod refutation_tests;
+#[cfg(test)]
 mod session_tests;
 #[cfg(test)]
 mod term_error_tests;
