@@ -17,31 +17,31 @@ use Rattle.smt_build.specs.Naming.{name_of_assertion}
 use Rattle.smt_build.specs.Names.{SymbolsValue}
 use Rattle.smt_build.specs.Declaring.{Declaration, declare}
 use Rattle.smt_build.specs.Defining.{SortDefinition, FunctionDefinition, define_sort, define}
-use Rattle.script_state.specs.declared.answer.Answer.TheVariants.{Done, Model, Core, Assumptions, Exit}
+use Rattle.script_state.specs.declared.answer.Answer.TheVariants.{Done, Check, Model, Core, Assumptions, Exit}
 use Rattle.script_state.specs.declared.answer.Asked.{Asked}
 use Rattle.script_state.specs.declared.answer.Verdict.{Verdict}
 use Rattle.script_state.specs.declared.answer.Verdict.TheVariants.{Sat, Unsat, Unknown}
 use Rattle.script_state.specs.declared.options.Options.{Options}
 use Rattle.script_state.specs.declared.error_text.ErrorText.{ErrorText}
-use Rattle.script_state.specs.declared.error_text.ErrorText.TheVariants.{NotSupported, UnknownLogic, LevelOutOfRange, NoModel, NoRefutation, OptionOff, NoUnknownAnswer}
+use Rattle.script_state.specs.declared.error_text.ErrorText.TheVariants.{NotSupported, TooManyTerms, UnknownLogic, LevelOutOfRange, NoModel, NoRefutation, OptionOff, NoUnknownAnswer}
 use Rattle.script_state.specs.ErrorTexts.{syntax_error, build_error}
 use Rattle.script_state.specs.Options.{first_options, option_value, with_option}
 use Rattle.script_state.specs.Readings.{Reading}
 use Rattle.script_state.specs.Written.{listed}
-use Rattle.script_state.specs.States.{StateValue}
-use Rattle.script_state.specs.Steps.{Step, refuse, names_logic, choosing, declaring, naming_sort, defining, objection, asserting_unless, asserting, Asking, asking, assuming_by, assuming, assuming_listed, checking, saying, unsupported, is_true_value, setting, setting_option, option_text, telling_option, telling_reason, telling, telling_info, echoing, levels_meant, pushing_by, pushing, popping_by, popping, resetting, modelling_by, modelling, value_objection, valuing_by, valuing_asked, valuing, valuing_listed, refuting_by, refuting, refuting_assumed_by, refuting_assumed, obey, obey_read, step, is_exit, ends_read, ends}
+use Rattle.script_state.specs.States.{StateValue, roots_of, watches_fit}
+use Rattle.script_state.specs.Steps.{Step, refuse, names_logic, choosing, declaring, naming_sort, defining, objection, asserting_unless, asserting, Asking, asking, watching, assuming_by, assuming, assuming_listed, to_check, checking, saying, unsupported, is_true_value, setting, setting_option, option_text, telling_option, telling_reason, telling, telling_info, echoing, levels_meant, pushing_by, pushing, popping_by, popping, resetting, modelling_by, modelling, value_objection, valuing_by, valuing_asked, valuing, valuing_listed, refuting_by, refuting, refuting_assumed_by, refuting_assumed, obey, obey_read, step, is_exit, ends_read, ends}
 
 module _ (s : StateValue) (P : Step → Type 0) where
   -- it holds of a refusal, of a command that changes nothing, and of each change
   pub record Holds : Type 0 where
     pub refused : (e : ErrorText) → P (refuse s e)
     pub kept : P (Done, s)
-    pub checked : P (checking s)
+    pub checked : watches_fit s.terms (roots_of s.scopes.live []) ≡ true → P (Check, to_check s)
     pub declared : (n : CommandName) (es : Sexps) (d : ℕ) (w : SymbolsValue) → declare s.symbols n es ≡ Ok (d, w) → P (declaring s (Ok (d, w)))
     pub named : (n : CommandName) (es : Sexps) (w : SymbolsValue) → define_sort s.symbols n es ≡ Ok w → P (naming_sort s (Ok w))
     pub defined : (n : CommandName) (es : Sexps) (w : SymbolsValue) (terms : TermsValue) → define s.symbols s.terms n es ≡ Ok (w, terms) → P (defining s (Ok (w, terms)))
     pub asserted : (name : Option (List ℕ)) (x : Sexp) (t : ℕ) (v : SymbolsValue) (w : TermsValue) → assertion s.symbols s.terms x ≡ Ok (t, v, w) → objection s.symbols.theories w.nodes t ≡ None → P (asserting_unless None s name t v w)
-    pub assumed : (tokens : List Lexeme) (es : Sexps) (asked : List Asked) (w : TermsValue) → asking (objection s.symbols.theories) s.symbols s.terms tokens [] es ≡ Ok (asked, w) → P (assuming_by s (Ok (asked, w)))
+    pub assumed : (tokens : List Lexeme) (es : Sexps) (asked : List Asked) (w : TermsValue) → asking (objection s.symbols.theories) s.symbols s.terms tokens [] es ≡ Ok (asked, w) → watches_fit w (roots_of s.scopes.live asked) ≡ true → P (assuming_by s (Ok (asked, w)))
     pub said : (x : List ℕ) → P (saying s x)
     pub set : (o : Options) → P (setting s (Some o))
     pub begun : (n : ℕ) (v : ScopesValue) → scopes_pushed s.scopes n ≡ Ok v → P (pushing_by s n (Ok v))
@@ -90,10 +90,22 @@ module _ (s : StateValue) (P : Step → Type 0) where
       go (Ok r) e = by_objection (name_of_assertion x) x r.0 r.1 r.2 e
       go (Err f) e = h.refused (build_error f)
 
+    by_checking : P (checking s)
+    by_checking = go (watches_fit s.terms (roots_of s.scopes.live [])) refl where
+      go : (b : Bool) → watches_fit s.terms (roots_of s.scopes.live []) ≡ b → P (if b then (Check, to_check s) else refuse s TooManyTerms)
+      go true e = h.checked e
+      go false e = h.refused TooManyTerms
+
+    by_watching : (tokens : List Lexeme) (es : Sexps) (r : List Asked × TermsValue) → asking (objection s.symbols.theories) s.symbols s.terms tokens [] es ≡ Ok r → P (assuming_by s (watching s.scopes.live (Ok r)))
+    by_watching tokens es r e = go (watches_fit r.1 (roots_of s.scopes.live r.0)) refl where
+      go : (b : Bool) → watches_fit r.1 (roots_of s.scopes.live r.0) ≡ b → P (assuming_by s (if b then Ok r else Err TooManyTerms))
+      go true k = h.assumed tokens es r.0 r.1 e k
+      go false k = h.refused TooManyTerms
+
     by_assuming : (tokens : List Lexeme) (es : Sexps) → P (assuming s tokens es)
     by_assuming tokens es = go (asking (objection s.symbols.theories) s.symbols s.terms tokens [] es) refl where
-      go : (r : Asking) → asking (objection s.symbols.theories) s.symbols s.terms tokens [] es ≡ r → P (assuming_by s r)
-      go (Ok r) e = h.assumed tokens es r.0 r.1 e
+      go : (r : Asking) → asking (objection s.symbols.theories) s.symbols s.terms tokens [] es ≡ r → P (assuming_by s (watching s.scopes.live r))
+      go (Ok r) e = by_watching tokens es r e
       go (Err f) e = h.refused f
 
     by_setting : (o : Option Options) → P (setting s o)
@@ -226,7 +238,7 @@ module _ (s : StateValue) (P : Step → Type 0) where
     by_command tokens name.Pop es x = by_popping (levels_meant es)
     by_command tokens name.Reset es x = h.emptied first_options
     by_command tokens name.ResetAssertions es x = h.emptied s.options
-    by_command tokens name.CheckSat none x = h.checked
+    by_command tokens name.CheckSat none x = by_checking
     by_command tokens name.CheckSat (more e es) x = h.refused NotSupported
     by_command tokens name.CheckSatAssuming none x = h.refused NotSupported
     by_command tokens name.CheckSatAssuming (more e none) x = by_assuming_listed (listed tokens) e

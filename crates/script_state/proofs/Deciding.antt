@@ -1,5 +1,5 @@
 -- A chunk reads one way, a step makes one assertion at most, and what is known where a command is answered so.
-use Rattle.std.proofs.Common.{◌≡◌, ℕ, ◌+◌, ◌≤◌, true, List, [], length, refl, sym, ap, subst, ◌∙◌, inl, inr, arith, Some, Result, Ok, Err}
+use Rattle.std.proofs.Common.{◌≡◌, ℕ, ◌+◌, ◌≤◌, true, List, [], length, refl, sym, ap, subst, ◌∙◌, inl, inr, arith, leb-true, Some, Result, Ok, Err}
 use Rattle.std.specs.Prelude.{◌↔◌}
 use Rattle.std.proofs.lemmas.Bool.{false≢true}
 use Rattle.smt_text.specs.declared.token.CommandName.{CommandName}
@@ -18,12 +18,12 @@ use Rattle.smt_text.proofs.Spelled.{AreTokens-one, AreTokens-bad}
 use Rattle.smt_syntax.specs.Sexps.{Sexps, group, signs_of}
 use Rattle.smt_syntax.proofs.OneSexp.{spelling-one}
 use Rattle.script_state.specs.declared.answer.Answer.{Answer}
-use Rattle.script_state.specs.declared.answer.Answer.TheVariants.{Refused, Model, Values, Core, Assumptions, Exit}
+use Rattle.script_state.specs.declared.answer.Answer.TheVariants.{Refused, Check, Model, Values, Core, Assumptions, Exit}
 use Rattle.script_state.specs.declared.answer.Asked.{Asked}
 use Rattle.script_state.specs.declared.answer.Verdict.TheVariants.{Sat, Unsat}
 use Rattle.script_state.specs.declared.error_text.ErrorText.{ErrorText}
 use Rattle.script_state.specs.Readings.{Spelled, Reading, ReadsBy, ReadsAs, IsNoList}
-use Rattle.script_state.specs.States.{StateValue, IsState}
+use Rattle.script_state.specs.States.{StateValue, WatchesFit, IsState}
 use Rattle.script_state.specs.Steps.{Step, value_objection, asking, valuing_by, obey, obey_read, step, forgotten, IsAskedValues, is_exit, ends_read, ends}
 use Rattle.script_state.proofs.Cases.{of_step}
 use Rattle.script_state.proofs.Judging.{valued_is}
@@ -69,12 +69,12 @@ pub makes_one : (s : StateValue) (r : Reading) → (step s r).1.scopes.made ≤ 
 makes_one s r = of_step s (MakesOne s) (record {
   refused = λ e. omega arith;
   kept = omega arith;
-  checked = omega arith;
+  checked = λ fit. omega arith;
   declared = λ n es d w k. omega arith;
   named = λ n es w k. omega arith;
   defined = λ n es w t k. omega arith;
   asserted = λ name x t v w k o. omega arith;
-  assumed = λ tokens es asked w k. omega arith;
+  assumed = λ tokens es asked w k fit. omega arith;
   said = λ x. omega arith;
   set = λ o. omega arith;
   begun = λ n v k. omega (arith, ap (λ (u : ScopesValue). u.made) (pushed_is s.scopes v n k).1);
@@ -91,6 +91,7 @@ makes_one s r = of_step s (MakesOne s) (record {
 -- what is known where a command is answered so, of the state before, of what was read, and of the state then
 abbrev Known : StateValue → Reading → StateValue → Answer → Type 0
 Known s r new (Refused e) = new ≡ s
+Known s r new Check = WatchesFit new
 Known s r new Model = (s.standing ≡ Some Sat) × (s.options.produce_models ≡ true)
 Known s r new (Values asked) = (s.standing ≡ Some Sat) × (s.options.produce_models ≡ true) × ((tokens : List Lexeme) × (es : Sexps) × (w : TermsValue) × (asking (value_objection s.symbols.theories) s.symbols s.terms tokens [] es ≡ Ok (asked, w)) × (new ≡ (valuing_by s asked w (Some Sat)).1))
 Known s r new Core = (s.standing ≡ Some Unsat) × (s.options.produce_unsat_cores ≡ true) × (new ≡ s)
@@ -102,12 +103,12 @@ known : (s : StateValue) (r : Reading) → Known s r (step s r).1 (step s r).0
 known s r = of_step s (λ to. Known s r to.1 to.0) (record {
   refused = λ e. refl;
   kept = tt;
-  checked = tt;
+  checked = λ fit. leb-true _ _ fit;
   declared = λ n es d w k. tt;
   named = λ n es w k. tt;
   defined = λ n es w t k. tt;
   asserted = λ name x t v w k o. tt;
-  assumed = λ tokens es asked w k. tt;
+  assumed = λ tokens es asked w k fit. leb-true _ _ fit;
   said = λ x. tt;
   set = λ o. tt;
   begun = λ n v k. tt;
@@ -124,6 +125,10 @@ known_as s r a e = subst (λ (b : Answer). Known s r (step s r).1 b) e (known s 
 
 pub refused_changes_nothing : (s : StateValue) (r : Reading) (e : ErrorText) → (step s r).0 ≡ Refused e → (step s r).1 ≡ s
 refused_changes_nothing s r e h = known_as s r (Refused e) h
+
+-- what a check makes before all else can be made
+pub checks_fit : (s : StateValue) (r : Reading) → (step s r).0 ≡ Check → WatchesFit (step s r).1
+checks_fit s r h = known_as s r Check h
 
 exit_obeyed : (s : StateValue) (tokens : List Lexeme) (n : CommandName) (es : Sexps) → is_exit n ≡ true → (obey s tokens n es).0 ≡ Exit
 unfolding obey

@@ -132,12 +132,12 @@ module _ (s : StateValue) (is : IsState s) where
   step_goes_on r = of_step s Goes (record {
     refused = λ e. record { state = is; keeps = same };
     kept = record { state = is; keeps = same };
-    checked = goes_same _ (fallen_state s is) refl refl refl;
+    checked = λ fit. goes_same _ (fallen_state s is) refl refl refl;
     declared = by_declaring;
     named = by_naming;
     defined = defined_goes_on;
     asserted = asserted_goes_on;
-    assumed = assumed_goes_on;
+    assumed = λ tokens es asked w e fit. assumed_goes_on tokens es asked w e;
     said = λ x. record { state = is; keeps = same };
     set = λ o. goes_same _ (opted_state s o s.standing s.assumed is (are_assumed s is)) refl refl refl;
     begun = by_pushing;

@@ -1,5 +1,5 @@
 -- A state stays one as levels begin and end, and as all of them end.
-use Rattle.std.proofs.Common.{◌≡◌, ℕ, zero, suc, ◌+◌, ◌-◌, ◌<◌, ◌≤◌, Bool, true, false, List, [], ◌∷◌, length, refl, sym, ap, ◌∙◌, arith, leb-true, Option, Some, None, Result, Ok, Err}
+use Rattle.std.proofs.Common.{◌≡◌, ℕ, zero, suc, ◌+◌, ◌-◌, ◌<◌, ◌≤◌, ◌^◌, Bool, true, false, List, [], ◌∷◌, length, refl, sym, ap, ◌∙◌, arith, leb-true, Option, Some, None, Result, Ok, Err}
 use Rattle.std.proofs.lemmas.Option.{slice_get_within}
 use Rattle.std.specs.Prelude.{OnOk, IfErr, nat_le, slice_get, take, if◌then◌else◌}
 use Rattle.std.specs.List.{AllByRecursion}
@@ -9,17 +9,18 @@ use Rattle.std.proofs.lemmas.List.Elements.{All-filter, All-nil, All-take}
 use Rattle.smt_terms.specs.declared.sort.Sort.{Sort}
 use Rattle.smt_terms.specs.declared.sort.Sort.TheVariants as sort
 use Rattle.smt_terms.specs.Nodes.{node_at}
-use Rattle.smt_terms.specs.Terms.{declaration_of, sort_of}
+use Rattle.smt_terms.specs.Terms.{declaration_of, no_terms, sort_of}
 use Rattle.scope_selectors.specs.declared.live.Live.{Live}
 use Rattle.scope_selectors.specs.declared.fault.OutOfRange.{OutOfRange}
-use Rattle.scope_selectors.specs.Scopes.{ScopesValue, AreScopes, most_levels, out_of_range, made_within, pushed, popped, without_assertions}
+use Rattle.scope_selectors.specs.Scopes.{ScopesValue, AreScopes, most_levels, out_of_range, made_within, pushed, popped, without_assertions, no_scopes}
 use Rattle.scope_selectors.proofs.Keeping.{fewer_levels}
 use Rattle.smt_build.specs.declared.symbols.LiveName.{LiveName}
 use Rattle.smt_build.specs.declared.symbols.Level.{Level}
-use Rattle.smt_build.specs.Names.{SymbolsValue, Meanings, emptied, popped_to, popped as symbols_popped}
+use Rattle.smt_build.specs.Names.{SymbolsValue, Meanings, symbols_over, emptied, popped_to, popped as symbols_popped}
 use Rattle.smt_build.proofs.Uses.{bodies_take}
 use Rattle.script_state.specs.declared.answer.Verdict.{Verdict}
 use Rattle.script_state.specs.declared.options.Options.{Options}
+use Rattle.script_state.specs.Options.{first_options}
 use Rattle.script_state.specs.Plain.{is_decided}
 use Rattle.script_state.specs.States.{StateValue, AreLive, IsTaken, IsTakenName, IsState, start_of}
 use Rattle.script_state.proofs.Asserting.{none_assumed, none_decided, none_asked, opted_state}
@@ -195,8 +196,12 @@ emptied_state v o is = record {
 
 -- ---- the first state
 
-pub first_state : (theories : Bool) → IsState (start_of theories)
-first_state theories = record {
+-- with room for so many terms
+abbrev start_within : Bool → ℕ → StateValue
+start_within theories limit = record { symbols = symbols_over theories; terms = no_terms limit; scopes = no_scopes; options = first_options; standing = None; assumed = None }
+
+pub first_state_within : (theories : Bool) (limit : ℕ) → IsState (start_within theories limit)
+first_state_within theories limit = record {
   terms = λ t lt. absurd (omega (arith, lt));
   scopes = record {
     numbered = λ i j d lt within. absurd (omega (arith, within));
@@ -222,3 +227,6 @@ first_state theories = record {
 } where
   none_declared : (t d : ℕ) → declaration_of (node_at [] t).op ≡ Some d → ⊥
   none_declared t d e = cc
+
+pub first_state : (theories : Bool) → IsState (start_of theories)
+first_state theories = first_state_within theories (2 ^ 24)

@@ -21,3 +21,5 @@ pub mod Applying
 pub mod Deciding
 pub mod Words
 pub mod Theories
+pub mod Watching
+pub mod Assuming

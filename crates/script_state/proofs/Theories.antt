@@ -19,12 +19,12 @@ pub theories_stay : (s : StateValue) (r : Reading) → (step s r).1.symbols.theo
 theories_stay s r = of_step s (Stays s) (record {
   refused = λ e. refl;
   kept = refl;
-  checked = refl;
+  checked = λ fit. refl;
   declared = λ n es d w k. declare_theories s.symbols w d n es k;
   named = λ n es w k. sort_theories s.symbols w n es k;
   defined = λ n es w t k. define_theories s.symbols s.terms w t n es k;
   asserted = λ name x t v w k o. ap (λ (u : SymbolsValue). u.theories) (adds_assertion s.symbols v s.terms w x t k).same;
-  assumed = λ tokens es asked w k. refl;
+  assumed = λ tokens es asked w k fit. refl;
   said = λ x. refl;
   set = λ o. refl;
   begun = λ n v k. refl;

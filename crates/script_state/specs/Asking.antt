@@ -2,18 +2,27 @@
 use Rattle.std.specs.Prelude.{◌≡◌, ℕ, Bool, List, [], ◌∷◌, ◌++◌, Option, Result, Ok, Err}
 use Rattle.smt_terms.specs.declared.node.Node.{Node}
 use Rattle.smt_terms.specs.Terms.{TermsValue}
+use Rattle.scope_selectors.specs.Scopes.{ScopesValue}
+use Rattle.smt_build.specs.Names.{SymbolsValue}
 use Rattle.script_state.specs.declared.answer.Asked.{Asked}
 use Rattle.script_state.specs.declared.asked.Purpose.{Purpose}
 use Rattle.script_state.specs.declared.asked.Purpose.TheVariants.{Assume, Evaluate}
 use Rattle.script_state.specs.declared.asked.AskError.{AskError}
 use Rattle.script_state.specs.declared.asked.AskError.TheVariants.{NoMemory, Refused}
 use Rattle.script_state.specs.declared.error_text.ErrorText.{ErrorText}
+use Rattle.script_state.specs.States.{StateValue}
 use Rattle.script_state.specs.Steps.{Asking, objection, value_objection}
 
 -- why a term cannot be asked for
 abbrev pub object_to : Bool → Purpose → List Node → ℕ → Option ErrorText
 object_to theories Assume = objection theories
 object_to theories Evaluate = value_objection theories
+
+-- these are the state's
+pub record AreOf (s : StateValue) (symbols : SymbolsValue) (scopes : ScopesValue) (terms : TermsValue) : Type 0 where
+  pub same_symbols : symbols ≡ s.symbols
+  pub same_scopes : scopes ≡ s.scopes
+  pub same_terms : terms ≡ s.terms
 
 -- The answer is the term that is asked for behind those found before, with the terms then, or the error.
 abbrev pub AsksOne : Asking → List Asked → List ℕ → Result ℕ AskError → TermsValue → Type 0

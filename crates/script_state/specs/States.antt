@@ -1,5 +1,5 @@
 -- The state of a session (SMT-LIB 2.6, section 4.1).
-use Rattle.std.specs.Prelude.{◌≡◌, ℕ, ◌<◌, ◌≤◌, ◌^◌, ◌++◌, Bool, true, false, ◌||◌, List, [], length, map, slice_get, take, All, AllPairs, Option, Some, None}
+use Rattle.std.specs.Prelude.{◌≡◌, ℕ, ◌<◌, ◌≤◌, ◌^◌, ◌++◌, Bool, true, false, ◌||◌, List, [], length, map, nat_le, slice_get, take, All, AllPairs, Option, Some, None}
 use Rattle.std.specs.List.{AllByRecursion}
 use Rattle.smt_terms.specs.declared.sort.Sort.{Sort}
 use Rattle.smt_terms.specs.declared.sort.Sort.TheVariants as sort
@@ -18,6 +18,7 @@ use Rattle.script_state.specs.declared.answer.Verdict.{Verdict}
 use Rattle.script_state.specs.declared.options.Options.{Options}
 use Rattle.script_state.specs.Options.{first_options}
 use Rattle.smt_terms.specs.Ranks as ranks
+use Rattle.array_watches.specs.Needed.{watched}
 use Rattle.script_state.specs.Plain.{is_decided, HavePlain}
 
 -- the names and declarations with their levels, the terms, the live assertions with their levels, the options, the verdict
@@ -39,9 +40,21 @@ all_asked (Some asked) = asked
 abbrev pub assumptions : StateValue → List Asked
 assumptions s = all_asked s.assumed
 
+-- the terms of these assertions, and then those of these assumptions
+abbrev pub roots_of : List Live → List Asked → List ℕ
+roots_of live assumed = map (λ (a : Live). a.term) live ++ map (λ (a : Asked). a.term) assumed
+
 -- the terms that a check is about: those of the live assertions, and then those of the assumptions
 abbrev pub roots : StateValue → List ℕ
-roots s = map (λ (a : Live). a.term) s.scopes.live ++ map (λ (a : Asked). a.term) (assumptions s)
+roots s = roots_of s.scopes.live (assumptions s)
+
+-- the terms, with those that a check of these makes before all else, are no more than may be held
+abbrev pub watches_fit : TermsValue → List ℕ → Bool
+watches_fit terms roots = nat_le (length (watched terms.nodes roots)) terms.limit
+
+-- a check of the state can make the terms that it makes before all else
+abbrev pub WatchesFit : StateValue → Type 0
+WatchesFit s = length (watched s.terms.nodes (roots s)) ≤ s.terms.limit
 
 -- the live names stand for declarations that were made, in the order in which they were
 pub record AreLive (v : SymbolsValue) : Type 0 where

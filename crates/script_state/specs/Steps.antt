@@ -18,6 +18,7 @@ use Rattle.smt_terms.specs.declared.node.Node.{Node}
 use Rattle.smt_terms.specs.Same.{same_sort}
 use Rattle.smt_terms.specs.Terms.{TermsValue, sort_of, cut_at}
 use Rattle.scope_selectors.specs.declared.fault.OutOfRange.{OutOfRange}
+use Rattle.scope_selectors.specs.declared.live.Live.{Live}
 use Rattle.scope_selectors.specs.Scopes.{ScopesValue, asserted, without_assertions, pushed as scopes_pushed, popped as scopes_popped}
 use Rattle.smt_build.specs.Literals.{value_in, decimal_value}
 use Rattle.smt_build.specs.Names.{SymbolsValue, emptied, pushed, popped}
@@ -34,11 +35,11 @@ use Rattle.script_state.specs.declared.answer.Verdict.{Verdict}
 use Rattle.script_state.specs.declared.answer.Verdict.TheVariants as verdict
 use Rattle.script_state.specs.declared.options.Options.{Options}
 use Rattle.script_state.specs.declared.error_text.ErrorText.{ErrorText}
-use Rattle.script_state.specs.declared.error_text.ErrorText.TheVariants.{WrongArguments, NotSupported, UnknownLogic, LevelOutOfRange, NoModel, NoRefutation, OptionOff, NoUnknownAnswer}
+use Rattle.script_state.specs.declared.error_text.ErrorText.TheVariants.{WrongArguments, NotSupported, TooManyTerms, UnknownLogic, LevelOutOfRange, NoModel, NoRefutation, OptionOff, NoUnknownAnswer}
 use Rattle.script_state.specs.ErrorTexts.{syntax_error, build_error}
 use Rattle.script_state.specs.Options.{first_options, option_value, with_option}
 use Rattle.script_state.specs.Plain.{is_decided}
-use Rattle.script_state.specs.States.{StateValue, IsAsked}
+use Rattle.script_state.specs.States.{StateValue, IsAsked, roots_of, watches_fit}
 use Rattle.script_state.specs.Readings.{Reading, ReadsAs}
 use Rattle.script_state.specs.Written.{written, behind, listed}
 
@@ -111,13 +112,18 @@ unfoldable pub asking : (List Node → ℕ → Option ErrorText) → SymbolsValu
 asking object symbols terms tokens found none = Ok (found, terms)
 asking object symbols terms tokens found (more e es) = asking_built object found (written tokens e) (term_of symbols terms e) >>= λ r. asking object symbols r.1 (behind tokens e) r.0 es
 
+-- These are assumed with the assertions, unless the terms that a check of both makes before all else are more than may be held.
+abbrev pub watching : List Live → Asking → Asking
+watching live (Ok r) = if watches_fit r.1 (roots_of live r.0) then Ok r else Err TooManyTerms
+watching live (Err e) = Err e
+
 -- the live assertions are to be checked with these assumptions, and no check stands
 abbrev pub assuming_by : StateValue → Asking → Step
 assuming_by s (Ok r) = (Check, record { symbols = s.symbols; terms = r.1; scopes = s.scopes; options = s.options; standing = None; assumed = Some r.0 })
 assuming_by s (Err e) = refuse s e
 
 abbrev pub assuming : StateValue → List Lexeme → Sexps → Step
-assuming s tokens es = assuming_by s (asking (objection s.symbols.theories) s.symbols s.terms tokens [] es)
+assuming s tokens es = assuming_by s (watching s.scopes.live (asking (objection s.symbols.theories) s.symbols s.terms tokens [] es))
 
 -- the form of the command lets lists alone be
 abbrev pub assuming_listed : StateValue → List Lexeme → Sexp → Step
@@ -125,8 +131,12 @@ assuming_listed s tokens (group es) = assuming s tokens es
 assuming_listed s tokens (atom k x) = refuse s NotSupported
 
 -- the live assertions are to be checked, and no check stands
+abbrev pub to_check : StateValue → StateValue
+to_check s = record { symbols = s.symbols; terms = s.terms; scopes = s.scopes; options = s.options; standing = None; assumed = None }
+
+-- The same, unless the terms that a check makes before all else are more than may be held.
 abbrev pub checking : StateValue → Step
-checking s = (Check, record { symbols = s.symbols; terms = s.terms; scopes = s.scopes; options = s.options; standing = None; assumed = None })
+checking s = if watches_fit s.terms (roots_of s.scopes.live []) then (Check, to_check s) else refuse s TooManyTerms
 
 -- ---- options and information (sections 4.1.7, 4.1.8)
 

@@ -9,14 +9,17 @@ ghost use Rattle.smt_build.specs.Names.{AreBodies, AreDeclared};
 ghost use Rattle.smt_build.specs.Terms.{term_of};
 ghost use Rattle.script_state.specs.declared.answer.Asked.{Asked};
 ghost use Rattle.script_state.specs.Plain.{HavePlain};
-ghost use Rattle.script_state.specs.Steps.{asking_built, asking};
+ghost use Rattle.script_state.specs.States.{StateValue, IsState};
+ghost use Rattle.script_state.specs.Steps.{objection, asking_built, asking, watching};
 ghost use Rattle.script_state.specs.Written.{listed};
-ghost use Rattle.script_state.specs.Asking.{object_to, AsksOne, Asks};
+ghost use Rattle.script_state.specs.Asking.{object_to, AreOf, AsksOne, Asks};
 
 use crate::answer::{Asked, AskedTerms};
 use crate::error_text::{ErrorText, build_error};
 use crate::plain::{objection, value_objection};
+use crate::watches::watches_fit;
 use crate::written::text_of;
+use scope_selectors::scopes::Scopes;
 use smt_build::fault::BuildError;
 use smt_build::symbols::Symbols;
 use smt_syntax::parts::parts;
@@ -187,4 +190,54 @@ pub(crate) fn ask(
         first,
         purpose,
     )
+}
+
+/// The terms in the list at the span, which are to be assumed with the live assertions, if what a check of both makes before
+/// all else can be made. After a fault or for want of memory more terms may be held.
+pub(crate) fn assume(
+    alloc: Global,
+    symbols: &Symbols,
+    scopes: &Scopes,
+    terms: &mut Terms,
+    reached: &mut Reached,
+    marks: &mut Vec<bool>,
+    tokens: &Tokens<'_>,
+    list: Span,
+) -> Result<AskedTerms, AskError>
+    requires state { (s : StateValue) × IsState s
+        × AreOf s symbols.now scopes.now terms.old }
+    requires marks { HavePlain terms.old.nodes marks.old.items }
+    requires stand { (es : Sexps) × Stands (signs_of tokens.now) list (group es) }
+    ensures asks { (es : Sexps) → Stands (signs_of tokens.now) list (group es)
+        → Asks (watching scopes.now.live (asking (objection symbols.now.theories) symbols.now
+        terms.old (listed tokens.now) [] es)) result terms.new }
+    ensures grows { Grows symbols.now.signatures terms.old terms.new }
+    ensures marks { HavePlain terms.new.nodes marks.new.items }
+{
+    let asked = match ask(
+        alloc,
+        symbols,
+        terms,
+        reached,
+        marks,
+        tokens,
+        list,
+        Purpose::Assume,
+    ) {
+        Ok(asked) => asked,
+        Err(error) => return Err(error),
+    };
+    match watches_fit(
+        alloc,
+        symbols.reads_theories(),
+        terms,
+        reached,
+        marks,
+        scopes.live(),
+        asked.as_slice(),
+    ) {
+        Ok(true) => Ok(asked),
+        Ok(false) => Err(AskError::Refused(ErrorText::TooManyTerms)),
+        Err(_) => Err(AskError::NoMemory),
+    }
 }

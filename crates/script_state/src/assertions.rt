@@ -12,10 +12,11 @@ ghost use Rattle.script_state.specs.Written.{listed};
 ghost use Rattle.script_state.specs.Steps.{declaring, naming_sort, defining, asserting, checking, assuming_listed, Answers};
 
 use crate::answer::Answer;
-use crate::asked::{AskError, Purpose, ask};
+use crate::asked::{AskError, assume};
 use crate::error_text::{ErrorText, build_error};
 use crate::plain::{cut, objection};
 use crate::state::State;
+use crate::watches::watches_fit;
 use crate::word::word_at;
 use smt_build::fault::BuildError;
 use smt_build::naming::name_of_assertion;
@@ -163,16 +164,30 @@ impl State {
         }
     }
 
-    /// The live assertions are to be checked, and no check stands.
-    pub(crate) fn check(&mut self) -> Answer
-        ensures { Answers (checking self.old) (Ok result) self.old self.new }
+    /// The live assertions are to be checked, and no check stands, if what the check makes before all else can be made.
+    pub(crate) fn check(&mut self, alloc: Global) -> Result<Answer, AllocError>
+        ensures { Answers (checking self.old) result self.old self.new }
     {
+        let theories = self.symbols.reads_theories();
+        let fit = watches_fit(
+            alloc,
+            theories,
+            &mut self.terms,
+            &mut self.reached,
+            &mut self.plain,
+            self.scopes.live(),
+            &[],
+        )?;
+        if !fit {
+            return Ok(Answer::Refused(ErrorText::TooManyTerms));
+        }
         self.standing = None;
         self.assumed = None;
-        Answer::Check
+        Ok(Answer::Check)
     }
 
-    /// The live assertions are to be checked with the assumptions in the list at the span, and no check stands.
+    /// The live assertions are to be checked with the assumptions in the list at the span, and no check stands, if what the
+    /// check makes before all else can be made.
     pub(crate) fn check_assuming(
         &mut self,
         alloc: Global,
@@ -187,15 +202,15 @@ impl State {
             return Ok(Answer::Refused(ErrorText::NotSupported));
         }
         let len = self.terms.len();
-        match ask(
+        match assume(
             alloc,
             &self.symbols,
+            &self.scopes,
             &mut self.terms,
             &mut self.reached,
             &mut self.plain,
             tokens,
             list,
-            Purpose::Assume,
         ) {
             Ok(asked) => {
                 self.standing = None;

@@ -137,7 +137,7 @@ impl State {
             Command::DefineSort { .. } => self.define_sort(alloc, tokens, command),
             Command::DefineFun { .. } => self.define(alloc, tokens, command),
             Command::Assert { term } => self.assert(alloc, tokens, *term),
-            Command::CheckSat => Ok(self.check()),
+            Command::CheckSat => self.check(alloc),
             Command::SetInfo { .. } => Ok(Answer::Done),
             Command::SetLogic { logic } => Ok(set_logic(tokens, *logic)),
             Command::SetOption { keyword, value } => {

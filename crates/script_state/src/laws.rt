@@ -5,11 +5,11 @@ ghost use Rattle.smt_terms.specs.Terms.{TermsValue, IsTermList};
 ghost use Rattle.smt_text.specs.declared.chunk.Chunk.{Chunk};
 ghost use Rattle.smt_build.specs.Building.{Grows};
 ghost use Rattle.script_state.specs.Readings.{Reading, ReadsAs};
-ghost use Rattle.script_state.specs.declared.answer.Answer.TheVariants.{Refused, Model, Values, Core, Assumptions, Exit};
+ghost use Rattle.script_state.specs.declared.answer.Answer.TheVariants.{Refused, Check, Model, Values, Core, Assumptions, Exit};
 ghost use Rattle.script_state.specs.declared.answer.Asked.{Asked};
 ghost use Rattle.script_state.specs.declared.answer.Verdict.TheVariants.{Sat, Unsat};
 ghost use Rattle.script_state.specs.declared.error_text.ErrorText.{ErrorText};
-ghost use Rattle.script_state.specs.States.{StateValue, RestValue, IsState, Fit};
+ghost use Rattle.script_state.specs.States.{StateValue, RestValue, WatchesFit, IsState, Fit};
 ghost use Rattle.script_state.specs.Steps.{IsAskedValues, step, ends};
 
 /// A chunk reads in one way: as one list of S-expressions, or as one error.
@@ -42,6 +42,11 @@ pub fn steps_keep_theories()
 pub fn more_terms_fit()
     ensures { (old new : TermsValue) (r : RestValue) → Grows r.symbols.signatures old new
         → IsTermList new.nodes → Fit old r → Fit new r }
+{}
+
+/// Where a check is begun, the terms that it makes before all else can be made.
+pub fn watches_of_checks_fit()
+    ensures { (s : StateValue) (r : Reading) → (step s r).0 ≡ Check → WatchesFit (step s r).1 }
 {}
 
 /// The command that ends the run is answered so, and no other.

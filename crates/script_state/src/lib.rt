@@ -10,9 +10,11 @@
 //! once it ends), options and information, `echo`, `get-model`, `get-value`, cores, unsat assumptions and `exit`. A line that
 //! a command says is part of its answer; a model, values, names and assumptions that are to be printed, and `exit`, are
 //! answers of their own, which the session prints and ends by. [`state::State::forget`] forgets the terms whose values were
-//! printed. A state that is made by `with_theories` takes functions with arguments, arrays, and checks of them too.
-//! [`state::State::into_parts`] lends the terms to a log whose steps make terms. The crate stands on `smt_build` and
-//! `scope_selectors`, and on the crates that these stand on.
+//! printed. A state that is made by `with_theories` takes functions with arguments, arrays, and checks of them too. A check
+//! is refused exactly where the terms that it makes before all else, as `array_watches` has it, are more than may be held;
+//! where one is begun they can be made, as the law `watches_of_checks_fit` says. [`state::State::into_parts`] lends the terms
+//! to a log whose steps make terms. The crate stands on `smt_build`, `scope_selectors` and `array_watches`, and on the crates
+//! that these stand on.
 #![tactic(auto)]
 
 pub mod answer;
@@ -36,6 +38,7 @@ pub mod state;
 mod tests;
 #[cfg(test)]
 mod theory_tests;
+mod watches;
 mod whole;
 mod word;
 #[cfg(test)]

@@ -54,7 +54,7 @@ fn is_marked(marks: &[bool], term: TermId) -> bool
 }
 
 /// Whether each term is kept as plain.
-fn are_marked(marks: &[bool], args: &[TermId]) -> bool
+pub(crate) fn are_marked(marks: &[bool], args: &[TermId]) -> bool
     ensures { result ≡ list_all (λ a. slice_index_or marks.now a false) args.now }
 {
     for arg in args {
@@ -75,7 +75,7 @@ fn is_marked_node(marks: &[bool], node: &Node) -> bool
 }
 
 /// Keeps of each term whether it is plain.
-fn extend(marks: &mut Vec<bool>, terms: &Terms) -> Result<(), AllocError>
+pub(crate) fn extend(marks: &mut Vec<bool>, terms: &Terms) -> Result<(), AllocError>
     requires { HavePlain terms.now.nodes marks.old.items }
     ensures marks { HavePlain terms.now.nodes marks.new.items }
     ensures all { OnOk result (length marks.new.items ≡ length terms.now.nodes) }

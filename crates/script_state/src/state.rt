@@ -9,6 +9,7 @@ use crate::answer::{Answer, Asked, AskedTerms, Verdict};
 use crate::error_text::ErrorText;
 use crate::options::Options;
 use crate::plain::cut;
+use crate::watches::roots_of;
 use scope_selectors::live::Live;
 use scope_selectors::scopes::Scopes;
 use smt_build::symbols::{LiveName, Symbols};
@@ -267,13 +268,7 @@ impl State {
         ensures held { IfOk result (λ r. All (λ t. t < length self.now.terms.nodes) r.items) }
         ensures state { IsState self.now }
     {
-        let mut found = Vec::new(alloc);
-        'live: for assertion in self.live() {
-            found.push(assertion.term)?;
-        }
-        'assumed: for assumption in self.assumptions() {
-            found.push(assumption.term)?;
-        }
+        let found = roots_of(alloc, self.live(), self.assumptions())?;
         Ok(found)
     }
 

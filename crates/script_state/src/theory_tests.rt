@@ -2,12 +2,14 @@
 
 use crate::answer::Verdict;
 use crate::error_text::ErrorText;
-use crate::worked::{Seen, Step, Told, walk, walk_theories};
+use crate::worked::{Seen, Step, Told, walk, walk_theories, walk_within};
 use std::test::Fail;
 
 const F: &[u8] = b"(declare-fun f ((_ BitVec 1)) Bool)";
 
 const A: &[u8] = b"(declare-const a (Array (_ BitVec 1) (_ BitVec 1)))";
+
+const B: &[u8] = b"(declare-const b (Array (_ BitVec 1) (_ BitVec 1)))";
 
 #[test]
 fn functions_and_arrays_are_asserted_and_asked(rt: HostRuntime) -> Result<(), Fail> {
@@ -48,4 +50,95 @@ fn functions_and_arrays_are_not_supported_else(rt: HostRuntime) -> Result<(), Fa
             Step::See(Seen::Counts(0, 0, 0)),
         ],
     )
+}
+
+/// With room for so many terms, a check is answered so once a term is asserted, and then so many terms are held.
+struct Room {
+    limit: u32,
+    asserted: &'static [u8],
+    check: &'static [u8],
+    told: Told,
+    terms: u32,
+}
+
+const ROOMS: [Room; 8] = [
+    // The arrays and the equality; then the witness, and a select of each side there.
+    Room {
+        limit: 5,
+        asserted: b"(assert (= a b))",
+        check: b"(check-sat)",
+        told: Told::Refused(ErrorText::TooManyTerms),
+        terms: 3,
+    },
+    Room {
+        limit: 6,
+        asserted: b"(assert (= a b))",
+        check: b"(check-sat)",
+        told: Told::Check,
+        terms: 3,
+    },
+    // An equality that is assumed is watched too, and where that is refused its terms are forgotten.
+    Room {
+        limit: 6,
+        asserted: b"(assert true)",
+        check: b"(check-sat-assuming ((= a b)))",
+        told: Told::Refused(ErrorText::TooManyTerms),
+        terms: 1,
+    },
+    Room {
+        limit: 7,
+        asserted: b"(assert true)",
+        check: b"(check-sat-assuming ((= a b)))",
+        told: Told::Check,
+        terms: 4,
+    },
+    // No equality of arrays is reached, and nothing is made.
+    Room {
+        limit: 5,
+        asserted: b"(assert (= (select a #b0) #b1))",
+        check: b"(check-sat)",
+        told: Told::Check,
+        terms: 5,
+    },
+    Room {
+        limit: 1,
+        asserted: b"(assert true)",
+        check: b"(check-sat)",
+        told: Told::Check,
+        terms: 1,
+    },
+    // Each equality has its own witness.
+    Room {
+        limit: 11,
+        asserted: b"(assert (and (= a b) (not (= b a))))",
+        check: b"(check-sat)",
+        told: Told::Refused(ErrorText::TooManyTerms),
+        terms: 6,
+    },
+    Room {
+        limit: 12,
+        asserted: b"(assert (and (= a b) (not (= b a))))",
+        check: b"(check-sat)",
+        told: Told::Check,
+        terms: 6,
+    },
+];
+
+#[test]
+fn checks_have_room_for_what_they_make_first(rt: HostRuntime) -> Result<(), Fail> {
+    for room in &ROOMS {
+        walk_within(
+            &rt,
+            room.limit,
+            &[
+                Step::Command(A, Told::Done),
+                Step::Command(B, Told::Done),
+                Step::Command(room.asserted, Told::Done),
+                Step::Verdict(Verdict::Sat),
+                Step::Command(room.check, room.told),
+                Step::See(Seen::Counts(2, 1, room.terms)),
+            ],
+        )?;
+    }
+    Ok(())
 }

@@ -1,16 +1,22 @@
 //! Worked sessions: their steps, and whether a state does them. Each test is a table of steps that is walked over one state.
 
+ghost use Rattle.std.specs.Prelude.{◌≤◌, ◌^◌};
+
 use crate::answer::{Answer, Asked, Verdict};
 use crate::error_text::ErrorText;
 use crate::options::Options;
 use crate::state::State;
+use scope_selectors::scopes::Scopes;
+use smt_build::symbols::Symbols;
 use smt_terms::node::TermId;
 use smt_terms::sort::DeclId;
+use smt_terms::terms::Terms;
 use smt_text::chunk::{Chunk, ChunkKind};
 use smt_text::text::Text;
 use std::alloc::{AllocError, Global};
 use std::process::Abort;
 use std::test::Fail;
+use term_reach::Reached;
 
 /// Terms that are asked for, each with its text.
 pub(crate) type AskedRows = &'static [(TermId, &'static [u8])];
@@ -241,6 +247,33 @@ fn walk_from(
 /// A session that begins with nothing does each of the steps.
 pub(crate) fn walk(rt: &(impl Abort + AllocGlobal), steps: &[Step]) -> Result<(), Fail> {
     walk_from(rt, State::new(rt.alloc()), steps)
+}
+
+/// Nothing is declared and nothing asserted, functions and arrays are read, and there is room for so many terms.
+fn state_within(alloc: Global, limit: u32) -> State
+    requires { limit ≤ 2 ^ 24 }
+{
+    State {
+        symbols: Symbols::with_theories(alloc),
+        terms: Terms::with_limit(alloc, limit),
+        scopes: Scopes::new(alloc),
+        options: Options::first(),
+        standing: None,
+        assumed: None,
+        plain: Vec::new(alloc),
+        reached: Reached::new(alloc),
+    }
+}
+
+/// A session that begins with room for so many terms, where functions and arrays are read, does each of the steps.
+pub(crate) fn walk_within(
+    rt: &(impl Abort + AllocGlobal),
+    limit: u32,
+    steps: &[Step],
+) -> Result<(), Fail>
+    requires { limit ≤ 2 ^ 24 }
+{
+    walk_from(rt, state_within(rt.alloc(), limit), steps)
 }
 
 /// The same, where functions and arrays are read.

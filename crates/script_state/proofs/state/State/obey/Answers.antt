@@ -19,7 +19,7 @@ pub returns-in-Assert : goal.returns-in-Assert
 returns-in-Assert c = obeys_assertion _ _ _ _ _ _ _ c.in-Assert.is c.assert.ensures
 
 pub returns-in-CheckSat : goal.returns-in-CheckSat
-returns-in-CheckSat c = obeys_check c.args.self.now _ _ (Ok c.check.result) c.check.new.self _ c.in-CheckSat.is c.check.ensures
+returns-in-CheckSat c = obeys_check _ _ _ _ _ _ c.in-CheckSat.is c.check.ensures
 
 pub returns-in-SetInfo : goal.returns-in-SetInfo
 returns-in-SetInfo c = obeys_info c.args.self.now _ _ (Ok Done) c.args.self.now _ _ _ c.in-SetInfo.is refl
