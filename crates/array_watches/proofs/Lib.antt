@@ -1,0 +1,10 @@
+pub mod Rising
+pub mod Members
+pub mod Reached
+pub mod Growing
+pub mod Sorted
+pub mod Putting
+pub mod Counting
+pub mod Steps
+pub mod Whole
+pub mod Arrayless

@@ -1,0 +1,11 @@
+use Rattle.array_watches.specs.Needed.{filled_at}
+use Rattle.array_watches.proofs.Members.{find_step, find_end}
+use Rattle.array_watches.proofs.indexes.widths_among.Goals as goal
+
+pub loop-term-preserved : goal.loop-term-preserved
+loop-term-preserved c =
+    find_step (filled_at c.args.terms.now.nodes) c.loop-term.found.items c.args.among.now c.loop-term.term-index 0 c.loop-term-test.true c.loop-term.invariant
+    c.width_at.result c.width_at.ensures c.put.new.list.items c.in_ok-put.ensures
+
+pub returns : goal.returns
+returns c = find_end (filled_at c.args.terms.now.nodes) c.loop-term.found.items c.args.among.now c.loop-term.term-index c.loop-term-test.false c.loop-term.invariant

@@ -1,0 +1,4 @@
+pub mod Reaching
+pub mod Needed
+pub mod Making
+pub mod Watched
