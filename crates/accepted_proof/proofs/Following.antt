@@ -1,4 +1,4 @@
--- The lines of turns that may follow have no bad one.
+-- What is judged of one line more, and what states keep on the way.
 use Rattle.std.proofs.Common.{◌≡◌, ℕ, suc, ◌+◌, Bool, true, false, List, [], ◌∷◌, ◌++◌, map, length, flat_map, slice_get, Option, Some, None, refl, sym, ap, ◌∙◌, subst, inl, inr, append_assoc, append-nil}
 use Rattle.std.specs.Prelude.{if◌then◌else◌, All, Contains, IsSome, option_to_list}
 use Rattle.std.specs.List.{AllByRecursion}
@@ -25,6 +25,7 @@ use Rattle.theory_terms.specs.declared.lemma.Lemma.TheVariants as lemma
 use Rattle.proof_log.specs.declared.entry.Entry.{Entry}
 use Rattle.proof_log.specs.declared.entry.Entry.TheVariants as entry
 use Rattle.proof_text.specs.declared.line.Head.{Head}
+use Rattle.proof_text.specs.declared.line.Format.{Format}
 use Rattle.proof_text.specs.declared.line.Line.{Line}
 use Rattle.proof_text.specs.declared.line.Line.TheVariants as line
 use Rattle.proof_text.specs.declared.record.Record.{Record}
@@ -35,14 +36,12 @@ use Rattle.accepted_proof.specs.declared.refusal.Refusal.{Refusal}
 use Rattle.proof_log.specs.declared.diary.DiaryLine.{DiaryLine}
 use Rattle.proof_log.specs.declared.diary.DiaryLine.TheVariants as diary
 use Rattle.proof_log.specs.declared.diary.Diary.{Diary}
-use Rattle.proof_log.specs.Diaries.{Subject, DiaryState, blank, line_after, lines_after, AreLines, IsSpent}
+use Rattle.proof_log.specs.Diaries.{Subject, DiaryState, line_after, lines_after, AreLines}
 use Rattle.proof_log.specs.Diaries as diaries
 use Rattle.script_state.specs.declared.answer.Verdict.TheVariants as verdict
 use Rattle.accepted_proof.specs.Searching.{Limits, IsSearch, IsUnknown, subject_of}
 use Rattle.accepted_proof.specs.Models.{interpretation_of, IsModel, IsOfSignature, IsWrittenModel}
-use Rattle.accepted_proof.specs.Turns.{Turn, AreTurns, AreStepsOf, IsShown, IsAgainstOne, IsRefutation, HasProof, with_step, with_steps, verdict_of, concluded_by, state_after, shown_lines, step_lines, turn_lines}
-use Rattle.accepted_proof.specs.Accepted.{EndLast}
-use Rattle.accepted_proof.proofs.Settling.{settled_by}
+use Rattle.accepted_proof.specs.Turns.{AreStepsOf, IsShown, IsAgainstOne, IsRefutation, with_step, with_steps}
 use Rattle.accepted_proof.specs.Judged.{Owed, Nothing, Steps, Values, Noted, Judging, stepped, valued, noted, closed, owed_by, commanded, is_idle, reach, ending, IsStepOf, StepsBy, Goes, AtStep, IsValueOf, Notes, AtDiary, Moves, Judged}
 
 -- ---- one line more
@@ -121,7 +120,7 @@ same_assumed s [] = refl
 same_assumed s (e ∷ es) = same_assumed (with_step s e) es
 
 -- the state, where this is asserted and this is assumed
-abbrev state_with : StateValue → ScopesValue → Option (List Asked) → StateValue
+abbrev pub state_with : StateValue → ScopesValue → Option (List Asked) → StateValue
 state_with s x a = record { symbols = s.symbols; terms = s.terms; scopes = x; options = s.options; standing = s.standing; assumed = a }
 
 -- what is live and what is assumed are the same
@@ -165,11 +164,11 @@ shown_back Good keeps limits s log steps nodes all (shown.Unknown d) g a h = unk
 
 -- ---- steps
 
-abbrev pub place : Limits → StateValue → List Entry → Owed → ℕ → Judging
-place limits s log o n = record { limits = limits; state = s; log = log; owed = o; line = n }
+abbrev pub place : Format → Limits → StateValue → List Entry → List ℕ → Owed → ℕ → Judging
+place format limits s log deleted o n = record { format = format; limits = limits; state = s; log = log; deleted = deleted; owed = o; line = n }
 
 abbrev is_step : Line → Bool
-is_step (line.Header c b) = false
+is_step (line.Header f c b) = false
 is_step (line.Term h args) = true
 is_step (line.Leaf t) = true
 is_step (line.Encode t) = true
@@ -180,6 +179,7 @@ is_step (line.Equal t u) = true
 is_step (line.Congruence t u) = true
 is_step (line.Witness t) = true
 is_step (line.Accesses a b) = true
+is_step (line.Delete ps) = false
 is_step (line.Sat n) = false
 is_step (line.Value d v) = false
 is_step (line.Unsat p) = false
@@ -206,11 +206,11 @@ entry_steps (entry.Node n) = term_steps (head_of n.op) n.args
 entry_steps (entry.Lemma l) = lemma_steps l
 entry_steps e = refl
 
-line_steps : (e : Entry) (l : Line) → entry_line e ≡ Some l → is_step l ≡ true
+pub line_steps : (e : Entry) (l : Line) → entry_line e ≡ Some l → is_step l ≡ true
 line_steps e l h = ap is_step_in (sym h) ∙ entry_steps e
 
-steps_by : (j : Judging) (l : Line) (k : Judging) → is_step l ≡ true → StepsBy j l k → AtStep j l k
-steps_by j (line.Header c b) k e h = let f : ⊥ = cc in absurd f
+pub steps_by : (j : Judging) (l : Line) (k : Judging) → is_step l ≡ true → StepsBy j l k → AtStep j l k
+steps_by j (line.Header f c b) k e h = let z : ⊥ = cc in absurd z
 steps_by j (line.Term d args) k e h = h
 steps_by j (line.Leaf t) k e h = h
 steps_by j (line.Encode t) k e h = h
@@ -221,6 +221,7 @@ steps_by j (line.Equal t u) k e h = h
 steps_by j (line.Congruence t u) k e h = h
 steps_by j (line.Witness t) k e h = h
 steps_by j (line.Accesses a b) k e h = h
+steps_by j (line.Delete ps) k e h = let f : ⊥ = cc in absurd f
 steps_by j (line.Sat n) k e h = let f : ⊥ = cc in absurd f
 steps_by j (line.Value d v) k e h = let f : ⊥ = cc in absurd f
 steps_by j (line.Unsat p) k e h = let f : ⊥ = cc in absurd f
@@ -233,188 +234,12 @@ abbrev pub lines_before : List (Option Line) → List Line → List (Option Line
 lines_before ls first = map Some first ++ ls
 
 -- a line of a diary is read as one
-diary_moves : (j : Judging) (cube start left : ℕ) (lines : List DiaryLine) (l : DiaryLine) (k : Judging) → Notes j cube start left lines l k → AtDiary j cube start left lines (diary_line l) k
+pub diary_moves : (j : Judging) (cube start left : ℕ) (lines : List DiaryLine) (l : DiaryLine) (k : Judging) → Notes j cube start left lines l k → AtDiary j cube start left lines (diary_line l) k
 diary_moves j cube start left lines (diary.Take p) k h = h
 diary_moves j cube start left lines (diary.Put p) k h = h
 diary_moves j cube start left lines (diary.Drop p) k h = h
 
 -- a line among others stands behind those before it
-line_among : (g : Subject) (s : DiaryState) (xs : List DiaryLine) (l : DiaryLine) (ys : List DiaryLine) → AreLines g s (xs ++ l ∷ ys) → diaries.IsLine g (lines_after g s xs) l
+pub line_among : (g : Subject) (s : DiaryState) (xs : List DiaryLine) (l : DiaryLine) (ys : List DiaryLine) → AreLines g s (xs ++ l ∷ ys) → diaries.IsLine g (lines_after g s xs) l
 line_among g s [] l ys h = h.0
 line_among g s (x ∷ xs) l ys h = line_among g (line_after g s x) xs l ys h.1
-
-module _ (limits : Limits) where
-  -- what is judged of the rest of a proof, wherever it begins
-  abbrev Rest : StateValue → List Entry → List Reading → List (Option Line) → Type 0
-  Rest s log cs ls = (n : ℕ) → Judged (place limits s log Nothing n) cs ls None
-
-  -- ---- models
-
-  values_judged : (left : List LiveName) (more values : List (ℕ × Value)) (s : StateValue) (log : List Entry) (o : Owed) (n : ℕ) (cs : List Reading) (ls : List (Option Line))
-      → map (λ (p : ℕ × Value). p.0) more ≡ map (λ (l : LiveName). l.declaration) left
-      → All (λ (p : ℕ × Value). IsOfSignature p.1 (slice_get s.symbols.signatures p.0)) more
-      → AllByRecursion (λ (p : ℕ × Value). IsSome (written_value p.1)) more
-      → IsModel s (interpretation_of (values ++ more))
-      → ((all : List (ℕ × Value)) → Rest (concluded s (verdict_of (shown.Sat all))) log cs ls)
-      → (k : Judging) × Goes (place limits s log o n) left values k × Judged k cs (lines_before ls (flat_map value_lines more)) None
-  values_judged [] [] values s log o n cs ls e sorted written model rest =
-      (closed (place limits s log o n) (shown.Sat values), inl (subst (λ vs. IsModel s (interpretation_of vs)) (append-nil values) model, refl), rest values (n + 1))
-  values_judged [] (p ∷ more) values s log o n cs ls e sorted written model rest = let f : ⊥ = cc in absurd f
-  values_judged (x ∷ left) [] values s log o n cs ls e sorted written model rest = let f : ⊥ = cc in absurd f
-  values_judged (x ∷ left) (p ∷ more) values s log o n cs ls e sorted written model rest =
-      let d : p.0 ≡ x.declaration = cc in
-      let names : map (λ (p : ℕ × Value). p.0) more ≡ map (λ (l : LiveName). l.declaration) left = cc in
-      let w = some_value (written_value p.1) written.0 in
-      let after = values_judged left more (values ++ p ∷ []) s log (Values x left values) (n + 1) cs ls names
-      (All-tail (λ (p : ℕ × Value). IsOfSignature p.1 (slice_get s.symbols.signatures p.0)) p more sorted) written.1
-      (subst (λ vs. IsModel s (interpretation_of vs)) (sym (append_assoc values (p ∷ []) more)) model) rest in
-      let is_value : IsValueOf s x p.0 w.0 p.1 = record { declaration = d; written = w.1; sorted = All-head (λ (p : ℕ × Value). IsOfSignature p.1 (slice_get s.symbols.signatures p.0)) p more sorted } in
-      let k = valued (place limits s log o n) x left values in (
-        k,
-        refl,
-        subst (λ w. Judged k cs (lines_before ls (map (line.Value p.0) (option_to_list w) ++ flat_map value_lines more)) None) (sym w.1)
-            (judged_line k after.0 cs (Some (line.Value p.0 w.0)) (lines_before ls (flat_map value_lines more)) None refl (inl (p.1, is_value, after.1)) after.2),
-      )
-
-  -- ---- diaries
-
-  -- the lines of a diary that stand behind these
-  notes_judged : (l : DiaryLine) (more lines : List DiaryLine) (s : StateValue) (log : List Entry) (cube start n : ℕ) (cs : List Reading) (ls : List (Option Line))
-      → IsSpent (subject_of limits s s.terms.nodes log cube start) limits.budget (lines ++ l ∷ more) → Rest (concluded s verdict.Unknown) log cs ls
-      → Judged (place limits s log (Noted cube start (length more) lines) n) cs (lines_before ls (map diary_line (l ∷ more))) None
-  notes_judged l [] lines s log cube start n cs ls spent rest =
-      let j = place limits s log (Noted cube start 0 lines) n in
-      let k = closed j (shown.Unknown (record { cube = cube; start = start; lines = lines ++ l ∷ [] })) in
-      judged_line j k cs (Some (diary_line l)) ls None refl (diary_moves j cube start 0 lines l k (inl (spent, refl))) (rest (n + 1))
-  notes_judged l (m ∷ more) lines s log cube start n cs ls spent rest =
-      let g = subject_of limits s s.terms.nodes log cube start in
-      let j = place limits s log (Noted cube start (suc (length more)) lines) n in
-      let k = noted j cube start (length more) (lines ++ l ∷ []) in
-      judged_line j k cs (Some (diary_line l)) (lines_before ls (map diary_line (m ∷ more))) None refl
-      (diary_moves j cube start (suc (length more)) lines l k (inl (line_among g (blank g) lines l (m ∷ more) spent.stand, refl)))
-      (notes_judged m more (lines ++ l ∷ []) s log cube start (n + 1) cs ls (subst (IsSpent g limits.budget) (sym (append_assoc lines (l ∷ []) (m ∷ more))) spent) rest)
-
-  unknown_judged : (cube start : ℕ) (lines : List DiaryLine) (s : StateValue) (log : List Entry) (n : ℕ) (cs : List Reading) (ls : List (Option Line))
-      → IsSearch limits s s.terms.nodes log cube start → IsSpent (subject_of limits s s.terms.nodes log cube start) limits.budget lines → Rest (concluded s verdict.Unknown) log cs ls
-      → Judged (place limits s log Steps n) cs (lines_before ls (record_lines (shown.Unknown (record { cube = cube; start = start; lines = lines })))) None
-  unknown_judged cube start [] s log n cs ls search spent rest = absurd spent.last
-  unknown_judged cube start (l ∷ more) s log n cs ls search spent rest =
-      let j = place limits s log Steps n in
-      judged_line j (noted j cube start (length more) []) cs (Some (line.Unknown cube start (suc (length more)))) (lines_before ls (map diary_line (l ∷ more))) None refl (inl (search, refl))
-      (notes_judged l more [] s log cube start (n + 1) cs ls spent rest)
-
-  -- ---- checks
-
-  record_judged : (r : Record) (s : StateValue) (log : List Entry) (n : ℕ) (cs : List Reading) (ls : List (Option Line))
-      → IsShown limits s s.terms.nodes log r → ((q : Record) → verdict_of q ≡ verdict_of r → Rest (concluded s (verdict_of q)) log cs ls)
-      → Judged (place limits s log Steps n) cs (lines_before ls (record_lines r)) None
-  record_judged (shown.Unsat p) s log n cs ls h rest =
-      judged_line (place limits s log Steps n) (closed (place limits s log Steps n) (shown.Unsat p)) cs (Some (line.Unsat p)) ls None refl (inl (h, refl)) (rest (shown.Unsat p) refl (n + 1))
-  record_judged (shown.Unknown d) s log n cs ls h rest = unknown_judged d.cube d.start d.lines s log n cs ls h.search h.spent (rest (shown.Unknown d) refl)
-  record_judged (shown.Sat values) s log n cs ls h rest =
-      let count : length values ≡ length s.symbols.live = sym (length_mapped (λ (p : ℕ × Value). p.0) values) ∙ ap length h.1.listed ∙ length_mapped (λ (l : LiveName). l.declaration) s.symbols.live in
-      let after = values_judged s.symbols.live values [] s log Steps n cs ls h.1.listed h.1.sorted h.0 h.1.model (λ all. rest (shown.Sat all) refl) in
-      judged_line (place limits s log Steps n) after.0 cs (Some (line.Sat (length values))) (lines_before ls (flat_map value_lines values)) None refl (inl (count, after.1)) after.2
-    where
-      length_mapped : {A B : Type 0} (f : A → B) (xs : List A) → length (map f xs) ≡ length xs
-      length_mapped f [] = refl
-      length_mapped f (x ∷ xs) = ap suc (length_mapped f xs)
-
-  steps_judged : (steps : List Entry) (r : Record) (s : StateValue) (log : List Entry) (n : ℕ) (cs : List Reading) (ls : List (Option Line))
-      → AreStepsOf s log steps → IsShown limits (with_steps s steps) (with_steps s steps).terms.nodes (log ++ steps) r
-      → Rest (concluded (with_steps s steps) (verdict_of r)) (log ++ steps) cs ls
-      → Judged (place limits s log Steps n) cs (lines_before ls (step_lines steps ++ record_lines r)) None
-  steps_judged [] r s log n cs ls a h rest =
-      record_judged r s log n cs ls (subst (λ l. IsShown limits s s.terms.nodes l r) (append-nil log) h)
-      (λ q v. subst (λ w. Rest (concluded s w) log cs ls) (sym v) (subst (λ l. Rest (concluded s (verdict_of r)) l cs ls) (append-nil log) rest))
-  steps_judged (e ∷ es) r s log n cs ls a h rest =
-      let w = some_value (entry_line e) a.2 in
-      let j = place limits s log Steps n in
-      let assoc = sym (append_assoc log (e ∷ []) es) in
-      let after = steps_judged es r (with_step s e) (log ++ e ∷ []) (n + 1) cs ls a.3
-      (subst (λ l. IsShown limits (with_steps s (e ∷ es)) (with_steps s (e ∷ es)).terms.nodes l r) assoc h)
-      (subst (λ l. Rest (concluded (with_steps s (e ∷ es)) (verdict_of r)) l cs ls) assoc rest) in
-      let is_step_of : IsStepOf s log w.0 e = record { written = w.1; script = a.1; valid = a.0 } in
-      subst (λ o. Judged j cs (lines_before ls ((option_to_list o ++ step_lines es) ++ record_lines r)) None) (sym w.1)
-      (judged_line j (stepped j e) cs (Some w.0) (lines_before ls (step_lines es ++ record_lines r)) None refl (steps_by j w.0 (stepped j e) (line_steps e w.0 w.1) (inl (e, is_step_of, refl))) after)
-
-  -- ---- turns
-
-  -- what a proof is from the state behind its steps
-  abbrev ProofOn : Answer → StateValue → List Entry → List Entry → Option Record → Type 0
-  ProofOn answer.Check s log steps None = ⊥
-  ProofOn answer.Check s log steps (Some r) = AreStepsOf s log steps × IsShown limits (with_steps s steps) (with_steps s steps).terms.nodes (log ++ steps) r
-  ProofOn _ s log steps o = (steps ≡ []) × (o ≡ None)
-
-  proof_on : (Good : StateValue → Type 0) → Keeping Good → (a : Answer) (s : StateValue) (log steps : List Entry) (o : Option Record) → Good s → HasProof limits a s log steps o → ProofOn a s log steps o
-  proof_on Good keeps answer.Done s log steps o g h = h
-  proof_on Good keeps (answer.Refused e) s log steps o g h = h
-  proof_on Good keeps (answer.Says text) s log steps o g h = h
-  proof_on Good keeps answer.Model s log steps o g h = h
-  proof_on Good keeps (answer.Values asked) s log steps o g h = h
-  proof_on Good keeps answer.Core s log steps o g h = h
-  proof_on Good keeps answer.Assumptions s log steps o g h = h
-  proof_on Good keeps answer.Exit s log steps o g h = h
-  proof_on Good keeps answer.Check s log steps None g h = h
-  proof_on Good keeps answer.Check s log steps (Some r) g h = (h.0, shown_on Good keeps limits s log steps _ _ r g h.0 h.1)
-
-  good_unchecked : (Good : StateValue → Type 0) (s : StateValue) (steps : List Entry) (o : Option Record) → Good s → (steps ≡ []) × (o ≡ None) → Good (concluded_by (with_steps s steps) o)
-  good_unchecked Good s steps o g h = subst (λ x. Good (concluded_by (with_steps s x) o)) (sym h.0) (subst (λ x. Good (concluded_by s x)) (sym h.1) g)
-
-  good_checked : (Good : StateValue → Type 0) → Keeping Good → (a : Answer) (s : StateValue) (log steps : List Entry) (o : Option Record) → Good s → HasProof limits a s log steps o → Good (concluded_by (with_steps s steps) o)
-  good_checked Good keeps answer.Done s log steps o g h = good_unchecked Good s steps o g h
-  good_checked Good keeps (answer.Refused e) s log steps o g h = good_unchecked Good s steps o g h
-  good_checked Good keeps (answer.Says text) s log steps o g h = good_unchecked Good s steps o g h
-  good_checked Good keeps answer.Model s log steps o g h = good_unchecked Good s steps o g h
-  good_checked Good keeps (answer.Values asked) s log steps o g h = good_unchecked Good s steps o g h
-  good_checked Good keeps answer.Core s log steps o g h = good_unchecked Good s steps o g h
-  good_checked Good keeps answer.Assumptions s log steps o g h = good_unchecked Good s steps o g h
-  good_checked Good keeps answer.Exit s log steps o g h = good_unchecked Good s steps o g h
-  good_checked Good keeps answer.Check s log steps None g h = absurd h
-  good_checked Good keeps answer.Check s log steps (Some r) g h = keeps.ends (with_steps s steps) (verdict_of r) (keeps.steps s log steps g h.0)
-
-  -- once the command is answered
-  pub good_after : (Good : StateValue → Type 0) → Keeping Good → (a : Answer) (old s : StateValue) (log steps : List Entry) (o : Option Record) → Good old → Good s → HasProof limits a s log steps o → Good (settled old a (concluded_by (with_steps s steps) o))
-  good_after Good keeps a old s log steps o b g h = settled_by Good old (concluded_by (with_steps s steps) o) a (λ asked e. b) (good_checked Good keeps a s log steps o g h)
-
-  -- a command that has no proof leaves a state to which its steps and its record add nothing
-  passed : (steps : List Entry) (o : Option Record) (state : List Entry → Option Record → StateValue) (log : List Entry) (n : ℕ) (cs : List Reading) (ls : List (Option Line))
-      → (steps ≡ []) × (o ≡ None) → Rest (state steps o) (log ++ steps) cs ls
-      → Judged (place limits (state [] None) log Nothing n) cs (lines_before ls (step_lines steps ++ shown_lines o)) None
-  passed steps o state log n cs ls h rest =
-      let r0 : Rest (state [] o) (log ++ []) cs ls = subst (λ x. Rest (state x o) (log ++ x) cs ls) h.0 rest in
-      let r1 : Rest (state [] None) (log ++ []) cs ls = subst (λ x. Rest (state [] x) (log ++ []) cs ls) h.1 r0 in
-      let r2 : Rest (state [] None) log cs ls = subst (λ l. Rest (state [] None) l cs ls) (append-nil log) r1 in
-      let j = place limits (state [] None) log Nothing n in
-      subst (λ x. Judged j cs (lines_before ls (step_lines x ++ shown_lines o)) None) (sym h.0)
-      (subst (λ x. Judged j cs (lines_before ls (shown_lines x)) None) (sym h.1) (r2 n))
-
-  turn_judged : (a : Answer) (steps : List Entry) (o : Option Record) (old s : StateValue) (log : List Entry) (n : ℕ) (cs : List Reading) (ls : List (Option Line))
-      → ProofOn a s log steps o → Rest (settled old a (concluded_by (with_steps s steps) o)) (log ++ steps) cs ls
-      → Judged (place limits (settled old a s) log (owed_by a) n) cs (lines_before ls (step_lines steps ++ shown_lines o)) None
-  turn_judged answer.Done steps o old s log n cs ls h rest = passed steps o (λ x r. concluded_by (with_steps s x) r) log n cs ls h rest
-  turn_judged (answer.Refused f) steps o old s log n cs ls h rest = passed steps o (λ x r. concluded_by (with_steps s x) r) log n cs ls h rest
-  turn_judged (answer.Says text) steps o old s log n cs ls h rest = passed steps o (λ x r. concluded_by (with_steps s x) r) log n cs ls h rest
-  turn_judged answer.Model steps o old s log n cs ls h rest = passed steps o (λ x r. concluded_by (with_steps s x) r) log n cs ls h rest
-  turn_judged (answer.Values asked) steps o old s log n cs ls h rest = passed steps o (λ x r. old) log n cs ls h rest
-  turn_judged answer.Core steps o old s log n cs ls h rest = passed steps o (λ x r. concluded_by (with_steps s x) r) log n cs ls h rest
-  turn_judged answer.Assumptions steps o old s log n cs ls h rest = passed steps o (λ x r. concluded_by (with_steps s x) r) log n cs ls h rest
-  turn_judged answer.Exit steps o old s log n cs ls h rest = passed steps o (λ x r. concluded_by (with_steps s x) r) log n cs ls h rest
-  turn_judged answer.Check steps None old s log n cs ls h rest = absurd h
-  turn_judged answer.Check steps (Some r) old s log n cs ls h rest = steps_judged steps r s log n cs ls h.0 h.1 rest
-
-  -- the answer of a turn is that of the step
-  at_command : (s : StateValue) (log : List Entry) (n : ℕ) (says : Reading) (a : Answer) (cs : List Reading) (ls : List (Option Line)) → a ≡ (step s says).0 → (ends says ≡ true → cs ≡ []) → Judged (place limits (settled s a (step s says).1) log (owed_by a) n) cs ls None → Judged (place limits s log Nothing n) (says ∷ cs) ls None
-  at_command s log n says a cs ls e last h = judged_command (place limits s log Nothing n) says cs ls None refl last (subst (λ b. Judged (place limits (settled s b (step s says).1) log (owed_by b) n) cs ls None) e h)
-
-  pub turns_judged : (Good : StateValue → Type 0) → Keeping Good → (ts : List Turn) (s : StateValue) (log : List Entry) (n : ℕ) → Good s → EndLast ts → AreTurns limits s log ts → Judged (place limits s log Nothing n) (map (λ (t : Turn). t.says) ts) (map Some (flat_map turn_lines ts)) None
-  turns_judged Good keeps [] s log n g last h = refl
-  turns_judged Good keeps (t ∷ ts) s log n g last h =
-      let g' = keeps.commands s t.says g in
-      let p = proof_on Good keeps t.answer (step s t.says).1 log t.steps t.shown g' h.0.proof in
-      let gs = good_after Good keeps t.answer s (step s t.says).1 log t.steps t.shown g g' h.0.proof in
-      let rest : Rest (state_after s t) (log ++ t.steps) (map (λ (t : Turn). t.says) ts) (map Some (flat_map turn_lines ts)) = λ m. turns_judged Good keeps ts (state_after s t) (log ++ t.steps) m gs last.1 h.1 in
-      let lines = map Some (flat_map turn_lines ts) in
-      let j = at_command s log n t.says t.answer (map (λ (t : Turn). t.says) ts) (lines_before lines (turn_lines t)) h.0.answer (λ e. ap (map (λ (t : Turn). t.says)) (last.0 e))
-      (turn_judged t.answer t.steps t.shown s (step s t.says).1 log n (map (λ (t : Turn). t.says) ts) lines p rest) in
-      subst (λ ls. Judged (place limits s log Nothing n) (map (λ (t : Turn). t.says) (t ∷ ts)) ls None) (sym (map-append Some (turn_lines t) (flat_map turn_lines ts))) j

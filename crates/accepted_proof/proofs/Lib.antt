@@ -8,6 +8,8 @@ pub mod Reading
 pub mod Settling
 pub mod Once
 pub mod Following
+mod Parting
+pub mod Plain
 pub mod Remaining
 pub mod Completing
 pub mod Beginning

@@ -47,6 +47,8 @@ use Rattle.proof_text.specs.declared.line.Head.{Head}
 use Rattle.proof_text.specs.declared.line.Head.TheVariants as head
 use Rattle.proof_text.specs.declared.line.WrittenValue.{WrittenValue}
 use Rattle.proof_text.specs.declared.line.WrittenValue.TheVariants as written
+use Rattle.proof_text.specs.declared.line.Format.{Format}
+use Rattle.proof_text.specs.declared.line.Format.TheVariants.{One, Two}
 use Rattle.proof_text.specs.declared.line.Line.{Line}
 use Rattle.proof_text.specs.declared.line.Line.TheVariants as line
 use Rattle.proof_text.specs.Entries.{head_of, written_literal, written_hint, written_move, written_start, written_access, lemma_line, entry_line}
@@ -58,7 +60,7 @@ use Rattle.proof_log.specs.declared.diary.DiaryLine.TheVariants as diary
 use Rattle.accepted_proof.specs.Searching.{Limits}
 use Rattle.accepted_proof.specs.Models.{IsOfKind, AreOfKinds, IsRowOf, IsTableOf, IsFunctionOf, IsOfArguments, IsOfSignature}
 use Rattle.accepted_proof.specs.Turns.{IsOfScript}
-use Rattle.accepted_proof.specs.Judged.{Owed, Nothing, Steps, Values, Noted, Over, Judging, stepped, Decides, StepsBy, Goes, Opens, AtStep, AtValue, Notes, AtDiary, MovesBy, reach, judging_from, IsHeader, Judged, JudgedProofFrom}
+use Rattle.accepted_proof.specs.Judged.{Owed, Nothing, Steps, Values, Noted, Over, Judging, stepped, Decides, StepsBy, Deletes, Goes, Opens, AtStep, AtValue, Notes, AtDiary, MovesBy, reach, judging_from, IsHeader, Judged, JudgedProofFrom}
 
 -- ---- steps
 
@@ -409,8 +411,12 @@ opened_once : (j : Judging) (cube start count : ℕ) (k m : Judging) → Opens j
 opened_once j cube start zero k m x y = x ∙ sym y
 opened_once j cube start (suc left) k m x y = decided_once _ _ _ k m x y
 
+deleted_once : (format : Format) (j : Judging) (places : List ℕ) (k m : Judging) → Deletes format j places k → Deletes format j places m → k ≡ m
+deleted_once One j places k m x y = x ∙ sym y
+deleted_once Two j places k m x y = decided_once _ _ _ k m x y
+
 at_step_once : (j : Judging) (l : Line) (k m : Judging) → AtStep j l k → AtStep j l m → k ≡ m
-at_step_once j (line.Header c b) k m x y = x ∙ sym y
+at_step_once j (line.Header f c b) k m x y = x ∙ sym y
 at_step_once j (line.Term h args) k m x y = stepped_once j _ k m x y
 at_step_once j (line.Leaf t) k m x y = stepped_once j _ k m x y
 at_step_once j (line.Encode t) k m x y = stepped_once j _ k m x y
@@ -421,6 +427,7 @@ at_step_once j (line.Equal t u) k m x y = stepped_once j _ k m x y
 at_step_once j (line.Congruence t u) k m x y = stepped_once j _ k m x y
 at_step_once j (line.Witness t) k m x y = stepped_once j _ k m x y
 at_step_once j (line.Accesses a b) k m x y = stepped_once j _ k m x y
+at_step_once j (line.Delete ps) k m x y = deleted_once j.format j ps k m x y
 at_step_once j (line.Sat n) k m x y = begun_once j n k m x y
 at_step_once j (line.Value d w) k m x y = x ∙ sym y
 at_step_once j (line.Unsat p) k m x y = decided_once _ _ _ k m x y
@@ -468,18 +475,27 @@ judged_once (l ∷ ls) j cs o p a b =
     let e = moved_once (reach j cs).0.owed (reach j cs).0 l a.0 b.0 a.1 b.1 in
     judged_once ls b.0 (reach j cs).1 o p (subst (λ k. Judged k (reach j cs).1 ls o) e a.2) b.2
 
--- a header has one pair of limits
-pub same_limits : (l : Option Line) (limits bounds : Limits) → IsHeader l limits → IsHeader l bounds → limits ≡ bounds
-same_limits l limits bounds h k =
-    let e : line.Header limits.cubes limits.budget ≡ line.Header bounds.cubes bounds.budget = same_found l _ _ h.written k.written in
+-- a header has one format and one pair of limits
+pub same_format : (l : Option Line) (f g : Format) (limits bounds : Limits) → IsHeader l f limits → IsHeader l g bounds → f ≡ g
+same_format l f g limits bounds h k =
+    let e : line.Header f limits.cubes limits.budget ≡ line.Header g bounds.cubes bounds.budget = same_found l _ _ h.written k.written in
+    cc
+
+pub same_limits : (l : Option Line) (f g : Format) (limits bounds : Limits) → IsHeader l f limits → IsHeader l g bounds → limits ≡ bounds
+same_limits l f g limits bounds h k =
+    let e : line.Header f limits.cubes limits.budget ≡ line.Header g bounds.cubes bounds.budget = same_found l _ _ h.written k.written in
     let c : limits.cubes ≡ bounds.cubes = cc in
     let b : limits.budget ≡ bounds.budget = cc in
     (λ i. record { cubes = c i; budget = b i })
 
+-- so it is judged from one place on
+pub same_start : (start : StateValue) (l : Option Line) (f g : Format) (limits bounds : Limits) → IsHeader l f limits → IsHeader l g bounds → judging_from start f limits ≡ judging_from start g bounds
+same_start start l f g limits bounds h k = ap₂ (judging_from start) (same_format l f g limits bounds h k) (same_limits l f g limits bounds h k)
+
 -- the same of whole proofs
 pub proof_judged_once : (start : StateValue) (cs : List Reading) (ls : List (Option Line)) (o p : Option Refusal) → JudgedProofFrom start cs ls o → JudgedProofFrom start cs ls p → o ≡ p
 proof_judged_once start cs [] o p a b = a ∙ sym b
-proof_judged_once start cs (l ∷ ls) o p (inl x) (inl y) = judged_once ls (judging_from start y.0) cs o p (subst (λ v. Judged (judging_from start v) cs ls o) (same_limits l x.0 y.0 x.1 y.1) x.2) y.2
-proof_judged_once start cs (l ∷ ls) o p (inl x) (inr y) = absurd (y.0 x.0 x.1)
-proof_judged_once start cs (l ∷ ls) o p (inr x) (inl y) = absurd (x.0 y.0 y.1)
+proof_judged_once start cs (l ∷ ls) o p (inl x) (inl y) = judged_once ls (judging_from start y.0 y.1) cs o p (subst (λ v. Judged v cs ls o) (same_start start l x.0 y.0 x.1 y.1 x.2 y.2) x.3) y.3
+proof_judged_once start cs (l ∷ ls) o p (inl x) (inr y) = absurd (y.0 x.0 x.1 x.2)
+proof_judged_once start cs (l ∷ ls) o p (inr x) (inl y) = absurd (x.0 y.0 y.1 y.2)
 proof_judged_once start cs (l ∷ ls) o p (inr x) (inr y) = x.1 ∙ sym y.1

@@ -74,12 +74,12 @@ falls : (s : StateValue) (r : Reading) → Falls s (step s r)
 falls s r = of_step s (Falls s) (record {
   refused = λ e. record { check = inr (same_as s); answered = tt };
   kept = record { check = inr (same_as s); answered = tt };
-  checked = record { check = inl refl; answered = tt };
+  checked = λ fit. record { check = inl refl; answered = tt };
   declared = λ n es d w e. record { check = inl refl; answered = tt };
   named = λ n es w e. record { check = inl refl; answered = tt };
   defined = λ n es w t e. record { check = inl refl; answered = tt };
   asserted = λ name x t v w e o. record { check = inl refl; answered = tt };
-  assumed = λ tokens es asked w e. record { check = inl refl; answered = tt };
+  assumed = λ tokens es asked w e fit. record { check = inl refl; answered = tt };
   said = λ x. record { check = inr (same_as s); answered = tt };
   set = λ o. record { check = inr (record { symbols = refl; terms = refl; scopes = refl; assumed = refl; standing = refl }); answered = tt };
   begun = λ n v e. record { check = inl refl; answered = tt };

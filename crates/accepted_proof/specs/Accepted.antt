@@ -8,8 +8,9 @@ use Rattle.script_state.specs.Readings.{Reading, ReadsAs}
 use Rattle.script_state.specs.States.{StateValue, no_state}
 use Rattle.script_state.specs.Steps.{ends}
 use Rattle.accepted_proof.specs.Searching.{Limits, AreLimits}
-use Rattle.accepted_proof.specs.Turns.{Turn, AreTurns}
-use Rattle.accepted_proof.specs.Answers.{answers_of, is_refused, proof_of}
+use Rattle.proof_text.specs.declared.line.Format.{Format}
+use Rattle.accepted_proof.specs.Turns.{Turn, Part, AreTurns, AreParts, turn_of}
+use Rattle.accepted_proof.specs.Answers.{answers_of, is_refused, proof_of, written_of}
 
 -- each chunk is the command of a turn
 abbrev pub AreRead : List Chunk → List Turn → Type 0
@@ -39,16 +40,19 @@ has_ended turns = list_any (λ (t : Turn). ends t.says) turns
 abbrev pub AreAll : List ℕ → List Chunk → List Turn → Type 0
 AreAll script chunks turns = AreChunks script chunks ⊎ ((has_ended turns ≡ true) × IsFront script chunks)
 
--- The proof is one of the script, whose commands are obeyed from this state on: its header, and for each check the lines of
--- valid steps and of a record, and nothing more.
+-- The proof is one of the script, whose commands are obeyed from this state on, in either format: its header, and for each check
+-- the lines of valid steps, between which the second format may delete places, and of a record, and nothing more.
 pub record AcceptedFrom (start : StateValue) (limits : Limits) (script proof : List ℕ) (turns : List Turn) : Type 0 where
   pub allowed : AreLimits limits
   pub chunks : List Chunk
   pub cut : AreAll script chunks turns
   pub read : AreRead chunks turns
   pub last : EndLast turns
-  pub run : AreTurns limits start [] turns
-  pub lines : proof ≡ proof_of limits turns
+  pub format : Format
+  pub parts : List Part
+  pub turns_are : map turn_of parts ≡ turns
+  pub run : AreParts format limits start [] [] parts
+  pub lines : proof ≡ written_of format limits parts
 
 -- the same of a script that begins where nothing is declared, and neither functions with arguments nor arrays are read
 abbrev pub Accepted : Limits → List ℕ → List ℕ → List Turn → Type 0
@@ -63,8 +67,11 @@ pub record AcceptedSoFarFrom (start : StateValue) (limits : Limits) (script proo
   pub front : IsFront script chunks
   pub read : AreRead chunks turns
   pub last : EndLast turns
-  pub run : AreTurns limits start [] turns
-  pub lines : proof ≡ proof_of limits turns ++ rest
+  pub format : Format
+  pub parts : List Part
+  pub turns_are : map turn_of parts ≡ turns
+  pub run : AreParts format limits start [] [] parts
+  pub lines : proof ≡ written_of format limits parts ++ rest
 
 abbrev pub AcceptedSoFar : Limits → List ℕ → List ℕ → List Turn → Type 0
 AcceptedSoFar limits script proof turns = AcceptedSoFarFrom no_state limits script proof turns
@@ -97,9 +104,11 @@ pub record StandsBeside (limits : Limits) (script answers proof : List ℕ) : Ty
   pub texts : answers ≡ answers_of turns ++ begun
   pub unfinished : (begun ≡ []) ⊎ IsBegun limits script chunks turns begun
 
--- the answers are those to the whole script, and the proof is accepted
+-- the answers are those to the whole script, and the proof is accepted, and of the first format
 pub record IsWhole (limits : Limits) (script answers proof : List ℕ) (turns : List Turn) : Type 0 where
   pub accepted : Accepted limits script proof turns
+  pub run : AreTurns limits no_state [] turns
+  pub lines : proof ≡ proof_of limits turns
   pub texts : answers ≡ answers_of turns
 
 -- whether an error is among the answers

@@ -14,10 +14,13 @@ use Rattle.proof_log.specs.declared.entry.Entry.{Entry}
 use Rattle.proof_log.specs.declared.diary.DiaryLine.{DiaryLine}
 use Rattle.proof_log.specs.declared.diary.DiaryLine.TheVariants as diary
 use Rattle.proof_log.specs.Logs.{state_of}
-use Rattle.proof_log.specs.Diaries.{Subject, blank, lines_after, IsSpent}
+use Rattle.proof_log.specs.Diaries.{Subject, lines_after}
 use Rattle.proof_log.specs.Diaries as diaries
 use Rattle.proof_log.specs.Faults.{IsValid}
 use Rattle.proof_text.specs.declared.line.WrittenValue.{WrittenValue}
+use Rattle.proof_text.specs.declared.line.Format.{Format}
+use Rattle.proof_text.specs.declared.line.Format.TheVariants.{One, Two}
+use Rattle.proof_text.specs.Deletions.{AreDeletable, IsSpentWithout, blank_without, cites, place_of, is_deleted}
 use Rattle.proof_text.specs.declared.line.Line.{Line}
 use Rattle.proof_text.specs.declared.line.Line.TheVariants as line
 use Rattle.proof_text.specs.Lines.{IsLine}
@@ -44,39 +47,46 @@ pub data Owed : Type 0 where
   Noted : (cube start left : ℕ) (lines : List DiaryLine) → Owed
   Over : (refusal : Refusal) → Owed
 
--- the limits of the header, the state of the commands, the log, what is owed, and the number of the line that is read next
+-- the format and the limits of the header, the state of the commands, the log, the places that are deleted, what is owed, and the
+-- number of the line that is read next
 pub record Judging : Type 0 where
+  pub format : Format
   pub limits : Limits
   pub state : StateValue
   pub log : List Entry
+  pub deleted : List ℕ
   pub owed : Owed
   pub line : ℕ
 
 -- behind the header, which is line 1, where the commands are obeyed from this state on
-abbrev pub judging_from : StateValue → Limits → Judging
-judging_from start limits = record { limits = limits; state = start; log = []; owed = Nothing; line = 2 }
+abbrev pub judging_from : StateValue → Format → Limits → Judging
+judging_from start format limits = record { format = format; limits = limits; state = start; log = []; deleted = []; owed = Nothing; line = 2 }
 
-abbrev pub no_judging : Limits → Judging
-no_judging limits = judging_from no_state limits
+abbrev pub no_judging : Format → Limits → Judging
+no_judging format limits = judging_from no_state format limits
 
 -- ---- where it goes
 
 -- the line is refused by this rule
 abbrev pub refused : Judging → RuleName → Judging
-refused j r = record { limits = j.limits; state = j.state; log = j.log; owed = Over (record { line = j.line; rule = r }); line = j.line }
+refused j r = record { format = j.format; limits = j.limits; state = j.state; log = j.log; deleted = j.deleted; owed = Over (record { line = j.line; rule = r }); line = j.line }
 
 abbrev pub stepped : Judging → Entry → Judging
-stepped j e = record { limits = j.limits; state = with_step j.state e; log = j.log ++ e ∷ []; owed = Steps; line = j.line + 1 }
+stepped j e = record { format = j.format; limits = j.limits; state = with_step j.state e; log = j.log ++ e ∷ []; deleted = j.deleted; owed = Steps; line = j.line + 1 }
+
+-- these places are deleted
+abbrev pub deleting : Judging → List ℕ → Judging
+deleting j places = record { format = j.format; limits = j.limits; state = j.state; log = j.log; deleted = j.deleted ++ places; owed = Steps; line = j.line + 1 }
 
 abbrev pub valued : Judging → LiveName → List LiveName → List (ℕ × Value) → Judging
-valued j next left values = record { limits = j.limits; state = j.state; log = j.log; owed = Values next left values; line = j.line + 1 }
+valued j next left values = record { format = j.format; limits = j.limits; state = j.state; log = j.log; deleted = j.deleted; owed = Values next left values; line = j.line + 1 }
 
 abbrev pub noted : Judging → ℕ → ℕ → ℕ → List DiaryLine → Judging
-noted j cube start left lines = record { limits = j.limits; state = j.state; log = j.log; owed = Noted cube start left lines; line = j.line + 1 }
+noted j cube start left lines = record { format = j.format; limits = j.limits; state = j.state; log = j.log; deleted = j.deleted; owed = Noted cube start left lines; line = j.line + 1 }
 
 -- the check ends with this record
 abbrev pub closed : Judging → Record → Judging
-closed j r = record { limits = j.limits; state = concluded j.state (verdict_of r); log = j.log; owed = Nothing; line = j.line + 1 }
+closed j r = record { format = j.format; limits = j.limits; state = concluded j.state (verdict_of r); log = j.log; deleted = j.deleted; owed = Nothing; line = j.line + 1 }
 
 abbrev pub owed_by : Answer → Owed
 owed_by answer.Check = Steps
@@ -84,7 +94,7 @@ owed_by _ = Nothing
 
 -- a command that is refused is passed over, and a check owes its steps and its record
 abbrev pub commanded : Judging → Reading → Judging
-commanded j says = record { limits = j.limits; state = settled j.state (step j.state says).0 (step j.state says).1; log = j.log; owed = owed_by (step j.state says).0; line = j.line }
+commanded j says = record { format = j.format; limits = j.limits; state = settled j.state (step j.state says).0 (step j.state says).1; log = j.log; deleted = j.deleted; owed = owed_by (step j.state says).0; line = j.line }
 
 -- ---- lines
 
@@ -106,14 +116,20 @@ rule_of (line.Witness t) = rule.Lemma
 rule_of (line.Accesses a b) = rule.Lemma
 rule_of _ = rule.Line
 
--- the line is that of a step which is valid here
-pub record IsStepOf (s : StateValue) (log : List Entry) (l : Line) (e : Entry) : Type 0 where
+-- the line is that of a step which is valid here, and cites none of the places that are deleted
+pub record IsStepOf (s : StateValue) (log : List Entry) (deleted : List ℕ) (l : Line) (e : Entry) : Type 0 where
   pub written : entry_line e ≡ Some l
   pub script : IsOfScript s e
   pub valid : IsValid s.terms (state_of s.terms.nodes log) e
+  pub left : cites deleted e ≡ false
 
 abbrev pub StepsBy : Judging → Line → Judging → Type 0
-StepsBy j l k = ((e : Entry) × IsStepOf j.state j.log l e × (k ≡ stepped j e)) ⊎ (((e : Entry) → IsStepOf j.state j.log l e → ⊥) × (k ≡ refused j (rule_of l)))
+StepsBy j l k = ((e : Entry) × IsStepOf j.state j.log j.deleted l e × (k ≡ stepped j e)) ⊎ (((e : Entry) → IsStepOf j.state j.log j.deleted l e → ⊥) × (k ≡ refused j (rule_of l)))
+
+-- the places are deleted, which the first format cannot say
+abbrev pub Deletes : Format → Judging → List ℕ → Judging → Type 0
+Deletes One j places k = k ≡ refused j rule.Line
+Deletes Two j places k = Decides (AreDeletable j.log j.deleted places) (deleting j places) (refused j rule.Delete) k
 
 -- the next value is owed, or all are there, and then each live assertion and each assumption has to be true under them
 abbrev pub Goes : Judging → List LiveName → List (ℕ × Value) → Judging → Type 0
@@ -127,7 +143,7 @@ Opens j cube start (suc left) k = Decides (IsSearch j.limits j.state j.state.ter
 
 -- a line of a check, before its record's end
 abbrev pub AtStep : Judging → Line → Judging → Type 0
-AtStep j (line.Header cubes budget) k = k ≡ refused j rule.Line
+AtStep j (line.Header format cubes budget) k = k ≡ refused j rule.Line
 AtStep j (line.Term head args) k = StepsBy j (line.Term head args) k
 AtStep j (line.Leaf t) k = StepsBy j (line.Leaf t) k
 AtStep j (line.Encode t) k = StepsBy j (line.Encode t) k
@@ -138,9 +154,10 @@ AtStep j (line.Equal t u) k = StepsBy j (line.Equal t u) k
 AtStep j (line.Congruence t u) k = StepsBy j (line.Congruence t u) k
 AtStep j (line.Witness t) k = StepsBy j (line.Witness t) k
 AtStep j (line.Accesses a b) k = StepsBy j (line.Accesses a b) k
+AtStep j (line.Delete places) k = Deletes j.format j places k
 AtStep j (line.Sat count) k = ((count ≡ length j.state.symbols.live) × Goes j j.state.symbols.live [] k) ⊎ ((count ≡ length j.state.symbols.live → ⊥) × (k ≡ refused j rule.Sat))
 AtStep j (line.Value d w) k = k ≡ refused j rule.Line
-AtStep j (line.Unsat p) k = Decides (IsRefutation j.state j.state.terms.nodes j.log p) (closed j (shown.Unsat p)) (refused j rule.Unsat) k
+AtStep j (line.Unsat p) k = Decides ((is_deleted j.deleted p ≡ false) × IsRefutation j.state j.state.terms.nodes j.log p) (closed j (shown.Unsat p)) (refused j rule.Unsat) k
 AtStep j (line.Unknown cube start count) k = Opens j cube start count k
 AtStep j (line.Take p) k = k ≡ refused j rule.Line
 AtStep j (line.Put p) k = k ≡ refused j rule.Line
@@ -161,12 +178,17 @@ AtValue j next left values _ k = k ≡ refused j rule.Line
 abbrev pub subject_at : Judging → ℕ → ℕ → Subject
 subject_at j cube start = subject_of j.limits j.state j.state.terms.nodes j.log cube start
 
+-- the line may stand behind these in a diary, which names no deleted place
+abbrev pub MayStand : Judging → ℕ → ℕ → List DiaryLine → DiaryLine → Type 0
+MayStand j cube start lines l =
+    (is_deleted j.deleted (place_of l) ≡ false) × diaries.IsLine (subject_at j cube start) (lines_after (subject_at j cube start) (blank_without (is_deleted j.deleted) (subject_at j cube start)) lines) l
+
 -- one more line of a diary, which stands behind the others; with the last of them the budget is spent
 abbrev pub Notes : Judging → ℕ → ℕ → ℕ → List DiaryLine → DiaryLine → Judging → Type 0
 Notes j cube start zero lines l k =
-    Decides (IsSpent (subject_at j cube start) j.limits.budget (lines ++ l ∷ [])) (closed j (shown.Unknown (record { cube = cube; start = start; lines = lines ++ l ∷ [] }))) (refused j rule.Diary) k
+    Decides (IsSpentWithout j.deleted (subject_at j cube start) j.limits.budget (lines ++ l ∷ [])) (closed j (shown.Unknown (record { cube = cube; start = start; lines = lines ++ l ∷ [] }))) (refused j rule.Diary) k
 Notes j cube start (suc left) lines l k =
-    Decides (diaries.IsLine (subject_at j cube start) (lines_after (subject_at j cube start) (blank (subject_at j cube start)) lines) l) (noted j cube start left (lines ++ l ∷ [])) (refused j rule.Diary) k
+    Decides (MayStand j cube start lines l) (noted j cube start left (lines ++ l ∷ [])) (refused j rule.Diary) k
 
 -- a line where one of a diary is owed
 abbrev pub AtDiary : Judging → ℕ → ℕ → ℕ → List DiaryLine → Line → Judging → Type 0
@@ -216,9 +238,9 @@ abbrev pub Judged : Judging → List Reading → List (Option Line) → Option R
 Judged j cs [] o = o ≡ ending (reach j cs).0.owed (reach j cs).0.line
 Judged j cs (l ∷ ls) o = (k : Judging) × Moves (reach j cs).0 l k × Judged k (reach j cs).1 ls o
 
--- the line is a header with these limits, and a proof may begin with them
-pub record IsHeader (l : Option Line) (limits : Limits) : Type 0 where
-  pub written : l ≡ Some (line.Header limits.cubes limits.budget)
+-- the line is a header of this format with these limits, and a proof may begin with them
+pub record IsHeader (l : Option Line) (format : Format) (limits : Limits) : Type 0 where
+  pub written : l ≡ Some (line.Header format limits.cubes limits.budget)
   pub allowed : AreLimits limits
 
 abbrev pub bad_header : Refusal
@@ -227,7 +249,7 @@ bad_header = record { line = 1; rule = rule.Header }
 -- what is judged of all lines of a proof, where these are the commands of the script, from this state on
 abbrev pub JudgedProofFrom : StateValue → List Reading → List (Option Line) → Option Refusal → Type 0
 JudgedProofFrom start cs [] o = o ≡ Some bad_header
-JudgedProofFrom start cs (l ∷ ls) o = ((limits : Limits) × IsHeader l limits × Judged (judging_from start limits) cs ls o) ⊎ (((limits : Limits) → IsHeader l limits → ⊥) × (o ≡ Some bad_header))
+JudgedProofFrom start cs (l ∷ ls) o = ((format : Format) × (limits : Limits) × IsHeader l format limits × Judged (judging_from start format limits) cs ls o) ⊎ (((format : Format) (limits : Limits) → IsHeader l format limits → ⊥) × (o ≡ Some bad_header))
 
 abbrev pub JudgedProof : List Reading → List (Option Line) → Option Refusal → Type 0
 JudgedProof cs ls o = JudgedProofFrom no_state cs ls o

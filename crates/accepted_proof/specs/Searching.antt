@@ -16,6 +16,7 @@ use Rattle.proof_log.specs.declared.diary.Diary.{Diary}
 use Rattle.proof_log.specs.Logs.{Asserted, LogState, constant_width, entry_at, state_of}
 use Rattle.proof_log.specs.Boards.{IsAdded}
 use Rattle.proof_log.specs.Diaries.{Subject, IsSpent}
+use Rattle.proof_text.specs.Deletions.{IsSpentWithout}
 use Rattle.cube_tree.specs.Cubes.{cube_of}
 
 -- ---- limits
@@ -94,7 +95,12 @@ pub record IsSearch (limits : Limits) (s : StateValue) (nodes : List Node) (log 
 abbrev pub subject_of : Limits → StateValue → List Node → List Entry → ℕ → ℕ → Subject
 subject_of limits s nodes log cube start = record { nodes = nodes; log = log; given = given_literals limits s nodes log cube; from = start }
 
--- a search of a cube of the check put one chain more than the budget allows
+-- a search of a cube of the check put one chain more than the budget allows, where no place was deleted
 pub record IsUnknown (limits : Limits) (s : StateValue) (nodes : List Node) (log : List Entry) (d : Diary) : Type 0 where
   pub search : IsSearch limits s nodes log d.cube d.start
   pub spent : IsSpent (subject_of limits s nodes log d.cube d.start) limits.budget d.lines
+
+-- the same where these places were deleted before
+pub record IsUnknownWithout (deleted : List ℕ) (limits : Limits) (s : StateValue) (nodes : List Node) (log : List Entry) (d : Diary) : Type 0 where
+  pub search : IsSearch limits s nodes log d.cube d.start
+  pub spent : IsSpentWithout deleted (subject_of limits s nodes log d.cube d.start) limits.budget d.lines

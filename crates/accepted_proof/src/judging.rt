@@ -6,40 +6,45 @@ ghost use Rattle.smt_text.specs.declared.chunk.Chunk.{Chunk};
 ghost use Rattle.script_state.specs.Readings.{Reading};
 ghost use Rattle.script_state.specs.States.{StateValue, start_of};
 ghost use Rattle.script_state.specs.Steps.{ends};
+ghost use Rattle.proof_text.specs.declared.line.Format.{Format};
 ghost use Rattle.proof_text.specs.declared.line.Line.{Line};
 ghost use Rattle.accepted_proof.specs.declared.refusal.Refusal.{Refusal};
 ghost use Rattle.accepted_proof.specs.Searching.{Limits, AreLimits};
-ghost use Rattle.accepted_proof.specs.Turns.{Turn, turn_lines};
-ghost use Rattle.accepted_proof.specs.Answers.{proof_of};
+ghost use Rattle.accepted_proof.specs.Turns.{Turn, Part, part_lines, turn_of};
+ghost use Rattle.accepted_proof.specs.Answers.{written_of};
 ghost use Rattle.accepted_proof.specs.Accepted.{AcceptedFrom, AcceptedSoFarFrom, IsFront};
 ghost use Rattle.accepted_proof.specs.Judged.{Judging, judging_from, is_idle, commanded, Moves, Judged, JudgedProofFrom, AreReadable, ReadEach, AreAllSaid};
 
 /// An accepted proof is judged to have no bad line, whether functions and arrays are read or not.
 pub fn accepted_proofs_are_judged()
     ensures { (theories : Bool) (limits : Limits) (script proof : List ℕ) (turns : List Turn)
-        → AcceptedFrom (start_of theories) limits script proof turns
-        → Judged (judging_from (start_of theories) limits) (map (λ (t : Turn). t.says) turns)
-        (map (λ l. Some l) (flat_map turn_lines turns)) None }
+        (accepted : AcceptedFrom (start_of theories) limits script proof turns)
+        → Judged (judging_from (start_of theories) accepted.format limits)
+        (map (λ (t : Turn). t.says) turns)
+        (map (λ l. Some l) (flat_map part_lines accepted.parts)) None }
 {}
 
 /// A proof without a bad line, whose lines were read, is accepted; what stands in the script behind a command that ends the run need not be read.
 pub fn judged_proofs_are_accepted()
-    ensures { (theories : Bool) (limits : Limits) (script : List ℕ) (chunks : List Chunk)
-        (says : List Reading) (lines : List (Option Line))
+    ensures { (theories : Bool) (format : Format) (limits : Limits) (script : List ℕ)
+        (chunks : List Chunk) (says : List Reading) (lines : List (Option Line))
         → AreLimits limits → AreAllSaid script chunks says → ReadEach chunks says
-        → AreReadable lines → Judged (judging_from (start_of theories) limits) says lines None
-        → (turns : List Turn) × (lines ≡ map (λ l. Some l) (flat_map turn_lines turns))
-        × AcceptedFrom (start_of theories) limits script (proof_of limits turns) turns }
+        → AreReadable lines
+        → Judged (judging_from (start_of theories) format limits) says lines None
+        → (parts : List Part) × (lines ≡ map (λ l. Some l) (flat_map part_lines parts))
+        × AcceptedFrom (start_of theories) limits script (written_of format limits parts)
+        (map turn_of parts) }
 {}
 
 /// The first lines of a proof, where each was read and none is bad with the first commands of a script, are those of turns of these.
 pub fn judged_fronts_are_accepted()
-    ensures { (theories : Bool) (limits : Limits) (script : List ℕ) (chunks : List Chunk)
-        (says : List Reading) (lines : List (Option Line))
+    ensures { (theories : Bool) (format : Format) (limits : Limits) (script : List ℕ)
+        (chunks : List Chunk) (says : List Reading) (lines : List (Option Line))
         → AreLimits limits → IsFront script chunks → ReadEach chunks says → AreReadable lines
-        → Judged (judging_from (start_of theories) limits) says lines None
-        → (turns : List Turn) × (lines ≡ map (λ l. Some l) (flat_map turn_lines turns))
-        × AcceptedSoFarFrom (start_of theories) limits script (proof_of limits turns) turns }
+        → Judged (judging_from (start_of theories) format limits) says lines None
+        → (parts : List Part) × (lines ≡ map (λ l. Some l) (flat_map part_lines parts))
+        × AcceptedSoFarFrom (start_of theories) limits script (written_of format limits parts)
+        (map turn_of parts) }
 {}
 
 /// One thing at most is judged of a proof, from whatever state its script begins.

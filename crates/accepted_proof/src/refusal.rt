@@ -23,6 +23,8 @@ pub enum RuleName {
     Lemma,
     /// The hints are no chain.
     Chain,
+    /// The places are not those of lemmas and chains that can be deleted.
+    Delete,
     /// The values are no model.
     Sat,
     /// The clause is no refutation.

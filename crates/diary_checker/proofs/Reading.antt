@@ -1,6 +1,6 @@
 -- Lines that are taken and refused, and what follows for the lines of a diary.
 use Rattle.std.proofs.Common.{◌≡◌, ℕ, suc, ◌+◌, ◌-◌, ◌<◌, ◌≤◌, Bool, true, false, not, List, [], ◌∷◌, ◌++◌, length, Option, Some, sym, ap, ◌∙◌, subst, arith, add-one}
-use Rattle.std.specs.Prelude.{◌≢◌, ◌↔◌, ◌&&◌, ltb, Contains, MatchBool, MatchResult, Result, Ok, Err}
+use Rattle.std.specs.Prelude.{◌≢◌, ◌↔◌, ◌&&◌, ◌||◌, ltb, Contains, MatchBool, MatchResult, Result, Ok, Err}
 use Rattle.std.specs.Result.{IsErrAnd}
 use Rattle.std.proofs.lemmas.Result.{err_from_is_err_and}
 use Rattle.cnf_base.specs.Literals.{Literal}
@@ -12,7 +12,8 @@ use Rattle.proof_log.specs.declared.diary.DiaryLine.{DiaryLine}
 use Rattle.proof_log.specs.declared.diary.DiaryLine.TheVariants.{Take, Put, Drop}
 use Rattle.proof_log.specs.Logs.{clause_at, entry_at}
 use Rattle.proof_log.specs.Stored.{LogValue}
-use Rattle.proof_log.specs.Diaries.{Subject, DiaryState, look_of, is_chain, blank, with_held, count_new, allowed, IsGoodPut, IsLine, line_after, lines_after, EndsInPut, IsSpent}
+use Rattle.proof_log.specs.Diaries.{Subject, DiaryState, look_of, is_chain, with_held, count_new, allowed, IsGoodPut, IsLine, line_after, lines_after, EndsInPut}
+use Rattle.proof_text.specs.Deletions.{blank_without, IsSpentFrom}
 use Rattle.proof_log.proofs.Lines.{are_lines_snoc, lines_after_snoc, ends_in_put}
 use Rattle.diary_checker.specs.Tables.{IsSetOf, bit_in, filed_under}
 use Rattle.diary_checker.specs.Uses.{AreFiled}
@@ -26,11 +27,11 @@ look_is g log about = ap clause_at about.clauses
 pub filed_here : (g : Subject) (log : LogValue) (r : ReaderValue) → IsAbout g log → IsSetUp g r → AreFiled (clause_at log.clauses) (bit_in r.held) r.filed
 filed_here g log r about set_up = subst (λ (k : Lookup). AreFiled k (bit_in r.held) r.filed) (sym (look_is g log about)) set_up.filed
 
-pub begun : (g : Subject) (log : LogValue) (given : List Literal) (from : ℕ) (r : ReaderValue) → IsAbout g log → g.given ≡ given → g.from ≡ from → IsSetOf r.given given →
-    ((p : ℕ) → bit_in r.held p ≡ (ltb p from && not (is_chain (entry_at log.entries p)))) →
+pub begun : (deleted : ℕ → Bool) (g : Subject) (log : LogValue) (given : List Literal) (from : ℕ) (r : ReaderValue) → IsAbout g log → g.given ≡ given → g.from ≡ from → IsSetOf r.given given →
+    ((p : ℕ) → bit_in r.held p ≡ (ltb p from && not (deleted p || is_chain (entry_at log.entries p)))) →
     AreFiled (clause_at log.clauses) (bit_in r.held) r.filed →
-    r.chains ≡ 0 → r.puts ≡ 0 → r.drops ≡ 0 → r.ended ≡ false → HasRead g [] r
-begun g log given from r about e f set held filed chains puts drops ended = record {
+    r.chains ≡ 0 → r.puts ≡ 0 → r.drops ≡ 0 → r.ended ≡ false → HasRead deleted g [] r
+begun deleted g log given from r about e f set held filed chains puts drops ended = record {
   set_up = record { given = subst (IsSetOf r.given) (sym e) set; filed = subst (λ (k : Lookup). AreFiled k (bit_in r.held) r.filed) (look_is g log about) filed };
   stand = tt;
   state = λ i. record { held = λ p. same p i; chains = chains i; puts = puts i; drops = drops i };
@@ -40,8 +41,8 @@ begun g log given from r about e f set held filed chains puts drops ended = reco
     not_both : false ≡ true → ⊥
     not_both h = cc
 
-    same : (p : ℕ) → bit_in r.held p ≡ (ltb p g.from && not (is_chain (entry_at g.log p)))
-    same p = held p ∙ (ap (λ n. ltb p n && not (is_chain (entry_at log.entries p))) (sym f) ∙ ap (λ l. ltb p g.from && not (is_chain (entry_at l p))) about.entries)
+    same : (p : ℕ) → bit_in r.held p ≡ (ltb p g.from && not (deleted p || is_chain (entry_at g.log p)))
+    same p = held p ∙ (ap (λ n. ltb p n && not (deleted p || is_chain (entry_at log.entries p))) (sym f) ∙ ap (λ l. ltb p g.from && not (deleted p || is_chain (entry_at l p))) about.entries)
 
 -- ---- one line
 
@@ -188,23 +189,23 @@ ends ls (Take p) b e = ((λ h. let f : false ≡ true = sym e ∙ h in let g : �
 ends ls (Put p) b e = ((λ h. ends_in_put ls p), (λ h. e))
 ends ls (Drop p) b e = ((λ h. let f : false ≡ true = sym e ∙ h in let g : ⊥ = cc in absurd g), (λ h. absurd (ends_not_drop ls p h)))
 
-pub read_more : (g : Subject) (lines : List DiaryLine) (old new : ReaderValue) (l : DiaryLine) → HasRead g lines old → IsTaken g old new l → IsLine g (lines_after g (blank g) lines) l × HasRead g (lines ++ l ∷ []) new
-read_more g lines old new l r t =
+pub read_more : (deleted : ℕ → Bool) (g : Subject) (lines : List DiaryLine) (old new : ReaderValue) (l : DiaryLine) → HasRead deleted g lines old → IsTaken g old new l → IsLine g (lines_after g (blank_without deleted g) lines) l × HasRead deleted g (lines ++ l ∷ []) new
+read_more deleted g lines old new l r t =
     let valid = subst (λ (s : DiaryState). IsLine g s l) r.state t.valid in (
       valid,
       record {
         set_up = t.set_up;
-        stand = are_lines_snoc g (blank g) lines l r.stand valid;
-        state = t.state ∙ (ap (λ (s : DiaryState). line_after g s l) r.state ∙ sym (lines_after_snoc g (blank g) lines l));
+        stand = are_lines_snoc g (blank_without deleted g) lines l r.stand valid;
+        state = t.state ∙ (ap (λ (s : DiaryState). line_after g s l) r.state ∙ sym (lines_after_snoc g (blank_without deleted g) lines l));
         ended = ends lines l new.ended t.ended;
       },
     )
 
-pub read_line : {E : Type 0} (g : Subject) (lines : List DiaryLine) (old new : ReaderValue) (l : DiaryLine) (r : Result Bool E) → HasRead g lines old → MatchResult r (IsDecided g old new l) (λ e. IsUndecided g old new) →
-    MatchResult r (λ taken. MatchBool taken (IsLine g (lines_after g (blank g) lines) l × HasRead g (lines ++ l ∷ []) new) ((¬ (IsLine g (lines_after g (blank g) lines) l)) × (new ≡ old))) (λ e. HasRead g lines new)
-read_line g lines old new l (Ok true) read h = read_more g lines old new l read h
-read_line g lines old new l (Ok false) read h = ((λ k. h.invalid (subst (λ (s : DiaryState). IsLine g s l) (sym read.state) k)), h.same)
-read_line g lines old new l (Err e) read h = record {
+pub read_line : {E : Type 0} (deleted : ℕ → Bool) (g : Subject) (lines : List DiaryLine) (old new : ReaderValue) (l : DiaryLine) (r : Result Bool E) → HasRead deleted g lines old → MatchResult r (IsDecided g old new l) (λ e. IsUndecided g old new) →
+    MatchResult r (λ taken. MatchBool taken (IsLine g (lines_after g (blank_without deleted g) lines) l × HasRead deleted g (lines ++ l ∷ []) new) ((¬ (IsLine g (lines_after g (blank_without deleted g) lines) l)) × (new ≡ old))) (λ e. HasRead deleted g lines new)
+read_line deleted g lines old new l (Ok true) read h = read_more deleted g lines old new l read h
+read_line deleted g lines old new l (Ok false) read h = ((λ k. h.invalid (subst (λ (s : DiaryState). IsLine g s l) (sym read.state) k)), h.same)
+read_line deleted g lines old new l (Err e) read h = record {
   set_up = h.set_up;
   stand = read.stand;
   state = h.state ∙ read.state;
@@ -213,15 +214,15 @@ read_line g lines old new l (Err e) read h = record {
 
 -- ---- the budget
 
-pub is_spent : (g : Subject) (lines : List DiaryLine) (r : ReaderValue) (budget : ℕ) → HasRead g lines r → r.ended ≡ true → r.puts ≡ suc budget → IsSpent g budget lines
-is_spent g lines r budget read ended puts = record {
+pub is_spent : (deleted : ℕ → Bool) (g : Subject) (lines : List DiaryLine) (r : ReaderValue) (budget : ℕ) → HasRead deleted g lines r → r.ended ≡ true → r.puts ≡ suc budget → IsSpentFrom (blank_without deleted g) g budget lines
+is_spent deleted g lines r budget read ended puts = record {
   stand = read.stand;
   puts = sym (ap (λ (s : DiaryState). s.puts) read.state) ∙ puts;
   last = read.ended.0 ended;
 }
 
-pub spent_ended : (g : Subject) (lines : List DiaryLine) (r : ReaderValue) (budget : ℕ) → HasRead g lines r → IsSpent g budget lines → r.ended ≡ true
-spent_ended g lines r budget read s = read.ended.1 s.last
+pub spent_ended : (deleted : ℕ → Bool) (g : Subject) (lines : List DiaryLine) (r : ReaderValue) (budget : ℕ) → HasRead deleted g lines r → IsSpentFrom (blank_without deleted g) g budget lines → r.ended ≡ true
+spent_ended deleted g lines r budget read s = read.ended.1 s.last
 
-pub spent_puts : (g : Subject) (lines : List DiaryLine) (r : ReaderValue) (budget : ℕ) → HasRead g lines r → IsSpent g budget lines → r.puts ≡ suc budget
-spent_puts g lines r budget read s = ap (λ (t : DiaryState). t.puts) read.state ∙ s.puts
+pub spent_puts : (deleted : ℕ → Bool) (g : Subject) (lines : List DiaryLine) (r : ReaderValue) (budget : ℕ) → HasRead deleted g lines r → IsSpentFrom (blank_without deleted g) g budget lines → r.puts ≡ suc budget
+spent_puts deleted g lines r budget read s = ap (λ (t : DiaryState). t.puts) read.state ∙ s.puts

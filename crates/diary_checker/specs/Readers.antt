@@ -5,7 +5,8 @@ use Rattle.proof_log.specs.declared.diary.DiaryLine.{DiaryLine}
 use Rattle.proof_log.specs.declared.diary.DiaryLine.TheVariants.{Take, Put, Drop}
 use Rattle.proof_log.specs.Logs.{state_of}
 use Rattle.proof_log.specs.Stored.{LogValue}
-use Rattle.proof_log.specs.Diaries.{Subject, DiaryState, look_of, blank, IsLine, line_after, AreLines, lines_after, EndsInPut}
+use Rattle.proof_log.specs.Diaries.{Subject, DiaryState, look_of, IsLine, line_after, AreLines, lines_after, EndsInPut}
+use Rattle.proof_text.specs.Deletions.{blank_without}
 use Rattle.diary_checker.specs.Tables.{Stamps, IsSetOf, bit_in}
 use Rattle.diary_checker.specs.Uses.{AreFiled}
 
@@ -33,11 +34,11 @@ pub record IsSetUp (g : Subject) (r : ReaderValue) : Type 0 where
   pub given : IsSetOf r.given g.given
   pub filed : AreFiled (look_of g) (bit_in r.held) r.filed
 
--- the reader took these lines, which stand, one after the other
-pub record HasRead (g : Subject) (lines : List DiaryLine) (r : ReaderValue) : Type 0 where
+-- where these places were deleted before, the reader took these lines, which stand, one after the other
+pub record HasRead (deleted : ℕ → Bool) (g : Subject) (lines : List DiaryLine) (r : ReaderValue) : Type 0 where
   pub set_up : IsSetUp g r
-  pub stand : AreLines g (blank g) lines
-  pub state : state_in r ≡ lines_after g (blank g) lines
+  pub stand : AreLines g (blank_without deleted g) lines
+  pub state : state_in r ≡ lines_after g (blank_without deleted g) lines
   pub ended : (r.ended ≡ true) ↔ EndsInPut lines
 
 -- ---- one line

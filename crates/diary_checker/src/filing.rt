@@ -1,6 +1,6 @@
 //! What is held, with its clauses filed.
 
-ghost use Rattle.std.specs.Prelude.{◌≡◌, ◌≤◌, ◌⊎◌, ◌&&◌, ◌+◌, not, ltb, true, false, ℕ, List, Option, Some, Contains, OnOk, OnErr, length};
+ghost use Rattle.std.specs.Prelude.{◌≡◌, ◌≤◌, ◌⊎◌, ◌&&◌, ◌||◌, ◌+◌, not, ltb, true, false, ℕ, List, Option, Some, Contains, OnOk, OnErr, length};
 ghost use Rattle.cnf_base.specs.Literals.{Literal};
 ghost use Rattle.cnf_base.specs.declared.clause.ClauseId.{ClauseId};
 ghost use Rattle.proof_log.specs.Logs.{clause_at, entry_at};
@@ -94,41 +94,52 @@ pub(crate) fn hold(
     held.set(at, true)
 }
 
-// Holds a position unless it is a chain's.
+// Whether a position is deleted or a chain's.
+fn is_left_out(log: &Log, deleted: &Positions, at: Pos) -> bool
+    ensures { result ≡ (bit_in deleted.now at || is_chain (entry_at log.now.entries at)) }
+{
+    deleted.has(at) || is_chain_at(log, at)
+}
+
+// Holds a position unless it is deleted or a chain's.
 fn hold_plain(
     held: &mut Positions,
     watches: &mut Watches,
     log: &Log,
+    deleted: &Positions,
     at: Pos,
 ) -> Result<(), AllocError>
     ensures held { OnOk result
-        (((p : ℕ) → bit_in held.old p ≡ (ltb p at && not (is_chain (entry_at log.now.entries p))))
+        (((p : ℕ) → bit_in held.old p
+        ≡ (ltb p at && not (bit_in deleted.now p || is_chain (entry_at log.now.entries p))))
         → (p : ℕ) → bit_in held.new p
-        ≡ (ltb p (at + 1) && not (is_chain (entry_at log.now.entries p)))) }
+        ≡ (ltb p (at + 1)
+        && not (bit_in deleted.now p || is_chain (entry_at log.now.entries p)))) }
     ensures filed { OnOk result (AreFiled (clause_at log.now.clauses) (bit_in held.old) watches.old
         → AreFiled (clause_at log.now.clauses) (bit_in held.new) watches.new) }
 {
-    if is_chain_at(log, at) {
+    if is_left_out(log, deleted, at) {
         return Ok(());
     }
     hold(held, watches, log, at)
 }
 
-// Holds all positions before one that are no chain's.
+// Holds all positions before one that are neither deleted nor a chain's.
 pub(crate) fn hold_start(
     held: &mut Positions,
     watches: &mut Watches,
     log: &Log,
+    deleted: &Positions,
     from: Pos,
 ) -> Result<(), AllocError>
     requires none { (p : ℕ) → bit_in held.old p ≡ false }
-    ensures held { OnOk result ((p : ℕ)
-        → bit_in held.new p ≡ (ltb p from && not (is_chain (entry_at log.now.entries p)))) }
+    ensures held { OnOk result ((p : ℕ) → bit_in held.new p
+        ≡ (ltb p from && not (bit_in deleted.now p || is_chain (entry_at log.now.entries p)))) }
     ensures filed { OnOk result
         (AreFiled (clause_at log.now.clauses) (bit_in held.new) watches.new) }
 {
     for at in 0..from {
-        hold_plain(held, watches, log, at)?;
+        hold_plain(held, watches, log, deleted, at)?;
     }
     Ok(())
 }

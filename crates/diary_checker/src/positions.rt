@@ -1,4 +1,4 @@
-//! Bits by position.
+//! Sets of positions.
 
 ghost use Rattle.std.specs.Prelude.{◌≡◌, ◌<◌, ℕ, false, length, OnOk, OnErr};
 ghost use Rattle.proof_log.specs.Diaries.{with_held};
@@ -8,9 +8,9 @@ use cnf_base::Pos;
 use std::alloc::{AllocError, Global};
 use std::marker::Model;
 
-/// Which positions are held.
+/// A set of positions, by a bit for each: those that are held, or those that were deleted.
 #[derive(Debug, Drop)]
-pub(crate) struct Positions {
+pub struct Positions {
     bits: Vec<bool>,
 }
 
@@ -23,8 +23,8 @@ impl Model for Positions {
 }
 
 impl Positions {
-    /// No position is held.
-    pub(crate) fn new(alloc: Global) -> Positions
+    /// No position.
+    pub fn new(alloc: Global) -> Positions
         ensures { (at : ℕ) → bit_in result at ≡ false }
     {
         Positions {
@@ -32,8 +32,8 @@ impl Positions {
         }
     }
 
-    /// Whether a position is held.
-    pub(crate) fn has(&self, at: Pos) -> bool
+    /// Whether the position is in the set.
+    pub fn has(&self, at: Pos) -> bool
         ensures { result ≡ bit_in self.now at }
     {
         match self.bits.get(at as usize) {
@@ -42,8 +42,8 @@ impl Positions {
         }
     }
 
-    /// Says of a position whether it is held.
-    pub(crate) fn set(&mut self, at: Pos, held: bool) -> Result<(), AllocError>
+    /// Takes a position into the set, or out of it.
+    pub fn set(&mut self, at: Pos, held: bool) -> Result<(), AllocError>
         ensures ok { OnOk result ((p : ℕ)
             → bit_in self.new p ≡ with_held (bit_in self.old) at held p) }
         ensures err { OnErr result ((p : ℕ) → bit_in self.new p ≡ bit_in self.old p) }

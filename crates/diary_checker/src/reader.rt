@@ -7,7 +7,9 @@ ghost use Rattle.proof_log.specs.declared.entry.Entry.TheVariants as step;
 ghost use Rattle.proof_log.specs.declared.diary.DiaryLine.{DiaryLine};
 ghost use Rattle.proof_log.specs.declared.diary.DiaryLine.TheVariants as row;
 ghost use Rattle.proof_log.specs.Logs.{entry_at};
-ghost use Rattle.proof_log.specs.Diaries.{Subject, blank, lines_after, count_new, allowed, IsLine, IsSpent};
+ghost use Rattle.proof_log.specs.Diaries.{Subject, lines_after, count_new, allowed, IsLine};
+ghost use Rattle.proof_text.specs.Deletions.{blank_without, IsSpentFrom};
+ghost use Rattle.diary_checker.specs.Tables.{bit_in};
 ghost use Rattle.diary_checker.specs.Readers.{IsAbout, IsSetUp, HasRead, IsDecided, IsUndecided};
 
 use crate::conditions::insert;
@@ -54,20 +56,21 @@ impl Model for DiaryReader {
 }
 
 impl DiaryReader {
-    /// The reader of a diary over this log that starts at a position, for a search that takes the given literals as true.
-    /// It has read no line.
+    /// The reader of a diary over this log that starts at a position, where these positions were deleted, for a search that
+    /// takes the given literals as true. It has read no line.
     pub fn new(
         alloc: Global,
         log: &Log,
+        deleted: &Positions,
         given: &[Lit],
         from: Pos,
     ) -> Result<DiaryReader, AllocError>
         ensures { IfOk result (λ r. (g : Subject) → IsAbout g log.now → g.given ≡ given.now
-            → g.from ≡ from → HasRead g [] r) }
+            → g.from ≡ from → HasRead (bit_in deleted.now) g [] r) }
     {
         let mut held = Positions::new(alloc);
         let mut watches = Watches::new(alloc);
-        hold_start(&mut held, &mut watches, log, from)?;
+        hold_start(&mut held, &mut watches, log, deleted, from)?;
         let mut literals = LiteralNumbers::new(alloc);
         insert(&mut literals, given)?;
         Ok(DiaryReader {
@@ -85,21 +88,24 @@ impl DiaryReader {
     /// Takes one line more and answers true exactly where it may stand after those that were taken, else all is as before.
     /// The log is the one that the reader was made over. For want of memory the lines that were taken are as before.
     pub fn line(&mut self, log: &Log, line: DiaryLine) -> Result<bool, AllocError>
-        ensures { (g : Subject) (lines : List DiaryLine) → IsAbout g log.now
-            → HasRead g lines self.old → MatchResult result
+        ensures { (deleted : ℕ → Bool) (g : Subject) (lines : List DiaryLine) → IsAbout g log.now
+            → HasRead deleted g lines self.old → MatchResult result
             (λ taken. MatchBool taken
-            (IsLine g (lines_after g (blank g) lines) line
-            × HasRead g (lines ++ line ∷ []) self.new)
-            ((¬ (IsLine g (lines_after g (blank g) lines) line)) × (self.new ≡ self.old)))
-            (λ e. HasRead g lines self.new) }
+            (IsLine g (lines_after g (blank_without deleted g) lines) line
+            × HasRead deleted g (lines ++ line ∷ []) self.new)
+            ((¬ (IsLine g (lines_after g (blank_without deleted g) lines) line))
+            × (self.new ≡ self.old)))
+            (λ e. HasRead deleted g lines self.new) }
     {
         self.decide(log, line)
     }
 
     /// Whether the lines that were taken have spent the budget.
     pub fn is_spent(&self, budget: u64) -> bool
-        ensures { (g : Subject) (lines : List DiaryLine) → HasRead g lines self.now
-            → MatchBool result (IsSpent g budget lines) (¬ (IsSpent g budget lines)) }
+        ensures { (deleted : ℕ → Bool) (g : Subject) (lines : List DiaryLine)
+            → HasRead deleted g lines self.now
+            → MatchBool result (IsSpentFrom (blank_without deleted g) g budget lines)
+            (¬ (IsSpentFrom (blank_without deleted g) g budget lines)) }
     {
         self.ended && is_one_more(self.puts, budget)
     }

@@ -5,6 +5,7 @@ ghost use Rattle.proof_log.specs.Stored.{Stands};
 ghost use Rattle.proof_log.specs.Faults.{IsDeclared};
 
 use crate::DiaryReader;
+use crate::positions::Positions;
 use cnf_base::{Clause, ClauseId, Lit, Pos};
 use proof_log::Log;
 use proof_log::diary::DiaryLine;
@@ -107,7 +108,8 @@ fn first_other_of(
     from: Pos,
     lines: &[(DiaryLine, bool)],
 ) -> Result<(Option<usize>, bool), AllocError> {
-    let mut reader = DiaryReader::new(alloc, log, &[given], from)?;
+    let deleted = Positions::new(alloc);
+    let mut reader = DiaryReader::new(alloc, log, &deleted, &[given], from)?;
     let other = first_other(&mut reader, log, lines);
     let spent = reader.is_spent(0);
     drop(reader);

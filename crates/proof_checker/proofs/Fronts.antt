@@ -11,7 +11,7 @@ use Rattle.accepted_proof.specs.declared.refusal.RuleName.TheVariants as rule
 use Rattle.accepted_proof.specs.Judged as judged
 use Rattle.accepted_proof.specs.Judged.{Owed, Judging, judging_from, commanded, owed_by, is_idle, reach, Moves, MovesBy, bad_header}
 use Rattle.accepted_proof.proofs.Following.{reach_here, reach_past, reach_last}
-use Rattle.accepted_proof.proofs.Once.{moved_once, same_limits}
+use Rattle.accepted_proof.proofs.Once.{moved_once, same_start}
 use Rattle.proof_checker.specs.Checkers.{Says}
 use Rattle.proof_checker.specs.Checked.{shown_at, Tells, TellsProofFrom, IsJudgedOver, IsJudged, IsAcceptedSoFarOver, IsAcceptedSoFar}
 use Rattle.proof_checker.proofs.Splits.{lines_one}
@@ -76,9 +76,9 @@ told_first (l ∷ ls) later j cs more vs us o a b = first_by l ls later (told_fi
 proof_told_first : (start : StateValue) (ls later : List (Option Line)) (cs more : List Says) (vs us : List Verdict) (o : Option Refusal) → TellsProofFrom start cs ls vs None → TellsProofFrom start (cs ++ more) (ls ++ later) us o → Begin vs us
 proof_told_first start [] later cs more vs us o a b = absurd (none_some bad_header a.1)
 proof_told_first start (l ∷ ls) later cs more vs us o (inl a) (inl b) =
-    let same : a.0 ≡ b.0 = same_limits l a.0 b.0 a.1 b.1 in
-    told_first ls later (judging_from start b.0) cs more vs us o (subst (λ x. Tells (judging_from start x) cs ls vs None) same a.2) b.2
-proof_told_first start (l ∷ ls) later cs more vs us o (inl a) (inr b) = absurd (b.0 a.0 a.1)
+    let same = same_start start l a.0 b.0 a.1 b.1 a.2 b.2 in
+    told_first ls later (judging_from start b.0 b.1) cs more vs us o (subst (λ x. Tells x cs ls vs None) same a.3) b.3
+proof_told_first start (l ∷ ls) later cs more vs us o (inl a) (inr b) = absurd (b.0 a.0 a.1 a.2)
 proof_told_first start (l ∷ ls) later cs more vs us o (inr a) b = absurd (none_some bad_header a.2)
 
 pub fronts_stay_over : (start : StateValue) (script proof : List ℕ) (vs us : List Verdict) (o : Option Refusal) → IsAcceptedSoFarOver start script proof vs → IsJudgedOver start script proof us o → (rest : List Verdict) × (us ≡ vs ++ rest)

@@ -11,6 +11,7 @@ use Rattle.script_state.specs.declared.answer.Verdict.{Verdict}
 use Rattle.script_state.specs.Readings.{ReadsAs}
 use Rattle.script_state.specs.States.{start_of}
 use Rattle.script_state.specs.Steps.{ends}
+use Rattle.proof_text.specs.declared.line.Format.{Format}
 use Rattle.proof_text.specs.declared.line.Line.{Line}
 use Rattle.accepted_proof.specs.declared.refusal.Refusal.{Refusal}
 use Rattle.accepted_proof.specs.Searching.{Limits}
@@ -138,11 +139,11 @@ module _ (old new : Inputs) (l : Option Line) (same : IsSameScript old new) (tak
   no_more k ki = subst (λ (x : Inputs). held_by x ≤ held_by old) (sym ki) (omega (arith, fewer))
 
   -- the header
-  pub begun : (c : CheckerValue) (limits : Limits) → IsHeader l limits → c ≡ records_over (start_of new.theories) limits → (k : Checking) → k.inputs ≡ new → k.checker ≡ Some c → Advances old None (step.On k)
-  begun c limits head made k ki kc = let e : c ≡ records_over (start_of old.theories) limits = made ∙ ap (λ a. records_over (start_of a) limits) same.theories in (
+  pub begun : (c : CheckerValue) (format : Format) (limits : Limits) → IsHeader l format limits → c ≡ records_over (start_of new.theories) format limits → (k : Checking) → k.inputs ≡ new → k.checker ≡ Some c → Advances old None (step.On k)
+  begun c format limits head made k ki kc = let e : c ≡ records_over (start_of old.theories) format limits = made ∙ ap (λ a. records_over (start_of a) format limits) same.theories in (
     record {
       judged = λ s p vs o t h'.
-          let h : IsJudgedFrom new (Some (records_over (start_of old.theories) limits)) s p vs o = subst (λ (x : CheckerValue). IsJudgedFrom new (Some x) s p vs o) e (subst (λ (x : Option CheckerValue). IsJudgedFrom new x s p vs o) kc (subst (λ (x : Inputs). IsJudgedFrom x k.checker s p vs o) ki h')) in
+          let h : IsJudgedFrom new (Some (records_over (start_of old.theories) format limits)) s p vs o = subst (λ (x : CheckerValue). IsJudgedFrom new (Some x) s p vs o) e (subst (λ (x : Option CheckerValue). IsJudgedFrom new x s p vs o) kc (subst (λ (x : Inputs). IsJudgedFrom x k.checker s p vs o) ki h')) in
           record {
             chunks = h.chunks;
             behind = h.behind;
@@ -151,12 +152,12 @@ module _ (old new : Inputs) (l : Option Line) (same : IsSameScript old new) (tak
             cut = cut_back s (h.chunks ++ h.behind) h.cut;
             read = h.read;
             split = takes.lines p h.lines t.proof h.split;
-            told = λ rest n. let q = told_back (Some (records_over (start_of old.theories) limits)) (h.says ++ rest) h.lines vs o (h.told rest n) in inl (limits, head, subst (λ x. Tells (judging_from (start_of old.theories) limits) (to_be_done old.run_ended (h.says ++ rest)) h.lines x o) (sym q.1) q.2);
+            told = λ rest n. let q = told_back (Some (records_over (start_of old.theories) format limits)) (h.says ++ rest) h.lines vs o (h.told rest n) in inl (format, limits, head, subst (λ x. Tells (judging_from (start_of old.theories) format limits) (to_be_done old.run_ended (h.says ++ rest)) h.lines x o) (sym q.1) q.2);
             whole = whole_back h.behind h.says o h.whole;
           };
       accepted = λ s p vs t h'.
-          let h : IsAcceptedFrom new (Some (records_over (start_of old.theories) limits)) s p vs = subst (λ (x : CheckerValue). IsAcceptedFrom new (Some x) s p vs) e (subst (λ (x : Option CheckerValue). IsAcceptedFrom new x s p vs) kc (subst (λ (x : Inputs). IsAcceptedFrom x k.checker s p vs) ki h')) in
-          let q = told_back (Some (records_over (start_of old.theories) limits)) h.says h.lines vs None h.told in
+          let h : IsAcceptedFrom new (Some (records_over (start_of old.theories) format limits)) s p vs = subst (λ (x : CheckerValue). IsAcceptedFrom new (Some x) s p vs) e (subst (λ (x : Option CheckerValue). IsAcceptedFrom new x s p vs) kc (subst (λ (x : Inputs). IsAcceptedFrom x k.checker s p vs) ki h')) in
+          let q = told_back (Some (records_over (start_of old.theories) format limits)) h.says h.lines vs None h.told in
           record {
             chunks = h.chunks;
             behind = h.behind;
@@ -166,7 +167,7 @@ module _ (old new : Inputs) (l : Option Line) (same : IsSameScript old new) (tak
             cut = cut_back s (h.chunks ++ h.behind) h.cut;
             read = h.read;
             split = takes.lines p (h.lines ++ h.later) t.proof h.split;
-            told = inl (limits, head, subst (λ x. Tells (judging_from (start_of old.theories) limits) (to_be_done old.run_ended h.says) h.lines x None) (sym q.1) q.2);
+            told = inl (format, limits, head, subst (λ x. Tells (judging_from (start_of old.theories) format limits) (to_be_done old.run_ended h.says) h.lines x None) (sym q.1) q.2);
           };
       script = ap (λ (x : Inputs). x.script_ended) ki ∙ same.script;
       proof = ap (λ (x : Inputs). x.proof_ended) ki ∙ same.proof;
@@ -177,7 +178,7 @@ module _ (old new : Inputs) (l : Option Line) (same : IsSameScript old new) (tak
   )
 
   -- no header
-  unbegun_so : (f : Refusal) → ((limits : Limits) → IsHeader l limits → ⊥) → f ≡ bad_header → (j : Judgement) → j.checker ≡ None → j.refusal ≡ Some f → Concludes old None j
+  unbegun_so : (f : Refusal) → ((format : Format) (limits : Limits) → IsHeader l format limits → ⊥) → f ≡ bad_header → (j : Judgement) → j.checker ≡ None → j.refusal ≡ Some f → Concludes old None j
   unbegun_so f head e j jc jr s p t =
       let cs = cut_there (and_more old.framer s) in
       let ls = lines_there (new.reader.bytes ++ p) in
@@ -195,7 +196,7 @@ module _ (old new : Inputs) (l : Option Line) (same : IsSameScript old new) (tak
         whole = λ z. absurd (let y : ⊥ = cc in y);
       }))
 
-  pub unbegun : (f : Refusal) → ((limits : Limits) → IsHeader l limits → ⊥) → f ≡ bad_header → (j : Judgement) → j.checker ≡ None → j.refusal ≡ Some f → Concludes old None j × AddsVerdicts None j.checker []
+  pub unbegun : (f : Refusal) → ((format : Format) (limits : Limits) → IsHeader l format limits → ⊥) → f ≡ bad_header → (j : Judgement) → j.checker ≡ None → j.refusal ≡ Some f → Concludes old None j × AddsVerdicts None j.checker []
   unbegun f head e j jc jr = (unbegun_so f head e j jc jr, ap verdicts_by jc)
 
   module _ (c d : CheckerValue) (at : IsAtLine old c) (goes : GoesTo (Moves c.judging l) c d) where

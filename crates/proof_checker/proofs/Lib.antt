@@ -16,3 +16,4 @@ pub mod WrittenArrays
 pub mod WrittenTables
 pub mod Noting
 pub mod Heading
+mod Deleting

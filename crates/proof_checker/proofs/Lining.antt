@@ -33,6 +33,7 @@ use Rattle.proof_text.specs.declared.line.Head.{Head}
 use Rattle.proof_text.specs.declared.line.Head.TheVariants as head
 use Rattle.proof_text.specs.declared.line.Line.{Line}
 use Rattle.proof_text.specs.declared.line.Line.TheVariants as line
+use Rattle.proof_text.specs.Deletions.{cites}
 use Rattle.proof_text.specs.Entries.{head_of, written_literal, written_hint, entry_line}
 use Rattle.accepted_proof.specs.Turns.{IsOfScript}
 use Rattle.accepted_proof.specs.Judged.{IsStepOf}
@@ -50,18 +51,18 @@ pub fit_step : (t w : TermsValue) (r : RestValue) (log : List Entry) (e : Entry)
 fit_step t w r log e fit valid of same = subst (λ x. Fit x r) (sym same) (fit_more t (terms_after t e) r (step_grows (with_terms r t) log e valid of) (step_list (with_terms r t) log e fit.state valid) fit)
 
 -- the step of a line was tried
-pub tried : (s t : StateValue) (l : Line) (log longer : LogValue) (e : Entry) (b : Bool) → entry_line e ≡ Some l → IsOfScript s e
+pub tried : (s t : StateValue) (l : Line) (log longer : LogValue) (deleted : List ℕ) (e : Entry) (b : Bool) → entry_line e ≡ Some l → IsOfScript s e → cites deleted e ≡ false
     → MatchBool b (IsValid s.terms (state_of s.terms.nodes log.entries) e × IsTaken s log e t longer) ((IsValid s.terms (state_of s.terms.nodes log.entries) e → ⊥) × (t ≡ s) × (longer ≡ log))
-    → MatchBool b ((d : Entry) × IsStepOf s log.entries l d × IsTaken s log d t longer) (((d : Entry) → IsStepOf s log.entries l d → ⊥) × (t ≡ s) × (longer ≡ log))
-tried s t l log longer e true w of h = (e, record { written = w; script = of; valid = h.0 }, h.1)
-tried s t l log longer e false w of h = (λ d is. h.0 (subst (IsValid s.terms (state_of s.terms.nodes log.entries)) (same_entry s l d e is.written w is.script of) is.valid), h.1, h.2)
+    → MatchBool b ((d : Entry) × IsStepOf s log.entries deleted l d × IsTaken s log d t longer) (((d : Entry) → IsStepOf s log.entries deleted l d → ⊥) × (t ≡ s) × (longer ≡ log))
+tried s t l log longer deleted e true w of left h = (e, record { written = w; script = of; valid = h.0; left = left }, h.1)
+tried s t l log longer deleted e false w of left h = (λ d is. h.0 (subst (IsValid s.terms (state_of s.terms.nodes log.entries)) (same_entry s l d e is.written w is.script of) is.valid), h.1, h.2)
 
 -- the same, where memory may be wanting
-pub tried_in : {E : Type 0} (s t : StateValue) (l : Line) (log longer : LogValue) (e : Entry) → entry_line e ≡ Some l → IsOfScript s e → (r : Result Bool E)
+pub tried_in : {E : Type 0} (s t : StateValue) (l : Line) (log longer : LogValue) (deleted : List ℕ) (e : Entry) → entry_line e ≡ Some l → IsOfScript s e → cites deleted e ≡ false → (r : Result Bool E)
     → IfOk r (λ b. MatchBool b (IsValid s.terms (state_of s.terms.nodes log.entries) e × IsTaken s log e t longer) ((IsValid s.terms (state_of s.terms.nodes log.entries) e → ⊥) × (t ≡ s) × (longer ≡ log)))
-    → IfOk r (λ b. MatchBool b ((d : Entry) × IsStepOf s log.entries l d × IsTaken s log d t longer) (((d : Entry) → IsStepOf s log.entries l d → ⊥) × (t ≡ s) × (longer ≡ log)))
-tried_in s t l log longer e w of (Ok b) h = tried s t l log longer e b w of h
-tried_in s t l log longer e w of (Err f) h = tt
+    → IfOk r (λ b. MatchBool b ((d : Entry) × IsStepOf s log.entries deleted l d × IsTaken s log d t longer) (((d : Entry) → IsStepOf s log.entries deleted l d → ⊥) × (t ≡ s) × (longer ≡ log)))
+tried_in s t l log longer deleted e w of left (Ok b) h = tried s t l log longer deleted e b w of left h
+tried_in s t l log longer deleted e w of left (Err f) h = tt
 
 -- ---- a step over the terms of a state
 
@@ -217,24 +218,24 @@ module _ (s : StateValue) (log : List Entry) (l : Line) where
 -- a chain over a stored log
 pub no_chain_line : (s : StateValue) (log : LogValue) (l : Line) (literals : List WrittenLiteral) (hints : List WrittenHint) → Stands s.terms.nodes log → l ≡ line.Chain literals hints
     → ((c : List Literal) (names : List ClauseId) → entry_line (entry.Chain c names) ≡ Some (line.Chain literals hints) → AreBelow log.next c → IsChain (clause_at log.clauses) c names → ⊥)
-    → (e : Entry) → IsStepOf s log.entries l e → ⊥
-no_chain_line s log l literals hints stands w none (entry.Node n) is = no_node n l is.written (λ h args p. let f : ⊥ = cc in f)
-no_chain_line s log l literals hints stands w none (entry.Leaf t) is = let p : Some (line.Leaf t) ≡ Some l = is.written in let f : ⊥ = cc in f
-no_chain_line s log l literals hints stands w none (entry.Encode t) is = let p : Some (line.Encode t) ≡ Some l = is.written in let f : ⊥ = cc in f
-no_chain_line s log l literals hints stands w none (entry.Selector a t) is = let p : Some (line.Selector a) ≡ Some l = is.written in let f : ⊥ = cc in f
-no_chain_line s log l literals hints stands w none (entry.Chain c names) is =
+    → (deleted : List ℕ) (e : Entry) → IsStepOf s log.entries deleted l e → ⊥
+no_chain_line s log l literals hints stands w none deleted (entry.Node n) is = no_node n l is.written (λ h args p. let f : ⊥ = cc in f)
+no_chain_line s log l literals hints stands w none deleted (entry.Leaf t) is = let p : Some (line.Leaf t) ≡ Some l = is.written in let f : ⊥ = cc in f
+no_chain_line s log l literals hints stands w none deleted (entry.Encode t) is = let p : Some (line.Encode t) ≡ Some l = is.written in let f : ⊥ = cc in f
+no_chain_line s log l literals hints stands w none deleted (entry.Selector a t) is = let p : Some (line.Selector a) ≡ Some l = is.written in let f : ⊥ = cc in f
+no_chain_line s log l literals hints stands w none deleted (entry.Chain c names) is =
     let kept = stands_over s.terms.nodes log stands in
     none c names (is.written ∙ ap Some w)
     (subst (λ k. AreBelow k c) (sym kept.next) is.valid.0)
     (subst (λ rows. IsChain (clause_at rows) c names) (sym kept.clauses) is.valid.1)
-no_chain_line s log l literals hints stands w none (entry.Rewrite r) is = let p : Some (line.Rewrite r.rule r.from r.to) ≡ Some l = is.written in let f : ⊥ = cc in f
-no_chain_line s log l literals hints stands w none (entry.Equal t u) is = let p : Some (line.Equal t u) ≡ Some l = is.written in let f : ⊥ = cc in f
-no_chain_line s log l literals hints stands w none (entry.Lemma a) is = false≢true (sym (ap is_lemma w) ∙ sym (ap is_lemma_in is.written) ∙ (lemma_is_one a).0)
+no_chain_line s log l literals hints stands w none deleted (entry.Rewrite r) is = let p : Some (line.Rewrite r.rule r.from r.to) ≡ Some l = is.written in let f : ⊥ = cc in f
+no_chain_line s log l literals hints stands w none deleted (entry.Equal t u) is = let p : Some (line.Equal t u) ≡ Some l = is.written in let f : ⊥ = cc in f
+no_chain_line s log l literals hints stands w none deleted (entry.Lemma a) is = false≢true (sym (ap is_lemma w) ∙ sym (ap is_lemma_in is.written) ∙ (lemma_is_one a).0)
 
 -- the step that the line of a chain says, where memory may be wanting
 pub chain_told : {E : Type 0} (s : StateValue) (log : LogValue) (l : Line) (literals clause : List WrittenLiteral) (hints names : List WrittenHint) → Stands s.terms.nodes log → l ≡ line.Chain literals hints → clause ≡ literals → names ≡ hints → (r : Result (Option Entry) E)
     → IfOk r (λ o. MatchOption o ((c : List Literal) (is : List ClauseId) → entry_line (entry.Chain c is) ≡ Some (line.Chain clause names) → AreBelow log.next c → IsChain (clause_at log.clauses) c is → ⊥) (λ e. IsChainOf clause names e))
-    → IfOk r (λ o. MatchOption o ((e : Entry) → IsStepOf s log.entries l e → ⊥) (λ e. (entry_line e ≡ Some l) × IsOfScript s e))
+    → IfOk r (λ o. MatchOption o ((deleted : List ℕ) (e : Entry) → IsStepOf s log.entries deleted l e → ⊥) (λ e. (entry_line e ≡ Some l) × IsOfScript s e))
 chain_told s log l literals clause hints names stands w p q (Ok None) h = no_chain_line s log l clause names stands (w ∙ ap (λ x. line.Chain x hints) (sym p) ∙ ap (line.Chain clause) (sym q)) h
 chain_told s log l literals clause hints names stands w p q (Ok (Some e)) h = chain_line s log.entries l clause names e (w ∙ ap (λ x. line.Chain x hints) (sym p) ∙ ap (line.Chain clause) (sym q)) h
 chain_told s log l literals clause hints names stands w p q (Err f) h = tt

@@ -17,6 +17,7 @@ use Rattle.script_state.proofs.Keeping.{GoesOn, step_goes_on}
 use Rattle.proof_log.specs.declared.entry.Entry.{Entry}
 use Rattle.proof_log.specs.Stored.{LogValue, Stands}
 use Rattle.proof_log.proofs.Standing.{stands_longer}
+use Rattle.proof_text.specs.declared.line.Format.{Format}
 use Rattle.proof_text.specs.declared.line.WrittenValue.{WrittenValue}
 use Rattle.proof_text.specs.declared.line.Line.TheVariants as line
 use Rattle.accepted_proof.specs.declared.refusal.Refusal.{Refusal}
@@ -32,8 +33,8 @@ use Rattle.proof_checker.specs.declared.due.Due.TheVariants as due
 use Rattle.proof_checker.specs.Checkers.{Says, CheckerValue, GoesTo, IsOwedValues, IsOpen, AreOfSignatures, AreKept, judged_so, answer_by, at_end, owed_of, values_owed}
 
 -- a checker's value by its parts
-abbrev pub held : Limits → StateValue → List Entry → Owed → ℕ → List Verdict → CheckerValue
-held limits s log o n told = record { judging = record { limits = limits; state = s; log = log; owed = o; line = n }; verdicts = told }
+abbrev pub held : Format → Limits → StateValue → List Entry → List ℕ → Owed → ℕ → List Verdict → CheckerValue
+held format limits s log deleted o n told = record { judging = record { format = format; limits = limits; state = s; log = log; deleted = deleted; owed = o; line = n }; verdicts = told }
 
 -- ---- commands
 
@@ -61,9 +62,9 @@ still_stands old new log says is stands e =
     let behind : Stands (step old says).1.terms.nodes log = subst (λ ns. Stands ns log) (sym g.keeps.nodes) (stands_longer old.terms.nodes g.keeps.behind log stands) in
     subst (λ (x : StateValue). Stands x.terms.nodes log) (sym e) (settled_by (λ (x : StateValue). Stands x.terms.nodes log) old (step old says).1 (step old says).0 (λ asked f. stands) behind)
 
-pub commanded_to : (limits : Limits) (s new : StateValue) (log : List Entry) (o p : Owed) (n : ℕ) (told : List Verdict) (a : Answer) (says : Says) → a ≡ (step s says).0 → new ≡ settled s (step s says).0 (step s says).1 → p ≡ owed_by a
-    → held limits new log p n told ≡ judged_so (held limits s log o n told) (commanded (held limits s log o n told).judging says)
-commanded_to limits s new log o p n told a says e f owed = ap₂ (λ x y. held limits x log y n told) f (owed ∙ ap owed_by e)
+pub commanded_to : (format : Format) (limits : Limits) (s new : StateValue) (log : List Entry) (deleted : List ℕ) (o p : Owed) (n : ℕ) (told : List Verdict) (a : Answer) (says : Says) → a ≡ (step s says).0 → new ≡ settled s (step s says).0 (step s says).1 → p ≡ owed_by a
+    → held format limits new log deleted p n told ≡ judged_so (held format limits s log deleted o n told) (commanded (held format limits s log deleted o n told).judging says)
+commanded_to format limits s new log deleted o p n told a says e f owed = ap₂ (λ x y. held format limits x log deleted y n told) f (owed ∙ ap owed_by e)
 
 -- a command ends the run where it is answered so
 pub ended_by : (b : Bool) (a : Answer) (s : StateValue) (says : Says) → MatchBool b (a ≡ Exit) (a ≡ Exit → ⊥) → a ≡ (step s says).0 → b ≡ ends says
@@ -82,13 +83,13 @@ stopped_values c d e live values owed at end =
     let ends : ending c.judging.owed c.judging.line ≡ Some (record { line = c.judging.line; rule = rule.End }) = ap (λ o. ending o c.judging.line) (owed ∙ ap (λ (x : Due). owed_of x live values) at) ∙ ending_owed (drop (length values) live) values c.judging.line in
     end ∙ ap (at_end c) (sym ends)
 
-pub told_at_end : (limits : Limits) (s : StateValue) (log : List Entry) (o : Owed) (n : ℕ) (told : List Verdict) (d : CheckerValue) (t : Result (Unit {0}) Refusal)
-    → d ≡ at_end (held limits s log o n told) (ending o n) → t ≡ answer_by d.judging.owed → MatchResult t (λ _. ending o n ≡ None) (λ r. ending o n ≡ Some r)
-told_at_end limits s log judged.Nothing n told d t e a = subst (λ x. MatchResult x (λ _. ending judged.Nothing n ≡ None) (λ r. ending judged.Nothing n ≡ Some r)) (sym (a ∙ ap (λ (x : CheckerValue). answer_by x.judging.owed) e)) refl
-told_at_end limits s log judged.Steps n told d t e a = subst (λ x. MatchResult x (λ _. ending judged.Steps n ≡ None) (λ r. ending judged.Steps n ≡ Some r)) (sym (a ∙ ap (λ (x : CheckerValue). answer_by x.judging.owed) e)) refl
-told_at_end limits s log (judged.Values next left values) n told d t e a = subst (λ x. MatchResult x (λ _. ending (judged.Values next left values) n ≡ None) (λ r. ending (judged.Values next left values) n ≡ Some r)) (sym (a ∙ ap (λ (x : CheckerValue). answer_by x.judging.owed) e)) refl
-told_at_end limits s log (judged.Noted cube start left lines) n told d t e a = subst (λ x. MatchResult x (λ _. ending (judged.Noted cube start left lines) n ≡ None) (λ r. ending (judged.Noted cube start left lines) n ≡ Some r)) (sym (a ∙ ap (λ (x : CheckerValue). answer_by x.judging.owed) e)) refl
-told_at_end limits s log (judged.Over f) n told d t e a = subst (λ x. MatchResult x (λ _. ending (judged.Over f) n ≡ None) (λ r. ending (judged.Over f) n ≡ Some r)) (sym (a ∙ ap (λ (x : CheckerValue). answer_by x.judging.owed) e)) refl
+pub told_at_end : (format : Format) (limits : Limits) (s : StateValue) (log : List Entry) (deleted : List ℕ) (o : Owed) (n : ℕ) (told : List Verdict) (d : CheckerValue) (t : Result (Unit {0}) Refusal)
+    → d ≡ at_end (held format limits s log deleted o n told) (ending o n) → t ≡ answer_by d.judging.owed → MatchResult t (λ _. ending o n ≡ None) (λ r. ending o n ≡ Some r)
+told_at_end format limits s log deleted judged.Nothing n told d t e a = subst (λ x. MatchResult x (λ _. ending judged.Nothing n ≡ None) (λ r. ending judged.Nothing n ≡ Some r)) (sym (a ∙ ap (λ (x : CheckerValue). answer_by x.judging.owed) e)) refl
+told_at_end format limits s log deleted judged.Steps n told d t e a = subst (λ x. MatchResult x (λ _. ending judged.Steps n ≡ None) (λ r. ending judged.Steps n ≡ Some r)) (sym (a ∙ ap (λ (x : CheckerValue). answer_by x.judging.owed) e)) refl
+told_at_end format limits s log deleted (judged.Values next left values) n told d t e a = subst (λ x. MatchResult x (λ _. ending (judged.Values next left values) n ≡ None) (λ r. ending (judged.Values next left values) n ≡ Some r)) (sym (a ∙ ap (λ (x : CheckerValue). answer_by x.judging.owed) e)) refl
+told_at_end format limits s log deleted (judged.Noted cube start left lines) n told d t e a = subst (λ x. MatchResult x (λ _. ending (judged.Noted cube start left lines) n ≡ None) (λ r. ending (judged.Noted cube start left lines) n ≡ Some r)) (sym (a ∙ ap (λ (x : CheckerValue). answer_by x.judging.owed) e)) refl
+told_at_end format limits s log deleted (judged.Over f) n told d t e a = subst (λ x. MatchResult x (λ _. ending (judged.Over f) n ≡ None) (λ r. ending (judged.Over f) n ≡ Some r)) (sym (a ∙ ap (λ (x : CheckerValue). answer_by x.judging.owed) e)) refl
 
 -- ---- values
 
@@ -118,10 +119,10 @@ are_owed d live values e h = subst (λ x. IsOwedValues (owed_of x live values)) 
       absurd (omega (arith, length-drop (length values) live))
   go (next ∷ rest) q = tt
 
-pub owed_values : (limits : Limits) (s : StateValue) (log : List Entry) (o : Owed) (n : ℕ) (told : List Verdict) (values : List (ℕ × Value)) → length values < length s.symbols.live
-    → GoesTo (Goes (held limits s log o n told).judging (drop (length values) s.symbols.live) values) (held limits s log o n told) (held limits s log (values_owed (drop (length values) s.symbols.live) values) (n + 1) told)
-owed_values limits s log o n told values less = go (drop (length values) s.symbols.live) refl where
-  go : (rest : List LiveName) → drop (length values) s.symbols.live ≡ rest → GoesTo (Goes (held limits s log o n told).judging rest values) (held limits s log o n told) (held limits s log (values_owed rest values) (n + 1) told)
+pub owed_values : (format : Format) (limits : Limits) (s : StateValue) (log : List Entry) (deleted : List ℕ) (o : Owed) (n : ℕ) (told : List Verdict) (values : List (ℕ × Value)) → length values < length s.symbols.live
+    → GoesTo (Goes (held format limits s log deleted o n told).judging (drop (length values) s.symbols.live) values) (held format limits s log deleted o n told) (held format limits s log deleted (values_owed (drop (length values) s.symbols.live) values) (n + 1) told)
+owed_values format limits s log deleted o n told values less = go (drop (length values) s.symbols.live) refl where
+  go : (rest : List LiveName) → drop (length values) s.symbols.live ≡ rest → GoesTo (Goes (held format limits s log deleted o n told).judging rest values) (held format limits s log deleted o n told) (held format limits s log deleted (values_owed rest values) (n + 1) told)
   go [] e =
       let none : length (drop (length values) s.symbols.live) ≡ 0 = ap length e in
       absurd (omega (arith, length-drop (length values) s.symbols.live))
@@ -136,10 +137,10 @@ goes_whole c values same r e whole h =
     (subst (λ vs. IfOk r (λ d. GoesTo (Goes c.judging [] vs) c d)) e h)
 
 -- what was owed before is not looked at
-goes_same : (limits : Limits) (s : StateValue) (log : List Entry) (o p : Owed) (n : ℕ) (told : List Verdict) (rest : List LiveName) (values : List (ℕ × Value)) (d : CheckerValue)
-    → GoesTo (Goes (held limits s log p n told).judging rest values) (held limits s log p n told) d → GoesTo (Goes (held limits s log o n told).judging rest values) (held limits s log o n told) d
-goes_same limits s log o p n told [] values d h = record { judged = h.judged; verdicts = h.verdicts }
-goes_same limits s log o p n told (next ∷ left) values d h = record { judged = h.judged; verdicts = h.verdicts }
+goes_same : (format : Format) (limits : Limits) (s : StateValue) (log : List Entry) (deleted : List ℕ) (o p : Owed) (n : ℕ) (told : List Verdict) (rest : List LiveName) (values : List (ℕ × Value)) (d : CheckerValue)
+    → GoesTo (Goes (held format limits s log deleted p n told).judging rest values) (held format limits s log deleted p n told) d → GoesTo (Goes (held format limits s log deleted o n told).judging rest values) (held format limits s log deleted o n told) d
+goes_same format limits s log deleted o p n told [] values d h = record { judged = h.judged; verdicts = h.verdicts }
+goes_same format limits s log deleted o p n told (next ∷ left) values d h = record { judged = h.judged; verdicts = h.verdicts }
 
 -- the next value is owed
 next_owed : (d : Due) (live : List LiveName) (values : List (ℕ × Value)) (next : LiveName) → IsOwedValues (owed_of d live values) → next ≡ get_or live (length values) next
@@ -149,43 +150,43 @@ next_owed d live values next h at =
     ap (λ x. owed_of x live values) left.0
     ∙ ap (λ x. values_owed x values) (drop-cons live (length values) next left.1 ∙ ap (λ x. x ∷ drop (suc (length values)) live) (sym at))
 
-pub value_refused : (limits : Limits) (s : StateValue) (log : List Entry) (e : Due) (n : ℕ) (told : List Verdict) (values : List (ℕ × Value)) (next : LiveName) (d : ℕ) (w : WrittenValue) (to : CheckerValue)
+pub value_refused : (format : Format) (limits : Limits) (s : StateValue) (log : List Entry) (deleted : List ℕ) (e : Due) (n : ℕ) (told : List Verdict) (values : List (ℕ × Value)) (next : LiveName) (d : ℕ) (w : WrittenValue) (to : CheckerValue)
     → IsOwedValues (owed_of e s.symbols.live values) → next ≡ get_or s.symbols.live (length values) next
     → ((v : Value) → IsValueOf s next d w v → ⊥)
-    → to ≡ judged_so (held limits s log (owed_of e s.symbols.live values) n told) (refused (held limits s log (owed_of e s.symbols.live values) n told).judging rule.Sat)
-    → GoesTo (MovesBy (owed_of e s.symbols.live values) (held limits s log (owed_of e s.symbols.live values) n told).judging (Some (line.Value d w))) (held limits s log (owed_of e s.symbols.live values) n told) to
-value_refused limits s log e n told values next d w to h at none same =
+    → to ≡ judged_so (held format limits s log deleted (owed_of e s.symbols.live values) n told) (refused (held format limits s log deleted (owed_of e s.symbols.live values) n told).judging rule.Sat)
+    → GoesTo (MovesBy (owed_of e s.symbols.live values) (held format limits s log deleted (owed_of e s.symbols.live values) n told).judging (Some (line.Value d w))) (held format limits s log deleted (owed_of e s.symbols.live values) n told) to
+value_refused format limits s log deleted e n told values next d w to h at none same =
     let o : Owed = owed_of e s.symbols.live values in
     let left : List LiveName = drop (suc (length values)) s.symbols.live in
-    subst (λ x. GoesTo (MovesBy x (held limits s log o n told).judging (Some (line.Value d w))) (held limits s log o n told) to) (sym (next_owed e s.symbols.live values next h at))
-    (subst (λ x. GoesTo (MovesBy (judged.Values next left values) (held limits s log o n told).judging (Some (line.Value d w))) (held limits s log o n told) x) (sym same)
+    subst (λ x. GoesTo (MovesBy x (held format limits s log deleted o n told).judging (Some (line.Value d w))) (held format limits s log deleted o n told) to) (sym (next_owed e s.symbols.live values next h at))
+    (subst (λ x. GoesTo (MovesBy (judged.Values next left values) (held format limits s log deleted o n told).judging (Some (line.Value d w))) (held format limits s log deleted o n told) x) (sym same)
     (record { judged = inr (none, refl); verdicts = refl }))
 
-pub value_taken : (limits : Limits) (s : StateValue) (log : List Entry) (e : Due) (n : ℕ) (told : List Verdict) (values longer : List (ℕ × Value)) (next : LiveName) (d : ℕ) (w : WrittenValue) (v : Value) (to : CheckerValue)
+pub value_taken : (format : Format) (limits : Limits) (s : StateValue) (log : List Entry) (deleted : List ℕ) (e : Due) (n : ℕ) (told : List Verdict) (values longer : List (ℕ × Value)) (next : LiveName) (d : ℕ) (w : WrittenValue) (v : Value) (to : CheckerValue)
     → IsOwedValues (owed_of e s.symbols.live values) → next ≡ get_or s.symbols.live (length values) next
     → IsValueOf s next d w v → longer ≡ values ++ (next.declaration, v) ∷ []
-    → GoesTo (Goes (held limits s log judged.Steps n told).judging (drop (length longer) s.symbols.live) longer) (held limits s log judged.Steps n told) to
-    → GoesTo (MovesBy (owed_of e s.symbols.live values) (held limits s log (owed_of e s.symbols.live values) n told).judging (Some (line.Value d w))) (held limits s log (owed_of e s.symbols.live values) n told) to
-value_taken limits s log e n told values longer next d w v to h at is more goes =
+    → GoesTo (Goes (held format limits s log deleted judged.Steps n told).judging (drop (length longer) s.symbols.live) longer) (held format limits s log deleted judged.Steps n told) to
+    → GoesTo (MovesBy (owed_of e s.symbols.live values) (held format limits s log deleted (owed_of e s.symbols.live values) n told).judging (Some (line.Value d w))) (held format limits s log deleted (owed_of e s.symbols.live values) n told) to
+value_taken format limits s log deleted e n told values longer next d w v to h at is more goes =
     let o : Owed = owed_of e s.symbols.live values in
     let left : List LiveName = drop (suc (length values)) s.symbols.live in
     let count : length longer ≡ suc (length values) = omega (arith, ap length more, length-append values ((next.declaration, v) ∷ [])) in
     let all : longer ≡ values ++ (d, v) ∷ [] = more ∙ ap (λ x. values ++ (x, v) ∷ []) (sym is.declaration) in
-    let g : GoesTo (Goes (held limits s log judged.Steps n told).judging left longer) (held limits s log judged.Steps n told) to =
-    subst (λ k. GoesTo (Goes (held limits s log judged.Steps n told).judging (drop k s.symbols.live) longer) (held limits s log judged.Steps n told) to) count goes in
-    let f : GoesTo (Goes (held limits s log judged.Steps n told).judging left (values ++ (d, v) ∷ [])) (held limits s log judged.Steps n told) to =
-    subst (λ vs. GoesTo (Goes (held limits s log judged.Steps n told).judging left vs) (held limits s log judged.Steps n told) to) all g in
-    let t = goes_same limits s log o judged.Steps n told left (values ++ (d, v) ∷ []) to f in
-    subst (λ x. GoesTo (MovesBy x (held limits s log o n told).judging (Some (line.Value d w))) (held limits s log o n told) to) (sym (next_owed e s.symbols.live values next h at))
+    let g : GoesTo (Goes (held format limits s log deleted judged.Steps n told).judging left longer) (held format limits s log deleted judged.Steps n told) to =
+    subst (λ k. GoesTo (Goes (held format limits s log deleted judged.Steps n told).judging (drop k s.symbols.live) longer) (held format limits s log deleted judged.Steps n told) to) count goes in
+    let f : GoesTo (Goes (held format limits s log deleted judged.Steps n told).judging left (values ++ (d, v) ∷ [])) (held format limits s log deleted judged.Steps n told) to =
+    subst (λ vs. GoesTo (Goes (held format limits s log deleted judged.Steps n told).judging left vs) (held format limits s log deleted judged.Steps n told) to) all g in
+    let t = goes_same format limits s log deleted o judged.Steps n told left (values ++ (d, v) ∷ []) to f in
+    subst (λ x. GoesTo (MovesBy x (held format limits s log deleted o n told).judging (Some (line.Value d w))) (held format limits s log deleted o n told) to) (sym (next_owed e s.symbols.live values next h at))
     (record { judged = inl (v, is, t.judged); verdicts = t.verdicts })
 
-pub value_pushed : (limits : Limits) (s : StateValue) (log : List Entry) (e : Due) (n : ℕ) (told : List Verdict) (values longer : List (ℕ × Value)) (next : LiveName) (d : ℕ) (w : WrittenValue) (v : Value) (r : Result CheckerValue AllocError)
+pub value_pushed : (format : Format) (limits : Limits) (s : StateValue) (log : List Entry) (deleted : List ℕ) (e : Due) (n : ℕ) (told : List Verdict) (values longer : List (ℕ × Value)) (next : LiveName) (d : ℕ) (w : WrittenValue) (v : Value) (r : Result CheckerValue AllocError)
     → IsOwedValues (owed_of e s.symbols.live values) → next ≡ get_or s.symbols.live (length values) next
     → IsValueOf s next d w v → longer ≡ values ++ (next.declaration, v) ∷ []
-    → IfOk r (λ to. GoesTo (Goes (held limits s log judged.Steps n told).judging (drop (length longer) s.symbols.live) longer) (held limits s log judged.Steps n told) to)
-    → IfOk r (λ to. GoesTo (MovesBy (owed_of e s.symbols.live values) (held limits s log (owed_of e s.symbols.live values) n told).judging (Some (line.Value d w))) (held limits s log (owed_of e s.symbols.live values) n told) to)
-value_pushed limits s log e n told values longer next d w v (Ok to) h at is more goes = value_taken limits s log e n told values longer next d w v to h at is more goes
-value_pushed limits s log e n told values longer next d w v (Err x) h at is more goes = tt
+    → IfOk r (λ to. GoesTo (Goes (held format limits s log deleted judged.Steps n told).judging (drop (length longer) s.symbols.live) longer) (held format limits s log deleted judged.Steps n told) to)
+    → IfOk r (λ to. GoesTo (MovesBy (owed_of e s.symbols.live values) (held format limits s log deleted (owed_of e s.symbols.live values) n told).judging (Some (line.Value d w))) (held format limits s log deleted (owed_of e s.symbols.live values) n told) to)
+value_pushed format limits s log deleted e n told values longer next d w v (Ok to) h at is more goes = value_taken format limits s log deleted e n told values longer next d w v to h at is more goes
+value_pushed format limits s log deleted e n told values longer next d w v (Err x) h at is more goes = tt
 
 -- a value more that its declaration may have
 pub one_more_kept : (s : StateValue) (e : Due) (values longer : List (ℕ × Value)) (next : LiveName) (d : ℕ) (w : WrittenValue) (v : Value) → IsOwedValues (owed_of e s.symbols.live values) → AreKept e s.symbols.signatures values

@@ -58,15 +58,15 @@ module _ (s : StateValue) (log : List Entry) (l : Line) (held : ℕ) (count : he
   other_line w e = false≢true (e ∙ w)
 
   -- no valid step is written as a lemma with the number of no term
-  pub no_lemma_line : is_lemma l ≡ true → (IsLemmaOver held l → ⊥) → (e : Entry) → IsStepOf s log l e → ⊥
-  no_lemma_line w none (entry.Node n) is = other_line w (sym (ap is_lemma (term_line (head_of n.op) n.args l is.written).written))
-  no_lemma_line w none (entry.Leaf t) is = other_line w (ap is_lemma_in is.written)
-  no_lemma_line w none (entry.Encode t) is = other_line w (ap is_lemma_in is.written)
-  no_lemma_line w none (entry.Selector a t) is = other_line w (ap is_lemma_in is.written)
-  no_lemma_line w none (entry.Chain c hints) is = other_line w (ap is_lemma_in is.written)
-  no_lemma_line w none (entry.Rewrite r) is = other_line w (ap is_lemma_in is.written)
-  no_lemma_line w none (entry.Equal t u) is = other_line w (ap is_lemma_in is.written)
-  no_lemma_line w none (entry.Lemma a) is =
+  pub no_lemma_line : is_lemma l ≡ true → (IsLemmaOver held l → ⊥) → (deleted : List ℕ) (e : Entry) → IsStepOf s log deleted l e → ⊥
+  no_lemma_line w none deleted (entry.Node n) is = other_line w (sym (ap is_lemma (term_line (head_of n.op) n.args l is.written).written))
+  no_lemma_line w none deleted (entry.Leaf t) is = other_line w (ap is_lemma_in is.written)
+  no_lemma_line w none deleted (entry.Encode t) is = other_line w (ap is_lemma_in is.written)
+  no_lemma_line w none deleted (entry.Selector a t) is = other_line w (ap is_lemma_in is.written)
+  no_lemma_line w none deleted (entry.Chain c hints) is = other_line w (ap is_lemma_in is.written)
+  no_lemma_line w none deleted (entry.Rewrite r) is = other_line w (ap is_lemma_in is.written)
+  no_lemma_line w none deleted (entry.Equal t u) is = other_line w (ap is_lemma_in is.written)
+  no_lemma_line w none deleted (entry.Lemma a) is =
       let over = valid_over s.terms.nodes (state_of s.terms.nodes log) a is.valid in
       let written : lemma_line a ≡ l = cc in
       none (subst (IsLemmaOver held) written (subst (λ n. IsLemmaOver n (lemma_line a)) (sym count) over))

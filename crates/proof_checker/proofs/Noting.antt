@@ -11,10 +11,13 @@ use Rattle.proof_log.specs.declared.entry.Entry.{Entry}
 use Rattle.proof_log.specs.declared.diary.DiaryLine.{DiaryLine}
 use Rattle.proof_log.specs.declared.diary.DiaryLine.TheVariants as diary
 use Rattle.proof_log.specs.Stored.{LogValue, Stands}
-use Rattle.proof_log.specs.Diaries.{Subject, DiaryState, blank, line_after, lines_after, AreLines, IsSpent}
+use Rattle.cnf_base.proofs.Lists.{each_append, each_behind}
+use Rattle.proof_log.specs.Diaries.{Subject, DiaryState, line_after, lines_after, AreLines}
 use Rattle.proof_log.specs.Diaries as diaries
 use Rattle.proof_log.proofs.Standing.{stands_over}
+use Rattle.proof_text.specs.declared.line.Format.{Format}
 use Rattle.proof_text.specs.declared.line.Line.TheVariants as line
+use Rattle.proof_text.specs.Deletions.{IsSpentFrom, IsSpentWithout, blank_without, is_deleted, place_of}
 use Rattle.proof_text.specs.declared.record.Record.TheVariants as shown
 use Rattle.accepted_proof.specs.declared.refusal.RuleName.TheVariants as rule
 use Rattle.accepted_proof.specs.Searching.{Limits, IsSearch, subject_of}
@@ -24,7 +27,7 @@ use Rattle.diary_checker.specs.Readers.{IsAbout, HasRead}
 use Rattle.proof_checker.specs.declared.due.Due.{Due}
 use Rattle.proof_checker.specs.declared.due.Due.TheVariants as due
 use Rattle.proof_checker.specs.declared.due.Noting.{Noting}
-use Rattle.proof_checker.specs.Checkers.{CheckerValue, GoesTo, HasLine, IsNoLine, IsNoted, IsOwedLines, LinesTo, NotesBy, ReadTo, judged_so, closed_with, owed_of, values_owed}
+use Rattle.proof_checker.specs.Checkers.{AreLeft, CheckerValue, GoesTo, HasLine, IsNoLine, IsNoted, IsOwedLines, LinesTo, NotesBy, ReadTo, judged_so, closed_with, owed_of, values_owed}
 use Rattle.proof_checker.proofs.Moving.{held}
 
 -- the log at hand is the one that the diary is about
@@ -36,59 +39,63 @@ last_line : (g : Subject) (s : DiaryState) (ls : List DiaryLine) (l : DiaryLine)
 last_line g s [] l h = h.0
 last_line g s (m ∷ ls) l h = last_line g (line_after g s m) ls l h.1
 
-module _ (limits : Limits) (s : StateValue) (log : List Entry) (o : Owed) (n : ℕ) (told : List Verdict) where
+-- none of the lines names a deleted place, so neither does the last of them
+left_last : (deleted : List ℕ) (ls : List DiaryLine) (l : DiaryLine) → AreLeft deleted (ls ++ l ∷ []) → is_deleted deleted (place_of l) ≡ false
+left_last deleted ls l h = (each_behind (λ x. is_deleted deleted (place_of x) ≡ false) ls (l ∷ []) h).0
+
+module _ (format : Format) (limits : Limits) (s : StateValue) (log : List Entry) (deleted : List ℕ) (o : Owed) (n : ℕ) (told : List Verdict) where
   abbrev now : Judging
-  now = (held limits s log o n told).judging
+  now = (held format limits s log deleted o n told).judging
 
   abbrev subject : ℕ → ℕ → Subject
   subject cube start = subject_of limits s s.terms.nodes log cube start
 
   -- where the last line goes
   abbrev LastTo : ℕ → ℕ → List DiaryLine → Judging → Type 0
-  LastTo cube start lines k = Decides (IsSpent (subject cube start) limits.budget lines) (closed now (shown.Unknown (record { cube = cube; start = start; lines = lines }))) (refused now rule.Diary) k
+  LastTo cube start lines k = Decides (IsSpentWithout deleted (subject cube start) limits.budget lines) (closed now (shown.Unknown (record { cube = cube; start = start; lines = lines }))) (refused now rule.Diary) k
 
   -- a line that may not stand there is refused
-  no_line : (old : Noting) (l : DiaryLine) (k : Judging) → IsNoLine limits s log old l → k ≡ refused now rule.Diary → Notes now old.cube old.start old.left old.lines l k
+  no_line : (old : Noting) (l : DiaryLine) (k : Judging) → IsNoLine limits s log deleted old l → k ≡ refused now rule.Diary → Notes now old.cube old.start old.left old.lines l k
   no_line old l k none e = by_left old.left where
     by_left : (left : ℕ) → Notes now old.cube old.start left old.lines l k
-    by_left zero = inr ((λ spent. none (last_line (subject old.cube old.start) (blank (subject old.cube old.start)) old.lines l spent.stand)), e)
+    by_left zero = inr ((λ spent. none (left_last deleted old.lines l spent.left, last_line (subject old.cube old.start) (blank_without (is_deleted deleted) (subject old.cube old.start)) old.lines l spent.spent.stand)), e)
     by_left (suc left) = inr (none, e)
 
   -- one that may is one line more
-  a_line : (old new : Noting) (l : DiaryLine) (k : Judging) → HasLine limits s log old l new → LinesTo now new new.left k → Notes now old.cube old.start old.left old.lines l k
+  a_line : (old new : Noting) (l : DiaryLine) (k : Judging) → HasLine limits s log deleted old l new → LinesTo now new new.left k → Notes now old.cube old.start old.left old.lines l k
   a_line old new l k h to = by_left old.left (subst (λ m. LinesTo now new m k) h.left to) where
-    stand : AreLines (subject old.cube old.start) (blank (subject old.cube old.start)) (old.lines ++ l ∷ [])
+    stand : AreLines (subject old.cube old.start) (blank_without (is_deleted deleted) (subject old.cube old.start)) (old.lines ++ l ∷ [])
     stand =
-        subst (λ c. AreLines (subject c old.start) (blank (subject c old.start)) (old.lines ++ l ∷ [])) h.cube
-        (subst (λ p. AreLines (subject new.cube p) (blank (subject new.cube p)) (old.lines ++ l ∷ [])) h.start
-        (subst (λ ls. AreLines (subject new.cube new.start) (blank (subject new.cube new.start)) ls) h.lines h.noted.stand))
+        subst (λ c. AreLines (subject c old.start) (blank_without (is_deleted deleted) (subject c old.start)) (old.lines ++ l ∷ [])) h.cube
+        (subst (λ p. AreLines (subject new.cube p) (blank_without (is_deleted deleted) (subject new.cube p)) (old.lines ++ l ∷ [])) h.start
+        (subst (λ ls. AreLines (subject new.cube new.start) (blank_without (is_deleted deleted) (subject new.cube new.start)) ls) h.lines h.noted.0.stand))
 
     by_left : (left : ℕ) → LinesTo now new left k → Notes now old.cube old.start left old.lines l k
     by_left zero t = subst (λ c. LastTo c old.start (old.lines ++ l ∷ []) k) h.cube (subst (λ p. LastTo new.cube p (old.lines ++ l ∷ []) k) h.start (subst (λ ls. LastTo new.cube new.start ls k) h.lines t))
     by_left (suc left) t =
         inl (
-          last_line (subject old.cube old.start) (blank (subject old.cube old.start)) old.lines l stand,
+          (left_last deleted old.lines l (subst (AreLeft deleted) h.lines h.noted.1), last_line (subject old.cube old.start) (blank_without (is_deleted deleted) (subject old.cube old.start)) old.lines l stand),
           subst (λ c. k ≡ judged.noted now c old.start left (old.lines ++ l ∷ [])) h.cube (subst (λ p. k ≡ judged.noted now new.cube p left (old.lines ++ l ∷ [])) h.start (subst (λ ls. k ≡ judged.noted now new.cube new.start left ls) h.lines t)),
         )
 
-  reads : (old new : Noting) (l : DiaryLine) (b : Bool) (to : CheckerValue) → MatchBool b (HasLine limits s log old l new) (IsNoLine limits s log old l)
-      → GoesTo (ReadTo (held limits s log judged.Steps n told).judging new b) (held limits s log judged.Steps n told) to
-      → GoesTo (Notes now old.cube old.start old.left old.lines l) (held limits s log o n told) to
+  reads : (old new : Noting) (l : DiaryLine) (b : Bool) (to : CheckerValue) → MatchBool b (HasLine limits s log deleted old l new) (IsNoLine limits s log deleted old l)
+      → GoesTo (ReadTo (held format limits s log deleted judged.Steps n told).judging new b) (held format limits s log deleted judged.Steps n told) to
+      → GoesTo (Notes now old.cube old.start old.left old.lines l) (held format limits s log deleted o n told) to
   reads old new l true to h g = record { judged = a_line old new l to.judging h (by_left new.left g.judged); verdicts = g.verdicts } where
-    by_left : (left : ℕ) → LinesTo (held limits s log judged.Steps n told).judging new left to.judging → LinesTo now new left to.judging
+    by_left : (left : ℕ) → LinesTo (held format limits s log deleted judged.Steps n told).judging new left to.judging → LinesTo now new left to.judging
     by_left zero t = t
     by_left (suc left) t = t
   reads old new l false to h g = record { judged = no_line old l to.judging h g.judged; verdicts = g.verdicts }
 
 -- one line of a diary that is owed
-pub line_noted : (limits : Limits) (s : StateValue) (log : List Entry) (d : Due) (live : List LiveName) (values : List (ℕ × Value)) (n : ℕ) (told : List Verdict) (old new : Noting) (l : DiaryLine) (b : Bool) (r : Result CheckerValue AllocError)
-    → d ≡ due.Noted old → MatchBool b (HasLine limits s log old l new) (IsNoLine limits s log old l)
-    → IfOk r (λ to. GoesTo (ReadTo (held limits s log judged.Steps n told).judging new b) (held limits s log judged.Steps n told) to)
-    → IfOk r (λ to. GoesTo (NotesBy (owed_of d live values) (held limits s log (owed_of d live values) n told).judging l) (held limits s log (owed_of d live values) n told) to)
-line_noted limits s log d live values n told old new l b (Err x) e h g = tt
-line_noted limits s log d live values n told old new l b (Ok to) e h g =
-    subst (λ x. GoesTo (NotesBy (owed_of x live values) (held limits s log (owed_of x live values) n told).judging l) (held limits s log (owed_of x live values) n told) to) (sym e)
-    (reads limits s log (judged.Noted old.cube old.start old.left old.lines) n told old new l b to h g)
+pub line_noted : (format : Format) (limits : Limits) (s : StateValue) (log : List Entry) (deleted : List ℕ) (d : Due) (live : List LiveName) (values : List (ℕ × Value)) (n : ℕ) (told : List Verdict) (old new : Noting) (l : DiaryLine) (b : Bool) (r : Result CheckerValue AllocError)
+    → d ≡ due.Noted old → MatchBool b (HasLine limits s log deleted old l new) (IsNoLine limits s log deleted old l)
+    → IfOk r (λ to. GoesTo (ReadTo (held format limits s log deleted judged.Steps n told).judging new b) (held format limits s log deleted judged.Steps n told) to)
+    → IfOk r (λ to. GoesTo (NotesBy (owed_of d live values) (held format limits s log deleted (owed_of d live values) n told).judging l) (held format limits s log deleted (owed_of d live values) n told) to)
+line_noted format limits s log deleted d live values n told old new l b (Err x) e h g = tt
+line_noted format limits s log deleted d live values n told old new l b (Ok to) e h g =
+    subst (λ x. GoesTo (NotesBy (owed_of x live values) (held format limits s log deleted (owed_of x live values) n told).judging l) (held format limits s log deleted (owed_of x live values) n told) to) (sym e)
+    (reads format limits s log deleted (judged.Noted old.cube old.start old.left old.lines) n told old new l b to h g)
 
 -- lines are owed only of a diary
 pub is_noted : (d : Due) (live : List LiveName) (values : List (ℕ × Value)) → IsOwedLines (owed_of d live values) → (m : Noting) × (d ≡ due.Noted m)
@@ -148,28 +155,45 @@ module _ (c d : CheckerValue) (cube start : ℕ) where
       same = λ i. judged.noted c.judging (at i) (from i) n.left (none i)
 
 -- a diary that was begun, or one line more of it, is one of the log at hand
-pub noted_when : (limits : Limits) (s : StateValue) (log : List Entry) (old new : Noting) (l : DiaryLine) (b : Bool) → MatchBool b (HasLine limits s log old l new) (IsNoLine limits s log old l) → b ≡ true → IsNoted limits s log (due.Noted new)
-noted_when limits s log old new l true h e = h.noted
-noted_when limits s log old new l false h e = absurd (let f : ⊥ = cc in f)
+pub noted_when : (limits : Limits) (s : StateValue) (log : List Entry) (deleted : List ℕ) (old new : Noting) (l : DiaryLine) (b : Bool) → MatchBool b (HasLine limits s log deleted old l new) (IsNoLine limits s log deleted old l) → b ≡ true → IsNoted limits s log deleted (due.Noted new)
+noted_when limits s log deleted old new l true h e = h.noted
+noted_when limits s log deleted old new l false h e = absurd (let f : ⊥ = cc in f)
 
--- what the reader of a diary tells of a line is told of the diary
-pub line_told : (limits : Limits) (s : StateValue) (log : LogValue) (old new : Noting) (l : DiaryLine) (b : Bool)
-    → new.cube ≡ old.cube → new.start ≡ old.start → new.left ≡ old.left → new.lines ≡ old.lines ++ l ∷ []
-    → MatchBool b
-    (diaries.IsLine (subject_of limits s s.terms.nodes log.entries old.cube old.start) (lines_after (subject_of limits s s.terms.nodes log.entries old.cube old.start) (blank (subject_of limits s s.terms.nodes log.entries old.cube old.start)) old.lines) l × HasRead (subject_of limits s s.terms.nodes log.entries old.cube old.start) (old.lines ++ l ∷ []) new.reader)
-    ((diaries.IsLine (subject_of limits s s.terms.nodes log.entries old.cube old.start) (lines_after (subject_of limits s s.terms.nodes log.entries old.cube old.start) (blank (subject_of limits s s.terms.nodes log.entries old.cube old.start)) old.lines) l → ⊥) × (new.reader ≡ old.reader))
-    → MatchBool b (HasLine limits s log.entries old l new) (IsNoLine limits s log.entries old l)
-line_told limits s log old new l true cube start left lines h = record {
-  cube = cube;
-  start = start;
-  left = left;
-  lines = lines;
-  noted =
-      subst (λ k. HasRead (subject_of limits s s.terms.nodes log.entries k new.start) new.lines new.reader) (sym cube)
-      (subst (λ k. HasRead (subject_of limits s s.terms.nodes log.entries old.cube k) new.lines new.reader) (sym start)
-      (subst (λ k. HasRead (subject_of limits s s.terms.nodes log.entries old.cube old.start) k new.reader) (sym lines) h.1));
-}
-line_told limits s log old new l false cube start left lines h = h.0
+-- a line that names a deleted place may not stand
+pub names_line : (limits : Limits) (s : StateValue) (log : List Entry) (deleted : List ℕ) (old : Noting) (l : DiaryLine) → is_deleted deleted (place_of l) ≡ true → IsNoLine limits s log deleted old l
+names_line limits s log deleted old l e = λ p. let other = p.0 in let f : ⊥ = cc in f
+
+-- what the reader of a diary tells of a line that names no deleted place is told of the diary
+module _ (limits : Limits) (s : StateValue) (log : LogValue) (deleted : List ℕ) where
+  abbrev about : ℕ → ℕ → Subject
+  about cube start = subject_of limits s s.terms.nodes log.entries cube start
+
+  abbrev MayFollow : Noting → DiaryLine → Type 0
+  MayFollow old l = diaries.IsLine (about old.cube old.start) (lines_after (about old.cube old.start) (blank_without (is_deleted deleted) (about old.cube old.start)) old.lines) l
+
+  pub line_told : (old new : Noting) (l : DiaryLine) (b : Bool) → AreLeft deleted old.lines → is_deleted deleted (place_of l) ≡ false
+      → new.cube ≡ old.cube → new.start ≡ old.start → new.left ≡ old.left → new.lines ≡ old.lines ++ l ∷ []
+      → MatchBool b (MayFollow old l × HasRead (is_deleted deleted) (about old.cube old.start) (old.lines ++ l ∷ []) new.reader) ((MayFollow old l → ⊥) × (new.reader ≡ old.reader))
+      → MatchBool b (HasLine limits s log.entries deleted old l new) (IsNoLine limits s log.entries deleted old l)
+  line_told old new l true before names cube start left lines h = record {
+    cube = cube;
+    start = start;
+    left = left;
+    lines = lines;
+    noted = (
+      subst (λ k. HasRead (is_deleted deleted) (about k new.start) new.lines new.reader) (sym cube)
+          (subst (λ k. HasRead (is_deleted deleted) (about old.cube k) new.lines new.reader) (sym start)
+          (subst (λ k. HasRead (is_deleted deleted) (about old.cube old.start) k new.reader) (sym lines) h.1)),
+      subst (AreLeft deleted) (sym lines) (each_append (λ x. is_deleted deleted (place_of x) ≡ false) old.lines (l ∷ []) before (names, tt)),
+    );
+  }
+  line_told old new l false before names cube start left lines h = λ p. h.0 p.1
+
+-- whether lines that name no deleted place spent the budget
+pub spent_told : (deleted : List ℕ) (g : Subject) (budget : ℕ) (lines : List DiaryLine) (b : Bool) → AreLeft deleted lines → MatchBool b (IsSpentFrom (blank_without (is_deleted deleted) g) g budget lines) (IsSpentFrom (blank_without (is_deleted deleted) g) g budget lines → ⊥)
+    → MatchBool b (IsSpentWithout deleted g budget lines) (IsSpentWithout deleted g budget lines → ⊥)
+spent_told deleted g budget lines true left h = record { spent = h; left = left }
+spent_told deleted g budget lines false left h = λ s. h s.spent
 
 -- ---- a line that was read
 
@@ -185,7 +209,7 @@ module _ (c : CheckerValue) (n : Noting) where
       (subst (λ k. GoesTo (LinesTo c.judging n k) c d) left_is
       (subst (GoesTo (LinesTo c.judging n (suc m.left)) c) (sym e) (record { judged = λ i. judged.noted c.judging (at i) (from i) m.left (same i); verdicts = refl })))
 
-  pub read_spent : (b : Bool) (r : Result CheckerValue AllocError) → b ≡ true → n.left ≡ 0 → IsSpent (subject_at c.judging n.cube n.start) c.judging.limits.budget n.lines
+  pub read_spent : (b : Bool) (r : Result CheckerValue AllocError) → b ≡ true → n.left ≡ 0 → IsSpentWithout c.judging.deleted (subject_at c.judging n.cube n.start) c.judging.limits.budget n.lines
       → IfOk r (λ d. d ≡ closed_with c verdict.Unknown) → IfOk r (λ d. GoesTo (ReadTo c.judging n b) c d)
   read_spent b (Err x) good last spent e = tt
   read_spent b (Ok d) good last spent e =
@@ -193,7 +217,7 @@ module _ (c : CheckerValue) (n : Noting) where
       (subst (λ k. GoesTo (LinesTo c.judging n k) c d) (sym last)
       (subst (GoesTo (LinesTo c.judging n zero) c) (sym e) (record { judged = inl (spent, refl); verdicts = refl })))
 
-  pub read_unspent : (b : Bool) (d : CheckerValue) → b ≡ true → n.left ≡ 0 → (IsSpent (subject_at c.judging n.cube n.start) c.judging.limits.budget n.lines → ⊥)
+  pub read_unspent : (b : Bool) (d : CheckerValue) → b ≡ true → n.left ≡ 0 → (IsSpentWithout c.judging.deleted (subject_at c.judging n.cube n.start) c.judging.limits.budget n.lines → ⊥)
       → d ≡ judged_so c (refused c.judging rule.Diary) → GoesTo (ReadTo c.judging n b) c d
   read_unspent b d good last unspent e =
       subst (λ x. GoesTo (ReadTo c.judging n x) c d) (sym good)
@@ -201,9 +225,11 @@ module _ (c : CheckerValue) (n : Noting) where
       (subst (GoesTo (LinesTo c.judging n zero) c) (sym e) (record { judged = inr (unspent, refl); verdicts = refl })))
 
 -- the same lines, of which others are left, are noted too
-pub noted_same : (limits : Limits) (s : StateValue) (log : List Entry) (n m : Noting) → m.cube ≡ n.cube → m.start ≡ n.start → m.lines ≡ n.lines → m.reader ≡ n.reader → IsNoted limits s log (due.Noted n) → IsNoted limits s log (due.Noted m)
-noted_same limits s log n m cube start lines reader h =
-    subst (λ k. HasRead (subject_of limits s s.terms.nodes log k m.start) m.lines m.reader) (sym cube)
-    (subst (λ k. HasRead (subject_of limits s s.terms.nodes log n.cube k) m.lines m.reader) (sym start)
-    (subst (λ k. HasRead (subject_of limits s s.terms.nodes log n.cube n.start) k m.reader) (sym lines)
-    (subst (HasRead (subject_of limits s s.terms.nodes log n.cube n.start) n.lines) (sym reader) h)))
+pub noted_same : (limits : Limits) (s : StateValue) (log : List Entry) (deleted : List ℕ) (n m : Noting) → m.cube ≡ n.cube → m.start ≡ n.start → m.lines ≡ n.lines → m.reader ≡ n.reader → IsNoted limits s log deleted (due.Noted n) → IsNoted limits s log deleted (due.Noted m)
+noted_same limits s log deleted n m cube start lines reader h = (
+  subst (λ k. HasRead (is_deleted deleted) (subject_of limits s s.terms.nodes log k m.start) m.lines m.reader) (sym cube)
+      (subst (λ k. HasRead (is_deleted deleted) (subject_of limits s s.terms.nodes log n.cube k) m.lines m.reader) (sym start)
+      (subst (λ k. HasRead (is_deleted deleted) (subject_of limits s s.terms.nodes log n.cube n.start) k m.reader) (sym lines)
+      (subst (HasRead (is_deleted deleted) (subject_of limits s s.terms.nodes log n.cube n.start) n.lines) (sym reader) h.0))),
+  subst (AreLeft deleted) (sym lines) h.1,
+)

@@ -1,5 +1,5 @@
 -- Of laws on what is judged of two texts.
-use Rattle.std.proofs.Common.{◌≡◌, ℕ, List, [], ◌∷◌, ◌++◌, map, length, Option, Some, None, refl, sym, ap, ◌∙◌, subst, inl, inr, arith, append_assoc, append-nil}
+use Rattle.std.proofs.Common.{◌≡◌, ℕ, Bool, List, [], ◌∷◌, ◌++◌, map, length, Option, Some, None, refl, sym, ap, ◌∙◌, subst, inl, inr, arith, append_assoc, append-nil}
 use Rattle.std.specs.Prelude.{◌⊎◌, ◌||◌, true, Err}
 use Rattle.std.specs.List.{list_any, flat_map, AllByRecursion}
 use Rattle.std.proofs.lemmas.List.{length-map, length-append, nil_from_length}
@@ -12,14 +12,15 @@ use Rattle.script_state.specs.Steps.{ends}
 use Rattle.script_state.proofs.Deciding.{reads_one_way}
 use Rattle.cnf_base.proofs.Lists.{each_append}
 use Rattle.proof_log.specs.declared.entry.Entry.{Entry}
+use Rattle.proof_text.specs.declared.line.Format.{Format}
 use Rattle.proof_text.specs.declared.line.Line.{Line}
 use Rattle.proof_text.specs.declared.line.Line.TheVariants as line
 use Rattle.proof_text.specs.Lines.{joined, words_of, line_text, IsLine}
 use Rattle.proof_text.proofs.Exact.{line_free}
 use Rattle.accepted_proof.specs.declared.refusal.Refusal.{Refusal}
 use Rattle.accepted_proof.specs.Searching.{Limits, AreLimits}
-use Rattle.accepted_proof.specs.Turns.{Turn, AreTurns, state_after, turn_lines}
-use Rattle.accepted_proof.specs.Answers.{proof_of}
+use Rattle.accepted_proof.specs.Turns.{Turn, Part, AreParts, deleted_behind, part_lines, state_after, steps_in, turn_of}
+use Rattle.accepted_proof.specs.Answers.{written_of}
 use Rattle.accepted_proof.specs.Accepted.{AreRead, has_ended, AreAll, AcceptedFrom}
 use Rattle.accepted_proof.specs.Right.{AreRight}
 use Rattle.accepted_proof.proofs.Fronts.{front_fewer}
@@ -31,7 +32,7 @@ use Rattle.proof_checker.specs.Checked.{AreLines, Tells, TellsProofFrom, IsJudge
 use Rattle.proof_checker.proofs.Splits.{lines_one}
 use Rattle.proof_checker.proofs.Chunking.{cut_there, cut_behind}
 use Rattle.proof_checker.proofs.Telling.{tells_more, tells_less}
-use Rattle.proof_checker.proofs.Verdicts.{judged_of, tells_there, one_proof_telling, proof_verdicts, line_verdict, of_turns}
+use Rattle.proof_checker.proofs.Verdicts.{judged_of, tells_there, one_proof_telling, proof_verdicts, line_verdict, of_parts}
 
 -- ---- one thing at most
 
@@ -110,15 +111,16 @@ none_some r e = cc
 
 -- the lines behind the header
 pub record IsHeaderTold (start : StateValue) (lines : List (Option Line)) (cs : List Says) (vs : List Verdict) : Type 0 where
+  pub format : Format
   pub limits : Limits
   pub allowed : AreLimits limits
   pub rest : List (Option Line)
-  pub header : lines ≡ Some (line.Header limits.cubes limits.budget) ∷ rest
-  pub told : Tells (judging_from start limits) cs rest vs None
+  pub header : lines ≡ Some (line.Header format limits.cubes limits.budget) ∷ rest
+  pub told : Tells (judging_from start format limits) cs rest vs None
 
 pub header_told : (start : StateValue) (ls : List (Option Line)) (cs : List Says) (vs : List Verdict) → TellsProofFrom start cs ls vs None → IsHeaderTold start ls cs vs
 header_told start [] cs vs h = absurd (none_some _ h.1)
-header_told start (l ∷ ls) cs vs (inl h) = record { limits = h.0; allowed = h.1.allowed; rest = ls; header = ap (λ x. x ∷ ls) h.1.written; told = h.2 }
+header_told start (l ∷ ls) cs vs (inl h) = record { format = h.0; limits = h.1; allowed = h.2.allowed; rest = ls; header = ap (λ x. x ∷ ls) h.2.written; told = h.3 }
 header_told start (l ∷ ls) cs vs (inr h) = absurd (none_some _ h.2)
 
 -- a text whose lines can all be read is the text of these lines
@@ -141,15 +143,15 @@ lines_readable (None ∷ ls) text (inl h) = (tt, lines_readable ls h.0 h.2)
 lines_readable (Some l ∷ ls) text (inl h) = (h.1.line_is.0, lines_readable ls h.0 h.2)
 lines_readable (l ∷ ls) text (inr h) = subst (λ x. AreReadable (x ∷ ls)) (sym h.1) (subst (λ x. AreReadable (None ∷ x)) (sym h.2) (tt, tt))
 
--- so are those of turns
-pub turns_readable : (limits : Limits) (turns : List Turn) (s : StateValue) (log : List Entry) → AreTurns limits s log turns → AllByRecursion IsLine (flat_map turn_lines turns)
-turns_readable limits [] s log h = tt
-turns_readable limits (t ∷ ts) s log h = each_append IsLine (turn_lines t) (flat_map turn_lines ts) h.0.readable (turns_readable limits ts (state_after s t) (log ++ t.steps) h.1)
+-- so are those of parts
+pub parts_readable : (format : Format) (limits : Limits) (parts : List Part) (s : StateValue) (log : List Entry) (deleted : List ℕ) → AreParts format limits s log deleted parts → AllByRecursion IsLine (flat_map part_lines parts)
+parts_readable format limits [] s log deleted h = tt
+parts_readable format limits (p ∷ ps) s log deleted h = each_append IsLine (part_lines p) (flat_map part_lines ps) h.0.readable (parts_readable format limits ps (state_after s (turn_of p)) (log ++ steps_in p.items) (deleted_behind deleted p.items) h.1)
 
 abbrev pub JudgedLaw : StateValue → Type 0
-JudgedLaw start = (limits : Limits) (script : List ℕ) (chunks : List Chunk) (says : List Says) (lines : List (Option Line))
-    → AreLimits limits → AreAllSaid script chunks says → ReadEach chunks says → AreReadable lines → Judged (judging_from start limits) says lines None
-    → (turns : List Turn) × (lines ≡ map (λ l. Some l) (flat_map turn_lines turns)) × AcceptedFrom start limits script (proof_of limits turns) turns
+JudgedLaw start = (format : Format) (limits : Limits) (script : List ℕ) (chunks : List Chunk) (says : List Says) (lines : List (Option Line))
+    → AreLimits limits → AreAllSaid script chunks says → ReadEach chunks says → AreReadable lines → Judged (judging_from start format limits) says lines None
+    → (parts : List Part) × (lines ≡ map (λ l. Some l) (flat_map part_lines parts)) × AcceptedFrom start limits script (written_of format limits parts) (map turn_of parts)
 
 abbrev pub RightLaw : StateValue → Type 0
 RightLaw start = (limits : Limits) (script proof : List ℕ) (turns : List Turn) → AcceptedFrom start limits script proof turns → AreRight start turns
@@ -157,11 +159,12 @@ RightLaw start = (limits : Limits) (script proof : List ℕ) (turns : List Turn)
 -- the commands that are read, and what is told where no others are
 record IsAllTold (start : StateValue) (script : List ℕ) (chunks : List Chunk) (says : List Says) (lines : List (Option Line)) (vs : List Verdict) : Type 0 where
   pub all : AreAllSaid script chunks says
+  pub format : Format
   pub limits : Limits
   pub allowed : AreLimits limits
   pub rest : List (Option Line)
-  pub header : lines ≡ Some (line.Header limits.cubes limits.budget) ∷ rest
-  pub told : Tells (judging_from start limits) says rest vs None
+  pub header : lines ≡ Some (line.Header format limits.cubes limits.budget) ∷ rest
+  pub told : Tells (judging_from start format limits) says rest vs None
 
 all_told : (start : StateValue) (script proof : List ℕ) (vs : List Verdict) (h : IsAcceptedOver start script proof vs) → (h.behind ≡ []) ⊎ (list_any ends h.says ≡ true) → IsAllTold start script h.chunks h.says h.lines vs
 all_told start script proof vs h (inl none) =
@@ -169,6 +172,7 @@ all_told start script proof vs h (inl none) =
     let m = header_told start h.lines h.says vs said in
     record {
       all = inl (subst (AreChunks script) (ap (λ x. h.chunks ++ x) none ∙ append-nil h.chunks) h.cut);
+      format = m.format;
       limits = m.limits;
       allowed = m.allowed;
       rest = m.rest;
@@ -180,23 +184,25 @@ all_told start script proof vs h (inr ended) =
     let m = header_told start h.lines (h.says ++ more) vs (h.told more (length-map h.behind (λ (x : Chunk). no_reading))) in
     record {
       all = inr (ended, front_fewer script h.chunks h.behind (inr h.cut));
+      format = m.format;
       limits = m.limits;
       allowed = m.allowed;
       rest = m.rest;
       header = m.header;
-      told = tells_less m.rest more None (judging_from start m.limits) h.says vs ended m.told;
+      told = tells_less m.rest more None (judging_from start m.format m.limits) h.says vs ended m.told;
     }
 
 pub accepted_right : (start : StateValue) → JudgedLaw start → RightLaw start → (script proof : List ℕ) (vs : List Verdict) → IsAcceptedOver start script proof vs → (limits : Limits) × (turns : List Turn) × AcceptedFrom start limits script proof turns × AreRight start turns × (vs ≡ verdicts_of turns)
 accepted_right start law right script proof vs h =
     let m = all_told start script proof vs h (h.whole refl) in
     let readable : AreReadable m.rest = (subst AreReadable m.header (lines_readable h.lines proof h.split)).1 in
-    let t = law m.limits script h.chunks h.says m.rest m.allowed m.all h.read readable (judged_of m.rest (judging_from start m.limits) h.says vs None m.told) in
-    let header : Line = line.Header m.limits.cubes m.limits.budget in
-    let lines : h.lines ≡ map (λ l. Some l) (header ∷ flat_map turn_lines t.0) = m.header ∙ ap (λ ls. Some header ∷ ls) t.1 in
-    let text : proof ≡ proof_of m.limits t.0 = text_of_lines (header ∷ flat_map turn_lines t.0) proof (subst (AreLines proof) lines h.split) in
-    let accepted = subst (λ p. AcceptedFrom start m.limits script p t.0) (sym text) t.2 in
-    (m.limits, t.0, accepted, right m.limits script proof t.0 accepted, proof_verdicts start m.limits m.rest h.says vs m.told ∙ ap (flat_map line_verdict) t.1 ∙ of_turns t.0)
+    let t = law m.format m.limits script h.chunks h.says m.rest m.allowed m.all h.read readable (judged_of m.rest (judging_from start m.format m.limits) h.says vs None m.told) in
+    let header : Line = line.Header m.format m.limits.cubes m.limits.budget in
+    let turns = map turn_of t.0 in
+    let lines : h.lines ≡ map (λ l. Some l) (header ∷ flat_map part_lines t.0) = m.header ∙ ap (λ ls. Some header ∷ ls) t.1 in
+    let text : proof ≡ written_of m.format m.limits t.0 = text_of_lines (header ∷ flat_map part_lines t.0) proof (subst (AreLines proof) lines h.split) in
+    let accepted = subst (λ p. AcceptedFrom start m.limits script p turns) (sym text) t.2 in
+    (m.limits, turns, accepted, right m.limits script proof turns accepted, proof_verdicts start m.format m.limits m.rest h.says vs m.told ∙ ap (flat_map line_verdict) t.1 ∙ of_parts t.0)
 
 -- ---- accepted proofs pass
 
@@ -215,7 +221,7 @@ lines_printed [] h = refl
 lines_printed (l ∷ ls) h = line_first l (flat_map line_text ls) (map (λ l. Some l) ls) h.0 (lines_printed ls h.1)
 
 abbrev pub TurnsLaw : StateValue → Type 0
-TurnsLaw start = (limits : Limits) (script proof : List ℕ) (turns : List Turn) → AcceptedFrom start limits script proof turns → Judged (judging_from start limits) (map (λ (t : Turn). t.says) turns) (map (λ l. Some l) (flat_map turn_lines turns)) None
+TurnsLaw start = (limits : Limits) (script proof : List ℕ) (turns : List Turn) (accepted : AcceptedFrom start limits script proof turns) → Judged (judging_from start accepted.format limits) (map (λ (t : Turn). t.says) turns) (map (λ l. Some l) (flat_map part_lines accepted.parts)) None
 
 -- a turn ends the run where its reading does
 ended_says : (turns : List Turn) → list_any ends (map (λ (t : Turn). t.says) turns) ≡ has_ended turns
@@ -238,18 +244,19 @@ is_behind script chunks turns (inr (e, inl b)) =
     let k = cut_there b.0 in
     record { behind = k.0; cut = cut_behind (record { line = 1; bytes = script }) chunks k.0 b.0 b.1 k.1; none = inr (ended_says turns ∙ e) }
 
-told_behind : (start : StateValue) (limits : Limits) (lines : List (Option Line)) (says rest : List Says) (behind : List Chunk) (vs : List Verdict) → (behind ≡ []) ⊎ (list_any ends says ≡ true) → length rest ≡ length behind → Tells (judging_from start limits) says lines vs None → Tells (judging_from start limits) (says ++ rest) lines vs None
-told_behind start limits lines says rest behind vs (inl none) n h = subst (λ x. Tells (judging_from start limits) x lines vs None) (sym (ap (λ x. says ++ x) (nil_from_length rest (n ∙ ap length none)) ∙ append-nil says)) h
-told_behind start limits lines says rest behind vs (inr ended) n h = tells_more lines rest None (judging_from start limits) says vs ended h
+told_behind : (start : StateValue) (format : Format) (limits : Limits) (lines : List (Option Line)) (says rest : List Says) (behind : List Chunk) (vs : List Verdict) → (behind ≡ []) ⊎ (list_any ends says ≡ true) → length rest ≡ length behind → Tells (judging_from start format limits) says lines vs None → Tells (judging_from start format limits) (says ++ rest) lines vs None
+told_behind start format limits lines says rest behind vs (inl none) n h = subst (λ x. Tells (judging_from start format limits) x lines vs None) (sym (ap (λ x. says ++ x) (nil_from_length rest (n ∙ ap length none)) ∙ append-nil says)) h
+told_behind start format limits lines says rest behind vs (inr ended) n h = tells_more lines rest None (judging_from start format limits) says vs ended h
 
 pub accepted_pass : (start : StateValue) → TurnsLaw start → (limits : Limits) (script proof : List ℕ) (turns : List Turn) → AcceptedFrom start limits script proof turns → IsAcceptedOver start script proof (verdicts_of turns)
 accepted_pass start law limits script proof turns h =
     let says = map (λ (t : Turn). t.says) turns in
-    let lines = map (λ l. Some l) (flat_map turn_lines turns) in
-    let header = line.Header limits.cubes limits.budget in
-    let t = tells_there lines (judging_from start limits) says None (law limits script proof turns h) in
-    let same : t.0 ≡ verdicts_of turns = proof_verdicts start limits lines says t.0 t.1 ∙ of_turns turns in
-    let told : Tells (judging_from start limits) says lines (verdicts_of turns) None = subst (λ x. Tells (judging_from start limits) says lines x None) same t.1 in
+    let format = h.format in
+    let lines = map (λ l. Some l) (flat_map part_lines h.parts) in
+    let header = line.Header format limits.cubes limits.budget in
+    let t = tells_there lines (judging_from start format limits) says None (law limits script proof turns h) in
+    let same : t.0 ≡ verdicts_of turns = proof_verdicts start format limits lines says t.0 t.1 ∙ of_parts h.parts ∙ ap verdicts_of h.turns_are in
+    let told : Tells (judging_from start format limits) says lines (verdicts_of turns) None = subst (λ x. Tells (judging_from start format limits) says lines x None) same t.1 in
     let k = is_behind script h.chunks turns h.cut in
     record {
       chunks = h.chunks;
@@ -258,7 +265,7 @@ accepted_pass start law limits script proof turns h =
       lines = Some header ∷ lines;
       cut = k.cut;
       read = read_says h.chunks turns h.read;
-      split = subst (λ (x : List ℕ). AreLines x (Some header ∷ lines)) (sym h.lines) (line_first header _ lines (omega (arith, h.allowed.cubes), omega (arith, h.allowed.budget)) (lines_printed (flat_map turn_lines turns) (turns_readable limits turns start [] h.run)));
-      told = λ rest n. inl (limits, record { written = refl; allowed = h.allowed }, told_behind start limits lines says rest k.behind (verdicts_of turns) k.none n told);
+      split = subst (λ (x : List ℕ). AreLines x (Some header ∷ lines)) (sym h.lines) (line_first header _ lines (omega (arith, h.allowed.cubes), omega (arith, h.allowed.budget)) (lines_printed (flat_map part_lines h.parts) (parts_readable format limits h.parts start [] [] h.run)));
+      told = λ rest n. inl (format, limits, record { written = refl; allowed = h.allowed }, told_behind start format limits lines says rest k.behind (verdicts_of turns) k.none n told);
       whole = λ z. k.none;
     }

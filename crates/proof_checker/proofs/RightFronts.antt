@@ -9,16 +9,17 @@ use Rattle.proof_text.specs.declared.line.Line.{Line}
 use Rattle.proof_text.specs.declared.line.Line.TheVariants as line
 use Rattle.proof_text.specs.Lines.{line_text, IsLine}
 use Rattle.accepted_proof.specs.Searching.{Limits}
-use Rattle.accepted_proof.specs.Turns.{Turn, turn_lines}
+use Rattle.accepted_proof.specs.Turns.{Turn, part_lines, turn_of}
+use Rattle.accepted_proof.specs.Answers.{written_of}
 use Rattle.accepted_proof.specs.Accepted.{AcceptedSoFarFrom, AcceptedSoFar}
 use Rattle.accepted_proof.specs.Right.{AreRight}
 use Rattle.accepted_proof.specs.Judged.{judging_from, AreReadable}
-use Rattle.accepted_proof.proofs.Answering.{start_turns_are_right}
+use Rattle.accepted_proof.proofs.Answering.{start_parts_are_right}
 use Rattle.accepted_proof.proofs.Beginning.{judged_begins}
 use Rattle.accepted_proof.proofs.Fronts.{front_fewer}
 use Rattle.proof_checker.specs.Checked.{AreLines, IsAcceptedSoFarOver, IsAcceptedSoFar, verdicts_of}
 use Rattle.proof_checker.proofs.Passing.{header_told, lines_readable}
-use Rattle.proof_checker.proofs.Verdicts.{judged_of, proof_verdicts, line_verdict, of_turns}
+use Rattle.proof_checker.proofs.Verdicts.{judged_of, proof_verdicts, line_verdict, of_parts}
 
 -- a text begins with its first lines, where these can be read
 begins_with_lines : (ls : List Line) (later : List (Option Line)) (text : List ℕ) → AreLines text (map (λ l. Some l) ls ++ later) → (rest : List ℕ) × (text ≡ flat_map line_text ls ++ rest)
@@ -43,12 +44,27 @@ fronts_right_over theories script proof vs h =
     let start = start_of theories in
     let m = header_told start h.lines h.says vs h.told in
     let readable : AreReadable m.rest = (subst AreReadable m.header (each_front (λ l. IfSome l IsLine) h.lines h.later (lines_readable (h.lines ++ h.later) proof h.split))).1 in
-    let t = judged_begins theories m.limits script h.chunks h.says m.rest m.allowed (front_fewer script h.chunks h.behind (inr h.cut)) h.read readable (judged_of m.rest (judging_from start m.limits) h.says vs None m.told) in
-    let header : Line = line.Header m.limits.cubes m.limits.budget in
-    let lines : h.lines ≡ map (λ l. Some l) (header ∷ flat_map turn_lines t.0) = m.header ∙ ap (λ ls. Some header ∷ ls) t.1 in
-    let text = begins_with_lines (header ∷ flat_map turn_lines t.0) h.later proof (subst (λ ls. AreLines proof (ls ++ h.later)) lines h.split) in
-    let begun : AcceptedSoFarFrom start m.limits script proof t.0 = record { allowed = t.2.allowed; chunks = t.2.chunks; rest = text.0; front = t.2.front; read = t.2.read; last = t.2.last; run = t.2.run; lines = text.1 } in
-    (m.limits, t.0, begun, start_turns_are_right theories m.limits t.0 t.2.run, proof_verdicts start m.limits m.rest h.says vs m.told ∙ ap (flat_map line_verdict) t.1 ∙ of_turns t.0)
+    let t = judged_begins theories m.format m.limits script h.chunks h.says m.rest m.allowed (front_fewer script h.chunks h.behind (inr h.cut)) h.read readable (judged_of m.rest (judging_from start m.format m.limits) h.says vs None m.told) in
+    let header : Line = line.Header m.format m.limits.cubes m.limits.budget in
+    let turns = map turn_of t.0 in
+    let lines : h.lines ≡ map (λ l. Some l) (header ∷ flat_map part_lines t.0) = m.header ∙ ap (λ ls. Some header ∷ ls) t.1 in
+    let text = begins_with_lines (header ∷ flat_map part_lines t.0) h.later proof (subst (λ ls. AreLines proof (ls ++ h.later)) lines h.split) in
+    let front = t.2 in
+    let whole = written_of front.format m.limits front.parts in
+    let begun : AcceptedSoFarFrom start m.limits script proof turns = record {
+      allowed = front.allowed;
+      chunks = front.chunks;
+      rest = front.rest ++ text.0;
+      front = front.front;
+      read = front.read;
+      last = front.last;
+      format = front.format;
+      parts = front.parts;
+      turns_are = front.turns_are;
+      run = front.run;
+      lines = text.1 ∙ ap (λ x. x ++ text.0) front.lines ∙ append_assoc whole front.rest text.0;
+    } in
+    (m.limits, turns, begun, start_parts_are_right theories begun.format m.limits begun.parts turns begun.turns_are begun.run, proof_verdicts start m.format m.limits m.rest h.says vs m.told ∙ ap (flat_map line_verdict) t.1 ∙ of_parts t.0)
 
 pub fronts_right : (script proof : List ℕ) (vs : List Verdict) → IsAcceptedSoFar script proof vs → (limits : Limits) × (turns : List Turn) × AcceptedSoFar limits script proof turns × AreRight no_state turns × (vs ≡ verdicts_of turns)
 fronts_right script proof vs h = fronts_right_over false script proof vs h

@@ -16,6 +16,8 @@ use Rattle.theory_terms.specs.declared.lemma.Lemma.TheVariants as lemma
 use Rattle.script_state.specs.States.{StateValue}
 use Rattle.proof_log.specs.declared.entry.Entry.{Entry}
 use Rattle.proof_log.specs.declared.entry.Entry.TheVariants as entry
+use Rattle.proof_text.specs.declared.line.Format.{Format}
+use Rattle.proof_text.specs.declared.line.Format.TheVariants.{One, Two}
 use Rattle.proof_text.specs.declared.line.Head.{Head}
 use Rattle.proof_text.specs.declared.line.Line.{Line}
 use Rattle.proof_text.specs.declared.line.Line.TheVariants as line
@@ -26,10 +28,10 @@ use Rattle.proof_text.specs.Entries.{head_of, lemma_line, entry_line}
 use Rattle.proof_text.specs.Records.{written_value, value_lines, diary_line}
 use Rattle.accepted_proof.specs.declared.refusal.Refusal.{Refusal}
 use Rattle.accepted_proof.specs.declared.refusal.RuleName.{RuleName}
-use Rattle.accepted_proof.specs.Turns.{Turn, verdict_of, shown_lines, step_lines, turn_lines}
+use Rattle.accepted_proof.specs.Turns.{Item, Step, Delete, Part, item_lines, part_lines, shown_lines, turn_of, verdict_of}
 use Rattle.accepted_proof.specs.Judged as judged
-use Rattle.accepted_proof.specs.Judged.{Owed, Judging, refused, owed_by, commanded, is_idle, reach, ending, StepsBy, Goes, Opens, Notes, AtStep, AtValue, AtDiary, Moves, MovesBy, Judged}
-use Rattle.accepted_proof.proofs.Once.{moved_once, same_limits}
+use Rattle.accepted_proof.specs.Judged.{Owed, Judging, refused, owed_by, commanded, is_idle, reach, ending, StepsBy, Deletes, Goes, Opens, Notes, AtStep, AtValue, AtDiary, Moves, MovesBy, Judged}
+use Rattle.accepted_proof.proofs.Once.{moved_once, same_start}
 use Rattle.accepted_proof.specs.Searching.{Limits}
 use Rattle.proof_log.specs.declared.diary.DiaryLine.{DiaryLine}
 use Rattle.proof_log.specs.declared.diary.DiaryLine.TheVariants as diary
@@ -58,10 +60,10 @@ one_telling (l ∷ ls) j cs vs us o q a b =
 pub one_proof_telling : (start : StateValue) (ls : List (Option Line)) (cs : List Says) (vs us : List Verdict) (o q : Option Refusal) → TellsProofFrom start cs ls vs o → TellsProofFrom start cs ls us q → (vs ≡ us) × (o ≡ q)
 one_proof_telling start [] cs vs us o q a b = (a.0 ∙ sym b.0, a.1 ∙ sym b.1)
 one_proof_telling start (l ∷ ls) cs vs us o q (inl a) (inl b) =
-    let same : a.0 ≡ b.0 = same_limits l a.0 b.0 a.1 b.1 in
-    one_telling ls (judged.judging_from start b.0) cs vs us o q (subst (λ x. Tells (judged.judging_from start x) cs ls vs o) same a.2) b.2
-one_proof_telling start (l ∷ ls) cs vs us o q (inl a) (inr b) = absurd (b.0 a.0 a.1)
-one_proof_telling start (l ∷ ls) cs vs us o q (inr a) (inl b) = absurd (a.0 b.0 b.1)
+    let same = same_start start l a.0 b.0 a.1 b.1 a.2 b.2 in
+    one_telling ls (judged.judging_from start b.0 b.1) cs vs us o q (subst (λ x. Tells x cs ls vs o) same a.3) b.3
+one_proof_telling start (l ∷ ls) cs vs us o q (inl a) (inr b) = absurd (b.0 a.0 a.1 a.2)
+one_proof_telling start (l ∷ ls) cs vs us o q (inr a) (inl b) = absurd (a.0 b.0 b.1 b.2)
 one_proof_telling start (l ∷ ls) cs vs us o q (inr a) (inr b) = (a.1 ∙ sym b.1, a.2 ∙ sym b.2)
 
 -- ---- the verdicts of lines
@@ -96,6 +98,10 @@ stepped : (j : Judging) (l : Line) (k : Judging) → StepsBy j l k → Brings []
 stepped j l k (inl h) = subst (λ (x : Judging). Brings [] [] x) (sym h.2) (inl refl)
 stepped j l k (inr h) = inr (at_refused j k (judged.rule_of l) h.1)
 
+deleted : (format : Format) (j : Judging) (places : List ℕ) (k : Judging) → Deletes format j places k → Brings [] [] k
+deleted One j places k h = inr (at_refused j k _ h)
+deleted Two j places k h = decided _ j _ k _ [] [] refl h
+
 gone : (j : Judging) (left : List LiveName) (values : List (ℕ × Value)) (k : Judging) → Goes j left values k → Brings (verdict.Sat ∷ []) [] k
 gone j [] values k h = decided _ j _ k _ (verdict.Sat ∷ []) [] refl h
 gone j (next ∷ left) values k h = subst (λ (x : Judging). Brings (verdict.Sat ∷ []) [] x) (sym h) (inl refl)
@@ -110,7 +116,7 @@ noted j cube start zero lines l k h = decided _ j _ k _ (verdict.Unknown ∷ [])
 noted j cube start (suc left) lines l k h = decided _ j _ k _ (verdict.Unknown ∷ []) [] refl h
 
 at_step : (j : Judging) (l : Line) (k : Judging) → AtStep j l k → Brings [] (line_verdict (Some l)) k
-at_step j (line.Header c b) k h = inr (at_refused j k _ h)
+at_step j (line.Header f c b) k h = inr (at_refused j k _ h)
 at_step j (line.Term d args) k h = stepped j _ k h
 at_step j (line.Leaf t) k h = stepped j _ k h
 at_step j (line.Encode t) k h = stepped j _ k h
@@ -121,6 +127,7 @@ at_step j (line.Equal t u) k h = stepped j _ k h
 at_step j (line.Congruence t u) k h = stepped j _ k h
 at_step j (line.Witness t) k h = stepped j _ k h
 at_step j (line.Accesses a b) k h = stepped j _ k h
+at_step j (line.Delete ps) k h = deleted j.format j ps k h
 at_step j (line.Sat n) k (inl h) = gone j j.state.symbols.live [] k h.1
 at_step j (line.Sat n) k (inr h) = inr (at_refused j k _ h.1)
 at_step j (line.Value d w) k h = inr (at_refused j k _ h)
@@ -133,7 +140,7 @@ at_step j (line.Drop p) k h = inr (at_refused j k _ h)
 at_value : (j : Judging) (next : LiveName) (left : List LiveName) (values : List (ℕ × Value)) (l : Line) (k : Judging) → AtValue j next left values l k → Brings (verdict.Sat ∷ []) (line_verdict (Some l)) k
 at_value j next left values (line.Value d w) k (inl h) = gone j left (values ++ (d, h.0) ∷ []) k h.2
 at_value j next left values (line.Value d w) k (inr h) = inr (at_refused j k _ h.1)
-at_value j next left values (line.Header c b) k h = inr (at_refused j k _ h)
+at_value j next left values (line.Header f c b) k h = inr (at_refused j k _ h)
 at_value j next left values (line.Term c b) k h = inr (at_refused j k _ h)
 at_value j next left values (line.Leaf t) k h = inr (at_refused j k _ h)
 at_value j next left values (line.Encode t) k h = inr (at_refused j k _ h)
@@ -144,6 +151,7 @@ at_value j next left values (line.Equal t u) k h = inr (at_refused j k _ h)
 at_value j next left values (line.Congruence t u) k h = inr (at_refused j k _ h)
 at_value j next left values (line.Witness t) k h = inr (at_refused j k _ h)
 at_value j next left values (line.Accesses a b) k h = inr (at_refused j k _ h)
+at_value j next left values (line.Delete ps) k h = inr (at_refused j k _ h)
 at_value j next left values (line.Sat n) k h = inr (at_refused j k _ h)
 at_value j next left values (line.Unsat p) k h = inr (at_refused j k _ h)
 at_value j next left values (line.Unknown cube start count) k h = inr (at_refused j k _ h)
@@ -155,7 +163,7 @@ at_diary : (j : Judging) (cube start left : ℕ) (lines : List DiaryLine) (l : L
 at_diary j cube start left lines (line.Take p) k h = noted j cube start left lines (diary.Take p) k h
 at_diary j cube start left lines (line.Put p) k h = noted j cube start left lines (diary.Put p) k h
 at_diary j cube start left lines (line.Drop p) k h = noted j cube start left lines (diary.Drop p) k h
-at_diary j cube start left lines (line.Header c b) k h = inr (at_refused j k _ h)
+at_diary j cube start left lines (line.Header f c b) k h = inr (at_refused j k _ h)
 at_diary j cube start left lines (line.Term c b) k h = inr (at_refused j k _ h)
 at_diary j cube start left lines (line.Leaf t) k h = inr (at_refused j k _ h)
 at_diary j cube start left lines (line.Encode t) k h = inr (at_refused j k _ h)
@@ -166,6 +174,7 @@ at_diary j cube start left lines (line.Equal t u) k h = inr (at_refused j k _ h)
 at_diary j cube start left lines (line.Congruence t u) k h = inr (at_refused j k _ h)
 at_diary j cube start left lines (line.Witness t) k h = inr (at_refused j k _ h)
 at_diary j cube start left lines (line.Accesses a b) k h = inr (at_refused j k _ h)
+at_diary j cube start left lines (line.Delete ps) k h = inr (at_refused j k _ h)
 at_diary j cube start left lines (line.Sat n) k h = inr (at_refused j k _ h)
 at_diary j cube start left lines (line.Value d w) k h = inr (at_refused j k _ h)
 at_diary j cube start left lines (line.Unsat p) k h = inr (at_refused j k _ h)
@@ -226,8 +235,8 @@ told_verdicts (l ∷ ls) j cs vs h =
       | inr o ↦ absurd (over_told ls k (reach j cs).1 h.1 None o.0 o.1 h.4 refl)
     ]
 
-pub proof_verdicts : (start : StateValue) (limits : Limits) (ls : List (Option Line)) (cs : List Says) (vs : List Verdict) → Tells (judged.judging_from start limits) cs ls vs None → vs ≡ flat_map line_verdict ls
-proof_verdicts start limits ls cs vs h = told_verdicts ls (judged.judging_from start limits) cs vs h ∙ ap (λ x. x ++ flat_map line_verdict ls) (reach_owing cs (judged.judging_from start limits))
+pub proof_verdicts : (start : StateValue) (format : Format) (limits : Limits) (ls : List (Option Line)) (cs : List Says) (vs : List Verdict) → Tells (judged.judging_from start format limits) cs ls vs None → vs ≡ flat_map line_verdict ls
+proof_verdicts start format limits ls cs vs h = told_verdicts ls (judged.judging_from start format limits) cs vs h ∙ ap (λ x. x ++ flat_map line_verdict ls) (reach_owing cs (judged.judging_from start format limits))
 
 -- ---- the lines of turns
 
@@ -252,10 +261,6 @@ of_lines ls = flat_map line_verdict (map (λ l. Some l) ls)
 of_both : (a b : List Line) → of_lines (a ++ b) ≡ of_lines a ++ of_lines b
 of_both a b = ap (flat_map line_verdict) (map-append (λ l. Some l) a b) ∙ flat_map-append line_verdict (map (λ l. Some l) a) (map (λ l. Some l) b)
 
-of_steps : (es : List Entry) → of_lines (step_lines es) ≡ []
-of_steps [] = refl
-of_steps (e ∷ es) = of_both (option_to_list (entry_line e)) (step_lines es) ∙ ap (λ x. x ++ of_lines (step_lines es)) (step_none e) ∙ of_steps es
-
 of_value : (d : ℕ) (o : Option WrittenValue) → of_lines (map (line.Value d) (option_to_list o)) ≡ []
 of_value d None = refl
 of_value d (Some v) = refl
@@ -276,9 +281,15 @@ of_shown (Some (shown.Sat values)) = ap (λ x. verdict.Sat ∷ x) (of_values val
 of_shown (Some (shown.Unsat p)) = refl
 of_shown (Some (shown.Unknown d)) = ap (λ x. verdict.Unknown ∷ x) (of_noted d.lines)
 
-pub of_turns : (ts : List Turn) → of_lines (flat_map turn_lines ts) ≡ verdicts_of ts
-of_turns [] = refl
-of_turns (t ∷ ts) =
-    of_both (turn_lines t) (flat_map turn_lines ts)
-    ∙ ap (λ x. x ++ of_lines (flat_map turn_lines ts)) (of_both (step_lines t.steps) (shown_lines t.shown) ∙ ap (λ x. x ++ of_lines (shown_lines t.shown)) (of_steps t.steps) ∙ of_shown t.shown)
-    ∙ ap (λ x. option_to_list (option_map verdict_of t.shown) ++ x) (of_turns ts)
+of_items : (items : List Item) → of_lines (flat_map item_lines items) ≡ []
+of_items [] = refl
+of_items (Step e ∷ items) = of_both (option_to_list (entry_line e)) (flat_map item_lines items) ∙ ap (λ x. x ++ of_lines (flat_map item_lines items)) (step_none e) ∙ of_items items
+of_items (Delete places ∷ items) = of_items items
+
+pub of_parts : (ps : List Part) → of_lines (flat_map part_lines ps) ≡ verdicts_of (map turn_of ps)
+of_parts [] = refl
+of_parts (p ∷ ps) =
+    let own = flat_map item_lines p.items in
+    of_both (part_lines p) (flat_map part_lines ps)
+    ∙ ap (λ x. x ++ of_lines (flat_map part_lines ps)) (of_both own (shown_lines p.shown) ∙ ap (λ x. x ++ of_lines (shown_lines p.shown)) (of_items p.items) ∙ of_shown p.shown)
+    ∙ ap (λ x. option_to_list (option_map verdict_of p.shown) ++ x) (of_parts ps)

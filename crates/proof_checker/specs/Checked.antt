@@ -8,6 +8,7 @@ use Rattle.smt_text.specs.Script.{AreCut}
 use Rattle.script_state.specs.declared.answer.Verdict.{Verdict}
 use Rattle.script_state.specs.States.{StateValue, no_state}
 use Rattle.script_state.specs.Steps.{ends}
+use Rattle.proof_text.specs.declared.line.Format.{Format}
 use Rattle.proof_text.specs.declared.line.Line.{Line}
 use Rattle.proof_text.specs.Lines.{line_text, IsLine}
 use Rattle.proof_text.specs.Held.{without_feed}
@@ -55,7 +56,7 @@ Tells j cs (l ∷ ls) vs o = (k : Judging) × (rest : List Verdict) × Moves (re
 -- the same of all lines of a proof, as `JudgedProofFrom` says, where the commands are obeyed from this state on
 abbrev pub TellsProofFrom : StateValue → List Says → List (Option Line) → List Verdict → Option Refusal → Type 0
 TellsProofFrom start cs [] vs o = (vs ≡ []) × (o ≡ Some bad_header)
-TellsProofFrom start cs (l ∷ ls) vs o = ((limits : Limits) × IsHeader l limits × Tells (judging_from start limits) cs ls vs o) ⊎ (((limits : Limits) → IsHeader l limits → ⊥) × (vs ≡ []) × (o ≡ Some bad_header))
+TellsProofFrom start cs (l ∷ ls) vs o = ((format : Format) × (limits : Limits) × IsHeader l format limits × Tells (judging_from start format limits) cs ls vs o) ⊎ (((format : Format) (limits : Limits) → IsHeader l format limits → ⊥) × (vs ≡ []) × (o ≡ Some bad_header))
 
 -- ---- texts
 

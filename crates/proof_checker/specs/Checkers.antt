@@ -21,7 +21,9 @@ use Rattle.proof_log.specs.declared.entry.Entry.TheVariants as step
 use Rattle.proof_text.specs.declared.list.WrittenLiteral.{WrittenLiteral}
 use Rattle.proof_text.specs.declared.list.WrittenHint.{WrittenHint}
 use Rattle.proof_text.specs.Entries.{written_literal, written_hint}
+use Rattle.proof_text.specs.declared.line.Format.{Format}
 use Rattle.proof_text.specs.declared.line.Line.{Line}
+use Rattle.proof_text.specs.declared.line.Line.TheVariants as line
 use Rattle.proof_text.specs.declared.reader.LineFault.{LineFault}
 use Rattle.proof_text.specs.Lines.{IsLine}
 use Rattle.accepted_proof.specs.declared.refusal.Refusal.{Refusal}
@@ -35,8 +37,9 @@ use Rattle.accepted_proof.specs.Searching.{AreLimits, IsSearch, given_literals, 
 use Rattle.check_cubes.specs.Searches.{only}
 use Rattle.diary_checker.specs.Readers.{HasRead}
 use Rattle.proof_log.specs.declared.diary.DiaryLine.{DiaryLine}
-use Rattle.proof_log.specs.Diaries.{blank, lines_after}
+use Rattle.proof_log.specs.Diaries.{lines_after}
 use Rattle.proof_log.specs.Diaries as diaries
+use Rattle.proof_text.specs.Deletions.{IsSpentWithout, blank_without, is_deleted, place_of}
 use Rattle.proof_checker.specs.declared.due.Noting.{Noting}
 use Rattle.proof_checker.specs.declared.due.Due.{Due}
 use Rattle.proof_checker.specs.declared.due.Due.TheVariants.{Nothing, Steps, Values, Noted, Over}
@@ -82,11 +85,11 @@ answer_by (judged.Noted cube start left lines) = Ok tt
 answer_by (judged.Over r) = Err r
 
 -- nothing is judged yet, and the commands are obeyed from this state on
-abbrev pub records_over : StateValue → searching.Limits → CheckerValue
-records_over start limits = record { judging = judging_from start limits; verdicts = [] }
+abbrev pub records_over : StateValue → Format → searching.Limits → CheckerValue
+records_over start format limits = record { judging = judging_from start format limits; verdicts = [] }
 
-abbrev pub no_records : searching.Limits → CheckerValue
-no_records limits = records_over no_state limits
+abbrev pub no_records : Format → searching.Limits → CheckerValue
+no_records format limits = records_over no_state format limits
 
 -- it is judged otherwise, with the same verdicts
 abbrev pub judged_so : CheckerValue → Judging → CheckerValue
@@ -109,12 +112,17 @@ pub record GoesTo (To : Judging → Type 0) (old new : CheckerValue) : Type 0 wh
 -- how it is judged at the end of the text
 abbrev pub at_end : CheckerValue → Option Refusal → CheckerValue
 at_end c None = c
-at_end c (Some r) = record { judging = record { limits = c.judging.limits; state = c.judging.state; log = c.judging.log; owed = judged.Over r; line = c.judging.line }; verdicts = c.verdicts }
+at_end c (Some r) = record { judging = record { format = c.judging.format; limits = c.judging.limits; state = c.judging.state; log = c.judging.log; deleted = c.judging.deleted; owed = judged.Over r; line = c.judging.line }; verdicts = c.verdicts }
 
 -- the step is the chain that is written so
 abbrev pub IsChainOf : List WrittenLiteral → List WrittenHint → Entry → Type 0
 IsChainOf literals hints (step.Chain c names) = (map written_literal c ≡ literals) × (map written_hint names ≡ hints)
 IsChainOf literals hints _ = ⊥
+
+-- the hints that a line names
+abbrev pub hints_in : Line → List WrittenHint
+hints_in (line.Chain clause hints) = hints
+hints_in _ = []
 
 -- the step was tried over these terms: where it is valid it was added, else all is as before
 abbrev pub IsTried : TermsValue → TermsValue → LogValue → LogValue → Entry → Bool → Type 0
@@ -155,11 +163,11 @@ AreKept _ signatures values = Unit {0}
 
 -- the next line, with all else the same
 abbrev pub gone_on : Judging → Judging
-gone_on j = record { limits = j.limits; state = j.state; log = j.log; owed = j.owed; line = j.line + 1 }
+gone_on j = record { format = j.format; limits = j.limits; state = j.state; log = j.log; deleted = j.deleted; owed = j.owed; line = j.line + 1 }
 
 -- the check ends with this verdict
 abbrev pub closed_with : CheckerValue → Verdict → CheckerValue
-closed_with c v = record { judging = record { limits = c.judging.limits; state = concluded c.judging.state v; log = c.judging.log; owed = judged.Nothing; line = c.judging.line + 1 }; verdicts = c.verdicts ++ v ∷ [] }
+closed_with c v = record { judging = record { format = c.judging.format; limits = c.judging.limits; state = concluded c.judging.state v; log = c.judging.log; deleted = c.judging.deleted; owed = judged.Nothing; line = c.judging.line + 1 }; verdicts = c.verdicts ++ v ∷ [] }
 
 -- values of a model are owed
 abbrev pub IsOwedValues : Owed → Type 0
@@ -174,24 +182,28 @@ MaySearch j cube start = IsSearch j.limits j.state j.state.terms.nodes j.log cub
 abbrev pub given_in : Judging → ℕ → List Literal
 given_in j cube = given_literals j.limits j.state j.state.terms.nodes j.log cube
 
--- where lines of a diary are owed, those so far were read, over the log as it is
-abbrev pub IsNoted : searching.Limits → StateValue → List Entry → Due → Type 0
-IsNoted limits s log (Noted n) = HasRead (subject_of limits s s.terms.nodes log n.cube n.start) n.lines n.reader
-IsNoted limits s log _ = Unit {0}
+-- none of the lines names a deleted place
+abbrev pub AreLeft : List ℕ → List DiaryLine → Type 0
+AreLeft deleted lines = AllByRecursion (λ l. is_deleted deleted (place_of l) ≡ false) lines
+
+-- where lines of a diary are owed, those so far were read, over the log as it is, and none of them names a deleted place
+abbrev pub IsNoted : searching.Limits → StateValue → List Entry → List ℕ → Due → Type 0
+IsNoted limits s log deleted (Noted n) = HasRead (is_deleted deleted) (subject_of limits s s.terms.nodes log n.cube n.start) n.lines n.reader × AreLeft deleted n.lines
+IsNoted limits s log deleted _ = Unit {0}
 
 -- one line more, which may stand there
-pub record HasLine (limits : searching.Limits) (s : StateValue) (log : List Entry) (old : Noting) (l : DiaryLine) (new : Noting) : Type 0 where
+pub record HasLine (limits : searching.Limits) (s : StateValue) (log : List Entry) (deleted : List ℕ) (old : Noting) (l : DiaryLine) (new : Noting) : Type 0 where
   pub cube : new.cube ≡ old.cube
   pub start : new.start ≡ old.start
   pub left : new.left ≡ old.left
   pub lines : new.lines ≡ old.lines ++ l ∷ []
-  pub noted : IsNoted limits s log (Noted new)
+  pub noted : IsNoted limits s log deleted (Noted new)
 
 -- the line may not stand there
-abbrev pub IsNoLine : searching.Limits → StateValue → List Entry → Noting → DiaryLine → Type 0
-IsNoLine limits s log n l =
+abbrev pub IsNoLine : searching.Limits → StateValue → List Entry → List ℕ → Noting → DiaryLine → Type 0
+IsNoLine limits s log deleted n l =
     let g = subject_of limits s s.terms.nodes log n.cube n.start in
-    diaries.IsLine g (lines_after g (blank g) n.lines) l → ⊥
+    ((is_deleted deleted (place_of l) ≡ false) × diaries.IsLine g (lines_after g (blank_without (is_deleted deleted) g) n.lines) l) → ⊥
 
 -- lines of a diary are owed
 abbrev pub IsOwedLines : Owed → Type 0
@@ -205,7 +217,7 @@ NotesBy _ j l k = ⊥
 
 -- where these lines go, of which so many are left
 abbrev pub LinesTo : Judging → Noting → ℕ → Judging → Type 0
-LinesTo j n zero k = Decides (diaries.IsSpent (subject_at j n.cube n.start) j.limits.budget n.lines) (closed j (shown.Unknown (record { cube = n.cube; start = n.start; lines = n.lines }))) (refused j rule.Diary) k
+LinesTo j n zero k = Decides (IsSpentWithout j.deleted (subject_at j n.cube n.start) j.limits.budget n.lines) (closed j (shown.Unknown (record { cube = n.cube; start = n.start; lines = n.lines }))) (refused j rule.Diary) k
 LinesTo j n (suc left) k = k ≡ noted j n.cube n.start left n.lines
 
 -- the same, where the last of them may stand, or not

@@ -7,12 +7,13 @@ ghost use Rattle.check_cubes.specs.Searches.{limits_of};
 ghost use Rattle.proof_checker.specs.Checked.{shown_at};
 ghost use Rattle.proof_checker.specs.Checkers.{GoesTo, line_in, IsRead, judged_so, answer_by, at_end, closed_with, gone_on, owed_of, IsOpen, IsNoted, AreKept};
 
+use crate::deletions::Deleted;
 use crate::due::Due;
 use crate::kept::KeptInterp;
 use accepted_proof::refusal::{Refusal, RuleName};
 use check_cubes::Limits;
 use proof_log::Log;
-use proof_text::line::Line;
+use proof_text::line::{Format, Line};
 use proof_text::reader::LineFault;
 use script_state::answer::Verdict;
 use script_state::state::State;
@@ -22,13 +23,15 @@ use std::alloc::{AllocError, Global};
 use std::marker::Model;
 use term_reach::Reached;
 
-/// The limits of a proof's header, the state of a script's commands, the log of its checks, what is owed, and the verdicts
-/// so far. State and log are large, and boxed, since each line moves the checker from call to call.
+/// The format and the limits of a proof's header, the state of a script's commands, the log of its checks, the places that are
+/// deleted, what is owed, and the verdicts so far. State and log are large, and boxed, since each line moves the checker from call to call.
 #[derive(Drop)]
 pub struct Checker {
+    pub(crate) format: Format,
     pub(crate) limits: Limits,
     pub(crate) state: Box<State>,
     pub(crate) log: Box<Log>,
+    pub(crate) deleted: Deleted,
     pub(crate) due: Due,
     /// The values of a model that is not whole yet.
     pub(crate) values: Vec<(DeclId, Value)>,
@@ -52,9 +55,11 @@ impl Model for Checker {
     ghost view = { λ c.
         record {
           judging = record {
+            format = c.format;
             limits = limits_of c.limits;
             state = c.state.value;
             log = c.log.value.entries;
+            deleted = c.deleted;
             owed = owed_of c.due c.state.value.symbols.live c.values.items;
             line = c.line;
           };
@@ -63,7 +68,7 @@ impl Model for Checker {
 
     ghost invariant = { λ c. Stands c.state.value.terms.nodes c.log.value
         × IsOpen c.due c.state.value.symbols.live c.values.items
-        × IsNoted (limits_of c.limits) c.state.value c.log.value.entries c.due
+        × IsNoted (limits_of c.limits) c.state.value c.log.value.entries c.deleted c.due
         × AreLimits (limits_of c.limits)
         × AreKept c.due c.state.value.symbols.signatures c.values.items };
 }

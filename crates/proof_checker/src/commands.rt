@@ -25,7 +25,7 @@ fn due_by(answer: Answer) -> Due
         → owed_of result live values ≡ owed_by answer }
     ensures open { (live : List Name) (values : List (ℕ × Held)) → IsOpen result live values }
     ensures noted { (limits : searching.Limits) (s : StateValue) (log : List Step)
-        → IsNoted limits s log result }
+        (deleted : List ℕ) → IsNoted limits s log deleted result }
     ensures kept { (signatures : List Signature) (values : List (ℕ × Held))
         → AreKept result signatures values }
 {

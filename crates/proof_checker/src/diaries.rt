@@ -1,9 +1,9 @@
 // The lines of a diary.
 
-ghost use Rattle.std.specs.Prelude.{◌≡◌, ◌<◌, ◌+◌, ◌^◌, true, Some, List, [], IfOk, MatchBool, MatchOption};
+ghost use Rattle.std.specs.Prelude.{◌≡◌, ◌<◌, ◌+◌, ◌^◌, true, ℕ, Some, List, [], IfOk, MatchBool, MatchOption};
 ghost use Rattle.proof_log.specs.declared.entry.Entry.{Entry as Step};
 ghost use Rattle.proof_log.specs.Stored.{Stands};
-ghost use Rattle.proof_log.specs.Diaries.{IsSpent};
+ghost use Rattle.proof_text.specs.Deletions.{IsSpentWithout};
 ghost use Rattle.script_state.specs.States.{StateValue};
 ghost use Rattle.accepted_proof.specs.Searching.{Limits, subject_of, given_literals};
 ghost use Rattle.accepted_proof.specs.Judged.{noted, Opens, MovesBy};
@@ -11,6 +11,7 @@ ghost use Rattle.proof_checker.specs.declared.due.Due.TheVariants.{Noted};
 ghost use Rattle.proof_checker.specs.Checkers.{GoesTo, HasLine, IsNoLine, IsNoted, IsOwedLines, MaySearch, NotesBy, ReadTo, given_in, judged_so};
 
 use crate::checker::Checker;
+use crate::deletions::{Deleted, names_deleted};
 use crate::due::{Due, Noting};
 use accepted_proof::refusal::RuleName;
 use check_cubes::search;
@@ -26,6 +27,7 @@ use std::alloc::{AllocError, Global};
 fn open(
     alloc: Global,
     log: &Log,
+    deleted: &Deleted,
     given: &[Lit],
     cube: u64,
     start: Pos,
@@ -36,9 +38,9 @@ fn open(
     ensures noted { IfOk result (λ n. (limits : Limits) (s : StateValue)
         → Stands s.terms.nodes log.now
         → given.now ≡ given_literals limits s s.terms.nodes log.now.entries cube
-        → IsNoted limits s log.now.entries (Noted n)) }
+        → IsNoted limits s log.now.entries deleted.now (Noted n)) }
 {
-    let reader = DiaryReader::new(alloc, log, given, start)?;
+    let reader = DiaryReader::new(alloc, log, deleted.bits(), given, start)?;
     let lines = DiaryLines::none(alloc);
     Ok(Noting {
         cube,
@@ -50,12 +52,20 @@ fn open(
 }
 
 /// One line more, and whether it may stand there.
-fn with_line(log: &Log, noting: Noting, line: DiaryLine) -> Result<(Noting, bool), AllocError>
+fn with_line(
+    log: &Log,
+    deleted: &Deleted,
+    noting: Noting,
+    line: DiaryLine,
+) -> Result<(Noting, bool), AllocError>
     ensures { IfOk result (λ r. (limits : Limits) (s : StateValue) → Stands s.terms.nodes log.now
-        → IsNoted limits s log.now.entries (Noted noting)
-        → MatchBool r.1 (HasLine limits s log.now.entries noting line r.0)
-        (IsNoLine limits s log.now.entries noting line)) }
+        → IsNoted limits s log.now.entries deleted.now (Noted noting)
+        → MatchBool r.1 (HasLine limits s log.now.entries deleted.now noting line r.0)
+        (IsNoLine limits s log.now.entries deleted.now noting line)) }
 {
+    if names_deleted(deleted, line) {
+        return Ok((noting, false));
+    }
     let mut noting = noting;
     let stands = noting.reader.line(log, line)?;
     noting.lines.push(line)?;
@@ -76,12 +86,14 @@ fn one_less(noting: Noting) -> Noting
 
 /// Whether the lines so far have spent the budget.
 fn is_spent(noting: &Noting, budget: u64) -> bool
-    ensures { (limits : Limits) (s : StateValue) (log : List Step)
-        → IsNoted limits s log (Noted noting.now)
+    ensures { (limits : Limits) (s : StateValue) (log : List Step) (deleted : List ℕ)
+        → IsNoted limits s log deleted (Noted noting.now)
         → MatchBool result
-        (IsSpent (subject_of limits s s.terms.nodes log noting.now.cube noting.now.start) budget
+        (IsSpentWithout deleted
+        (subject_of limits s s.terms.nodes log noting.now.cube noting.now.start) budget
         noting.now.lines)
-        (IsSpent (subject_of limits s s.terms.nodes log noting.now.cube noting.now.start) budget
+        (IsSpentWithout deleted
+        (subject_of limits s s.terms.nodes log noting.now.cube noting.now.start) budget
         noting.now.lines → ⊥) }
 {
     noting.reader.is_spent(budget)
@@ -92,7 +104,7 @@ impl Checker {
     fn owe_lines(self, noting: Noting) -> Checker
         requires more { self.judging.line + 1 < 2 ^ 64 }
         requires noted { IsNoted self.judging.limits self.judging.state self.judging.log
-            (Noted noting) }
+            self.judging.deleted (Noted noting) }
         ensures { result
             ≡ judged_so self
             (noted self.judging noting.cube noting.start noting.left noting.lines) }
@@ -151,6 +163,7 @@ impl Checker {
                 match open(
                     alloc,
                     &checker.log,
+                    &checker.deleted,
                     given.as_slice(),
                     cube,
                     start,
@@ -168,7 +181,8 @@ impl Checker {
     fn judge_line(self, noting: Noting, stands: bool) -> Result<Checker, AllocError>
         requires more { self.judging.line + 1 < 2 ^ 64 }
         requires noted { stands ≡ true
-            → IsNoted self.judging.limits self.judging.state self.judging.log (Noted noting) }
+            → IsNoted self.judging.limits self.judging.state self.judging.log self.judging.deleted
+            (Noted noting) }
         ensures { IfOk result (λ c. GoesTo (ReadTo self.judging noting stands) self c) }
     {
         if !stands {
@@ -197,7 +211,7 @@ impl Checker {
         let Due::Noted(noting) = due else {
             unreachable!()
         };
-        let Ok((noting, stands)) = with_line(&checker.log, noting, line) else {
+        let Ok((noting, stands)) = with_line(&checker.log, &checker.deleted, noting, line) else {
             return Err(checker.release());
         };
         checker.judge_line(noting, stands)

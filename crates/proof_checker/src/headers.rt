@@ -2,30 +2,42 @@
 
 ghost use Rattle.std.specs.Prelude.{◌≡◌, IfOk, MatchOption, MatchResult};
 ghost use Rattle.accepted_proof.specs.Searching as searching;
+ghost use Rattle.proof_text.specs.declared.line.Format.{Format as Version};
 ghost use Rattle.accepted_proof.specs.Judged.{IsHeader, bad_header};
 ghost use Rattle.check_cubes.specs.Searches.{limits_of};
 ghost use Rattle.proof_checker.specs.Checkers.{line_in, no_records, records_over};
 
 use crate::checker::Checker;
+use crate::deletions::Deleted;
 use crate::due::Due;
 use crate::kept::KeptInterp;
 use accepted_proof::refusal::{Refusal, RuleName};
 use check_cubes::Limits;
 use proof_log::Log;
-use proof_text::line::Line;
+use proof_text::line::{Format, Line};
 use proof_text::reader::LineFault;
 use script_state::state::State;
 use std::alloc::{AllocError, Global};
 use term_reach::Reached;
 
-/// The limits of a header; nothing where the line is none, or has a number out of range.
-fn header_limits(first: &Result<Line, LineFault>) -> Option<Limits>
+/// The format and the limits of a header; nothing where the line is none, or has a number out of range.
+fn header_parts(first: &Result<Line, LineFault>) -> Option<(Format, Limits)>
     ensures { MatchOption result
-        ((limits : searching.Limits) → IsHeader (line_in first.now) limits → ⊥)
-        (λ l. IsHeader (line_in first.now) (limits_of l)) }
+        ((format : Version) (limits : searching.Limits)
+        → IsHeader (line_in first.now) format limits → ⊥)
+        (λ r. IsHeader (line_in first.now) r.0 (limits_of r.1)) }
 {
     match first {
-        Ok(Line::Header { cubes, budget }) => Limits::within(*cubes, *budget),
+        Ok(
+            Line::Header {
+                format,
+                cubes,
+                budget,
+            },
+        ) => match Limits::within(*cubes, *budget) {
+            Some(limits) => Some((*format, limits)),
+            None => None,
+        },
         _ => None,
     }
 }
@@ -37,10 +49,10 @@ impl Checker {
         first: &Result<Line, LineFault>,
     ) -> Result<Result<Checker, Refusal>, AllocError>
         ensures { IfOk result (λ r. MatchResult r
-            (λ c. (limits : searching.Limits) × IsHeader (line_in first.now) limits
-            × (c ≡ no_records limits))
-            (λ f. ((limits : searching.Limits) → IsHeader (line_in first.now) limits → ⊥)
-            × (f ≡ bad_header))) }
+            (λ c. (format : Version) × (limits : searching.Limits)
+            × IsHeader (line_in first.now) format limits × (c ≡ no_records format limits))
+            (λ f. ((format : Version) (limits : searching.Limits)
+            → IsHeader (line_in first.now) format limits → ⊥) × (f ≡ bad_header))) }
     {
         Checker::over(alloc, first, State::new(alloc))
     }
@@ -52,12 +64,12 @@ impl Checker {
         state: State,
     ) -> Result<Result<Checker, Refusal>, AllocError>
         ensures { IfOk result (λ r. MatchResult r
-            (λ c. (limits : searching.Limits) × IsHeader (line_in first.now) limits
-            × (c ≡ records_over state limits))
-            (λ f. ((limits : searching.Limits) → IsHeader (line_in first.now) limits → ⊥)
-            × (f ≡ bad_header))) }
+            (λ c. (format : Version) × (limits : searching.Limits)
+            × IsHeader (line_in first.now) format limits × (c ≡ records_over state format limits))
+            (λ f. ((format : Version) (limits : searching.Limits)
+            → IsHeader (line_in first.now) format limits → ⊥) × (f ≡ bad_header))) }
     {
-        let Some(limits) = header_limits(first) else {
+        let Some((format, limits)) = header_parts(first) else {
             return Ok(Err(Refusal {
                 line: 1,
                 rule: RuleName::Header,
@@ -66,9 +78,11 @@ impl Checker {
         let state = Box::new(alloc, state)?;
         let log = Box::new(alloc, Log::new(alloc)?)?;
         Ok(Ok(Checker {
+            format,
             limits,
             state,
             log,
+            deleted: Deleted::none(alloc),
             due: Due::Nothing,
             values: Vec::new(alloc),
             line: 2,

@@ -2,7 +2,7 @@
 //!
 //! A [`checker::Checker`] is given the commands of a script and the lines of a proof as they come. It drives the state of
 //! `script_state` for the commands, so that it passes over what a session refuses, tries each step against the log of
-//! `proof_log`, evaluates the values of a model with `smt_eval`, looks up the selectors of a refutation, and reads the diary of
+//! `proof_log`, keeps which places are deleted, evaluates the values of a model with `smt_eval`, looks up the selectors of a refutation, and reads the diary of
 //! a cube with `diary_checker`. Its contracts say that it moves as the definitions of `accepted_proof` judge. A
 //! [`checking::Checking`] reads the two texts, in whatever pieces they come, and its contracts say what is judged of the whole
 //! texts: that the proof is accepted, or its first bad line. Behind a command that ends the run it reads no more of the script.
@@ -13,6 +13,7 @@ mod check_laws;
 pub mod checker;
 pub mod checking;
 mod commands;
+mod deletions;
 mod diaries;
 mod due;
 mod headers;
@@ -36,6 +37,8 @@ pub use check_laws::{
     what_is_accepted_over_is_right,
 };
 
+#[cfg(test)]
+mod deletion_tests;
 #[cfg(test)]
 mod lemma_tests;
 #[cfg(test)]

@@ -241,7 +241,8 @@ pub fn entry_of(
     requires stands { Stands state.now.terms.nodes log.now }
     requires written { IsLine line.now }
     ensures { IfOk result (λ o. MatchOption o
-        ((e : Step) → IsStepOf state.now log.now.entries line.now e → ⊥)
+        ((deleted : List ℕ) (e : Step)
+        → IsStepOf state.now log.now.entries deleted line.now e → ⊥)
         (λ e. (entry_line e ≡ Some line.now) × IsOfScript state.now e)) }
 {
     let held = state.terms().len();

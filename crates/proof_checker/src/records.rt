@@ -4,16 +4,17 @@ ghost use Rattle.std.specs.Prelude.{◌≡◌, ◌+◌, ◌<◌, ◌^◌, IfOk};
 ghost use Rattle.proof_text.specs.Lines.{IsLine};
 ghost use Rattle.proof_text.specs.declared.line.Line.TheVariants as line;
 ghost use Rattle.accepted_proof.specs.Judged as judged;
-ghost use Rattle.accepted_proof.specs.Judged.{StepsBy, AtStep};
+ghost use Rattle.accepted_proof.specs.Judged.{StepsBy, Deletes, AtStep};
 ghost use Rattle.proof_checker.specs.Checkers.{GoesTo};
 
 use crate::checker::Checker;
+use crate::deletions::delete;
 use crate::due::Due;
 use crate::refutations::is_refutation;
 use crate::steps::take_step;
 use accepted_proof::refusal::RuleName;
 use cnf_base::Pos;
-use proof_text::line::Line;
+use proof_text::line::{Format, Line};
 use script_state::answer::Verdict;
 use std::alloc::{AllocError, Global};
 
@@ -50,7 +51,13 @@ impl Checker {
         ensures { IfOk result (λ c. GoesTo (StepsBy self.judging line.now) self c) }
     {
         let mut checker = self;
-        let Ok(taken) = take_step(alloc, &mut checker.state, &mut checker.log, line) else {
+        let Ok(taken) = take_step(
+            alloc,
+            &mut checker.state,
+            &mut checker.log,
+            &checker.deleted,
+            line,
+        ) else {
             return Err(checker.release());
         };
         checker.due = Due::Steps;
@@ -61,11 +68,36 @@ impl Checker {
         }
     }
 
+    // The deletion of places, which the first format cannot say.
+    fn delete(self, alloc: Global, places: &[u64]) -> Result<Checker, AllocError>
+        requires steps { self.judging.owed ≡ judged.Steps }
+        requires more { self.judging.line + 1 < 2 ^ 64 }
+        ensures { IfOk result
+            (λ c. GoesTo (Deletes self.judging.format self.judging places.now) self c) }
+    {
+        if self.format == Format::One {
+            return Ok(self.refuse(RuleName::Line));
+        }
+        let mut checker = self;
+        checker.due = Due::Steps;
+        let Ok(done) = delete(alloc, &checker.log, &mut checker.deleted, places) else {
+            return Err(checker.release());
+        };
+        if done {
+            Ok(checker.go_on())
+        } else {
+            Ok(checker.refuse(RuleName::Delete))
+        }
+    }
+
     // The line of a refutation.
     fn refute(self, alloc: Global, pos: Pos) -> Result<Checker, AllocError>
         requires more { self.judging.line + 1 < 2 ^ 64 }
         ensures { IfOk result (λ c. GoesTo (AtStep self.judging (line.Unsat pos)) self c) }
     {
+        if self.deleted.has(pos) {
+            return Ok(self.refuse(RuleName::Unsat));
+        }
         let Ok(refutes) = is_refutation(alloc, &self.state, &self.log, pos) else {
             return Err(self.release());
         };
@@ -85,6 +117,7 @@ impl Checker {
     {
         match line {
             Line::Header {
+                format: _,
                 cubes: _,
                 budget: _,
             } => Ok(self.refuse(RuleName::Line)),
@@ -105,6 +138,7 @@ impl Checker {
             Line::Congruence(_, _) => self.step(alloc, line),
             Line::Witness(_) => self.step(alloc, line),
             Line::Accesses(_, _) => self.step(alloc, line),
+            Line::Delete(places) => self.delete(alloc, places.as_slice()),
             Line::Sat(count) => self.begin_values(alloc, *count),
             Line::Value {
                 declaration: _,

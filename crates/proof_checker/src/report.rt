@@ -27,6 +27,7 @@ fn rule_name(rule: RuleName) -> &'static [u8]
         RuleName::Equal => b"equal",
         RuleName::Lemma => b"lemma",
         RuleName::Chain => b"chain",
+        RuleName::Delete => b"delete",
         RuleName::Sat => b"sat",
         RuleName::Unsat => b"unsat",
         RuleName::Diary => b"diary",

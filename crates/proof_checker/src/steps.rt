@@ -10,6 +10,7 @@ ghost use Rattle.accepted_proof.specs.Turns.{IsOfScript};
 ghost use Rattle.accepted_proof.specs.Judged.{IsStepOf};
 ghost use Rattle.proof_checker.specs.Checkers.{IsTaken, IsTried};
 
+use crate::deletions::{Deleted, cites_deleted};
 use crate::lines::entry_of;
 use proof_log::entry::Entry;
 use proof_log::{Log, PushError};
@@ -60,22 +61,27 @@ fn try_step(
     taken
 }
 
-/// Adds the step of a line where it is valid, and tells whether it is. For want of memory all is as before.
+/// Adds the step of a line where it is valid and cites no deleted place, and tells whether it is so. For want of memory all
+/// is as before.
 pub fn take_step(
     alloc: Global,
     state: &mut State,
     log: &mut Log,
+    deleted: &Deleted,
     line: &Line,
 ) -> Result<bool, AllocError>
     requires stands { Stands state.old.terms.nodes log.old }
     requires written { IsLine line.now }
     ensures ok { IfOk result (λ taken. MatchBool taken
-        ((e : Step) × IsStepOf state.old log.old.entries line.now e
+        ((e : Step) × IsStepOf state.old log.old.entries deleted.now line.now e
         × IsTaken state.old log.old e state.new log.new)
-        (((e : Step) → IsStepOf state.old log.old.entries line.now e → ⊥)
+        (((e : Step) → IsStepOf state.old log.old.entries deleted.now line.now e → ⊥)
         × (state.new ≡ state.old) × (log.new ≡ log.old))) }
     ensures err { OnErr result ((state.new ≡ state.old) × (log.new ≡ log.old)) }
 {
+    if cites_deleted(deleted, line) {
+        return Ok(false);
+    }
     match entry_of(alloc, state, log, line)? {
         Some(entry) => try_step(alloc, state, log, entry),
         None => Ok(false),

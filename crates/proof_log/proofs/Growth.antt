@@ -71,6 +71,12 @@ search_keeps nodes s [] h = (refl, refl)
 search_keeps nodes s (step.Chain c hints ∷ more) h = search_keeps nodes (after nodes s (step.Chain c hints)) more h.1
 search_keeps nodes s (e ∷ more) h = let q = h.0 in let f : ⊥ = cc in absurd f
 
+-- nor an image
+search_images : (nodes : List Node) (s : LogState) (more : List Entry) → AllByRecursion IsOfSearch more → (state_from nodes s more).images ≡ s.images
+search_images nodes s [] h = refl
+search_images nodes s (step.Chain c hints ∷ more) h = search_images nodes (after nodes s (step.Chain c hints)) more h.1
+search_images nodes s (e ∷ more) h = let q = h.0 in let f : ⊥ = cc in absurd f
+
 equal_keeps : (s : LogState) (t u : ℕ) (o p : Option (List Literal)) → ((equal_after s t u o p).bits ≡ s.bits) × ((equal_after s t u o p).selectors ≡ s.selectors)
 equal_keeps s t u None p = (refl, refl)
 equal_keeps s t u (Some a) None = (refl, refl)
@@ -93,6 +99,11 @@ grown_keeps nodes log log' g =
     let is = ap (state_of nodes) g.is ∙ state_from-append nodes start log g.more in
     let k = search_keeps nodes (state_of nodes log) g.more g.of_search in
     (ap (λ s. s.bits) is ∙ k.0, ap (λ s. s.selectors) is ∙ k.1)
+
+-- images stay
+pub grown_images : (nodes : List Node) (log log' : List Entry) → Grows log log' → (state_of nodes log').images ≡ (state_of nodes log).images
+grown_images nodes log log' g =
+    ap (λ s. s.images) (ap (state_of nodes) g.is ∙ state_from-append nodes start log g.more) ∙ search_images nodes (state_of nodes log) g.more g.of_search
 
 pub grown_length : (log log' : List Entry) → Grows log log' → length log ≤ length log'
 grown_length log log' g = omega (arith, ap length g.is, length-append log g.more)

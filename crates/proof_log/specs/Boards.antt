@@ -5,7 +5,7 @@ use Rattle.cnf_base.specs.Literals.{Literal}
 use Rattle.cnf_base.specs.declared.clause.ClauseId.{ClauseId}
 use Rattle.smt_terms.specs.declared.node.Node.{Node}
 use Rattle.smt_terms.specs.Terms.{TermsValue}
-use Rattle.smt_terms.specs.Bits.{TermBits, bits_in}
+use Rattle.smt_terms.specs.Bits.{TermBits, bits_in, image_in}
 use Rattle.proof_log.specs.declared.board.Sync.{Sync}
 use Rattle.proof_log.specs.declared.entry.Entry.{Entry}
 use Rattle.proof_log.specs.declared.entry.Role.TheVariants as role
@@ -58,6 +58,10 @@ IsEntryOf log knows at (Some e) = entry_at log at ≡ Some e
 -- the bits of each term
 abbrev pub AreBitsIn : List Node → List Entry → List TermBits → Type 0
 AreBitsIn nodes log bits = (t : ℕ) → bits_in bits t ≡ (state_of nodes log).bits t
+
+-- the image of each term that has one
+abbrev pub AreImagesIn : List Node → List Entry → List TermBits → Type 0
+AreImagesIn nodes log bits = (t : ℕ) → image_in bits t ≡ (state_of nodes log).images t
 
 -- a log alone, over its terms, and what was told of it last
 pub record LogBoardValue : Type 0 where

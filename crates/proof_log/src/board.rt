@@ -14,7 +14,7 @@ ghost use Rattle.proof_log.specs.declared.board.Sync.{Sync as Told};
 ghost use Rattle.proof_log.specs.declared.entry.Entry.{Entry};
 ghost use Rattle.proof_log.specs.Logs.{state_of, IsStep, IsLog};
 ghost use Rattle.proof_log.specs.Stored.{Stands};
-ghost use Rattle.proof_log.specs.Boards.{IsOfSearch, IsLater, IsPutAt, KnowsOneMore, IsClauseOf, IsEntryOf, AreBitsIn};
+ghost use Rattle.proof_log.specs.Boards.{IsOfSearch, IsLater, IsPutAt, KnowsOneMore, IsClauseOf, IsEntryOf, AreBitsIn, AreImagesIn};
 
 use crate::entry::Entry;
 use crate::log::Log;
@@ -80,9 +80,10 @@ pub trait Board {
     fn entry(&self, at: Pos) -> Option<&Entry>
         ensures { IsEntryOf (log self.now) (knows self.now) at (option_copied result) };
 
-    /// The bits of the terms, which no call changes.
+    /// The bits of the terms and their images, which no call changes.
     fn bits(&self) -> &Bits
         ensures bits { AreBitsIn (nodes self.now) (log self.now) result.now }
+        ensures images { AreImagesIn (nodes self.now) (log self.now) result.now }
         ensures stands { IsLog (nodes self.now) (log self.now) };
 }
 

@@ -17,6 +17,7 @@ use Rattle.proof_text.specs.declared.line.WrittenValue.{WrittenValue}
 use Rattle.proof_text.specs.declared.line.WrittenValue.TheVariants as value
 use Rattle.proof_text.specs.declared.line.Head.{Head}
 use Rattle.proof_text.specs.declared.line.Head.TheVariants.{Plain, Word, Extract, ZeroExtend, SignExtend, RotateLeft, RotateRight, Repeat, Apply, ConstantArray}
+use Rattle.proof_text.specs.declared.line.Format.TheVariants.{One}
 use Rattle.proof_text.specs.declared.line.Line.TheVariants.{Term, Header, Value}
 
 -- the highest digit of so many
@@ -59,7 +60,7 @@ number_behind out mid new w n e f = f ∙ rw (e, append-nil (decimal n)) (append
 regroup : (out a b c d e : List ℕ) → ((out ++ (a ++ b)) ++ (c ++ d)) ++ e ≡ out ++ (a ++ ((b ++ (c ++ d)) ++ e))
 regroup out a b c d e = simp append_assoc
 
-pub header_words : (out a b new : List ℕ) (cubes budget : ℕ) → a ≡ out ++ joined (with_number (codes "smt_proof 1 cubes") cubes) → b ≡ a ++ joined (with_number (codes " budget") budget) → new ≡ b ++ 10 ∷ [] → new ≡ out ++ line_text (Header cubes budget)
+pub header_words : (out a b new : List ℕ) (cubes budget : ℕ) → a ≡ out ++ joined (with_number (codes "smt_proof 1 cubes") cubes) → b ≡ a ++ joined (with_number (codes " budget") budget) → new ≡ b ++ 10 ∷ [] → new ≡ out ++ line_text (Header One cubes budget)
 header_words out a b new cubes budget e f g =
     g ∙ rw (f, e, append-nil (decimal cubes), append-nil (decimal budget)) (regroup out (codes "smt_proof 1 cubes") (32 ∷ decimal cubes) (codes " budget") (32 ∷ decimal budget) (10 ∷ []))
 

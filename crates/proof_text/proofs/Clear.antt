@@ -24,9 +24,11 @@ use Rattle.proof_text.specs.declared.line.Head.{Head}
 use Rattle.proof_text.specs.declared.line.Head.TheVariants.{Plain, Word, Extract, ZeroExtend, SignExtend, RotateLeft, RotateRight, Repeat, Apply, ConstantArray}
 use Rattle.proof_text.specs.declared.line.WrittenValue.{WrittenValue}
 use Rattle.proof_text.specs.declared.line.WrittenValue.TheVariants as value
+use Rattle.proof_text.specs.declared.line.Format.{Format}
+use Rattle.proof_text.specs.declared.line.Format.TheVariants.{One, Two}
 use Rattle.proof_text.specs.declared.line.Line.{Line}
 use Rattle.proof_text.specs.declared.line.Line.TheVariants as line
-use Rattle.proof_text.specs.Lines.{spaced, joined, head_words, literal_text, hint_text, start_text, letter_text, move_words, access_words, digit_of, digits_text, scalar_text, entry_words, value_words, words_of, IsNumber, IsHead, IsLiteral, IsHint, IsStart, IsMove, IsAccess, IsLine}
+use Rattle.proof_text.specs.Lines.{spaced, joined, head_words, literal_text, hint_text, start_text, letter_text, move_words, access_words, digit_of, digits_text, scalar_text, entry_words, value_words, format_text, words_of, IsNumber, IsHead, IsLiteral, IsHint, IsStart, IsMove, IsAccess, IsLine}
 use Rattle.smt_text.specs.Lexicon.{is_digit}
 use Rattle.proof_text.proofs.Numerals.{decimal_digits, digit_range, low_enough}
 use Rattle.proof_text.proofs.Fields.{is_free}
@@ -166,8 +168,12 @@ head_clear (Repeat i) k = (refl, (number_clear i k, tt))
 head_clear (Apply i) k = (refl, (number_clear i k, tt))
 head_clear (ConstantArray i) k = (refl, (number_clear i k, tt))
 
+format_clear : (f : Format) → is_clear (format_text f) ≡ true
+format_clear One = refl
+format_clear Two = refl
+
 pub words_clear : (l : Line) → IsLine l → AreClear (words_of l)
-words_clear (line.Header c b) h = (refl, (refl, (refl, (number_clear c h.0, (refl, (number_clear b h.1, tt))))))
+words_clear (line.Header f c b) h = (refl, (format_clear f, (refl, (number_clear c h.0, (refl, (number_clear b h.1, tt))))))
 words_clear (line.Term head args) h = (refl, each_append (λ w. is_clear w ≡ true) (head_words head) (map decimal args) (head_clear head h.0) (all_map IsNumber (λ w. is_clear w ≡ true) decimal number_clear args h.1))
 words_clear (line.Leaf n) h = (refl, (number_clear n h, tt))
 words_clear (line.Encode n) h = (refl, (number_clear n h, tt))
@@ -183,6 +189,7 @@ words_clear (line.Congruence t u) h = (refl, (refl, (number_clear t h.0, (number
 words_clear (line.Witness t) h = (refl, (refl, (number_clear t h, tt)))
 words_clear (line.Accesses a b) h =
     (refl, (refl, each_append (λ w. is_clear w ≡ true) (access_words a) ((47 ∷ []) ∷ access_words b) (access_clear a h.0) (refl, access_clear b h.1)))
+words_clear (line.Delete ps) h = (refl, all_map IsNumber (λ w. is_clear w ≡ true) decimal number_clear ps h.1)
 words_clear (line.Sat n) h = (refl, (number_clear n h, tt))
 words_clear (line.Value d v) h = (refl, (number_clear d h.0, value_clear v))
 words_clear (line.Unsat n) h = (refl, (number_clear n h, tt))

@@ -26,7 +26,7 @@ joined_split [] some h = absurd (omega arith)
 joined_split (w ∷ ws) some h = fields_joined 32 w ws (all_free 32 (w ∷ ws) (omega arith) h)
 
 some_words : (l : Line) → 0 < length (words_of l)
-some_words (line.Header c b) = omega arith
+some_words (line.Header f c b) = omega arith
 some_words (line.Term head args) = omega arith
 some_words (line.Leaf n) = omega arith
 some_words (line.Encode n) = omega arith
@@ -37,6 +37,7 @@ some_words (line.Equal t u) = omega arith
 some_words (line.Congruence t u) = omega arith
 some_words (line.Witness t) = omega arith
 some_words (line.Accesses a b) = omega arith
+some_words (line.Delete ps) = omega arith
 some_words (line.Sat n) = omega arith
 some_words (line.Value d v) = omega arith
 some_words (line.Unsat n) = omega arith

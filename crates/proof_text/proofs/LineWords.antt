@@ -1,5 +1,5 @@
 -- The words of a line are read exactly.
-use Rattle.std.proofs.Common.{◌≡◌, ℕ, Bool, true, false, cond, List, [], ◌∷◌, ◌++◌, map, refl, sym, ap, subst, ◌∙◌, append-nil, codes, Some, None}
+use Rattle.std.proofs.Common.{◌≡◌, ℕ, Bool, true, false, cond, List, [], ◌∷◌, ◌++◌, map, length, ◌<◌, arith, refl, sym, ap, subst, ◌∙◌, append-nil, codes, Some, None}
 use Rattle.std.specs.Fmt.{decimal}
 use Rattle.std.specs.Str.{bytes_eq}
 use Rattle.proof_text.specs.declared.keyword.Keyword.{Keyword}
@@ -7,10 +7,12 @@ use Rattle.proof_text.specs.declared.keyword.Keyword.TheVariants as key
 use Rattle.proof_text.specs.declared.keyword.LemmaKind.{LemmaKind}
 use Rattle.proof_text.specs.declared.keyword.LemmaKind.TheVariants as kind
 use Rattle.proof_text.specs.declared.list.WrittenAccess.{WrittenAccess}
+use Rattle.proof_text.specs.declared.line.Format.{Format}
+use Rattle.proof_text.specs.declared.line.Format.TheVariants.{One, Two}
 use Rattle.proof_text.specs.declared.line.Line.{Line}
 use Rattle.proof_text.specs.declared.line.Line.TheVariants as line
-use Rattle.proof_text.specs.Lines.{with_number, head_words, literal_text, hint_text, access_words, words_of, IsNumber, IsHint, IsAccess, IsLine}
-use Rattle.proof_text.specs.Reading.{◌>>=◌, look_up, number_in, number_at, ended, only_number, numbers_of, literals_at, hint_of, hints_of, chain_of, head_at, term_of, value_of, declared_of, exactly, access_at, accesses_of, two_numbers, one_number, lemma_names, lemma_by, lemma_of, header_of, unknown_of, rewrite_of, keywords, line_by, line_of}
+use Rattle.proof_text.specs.Lines.{with_number, head_words, literal_text, hint_text, access_words, format_text, words_of, IsNumber, IsHint, IsAccess, IsLine}
+use Rattle.proof_text.specs.Reading.{◌>>=◌, look_up, number_in, number_at, ended, only_number, numbers_of, literals_at, hint_of, hints_of, chain_of, head_at, term_of, value_of, declared_of, exactly, access_at, accesses_of, two_numbers, one_number, lemma_names, lemma_by, lemma_of, formats, limits_of, header_of, deletion, delete_of, unknown_of, rewrite_of, keywords, line_by, line_of}
 use Rattle.proof_text.proofs.Literals.{bind_is, bind_some, each_reads, each_says, ended_says, hint_reads, hint_says, literals_read, literals_say, number_at_says, number_in_reads, number_in_says, only_number_says, same_text}
 use Rattle.proof_text.proofs.Heads.{head_reads, head_says, keyword_name, keyword_says, table_says}
 use Rattle.proof_text.proofs.WrittenValues.{value_reads, value_says}
@@ -28,8 +30,12 @@ accesses_read a b h k =
     (λ r. exactly (codes "/") r.1 >>= λ q. access_at q >>= λ c. ended (line.Accesses r.0 c.0) c.1) (access_reads a (codes "/" ∷ access_words b) h (moves_end (access_words b)))
     ∙ bind_is (access_at (access_words b)) (b, []) (λ c. ended (line.Accesses a c.0) c.1) (access_ends b k)
 
+format_reads : (f : Format) → look_up formats (format_text f) ≡ Some f
+format_reads One = refl
+format_reads Two = refl
+
 pub words_read : (l : Line) → IsLine l → line_of (words_of l) ≡ Some l
-words_read (line.Header c b) h = rw (number_in_reads c h.0, number_in_reads b h.1) refl
+words_read (line.Header f c b) h = rw (format_reads f, number_in_reads c h.0, number_in_reads b h.1) refl
 words_read (line.Term head args) h = rw (head_reads head (map decimal args) h.0, each_reads number_in decimal IsNumber number_in_reads args h.1) refl
 words_read (line.Leaf t) h = rw (number_in_reads t h) refl
 words_read (line.Encode t) h = rw (number_in_reads t h) refl
@@ -40,6 +46,8 @@ words_read (line.Equal t u) h = rw (number_in_reads t h.0, number_in_reads u h.1
 words_read (line.Congruence t u) h = rw (number_in_reads t h.0, number_in_reads u h.1) refl
 words_read (line.Witness t) h = rw (number_in_reads t h) refl
 words_read (line.Accesses a b) h = accesses_read a b h.0 h.1
+words_read (line.Delete []) h = absurd (let none = h.0 in omega arith)
+words_read (line.Delete (p ∷ ps)) h = rw (each_reads number_in decimal IsNumber number_in_reads (p ∷ ps) h.1) refl
 words_read (line.Sat n) h = rw (number_in_reads n h) refl
 words_read (line.Value d v) h = rw (number_in_reads d h.0, value_reads v h.1) refl
 words_read (line.Unsat p) h = rw (number_in_reads p h) refl
@@ -66,28 +74,44 @@ one_number_says make name words fits ws l e =
     let s = only_number_says ws b.0 b.1 in
     subst (IsReadLine (name ∷ ws)) same (record { words = ap (λ vs. name ∷ vs) s.words ∙ sym (words b.0); fits = fits b.0 s.bound })
 
+format_says : (w : List ℕ) (f : Format) → look_up formats w ≡ Some f → w ≡ format_text f
+format_says w f e = table_says format_text formats refl w f e
+
 header_says : (ws : List (List ℕ)) (l : Line) → header_of ws ≡ Some l → IsReadLine (codes "smt_proof" ∷ ws) l
-header_says ws l e =
-    let a = bind_some (exactly (codes "1") ws) _ l e in
-    let b = bind_some (exactly (codes "cubes") a.0) _ l a.2 in
+header_says [] l e = absurd (let z : ⊥ = cc in z)
+header_says (w ∷ ws) l e =
+    let a = bind_some (look_up formats w) (λ f. limits_of f ws) l e in
+    let f = a.0 in
+    let b = bind_some (exactly (codes "cubes") ws) _ l a.2 in
     let c = bind_some (number_at b.0) _ l b.2 in
     let d = bind_some (exactly (codes "budget") c.0.1) _ l c.2 in
-    let n = bind_some (only_number d.0) (λ n. Some (line.Header c.0.0 n)) l d.2 in
-    let same : line.Header c.0.0 n.0 ≡ l = let q = n.2 in cc in
+    let n = bind_some (only_number d.0) (λ n. Some (line.Header f c.0.0 n)) l d.2 in
+    let same : line.Header f c.0.0 n.0 ≡ l = let q = n.2 in cc in
     let s = number_at_says b.0 c.0 c.1 in
     let t = only_number_says d.0 n.0 n.1 in
-    let one = exactly_says (codes "1") ws a.0 a.1 in
-    let two = exactly_says (codes "cubes") a.0 b.0 b.1 in
+    let one = format_says w f a.1 in
+    let two = exactly_says (codes "cubes") ws b.0 b.1 in
     let three = exactly_says (codes "budget") c.0.1 d.0 d.1 in
-    subst (IsReadLine (codes "smt_proof" ∷ ws)) same
+    subst (IsReadLine (codes "smt_proof" ∷ w ∷ ws)) same
     (record {
-      words = ap (λ vs. codes "smt_proof" ∷ vs) one
-          ∙ ap (λ vs. codes "smt_proof" ∷ codes "1" ∷ vs) two
-          ∙ ap (λ vs. codes "smt_proof" ∷ codes "1" ∷ codes "cubes" ∷ vs) s.words
-          ∙ ap (λ vs. codes "smt_proof" ∷ codes "1" ∷ codes "cubes" ∷ decimal c.0.0 ∷ vs) three
-          ∙ ap (λ vs. codes "smt_proof" ∷ codes "1" ∷ codes "cubes" ∷ decimal c.0.0 ∷ codes "budget" ∷ vs) t.words;
+      words = ap (λ v. codes "smt_proof" ∷ v ∷ ws) one
+          ∙ ap (λ vs. codes "smt_proof" ∷ format_text f ∷ vs) two
+          ∙ ap (λ vs. codes "smt_proof" ∷ format_text f ∷ codes "cubes" ∷ vs) s.words
+          ∙ ap (λ vs. codes "smt_proof" ∷ format_text f ∷ codes "cubes" ∷ decimal c.0.0 ∷ vs) three
+          ∙ ap (λ vs. codes "smt_proof" ∷ format_text f ∷ codes "cubes" ∷ decimal c.0.0 ∷ codes "budget" ∷ vs) t.words;
       fits = (s.bound, t.bound);
     })
+
+deletion_says : (ps : List ℕ) (l : Line) → deletion ps ≡ Some l → (0 < length ps) × (line.Delete ps ≡ l)
+deletion_says [] l e = absurd (let z : ⊥ = cc in z)
+deletion_says (p ∷ ps) l e = (omega arith, let q : line.Delete (p ∷ ps) ≡ l = cc in q)
+
+delete_says : (ws : List (List ℕ)) (l : Line) → delete_of ws ≡ Some l → IsReadLine (codes "d" ∷ ws) l
+delete_says ws l e =
+    let b = bind_some (numbers_of ws) (λ ps. deletion ps) l e in
+    let d = deletion_says b.0 l b.2 in
+    let t = each_says number_in decimal IsNumber number_in_says ws b.0 b.1 in
+    subst (IsReadLine (codes "d" ∷ ws)) d.1 (record { words = ap (λ vs. codes "d" ∷ vs) t.0; fits = (d.0, t.1) })
 
 term_says : (ws : List (List ℕ)) (l : Line) → term_of ws ≡ Some l → IsReadLine (codes "t" ∷ ws) l
 term_says ws l e =
@@ -213,6 +237,7 @@ keyword_read key.Selector ws l e = one_number_says line.Selector (codes "s") (λ
 keyword_read key.Chain ws l e = chain_says ws l e
 keyword_read key.Equal ws l e = two_numbers_say line.Equal (codes "q" ∷ []) (λ t u. refl) (λ t u h k. (h, k)) ws l e
 keyword_read key.Lemma ws l e = lemma_says ws l e
+keyword_read key.Delete ws l e = delete_says ws l e
 keyword_read key.Sat ws l e = one_number_says line.Sat (codes "sat") (λ n. refl) (λ n k. k) ws l e
 keyword_read key.Value ws l e = declared_says ws l e
 keyword_read key.Unsat ws l e = one_number_says line.Unsat (codes "unsat") (λ n. refl) (λ n k. k) ws l e

@@ -4,3 +4,4 @@ pub mod Reading
 pub mod Held
 pub mod Entries
 pub mod Records
+pub mod Deletions

@@ -18,8 +18,10 @@ use Rattle.proof_text.specs.declared.line.Head.{Head}
 use Rattle.proof_text.specs.declared.line.Head.TheVariants.{Plain, Word, Extract, ZeroExtend, SignExtend, RotateLeft, RotateRight, Repeat, Apply, ConstantArray}
 use Rattle.proof_text.specs.declared.line.WrittenValue.{WrittenValue}
 use Rattle.proof_text.specs.declared.line.WrittenValue.TheVariants as value
+use Rattle.proof_text.specs.declared.line.Format.{Format}
+use Rattle.proof_text.specs.declared.line.Format.TheVariants.{One, Two}
 use Rattle.proof_text.specs.declared.line.Line.{Line}
-use Rattle.proof_text.specs.declared.line.Line.TheVariants.{Header, Term, Leaf, Encode, Rewrite, Selector, Chain, Equal, Congruence, Witness, Accesses, Sat, Value, Unsat, Unknown, Take, Put, Drop}
+use Rattle.proof_text.specs.declared.line.Line.TheVariants.{Header, Term, Leaf, Encode, Rewrite, Selector, Chain, Equal, Congruence, Witness, Accesses, Delete, Sat, Value, Unsat, Unknown, Take, Put, Drop}
 
 -- each behind a space
 abbrev pub spaced : List (List ℕ) → List ℕ
@@ -94,9 +96,13 @@ value_words (value.Fun default values) = codes "f" ∷ scalar_text default ∷ m
 abbrev pub value_text : WrittenValue → List ℕ
 value_text v = joined (value_words v)
 
+abbrev pub format_text : Format → List ℕ
+format_text One = codes "1"
+format_text Two = codes "2"
+
 -- the words of a line
 abbrev pub words_of : Line → List (List ℕ)
-words_of (Header cubes budget) = codes "smt_proof" ∷ codes "1" ∷ codes "cubes" ∷ decimal cubes ∷ codes "budget" ∷ decimal budget ∷ []
+words_of (Header format cubes budget) = codes "smt_proof" ∷ format_text format ∷ codes "cubes" ∷ decimal cubes ∷ codes "budget" ∷ decimal budget ∷ []
 words_of (Term head args) = codes "t" ∷ (head_words head ++ map decimal args)
 words_of (Leaf t) = with_number (codes "f") t
 words_of (Encode t) = with_number (codes "e") t
@@ -107,6 +113,7 @@ words_of (Equal t u) = codes "q" ∷ decimal t ∷ decimal u ∷ []
 words_of (Congruence t u) = codes "l" ∷ codes "c" ∷ decimal t ∷ decimal u ∷ []
 words_of (Witness t) = codes "l" ∷ codes "w" ∷ decimal t ∷ []
 words_of (Accesses a b) = codes "l" ∷ codes "a" ∷ (access_words a ++ codes "/" ∷ access_words b)
+words_of (Delete places) = codes "d" ∷ map decimal places
 words_of (Sat count) = with_number (codes "sat") count
 words_of (Value d v) = codes "v" ∷ decimal d ∷ value_words v
 words_of (Unsat p) = with_number (codes "unsat") p
@@ -176,8 +183,9 @@ IsValue (value.Word digits) = IsDigits digits
 IsValue (value.Array default entries) = IsDigits default × AllByRecursion IsEntry entries
 IsValue (value.Fun default values) = IsScalar default × AllByRecursion IsScalar values
 
+-- at least one place is deleted
 abbrev pub IsLine : Line → Type 0
-IsLine (Header cubes budget) = IsNumber cubes × IsNumber budget
+IsLine (Header format cubes budget) = IsNumber cubes × IsNumber budget
 IsLine (Term head args) = IsHead head × AllByRecursion IsNumber args
 IsLine (Leaf t) = IsNumber t
 IsLine (Encode t) = IsNumber t
@@ -188,6 +196,7 @@ IsLine (Equal t u) = IsNumber t × IsNumber u
 IsLine (Congruence t u) = IsNumber t × IsNumber u
 IsLine (Witness t) = IsNumber t
 IsLine (Accesses a b) = IsAccess a × IsAccess b
+IsLine (Delete places) = (0 < length places) × AllByRecursion IsNumber places
 IsLine (Sat count) = IsNumber count
 IsLine (Value d v) = IsNumber d × IsValue v
 IsLine (Unsat p) = IsNumber p

@@ -25,6 +25,8 @@ use Rattle.proof_text.specs.declared.line.Head.{Head}
 use Rattle.proof_text.specs.declared.line.Head.TheVariants.{Plain, Word, Extract, ZeroExtend, SignExtend, RotateLeft, RotateRight, Repeat, Apply, ConstantArray}
 use Rattle.proof_text.specs.declared.line.WrittenValue.{WrittenValue}
 use Rattle.proof_text.specs.declared.line.WrittenValue.TheVariants as value
+use Rattle.proof_text.specs.declared.line.Format.{Format}
+use Rattle.proof_text.specs.declared.line.Format.TheVariants.{One, Two}
 use Rattle.proof_text.specs.declared.line.Line.{Line}
 use Rattle.proof_text.specs.declared.line.Line.TheVariants as line
 
@@ -286,10 +288,29 @@ lemma_of (w ∷ ws) = look_up lemma_names w >>= λ k. lemma_by k ws
 
 -- ---- lines
 
+abbrev pub formats : List (List ℕ × Format)
+formats =
+    (codes "1", One)
+    ∷ (codes "2", Two)
+    ∷ []
+
+-- the limits of a header of this format
+abbrev pub limits_of : Format → List (List ℕ) → Option Line
+limits_of format ws =
+    exactly (codes "cubes") ws >>= λ b. number_at b >>= λ c.
+    exactly (codes "budget") c.1 >>= λ d. only_number d >>= λ n. Some (line.Header format c.0 n)
+
 abbrev pub header_of : List (List ℕ) → Option Line
-header_of ws =
-    exactly (codes "1") ws >>= λ a. exactly (codes "cubes") a >>= λ b. number_at b >>= λ c.
-    exactly (codes "budget") c.1 >>= λ d. only_number d >>= λ n. Some (line.Header c.0 n)
+header_of [] = None
+header_of (w ∷ ws) = look_up formats w >>= λ format. limits_of format ws
+
+-- these places, at least one
+abbrev pub deletion : List ℕ → Option Line
+deletion [] = None
+deletion (p ∷ ps) = Some (line.Delete (p ∷ ps))
+
+abbrev pub delete_of : List (List ℕ) → Option Line
+delete_of ws = numbers_of ws >>= λ ps. deletion ps
 
 abbrev pub unknown_of : List (List ℕ) → Option Line
 unknown_of ws = number_at ws >>= λ a. number_at a.1 >>= λ b. only_number b.1 >>= λ n. Some (line.Unknown a.0 b.0 n)
@@ -308,6 +329,7 @@ keywords =
     ∷ (codes "c", key.Chain)
     ∷ (codes "q", key.Equal)
     ∷ (codes "l", key.Lemma)
+    ∷ (codes "d", key.Delete)
     ∷ (codes "sat", key.Sat)
     ∷ (codes "v", key.Value)
     ∷ (codes "unsat", key.Unsat)
@@ -327,6 +349,7 @@ line_by key.Selector ws = one_number line.Selector ws
 line_by key.Chain ws = chain_of ws
 line_by key.Equal ws = two_numbers line.Equal ws
 line_by key.Lemma ws = lemma_of ws
+line_by key.Delete ws = delete_of ws
 line_by key.Sat ws = one_number line.Sat ws
 line_by key.Value ws = declared_of ws
 line_by key.Unsat ws = one_number line.Unsat ws

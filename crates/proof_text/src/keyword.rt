@@ -1,9 +1,10 @@
-// The words that lines begin with, the kinds of lemmas, the letters of moves, and the operators behind whose names
-// numbers stand.
+// The words that lines begin with, the numbers of formats, the kinds of lemmas, the letters of moves, and the operators
+// behind whose names numbers stand.
 
 ghost use Rattle.std.specs.Prelude.{◌≡◌, map};
 ghost use Rattle.proof_text.specs.Reading.{look_up};
 
+use crate::line::Format;
 use crate::list::Letter;
 
 /// What kind of line a word begins.
@@ -18,6 +19,7 @@ pub(crate) enum Keyword {
     Chain,
     Equal,
     Lemma,
+    Delete,
     Sat,
     Value,
     Unsat,
@@ -50,7 +52,7 @@ pub(crate) enum Indexed {
 }
 
 /// The words that lines begin with.
-pub(crate) const KEYWORDS: [(&[u8], Keyword); 16] = [
+pub(crate) const KEYWORDS: [(&[u8], Keyword); 17] = [
     (b"smt_proof", Keyword::Header),
     (b"t", Keyword::Term),
     (b"f", Keyword::Leaf),
@@ -60,6 +62,7 @@ pub(crate) const KEYWORDS: [(&[u8], Keyword); 16] = [
     (b"c", Keyword::Chain),
     (b"q", Keyword::Equal),
     (b"l", Keyword::Lemma),
+    (b"d", Keyword::Delete),
     (b"sat", Keyword::Sat),
     (b"v", Keyword::Value),
     (b"unsat", Keyword::Unsat),
@@ -68,6 +71,9 @@ pub(crate) const KEYWORDS: [(&[u8], Keyword); 16] = [
     (b"+", Keyword::Put),
     (b"-", Keyword::Drop),
 ];
+
+/// The numbers of formats.
+pub(crate) const FORMATS: [(&[u8], Format); 2] = [(b"1", Format::One), (b"2", Format::Two)];
 
 /// The words behind the `l` of a lemma.
 pub(crate) const LEMMA_NAMES: [(&[u8], LemmaKind); 3] = [

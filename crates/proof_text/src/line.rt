@@ -41,11 +41,21 @@ pub enum WrittenValue {
     },
 }
 
+/// The format of a proof file, which its header names.
+#[derive(Clone, Copy, Debug, PartialEq, Eq)]
+pub enum Format {
+    /// Nothing is deleted.
+    One,
+    /// Places may be deleted.
+    Two,
+}
+
 /// A line of a proof file, with the numbers and values that are written there.
 #[derive(Debug, Drop)]
 pub enum Line {
-    /// `smt_proof 1 cubes D budget B`
+    /// `smt_proof F cubes D budget B`
     Header {
+        format: Format,
         cubes: u64,
         budget: u64,
     },
@@ -79,6 +89,8 @@ pub enum Line {
     Witness(u64),
     /// `l a A moves / B moves`, two accesses of one array with equal indexes have equal values.
     Accesses(WrittenAccess, WrittenAccess),
+    /// `d P ..`, places that no later line may name.
+    Delete(Numbers),
     /// `sat K`, which so many values follow.
     Sat(u64),
     /// `v D VALUE`, the value of a declaration.

@@ -109,6 +109,13 @@ impl ProofReader {
         Ok(Some(answer))
     }
 
+    /// How many bytes were fed and not yet given as a line.
+    pub fn held(&self) -> usize
+        ensures { result ≡ length self.now.bytes }
+    {
+        self.held.bytes().len()
+    }
+
     /// The fault of a last line without its line feed, once no whole line is held; `None` exactly where no byte is held.
     pub fn finish(&self) -> Option<LineFault>
         ensures { MatchOption result (self.now.bytes ≡ []) (λ f. (f.line ≡ self.now.line)

@@ -2,9 +2,9 @@
 
 ghost use Rattle.std.specs.Prelude.{◌≡◌, IfOk};
 ghost use Rattle.std.specs.Option.{option_map};
-ghost use Rattle.proof_text.specs.Reading.{fields, behind, numbers_of, literal_of, literals_at, hint_of, hints_of, chain_of, indexed_at, indexed_head_at, head_at, term_of, declared_of, header_of, unknown_of, rewrite_of, one_number, two_numbers, line_by, line_of};
+ghost use Rattle.proof_text.specs.Reading.{fields, behind, numbers_of, literal_of, literals_at, hint_of, hints_of, chain_of, indexed_at, indexed_head_at, head_at, term_of, declared_of, header_of, delete_of, unknown_of, rewrite_of, one_number, two_numbers, line_by, line_of};
 
-use crate::keyword::{INDEXED_NAMES, Indexed, KEYWORDS, Keyword, look_up};
+use crate::keyword::{FORMATS, INDEXED_NAMES, Indexed, KEYWORDS, Keyword, look_up};
 use crate::line::{Head, Line};
 use crate::list::{Numbers, WrittenClause, WrittenHint, WrittenHints, WrittenLiteral};
 use crate::operator::OPERATOR_NAMES;
@@ -177,12 +177,29 @@ fn declared(alloc: Global, rest: &[u8]) -> Result<Option<Line>, AllocError>
 fn header(rest: &[u8]) -> Option<Line>
     ensures { result ≡ header_of (behind 32 rest.now) }
 {
-    let rest = exactly(b"1", rest)?;
+    let (word, rest) = next_word(b' ', rest)?;
+    let format = look_up(&FORMATS, word)?;
     let rest = exactly(b"cubes", rest)?;
     let (cubes, rest) = number_at(b' ', rest)?;
     let rest = exactly(b"budget", rest)?;
     let budget = only_number(b' ', rest)?;
-    Some(Line::Header { cubes, budget })
+    Some(Line::Header {
+        format,
+        cubes,
+        budget,
+    })
+}
+
+fn delete(alloc: Global, rest: &[u8]) -> Result<Option<Line>, AllocError>
+    ensures { IfOk result (λ o. o ≡ delete_of (behind 32 rest.now)) }
+{
+    let Some(places) = numbers(alloc, rest)? else {
+        return Ok(None);
+    };
+    if places.as_slice().is_empty() {
+        return Ok(None);
+    }
+    Ok(Some(Line::Delete(places)))
 }
 
 fn unknown(rest: &[u8]) -> Option<Line>
@@ -224,6 +241,7 @@ fn line_by(alloc: Global, keyword: Keyword, rest: &[u8]) -> Result<Option<Line>,
         Keyword::Chain => chain(alloc, rest),
         Keyword::Equal => Ok(equal(rest)),
         Keyword::Lemma => lemma(alloc, rest),
+        Keyword::Delete => delete(alloc, rest),
         Keyword::Sat => Ok(only_number(b' ', rest).map(Line::Sat)),
         Keyword::Value => declared(alloc, rest),
         Keyword::Unsat => Ok(only_number(b' ', rest).map(Line::Unsat)),

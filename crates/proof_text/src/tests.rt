@@ -1,7 +1,7 @@
 //! Worked proof files: what is read of a text, which is a table of steps that is walked over one reader.
 
 use crate::file::lines;
-use crate::line::{Head, Line, WrittenValue};
+use crate::line::{Format, Head, Line, WrittenValue};
 use crate::list::{
     WrittenAccess, WrittenEntry, WrittenHint, WrittenLiteral, WrittenMove, WrittenScalar,
     WrittenStart,
@@ -33,8 +33,8 @@ pub(crate) enum Next {
     Nothing,
     /// The line of this number is none of a proof file.
     Fault(u64),
-    /// So many variables split a check, within this budget.
-    Header(u64, u64),
+    /// A format, so many variables that split a check, and a budget.
+    Header(Format, u64, u64),
     /// A sum of terms.
     Sum(&'static [u64]),
     /// A literal of this width and this value.
@@ -61,6 +61,8 @@ pub(crate) enum Next {
     /// A cube, where its diary starts, and how many lines follow.
     Unknown(u64, u64, u64),
     Put(u64),
+    /// Places.
+    Delete(&'static [u64]),
 }
 
 /// A step of reading.
@@ -72,6 +74,8 @@ pub(crate) enum Step {
     Next(Next),
     /// A text is fed, and this comes next.
     Line(&'static [u8], Next),
+    /// So many bytes are held.
+    Held(usize),
     /// The file ends in a line of this number that has no line feed.
     Unfinished(u64),
 }
@@ -163,7 +167,14 @@ fn is_lemma(line: &Line, next: Next) -> bool {
 /// Whether a line of two numbers or three is this one.
 fn has_numbers(line: &Line, next: Next) -> bool {
     match (line, next) {
-        (Line::Header { cubes, budget }, Next::Header(c, b)) => *cubes == c && *budget == b,
+        (
+            Line::Header {
+                format,
+                cubes,
+                budget,
+            },
+            Next::Header(f, c, b),
+        ) => *format == f && *cubes == c && *budget == b,
         (Line::Unknown { cube, start, count }, Next::Unknown(c, s, n)) => {
             *cube == c && *start == s && *count == n
         }
@@ -181,6 +192,7 @@ fn is_line(line: &Line, next: Next) -> bool {
         (Line::Selector(assertion), Next::Selector(other)) => *assertion == other,
         (Line::Unsat(at), Next::Unsat(other)) => *at == other,
         (Line::Put(at), Next::Put(other)) => *at == other,
+        (Line::Delete(places), Next::Delete(others)) => places.as_slice() == others,
         (Line::Term { head, args }, _) => is_term(head, args.as_slice(), next),
         (Line::Value { declaration, value }, _) => is_value(*declaration, value, next),
         (Line::Chain { clause, hints }, Next::Chain(literals, by)) => {
@@ -220,6 +232,7 @@ fn is_done(reader: &mut ProofReader, step: Step) -> Result<bool, AllocError> {
             reader.feed(text)?;
             is_next(reader, next)
         }
+        Step::Held(size) => Ok(reader.held() == size),
         Step::Unfinished(line) => Ok(reader.finish() == Some(LineFault { line })),
     }
 }
@@ -253,7 +266,7 @@ fn lines_come_out_however_the_file_is_cut(rt: HostRuntime) -> Result<(), Fail> {
             Step::Feed(b"smt_proof 1 cubes 0 bud"),
             Step::Next(Next::Nothing),
             Step::Feed(b"get 100000\ne 0"),
-            Step::Next(Next::Header(0, 100000)),
+            Step::Next(Next::Header(Format::One, 0, 100000)),
             Step::Next(Next::Nothing),
             Step::Feed(b"\ns 03\nunsat 3\nsat"),
             Step::Next(Next::Encode(0)),
@@ -262,6 +275,45 @@ fn lines_come_out_however_the_file_is_cut(rt: HostRuntime) -> Result<(), Fail> {
             Step::Next(Next::Unsat(3)),
             Step::Next(Next::Nothing),
             Step::Unfinished(5),
+        ],
+    )
+}
+
+#[test]
+fn a_reader_holds_one_line(rt: HostRuntime) -> Result<(), Fail> {
+    walk(
+        &rt,
+        &[
+            Step::Feed(b"e 0"),
+            Step::Held(3),
+            Step::Next(Next::Nothing),
+            Step::Held(3),
+            Step::Feed(b"\n"),
+            Step::Held(4),
+            Step::Next(Next::Encode(0)),
+            Step::Held(0),
+        ],
+    )
+}
+
+#[test]
+fn both_formats_are_read(rt: HostRuntime) -> Result<(), Fail> {
+    walk(
+        &rt,
+        &[
+            Step::Line(
+                b"smt_proof 2 cubes 3 budget 7\n",
+                Next::Header(Format::Two, 3, 7),
+            ),
+            Step::Line(b"d 3 12\n", Next::Delete(&[3, 12])),
+            // No place.
+            Step::Line(b"d\n", Next::Fault(3)),
+            // A space at the end.
+            Step::Line(b"d 3 \n", Next::Fault(4)),
+            // A needless zero.
+            Step::Line(b"d 03\n", Next::Fault(5)),
+            // No such format.
+            Step::Line(b"smt_proof 3 cubes 0 budget 7\n", Next::Fault(6)),
         ],
     )
 }

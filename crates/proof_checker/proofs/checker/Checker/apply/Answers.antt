@@ -12,7 +12,7 @@ invariant_of-checker-2 c =
     let new = c.obey.new.state in (
       still_stands before.state.value new before.log.value told.0 (rw c.deref_mut.ensures.value at c.obey.ensures.state) c.checker.invariant.0 told.3,
       c.due_by.ensures.open new.symbols.live before.values.items,
-      c.due_by.ensures.noted (limits_of before.limits) new before.log.value.entries,
+      c.due_by.ensures.noted (limits_of before.limits) new before.log.value.entries before.deleted,
       c.checker.invariant.3,
       c.due_by.ensures.kept new.symbols.signatures before.values.items,
     )
@@ -25,8 +25,8 @@ returns c =
     let answer = c.in-Ok.answer in (
       told.0,
       told.1,
-      subst (λ (x : CheckerValue). held (limits_of before.limits) new before.log.value.entries (owed_of c.due_by.result new.symbols.live before.values.items) before.line before.verdicts.items ≡ judged_so x (commanded x.judging told.0)) c.checker.view_is
-          (commanded_to (limits_of before.limits) before.state.value new before.log.value.entries (owed_of before.due before.state.value.symbols.live before.values.items) (owed_of c.due_by.result new.symbols.live before.values.items) before.line before.verdicts.items
+      subst (λ (x : CheckerValue). held before.format (limits_of before.limits) new before.log.value.entries before.deleted (owed_of c.due_by.result new.symbols.live before.values.items) before.line before.verdicts.items ≡ judged_so x (commanded x.judging told.0)) c.checker.view_is
+          (commanded_to before.format (limits_of before.limits) before.state.value new before.log.value.entries before.deleted (owed_of before.due before.state.value.symbols.live before.values.items) (owed_of c.due_by.result new.symbols.live before.values.items) before.line before.verdicts.items
           answer told.0 told.2 told.3 (c.due_by.ensures.owed new.symbols.live before.values.items)),
       ended_by c.is_exit-ended.result answer before.state.value told.0 c.is_exit-ended.ensures told.2,
     )

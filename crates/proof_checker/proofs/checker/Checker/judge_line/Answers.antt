@@ -1,6 +1,6 @@
 use Rattle.std.proofs.Common.{◌≡◌, sym, subst, arith}
 use Rattle.std.proofs.lemmas.Bool.{MatchBool-at_true, MatchBool-at_false}
-use Rattle.proof_log.specs.Diaries.{IsSpent}
+use Rattle.proof_text.specs.Deletions.{IsSpentWithout}
 use Rattle.accepted_proof.specs.Judged.{subject_at}
 use Rattle.proof_checker.specs.declared.due.Due.TheVariants.{Noted}
 use Rattle.check_cubes.specs.Searches.{limits_of}
@@ -17,20 +17,20 @@ pub returns-then-is_spent : goal.returns-then-is_spent
 returns-then-is_spent c =
     let before = c.self.inside in
     let n = c.args.noting in
-    let noted = subst (λ (x : CheckerValue). IsNoted x.judging.limits x.judging.state x.judging.log (Noted n)) (sym c.self.view_is) (c.requires.noted c.if-not-stands.false) in
-    let spent = MatchBool-at_true _ _ c.if-is_spent.true (c.is_spent.ensures (limits_of before.limits) before.state.value before.log.value.entries noted) in
+    let noted = subst (λ (x : CheckerValue). IsNoted x.judging.limits x.judging.state x.judging.log x.judging.deleted (Noted n)) (sym c.self.view_is) (c.requires.noted c.if-not-stands.false) in
+    let spent = MatchBool-at_true _ _ c.if-is_spent.true (c.is_spent.ensures (limits_of before.limits) before.state.value before.log.value.entries before.deleted noted) in
     let some = c.if-noting-gt0.false in
     let last : n.left ≡ 0 = omega (arith, some) in
     read_spent c.args.self n c.args.stands c.close.result c.if-not-stands.false last
-    (subst (λ (x : CheckerValue). IsSpent (subject_at x.judging n.cube n.start) x.judging.limits.budget n.lines) c.self.view_is spent) c.close.ensures
+    (subst (λ (x : CheckerValue). IsSpentWithout x.judging.deleted (subject_at x.judging n.cube n.start) x.judging.limits.budget n.lines) c.self.view_is spent) c.close.ensures
 
 pub returns : goal.returns
 returns c =
     let before = c.self.inside in
     let n = c.args.noting in
-    let noted = subst (λ (x : CheckerValue). IsNoted x.judging.limits x.judging.state x.judging.log (Noted n)) (sym c.self.view_is) (c.requires.noted c.if-not-stands.false) in
-    let unspent = MatchBool-at_false _ _ c.if-is_spent.false (c.is_spent.ensures (limits_of before.limits) before.state.value before.log.value.entries noted) in
+    let noted = subst (λ (x : CheckerValue). IsNoted x.judging.limits x.judging.state x.judging.log x.judging.deleted (Noted n)) (sym c.self.view_is) (c.requires.noted c.if-not-stands.false) in
+    let unspent = MatchBool-at_false _ _ c.if-is_spent.false (c.is_spent.ensures (limits_of before.limits) before.state.value before.log.value.entries before.deleted noted) in
     let some = c.if-noting-gt0.false in
     let last : n.left ≡ 0 = omega (arith, some) in
     read_unspent c.args.self n c.args.stands c.refuse-else-is_spent.result c.if-not-stands.false last
-    (subst (λ (x : CheckerValue). IsSpent (subject_at x.judging n.cube n.start) x.judging.limits.budget n.lines → ⊥) c.self.view_is unspent) c.refuse-else-is_spent.ensures
+    (subst (λ (x : CheckerValue). IsSpentWithout x.judging.deleted (subject_at x.judging n.cube n.start) x.judging.limits.budget n.lines → ⊥) c.self.view_is unspent) c.refuse-else-is_spent.ensures

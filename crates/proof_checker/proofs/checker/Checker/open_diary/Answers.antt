@@ -12,7 +12,7 @@ owe_lines-requires-clause-noted c =
     let before = c.checker.inside in
     let found = rw c.in-Some.is at c.in-Ok.ensures.search in
     let same = ap (λ (x : CheckerValue). given_in x.judging c.args.cube) (sym (c.checker.view_is ∙ c.searched.ensures.same)) in
-    subst (λ (x : CheckerValue). IsNoted x.judging.limits x.judging.state x.judging.log (Noted c.in-Ok-open.noting)) c.checker.view_is
+    subst (λ (x : CheckerValue). IsNoted x.judging.limits x.judging.state x.judging.log x.judging.deleted (Noted c.in-Ok-open.noting)) c.checker.view_is
     ((rw c.deref.ensures at c.in-Ok-open.ensures.noted) (limits_of before.limits) before.state.value c.checker.invariant.0 (c.as_slice.ensures.value ∙ found.1 ∙ same))
 
 pub returns-in-Ok-open : goal.returns-in-Ok-open

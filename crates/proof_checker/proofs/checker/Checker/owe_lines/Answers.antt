@@ -7,7 +7,7 @@ pub invariant_of-checker : goal.invariant_of-checker
 invariant_of-checker c = (
   c.checker.invariant.0,
   tt,
-  subst (λ (x : CheckerValue). IsNoted x.judging.limits x.judging.state x.judging.log (Noted c.args.noting)) (sym c.checker.view_is) c.requires.noted,
+  subst (λ (x : CheckerValue). IsNoted x.judging.limits x.judging.state x.judging.log x.judging.deleted (Noted c.args.noting)) (sym c.checker.view_is) c.requires.noted,
   c.checker.invariant.3,
   tt,
 )

@@ -17,7 +17,7 @@ returns-in_default-found c =
     let count : c.len.result ≡ length before.values.items = omega arith in
     let at : next ≡ get_or before.state.value.symbols.live (length before.values.items) next = c.index-declared-len.is ∙ ap₂ (λ xs k. get_or xs k next) live count in
     subst (λ (x : CheckerValue). GoesTo (MovesBy x.judging.owed x.judging (Some (line.Value c.args.declaration c.args.written.now))) x c.refuse.result) c.self.view_is
-    (value_refused (limits_of before.limits) before.state.value before.log.value.entries before.due before.line before.verdicts.items before.values.items next c.args.declaration c.args.written.now c.refuse.result
+    (value_refused before.format (limits_of before.limits) before.state.value before.log.value.entries before.deleted before.due before.line before.verdicts.items before.values.items next c.args.declaration c.args.written.now c.refuse.result
     (subst (λ (x : CheckerValue). IsOwedValues x.judging.owed) (sym c.self.view_is) c.requires.values) at
     (λ v is. (rw (c.deref-2.ensures, c.in_default-found.is) at c.in-Ok.ensures) next v (ap (λ (x : LiveName). x.declaration) c.index-declared-len.is) is)
     (subst (λ (x : CheckerValue). c.refuse.result ≡ judged_so x (refused x.judging rule.Sat)) (sym c.self.view_is) c.refuse.ensures))
@@ -31,7 +31,7 @@ returns c =
     let at : next ≡ get_or before.state.value.symbols.live (length before.values.items) next = c.index-declared-len.is ∙ ap₂ (λ xs k. get_or xs k next) live count in
     let named = ap (λ (x : LiveName). x.declaration) c.index-declared-len.is in
     subst (λ (x : CheckerValue). IfOk c.go_to_values.result (λ to. GoesTo (MovesBy x.judging.owed x.judging (Some (line.Value c.args.declaration c.args.written.now))) x to)) c.self.view_is
-    (value_pushed (limits_of before.limits) before.state.value before.log.value.entries before.due before.line before.verdicts.items before.values.items c.push.new.self.items next c.args.declaration c.args.written.now c.in-Some.value c.go_to_values.result
+    (value_pushed before.format (limits_of before.limits) before.state.value before.log.value.entries before.deleted before.due before.line before.verdicts.items before.values.items c.push.new.self.items next c.args.declaration c.args.written.now c.in-Some.value c.go_to_values.result
     (subst (λ (x : CheckerValue). IsOwedValues x.judging.owed) (sym c.self.view_is) c.requires.values) at
     ((rw (c.deref-2.ensures, c.in-Some.is) at c.in-Ok.ensures) next named)
     (c.in-Ok-push.ensures.items ∙ ap (λ n. before.values.items ++ (n, c.in-Some.value) ∷ []) (sym named))
