@@ -12,7 +12,7 @@ use Rattle.access_spread.specs.declared.spreading.Refusal.{Refusal}
 use Rattle.access_spread.specs.declared.spreading.Row.{Row}
 use Rattle.access_spread.specs.declared.spreading.State.{State}
 use Rattle.access_spread.specs.Graphs.{passes, gate_at, takes}
-use Rattle.access_spread.specs.Spreads.{index_in, value_in, start_at, HasRow, IsMet, IsRoomy, IsComplete, Fits, Grows, Meets, AreVisited, IsTable, AreTold, most_refused}
+use Rattle.access_spread.specs.Spreads.{index_in, value_in, start_at, HasRow, IsMet, IsRoomy, IsComplete, Fits, Grows, Meets, AreVisited, AreSingle, IsTable, AreTold, most_refused}
 use Rattle.access_spread.proofs.Lists.{longer}
 
 -- what fits where there is room did so before
@@ -87,6 +87,17 @@ module _ (g : Graph) (gates : List Gate) (lanes : List Lane) (starts : List Star
       → AreTold g gates lanes starts st.rows.items st.refused.items
   told st visited met = record { starts_met = met; rows_met = λ room p r e. visited room p r (slice_get_within st.rows.items p r e) e }
 
+  pub single : (st : State) → Fits g gates starts st → AreSingle starts st.rows.items
+  single st fits p q r s e f same k =
+      ⊎_elim
+      (λ lt. let h = fits.rising p q r s lt e f same in omega (arith, h, k))
+      (λ le.
+      ⊎_elim
+      (λ lt. let h = fits.rising q p s r lt f e (sym same) in omega (arith, h, k))
+      (λ le'. omega arith)
+      (cases_lt q p))
+      (cases_lt p q)
+
   -- where none is refused, what is met is a row
   met_row : (rows : List Row) (refused : List Refusal) (a k x : ℕ) → refused ≡ [] → IsMet starts rows refused a k x → HasRow starts rows a k x
   met_row rows refused a k x none =
@@ -100,15 +111,7 @@ module _ (g : Graph) (gates : List Gate) (lanes : List Lane) (starts : List Star
   table st fits all complete = record {
     starts_have = λ s lt. met_row st.rows.items st.refused.items _ _ _ complete.1 (all.starts_met room s lt);
     closed = λ p r e j d get from pass. met_row st.rows.items st.refused.items _ _ _ complete.1 (all.rows_met room p r e j d get from (ap (λ ls. takes ls j (start_at starts r.start).wide) complete.0) pass);
-    single = λ p q r s e f same k.
-        ⊎_elim
-        (λ lt. let h = fits.rising p q r s lt e f same in omega (arith, h, k))
-        (λ le.
-        ⊎_elim
-        (λ lt. let h = fits.rising q p s r lt f e (sym same) in omega (arith, h, k))
-        (λ le'. omega arith)
-        (cases_lt q p))
-        (cases_lt p q);
+    single = single st fits;
     derived = fits.derived;
     started = fits.started;
   } where

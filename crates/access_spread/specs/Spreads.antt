@@ -195,13 +195,18 @@ pub record IsTable (g : Graph) (gates : List Gate) (starts : List Start) (rows :
   pub derived : AreDerived g gates starts rows
   pub started : AreStartsOf starts rows
 
--- Each row came from a start by edges, and so would each that is refused, of which there are few; and where no edge is left out by
--- choice and no row is refused, the rows are all.
+-- no two rows are at one array with one index
+abbrev pub AreSingle : List Start → List Row → Type 0
+AreSingle starts rows = (p q : ℕ) (r s : Row) → slice_get rows p ≡ Some r → slice_get rows q ≡ Some s → r.array ≡ s.array → index_in starts r ≡ index_in starts s → p ≡ q
+
+-- Each row came from a start by edges, and so would each that is refused, of which there are few; no two rows are at one array with
+-- one index; and where no edge is left out by choice and no row is refused, the rows are all.
 pub record IsSpread (g : Graph) (gates : List Gate) (lanes : List Lane) (starts : List Start) (rows : List Row) (refused : List Refusal) : Type 0 where
   pub derived : AreDerived g gates starts rows
   pub started : AreStartsOf starts rows
   pub refused_are : AreRefused g gates starts rows refused
   pub few : AreFew starts refused
+  pub single : AreSingle starts rows
   pub table : IsComplete lanes refused → IsTable g gates starts rows
 
 -- Unless as many rows are refused as are kept at most, each start has a row, and so has each edge that a row takes and passes, or one

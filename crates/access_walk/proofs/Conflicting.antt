@@ -6,6 +6,7 @@ use Rattle.smt_terms.specs.declared.sort.Sort.TheVariants as sort
 use Rattle.smt_terms.specs.declared.node.Node.{Node}
 use Rattle.smt_terms.specs.Bits.{TermBits, image_in}
 use Rattle.smt_terms.specs.Terms.{sort_of}
+use Rattle.smt_terms.specs.Values.{Value}
 use Rattle.theory_terms.specs.declared.lemma.Lemma.{Lemma}
 use Rattle.theory_terms.specs.declared.lemma.Lemma.TheVariants.{Congruence, Witness}
 use Rattle.theory_terms.specs.declared.shape.Shape.TheVariants.{Filling}
@@ -20,8 +21,9 @@ use Rattle.access_walk.specs.Networks.{AreApart, AreCongruent}
 use Rattle.access_walk.specs.Walked.{IsWalkable, HasHeldWords, IsFalseLemma}
 use Rattle.access_walk.specs.Watched.{HaveWatches, AreWitnessConflicts}
 use Rattle.access_walk.specs.Congruent.{HasConflict, AreCongruenceConflicts}
-use Rattle.access_walk.specs.Searched.{AreAllConflicts, IsNoClash, AreNoClashes, HaveFewClashes}
-use Rattle.access_walk.proofs.Lists.{append_nil, not_nil}
+use Rattle.access_walk.specs.Searched.{AreAllConflicts, IsNoClash, AreNoClashes}
+use Rattle.access_walk.specs.Spread.{AreFewClashes}
+use Rattle.access_walk.proofs.Lists.{not_nil}
 
 -- ---- conditions
 
@@ -91,17 +93,11 @@ none_of [] e = refl
 none_of (l ∷ ls) e = absurd (omega (arith, e))
 
 -- no clash at all
-pub no_clash_is_few : (nodes : List Node) (bits : List TermBits) (f : ℕ → Bool) (lemmas : List Lemma) → AreNoClashes lemmas → HaveFewClashes nodes bits f lemmas
-no_clash_is_few nodes bits f lemmas none = record {
-  others = lemmas;
-  clashes = [];
-  are = sym (append_nil lemmas);
-  others_are = none;
-  few = record {
-    most = omega arith;
-    each = λ l c. absurd (not_nil l c);
-    single = λ i j l m a k p q u v. absurd (nothing i l p);
-  };
+pub none_are_few : (nodes : List Node) (val : ℕ → Value) → AreFewClashes nodes val []
+none_are_few nodes val = record {
+  most = omega arith;
+  each = λ l c. absurd (not_nil l c);
+  single = λ i j l m a k p q u v. absurd (nothing i l p);
 } where
   nothing : (i : ℕ) (l : Lemma) → slice_get [] i ≡ Some l → ⊥
   nothing i l p = let z : ⊥ = cc in z

@@ -18,6 +18,7 @@ pub mod Passing
 pub mod Permuted
 pub mod Clashed
 pub mod Tabled
+pub mod Telling
 pub mod Encoded
 pub mod Applied
 pub mod Calling

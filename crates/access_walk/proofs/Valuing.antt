@@ -160,5 +160,5 @@ module _ (nodes : List Node) (image : ℕ → Option ℕ) (Here : ℕ → Type 0
         let is : w ≡ record { to = arc.to; unless = unless_of i k.1 } = let z : Some w ≡ Some (record { to = arc.to; unless = unless_of i k.1 }) = sym turn ∙ own in cc in
         let falses : atom_true val (unless_of i k.1) ≡ false = ap (λ x. atom_true val x.unless) (sym is) ∙ never in
         let pass = false_open nodes val a i k.1 (λ y n q s. valued.guarded h.0 y n (k.3 ∙ ap Some q) s) index (subst (λ x. HasIndex nodes x k.1) from arc.index) falses in
-        (h.0, h.1, h.2, h.3, arc.is_to ∙ ap Some (ap (λ x. x.to) (sym is)), ap (λ x. passes x (number_of (val i))) (gate_is h.0 h.1 k.1 k.4 k.3) ∙ pass);
+        (h.0, h.1, h.2, h.3, arc.is_to ∙ ap Some (ap (λ x. x.to) (sym is)), ap (λ x. passes x (number_of (val i))) (gate_is h.0 h.1 k.1 k.4 k.3) ∙ pass, h.4);
   }

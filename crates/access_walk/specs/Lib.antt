@@ -12,4 +12,5 @@ pub mod Valuing
 pub mod Spread
 pub mod Congruent
 pub mod Called
+pub mod Told
 pub mod Searched

@@ -64,7 +64,7 @@ pub record IsNetwork (nodes : List Node) (image : ℕ → Option ℕ) (Here : �
   pub edges : (j : ℕ) (e : Edge) → slice_get g.edges.items j ≡ Some e → (m : Move) × (slice_get moves j ≡ Some m) × IsEdgeOf nodes val arrays gates e m
   pub moved : (here i a : ℕ) (m : Move) (w : Turn) → slice_get arrays here ≡ Some a → IsIndexOf nodes val i a → IsOwn Here image (mover m)
       → turn_of nodes i a m ≡ Some w → atom_true val w.unless ≡ false
-      → (j : ℕ) × (e : Edge) × (slice_get g.edges.items j ≡ Some e) × (e.from ≡ here) × (slice_get arrays e.to ≡ Some w.to) × (passes (gate_at gates e.gate) (number_of (val i)) ≡ true)
+      → (j : ℕ) × (e : Edge) × (slice_get g.edges.items j ≡ Some e) × (e.from ≡ here) × (slice_get arrays e.to ≡ Some w.to) × (passes (gate_at gates e.gate) (number_of (val i)) ≡ true) × (slice_get moves j ≡ Some m)
 
 -- arrays that are said to differ have different words at their witness
 abbrev pub AreApart : List Node → (ℕ → Option ℕ) → (ℕ → Type 0) → (ℕ → Value) → Type 0

@@ -18,6 +18,7 @@ use Rattle.access_walk.specs.declared.walking.Walked.TheVariants as of
 use Rattle.access_walk.specs.Congruent.{AreApplications, AreAlike, HasConflict}
 use Rattle.access_walk.specs.Spared.{AreIndexesOf}
 use Rattle.access_walk.specs.Spread.{AreEncodedLemmas, AreFewClashes}
+use Rattle.access_walk.specs.Told.{AreAllTold}
 use Rattle.access_walk.specs.Valuing.{IsNetworkOf}
 use Rattle.access_walk.specs.Walked.{IsFalseLemma, IsWalkedTable}
 use Rattle.access_walk.specs.Watched.{AreWatches, AreApartAt}
@@ -55,11 +56,13 @@ pub record HaveFewClashes (nodes : List Node) (bits : List TermBits) (f : ℕ �
   pub others_are : AreNoClashes others
   pub few : AreFewClashes nodes (assigned_value nodes bits f) clashes
 
--- False lemmas, of which there is one at least and all that functions and witnesses give, but few on accesses; and further lemmas.
+-- False lemmas, of which there is one at least and all that functions and witnesses give, but few on accesses, and all there too where
+-- they are fewer than are told at most; and further lemmas.
 pub record AreConflicts (nodes : List Node) (bits : List TermBits) (f : ℕ → Bool) (Here : ℕ → Type 0) (c : Conflicts) : Type 0 where
   pub some : length c.falses.items ≡ 0 → ⊥
   pub all : AreAllConflicts nodes bits f Here c.falses.items
   pub few : HaveFewClashes nodes bits f c.falses.items
+  pub told : AreAllTold nodes bits f Here few.clashes
   pub siblings : AreEncodedLemmas nodes bits c.siblings.items
 
 -- a closed table of what is reached, or conflicts

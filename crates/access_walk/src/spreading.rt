@@ -7,11 +7,12 @@ ghost use Rattle.smt_terms.specs.Terms.{sort_of};
 ghost use Rattle.theory_terms.specs.declared.shape.Shape.TheVariants.{Filling};
 ghost use Rattle.theory_terms.specs.Shapes.{shape_at};
 ghost use Rattle.access_spread.specs.Graphs.{IsGraph, AreGated};
-ghost use Rattle.access_spread.specs.Spreads.{AreRising, IsSpread, start_at};
+ghost use Rattle.access_spread.specs.Spreads.{AreRising, AreTold, IsSpread, start_at};
 ghost use Rattle.bit_blast.specs.Assigned.{assigned};
 ghost use Rattle.access_tables.specs.Encoded.{HaveBits};
 ghost use Rattle.access_tables.specs.Ready.{IsOwn};
 ghost use Rattle.access_walk.specs.Spread.{IsSpreading};
+ghost use Rattle.access_walk.specs.Told.{IsAllTold};
 ghost use Rattle.access_walk.specs.Valuing.{IsNetworkOf};
 ghost use Rattle.access_walk.specs.Walked.{HasHeldWords, HaveWordValues};
 
@@ -77,8 +78,11 @@ fn spread_down_first(
     requires within { (s : ℕ) → s < length values.now.starts.items
         → (start_at values.now.starts.items s).array < length network.now.graph.fans.items }
     requires rising { AreRising values.now.starts.items }
-    ensures { OnOk result
+    ensures spread { OnOk result
         (IsSpread network.now.graph values.now.gates.items [] values.now.starts.items
+        state.new.rows.items state.new.refused.items) }
+    ensures told { OnOk result
+        (AreTold network.now.graph values.now.gates.items lanes.now values.now.starts.items
         state.new.rows.items state.new.refused.items) }
 {
     spread(state, &network.graph, &values.gates, lanes, &values.starts)?;
@@ -89,7 +93,9 @@ fn spread_down_first(
 }
 
 /// Where accesses clash, lemmas of which the first ones are false under the assignment, at most 30;
-/// else all accesses, which are closed.
+/// else all accesses, which are closed. Where fewer lemmas are told, each array at which accesses
+/// on the way down clash with one index has its lemma, or they are stopped on their way by one that
+/// has.
 pub fn find_clashes(
     alloc: Global,
     terms: &Terms,
@@ -105,8 +111,10 @@ pub fn find_clashes(
         → shape_at terms.now.nodes t ≡ Filling x → sort_of terms.now.nodes t ≡ sort.Array n m
         → HasHeldWords terms.now.nodes bits.now (Contains reached.now) n }
     requires values { HaveWordValues terms.now.nodes bits.now (assigned assignment.now) }
-    ensures { IfOk result
+    ensures found { IfOk result
         (IsSpreading terms.now.nodes bits.now (assigned assignment.now) reached.now) }
+    ensures told { IfOk result
+        (IsAllTold terms.now.nodes bits.now (assigned assignment.now) reached.now) }
 {
     let _count = terms.len();
     workspace

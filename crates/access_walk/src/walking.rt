@@ -1,6 +1,6 @@
 // The walk: under an assignment a closed table of what is reached, or lemmas that are false.
 
-ghost use Rattle.std.specs.Prelude.{Contains, IfOk, length, ◌≡◌};
+ghost use Rattle.std.specs.Prelude.{[], Contains, IfOk, length, ◌≡◌};
 ghost use Rattle.smt_terms.specs.Bits.{image_in};
 ghost use Rattle.bit_blast.specs.Assigned.{assigned};
 ghost use Rattle.term_reach.specs.Reach.{IsReach};
@@ -10,6 +10,7 @@ ghost use Rattle.access_walk.specs.Networks.{AreApart, AreCongruent};
 ghost use Rattle.access_walk.specs.Rows.{AreClosedRows};
 ghost use Rattle.access_walk.specs.Searched.{IsPrepared, AreAllConflicts, AreNoClashes, AreConflicts, IsWalked};
 ghost use Rattle.access_walk.specs.Spread.{AreClashes};
+ghost use Rattle.access_walk.specs.Told.{AreAllTold};
 ghost use Rattle.access_walk.specs.Walked.{IsWalkable, HaveWordValues, IsWalkedTable};
 
 use crate::congruence::{Application, Calls, applications_of, congruence_conflicts};
@@ -167,6 +168,8 @@ fn joined(
         (Contains reached.now) conflicts.items }
     requires others { AreNoClashes conflicts.items }
     requires clashes { AreClashes terms.now.nodes bits.now (assigned assignment.now) found }
+    requires told { AreAllTold terms.now.nodes bits.now (assigned assignment.now)
+        (Contains reached.now) found.falses.items }
     ensures { IfOk result
         (AreConflicts terms.now.nodes bits.now (assigned assignment.now) (Contains reached.now)) }
 {
@@ -197,6 +200,8 @@ fn answered(
     requires all { AreAllConflicts terms.now.nodes bits.now (assigned assignment.now)
         (Contains reached.now) falses.items }
     requires others { AreNoClashes falses.items }
+    requires told { AreAllTold terms.now.nodes bits.now (assigned assignment.now)
+        (Contains reached.now) [] }
     ensures { IfOk result
         (IsWalked terms.now.nodes bits.now (assigned assignment.now) live.now reached.now) }
 {
@@ -212,7 +217,9 @@ fn answered(
 
 /// Under an assignment a table that is closed, of exactly what the live terms reach; or lemmas,
 /// false under it: all that functions and witnesses give, and of accesses that clash at most 30, no
-/// two of which are on one array and one index number.
+/// two of which are on one array and one index number. Where these are fewer than 30, all clashes
+/// are told that accesses meet on the way down and over equalities: two that come to one array with
+/// equal indexes and different values are told there, or one of them is told further up its way.
 pub fn walk(
     alloc: Global,
     terms: &Terms,

@@ -14,7 +14,7 @@ use Rattle.theory_terms.specs.declared.shape.Shape.TheVariants.{Applying, Declar
 use Rattle.theory_terms.specs.Shapes.{shape_of, shape_at}
 use Rattle.theory_terms.proofs.Shapes.{shape_within}
 
-declaring_op : (op : Op) (args : List ℕ) (d : ℕ) (q : Sort) → shape_of op args ≡ Declaring d q → op ≡ Constant d q
+pub declaring_op : (op : Op) (args : List ℕ) (d : ℕ) (q : Sort) → shape_of op args ≡ Declaring d q → op ≡ Constant d q
 declaring_op (Constant e r) args d q h = let p : e ≡ d = cc in let s : r ≡ q = cc in ap (λ x. Constant x r) p ∙ ap (Constant d) s
 declaring_op (Plain plain.Ite) (a ∷ b ∷ c ∷ []) d q h = let f : ⊥ = cc in absurd f
 declaring_op (Plain plain.Equal) (a ∷ b ∷ []) d q h = let f : ⊥ = cc in absurd f
@@ -24,7 +24,7 @@ declaring_op (Plain plain.Witness) (a ∷ b ∷ []) d q h = let f : ⊥ = cc in 
 declaring_op (ConstantArray k) (a ∷ []) d q h = let f : ⊥ = cc in absurd f
 declaring_op op args d q h = let f : ⊥ = cc in absurd f
 
-applying_op : (op : Op) (args : List ℕ) (d : ℕ) → shape_of op args ≡ Applying d → (g : Signature) × (op ≡ Apply d g)
+pub applying_op : (op : Op) (args : List ℕ) (d : ℕ) → shape_of op args ≡ Applying d → (g : Signature) × (op ≡ Apply d g)
 applying_op (Apply e g) args d h = let p : e ≡ d = cc in (g, ap (λ x. Apply x g) p)
 applying_op (Plain plain.Ite) (a ∷ b ∷ c ∷ []) d h = let f : ⊥ = cc in absurd f
 applying_op (Plain plain.Equal) (a ∷ b ∷ []) d h = let f : ⊥ = cc in absurd f
@@ -38,7 +38,7 @@ no_arguments : (d : ℕ) (q : Sort) (s : ℕ → Sort) (args : List ℕ) (r : So
 no_arguments d q s [] r e = refl
 no_arguments d q s (a ∷ args) r e = let f : ⊥ = cc in absurd f
 
-some_arguments : (d : ℕ) (g : Signature) (ss : List Sort) (r : Sort) → g.args ≡ [] → op_rank (Apply d g) ss ≡ Ok r → ⊥
+pub some_arguments : (d : ℕ) (g : Signature) (ss : List Sort) (r : Sort) → g.args ≡ [] → op_rank (Apply d g) ss ≡ Ok r → ⊥
 some_arguments d g ss r none e = go ss (subst (λ l. ranked (application l g.value) 0 (map Some ss) ≡ Ok r) none e) where
   go : (ss : List Sort) → ranked (application [] g.value) 0 (map Some ss) ≡ Ok r → ⊥
   go [] h = let f : ⊥ = cc in f

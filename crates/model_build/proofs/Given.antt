@@ -63,7 +63,7 @@ plain_is sort.Bool p = refl
 plain_is (sort.Word n) p = refl
 plain_is (sort.Array n m) p = absurd p
 
-is_plain_is : (s : Sort) → is_plain s ≡ true → IsPlain s
+pub is_plain_is : (s : Sort) → is_plain s ≡ true → IsPlain s
 is_plain_is sort.Bool p = tt
 is_plain_is (sort.Word n) p = tt
 is_plain_is (sort.Array n m) p = let f : ⊥ = cc in absurd f
@@ -71,11 +71,20 @@ is_plain_is (sort.Array n m) p = let f : ⊥ = cc in absurd f
 pub word_is : (s : Sort) (n : ℕ) → s ≡ sort.Word n → is_word s ≡ true
 word_is s n e = ap is_word e
 
+-- a term with bits has a value of its sort
+pub row_sorted : (nodes : List Node) (bits : List TermBits) (f : ℕ → Bool) (t : ℕ) → HasRow nodes bits t → HasSort (sort_of nodes t) (assigned_value nodes bits f t)
+row_sorted nodes bits f t h = subst (HasSort (sort_of nodes t)) (sym (ap (value_by f (sort_of nodes t)) h.1)) (row_sort f (sort_of nodes t) h.0 h.2)
+
 -- the number of a word with bits fits its width
 pub word_fits : (nodes : List Node) (bits : List TermBits) (f : ℕ → Bool) (t n : ℕ) → sort_of nodes t ≡ sort.Word n → HasRow nodes bits t → of.number_of (assigned_value nodes bits f t) < 2 ^ n
-word_fits nodes bits f t n e h =
-    let sorted : HasSort (sort_of nodes t) (assigned_value nodes bits f t) = subst (HasSort (sort_of nodes t)) (sym (ap (value_by f (sort_of nodes t)) h.1)) (row_sort f (sort_of nodes t) h.0 h.2) in
-    word_lt n (assigned_value nodes bits f t) (subst (λ s. HasSort s (assigned_value nodes bits f t)) e sorted)
+word_fits nodes bits f t n e h = word_lt n (assigned_value nodes bits f t) (subst (λ s. HasSort s (assigned_value nodes bits f t)) e (row_sorted nodes bits f t h))
+
+-- an array has no image
+pub array_free : (nodes : List Node) (bits : List TermBits) (Here : ℕ → Type 0) → HaveBits nodes bits Here → (t n m : ℕ) → sort_of nodes t ≡ sort.Array n m → image_in bits t ≡ None
+array_free nodes bits Here have t n m s = go (image_in bits t) refl where
+  go : (o : Option ℕ) → image_in bits t ≡ o → image_in bits t ≡ None
+  go None e = e
+  go (Some u) e = absurd (subst IsPlain s (have.images.plain t u e))
 
 -- the word of a term of this width
 pub word_at_width : (nodes : List Node) (bits : List TermBits) (f : ℕ → Bool) (t n : ℕ) (w : WordValue) → sort_of nodes t ≡ sort.Word n
@@ -146,8 +155,17 @@ module _ (nodes : List Node) (terms : IsTermList nodes) (bits : List TermBits) (
       let q : m ≡ access.element = cc in
       (p, q)
 
+  pub own_widths : IsWidth n × IsWidth m
+  own_widths = array_widths nodes terms r.array n m (declared_sort nodes terms r.array d (sort.Array n m) shape)
+
   pub index_wide : IsWidth n
-  index_wide = (array_widths nodes terms r.array n m (declared_sort nodes terms r.array d (sort.Array n m) shape)).0
+  index_wide = own_widths.0
+
+  pub index_less : of.number_of (assigned_value nodes bits f r.index) < 2 ^ n
+  index_less = subst (λ z. of.number_of (assigned_value nodes bits f r.index) < 2 ^ z) (sym same_widths.0) (word_fits nodes bits f r.index access.index access.at access.index_bits)
+
+  pub value_less : of.number_of (assigned_value nodes bits f r.value) < 2 ^ m
+  value_less = subst (λ z. of.number_of (assigned_value nodes bits f r.value) < 2 ^ z) (sym same_widths.1) (word_fits nodes bits f r.value access.element access.value access.value_bits)
 
   pub index_word : (w : WordValue) → w ≡ word (width_of (sort_of nodes r.index)) (of.number_of (assigned_value nodes bits f r.index)) → w ≡ word n (of.number_of (assigned_value nodes bits f r.index))
   index_word w e = word_at_width nodes bits f r.index n w (access.at ∙ ap sort.Word (sym same_widths.0)) e
@@ -175,10 +193,8 @@ module _ (nodes : List Node) (terms : IsTermList nodes) (bits : List TermBits) (
   takes_element values at w has p q =
       let i : at ≡ word n (of.number_of (assigned_value nodes bits f r.index)) = index_word at p in
       let x : w ≡ word m (of.number_of (assigned_value nodes bits f r.value)) = value_word w q in
-      let li : of.number_of (assigned_value nodes bits f r.index) < 2 ^ n = subst (λ z. of.number_of (assigned_value nodes bits f r.index) < 2 ^ z) (sym same_widths.0) (word_fits nodes bits f r.index access.index access.at access.index_bits) in
-      let lx : of.number_of (assigned_value nodes bits f r.value) < 2 ^ m = subst (λ z. of.number_of (assigned_value nodes bits f r.value) < 2 ^ z) (sym same_widths.1) (word_fits nodes bits f r.value access.element access.value access.value_bits) in
-      let fi : IsOfWidth n at = subst (IsOfWidth n) (sym i) (record { width = refl; fits = li }) in
-      let fx : IsOfWidth m w = subst (IsOfWidth m) (sym x) (record { width = refl; fits = lx }) in
+      let fi : IsOfWidth n at = subst (IsOfWidth n) (sym i) (record { width = refl; fits = index_less }) in
+      let fx : IsOfWidth m w = subst (IsOfWidth m) (sym x) (record { width = refl; fits = value_less }) in
       subst (Takes at w) (sym has.1) (subst (λ z. IsOfWidth z at) (sym has.2) fi, subst (λ z. IsOfWidth z w) (sym has.3) fx)
 
   pub element_set : (old new : List (Option Value)) (at w : WordValue)

@@ -1,8 +1,11 @@
 mod Declared
 mod Arguments
 mod Keeping
+mod Values
 mod OneMore
 mod Accesses
 mod Made
 mod Given
 mod Looping
+mod WellSorted
+mod Suited

@@ -1,11 +1,11 @@
 -- One term and one access more, as the loops take them.
-use Rattle.std.proofs.Common.{◌≡◌, ℕ, suc, ◌+◌, ◌<◌, ◌^◌, Bool, List, length, get_or, Option, Some, None, refl, sym, ap, ◌∙◌, subst, inl, ◌≤◌, arith}
+use Rattle.std.proofs.Common.{◌≡◌, ℕ, suc, ◌+◌, ◌<◌, ◌^◌, Bool, List, length, get_or, Option, Some, refl, sym, ap, ◌∙◌, subst, inl, ◌≤◌, arith}
 use Rattle.std.specs.Prelude.{slice_get, Contains}
 use Rattle.std.proofs.lemmas.Option.{slice_get_within, get_or_from_slice_get, slice_get-get_or}
 use Rattle.smt_words.specs.Words.{IsWidth, word}
 use Rattle.smt_terms.specs.declared.sort.Sort.TheVariants as sort
 use Rattle.smt_terms.specs.Bits.{TermBits, image_in}
-use Rattle.smt_terms.specs.Terms.{sort_of, TermsValue, AreTerms}
+use Rattle.smt_terms.specs.Terms.{TermsValue, AreTerms}
 use Rattle.smt_terms.specs.Values as of
 use Rattle.smt_values.specs.declared.value.Value.{Value}
 use Rattle.smt_values.specs.declared.value.Value.TheVariants as held
@@ -14,13 +14,13 @@ use Rattle.smt_values.specs.Held.{set_for}
 use Rattle.theory_terms.specs.declared.shape.Shape.{Shape}
 use Rattle.theory_terms.specs.declared.shape.Shape.TheVariants.{Selecting, Storing, Filling, Choosing, Equating, Witnessing, Applying, Declaring, Other}
 use Rattle.theory_terms.specs.declared.atom.Landing.{Landing}
-use Rattle.theory_terms.specs.Shapes.{IsPlain, shape_at}
+use Rattle.theory_terms.specs.Shapes.{shape_at}
 use Rattle.term_reach.proofs.Tables.{contains_at, at_contained}
 use Rattle.access_tables.specs.Encoded.{HaveBits}
 use Rattle.access_tables.specs.Held.{TableValue, IsAccess, assigned_value, IsClosedUnder}
 use Rattle.model_build.specs.Drafts.{RowShape, Enters, GivesDefault, GivesElement, IsOpen, HoldsShape, IsUniform, IsFilled, HasDefaults, HasElements}
 use Rattle.model_build.proofs.Accesses.{one_default, one_element, none_filled}
-use Rattle.model_build.proofs.Given.{array_widths, declared_sort, word_fits, access_shape}
+use Rattle.model_build.proofs.Given.{array_widths, array_free, declared_sort, word_fits, access_shape}
 use Rattle.model_build.proofs.Keeping.{kept}
 use Rattle.model_build.proofs.OneMore.{one_more}
 
@@ -84,16 +84,11 @@ module _ (v : TermsValue) (terms : AreTerms v) (bits : List TermBits) (f : ℕ �
     element_step all gives have = subst (λ k. HasElements v.nodes bits f table all k new) (add_one count) (λ j t lt e free.
         one_element v terms val table closed.rows.consistent count r at old new access.index access.element index_lt value_lt shape gives t (have j t lt e free))
 
-  -- an array has no image
-  array_free : (have : HaveBits v.nodes bits (Contains table.terms)) (t n m : ℕ) (o : Option ℕ) → sort_of v.nodes t ≡ sort.Array n m → image_in bits t ≡ o → image_in bits t ≡ None
-  array_free have t n m None s e = e
-  array_free have t n m (Some u) s e = absurd (subst IsPlain s (have.images.plain t u e))
-
   pub open_row : (have : HaveBits v.nodes bits (Contains table.terms)) (count : ℕ) (r : Landing) (values : List (Option Value)) → IsAccess v.nodes bits table.terms r
       → HasElements v.nodes bits f table (length table.terms) count values → IsOpen v.nodes r values
   open_row have count r values access all =
       let at = at_contained table.terms r.array access.here in
-      let free = array_free have r.array access.index access.element (image_in bits r.array) access.array refl in
+      let free = array_free v.nodes bits (Contains table.terms) have r.array access.index access.element access.array in
       go (shape_at v.nodes r.array) (all at.0 r.array (slice_get_within table.terms at.0 r.array at.1) at.1 free) where
         go : (k : Shape) → HoldsShape (IsFilled v.nodes (assigned_value v.nodes bits f) table count) v.nodes (assigned_value v.nodes bits f) values r.array k
             → RowShape (λ d n m. (a : ArrayFields) × (set_for values d ≡ Some (held.Array a)) × (a.index ≡ n) × (a.default.width ≡ m)) (Unit {0}) k

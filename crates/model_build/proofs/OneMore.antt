@@ -9,24 +9,22 @@ use Rattle.smt_terms.specs.declared.sort.Sort.{Sort}
 use Rattle.smt_terms.specs.declared.sort.Sort.TheVariants as sort
 use Rattle.smt_terms.specs.Nodes.{node_at}
 use Rattle.smt_terms.specs.Scalars.{scalar_value}
-use Rattle.smt_terms.specs.Terms.{TermsValue, AreTerms}
+use Rattle.smt_terms.specs.Terms.{sort_of, TermsValue, AreTerms}
 use Rattle.smt_terms.specs.Values as of
 use Rattle.smt_values.specs.declared.value.Value.{Value}
 use Rattle.smt_values.specs.declared.value.Value.TheVariants as held
-use Rattle.smt_values.specs.Arrays.{ArrayFields, IsArray, constant_array}
+use Rattle.smt_values.specs.Arrays.{ArrayFields, constant_array}
 use Rattle.smt_values.specs.Tables.{args_cmp, table_value, with_row}
 use Rattle.smt_values.specs.Held.{set_for}
 use Rattle.smt_values.proofs.Changing.{row_changes}
 use Rattle.theory_terms.specs.declared.shape.Shape.{Shape}
 use Rattle.theory_terms.specs.declared.shape.Shape.TheVariants.{Selecting, Storing, Filling, Choosing, Equating, Witnessing, Applying, Declaring, Other}
 use Rattle.theory_terms.specs.Shapes.{shape_at}
-use Rattle.model_build.specs.Drafts.{Stays, table_of, rowed_in, IsFirstOf, EntersConstant, EntersRow, EntersShape, EntersBy, HoldsShape}
+use Rattle.model_build.specs.Drafts.{Stays, table_of, rowed_in, zero_of, IsFirstOf, EntersConstant, EntersRow, EntersShape, EntersBy, HoldsShape}
 use Rattle.model_build.proofs.Declared.{one_term, not_both}
 use Rattle.model_build.proofs.Arguments.{args_same, args_itself}
+use Rattle.model_build.proofs.Values.{constant_is_array}
 use Rattle.model_build.proofs.Keeping.{sets_at, sets_other, Names, kept}
-
-constant_is_array : (n m : ℕ) → IsWidth n → IsWidth m → IsArray (constant_array n (word m 0))
-constant_is_array n m p q = record { index = p; element = q; default = record { width = refl; fits = pow_pos m }; entries = tt; rising = tt }
 
 module _
     (v : TermsValue) (terms : AreTerms v) (image : ℕ → Option ℕ) (val : ℕ → of.Value) (Is : ℕ → ArrayFields → Type 0) (ts : List ℕ)
@@ -47,11 +45,11 @@ module _
       at = sets_at d (λ o. Some enters.value) old new enters.sets
 
       own_constant : (r : Sort) → q ≡ r → IsFirstOf (val t₀) r enters.value → Has new t₀ (Declaring d r)
-      own_constant sort.Bool e f = (enters.value, at, f)
-      own_constant (sort.Word n) e f = (enters.value, at, f)
+      own_constant sort.Bool e f = (enters.value, at, f.0)
+      own_constant (sort.Word n) e f = (enters.value, at, f.0)
       own_constant (sort.Array n m) e f =
           let p = first t₀ d n m (is ∙ ap (Declaring d) e) in
-          record { array = constant_array n (word m 0); set = at ∙ ap Some f; index = refl; element = refl; well = constant_is_array n m p.0 p.1; is = p.2 }
+          record { array = constant_array n (word m 0); set = at ∙ ap Some f; index = refl; element = refl; well = constant_is_array n m 0 p.0 p.1 (pow_pos m); is = p.2 }
 
       new_constant : Has new t₀ (shape_at v.nodes t₀)
       new_constant = subst (Has new t₀) (sym is) (own_constant q refl enters.first)
@@ -82,46 +80,46 @@ module _
 
     -- ---- an application
 
-    module _ (d : ℕ) (is : shape_at v.nodes t₀ ≡ Applying d) (enters : EntersRow (map val (node_at v.nodes t₀).args) (val t₀) d old new) where
-      rows : set_for new d ≡ Some (held.Fun (with_row (table_of (set_for old d)) enters.args enters.value))
-      rows = sets_at d (rowed_in enters.args enters.value) old new enters.sets
+    module _ (d : ℕ) (is : shape_at v.nodes t₀ ≡ Applying d) (enters : EntersRow (map val (node_at v.nodes t₀).args) (val t₀) (sort_of v.nodes t₀) d old new) where
+      rows : set_for new d ≡ Some (held.Fun (with_row (table_of (zero_of (sort_of v.nodes t₀)) (set_for old d)) enters.args enters.value))
+      rows = sets_at d (rowed_in (zero_of (sort_of v.nodes t₀)) enters.args enters.value) old new enters.sets
 
       new_row : Has new t₀ (shape_at v.nodes t₀)
       new_row = subst (Has new t₀) (sym is)
           (record {
-            table = with_row (table_of (set_for old d)) enters.args enters.value;
+            table = with_row (table_of (zero_of (sort_of v.nodes t₀)) (set_for old d)) enters.args enters.value;
             args = enters.args;
             set = rows;
             are = enters.are;
-            is = row_changes (table_of (set_for old d)) enters.args enters.args enters.value
-                ∙ ap (λ b. if b then scalar_value enters.value else table_value (table_of (set_for old d)) (map scalar_value enters.args)) (args_itself enters.args) ∙ enters.is;
+            is = row_changes (table_of (zero_of (sort_of v.nodes t₀)) (set_for old d)) enters.args enters.args enters.value
+                ∙ ap (λ b. if b then scalar_value enters.value else table_value (table_of (zero_of (sort_of v.nodes t₀)) (set_for old d)) (map scalar_value enters.args)) (args_itself enters.args) ∙ enters.is;
           })
 
       old_row : (t : ℕ) → Contains ts t → image t ≡ None → (k : Shape) → shape_at v.nodes t ≡ k → Has old t k → Has new t k
       old_row t c f (Declaring x r) e h = by_case (x == d) refl where
         by_case : (b : Bool) → (x == d) ≡ b → Has new t (Declaring x r)
         by_case true p = absurd (not_both v terms t t₀ d r (e ∙ ap (λ y. Declaring y r) (eqb-true x d p)) is)
-        by_case false p = kept v.nodes val Is Is old new t (Declaring x r) (λ y n. sets_other d (rowed_in enters.args enters.value) old new enters.sets y (λ z. eqb-false x d p (n ∙ z))) (λ d' n m a z i j w. w) h
+        by_case false p = kept v.nodes val Is Is old new t (Declaring x r) (λ y n. sets_other d (rowed_in (zero_of (sort_of v.nodes t₀)) enters.args enters.value) old new enters.sets y (λ z. eqb-false x d p (n ∙ z))) (λ d' n m a z i j w. w) h
       old_row t c f (Applying x) e h = by_case (x == d) refl where
         by_case : (b : Bool) → (x == d) ≡ b → Has new t (Applying x)
-        by_case false p = kept v.nodes val Is Is old new t (Applying x) (λ y n. sets_other d (rowed_in enters.args enters.value) old new enters.sets y (λ z. eqb-false x d p (n ∙ z))) (λ d' n m a z i j w. w) h
+        by_case false p = kept v.nodes val Is Is old new t (Applying x) (λ y n. sets_other d (rowed_in (zero_of (sort_of v.nodes t₀)) enters.args enters.value) old new enters.sets y (λ z. eqb-false x d p (n ∙ z))) (λ d' n m a z i j w. w) h
         by_case true p =
             let same : x ≡ d = eqb-true x d p in
-            let table : table_of (set_for old d) ≡ h.table = ap table_of (ap (set_for old) (sym same) ∙ h.set) in
+            let table : table_of (zero_of (sort_of v.nodes t₀)) (set_for old d) ≡ h.table = ap (table_of (zero_of (sort_of v.nodes t₀))) (ap (set_for old) (sym same) ∙ h.set) in
             record {
-              table = with_row (table_of (set_for old d)) enters.args enters.value;
+              table = with_row (table_of (zero_of (sort_of v.nodes t₀)) (set_for old d)) enters.args enters.value;
               args = h.args;
               set = ap (set_for new) same ∙ rows;
               are = h.are;
-              is = row_changes (table_of (set_for old d)) enters.args h.args enters.value ∙ value (is_eq (args_cmp enters.args h.args)) refl
+              is = row_changes (table_of (zero_of (sort_of v.nodes t₀)) (set_for old d)) enters.args h.args enters.value ∙ value (is_eq (args_cmp enters.args h.args)) refl
                   (ap (λ w. table_value w (map scalar_value h.args)) table ∙ h.is);
             } where
-              value : (b : Bool) → is_eq (args_cmp enters.args h.args) ≡ b → table_value (table_of (set_for old d)) (map scalar_value h.args) ≡ val t
-                  → (if is_eq (args_cmp enters.args h.args) then scalar_value enters.value else table_value (table_of (set_for old d)) (map scalar_value h.args)) ≡ val t
+              value : (b : Bool) → is_eq (args_cmp enters.args h.args) ≡ b → table_value (table_of (zero_of (sort_of v.nodes t₀)) (set_for old d)) (map scalar_value h.args) ≡ val t
+                  → (if is_eq (args_cmp enters.args h.args) then scalar_value enters.value else table_value (table_of (zero_of (sort_of v.nodes t₀)) (set_for old d)) (map scalar_value h.args)) ≡ val t
               value true z w =
-                  ap (λ b. if b then scalar_value enters.value else table_value (table_of (set_for old d)) (map scalar_value h.args)) z ∙ enters.is
+                  ap (λ b. if b then scalar_value enters.value else table_value (table_of (zero_of (sort_of v.nodes t₀)) (set_for old d)) (map scalar_value h.args)) z ∙ enters.is
                   ∙ congruent t₀ t d here free c f is (e ∙ ap Applying (eqb-true x d p)) (sym enters.are ∙ args_same enters.args h.args z ∙ h.are)
-              value false z w = ap (λ b. if b then scalar_value enters.value else table_value (table_of (set_for old d)) (map scalar_value h.args)) z ∙ w
+              value false z w = ap (λ b. if b then scalar_value enters.value else table_value (table_of (zero_of (sort_of v.nodes t₀)) (set_for old d)) (map scalar_value h.args)) z ∙ w
       old_row t c f (Selecting a i) e h = tt
       old_row t c f (Storing b j x) e h = tt
       old_row t c f (Filling x) e h = tt

@@ -14,15 +14,17 @@ use Rattle.smt_values.specs.declared.value.Value.{Value}
 use Rattle.smt_values.specs.declared.value.Value.TheVariants as held
 use Rattle.smt_values.specs.Arrays.{ArrayFields, IsArray, IsOfWidth, element_at, with_element, constant_array}
 use Rattle.smt_values.specs.Tables.{TableFields, table_value, constant_table, with_row}
-use Rattle.smt_values.specs.Held.{meaning, set_for}
+use Rattle.smt_values.specs.Readings.{scalar_read}
+use Rattle.smt_values.specs.Held.{meaning, set_for, IsOfSort}
 use Rattle.theory_terms.specs.declared.shape.Shape.{Shape}
 use Rattle.theory_terms.specs.declared.shape.Shape.TheVariants.{Selecting, Storing, Filling, Choosing, Equating, Witnessing, Applying, Declaring, Other}
 use Rattle.theory_terms.specs.declared.atom.Landing.{Landing}
 use Rattle.theory_terms.specs.Shapes.{shape_at}
 use Rattle.access_tables.specs.Tables.{Says, Has, default_at}
 use Rattle.smt_terms.specs.Ranks.{is_plain}
-use Rattle.smt_terms.specs.Terms.{sort_of}
+use Rattle.smt_terms.specs.Terms.{sort_of, signature_of}
 use Rattle.access_tables.specs.Held.{TableValue, spare_in, HasRow, assigned_value}
+use Rattle.model_build.specs.Sorted.{IsOwnTerm, IsTermOf, IsOfSignature}
 
 -- ---- terms and accesses
 
@@ -56,24 +58,28 @@ Takes i x (Some (held.Word w)) = Unit {0}
 Takes i x (Some (held.Array a)) = IsOfWidth a.index i × IsOfWidth a.default.width x
 Takes i x (Some (held.Fun t)) = Unit {0}
 
--- a table; in the place of what is none, one that is false everywhere
-abbrev pub table_of : Option Value → TableFields
-table_of None = constant_table (scalar.Bool false)
-table_of (Some (held.Bool b)) = constant_table (scalar.Bool false)
-table_of (Some (held.Word w)) = constant_table (scalar.Bool false)
-table_of (Some (held.Array a)) = constant_table (scalar.Bool false)
-table_of (Some (held.Fun t)) = t
+-- a table; in the place of what is none, one that has this value everywhere
+abbrev pub table_of : Scalar → Option Value → TableFields
+table_of z None = constant_table z
+table_of z (Some (held.Bool b)) = constant_table z
+table_of z (Some (held.Word w)) = constant_table z
+table_of z (Some (held.Array a)) = constant_table z
+table_of z (Some (held.Fun t)) = t
 
 -- a table with one row more
-abbrev pub rowed_in : List Scalar → Scalar → Option Value → Option Value
-rowed_in args x o = Some (held.Fun (with_row (table_of o) args x))
+abbrev pub rowed_in : Scalar → List Scalar → Scalar → Option Value → Option Value
+rowed_in z args x o = Some (held.Fun (with_row (table_of z o) args x))
+
+-- false, or the word zero
+abbrev pub zero_of : Sort → Scalar
+zero_of q = scalar_read q (scalar.Bool false)
 
 -- ---- one term
 
 -- a value for a constant of this sort: of a Bool or a word this one, of an array zeros
 abbrev pub IsFirstOf : of.Value → Sort → Value → Type 0
-IsFirstOf x sort.Bool v = meaning v ≡ x
-IsFirstOf x (sort.Word n) v = meaning v ≡ x
+IsFirstOf x sort.Bool v = (meaning v ≡ x) × IsOfSort sort.Bool v
+IsFirstOf x (sort.Word n) v = (meaning v ≡ x) × IsOfSort (sort.Word n) v
 IsFirstOf x (sort.Array n m) v = v ≡ held.Array (constant_array n (word m 0))
 
 -- the declared constant has its first value
@@ -82,13 +88,13 @@ pub record EntersConstant (x : of.Value) (d : ℕ) (q : Sort) (old new : List (O
   pub first : IsFirstOf x q value
   pub sets : Sets d (λ o. Some value) old new
 
--- the function has a row for these arguments
-pub record EntersRow (vs : List of.Value) (x : of.Value) (d : ℕ) (old new : List (Option Value)) : Type 0 where
+-- the function of values of this sort has a row for these arguments
+pub record EntersRow (vs : List of.Value) (x : of.Value) (q : Sort) (d : ℕ) (old new : List (Option Value)) : Type 0 where
   pub args : List Scalar
   pub value : Scalar
   pub are : map scalar_value args ≡ vs
   pub is : scalar_value value ≡ x
-  pub sets : Sets d (rowed_in args value) old new
+  pub sets : Sets d (rowed_in (zero_of q) args value) old new
 
 abbrev pub EntersShape : List Node → (ℕ → of.Value) → ℕ → Shape → List (Option Value) → List (Option Value) → Type 0
 EntersShape nodes val t (Selecting a i) old new = Stays old new
@@ -97,7 +103,7 @@ EntersShape nodes val t (Filling x) old new = Stays old new
 EntersShape nodes val t (Choosing c a b) old new = Stays old new
 EntersShape nodes val t (Equating a b) old new = Stays old new
 EntersShape nodes val t (Witnessing a b) old new = Stays old new
-EntersShape nodes val t (Applying d) old new = EntersRow (map val (node_at nodes t).args) (val t) d old new
+EntersShape nodes val t (Applying d) old new = EntersRow (map val (node_at nodes t).args) (val t) (sort_of nodes t) d old new
 EntersShape nodes val t (Declaring d q) old new = EntersConstant (val t) d q old new
 EntersShape nodes val t Other old new = Stays old new
 
@@ -213,3 +219,8 @@ HasDefaults nodes bits f table terms rows values = Holds (IsUniform nodes (assig
 -- and the elements of so many accesses
 abbrev pub HasElements : List Node → List TermBits → (ℕ → Bool) → TableValue → ℕ → ℕ → List (Option Value) → Type 0
 HasElements nodes bits f table terms rows values = Holds (IsFilled nodes (assigned_value nodes bits f) table rows) nodes bits f table.terms terms values
+
+-- each value of the draft is of a declaration that one of the terms without an image names, and one that it may have
+abbrev pub AreSorted : List Node → List TermBits → List ℕ → List (Option Value) → Type 0
+AreSorted nodes bits terms values =
+    (d : ℕ) (v : Value) → set_for values d ≡ Some v → (t : ℕ) × IsOwnTerm bits terms t × IsTermOf nodes t d × IsOfSignature (signature_of (node_at nodes t).op) v

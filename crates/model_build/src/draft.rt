@@ -60,16 +60,16 @@ fn entered(value: Option<Value>, index: Word, element: Word) -> Result<Option<Va
     }
 }
 
-/// A table, or one that is false everywhere.
-fn table_in(alloc: Global, value: Option<Value>) -> FunTable
-    ensures { result ≡ table_of value }
+/// A table, or one that has this value everywhere.
+fn table_in(alloc: Global, value: Option<Value>, default: Scalar) -> FunTable
+    ensures { result ≡ table_of default value }
 {
     match value {
         Some(Value::Fun(table)) => table,
-        Some(Value::Array(_array)) => FunTable::constant(alloc, Scalar::Bool(false)),
-        Some(Value::Bool(_)) => FunTable::constant(alloc, Scalar::Bool(false)),
-        Some(Value::Word(_)) => FunTable::constant(alloc, Scalar::Bool(false)),
-        None => FunTable::constant(alloc, Scalar::Bool(false)),
+        Some(Value::Array(_array)) => FunTable::constant(alloc, default),
+        Some(Value::Bool(_)) => FunTable::constant(alloc, default),
+        Some(Value::Word(_)) => FunTable::constant(alloc, default),
+        None => FunTable::constant(alloc, default),
     }
 }
 
@@ -77,12 +77,13 @@ fn table_in(alloc: Global, value: Option<Value>) -> FunTable
 fn rowed(
     alloc: Global,
     value: Option<Value>,
+    default: Scalar,
     args: Scalars,
     given: Scalar,
 ) -> Result<Option<Value>, AllocError>
-    ensures { IfOk result (λ v. v ≡ rowed_in args given value) }
+    ensures { IfOk result (λ v. v ≡ rowed_in default args given value) }
 {
-    let mut table = table_in(alloc, value);
+    let mut table = table_in(alloc, value, default);
     table.set(args, given)?;
     Ok(Some(Value::Fun(table)))
 }
@@ -123,19 +124,21 @@ impl Draft {
         Ok(())
     }
 
-    /// Gives the function of a declaration a value for these arguments.
+    /// Gives the function of a declaration a value for these arguments; where it has no row yet, this
+    /// default for all others.
     pub(crate) fn add_row(
         &mut self,
         alloc: Global,
         declaration: DeclId,
+        default: Scalar,
         args: Scalars,
         value: Scalar,
     ) -> Result<(), AllocError>
-        ensures { OnOk result (Sets declaration (rowed_in args value) self.old self.new) }
+        ensures { OnOk result (Sets declaration (rowed_in default args value) self.old self.new) }
     {
         grow(&mut self.values, declaration)?;
         let old = mem::replace(&mut self.values[declaration as usize], None);
-        let new = rowed(alloc, old, args, value)?;
+        let new = rowed(alloc, old, default, args, value)?;
         self.values[declaration as usize] = new;
         Ok(())
     }

@@ -10,7 +10,7 @@ ghost use Rattle.theory_terms.specs.Shapes.{shape_at};
 ghost use Rattle.bit_blast.specs.Assigned.{assigned};
 ghost use Rattle.access_tables.specs.Encoded.{HaveBits};
 ghost use Rattle.access_tables.specs.Held.{HasRow, assigned_value, IsClosedUnder};
-ghost use Rattle.model_build.specs.Drafts.{IsPlainTerm, IsFirstOf, EntersShape, Enters, HasDefaults};
+ghost use Rattle.model_build.specs.Drafts.{IsPlainTerm, zero_of, IsFirstOf, EntersShape, Enters, HasDefaults, AreSorted};
 
 use crate::draft::Draft;
 use access_tables::table::AccessTable;
@@ -18,6 +18,7 @@ use access_tables::values::{truth_of, value_of, word_of};
 use bit_blast::Assignment;
 use smt_terms::bits::Bits;
 use smt_terms::node::TermId;
+use smt_terms::scalar::Scalar;
 use smt_terms::sort::Sort;
 use smt_terms::terms::Terms;
 use smt_values::array::ArrayValue;
@@ -71,6 +72,17 @@ fn constant(
     }
 }
 
+/// False, or the word zero.
+fn zero(sort: Sort) -> Scalar
+    requires { IsSort sort }
+    ensures { result ≡ zero_of sort }
+{
+    match sort {
+        Sort::Word(width) => Scalar::Word(word_from(width, 0)),
+        _ => Scalar::Bool(false),
+    }
+}
+
 /// Enters a term without an image, if it is a declared constant or an application.
 fn enter_own(
     alloc: Global,
@@ -100,7 +112,8 @@ fn enter_own(
             let args = terms.node(term).args.as_slice();
             let args = argument_values(alloc, terms, bits, assignment, args)?;
             let value = value_of(terms, bits, assignment, term);
-            draft.add_row(alloc, declaration, args, value)
+            let default = zero(terms.sort(term));
+            draft.add_row(alloc, declaration, default, args, value)
         }
         _ => Ok(()),
     }
@@ -138,9 +151,10 @@ pub(crate) fn enter_terms(
 ) -> Result<Draft, AllocError>
     requires bits { HaveBits terms.now.nodes bits.now (Contains table.now.terms) }
     requires closed { IsClosedUnder terms.now.nodes bits.now (assigned assignment.now) table.now }
-    ensures { IfOk result
+    ensures entered { IfOk result
         (λ d. HasDefaults terms.now.nodes bits.now (assigned assignment.now) table.now
         (length table.now.terms) 0 d) }
+    ensures sorted { IfOk result (λ d. AreSorted terms.now.nodes bits.now table.now.terms d) }
 {
     let _count = terms.len();
     let mut draft = Draft::new(alloc);

@@ -7,7 +7,7 @@ ghost use Rattle.access_tables.specs.Held.{IsAccess, assigned_value, IsClosedUnd
 ghost use Rattle.smt_terms.specs.declared.sort.Sort.TheVariants as sort;
 ghost use Rattle.theory_terms.specs.declared.shape.Shape.TheVariants.{Declaring};
 ghost use Rattle.theory_terms.specs.Shapes.{shape_at};
-ghost use Rattle.model_build.specs.Drafts.{SetsDefault, SetsElement, GivesDefault, GivesElement, HasDefaults, HasElements, IsOpenArray, IsOpen};
+ghost use Rattle.model_build.specs.Drafts.{SetsDefault, SetsElement, GivesDefault, GivesElement, HasDefaults, HasElements, AreSorted, IsOpenArray, IsOpen};
 
 use crate::draft::Draft;
 use access_tables::table::AccessTable;
@@ -161,12 +161,16 @@ pub(crate) fn give_defaults(
     table: &AccessTable,
     draft: &mut Draft,
 ) -> Result<(), AllocError>
+    requires bits { HaveBits terms.now.nodes bits.now (Contains table.now.terms) }
     requires closed { IsClosedUnder terms.now.nodes bits.now (assigned assignment.now) table.now }
     requires entered { HasDefaults terms.now.nodes bits.now (assigned assignment.now) table.now
         (length table.now.terms) 0 draft.old }
-    ensures { OnOk result
+    requires sorted { AreSorted terms.now.nodes bits.now table.now.terms draft.old }
+    ensures given { OnOk result
         (HasDefaults terms.now.nodes bits.now (assigned assignment.now) table.now
         (length table.now.terms) (length table.now.rows) draft.new) }
+    ensures sorted { OnOk result
+        (AreSorted terms.now.nodes bits.now table.now.terms draft.new) }
 {
     let _count = terms.len();
     for row in table.rows() {
@@ -187,9 +191,12 @@ pub(crate) fn give_elements(
     requires closed { IsClosedUnder terms.now.nodes bits.now (assigned assignment.now) table.now }
     requires given { HasDefaults terms.now.nodes bits.now (assigned assignment.now) table.now
         (length table.now.terms) (length table.now.rows) draft.old }
-    ensures { OnOk result
+    requires sorted { AreSorted terms.now.nodes bits.now table.now.terms draft.old }
+    ensures given { OnOk result
         (HasElements terms.now.nodes bits.now (assigned assignment.now) table.now
         (length table.now.terms) (length table.now.rows) draft.new) }
+    ensures sorted { OnOk result
+        (AreSorted terms.now.nodes bits.now table.now.terms draft.new) }
 {
     let _count = terms.len();
     for row in table.rows() {

@@ -28,14 +28,19 @@ fn a_draft_gives_what_was_set(rt: HostRuntime) -> Result<(), Fail> {
     let one = [Scalar::Word(byte(1)), Scalar::Bool(true)];
     let two = [Scalar::Word(byte(2)), Scalar::Bool(true)];
     draft.set(3, Value::Bool(true))?;
-    draft.add_row(alloc, 1, Scalars::of(alloc, &one)?, Scalar::Word(byte(5)))?;
-    draft.add_row(alloc, 1, Scalars::of(alloc, &two)?, Scalar::Word(byte(6)))?;
+    let other = [Scalar::Word(byte(3)), Scalar::Bool(true)];
+    let default = Scalar::Word(byte(4));
+    let five = Scalar::Word(byte(5));
+    let six = Scalar::Word(byte(6));
+    draft.add_row(alloc, 1, default, Scalars::of(alloc, &two)?, six)?;
+    draft.add_row(alloc, 1, default, Scalars::of(alloc, &one)?, five)?;
     draft.enter(2, byte(1), byte(9))?;
     let interp = draft.finish(alloc)?;
     assert!(rt; matches!(interp.value(3), Some(Value::Bool(true))));
     assert!(rt; interp.value(0).is_none() && interp.value(2).is_none());
-    assert!(rt; interp.call(1, Sort::Word(8), &one) == Scalar::Word(byte(5)));
-    assert!(rt; interp.call(1, Sort::Word(8), &two) == Scalar::Word(byte(6)));
+    assert!(rt; interp.call(1, Sort::Word(8), &one) == five);
+    assert!(rt; interp.call(1, Sort::Word(8), &two) == six);
+    assert!(rt; interp.call(1, Sort::Word(8), &other) == default);
     Ok(())
 }
 

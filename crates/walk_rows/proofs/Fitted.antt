@@ -196,7 +196,11 @@ module _ (nodes : List Node) (terms : IsTermList nodes) (bits : List TermBits) (
     each = λ t own plain. s.each t (held t own.0, own.1) plain;
   }
 
--- what follows where an answer is true
-pub matched : (P Q : Type 0) (b : Bool) → (P → Q) → MatchBool b P (Unit {0}) → MatchBool b Q (Unit {0})
-matched P Q true f h = f h
-matched P Q false f h = tt
+-- what follows where an answer is true, and where it is false
+pub matched : (P N Q : Type 0) (b : Bool) → (P → Q) → MatchBool b P N → MatchBool b Q (Unit {0})
+matched P N Q true f h = f h
+matched P N Q false f h = tt
+
+pub matched_both : (P Q : Type 0) (b : Bool) → (P → Q) → (Q → P) → MatchBool b P (P → ⊥) → MatchBool b Q (Q → ⊥)
+matched_both P Q true f g h = f h
+matched_both P Q false f g h = λ q. h (g q)

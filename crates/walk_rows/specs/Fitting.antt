@@ -1,12 +1,12 @@
 -- What is looked at, term by term, before a walk may be called for: terms with bits of their own.
-use Rattle.std.specs.Prelude.{◌≡◌, ◌⊎◌, ◌<◌, ℕ, Bool, List, Some, None, length, IsSome}
+use Rattle.std.specs.Prelude.{◌≡◌, ◌⊎◌, ◌<◌, ℕ, Bool, List, Option, Some, None, Ok, length, All, IsSome}
 use Rattle.cnf_base.specs.Literals.{Literal}
 use Rattle.smt_terms.specs.declared.sort.Sort.TheVariants as sort
 use Rattle.smt_terms.specs.declared.node.Node.{Node}
 use Rattle.smt_terms.specs.declared.node.Op.TheVariants.{Word}
 use Rattle.smt_terms.specs.Nodes.{node_at, leaf}
-use Rattle.smt_terms.specs.Bits.{TermBits, bits_in, image_in}
-use Rattle.smt_terms.specs.Terms.{sort_of, declaration_of}
+use Rattle.smt_terms.specs.Bits.{TermBits, bits_in, image_in, with_bits}
+use Rattle.smt_terms.specs.Terms.{TermsValue, sort_of, declaration_of, make}
 use Rattle.theory_terms.specs.declared.shape.Shape.TheVariants.{Filling, Equating}
 use Rattle.theory_terms.specs.Shapes.{IsPlain, shape_at}
 use Rattle.theory_terms.specs.Lemmas.{watch}
@@ -23,6 +23,16 @@ AreUnlinked bits = (t : ℕ) → image_in bits t ≡ None
 -- no term is of this declaration
 abbrev pub IsUnused : List Node → ℕ → Type 0
 IsUnused nodes d = (t : ℕ) → t < length nodes → declaration_of (node_at nodes t).op ≡ Some d → ⊥
+
+-- a term gets these bits, if it has none
+abbrev pub given : List TermBits → ℕ → List Literal → Option (List Literal) → List TermBits
+given bits t row None = with_bits bits t row
+given bits t row (Some old) = bits
+
+-- the number is the node's, as terms are made; or there is none, and the terms are as before
+abbrev pub Puts : Node → Option ℕ → TermsValue → TermsValue → Type 0
+Puts node None old new = new ≡ old
+Puts node (Some t) old new = make old node ≡ Ok (t, new)
 
 -- a Bool or a word has as many bits as its sort, and an array has none
 pub record IsFitted (nodes : List Node) (bits : List TermBits) (t : ℕ) : Type 0 where
@@ -42,6 +52,11 @@ pub record IsFit (nodes : List Node) (bits : List TermBits) (t : ℕ) : Type 0 w
   pub bits_are : IsFitted nodes bits t
   pub watches : HasWatch nodes t
   pub words : HasWords nodes bits t
+
+-- the terms are held, and so is all that a walk needs of any term
+pub record AreFit (nodes : List Node) (bits : List TermBits) (live : List ℕ) : Type 0 where
+  pub held : All (λ t. t < length nodes) live
+  pub fit : (t : ℕ) → t < length nodes → IsFit nodes bits t
 
 -- a word of width 1, whose bit is that of its number
 abbrev pub IsLiteral : List Node → List TermBits → ℕ → Type 0

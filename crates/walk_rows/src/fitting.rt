@@ -8,7 +8,7 @@ ghost use Rattle.theory_terms.specs.Shapes.{IsPlain};
 ghost use Rattle.access_tables.specs.Ready.{IsFree};
 ghost use Rattle.smt_eval.specs.Evaluated.{IsSuited, AreSuited};
 ghost use Rattle.access_walk.specs.Walked.{IsHeldWord, IsWalkable};
-ghost use Rattle.walk_rows.specs.Fitting.{AreUnlinked, IsFitted, HasWatch, HasWords, IsFit, IsLiteral, IsGiven, IsReady};
+ghost use Rattle.walk_rows.specs.Fitting.{AreUnlinked, IsFitted, HasWatch, HasWords, IsFit, AreFit, IsLiteral, IsGiven, IsReady};
 
 use bit_blast::Assignment;
 use cnf_base::Lit;
@@ -25,7 +25,8 @@ use theory_terms::shape::{Shape, shape_at};
 /// Whether a Bool or a word has as many bits as its sort, and an array none.
 fn is_fitted(terms: &Terms, bits: &Bits, term: TermId) -> bool
     requires held { term < length terms.now.nodes }
-    ensures { MatchBool result (IsFitted terms.now.nodes bits.now term) (Unit {0}) }
+    ensures { MatchBool result (IsFitted terms.now.nodes bits.now term)
+        (IsFitted terms.now.nodes bits.now term → ⊥) }
 {
     match terms.sort(term) {
         Sort::Bool => match bits.of(term) {
@@ -42,16 +43,15 @@ fn is_fitted(terms: &Terms, bits: &Bits, term: TermId) -> bool
 
 /// Whether an equality of arrays has the selects of its sides at their witness.
 fn has_watch(alloc: Global, terms: &Terms, term: TermId) -> Result<bool, AllocError>
-    ensures { IfOk result (λ b. MatchBool b (HasWatch terms.now.nodes term) (Unit {0})) }
+    ensures { IfOk result (λ b. MatchBool b (HasWatch terms.now.nodes term)
+        (HasWatch terms.now.nodes term → ⊥)) }
 {
+    let _count = terms.len();
     let Shape::Equating { left, right } = shape_at(terms, term) else {
         return Ok(true);
     };
     if watch(alloc, terms, left, right)?.is_some() {
         return Ok(true);
-    }
-    if left >= terms.len() {
-        return Ok(false);
     }
     match terms.sort(left) {
         Sort::Array(..) => Ok(false),
@@ -62,7 +62,8 @@ fn has_watch(alloc: Global, terms: &Terms, term: TermId) -> Result<bool, AllocEr
 
 /// Whether the word of width 1 and this number is made and has bits.
 fn has_word(alloc: Global, terms: &Terms, bits: &Bits, value: u128) -> bool
-    ensures { MatchBool result (IsHeldWord terms.now.nodes bits.now 1 value) (Unit {0}) }
+    ensures { MatchBool result (IsHeldWord terms.now.nodes bits.now 1 value)
+        (IsHeldWord terms.now.nodes bits.now 1 value → ⊥) }
 {
     let _count = terms.len();
     let node = Node::leaf(alloc, Op::Word { width: 1, value });
@@ -81,7 +82,8 @@ fn has_word(alloc: Global, terms: &Terms, bits: &Bits, value: u128) -> bool
 /// Whether a constant array has index width 1, and both words of it are made and have bits.
 fn has_words(alloc: Global, terms: &Terms, bits: &Bits, term: TermId) -> bool
     requires held { term < length terms.now.nodes }
-    ensures { MatchBool result (HasWords terms.now.nodes bits.now term) (Unit {0}) }
+    ensures { MatchBool result (HasWords terms.now.nodes bits.now term)
+        (HasWords terms.now.nodes bits.now term → ⊥) }
 {
     let Shape::Filling { .. } = shape_at(terms, term) else {
         return true;
@@ -89,13 +91,20 @@ fn has_words(alloc: Global, terms: &Terms, bits: &Bits, term: TermId) -> bool
     let Sort::Array(width, _) = terms.sort(term) else {
         return true;
     };
-    width == 1 && has_word(alloc, terms, bits, 0) && has_word(alloc, terms, bits, 1)
+    if width != 1 {
+        return false;
+    }
+    if !has_word(alloc, terms, bits, 0) {
+        return false;
+    }
+    has_word(alloc, terms, bits, 1)
 }
 
 /// Whether a term has what a walk needs.
 fn is_fit(alloc: Global, terms: &Terms, bits: &Bits, term: TermId) -> Result<bool, AllocError>
     requires held { term < length terms.now.nodes }
-    ensures { IfOk result (λ b. MatchBool b (IsFit terms.now.nodes bits.now term) (Unit {0})) }
+    ensures { IfOk result (λ b. MatchBool b (IsFit terms.now.nodes bits.now term)
+        (IsFit terms.now.nodes bits.now term → ⊥)) }
 {
     let watched = has_watch(alloc, terms, term)?;
     Ok(watched && is_fitted(terms, bits, term) && has_words(alloc, terms, bits, term))
@@ -104,7 +113,8 @@ fn is_fit(alloc: Global, terms: &Terms, bits: &Bits, term: TermId) -> Result<boo
 /// Whether all terms have what a walk needs.
 fn are_fit(alloc: Global, terms: &Terms, bits: &Bits) -> Result<bool, AllocError>
     ensures { IfOk result (λ b. MatchBool b
-        ((t : ℕ) → t < length terms.now.nodes → IsFit terms.now.nodes bits.now t) (Unit {0})) }
+        ((t : ℕ) → t < length terms.now.nodes → IsFit terms.now.nodes bits.now t)
+        (((t : ℕ) → t < length terms.now.nodes → IsFit terms.now.nodes bits.now t) → ⊥)) }
 {
     for term in 0..terms.len() {
         if !is_fit(alloc, terms, bits, term)? {
@@ -116,14 +126,15 @@ fn are_fit(alloc: Global, terms: &Terms, bits: &Bits) -> Result<bool, AllocError
 
 /// Whether these are all terms.
 fn are_held(terms: &Terms, live: &[TermId]) -> bool
-    ensures { MatchBool result (All (λ t. t < length terms.now.nodes) live.now) (Unit {0}) }
+    ensures { MatchBool result (All (λ t. t < length terms.now.nodes) live.now)
+        (All (λ t. t < length terms.now.nodes) live.now → ⊥) }
 {
     let count = terms.len();
     live.iter().all(|term| *term < count)
 }
 
-/// Whether a walk from these terms may be called for. It is so only where every term has what a
-/// walk needs, reached or not, and constant arrays have index width 1.
+/// Whether a walk from these terms may be called for. It is so exactly where they are terms and every
+/// term has what a walk needs, reached or not, constant arrays an index width of 1.
 pub fn is_walkable(
     alloc: Global,
     terms: &Terms,
@@ -131,8 +142,11 @@ pub fn is_walkable(
     live: &[TermId],
 ) -> Result<bool, AllocError>
     requires unlinked { AreUnlinked bits.now }
-    ensures { IfOk result
+    ensures walkable { IfOk result
         (λ b. MatchBool b (IsWalkable terms.now.nodes bits.now live.now) (Unit {0})) }
+    ensures exactly { IfOk result
+        (λ b. MatchBool b (AreFit terms.now.nodes bits.now live.now)
+        (AreFit terms.now.nodes bits.now live.now → ⊥)) }
 {
     let _count = terms.len();
     if !are_held(terms, live) {
@@ -191,7 +205,8 @@ fn is_given(terms: &Terms, bits: &Bits, term: TermId) -> bool
 /// Whether it is so with all terms.
 fn are_given(terms: &Terms, bits: &Bits) -> bool
     ensures { MatchBool result
-        ((t : ℕ) → t < length terms.now.nodes → IsGiven terms.now.nodes bits.now t) (Unit {0}) }
+        ((t : ℕ) → t < length terms.now.nodes → IsGiven terms.now.nodes bits.now t)
+        (Unit {0}) }
 {
     for term in 0..terms.len() {
         if !is_given(terms, bits, term) {
@@ -202,7 +217,8 @@ fn are_given(terms: &Terms, bits: &Bits) -> bool
 }
 
 /// Whether under an assignment words have their numbers as values, and the clauses of circuits are
-/// true. It is so only where no term has a circuit, and variable 1 is true.
+/// true. It is so where no term has a circuit but words of width 1 and variable 1 is true. Elsewhere
+/// it is not told: whether the clauses of other circuits are true is not looked at.
 pub fn is_ready(terms: &Terms, bits: &Bits, assignment: &Assignment) -> bool
     requires unlinked { AreUnlinked bits.now }
     ensures { MatchBool result
@@ -218,7 +234,8 @@ pub fn is_ready(terms: &Terms, bits: &Bits, assignment: &Assignment) -> bool
 /// Whether the array that is set for a constant has the widths of its sort.
 fn is_suited(terms: &Terms, interp: &Interp, term: TermId) -> bool
     requires held { term < length terms.now.nodes }
-    ensures { MatchBool result (IsSuited (node_at terms.now.nodes term).op interp.now) (Unit {0}) }
+    ensures { MatchBool result (IsSuited (node_at terms.now.nodes term).op interp.now)
+        (IsSuited (node_at terms.now.nodes term).op interp.now → ⊥) }
 {
     match &terms.node(term).op {
         Op::Constant { declaration, sort } => match sort {
@@ -236,7 +253,8 @@ fn is_suited(terms: &Terms, interp: &Interp, term: TermId) -> bool
 
 /// Whether it is so with all constants.
 pub fn are_suited(terms: &Terms, interp: &Interp) -> bool
-    ensures { MatchBool result (AreSuited terms.now.nodes interp.now) (Unit {0}) }
+    ensures { MatchBool result (AreSuited terms.now.nodes interp.now)
+        (AreSuited terms.now.nodes interp.now → ⊥) }
 {
     for term in 0..terms.len() {
         if !is_suited(terms, interp, term) {

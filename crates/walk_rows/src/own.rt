@@ -1,9 +1,11 @@
 // Bits of their own for terms, and declarations that are new.
 
-ghost use Rattle.std.specs.Prelude.{◌≡◌, ◌<◌, [], None, Some, length, MatchBool};
-ghost use Rattle.smt_terms.specs.Nodes.{node_at};
+ghost use Rattle.std.specs.Prelude.{◌≡◌, ◌<◌, [], None, Some, length, MatchBool, OnErr, OnOk};
+ghost use Rattle.smt_terms.specs.declared.node.Op.TheVariants.{Constant};
+ghost use Rattle.smt_terms.specs.Bits.{bits_in};
+ghost use Rattle.smt_terms.specs.Nodes.{leaf, node_at, node_of};
 ghost use Rattle.smt_terms.specs.Terms.{declaration_of};
-ghost use Rattle.walk_rows.specs.Fitting.{AreUnlinked, IsUnused};
+ghost use Rattle.walk_rows.specs.Fitting.{AreUnlinked, IsUnused, Puts, given};
 
 use cnf_base::Lit;
 use smt_terms::bits::Bits;
@@ -43,7 +45,10 @@ impl OwnBits {
     }
 
     /// Gives a term these bits, if it has none.
-    pub fn give(&mut self, term: TermId, row: &[Lit]) -> Result<(), AllocError> {
+    pub fn give(&mut self, term: TermId, row: &[Lit]) -> Result<(), AllocError>
+        ensures ok { OnOk result (self.new ≡ given self.old term row.now (bits_in self.old term)) }
+        ensures err { OnErr result (self.new ≡ self.old) }
+    {
         if self.bits.of(term).is_some() {
             return Ok(());
         }
@@ -63,19 +68,20 @@ impl OwnBits {
 fn is_other(terms: &Terms, term: TermId, declaration: DeclId) -> bool
     requires held { term < length terms.now.nodes }
     ensures { MatchBool result
-        (declaration_of (node_at terms.now.nodes term).op ≡ Some declaration → ⊥) (Unit {0}) }
+        (declaration_of (node_at terms.now.nodes term).op ≡ Some declaration → ⊥)
+        (declaration_of (node_at terms.now.nodes term).op ≡ Some declaration) }
 {
     match &terms.node(term).op {
         Op::Constant { declaration: d, .. } => *d != declaration,
         Op::Apply { declaration: d, .. } => *d != declaration,
-        Op::Plain(_) | Op::Word { .. } | Op::ConstantArray(_) => true,
-        _ => false,
+        _ => true,
     }
 }
 
 /// Whether no term is of a declaration.
 pub fn is_unused(terms: &Terms, declaration: DeclId) -> bool
-    ensures { MatchBool result (IsUnused terms.now.nodes declaration) (Unit {0}) }
+    ensures { MatchBool result (IsUnused terms.now.nodes declaration)
+        (IsUnused terms.now.nodes declaration → ⊥) }
 {
     for term in 0..terms.len() {
         if !is_other(terms, term, declaration) {
@@ -85,14 +91,13 @@ pub fn is_unused(terms: &Terms, declaration: DeclId) -> bool
     true
 }
 
-/// The constant of a declaration and a sort: the one that there is, or one more. None where the
-/// declaration has another sort, or memory ends.
-pub fn declare(
-    alloc: Global,
-    terms: &mut Terms,
-    declaration: DeclId,
-    sort: Sort,
-) -> Option<TermId> {
+/// The constant of a declaration and a sort: the one that there is, or one more. None, and the terms
+/// as before, where the declaration has another sort, no term can be made of the sort, or memory
+/// ends.
+pub fn declare(alloc: Global, terms: &mut Terms, declaration: DeclId, sort: Sort) -> Option<TermId>
+    ensures { Puts (leaf (Constant declaration sort)) result terms.old terms.new }
+{
+    let _count = terms.len();
     let node = Node::leaf(alloc, Op::Constant { declaration, sort });
     if let Some(term) = terms.find(&node) {
         return Some(term);
@@ -106,10 +111,11 @@ pub fn declare(
     }
 }
 
-/// The term of an operator that names no declaration. None where its sorts do not fit, or memory
-/// ends.
+/// The term of an operator that names no declaration. None, and the terms as before, where its sorts
+/// do not fit, or memory ends.
 pub fn apply(alloc: Global, terms: &mut Terms, op: Op, args: &[TermId]) -> Option<TermId>
     requires { declaration_of op ≡ None }
+    ensures { Puts (node_of op args.now) result terms.old terms.new }
 {
     let args = Arguments::of(alloc, args).ok()?;
     match terms.make(Node { op, args }) {
@@ -118,9 +124,11 @@ pub fn apply(alloc: Global, terms: &mut Terms, op: Op, args: &[TermId]) -> Optio
     }
 }
 
-/// An application of a function that is new. None where some term is of its declaration, the sorts
-/// of the arguments do not fit, or memory ends.
-pub fn apply_first(alloc: Global, terms: &mut Terms, op: Op, args: &[TermId]) -> Option<TermId> {
+/// An application of a function that is new. None, and the terms as before, where some term is of
+/// its declaration, the sorts of the arguments do not fit, or memory ends.
+pub fn apply_first(alloc: Global, terms: &mut Terms, op: Op, args: &[TermId]) -> Option<TermId>
+    ensures { Puts (node_of op args.now) result terms.old terms.new }
+{
     let Op::Apply { declaration, .. } = &op else {
         return None;
     };
@@ -142,15 +150,17 @@ fn has_op(terms: &Terms, term: TermId, op: &Op) -> bool
     terms.node(term).op == *op
 }
 
-/// A term of an operator that another term has. None where that has another operator, the sorts of
-/// the arguments do not fit, or memory ends.
+/// A term of an operator that another term has. None, and the terms as before, where that has
+/// another operator, the sorts of the arguments do not fit, or memory ends.
 pub fn apply_again(
     alloc: Global,
     terms: &mut Terms,
     like: TermId,
     op: Op,
     args: &[TermId],
-) -> Option<TermId> {
+) -> Option<TermId>
+    ensures { Puts (node_of op args.now) result terms.old terms.new }
+{
     if like >= terms.len() {
         return None;
     }

@@ -2,7 +2,7 @@ use Rattle.std.proofs.Common.{◌≡◌, ◌<◌, length, sym, subst, arith, inl
 use Rattle.std.proofs.lemmas.Bool.{cases_lt}
 use Rattle.access_spread.specs.Spreads.{AreTold, HasBegun, IsMet, most_refused, start_at}
 use Rattle.access_spread.proofs.Lists.{longer}
-use Rattle.access_spread.proofs.Visiting.{table, told}
+use Rattle.access_spread.proofs.Visiting.{single, table, told}
 use Rattle.access_spread.proofs.spreading.spread.Goals as goal
 
 pub loop-start-preserved : goal.loop-start-preserved
@@ -39,6 +39,7 @@ returns-after-loop-start-clause-spread c =
       started = fits.started;
       refused_are = fits.refused;
       few = fits.few;
+      single = single c.args.graph.now c.args.gates.now c.args.lanes.now c.args.starts.now c.loop-start.state fits;
       table = table c.args.graph.now c.args.gates.now c.args.lanes.now c.args.starts.now c.loop-start.state fits (all_told c);
     }
 

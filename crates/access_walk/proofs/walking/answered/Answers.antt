@@ -1,9 +1,10 @@
-use Rattle.std.proofs.Common.{◌≡◌, true, false, length, sym, subst, ◌∙◌, arith}
+use Rattle.std.proofs.Common.{◌≡◌, [], true, false, length, sym, subst, ◌∙◌, arith}
 use Rattle.std.proofs.lemmas.Bool.{eq-eqb, eqb-true}
 use Rattle.std.specs.Prelude.{Contains}
 use Rattle.bit_blast.specs.Assigned.{assigned}
-use Rattle.access_walk.proofs.Conflicting.{none_of, congruent_where_none, apart_where_none, no_clash_is_few}
-use Rattle.access_walk.proofs.Lists.{not_nil}
+use Rattle.access_tables.specs.Held.{assigned_value}
+use Rattle.access_walk.proofs.Conflicting.{none_of, congruent_where_none, apart_where_none, none_are_few}
+use Rattle.access_walk.proofs.Lists.{append_nil, not_nil}
 use Rattle.access_walk.proofs.walking.answered.Goals as goal
 
 pub table_at-requires-clause-congruent : goal.table_at-requires-clause-congruent
@@ -25,6 +26,13 @@ returns c = record {
       let t : true ≡ false = sym (eq-eqb c.args.falses.len 0 zero) ∙ sym c.is_empty.ensures ∙ c.if-is_empty.false in
       let q : ⊥ = cc in q;
   all = c.requires.all;
-  few = no_clash_is_few c.args.terms.now.nodes c.args.bits.now (assigned c.args.assignment.now) c.args.falses.items c.requires.others;
+  few = record {
+    others = c.args.falses.items;
+    clashes = [];
+    are = sym (append_nil c.args.falses.items);
+    others_are = c.requires.others;
+    few = none_are_few c.args.terms.now.nodes (assigned_value c.args.terms.now.nodes c.args.bits.now (assigned c.args.assignment.now));
+  };
+  told = c.requires.told;
   siblings = λ l m. absurd (not_nil l (subst (λ xs. Contains xs l) c.new-siblings.ensures.items m));
 }

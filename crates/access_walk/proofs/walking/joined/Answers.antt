@@ -16,5 +16,6 @@ returns c = record {
     others_are = c.requires.others;
     few = c.requires.clashes.few;
   };
+  told = c.requires.told;
   siblings = c.requires.clashes.siblings;
 }
