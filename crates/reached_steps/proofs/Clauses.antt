@@ -3,16 +3,19 @@ use Rattle.std.proofs.Common.{◌≡◌, ℕ, suc, ◌+◌, ◌<◌, ◌≤◌, 
 use Rattle.std.specs.Prelude.{◌⊎◌, Contains}
 use Rattle.std.specs.List.{AllByRecursion}
 use Rattle.std.proofs.lemmas.List.Elements.{recursion_from_All, All-weaker, All-contains_itself}
-use Rattle.cnf_base.specs.Literals.{Literal, positive_of, negative_of}
+use Rattle.cnf_base.specs.Literals.{Literal, positive_of, negative_of, true_literal}
 use Rattle.cnf_base.specs.declared.gate.GateKind.{GateKind}
 use Rattle.cnf_base.specs.declared.gate.GateKind.TheVariants.{And, Xor, Ite}
 use Rattle.cnf_base.specs.Assignments.{AreBelow}
 use Rattle.cnf_base.specs.Gates.{gate_clauses, gates_clauses, InputsBelow, AreOrdered}
 use Rattle.cnf_base.proofs.Lists.{each_append, each_member}
+use Rattle.cnf_base.proofs.Equating.{equal_gates-ordered, equal_bit-below}
+use Rattle.bit_blast.specs.Circuits.{equality}
 use Rattle.bit_blast.specs.Blocks.{Block}
 use Rattle.bit_blast.proofs.Ordered.{op_ordered}
-use Rattle.reached_steps.specs.Circuits.{IsInRow, IsOfBlock, BlocksStandOnArguments}
+use Rattle.reached_steps.specs.Circuits.{IsInRow, IsOfBlock, StandsOnArguments, BlocksStandOnArguments}
 use Rattle.reached_steps.proofs.Inputs.{AreOf, Reads, EachReads}
+use Rattle.reached_steps.proofs.Plain.{equal_gates-read, equal_bit-of}
 use Rattle.reached_steps.proofs.Blocks.{block_is_of}
 
 -- ---- lists
@@ -90,18 +93,33 @@ rows_in rows g = each_if (AreOf (MayRead g rows)) rows (λ row k. each_if (λ l.
 read_of : (g : ℕ) (rows : List (List Literal)) (b : Block) (x : ℕ) → MayRead g rows x → x < g + length b.gates → IsOfBlock g rows b x
 read_of g rows b x h lt = ⊎_elim (λ p. inl p) (λ p. ⊎_elim (λ q. inr (inl q)) (λ q. inr (inr (q, lt))) p) h
 
-pub blocks_stand : BlocksStandOnArguments
-blocks_stand g op rows b up all is =
+stands_of : (g : ℕ) (rows : List (List Literal)) (b : Block) → EachReads (MayRead g rows) b.gates → AreOf (MayRead g rows) b.bits → AreOrdered g b.gates → AreBelow (g + length b.gates) b.bits → StandsOnArguments g rows b
+stands_of g rows b gates of ordered below =
     let S = MayRead g rows in
     let T = IsOfBlock g rows b in
     let n = g + length b.gates in
-    let ordered = op_ordered g op rows b up all is in
-    let of = block_is_of S (inl refl) g (λ x le. inr (inr le)) op rows b (rows_in rows g) is in
-    let reads = narrowed S T n (read_of g rows b) b.gates g (omega arith) of.0 ordered.0 in
-    let bits = row_narrowed S T n (read_of g rows b) b.bits of.1 ordered.1 in
+    let reads = narrowed S T n (read_of g rows b) b.gates g (omega arith) gates ordered in
+    let bits = row_narrowed S T n (read_of g rows b) b.bits of below in
     let clauses = gates_clauses-of T b.gates g (λ x le lt. inr (inr (le, lt))) reads in
     record {
       bits = λ l k. each_member (λ m. T m.variable) b.bits l bits k;
       clauses = λ c l k m. each_member (λ m. T m.variable) c l (each_member (AreOf T) (gates_clauses g b.gates) c clauses k) m;
       own = λ c k. each_member (Names g n) (gates_clauses g b.gates) c (gates_clauses-name b.gates g g n (omega arith) (omega arith)) k;
     }
+
+pub blocks_stand : BlocksStandOnArguments
+blocks_stand g op rows b up all is =
+    let ordered = op_ordered g op rows b up all is in
+    let of = block_is_of (MayRead g rows) (inl refl) g (λ x le. inr (inr le)) op rows b (rows_in rows g) is in
+    stands_of g rows b of.0 of.1 ordered.0 ordered.1
+
+-- so it is for the circuit of `=`, whatever the lengths of the rows are
+pub equality_stands : (g : ℕ) (a b : List Literal) → 1 < g → AreBelow g a → AreBelow g b → StandsOnArguments g (a ∷ b ∷ []) (equality a b g)
+equality_stands g a b up ha hb =
+    let rows = a ∷ b ∷ [] in
+    let in_rows = rows_in (a ∷ b ∷ []) g in
+    stands_of g rows (equality a b g)
+    (equal_gates-read (MayRead g (a ∷ b ∷ [])) (inl refl) a b g true_literal (λ x le. inr (inr le)) in_rows.0 in_rows.1.0 (inl refl))
+    (equal_bit-of (MayRead g (a ∷ b ∷ [])) (inl refl) a b g true_literal (λ x le. inr (inr le)) (inl refl), tt)
+    (equal_gates-ordered a b g true_literal ha hb up)
+    (equal_bit-below a b g true_literal up, tt)

@@ -5,3 +5,4 @@ pub mod Blocks
 pub mod Clauses
 pub mod Steps
 pub mod Separate
+pub mod Taken

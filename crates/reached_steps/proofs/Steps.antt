@@ -11,19 +11,20 @@ use Rattle.cnf_base.proofs.Options.{some_value}
 use Rattle.smt_terms.specs.declared.node.Node.{Node}
 use Rattle.smt_terms.specs.Nodes.{node_at}
 use Rattle.smt_terms.specs.Terms.{IsTermList}
+use Rattle.bit_blast.specs.Circuits.{equality}
 use Rattle.bit_blast.specs.Blocks.{Block, with_first, all_bits}
 use Rattle.proof_log.specs.declared.entry.RuleUse.{RuleUse}
 use Rattle.proof_log.specs.declared.entry.Entry.{Entry}
 use Rattle.proof_log.specs.declared.entry.Entry.TheVariants as step
-use Rattle.proof_log.specs.Logs.{LogState, start, clause_in, IsStep, IsLeaf, IsEncoding, IsRewrite, IsSelector, leaf_after, block_after, rewrite_after, selector_clause, selector_after, after, state_from, state_of, AreSteps, IsLog}
+use Rattle.proof_log.specs.Logs.{LogState, start, clause_in, IsStep, IsLeaf, IsEncoding, IsRewrite, IsSelector, IsEqual, leaf_after, block_after, rewrite_after, selector_clause, selector_after, equal_after, after, state_from, state_of, AreSteps, IsLog}
 use Rattle.proof_log.proofs.Ordered.{any_interpretation, log_is_ordered}
 use Rattle.proof_log.proofs.Sound.{log_suits, block_rows}
 use Rattle.proof_log.proofs.Staying.{Holds, steps_hold, log_stays}
 use Rattle.proof_log.proofs.Standing.{value_here}
 use Rattle.proof_log.proofs.Linked.{image_has_bits}
-use Rattle.proof_log.proofs.Growth.{block_row, selector_row, row_of, step_adds, steps_rows}
+use Rattle.proof_log.proofs.Growth.{block_row, selector_row, equal_row, row_of, step_adds, steps_rows}
 use Rattle.reached_steps.specs.Circuits.{StandsOnArguments}
-use Rattle.reached_steps.proofs.Clauses.{blocks_stand}
+use Rattle.reached_steps.proofs.Clauses.{blocks_stand, equality_stands}
 
 -- ---- lists
 
@@ -78,7 +79,7 @@ made nodes s (d ∷ log) (suc p) e h g =
       within = omega (arith, k.within);
     }
 
-first_steps : (nodes : List Node) (s : LogState) (log : List Entry) (p : ℕ) → AreSteps nodes s log → AreSteps nodes s (take p log)
+pub first_steps : (nodes : List Node) (s : LogState) (log : List Entry) (p : ℕ) → AreSteps nodes s log → AreSteps nodes s (take p log)
 first_steps nodes s log zero h = tt
 first_steps nodes s [] (suc p) h = tt
 first_steps nodes s (e ∷ log) (suc p) h = (h.0, first_steps nodes (after nodes s e) log p h.1)
@@ -124,6 +125,18 @@ pub record IsRewriteStep (nodes : List Node) (log : List Entry) (p : ℕ) (r : R
   pub own : (state_of nodes log).bits r.from ≡ Some bits
   pub image : (state_of nodes log).images r.from ≡ Some r.to
   pub row : slice_get (state_of nodes log).clauses (suc p) ≡ Some []
+
+-- the equality of two terms, by the circuit of `=` over the bits that they had
+pub record IsEqualStep (nodes : List Node) (log : List Entry) (p t u : ℕ) : Type 0 where
+  pub left : List Literal
+  pub right : List Literal
+  pub left_bits : (before_step nodes log p).bits t ≡ Some left
+  pub right_bits : (before_step nodes log p).bits u ≡ Some right
+  pub stands : StandsOnArguments (before_step nodes log p).next (left ∷ right ∷ []) (equality left right (before_step nodes log p).next)
+  pub next : (before_step nodes log (suc p)).next ≡ (before_step nodes log p).next + length (equality left right (before_step nodes log p).next).gates
+  pub row : slice_get (state_of nodes log).clauses (suc p) ≡ Some (gates_clauses (before_step nodes log p).next (equality left right (before_step nodes log p).next).gates)
+  pub before : Holds (before_step nodes log p) (state_of nodes log)
+  pub within : p < length log
 
 pub record IsSelectorStep (nodes : List Node) (log : List Entry) (p t : ℕ) : Type 0 where
   pub bit : Literal
@@ -230,6 +243,30 @@ module _ (nodes : List Node) (log : List Entry) (all : IsTermList nodes) (is : I
         bits = m.before.bits t (i.bit ∷ []) i.encoded;
         next = ap (λ x. x.next) (m.leaves ∙ ap (selector_after s a t) i.encoded);
         row = subst (λ q. slice_get (state_of nodes log).clauses q ≡ Some (selector_clause s.next i.bit ∷ [])) n (m.row ∙ ap (λ o. Some (selector_row s o)) i.encoded);
+        within = m.within;
+      }
+
+  equal_next : (s r : LogState) (t u : ℕ) (a b : List Literal) → r ≡ equal_after s t u (Some a) (Some b) → r.next ≡ s.next + length (equality a b s.next).gates
+  equal_next s r t u a b e = ap (λ x. x.next) e
+
+  pub equal_step : (p t u : ℕ) → slice_get log p ≡ Some (step.Equal t u) → IsEqualStep nodes log p t u
+  equal_step p t u e =
+      let m = made nodes start log p (step.Equal t u) is e in
+      let s = before_step nodes log p in
+      let i : IsEqual nodes (before_step nodes log p) t u = m.step in
+      let n : 1 + p ≡ suc p = omega arith in
+      let a = some_value ((before_step nodes log p).bits t) i.pair.left in
+      let b = some_value ((before_step nodes log p).bits u) i.pair.right in
+      record {
+        left = a.0;
+        right = b.0;
+        left_bits = a.1;
+        right_bits = b.1;
+        stands = equality_stands s.next a.0 b.0 (one_before p) (bits_before p t a.0 a.1) (bits_before p u b.0 b.1);
+        next = equal_next s (before_step nodes log (suc p)) t u a.0 b.0 (m.leaves ∙ ap (λ o. equal_after s t u o (s.bits u)) a.1 ∙ ap (equal_after s t u (Some a.0)) b.1);
+        row = subst (λ q. slice_get (state_of nodes log).clauses q ≡ Some (gates_clauses s.next (equality a.0 b.0 s.next).gates)) n
+            (m.row ∙ ap (λ o. Some (equal_row s o (s.bits u))) a.1 ∙ ap (λ o. Some (equal_row s (Some a.0) o)) b.1);
+        before = m.before;
         within = m.within;
       }
 
