@@ -1,6 +1,6 @@
 //! Equalities and lemmas that come while a check is searched.
 
-ghost use Rattle.std.specs.Prelude.{ℕ, ◌≡◌, ◌≤◌, ◌<◌, ◌⊎◌, suc, length, true, false, Contains, OnOk};
+ghost use Rattle.std.specs.Prelude.{ℕ, ◌≡◌, ◌≤◌, ◌<◌, ◌⊎◌, ◌++◌, ◌∷◌, [], suc, length, true, false, Contains, OnOk};
 ghost use Rattle.proof_log.specs.Logs.{entry_at, state_of};
 ghost use Rattle.cdcl_core.specs.Search.{level_of};
 ghost use Rattle.cdcl_loop.specs.Engines.{IsEngine};
@@ -43,6 +43,8 @@ impl Search {
         ensures adding { OnOk result
             (IsAdding (B.nodes board.now) (B.log board.now) self.old self.new) }
         ensures held { OnOk result (Contains self.new.opening.items at) }
+        ensures pushed { OnOk result
+            (self.new.opening.items ≡ self.old.opening.items ++ at ∷ []) }
     {
         let end = self.engine.listed();
         self.ends.push(end)?;
@@ -66,6 +68,8 @@ impl Search {
             (IsAdding (B.nodes board.now) (B.log board.now) self.old self.new) }
         ensures held { OnOk result (is_theory (entry_at (B.log board.now) at) ≡ true
             → Contains self.new.opening.items at) }
+        ensures came { OnOk result ((p : ℕ) → Contains self.new.opening.items p
+            → Contains self.old.opening.items p ⊎ (p ≡ at)) }
     {
         if !is_theory(board, at) {
             return Ok(());
@@ -89,6 +93,8 @@ impl Search {
         ensures all { OnOk result ((p : ℕ) → self.old.seen ≤ p → p < upto
             → is_theory (entry_at (B.log board.now) p) ≡ true
             → Contains self.new.opening.items p) }
+        ensures came { OnOk result ((p : ℕ) → Contains self.new.opening.items p
+            → Contains self.old.opening.items p ⊎ ((self.old.seen ≤ p) × (p < upto))) }
     {
         'steps: for at in self.seen..upto {
             self.take_step(board, at)?;
@@ -110,6 +116,8 @@ impl Search {
         ensures only { OnOk result ((p : ℕ) → Contains self.new.opening.items p
             → Contains self.old.opening.items p
             ⊎ (is_theory (entry_at (B.log board.now) p) ≡ true)) }
+        ensures came { OnOk result ((p : ℕ) → Contains self.new.opening.items p
+            → Contains self.old.opening.items p ⊎ ((self.old.seen ≤ p) × (p < upto))) }
         ensures all { OnOk result ((p : ℕ) → self.old.seen ≤ p → p < upto
             → is_theory (entry_at (B.log board.now) p) ≡ true
             → Contains self.new.opening.items p) }

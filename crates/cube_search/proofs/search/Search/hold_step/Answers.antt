@@ -16,3 +16,6 @@ returns-clause-adding g c =
 
 pub returns-clause-held : goal.returns-clause-held
 returns-clause-held g c = subst (λ (ps : List ℕ). Contains ps c.args.at) (sym c.in_ok-push-2.ensures.items) (Contains-push c.args.self.now.opening.items c.args.at)
+
+pub returns-clause-pushed : goal.returns-clause-pushed
+returns-clause-pushed g c = c.in_ok-push-2.ensures.items

@@ -1,4 +1,4 @@
-use Rattle.std.proofs.Common.{◌≡◌, true, ⊎_elim, sym, subst, arith}
+use Rattle.std.proofs.Common.{◌≡◌, true, ⊎_elim, inl, inr, sym, subst, arith}
 use Rattle.std.specs.Prelude.{Contains}
 use Rattle.std.proofs.lemmas.Bool.{cases_lt}
 use Rattle.proof_log.specs.Logs.{entry_at}
@@ -13,6 +13,8 @@ steps-init g c = record {
   level = c.requires.level;
   adding = adding_none (g.B.Board.nodes c.args.board.now) (g.B.Board.log c.args.board.now) c.args.self.now c.requires.filling;
   all = λ p le lt e. absurd (omega (arith, le, lt));
+  low = omega arith;
+  came = λ p k. inl k;
 }
 
 pub steps-preserved : goal.steps-preserved
@@ -31,6 +33,11 @@ steps-preserved g c =
           let q : p ≡ c.steps.at = omega (arith, lt, ge) in
           subst (λ n. Contains t.opening.items n) (sym q) (c.in_ok-take_step.ensures.held (subst (λ n. is_theory (entry_at log n) ≡ true) q e)))
           (cases_lt p c.steps.at);
+      low = (let from = c.steps.invariant.low in omega (arith, from));
+      came = λ p k. ⊎_elim
+          (λ there. ⊎_elim (λ old. inl old) (λ q. inr (q.0, (let less = q.1 in omega (arith, less)), (let test = c.steps-test.true in omega (arith, test)))) (c.steps.invariant.came p there))
+          (λ q. inr ((let from = c.steps.invariant.low in omega (arith, q, from)), omega (arith, q), (let test = c.steps-test.true in omega (arith, test))))
+          (c.in_ok-take_step.ensures.came p k);
     }
 
 pub returns-clause-all : goal.returns-clause-all
@@ -38,3 +45,6 @@ returns-clause-all g c = λ p le lt e. c.steps.invariant.all p le (omega (arith,
 
 pub take_step-requires-clause-filling : goal.take_step-requires-clause-filling
 take_step-requires-clause-filling g c = c.steps.invariant.adding.filling
+
+pub returns-clause-came : goal.returns-clause-came
+returns-clause-came g c = λ p k. ⊎_elim (λ old. inl old) (λ q. inr (q.0, (let less = q.1 in let within = q.2 in omega (arith, less, within)))) (c.steps.invariant.came p k)

@@ -49,6 +49,9 @@ returns-clause-longer g c = c.in_ok-hold_steps.ensures.adding.opening
 pub returns-clause-only : goal.returns-clause-only
 returns-clause-only g c = c.in_ok-hold_steps.ensures.adding.only
 
+pub returns-clause-came : goal.returns-clause-came
+returns-clause-came g c = c.in_ok-hold_steps.ensures.came
+
 pub returns-clause-all : goal.returns-clause-all
 returns-clause-all g c = c.in_ok-hold_steps.ensures.all
 

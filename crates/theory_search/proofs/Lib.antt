@@ -1,0 +1,13 @@
+mod Same
+mod Grown
+mod Apart
+mod Listed
+mod Below
+mod Valued
+mod Given
+mod Numbered
+mod Taken
+mod Going
+mod Made
+mod Looked
+mod Wanted

@@ -1,0 +1,4 @@
+pub mod Theories
+pub mod Ends
+pub mod Looks
+pub mod Puts
