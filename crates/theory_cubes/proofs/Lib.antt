@@ -1,0 +1,4 @@
+pub mod Cubes
+pub mod CubeEnds
+pub mod Resting
+pub mod Starting
