@@ -2,7 +2,7 @@
 use Rattle.std.proofs.Common.{append_assoc, ◌≡◌, ℕ, zero, suc, ◌<◌, ◌≤◌, ◌+◌, ◌-◌, Bool, true, false, List, [], ◌∷◌, ◌++◌, length, get_or, Option, Some, None, refl, sym, ap, ◌∙◌, subst, arith, inl, inr, ⊎_elim}
 use Rattle.std.specs.Prelude.{◌⊎◌, ◌==◌, ◌&&◌, ◌||◌, not, is_some, if◌then◌else◌, All, Contains, MatchOption, slice_get, take, drop}
 use Rattle.std.proofs.Math.Seq.{take-append_seam}
-use Rattle.std.proofs.lemmas.List.{append-nil, take-append-le}
+use Rattle.std.proofs.lemmas.List.{append-nil, take_all, take_more, take-append-le}
 use Rattle.std.proofs.lemmas.List.Elements.{All-contains, Contains-get_or}
 use Rattle.std.proofs.lemmas.Option.{slice_get-get_or, slice_get_within}
 use Rattle.std.proofs.lemmas.Bool.{cases_lt}
@@ -12,9 +12,8 @@ use Rattle.smt_terms.specs.declared.node.Node.{Node}
 use Rattle.smt_terms.specs.Nodes.{node_at}
 use Rattle.smt_terms.specs.Bits.{TermBits}
 use Rattle.smt_terms.specs.Ranks.{is_plain}
-use Rattle.smt_terms.specs.Terms.{IsTermList, TermsValue, sort_of}
+use Rattle.smt_terms.specs.Terms.{AreTerms, IsTermList, TermsValue, sort_of}
 use Rattle.smt_terms.proofs.Growing.{sort_longer}
-use Rattle.term_reach.specs.Reach.{IsReach, IsWay}
 use Rattle.term_reach.proofs.Ways.{arguments_below}
 use Rattle.bv_rules.specs.declared.reading.Constant.TheVariants.{Zero}
 use Rattle.bv_rules.specs.declared.rule.Rule.TheVariants.{Fold}
@@ -24,17 +23,17 @@ use Rattle.bv_rules.proofs.Longer.{arg_held, arg_longer, inner_op, is_longer, of
 use Rattle.bv_rewrite.specs.declared.simplifying.Use.{Use}
 use Rattle.bv_rewrite.specs.declared.simplifying.Simplified.{Simplified}
 use Rattle.bv_rewrite.specs.Kept.{is_negated, stays_difference}
-use Rattle.bv_rewrite.specs.Simplifying.{IsEnd, IsGrown}
-use Rattle.bv_rewrite.proofs.Following.{grown_more}
+use Rattle.bv_rewrite.specs.Simplifying.{AreNeeded, IsEnd, IsGrown}
+use Rattle.bv_rewrite.proofs.Following.{grown_more, grown_none}
 use Rattle.bv_rewrite.proofs.Lasting.{becomes_longer}
 use Rattle.reached_images.specs.declared.plan.Planned.{Planned}
-use Rattle.reached_images.specs.Plans.{is_known, keeps_known, open_arguments, start_at, with_step, AreNext, HasKnownArguments, IsKnown, IsLater, IsNext, IsPlan, StaysWhole}
-use Rattle.reached_images.specs.Settled.{way_steps, AreOwn, IsSettled, IsSupported, KeepsItself, Stands}
+use Rattle.reached_images.specs.Plans.{is_known, keeps_known, start_at, uses_of, with_step, AreNext, HasKnownArguments, IsKnown, IsLater, IsNext, IsPlan, IsPlannedBy, IsWholePlan, StaysWhole}
+use Rattle.reached_images.specs.Settled.{own_step, way_steps, with_end, with_own, AreOwn, IsSettled, IsSupported, KeepsItself, Stands}
 use Rattle.reached_images.proofs.Knowing.{known_last, known_later, later_itself, later_on}
-use Rattle.reached_images.proofs.Needing.{later_with}
+use Rattle.reached_images.proofs.Needing.{later_with, none_new}
 use Rattle.reached_images.proofs.Stepping.{start_first, start_later}
 use Rattle.reached_images.proofs.Tables.{push_cases}
-use Rattle.reached_images.proofs.Whole.{add_step, add_whole, open_from, same_reach, step_cases}
+use Rattle.reached_images.proofs.Whole.{add_step, add_whole, step_cases}
 
 -- ---- settled terms, over more terms
 
@@ -101,49 +100,29 @@ own_grown v w bits steps list g plan h k p e u plain =
 
 -- ---- a term whose arguments are known, put behind a plan
 
-no_step : (bits : List TermBits) (plan : List Planned) (p : Planned) → IsKnown bits plan p.term → with_step bits plan p ≡ plan
-no_step bits plan p k = ap (λ b. if b then plan else plan ++ p ∷ []) k
+-- the plan has what the old one had, and the term is known
+pub record IsOneMore (v w : TermsValue) (bits : List TermBits) (old now : List Planned) (t : ℕ) : Type 0 where
+  pub grown : IsGrown v w
+  pub planned : IsPlannedBy w.nodes bits old now t
+  pub whole : IsWholePlan v.nodes bits old → IsWholePlan w.nodes bits now
+  pub own : AreOwn v bits old → AreOwn w bits now
+  pub needed : AreNeeded (length v.nodes) w.nodes (uses_of now)
 
-module _ (nodes : List Node) (bits : List TermBits) (old : List Planned) (t : ℕ) where
-  -- the plan, and perhaps the step of the term behind it
-  abbrev pub HasOnly : List Planned → Type 0
-  HasOnly now = (now ≡ old) ⊎ (now ≡ old ++ record { term = t; used = None } ∷ [])
-
-  known_way : (s u : ℕ) (way : List ℕ) → IsKnown bits old s → IsWay (open_arguments nodes bits old) s way u → s ≡ u
-  known_way s u [] k h = h
-  known_way s u (x ∷ way) k h =
-      let none : Contains [] x = subst (λ b. Contains (if b then [] else (node_at nodes s).args) x) k h.0 in
-      absurd (omega (arith, none.1))
-
-  only_reached : (u : ℕ) (way : List ℕ) → HasKnownArguments nodes bits old t → IsWay (open_arguments nodes bits old) t way u → (u ≡ t) ⊎ IsKnown bits old u
-  only_reached u [] args h = inl (sym h)
-  only_reached u (s ∷ way) args h =
-      let k = All-contains (IsKnown bits old) (node_at nodes t).args s args (open_from nodes bits old t s h.0) in
-      inr (subst (IsKnown bits old) (known_way s u way k h.1) k)
-
-  only_next : (plan : List Planned) (u : ℕ) → HasOnly plan → IsLater old plan → (u ≡ t) ⊎ IsKnown bits old u → HasOnly (with_step bits plan (record { term = u; used = None }))
-  only_next plan u h l (inr k) = subst HasOnly (sym (no_step bits plan (record { term = u; used = None }) (known_later bits old plan u l k))) h
-  only_next plan u h l (inl e) = subst (λ x. HasOnly (with_step bits plan (record { term = x; used = None }))) (sym e) (at_term h) where
-    at_term : HasOnly plan → HasOnly (with_step bits plan (record { term = t; used = None }))
-    at_term (inr q) = subst HasOnly (sym (no_step bits plan (record { term = t; used = None }) (subst (λ l. IsKnown bits l t) (sym q) (known_last bits old (record { term = t; used = None }))))) (inr q)
-    at_term (inl q) = subst (λ l. HasOnly (with_step bits l (record { term = t; used = None }))) (sym q) (go (is_known bits old t)) where
-      go : (b : Bool) → HasOnly (if b then old else old ++ record { term = t; used = None } ∷ [])
-      go true = inl refl
-      go false = inr refl
-
-  pub only_step : (told : List TermBits) (before plan new : List Planned) (reached items : List ℕ) (i d : ℕ) → HasKnownArguments nodes bits old t → told ≡ bits → before ≡ old → IsReach (open_arguments nodes told before) (t ∷ []) reached → items ≡ reached
-      → i < length items → IsLater old plan → HasOnly plan → new ≡ with_step bits plan (record { term = get_or items i d; used = None }) → HasOnly new
-  only_step told before plan new reached items i d args eb eo r ei lt l h e =
-      let s = same_reach nodes bits told old before (t ∷ []) reached items eb eo r ei in
-      let u = get_or items i d in
-      let w = s.only u (Contains-get_or items i d lt) in
-      let from : w.0 ≡ t = sym (Contains-one t w.0 w.1) in
-      let one = only_reached u w.2.0 args (subst (λ x. IsWay (open_arguments nodes bits old) x w.2.0 u) from w.2.1) in
-      subst HasOnly (sym e) (only_next plan u h l one)
-
-  pub only_own : (w : TermsValue) (now : List Planned) → HasOnly now → KeepsItself w bits old t → AreOwn w bits old → AreOwn w bits now
-  only_own w now (inl e) k h = subst (AreOwn w bits) (sym e) h
-  only_own w now (inr e) k h = subst (AreOwn w bits) (sym e) (own_push w bits old (record { term = t; used = None }) h (λ n. k))
+pub one_kept : (v w : TermsValue) (bits : List TermBits) (old plan now : List Planned) (t : ℕ) → AreTerms v → t < length v.nodes → IsPlan v.nodes bits old → ((IsKnown bits old t → ⊥) → HasKnownArguments v.nodes bits old t)
+    → (w ≡ v) × (plan ≡ old) × KeepsItself v bits old t → now ≡ with_step bits plan (own_step t) → IsOneMore v w bits old now t
+one_kept v w bits old plan now t terms lt h args kept e =
+    subst (λ x. IsOneMore v x bits old now t) (sym kept.0)
+    (subst (λ n. IsOneMore v v bits old n t) (sym (e ∙ ap (λ l. with_step bits l (own_step t)) kept.1))
+    (record {
+      grown = grown_none v terms;
+      planned = add_step v.nodes bits old (own_step t) h next;
+      whole = λ o. add_whole v.nodes bits old (own_step t) o (λ new. record { next = next new; arguments = λ n. absurd n });
+      own = λ o. own_with v bits old (own_step t) o (λ new n. kept.2);
+      needed = none_new v.nodes (uses_of (with_step bits old (own_step t)));
+    }))
+  where
+    next : (IsKnown bits old t → ⊥) → IsNext v.nodes bits old (own_step t)
+    next new = record { held = lt; new = new; needs = args new }
 
 -- ---- the steps of a way, one after the other
 
@@ -211,6 +190,31 @@ way_blocked nodes bits old plan t uses i d from some le h is k all =
     ∙ sym (append_assoc old before (p ∷ r.0)) in
     let n = next_in nodes bits [] (old ++ before) p r.0 (subst (IsPlan nodes bits) parts all) in
     n.new (subst (λ l. IsKnown bits l (start_at t uses (i - 1))) (subst (HasWayFrom old t uses plan) back h) (subst (IsKnown bits plan) is k))
+
+-- ---- steps of their own bits, one after the other
+
+own_after : (bits : List TermBits) (steps : List Planned) (ts : List ℕ) (t : ℕ) → with_own bits steps (ts ++ t ∷ []) ≡ with_step bits (with_own bits steps ts) (own_step t)
+own_after bits steps [] t = refl
+own_after bits steps (u ∷ ts) t = own_after bits (with_step bits steps (own_step u)) ts t
+
+pub own_next : (bits : List TermBits) (old plan new : List Planned) (args : List ℕ) (i d : ℕ) → i < length args → plan ≡ with_own bits old (take i args) → new ≡ with_step bits plan (own_step (get_or args i d)) → new ≡ with_own bits old (take (i + 1) args)
+own_next bits old plan new args i d lt h e =
+    e
+    ∙ ap (λ l. with_step bits l (own_step (get_or args i d))) h
+    ∙ sym (own_after bits old (take i args) (get_or args i d))
+    ∙ ap (with_own bits old) (sym (take_more args i d lt))
+
+pub end_is : (nodes : List Node) (bits : List TermBits) (old plan new : List Planned) (t i : ℕ) (args : List ℕ) → args ≡ (node_at nodes t).args → is_known bits old t ≡ false → length args ≤ i → plan ≡ with_own bits old (take i args) → new ≡ with_step bits plan (own_step t)
+    → new ≡ with_end nodes bits old t
+end_is nodes bits old plan new t i args is none le h e =
+    e
+    ∙ ap (λ l. with_step bits l (own_step t)) (h ∙ ap (with_own bits old) (take_all i args le))
+    ∙ sym (own_after bits old args t)
+    ∙ ap (λ l. with_own bits old (l ++ t ∷ [])) is
+    ∙ sym (ap (λ b. if b then old else with_own bits old ((node_at nodes t).args ++ t ∷ [])) none)
+
+pub end_known : (nodes : List Node) (bits : List TermBits) (old : List Planned) (t : ℕ) → IsKnown bits old t → old ≡ with_end nodes bits old t
+end_known nodes bits old t k = sym (ap (λ b. if b then old else with_own bits old ((node_at nodes t).args ++ t ∷ [])) k)
 
 -- ---- a term that no rule takes further, and its arguments before it
 

@@ -1,4 +1,4 @@
--- A term with all that it reaches and that is not known, and a way of uses, put behind a plan.
+-- A step, a way of uses, and terms in an order, put behind a plan.
 use Rattle.std.proofs.Common.{◌≡◌, ℕ, zero, suc, ◌<◌, ◌≤◌, ◌+◌, ◌-◌, Bool, true, false, List, [], ◌∷◌, ◌++◌, length, length-append, get_or, Some, None, refl, sym, ap, ◌∙◌, subst, arith, ⊎_elim}
 use Rattle.std.specs.Prelude.{if◌then◌else◌, All, Contains, slice_get}
 use Rattle.std.proofs.lemmas.Option.{slice_get-get_or, slice_get_within}
@@ -72,78 +72,15 @@ module _ (nodes : List Node) (bits : List TermBits) (steps : List Planned) where
       reached_closed (open_arguments nodes bits steps) (λ u. u < length nodes) roots (λ a b lt l. open_below list a b l)
       (λ u root. All-contains (λ a. a < length nodes) roots u held root) t (r.only t c)
 
--- ---- a term with all that it reaches
-
--- the terms before a place are known behind the plan
-pub record IsWholeTo (nodes : List Node) (bits : List TermBits) (old now : List Planned) (reached : List ℕ) (i : ℕ) : Type 0 where
-  pub plan : IsPlan nodes bits now
-  pub later : IsLater old now
-  pub whole : StaysWhole nodes bits old now
-  pub done : (j u : ℕ) → j < i → slice_get reached j ≡ Some u → IsKnown bits now u
-
-pub whole_begun : (nodes : List Node) (bits : List TermBits) (old : List Planned) (reached : List ℕ) → IsPlan nodes bits old → IsWholeTo nodes bits old old reached 0
-whole_begun nodes bits old reached h = record { plan = h; later = later_itself old; whole = λ o. o; done = λ j u lt e. absurd (omega (arith, lt)) }
-
-module _ (nodes : List Node) (bits : List TermBits) (old : List Planned) (roots reached : List ℕ) (list : IsTermList nodes) (held : All (λ t. t < length nodes) roots) (r : IsReach (open_arguments nodes bits old) roots reached) where
-  pub whole_next : (plan : List Planned) (i t : ℕ) → IsWholeTo nodes bits old plan reached i → slice_get reached i ≡ Some t → (let p : Planned = record { term = t; used = None } in IsWholeTo nodes bits old (with_step bits plan p) reached (i + 1))
-  whole_next plan i t w e =
-      let p : Planned = record { term = t; used = None } in
-      let next : (IsKnown bits plan t → ⊥) → IsNext nodes bits plan p = λ new. record {
-        held = open_held nodes bits old roots reached list held r t (i, slice_get_within reached i t e, at_place i t e);
-        new = new;
-        needs = λ k d lt. needed new (get_or (arguments nodes t) k d) (Contains-get_or (arguments nodes t) k d lt);
-      } in
-      let added = add_step nodes bits plan p w.plan next in
-      record {
-        plan = added.plan;
-        later = later_on old plan (with_step bits plan p) w.later added.later;
-        whole = λ o. add_whole nodes bits plan p (w.whole o) (λ new. record { next = next new; arguments = λ none. absurd none });
-        done = λ j u lt f. ⊎_elim
-            (λ less. known_later bits plan (with_step bits plan p) u added.later (w.done j u less f))
-            (λ le. (let same : j ≡ i = omega (arith, lt, le) in
-            let is : Some u ≡ Some t = sym f ∙ ap (slice_get reached) same ∙ e in
-            let own : u ≡ t = cc in
-            subst (IsKnown bits (with_step bits plan p)) (sym own) added.known))
-            (cases_lt j i);
-      }
-    where
-      at_place : (i t : ℕ) → slice_get reached i ≡ Some t → get_or reached i t ≡ t
-      at_place i t e = let q : Some (get_or reached i t) ≡ Some t = sym (slice_get-get_or reached i t (slice_get_within reached i t e)) ∙ e in cc
-
-      needed : (IsKnown bits plan t → ⊥) → (u : ℕ) → Contains (arguments nodes t) u → IsKnown bits plan u
-      needed new u c =
-          let before = r.order i t u e (open_to nodes bits old t u (λ k. new (known_later bits old plan t w.later k)) c) in
-          w.done before.0 u before.1 before.2
-
-  pub whole_done : (plan : List Planned) (i t : ℕ) → IsWholeTo nodes bits old plan reached i → length reached ≤ i → Contains roots t → IsKnown bits plan t
-  whole_done plan i t w le c =
-      let at = at_contained reached t (r.all t (root_reached (open_arguments nodes bits old) roots t c)) in
-      let lt = slice_get_within reached at.0 t at.1 in
-      w.done at.0 t (omega (arith, lt, le)) at.1
+-- ---- a walk over what is not known
 
 pub same_reach : (nodes : List Node) (bits told : List TermBits) (old before : List Planned) (roots reached items : List ℕ) → told ≡ bits → before ≡ old → IsReach (open_arguments nodes told before) roots reached → items ≡ reached → IsReach (open_arguments nodes bits old) roots items
 same_reach nodes bits told old before roots reached items eb eo r ei =
     subst (IsReach (open_arguments nodes bits old) roots) (sym ei)
     (subst (λ x. IsReach (open_arguments nodes bits x) roots reached) eo (subst (λ x. IsReach (open_arguments nodes x before) roots reached) eb r))
 
-pub whole_step : (nodes : List Node) (bits told : List TermBits) (old before plan new : List Planned) (roots reached items : List ℕ) (i d : ℕ)
-    → IsTermList nodes → All (λ t. t < length nodes) roots → told ≡ bits → before ≡ old → IsReach (open_arguments nodes told before) roots reached → items ≡ reached
-    → IsWholeTo nodes bits old plan items i → i < length items → new ≡ with_step bits plan (record { term = get_or items i d; used = None }) → IsWholeTo nodes bits old new items (i + 1)
-whole_step nodes bits told old before plan new roots reached items i d list held eb eo r ei w lt e =
-    subst (λ l. IsWholeTo nodes bits old l items (i + 1)) (sym e)
-    (whole_next nodes bits old roots items list held (same_reach nodes bits told old before roots reached items eb eo r ei) plan i (get_or items i d) w (slice_get-get_or items i d lt))
-
 pub one_held : (nodes : List Node) (t : ℕ) → t < length nodes → All (λ u. u < length nodes) (t ∷ [])
 one_held nodes t lt = All-from_recursion (λ u. u < length nodes) (t ∷ []) (lt, tt)
-
-pub whole_planned : (nodes : List Node) (bits told : List TermBits) (old before plan : List Planned) (t : ℕ) (reached items : List ℕ) (i : ℕ)
-    → IsTermList nodes → t < length nodes → told ≡ bits → before ≡ old → IsReach (open_arguments nodes told before) (t ∷ []) reached → items ≡ reached
-    → IsWholeTo nodes bits old plan items i → length items ≤ i → IsPlannedBy nodes bits old plan t
-whole_planned nodes bits told old before plan t reached items i list held eb eo r ei w le = record {
-  plan = w.plan;
-  later = w.later;
-  known = whole_done nodes bits old (t ∷ []) items list (one_held nodes t held) (same_reach nodes bits told old before (t ∷ []) reached items eb eo r ei) plan i t w le (0, omega arith, refl);
-}
 
 -- ---- a way of uses
 
@@ -202,16 +139,25 @@ module _ (nodes : List Node) (bits : List TermBits) (before old : List Planned) 
 -- ---- terms one after the other
 
 -- the terms before a place are known behind the plan, over terms that have perhaps grown, by those that its uses need
-pub record ArePlannedTo (v w : TermsValue) (bits : List TermBits) (now : List Planned) (order : List ℕ) (i : ℕ) : Type 0 where
+pub record ArePlannedTo (v w : TermsValue) (bits : List TermBits) (old now : List Planned) (order : List ℕ) (i : ℕ) : Type 0 where
   pub grown : IsGrown v w
   pub plan : IsPlan w.nodes bits now
-  pub whole : InReachOrder (open_arguments v.nodes bits []) order → IsWholePlan w.nodes bits now
-  pub own : InReachOrder (open_arguments v.nodes bits []) order → AreOwn w bits now
+  pub later : IsLater old now
+  pub whole : InReachOrder (open_arguments v.nodes bits old) order → IsWholePlan v.nodes bits old → IsWholePlan w.nodes bits now
+  pub own : AreOwn v bits old → AreOwn w bits now
   pub needed : AreNeeded (length v.nodes) w.nodes (uses_of now)
   pub done : (j u : ℕ) → j < i → slice_get order j ≡ Some u → IsKnown bits now u
 
-pub terms_begun : (v : TermsValue) (bits : List TermBits) (order : List ℕ) → AreTerms v → ArePlannedTo v v bits [] order 0
-terms_begun v bits order h = record { grown = grown_none v h; plan = tt; whole = λ o. tt; own = λ o k p e. (let z : ⊥ = cc in absurd z); needed = none_new v.nodes (uses_of []); done = λ j u lt e. absurd (omega (arith, lt)) }
+pub terms_begun : (v : TermsValue) (bits : List TermBits) (old : List Planned) (order : List ℕ) → AreTerms v → IsPlan v.nodes bits old → ArePlannedTo v v bits old old order 0
+terms_begun v bits old order h plan = record {
+  grown = grown_none v h;
+  plan = plan;
+  later = later_itself old;
+  whole = λ o w. w;
+  own = λ o. o;
+  needed = none_new v.nodes (uses_of old);
+  done = λ j u lt e. absurd (omega (arith, lt));
+}
 
 -- a term of the order is held by then
 pub terms_held : (v w : TermsValue) (order : List ℕ) (i d : ℕ) → All (λ t. t < length v.nodes) order → i < length order → IsGrown v w → get_or order i d < length w.nodes
@@ -227,26 +173,27 @@ args_known v w bits old new t g lt l h =
     subst (λ (n : Node). All (IsKnown bits new) n.args) (sym same) (λ k d i. known_later bits old new (get_or (node_at v.nodes t).args k d) l (h k d i))
 
 -- the arguments of the next term are known, where it is not, if each stands behind its arguments
-terms_arguments : (v w : TermsValue) (bits : List TermBits) (plan : List Planned) (order : List ℕ) (i d : ℕ)
-    → All (λ t. t < length v.nodes) order → InReachOrder (open_arguments v.nodes bits []) order → ArePlannedTo v w bits plan order i → i < length order
+pub terms_arguments : (v w : TermsValue) (bits : List TermBits) (old plan : List Planned) (order : List ℕ) (i d : ℕ)
+    → All (λ t. t < length v.nodes) order → InReachOrder (open_arguments v.nodes bits old) order → ArePlannedTo v w bits old plan order i → i < length order
     → (IsKnown bits plan (get_or order i d) → ⊥) → HasKnownArguments w.nodes bits plan (get_or order i d)
-terms_arguments v w bits plan order i d held in_order h lt new =
+terms_arguments v w bits old plan order i d held in_order h lt new =
     let t = get_or order i d in
     args_known v w bits plan plan t h.grown (held i d lt) (later_itself plan)
     (λ j e l. (let before = in_order i t (get_or (arguments v.nodes t) j e) (slice_get-get_or order i d lt)
-    (open_to v.nodes bits [] t (get_or (arguments v.nodes t) j e) (λ k. new (known_later bits [] plan t (plan, refl) k)) (Contains-get_or (arguments v.nodes t) j e l)) in
+    (open_to v.nodes bits old t (get_or (arguments v.nodes t) j e) (λ k. new (known_later bits old plan t h.later k)) (Contains-get_or (arguments v.nodes t) j e l)) in
     h.done before.0 (get_or (arguments v.nodes t) j e) before.1 before.2))
 
-pub terms_next : (v w x : TermsValue) (bits : List TermBits) (plan new : List Planned) (order : List ℕ) (i d : ℕ)
-    → All (λ t. t < length v.nodes) order → ArePlannedTo v w bits plan order i → i < length order → IsGrown w x → IsPlannedBy x.nodes bits plan new (get_or order i d)
+pub terms_next : (v w x : TermsValue) (bits : List TermBits) (old plan new : List Planned) (order : List ℕ) (i d : ℕ)
+    → All (λ t. t < length v.nodes) order → ArePlannedTo v w bits old plan order i → i < length order → IsGrown w x → IsPlannedBy x.nodes bits plan new (get_or order i d)
     → (((IsKnown bits plan (get_or order i d) → ⊥) → HasKnownArguments w.nodes bits plan (get_or order i d)) → IsWholePlan w.nodes bits plan → IsWholePlan x.nodes bits new)
-    → (((IsKnown bits plan (get_or order i d) → ⊥) → HasKnownArguments w.nodes bits plan (get_or order i d)) → AreOwn w bits plan → AreOwn x bits new)
-    → AreNeeded (length w.nodes) x.nodes (uses_of new) → ArePlannedTo v x bits new order (i + 1)
-terms_next v w x bits plan new order i d held h within g p whole own n = record {
+    → (AreOwn w bits plan → AreOwn x bits new)
+    → AreNeeded (length w.nodes) x.nodes (uses_of new) → ArePlannedTo v x bits old new order (i + 1)
+terms_next v w x bits old plan new order i d held h within g p whole own n = record {
   grown = grown_more v w x h.grown g;
   plan = p.plan;
-  whole = λ o. whole (terms_arguments v w bits plan order i d held o h within) (h.whole o);
-  own = λ o. own (terms_arguments v w bits plan order i d held o h within) (h.own o);
+  later = later_on old plan new h.later p.later;
+  whole = λ o k. whole (terms_arguments v w bits old plan order i d held o h within) (h.whole o k);
+  own = λ o. own (h.own o);
   needed = needed_next v w x plan new g p.later h.needed n;
   done = λ j u lt e. ⊎_elim
       (λ less. known_later bits plan new u p.later (h.done j u less e))
@@ -257,8 +204,8 @@ terms_next v w x bits plan new order i d held h within g p whole own n = record 
       (cases_lt j i);
 }
 
-pub terms_done : (v w : TermsValue) (bits : List TermBits) (plan : List Planned) (order : List ℕ) (i : ℕ) → ArePlannedTo v w bits plan order i → length order ≤ i → All (IsKnown bits plan) order
-terms_done v w bits plan order i h le k d lt = h.done k (get_or order k d) (omega (arith, lt, le)) (slice_get-get_or order k d lt)
+pub terms_done : (v w : TermsValue) (bits : List TermBits) (old plan : List Planned) (order : List ℕ) (i : ℕ) → ArePlannedTo v w bits old plan order i → length order ≤ i → All (IsKnown bits plan) order
+terms_done v w bits old plan order i h le k d lt = h.done k (get_or order k d) (omega (arith, lt, le)) (slice_get-get_or order k d lt)
 
 -- ---- all that some terms reach
 

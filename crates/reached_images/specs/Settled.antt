@@ -1,5 +1,5 @@
 -- Why terms keep their operators.
-use Rattle.std.specs.Prelude.{◌≡◌, ◌⊎◌, ℕ, true, List, [], ◌∷◌, ◌++◌, All, take, slice_get, Some, None}
+use Rattle.std.specs.Prelude.{◌≡◌, ◌⊎◌, ℕ, true, if◌then◌else◌, List, [], ◌∷◌, ◌++◌, All, take, slice_get, Some, None}
 use Rattle.smt_terms.specs.declared.node.Node.{Node}
 use Rattle.smt_terms.specs.Nodes.{node_at}
 use Rattle.smt_terms.specs.Bits.{TermBits}
@@ -10,7 +10,7 @@ use Rattle.bv_rewrite.specs.declared.simplifying.Simplified.{Simplified}
 use Rattle.bv_rewrite.specs.Kept.{stays_difference}
 use Rattle.bv_rewrite.specs.Simplifying.{IsCrowded, IsEnd, IsGrown, IsSimplified}
 use Rattle.reached_images.specs.declared.plan.Planned.{Planned}
-use Rattle.reached_images.specs.Plans.{keeps_known, known_image, HasKnownArguments, IsKnown, IsPlan, IsPlannedBy}
+use Rattle.reached_images.specs.Plans.{is_known, keeps_known, known_image, with_step, HasKnownArguments, IsKnown, IsPlan}
 
 -- no rule takes the term further, or it is a difference that stays
 abbrev pub IsSettled : List Node → ℕ → Type 0
@@ -29,11 +29,22 @@ abbrev pub way_steps : ℕ → List Use → List Planned
 way_steps t [] = []
 way_steps t (s ∷ ss) = way_steps s.to ss ++ record { term = t; used = Some s } ∷ []
 
--- behind a plan that has the term at the end of a way the steps of its uses are none, as where a term on it has a step by then
-pub record IsBlocked (nodes : List Node) (bits : List TermBits) (before : List Planned) (t : ℕ) (uses : List Use) (last : ℕ) : Type 0 where
-  pub steps : List Planned
-  pub planned : IsPlannedBy nodes bits before steps last
-  pub none : IsPlan nodes bits (steps ++ way_steps t uses) → ⊥
+-- a step of its own bits for the term
+abbrev pub own_step : ℕ → Planned
+own_step t = record { term = t; used = None }
+
+-- the plan, and behind it steps of their own bits for those of the terms that are not known
+abbrev pub with_own : List TermBits → List Planned → List ℕ → List Planned
+with_own bits steps [] = steps
+with_own bits steps (t ∷ ts) = with_own bits (with_step bits steps (own_step t)) ts
+
+-- the same for the arguments of a term and then for the term, unless it is known
+abbrev pub with_end : List Node → List TermBits → List Planned → ℕ → List Planned
+with_end nodes bits steps t = if is_known bits steps t then steps else with_own bits steps ((node_at nodes t).args ++ t ∷ [])
+
+-- behind the plan and the steps of the term at the end of a way the steps of its uses are none, as where a term on it has a step by then
+abbrev pub IsBlocked : List Node → List TermBits → List Planned → ℕ → List Use → ℕ → Type 0
+IsBlocked nodes bits before t uses last = IsPlan nodes bits (with_end nodes bits before last ++ way_steps t uses) → ⊥
 
 -- what a term becomes cannot be planned: it has an argument that has to become another first, or the steps of its uses are none
 abbrev pub IsInTheWay : List Node → List TermBits → List Planned → ℕ → Simplified → Type 0

@@ -15,8 +15,8 @@ ghost use Rattle.reached_images.specs.Plans.{keeps_known, known_image, open_argu
 ghost use Rattle.reached_images.specs.Plans.{start_at, uses_of};
 ghost use Rattle.reached_images.specs.Plans.{AreAmong, AreInnerFirst, HasKnownArguments, IsKnown};
 ghost use Rattle.reached_images.specs.Plans.{IsLater, IsPlan, IsPlannedBy, IsWholePlan, StaysWhole};
-ghost use Rattle.reached_images.specs.Settled.{way_steps, AreOwn, IsSettled, IsSupported};
-ghost use Rattle.reached_images.specs.Settled.{IsInTheWay, KeepsItself};
+ghost use Rattle.reached_images.specs.Settled.{way_steps, with_end, AreOwn, IsSettled};
+ghost use Rattle.reached_images.specs.Settled.{IsInTheWay, IsSupported, KeepsItself};
 
 use crate::known::Known;
 use crate::plan::{Plan, Planned};
@@ -29,39 +29,6 @@ use smt_terms::node::TermId;
 use smt_terms::terms::Terms;
 use std::alloc::{AllocError, Global};
 use term_reach::{Reached, reach};
-
-/// Plans a term that stays what it is, and before it all that it reaches and that is not known.
-fn plan_whole(
-    alloc: Global,
-    terms: &Terms,
-    bits: &Bits,
-    term: TermId,
-    plan: &mut Plan,
-    reached: &mut Reached,
-) -> Result<(), AllocError>
-    requires held { term < length terms.now.nodes }
-    requires plan { IsPlan terms.now.nodes bits.now plan.old }
-    ensures planned { OnOk result
-        (IsPlannedBy terms.now.nodes bits.now plan.old plan.new term) }
-    ensures whole { OnOk result (StaysWhole terms.now.nodes bits.now plan.old plan.new) }
-    ensures own { OnOk result (HasKnownArguments terms.now.nodes bits.now plan.old term
-        → KeepsItself terms.now bits.now plan.old term
-        → AreOwn terms.now bits.now plan.old → AreOwn terms.now bits.now plan.new) }
-{
-    // The contract of `len` says that arguments come before their term.
-    let _count = terms.len();
-    reach(alloc, terms, &Known::new(bits, plan), &[term], reached)?;
-    'terms: for term in reached.terms() {
-        plan.add(
-            bits,
-            Planned {
-                term: *term,
-                used: None,
-            },
-        )?;
-    }
-    Ok(())
-}
 
 /// The term from which the use at a place leads, where the first leads from this one.
 fn from_at(term: TermId, uses: &[Use], place: usize) -> TermId
@@ -175,6 +142,8 @@ fn plan_end(terms: &Terms, bits: &Bits, term: TermId, plan: &mut Plan) -> Result
     ensures planned { OnOk result (IsPlan terms.now.nodes bits.now plan.new
         × IsLater plan.old plan.new) }
     ensures known { IfOk result (λ b. b ≡ true → IsKnown bits.now plan.new term) }
+    ensures steps { IfOk result (λ b. b ≡ true
+        → plan.new ≡ with_end terms.now.nodes bits.now plan.old term) }
     ensures whole { OnOk result (StaysWhole terms.now.nodes bits.now plan.old plan.new) }
     ensures own { OnOk result (AreOwn terms.now bits.now plan.old
         → AreOwn terms.now bits.now plan.new) }
@@ -264,8 +233,117 @@ fn plan_way(
     Ok(all)
 }
 
-/// Plans a term, unless it is known: what it becomes, and then the uses that lead there; the term
-/// itself, and no term is made, where the limit of terms leaves no room or these cannot be planned.
+/// Plans a Bool or a word for what it becomes: that, and then the uses that lead there; false where
+/// the limit of terms leaves no room or these cannot be planned, and then all is as before.
+fn plan_simplified(
+    alloc: Global,
+    terms: &mut Terms,
+    bits: &Bits,
+    term: TermId,
+    plan: &mut Plan,
+) -> Result<bool, AllocError>
+    requires terms { AreTerms terms.old }
+    requires held { term < length terms.old.nodes }
+    requires images { AreImages terms.old.nodes (image_in bits.now) }
+    requires plan { IsPlan terms.old.nodes bits.now plan.old }
+    ensures grown { IfOk result (λ b. b ≡ true → IsGrown terms.old terms.new) }
+    ensures planned { IfOk result (λ b. b ≡ true
+        → IsPlannedBy terms.new.nodes bits.now plan.old plan.new term) }
+    ensures whole { IfOk result (λ b. b ≡ true
+        → HasKnownArguments terms.old.nodes bits.now plan.old term
+        → IsWholePlan terms.old.nodes bits.now plan.old
+        → IsWholePlan terms.new.nodes bits.now plan.new) }
+    ensures own { IfOk result (λ b. b ≡ true
+        → AreOwn terms.old bits.now plan.old → AreOwn terms.new bits.now plan.new) }
+    ensures needed { IfOk result (λ b. b ≡ true
+        → AreNeeded (length terms.old.nodes) terms.new.nodes (uses_of plan.new)) }
+    ensures kept { IfOk result (λ b. b ≡ false
+        → (terms.new ≡ terms.old) × (plan.new ≡ plan.old)
+        × KeepsItself terms.old bits.now plan.old term) }
+{
+    if !terms.sort(term).is_plain() {
+        return Ok(false);
+    }
+    let (count, len) = (terms.len(), plan.steps().len());
+    let simplified = match simplified(alloc, terms, bits, plan, term)? {
+        Some(simplified) => simplified,
+        None => return Ok(false),
+    };
+    if plan_way(terms, bits, term, &simplified, plan)? {
+        return Ok(true);
+    }
+    terms.cut(count);
+    plan.cut(len);
+    Ok(false)
+}
+
+/// Plans a term whose arguments are known, unless it is known: for what it becomes, or its own
+/// bits.
+fn plan_one(
+    alloc: Global,
+    terms: &mut Terms,
+    bits: &Bits,
+    term: TermId,
+    plan: &mut Plan,
+) -> Result<(), AllocError>
+    requires terms { AreTerms terms.old }
+    requires held { term < length terms.old.nodes }
+    requires images { AreImages terms.old.nodes (image_in bits.now) }
+    requires plan { IsPlan terms.old.nodes bits.now plan.old }
+    requires arguments { (IsKnown bits.now plan.old term → ⊥)
+        → HasKnownArguments terms.old.nodes bits.now plan.old term }
+    ensures grown { OnOk result (IsGrown terms.old terms.new) }
+    ensures planned { OnOk result
+        (IsPlannedBy terms.new.nodes bits.now plan.old plan.new term) }
+    ensures whole { OnOk result (IsWholePlan terms.old.nodes bits.now plan.old
+        → IsWholePlan terms.new.nodes bits.now plan.new) }
+    ensures own { OnOk result (AreOwn terms.old bits.now plan.old
+        → AreOwn terms.new bits.now plan.new) }
+    ensures needed { OnOk result
+        (AreNeeded (length terms.old.nodes) terms.new.nodes (uses_of plan.new)) }
+{
+    if Known::new(bits, plan).has(term) {
+        return Ok(());
+    }
+    if plan_simplified(alloc, terms, bits, term, plan)? {
+        return Ok(());
+    }
+    plan.add(bits, Planned { term, used: None })?;
+    Ok(())
+}
+
+/// Plans terms of which each stands behind those of its arguments that are not known.
+fn plan_in_order(
+    alloc: Global,
+    terms: &mut Terms,
+    bits: &Bits,
+    order: &[TermId],
+    plan: &mut Plan,
+) -> Result<(), AllocError>
+    requires terms { AreTerms terms.old }
+    requires held { All (λ t. t < length terms.old.nodes) order.now }
+    requires images { AreImages terms.old.nodes (image_in bits.now) }
+    requires plan { IsPlan terms.old.nodes bits.now plan.old }
+    requires order { InReachOrder (open_arguments terms.old.nodes bits.now plan.old) order.now }
+    ensures grown { OnOk result (IsGrown terms.old terms.new) }
+    ensures plan { OnOk result (IsPlan terms.new.nodes bits.now plan.new
+        × IsLater plan.old plan.new) }
+    ensures whole { OnOk result (IsWholePlan terms.old.nodes bits.now plan.old
+        → IsWholePlan terms.new.nodes bits.now plan.new) }
+    ensures own { OnOk result (AreOwn terms.old bits.now plan.old
+        → AreOwn terms.new bits.now plan.new) }
+    ensures order { OnOk result (All (IsKnown bits.now plan.new) order.now) }
+    ensures needed { OnOk result
+        (AreNeeded (length terms.old.nodes) terms.new.nodes (uses_of plan.new)) }
+{
+    'terms: for term in order {
+        plan_one(alloc, terms, bits, *term, plan)?;
+    }
+    Ok(())
+}
+
+/// Plans a term, unless it is known: for what it becomes; where that cannot be, all that it reaches
+/// and that is not known is planned before it, and it is tried once more.
 fn plan_term(
     alloc: Global,
     terms: &mut Terms,
@@ -285,35 +363,26 @@ fn plan_term(
         → HasKnownArguments terms.old.nodes bits.now plan.old term)
         → IsWholePlan terms.old.nodes bits.now plan.old
         → IsWholePlan terms.new.nodes bits.now plan.new) }
-    ensures own { OnOk result (((IsKnown bits.now plan.old term → ⊥)
-        → HasKnownArguments terms.old.nodes bits.now plan.old term)
-        → AreOwn terms.old bits.now plan.old → AreOwn terms.new bits.now plan.new) }
+    ensures own { OnOk result (AreOwn terms.old bits.now plan.old
+        → AreOwn terms.new bits.now plan.new) }
     ensures needed { OnOk result
         (AreNeeded (length terms.old.nodes) terms.new.nodes (uses_of plan.new)) }
 {
     if Known::new(bits, plan).has(term) {
         return Ok(());
     }
-    if !terms.sort(term).is_plain() {
-        return plan_whole(alloc, terms, bits, term, plan, reached);
-    }
-    let (count, len) = (terms.len(), plan.steps().len());
-    let simplified = match simplified(alloc, terms, bits, plan, term)? {
-        Some(simplified) => simplified,
-        None => return plan_whole(alloc, terms, bits, term, plan, reached),
-    };
-    if plan_way(terms, bits, term, &simplified, plan)? {
+    if plan_simplified(alloc, terms, bits, term, plan)? {
         return Ok(());
     }
-    terms.cut(count);
-    plan.cut(len);
-    plan_whole(alloc, terms, bits, term, plan, reached)
+    reach(alloc, terms, &Known::new(bits, plan), &[term], reached)?;
+    plan_in_order(alloc, terms, bits, reached.terms(), plan)?;
+    Ok(())
 }
 
 /// Plans bits for these terms in their order, each for what it becomes by the rules of rewriting
-/// over the images that are known by then, and before it for all that it reaches and that has no
-/// bits. No term is made but those to which uses of the plan lead and their arguments. What the
-/// plan had is forgotten.
+/// over the images that are known by then. Where that cannot be, it is planned behind all that it
+/// reaches and that has no bits. No term is made but those to which uses of the plan lead and their
+/// arguments. What the plan had is forgotten.
 pub fn plan_each(
     alloc: Global,
     terms: &mut Terms,
@@ -330,10 +399,9 @@ pub fn plan_each(
     ensures whole { OnOk result
         (InReachOrder (open_arguments terms.old.nodes bits.now []) order.now
         → IsWholePlan terms.new.nodes bits.now plan.new) }
-    // and then each Bool and word that keeps its operator has its reason
-    ensures own { OnOk result
-        (InReachOrder (open_arguments terms.old.nodes bits.now []) order.now
-        → AreOwn terms.new bits.now plan.new) }
+    // each Bool and word that keeps its operator is settled, or there is no room or no place for
+    // what it becomes
+    ensures own { OnOk result (AreOwn terms.new bits.now plan.new) }
     ensures order { OnOk result (All (IsKnown bits.now plan.new) order.now) }
     ensures needed { OnOk result
         (AreNeeded (length terms.old.nodes) terms.new.nodes (uses_of plan.new)) }
@@ -374,6 +442,6 @@ pub fn plan_terms(
     let _count = terms.len();
     plan.clear();
     reach(alloc, terms, &Known::new(bits, plan), roots, reached)?;
-    let order = Vec::from_slice(alloc, reached.terms())?;
-    plan_each(alloc, terms, bits, order.as_slice(), plan, reached)
+    plan_in_order(alloc, terms, bits, reached.terms(), plan)?;
+    Ok(())
 }

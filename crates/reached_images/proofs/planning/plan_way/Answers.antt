@@ -1,7 +1,8 @@
-use Rattle.std.proofs.Common.{get_or, sym, subst}
+use Rattle.std.proofs.Common.{get_or, ◌++◌, sym, subst, inr}
 use Rattle.smt_terms.specs.Nodes.{node_at}
 use Rattle.bv_rewrite.specs.Simplifying.{IsWay}
-use Rattle.reached_images.specs.Plans.{known_image, AreInnerFirst, HasKnownArguments}
+use Rattle.reached_images.specs.Plans.{known_image, AreInnerFirst, HasKnownArguments, IsPlan}
+use Rattle.reached_images.specs.Settled.{way_steps, with_end}
 use Rattle.reached_images.proofs.Knowing.{known_later}
 use Rattle.reached_images.proofs.planning.plan_way.Goals as goal
 
@@ -16,3 +17,12 @@ returns-clause-whole c e args old =
 
 pub returns-clause-own : goal.returns-clause-own
 returns-clause-own c old = c.in_ok-all.ensures.own c.args.terms.now (c.in_ok-plan_end.ensures.own old)
+
+pub returns-clause-tangled : goal.returns-clause-tangled
+returns-clause-tangled c e =
+    let nodes = c.args.terms.now.nodes in
+    let bits = c.args.bits.now in
+    inr (λ all.
+    c.in_ok-all.ensures.blocked e nodes
+    (subst (λ l. IsPlan nodes bits (l ++ way_steps c.args.term c.as_slice.result.now)) (sym (c.in_ok-plan_end.ensures.steps c.if-not-branch.false))
+    (subst (λ us. IsPlan nodes bits (with_end nodes bits c.args.plan.now c.args.simplified.now.term ++ way_steps c.args.term us)) (sym c.as_slice.ensures.value) all)))

@@ -1,0 +1,9 @@
+pub mod Ranked
+pub mod Under
+pub mod Parts
+pub mod Words
+pub mod Inner
+pub mod Rules
+pub mod Covered
+pub mod Logs
+pub mod Walking
