@@ -7,3 +7,7 @@ pub mod PutBack
 pub mod Adding
 pub mod Concluding
 pub mod Settling
+pub mod Starting
+pub mod Gathering
+pub mod Answering
+pub mod Together

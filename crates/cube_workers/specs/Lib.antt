@@ -3,3 +3,4 @@ pub mod Workers
 pub mod Histories
 pub mod Crews
 pub mod Closed
+pub mod Hired

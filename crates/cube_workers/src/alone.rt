@@ -11,7 +11,7 @@ ghost use Rattle.cube_workers.specs.Searched.{Problem, IsProblem, IsSearching, I
 
 use crate::check::Check;
 use crate::kept::KeptSearch;
-use crate::outcome::{Lost, Outcome};
+use crate::outcome::Outcome;
 use crate::tried::Tried;
 use cnf_base::Lit;
 use cube_search::{End, Search};
@@ -80,15 +80,15 @@ fn search_cubes(
 }
 
 /// Searches the cubes of a check over the log, one after the other, with the search that the last check left: finds a model, a
-/// clause of opposites of assumed literals, or that the budget was spent. The log gains chains alone, also for want of memory,
-/// which is the one error.
-pub fn search_alone(
+/// clause of opposites of assumed literals, or that the budget was spent. The log gains chains alone, and comes back for want of
+/// memory too, which is the one error.
+pub(crate) fn search_alone(
     alloc: Global,
     log: Log,
     terms: &Terms,
     kept: &mut KeptSearch,
     check: &Check<'_>,
-) -> Result<(Log, Outcome), Lost>
+) -> Result<(Log, Outcome), Log>
     requires listed { IsTermList terms.now.nodes }
     requires stands { Stands terms.now.nodes log }
     requires resting { RestsBeside log kept.old.search }
@@ -103,15 +103,13 @@ pub fn search_alone(
         (problem terms.now.nodes log.entries check.now.positions.now check.now.tree.now
         check.now.assumed.now check.now.settings.budget) r.0.entries (valuation_of kept.new.search)
         r.1) }
-    ensures lost { IfErr result (λ lost. Stands terms.now.nodes lost.log
-        × Grows log.entries lost.log.entries) }
+    ensures lost { IfErr result (λ lost. Stands terms.now.nodes lost
+        × Grows log.entries lost.entries) }
 {
     let from = log.len();
     let mut board = LogBoard::new(alloc, log, terms);
     let Ok(()) = kept.go_over(alloc, &board, check.positions, from) else {
-        return Err(Lost {
-            log: board.into_log(),
-        });
+        return Err(board.into_log());
     };
     let mut tried = Tried::new(alloc);
     let Ok(found) = search_cubes(
@@ -124,9 +122,7 @@ pub fn search_alone(
         &mut tried,
     ) else {
         drop(tried);
-        return Err(Lost {
-            log: board.into_log(),
-        });
+        return Err(board.into_log());
     };
     let mut log = board.into_log();
     if found {
@@ -134,7 +130,7 @@ pub fn search_alone(
         return Ok((log, Outcome::Sat));
     }
     let Ok(found) = tried.conclude(alloc, terms, &mut log, check.tree) else {
-        return Err(Lost { log });
+        return Err(log);
     };
     Ok((log, found))
 }

@@ -38,7 +38,8 @@ pub enum Reached {
 // The literals under which a cube is searched.
 fn given(alloc: Global, check: &Check<'_>, cube: u32) -> Result<Vec<Lit>, AllocError>
     requires { cube < 2 ^ length check.now.tree.now }
-    ensures { IfOk result (λ g. g.items ≡ cube_of check.now.tree.now cube ++ check.now.assumed.now) }
+    ensures { IfOk result
+        (λ g. g.items ≡ cube_of check.now.tree.now cube ++ check.now.assumed.now) }
 {
     let mut given = Vec::from_slice(alloc, check.tree.cube(cube))?;
     given.extend_from_slice(check.assumed)?;

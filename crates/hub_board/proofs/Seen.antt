@@ -11,12 +11,12 @@ use Rattle.shared_history.specs.Events.{of_pass, StartsWith}
 use Rattle.shared_history.specs.Known.{Known, IsSamePass}
 use Rattle.shared_history.specs.declared.law.Back.{Back}
 use Rattle.hub_core.specs.declared.state.HubState.{HubState}
-use Rattle.smt_terms.specs.Bits.{TermBits, bits_in}
+use Rattle.smt_terms.specs.Bits.{TermBits, bits_in, image_in}
 use Rattle.proof_log.specs.declared.entry.Entry.{Entry}
 use Rattle.proof_log.specs.declared.entry.Entry.TheVariants as step
 use Rattle.proof_log.specs.Logs.{clause_at, entry_at, state_of, IsLog}
-use Rattle.proof_log.specs.Boards.{IsOfSearch, Grows, IsLater, IsPutAt, KnowsOneMore, IsClauseOf, IsEntryOf, AreBitsIn}
-use Rattle.proof_log.proofs.Growth.{grown_keeps, clause_stays, entry_stays, chain_clause, chain_part}
+use Rattle.proof_log.specs.Boards.{IsOfSearch, Grows, IsLater, IsPutAt, KnowsOneMore, IsClauseOf, IsEntryOf, AreBitsIn, AreImagesIn}
+use Rattle.proof_log.proofs.Growth.{grown_keeps, grown_images, clause_stays, entry_stays, chain_clause, chain_part}
 use Rattle.proof_log.proofs.Standing.{stands_over}
 use Rattle.hub_core.specs.declared.events.Call.{Call}
 use Rattle.hub_core.specs.declared.events.Call.TheVariants.{PutChain}
@@ -182,6 +182,12 @@ shown_bits b bits h is t =
     ap (λ x. bits_in x t) is
     ∙ (stands_over b.hist.law.nodes b.hist.law.log h.opened.stands).bits t
     ∙ ap (λ f. f t) (sym (grown_keeps b.hist.law.nodes b.hist.law.log.entries (view_in b).log (opening_grows b h.chains)).0)
+
+pub shown_images : (b : BoardValue) (bits : List TermBits) → IsBoard b → bits ≡ b.hist.law.log.bits → AreImagesIn b.hist.law.nodes (view_in b).log bits
+shown_images b bits h is t =
+    ap (λ x. image_in x t) is
+    ∙ (stands_over b.hist.law.nodes b.hist.law.log h.opened.stands).images t
+    ∙ ap (λ f. f t) (sym (grown_images b.hist.law.nodes b.hist.law.log.entries (view_in b).log (opening_grows b h.chains)))
 
 -- ---- a turn
 
