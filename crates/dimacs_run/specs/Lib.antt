@@ -1,2 +1,3 @@
 pub mod Reads
 pub mod Endings
+pub mod Findings

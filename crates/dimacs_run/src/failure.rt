@@ -33,6 +33,18 @@ pub enum Failure {
     NoMemory,
 }
 
+/// Why a search of clauses ends before it tells what it found.
+#[derive(Clone, Copy, Debug, PartialEq, Eq)]
+pub enum SearchFailure {
+    /// The clauses are not read to their end.
+    Clauses(Unread),
+    /// A write of the refutation failed.
+    Refutation,
+    /// A write of the answers failed; a front of the answer was written.
+    Answers,
+    NoMemory,
+}
+
 /// Why the reading of one input ends before the input does.
 #[derive(Clone, Copy, Debug)]
 pub(crate) enum Halt<F> {

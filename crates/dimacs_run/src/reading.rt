@@ -1,6 +1,6 @@
 // An input, read in pieces.
 
-ghost use Rattle.std.specs.Prelude.{◌≡◌, ◌<◌, ◌≤◌, Ok, IfOk, IfErr, IfSome, MatchResult, length, take};
+ghost use Rattle.std.specs.Prelude.{◌≡◌, ◌<◌, ◌≤◌, ℕ, List, Ok, IfOk, IfErr, IfSome, MatchResult, length, take};
 ghost use Rattle.std.specs.Io.KnownBytes.{Consumes};
 ghost use Rattle.smt_desk.specs.Faults.{Rose};
 ghost use Rattle.dimacs_front.specs.Cnf.{cnf_of};
@@ -12,10 +12,20 @@ use dimacs_front::cnf::{Cnf, CnfFault, CnfReader};
 use dimacs_front::lrat::{LratChecker, LratFault};
 use dimacs_front::stop::Stop;
 use smt_desk::stream::Source;
-use std::alloc::Global;
+use std::alloc::{AllocError, Global};
 
 /// How many bytes of one input are read.
 const INPUT_LIMIT: u64 = 1 << 32;
+
+/// How many bytes are asked for at most in one read.
+const PIECE: usize = 1 << 16;
+
+/// Room for one read.
+pub(crate) fn piece_buffer(alloc: Global) -> Result<Vec<u8>, AllocError>
+    ensures { IfOk result (λ v. 0 < length v.items) }
+{
+    vec![in alloc; 0u8; PIECE]
+}
 
 /// Reads into the front of the buffer, no more bytes than may still be read, or one where none may.
 fn read_piece<S: Source>(source: &mut S, buffer: &mut [u8], left: u64) -> Result<usize, Unread>
@@ -59,6 +69,8 @@ pub(crate) fn read_clauses<S: Source>(
     requires { 0 < length buffer.old }
     ensures judged { IfSome (S.left source.old) (λ text.
         MatchResult result (λ cnf. cnf_of text ≡ Ok cnf) (HaltsAt (cnf_of text))) }
+    // Also where what is left is not known, a text has these clauses.
+    ensures from_text { IfOk result (λ cnf. (text : List ℕ) × (cnf_of text ≡ Ok cnf)) }
     ensures read { MatchResult result
         (λ _. ReadsWithin (S.left source.old) (S.left source.new))
         (ReadsToHalt (S.left source.old) (S.left source.new)) }

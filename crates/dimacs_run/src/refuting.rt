@@ -5,22 +5,12 @@ ghost use Rattle.dimacs_run.specs.Reads.{AddsTo, end_in_clauses, end_in_refutati
 ghost use Rattle.dimacs_run.specs.Endings.{first_fault, ToldOf, IsEnd, IsFront, IsRightlyAccepted};
 
 use crate::failure::{Failure, Fault, Halt};
-use crate::reading::{check_refutation, read_clauses};
+use crate::reading::{check_refutation, piece_buffer, read_clauses};
 use crate::telling::ending_line;
 use dimacs_front::cnf::CnfFault;
 use dimacs_front::lrat::{LratFault, refutations_are_right};
 use smt_desk::stream::{Sink, Source, write_whole};
-use std::alloc::{AllocError, Global};
-
-/// How many bytes are asked for at most in one read.
-const PIECE: usize = 1 << 16;
-
-/// So many bytes.
-fn zeros(alloc: Global, size: usize) -> Result<Vec<u8>, AllocError>
-    ensures { IfOk result (λ v. length v.items ≡ size) }
-{
-    vec![in alloc; 0u8; size]
-}
+use std::alloc::Global;
 
 /// What is judged where the reading of the clauses ends before they do.
 fn end_in_clauses(halt: Halt<CnfFault>) -> Result<Option<Fault>, Failure>
@@ -106,7 +96,7 @@ pub fn refute<S: Source, P: Source, W: Sink>(
         (counts (S.faults clauses.new) (W.faults answers.new) (P.faults refutation.new))) }
 {
     refutations_are_right();
-    let mut buffer = match zeros(alloc, PIECE) {
+    let mut buffer = match piece_buffer(alloc) {
         Ok(buffer) => buffer,
         Err(_) => return Err(Failure::NoMemory),
     };

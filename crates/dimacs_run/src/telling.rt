@@ -1,9 +1,11 @@
-// What the user of a refutation is told.
+// What the user is told, of a refutation or of a search.
 
-ghost use Rattle.std.specs.Prelude.{◌≡◌, IfOk};
+ghost use Rattle.std.specs.Prelude.{◌≡◌, ◌∷◌, ◌++◌, IfOk, OnOk};
 ghost use Rattle.dimacs_run.specs.Endings.{cnf_rule, lrat_rule, line_in, rule_in, ending_text};
+ghost use Rattle.dimacs_run.specs.Findings.{value_word, value_words, finding_text};
 
 use crate::failure::Fault;
+use crate::finding::Finding;
 use dimacs_front::cnf::CnfKind;
 use dimacs_front::lrat::LratKind;
 use smt_text::number::push_number;
@@ -71,5 +73,42 @@ pub(crate) fn ending_line(alloc: Global, fault: Option<Fault>) -> Result<Text, A
             text.push_slice(b"\n")?;
             Ok(text)
         }
+    }
+}
+
+/// Appends the literal of a variable that its value makes true, behind a blank.
+fn push_value(out: &mut Text, variable: u64, value: bool) -> Result<(), AllocError>
+    ensures { OnOk result (out.new ≡ out.old ++ 32 ∷ value_word variable value) }
+{
+    out.push(b' ')?;
+    if !value {
+        out.push(b'-')?;
+    }
+    push_number(out, variable)
+}
+
+/// Appends the literals that these values make true, that of variable 1 first.
+fn push_values(out: &mut Text, values: &[bool]) -> Result<(), AllocError>
+    ensures { OnOk result (out.new ≡ out.old ++ value_words 1 values.now) }
+{
+    'values: for place in 0..values.len() {
+        push_value(out, place as u64 + 1, values[place])?;
+    }
+    Ok(())
+}
+
+/// The lines that are told of what was found.
+pub(crate) fn finding_text(alloc: Global, finding: &Finding) -> Result<Text, AllocError>
+    ensures { IfOk result (λ t. t ≡ finding_text finding.now) }
+{
+    match finding {
+        Finding::Fault(fault) => ending_line(alloc, Some(Fault::Clauses(*fault))),
+        Finding::Satisfiable(values) => {
+            let mut text = Text::from_slice(alloc, b"sat\nv")?;
+            push_values(&mut text, values.as_slice())?;
+            text.push_slice(b" 0\n")?;
+            Ok(text)
+        }
+        Finding::Unsatisfiable => Text::from_slice(alloc, b"unsat\n"),
     }
 }

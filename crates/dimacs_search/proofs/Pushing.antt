@@ -50,3 +50,7 @@ line_written out now new n c is w k = k ∙ ap (λ x. x ++ 10 ∷ []) w ∙ appe
 pub ok_more : {A E : Type 0} (r : Result A E) (P Q : Type 0) → (P → Q) → OnOk r P → OnOk r Q
 ok_more (Ok x) P Q f h = f h
 ok_more (Err e) P Q f h = tt
+
+pub ok_always : {A E : Type 0} (r : Result A E) (Q : Type 0) → Q → OnOk r Q
+ok_always (Ok x) Q h = h
+ok_always (Err e) Q h = tt
