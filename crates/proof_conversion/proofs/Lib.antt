@@ -1,0 +1,9 @@
+pub mod Owing
+pub mod Firsts
+pub mod Headings
+pub mod Knowing
+pub mod Reading
+pub mod Marking
+pub mod Filed
+pub mod Behind
+pub mod Written
