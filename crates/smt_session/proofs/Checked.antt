@@ -14,7 +14,7 @@ use Rattle.accepted_proof.proofs.Following.{same_assumed, same_scopes, shown_bac
 use Rattle.accepted_proof.proofs.Good.{states_keep}
 use Rattle.smt_session.specs.Growing.{LeadsTo}
 use Rattle.smt_session.specs.Planning.{Prepares}
-use Rattle.smt_session.specs.Thorough.{IsClosedCube, HasSpent, AreUsed, AreSearched}
+use Rattle.smt_session.specs.Thorough.{IsClosedCube, HasSpent, AreSearched, AreSimplified, AreWanted}
 use Rattle.smt_session.specs.Sessions.{IsSession, IsChecked, IsConcluded}
 use Rattle.smt_session.proofs.Leading.{prepares_more, state_with}
 
@@ -69,7 +69,8 @@ module _ (limits : Limits) (s t : StateValue) (old mid new : LogValue) (r : Reco
     leads = leads;
     shown = shown;
     thorough = record {
-      terms = subst (λ (x : StateValue). AreUsed (length s.terms.nodes) x.terms.nodes leads.added) leads.state whole.used;
+      terms = subst (λ (x : StateValue). AreWanted s x.terms.nodes leads.added) leads.state whole.wanted;
+      simple = subst (λ (x : StateValue). AreSimplified x.terms old.entries leads.added) leads.state whole.simple;
       cubes =
           subst (λ es. AreSearched limits s (with_steps s leads.added).terms.nodes es (Some r)) leads.entries
           (subst (λ (x : StateValue). AreSearched limits s x.terms.nodes new.entries (Some r)) leads.state cubes);

@@ -37,12 +37,13 @@ use Rattle.accepted_proof.specs.Searching.{Limits, is_reached, variables_of, lea
 use Rattle.reached_steps.specs.Reached.{IsOfTerms, AreReachedSteps}
 use Rattle.reached_steps.proofs.Separate.{reached_are_separate}
 use Rattle.smt_session.specs.Growing.{Grows, IsStepFor, AreBits, AreGiven, AreSelectors}
-use Rattle.smt_session.specs.declared.solve.Found.{Found}
-use Rattle.smt_session.specs.declared.solve.Found.TheVariants as found
-use Rattle.smt_session.specs.Searched.{IsTermStep, IsAssertionStep, IsStepOf, AreEnough, AreSatisfied, HasTrueSelector, HasTrueBit, IsProblem, IsSpentCube, IsClosed, IsLowestSpent, IsFound, problem}
+use Rattle.cube_workers.specs.declared.outcome.Outcome.{Outcome}
+use Rattle.cube_workers.specs.declared.outcome.Outcome.TheVariants as outcome
+use Rattle.cube_workers.specs.Searched.{IsProblem, IsSpentCube, IsClosed, IsLowestSpent, IsFound, problem}
+use Rattle.cube_workers.proofs.Cubes.{grown_chain}
+use Rattle.smt_session.specs.Searched.{IsTermStep, IsAssertionStep, IsStepOf, AreEnough, AreSatisfied, HasTrueSelector, HasTrueBit}
 use Rattle.smt_session.specs.Thorough.{IsClosedCube, AreOthersSearched}
 use Rattle.smt_session.specs.Sessions.{IsSession, IsConcluded}
-use Rattle.smt_session.proofs.Cubes.{grown_chain}
 use Rattle.smt_session.proofs.Giving.{given_below, given_stays, selectors_true, true_bits}
 use Rattle.smt_session.proofs.Roots.{roots_live}
 use Rattle.smt_session.proofs.Satisfied.{satisfied}
@@ -96,7 +97,7 @@ module _ (s : StateValue) (log : LogValue) (session : IsSession s log) (position
       (All-contains (IsStepOf log enough.reached s.scopes.live) positions p enough.each.only among)
 
   reached_steps : AreReachedSteps s.terms.nodes log.entries positions
-  reached_steps = record { reached = enough.reached; closed = subst (λ (f : ℕ → Option ℕ). AreClosed s.terms.nodes f (Contains enough.reached)) (λ i t. (stands_over s.terms.nodes log session.stands).images t i) enough.closed; first = enough.each.first; terms = enough.each.terms; only = of_terms; words = words_of s log.entries session.each }
+  reached_steps = record { reached = enough.reached; closed = subst (λ (f : ℕ → Option ℕ). AreClosed s.terms.nodes f (Contains enough.reached)) (λ i t. (stands_over s.terms.nodes log session.stands).images t i) enough.closed; first = enough.each.first; terms = enough.each.terms; only = of_terms; words = words_of s log.entries session.theories session.each }
 
   step_within : (p : ℕ) → Contains positions p → p < suc (length log.entries)
   step_within p among =
@@ -249,7 +250,7 @@ module _ (limits : Limits) (s : StateValue) (old new : LogValue) (positions vari
 
 -- ---- what a check comes to
 
-module _ (s : StateValue) (terms : TermsValue) (old new : LogValue) (places variables : List ℕ) (given : List Literal) (budget : ℕ) (v : ℕ → Bool) (f : Found)
+module _ (s : StateValue) (terms : TermsValue) (old new : LogValue) (places variables : List ℕ) (given : List Literal) (budget : ℕ) (v : ℕ → Bool) (f : Outcome)
     (own : terms ≡ s.terms) (session : IsSession s old) (are : AreGiven s old given) (prolongs : Prolongs old.entries new.entries) (after : Stands terms.nodes new)
     (is : IsFound (problem terms.nodes old.entries places variables given budget) new.entries v f) where
   stands : Stands s.terms.nodes new
@@ -261,16 +262,16 @@ module _ (s : StateValue) (terms : TermsValue) (old new : LogValue) (places vari
   found_in : IsFound (problem s.terms.nodes old.entries places variables given budget) new.entries v f
   found_in = subst (λ (t : TermsValue). IsFound (problem t.nodes old.entries places variables given budget) new.entries v f) own is
 
-  found_as : (g : Found) → f ≡ g → IsFound (problem s.terms.nodes old.entries places variables given budget) new.entries v g
+  found_as : (g : Outcome) → f ≡ g → IsFound (problem s.terms.nodes old.entries places variables given budget) new.entries v g
   found_as g e = subst (IsFound (problem s.terms.nodes old.entries places variables given budget) new.entries v) e found_in
 
-  pub refuted_checked : (limits : Limits) (at : ℕ) → f ≡ found.Refuted at → IsConcluded limits s old new (Unsat at)
-  refuted_checked limits at e = record { grows = grows; shown = refutation s old new given at session.stands grows are (found_as (found.Refuted at) e); cubes = tt }
+  pub refuted_checked : (limits : Limits) (at : ℕ) → f ≡ outcome.Unsat at → IsConcluded limits s old new (Unsat at)
+  refuted_checked limits at e = record { grows = grows; shown = refutation s old new given at session.stands grows are (found_as (outcome.Unsat at) e); cubes = tt }
 
-  pub unknown_checked : (limits : Limits) (d : Diary) → budget ≡ limits.budget → variables ≡ cube_variables limits s s.terms.nodes old.entries → f ≡ found.Spent d → IsConcluded limits s old new (Unknown d)
+  pub unknown_checked : (limits : Limits) (d : Diary) → budget ≡ limits.budget → variables ≡ cube_variables limits s s.terms.nodes old.entries → f ≡ outcome.Unknown d → IsConcluded limits s old new (Unknown d)
   unknown_checked limits d b split e =
       let spent : IsLowestSpent (problem s.terms.nodes old.entries places variables given limits.budget) new.entries (2 ^ length variables) d =
-      subst (λ n. IsLowestSpent (problem s.terms.nodes old.entries places variables given n) new.entries (2 ^ length variables) d) b (found_as (found.Spent d) e) in
+      subst (λ n. IsLowestSpent (problem s.terms.nodes old.entries places variables given n) new.entries (2 ^ length variables) d) b (found_as (outcome.Unknown d) e) in
       record {
         grows = grows;
         shown = unknown limits s old new places variables given session.stands stands prolongs grows split are d spent.own;
@@ -280,15 +281,15 @@ module _ (s : StateValue) (terms : TermsValue) (old new : LogValue) (places vari
   pub model_checked : (limits : Limits) (values : List (ℕ × Value)) → AreWritten (Sat values) × IsWrittenModel s values → IsConcluded limits s old new (Sat values)
   model_checked limits values shown = record { grows = grows; shown = shown; cubes = tt }
 
-  module _ (model : f ≡ found.Model) where
+  module _ (model : f ≡ outcome.Sat) where
     is_model : IsModel (state_of s.terms.nodes new.entries).clauses places given v
-    is_model = found_as found.Model model
+    is_model = found_as outcome.Sat model
 
     given_true : AllByRecursion (λ x. lit_true v x ≡ true) given
     given_true = recursion_from_All (λ x. lit_true v x ≡ true) given (members (λ x. lit_true v x ≡ true) given is_model.literals)
 
     pub model_words : AllByRecursion (IsOfWords s.terms.nodes) new.entries
-    model_words = words_of s new.entries (grown_steps s old new session.each grows)
+    model_words = words_of s new.entries session.theories (grown_steps s old new session.each grows)
 
     given_now : AreGiven s new given
     given_now = given_stays s old new given session.stands grows are

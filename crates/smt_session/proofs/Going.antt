@@ -1,6 +1,7 @@
 -- A session goes on over the terms and the assertions that a command leaves.
 use Rattle.std.proofs.Common.{◌≡◌, ℕ, false, List, [], ◌∷◌, ◌++◌, sym, ◌∙◌, subst, Some}
 use Rattle.std.specs.Prelude.{slice_get}
+use Rattle.std.specs.List.{AllByRecursion}
 use Rattle.smt_terms.specs.declared.sort.Signature.{Signature}
 use Rattle.smt_terms.specs.declared.node.Node.{Node}
 use Rattle.script_state.specs.Readings.{Reading}
@@ -16,7 +17,7 @@ use Rattle.proof_log.specs.Words.{IsOfWords}
 use Rattle.proof_log.proofs.Leaves.{words_longer}
 use Rattle.proof_log.proofs.Standing.{stands_longer}
 use Rattle.accepted_proof.specs.Turns.{IsOfScript}
-use Rattle.smt_session.specs.Growing.{AreStepsFor}
+use Rattle.smt_session.specs.Growing.{AreStepsFor, IsOfTheories}
 use Rattle.smt_session.specs.Sessions.{IsSession}
 
 more_for : (old new : StateValue) → ((d : ℕ) (g : Signature) → slice_get old.symbols.signatures d ≡ Some g → slice_get new.symbols.signatures d ≡ Some g) → ((a t : ℕ) → slice_get old.scopes.terms a ≡ Some t → slice_get new.scopes.terms a ≡ Some t) → (e : Entry) → IsOfScript old e → IsOfScript new e
@@ -24,12 +25,20 @@ more_for old new known more (entry.Node n) i = record { each = λ d e. known d _
 more_for old new known more (entry.Selector a t) i = more a t i
 more_for old new known more e i = tt
 
+-- what is of what is read is so among more terms
+read_longer : (old new : StateValue) (behind : List Node) (e : Entry) → new.terms.nodes ≡ old.terms.nodes ++ behind → new.symbols.theories ≡ old.symbols.theories → IsOfTheories old e → IsOfTheories new e
+read_longer old new behind e terms same h off = subst (λ ns. IsOfWords ns e) (sym terms) (words_longer old.terms.nodes behind e (h (sym same ∙ off)))
+
+pub read_more : (old new : StateValue) (behind : List Node) (es : List Entry) → new.terms.nodes ≡ old.terms.nodes ++ behind → new.symbols.theories ≡ old.symbols.theories → AllByRecursion (IsOfTheories old) es → AllByRecursion (IsOfTheories new) es
+read_more old new behind [] terms same h = tt
+read_more old new behind (e ∷ es) terms same h = (read_longer old new behind e terms same h.0, read_more old new behind es terms same h.1)
+
 -- steps for a script are for one with more assertions and more terms
-pub more_steps : (old new : StateValue) (behind : List Node) (es : List Entry) → new.terms.nodes ≡ old.terms.nodes ++ behind → ((d : ℕ) (g : Signature) → slice_get old.symbols.signatures d ≡ Some g → slice_get new.symbols.signatures d ≡ Some g) → ((a t : ℕ) → slice_get old.scopes.terms a ≡ Some t → slice_get new.scopes.terms a ≡ Some t) → AreStepsFor old es → AreStepsFor new es
-more_steps old new behind [] terms known more h = tt
-more_steps old new behind (e ∷ es) terms known more h = (
-  (more_for old new known more e h.0.0, subst (λ ns. IsOfWords ns e) (sym terms) (words_longer old.terms.nodes behind e h.0.1), h.0.2),
-  more_steps old new behind es terms known more h.1,
+pub more_steps : (old new : StateValue) (behind : List Node) (es : List Entry) → new.terms.nodes ≡ old.terms.nodes ++ behind → new.symbols.theories ≡ old.symbols.theories → ((d : ℕ) (g : Signature) → slice_get old.symbols.signatures d ≡ Some g → slice_get new.symbols.signatures d ≡ Some g) → ((a t : ℕ) → slice_get old.scopes.terms a ≡ Some t → slice_get new.scopes.terms a ≡ Some t) → AreStepsFor old es → AreStepsFor new es
+more_steps old new behind [] terms same known more h = tt
+more_steps old new behind (e ∷ es) terms same known more h = (
+  (more_for old new known more e h.0.0, read_longer old new behind e terms same h.0.1, h.0.2),
+  more_steps old new behind es terms same known more h.1,
 )
 
 goes_on : (old new : StateValue) (a : Answer) (es : Reading) → IsState old → ◌≡◌ {A = Step} (step old es) (a, new) → GoesOn old new
@@ -39,9 +48,10 @@ goes_on old new a es is e = subst (λ (to : Step). GoesOn old to.1) e (step_goes
 pub still_session : (old new : StateValue) (log : LogValue) (a : Answer) (es : Reading) → IsSession old log → ◌≡◌ {A = Step} (step old es) (a, new) → IsSession new log
 still_session old new log a es h e =
     let g = goes_on old new a es h.state e in
+    let same : new.symbols.theories ≡ old.symbols.theories = subst (λ (to : Step). to.1.symbols.theories ≡ old.symbols.theories) e (theories_stay old es) in
     record {
       state = g.state;
-      theories = subst (λ (to : Step). to.1.symbols.theories ≡ false) e (theories_stay old es ∙ h.theories);
+      theories = same ∙ h.theories;
       stands = subst (λ ns. Stands ns log) (sym g.keeps.nodes) (stands_longer old.terms.nodes g.keeps.behind log h.stands);
-      each = more_steps old new g.keeps.behind log.entries g.keeps.nodes g.keeps.signatures g.keeps.assertions h.each;
+      each = more_steps old new g.keeps.behind log.entries g.keeps.nodes same g.keeps.signatures g.keeps.assertions h.each;
     }

@@ -1,5 +1,5 @@
 -- The steps of a check lead from state to state.
-use Rattle.std.proofs.Common.{◌≡◌, ℕ, List, [], ◌∷◌, ◌++◌, Some, refl, sym, ap, ◌∙◌, subst, append_assoc, append-nil}
+use Rattle.std.proofs.Common.{◌≡◌, ℕ, List, [], ◌∷◌, ◌++◌, Some, refl, sym, ap, ◌∙◌, subst, inl, inr, ⊎_elim, append_assoc, append-nil}
 use Rattle.std.specs.Prelude.{Option, slice_get, IsSome}
 use Rattle.std.specs.List.{AllByRecursion}
 use Rattle.std.proofs.lemmas.List.Elements.{Contains-append_left}
@@ -7,6 +7,7 @@ use Rattle.cnf_base.proofs.Lists.{each_append}
 use Rattle.smt_terms.specs.declared.node.Op.{Op}
 use Rattle.smt_terms.specs.declared.node.Op.TheVariants as op
 use Rattle.smt_terms.specs.declared.node.Node.{Node}
+use Rattle.smt_terms.specs.Nodes.{node_at}
 use Rattle.smt_build.specs.Names.{SymbolsValue}
 use Rattle.scope_selectors.specs.Scopes.{ScopesValue}
 use Rattle.script_state.specs.declared.answer.Asked.{Asked}
@@ -16,16 +17,16 @@ use Rattle.proof_log.specs.declared.entry.Entry.TheVariants as step
 use Rattle.proof_log.specs.Logs.{state_of}
 use Rattle.proof_log.specs.Faults.{IsGiven, IsValid}
 use Rattle.proof_log.specs.Stored.{LogValue, Stands}
-use Rattle.proof_log.specs.Words.{IsOfWords}
-use Rattle.proof_log.proofs.Leaves.{words_longer}
 use Rattle.proof_text.specs.Entries.{entry_line}
 use Rattle.accepted_proof.specs.Turns.{IsOfScript, AreStepsOf, with_step, with_steps}
 use Rattle.accepted_proof.proofs.Following.{same_assumed, same_scopes, same_symbols}
 use Rattle.accepted_proof.proofs.Good.{states_keep, step_grows}
-use Rattle.smt_session.specs.Growing.{AreStepsFor, Grows, IsStepFor, LeadsTo}
+use Rattle.smt_session.specs.Growing.{AreStepsFor, Grows, IsOfTheories, IsStepFor, LeadsTo}
 use Rattle.smt_session.specs.Planning.{Prepares}
 use Rattle.smt_session.specs.Sessions.{IsSession}
-use Rattle.smt_session.proofs.Going.{more_steps}
+use Rattle.smt_session.specs.Thorough.{IsUsed, IsWatching}
+use Rattle.smt_session.proofs.Going.{more_steps, read_more}
+use Rattle.smt_session.proofs.Reasons.{simplified_append, simplified_bare}
 use Rattle.smt_session.proofs.Turning.{are_steps, same_after}
 
 -- ---- lists of steps
@@ -56,6 +57,15 @@ scripted s symbols scopes log (x ∷ es) h e f t g k = (one x h.1, scripted (wit
     one (step.Selector a u) i = subst (λ (v : ScopesValue). slice_get v.terms a ≡ Some u) (f ∙ sym k) i
     one x i = tt
 
+limit_one : (s : StateValue) (e : Entry) → (with_step s e).terms.limit ≡ s.terms.limit
+limit_one s (step.Node n) = refl
+limit_one s e = refl
+
+-- there may be as many terms as before
+pub limit_led : (s : StateValue) (es : List Entry) → (with_steps s es).terms.limit ≡ s.terms.limit
+limit_led s [] = refl
+limit_led s (e ∷ es) = limit_led (with_step s e) es ∙ limit_one s e
+
 -- ---- one state leads to another
 
 pub behind_of : (s s' : StateValue) (old new : LogValue) → LeadsTo s old s' new → (behind : List Node) × (s'.terms.nodes ≡ s.terms.nodes ++ behind)
@@ -66,9 +76,9 @@ behind_of s s' old new l =
 abbrev pub leads_none : (s : StateValue) (l : LogValue) → Stands s.terms.nodes l → LeadsTo s l s l
 leads_none s l h = record { added = []; entries = sym (append-nil l.entries); steps = tt; state = refl; words = tt; stands = h }
 
-pub words_more : (nodes more : List Node) (es : List Entry) → AllByRecursion (IsOfWords nodes) es → AllByRecursion (IsOfWords (nodes ++ more)) es
-words_more nodes more [] h = tt
-words_more nodes more (e ∷ es) h = (words_longer nodes more e h.0, words_more nodes more es h.1)
+-- whether functions and arrays are read stays
+pub theories_led : (s s' : StateValue) (old new : LogValue) → LeadsTo s old s' new → s'.symbols.theories ≡ s.symbols.theories
+theories_led s s' old new l = ap (λ (x : StateValue). x.symbols.theories) l.state ∙ ap (λ (v : SymbolsValue). v.theories) (same_symbols s l.added)
 
 abbrev pub leads_more : (s t u : StateValue) (a b c : LogValue) → LeadsTo s a t b → LeadsTo t b u c → LeadsTo s a u c
 leads_more s t u a b c g h =
@@ -78,7 +88,7 @@ leads_more s t u a b c g h =
       entries = h.entries ∙ ap (λ x. x ++ h.added) g.entries ∙ append_assoc a.entries g.added h.added;
       steps = steps_append s a.entries g.added h.added g.steps (subst (λ l. AreStepsOf (with_steps s g.added) l h.added) g.entries (subst (λ x. AreStepsOf x b.entries h.added) g.state h.steps));
       state = h.state ∙ ap (λ x. with_steps x h.added) g.state ∙ sym (with_append s g.added h.added);
-      words = each_append (IsOfWords u.terms.nodes) g.added h.added (subst (λ ns. AllByRecursion (IsOfWords ns) g.added) (sym more.1) (words_more t.terms.nodes more.0 g.added g.words)) h.words;
+      words = each_append (IsOfTheories u) g.added h.added (read_more t u more.0 g.added more.1 (theories_led t u b c h) g.words) h.words;
       stands = h.stands;
     }
 
@@ -93,7 +103,7 @@ grows_leads s old new g = record {
   stands = g.stands;
 }
   where
-    words_in : (es : List Entry) → AreStepsFor s es → AllByRecursion (IsOfWords s.terms.nodes) es
+    words_in : (es : List Entry) → AreStepsFor s es → AllByRecursion (IsOfTheories s) es
     words_in [] h = tt
     words_in (e ∷ es) h = (h.0.1, words_in es h.1)
 
@@ -109,7 +119,12 @@ roots_led s s' old new l = ap roots l.state ∙ (λ i. roots (state_with s (same
 abbrev pub prepares_more : (s t : StateValue) (old mid new : LogValue) → Prepares s old t mid → Grows t mid new → Prepares s old t new
 prepares_more s t old mid new p g = record {
   leads = leads_more s t t old mid new p.leads (grows_leads t mid new g);
-  used = λ k le lt. (let u = p.used k le lt in record { by = u.by; among = Contains-append_left p.leads.added g.added (step.Rewrite u.by) u.among; is = u.is });
+  wanted = λ k le lt.
+      ⊎_elim
+      (λ (w : IsWatching s.terms.nodes (roots s) (node_at t.terms.nodes k)). inl w)
+      (λ (u : IsUsed t.terms.nodes p.leads.added k). inr (record { by = u.by; among = Contains-append_left p.leads.added g.added (step.Rewrite u.by) u.among; is = u.is }))
+      (p.wanted k le lt);
+  simple = simplified_append t.terms old.entries p.leads.added g.added p.simple (simplified_bare t.terms (old.entries ++ p.leads.added) g.added g.bare);
 }
 
 -- ---- one step
@@ -123,7 +138,7 @@ pub step_lined : (s : StateValue) (log : List Entry) (e : Entry) → IsValid s.t
 step_lined s log (step.Node n) i = node_lined n.op n.args i.operator
 step_lined s log e i = refl
 
-abbrev pub leads_one : (s s' : StateValue) (old new : LogValue) (e : Entry) → IsValid s.terms (state_of s.terms.nodes old.entries) e → IsOfScript s e → IsOfWords s'.terms.nodes e → s' ≡ with_step s e → new.entries ≡ old.entries ++ e ∷ [] → Stands s'.terms.nodes new → LeadsTo s old s' new
+abbrev pub leads_one : (s s' : StateValue) (old new : LogValue) (e : Entry) → IsValid s.terms (state_of s.terms.nodes old.entries) e → IsOfScript s e → IsOfTheories s' e → s' ≡ with_step s e → new.entries ≡ old.entries ++ e ∷ [] → Stands s'.terms.nodes new → LeadsTo s old s' new
 leads_one s s' old new e valid of words state entries stands = record {
   added = e ∷ [];
   entries = entries;
@@ -135,7 +150,7 @@ leads_one s s' old new e valid of words state entries stands = record {
 
 -- ---- sessions
 
-for_script : (s t : StateValue) (log es : List Entry) → AllByRecursion (IsOfScript s) es → AllByRecursion (IsOfWords s.terms.nodes) es → AreStepsOf t log es → AreStepsFor s es
+for_script : (s t : StateValue) (log es : List Entry) → AllByRecursion (IsOfScript s) es → AllByRecursion (IsOfTheories s) es → AreStepsOf t log es → AreStepsFor s es
 for_script s t log [] h k l = tt
 for_script s t log (e ∷ es) h k l = ((h.0, k.0, l.2), for_script s (with_step t e) (log ++ e ∷ []) es h.1 k.1 l.3)
 
@@ -146,13 +161,13 @@ led_steps s s' old new each l =
     let scopes : s'.scopes ≡ s.scopes = ap (λ (x : StateValue). x.scopes) l.state ∙ same_scopes s l.added in
     subst (AreStepsFor s') (sym l.entries)
     (each_append (IsStepFor s') old.entries l.added
-    (more_steps s s' more.0 old.entries more.1 (λ d r e. subst (λ (v : SymbolsValue). slice_get v.signatures d ≡ Some r) (sym symbols) e) (λ a t e. subst (λ (v : ScopesValue). slice_get v.terms a ≡ Some t) (sym scopes) e) each)
+    (more_steps s s' more.0 old.entries more.1 (theories_led s s' old new l) (λ d r e. subst (λ (v : SymbolsValue). slice_get v.signatures d ≡ Some r) (sym symbols) e) (λ a t e. subst (λ (v : ScopesValue). slice_get v.terms a ≡ Some t) (sym scopes) e) each)
     (for_script s' s old.entries l.added (scripted s s.symbols s.scopes old.entries l.added l.steps refl refl s' symbols scopes) l.words l.steps))
 
 pub session_led : (s s' : StateValue) (old new : LogValue) → IsSession s old → LeadsTo s old s' new → IsSession s' new
 session_led s s' old new h l = record {
   state = subst IsState (sym l.state) (states_keep.steps s old.entries l.added h.state l.steps);
-  theories = ap (λ (x : StateValue). x.symbols.theories) l.state ∙ ap (λ (v : SymbolsValue). v.theories) (same_symbols s l.added) ∙ h.theories;
+  theories = theories_led s s' old new l ∙ h.theories;
   stands = l.stands;
   each = led_steps s s' old new h.each l;
 }

@@ -1,72 +1,48 @@
 -- A log that takes the steps of a plan.
-use Rattle.std.proofs.Common.{◌≡◌, ℕ, zero, suc, ◌+◌, ◌<◌, ◌≤◌, Bool, true, false, List, [], ◌∷◌, ◌++◌, length, length-append, get_or, take, Option, Some, None, Ok, refl, sym, ap, ◌∙◌, subst, append_assoc, append-nil, arith}
-use Rattle.std.specs.Prelude.{◌⊎◌, is_some, All, Contains, IsSome}
+use Rattle.std.proofs.Common.{◌≡◌, ℕ, zero, suc, ◌+◌, ◌<◌, ◌≤◌, Bool, true, false, List, [], ◌∷◌, ◌++◌, length, length-append, get_or, take, Option, Some, None, Ok, refl, sym, ap, ◌∙◌, subst, append_assoc, arith}
+use Rattle.std.specs.Prelude.{◌⊎◌, is_some, All, Contains, IsSome, drop, slice_get}
 use Rattle.std.specs.List.{AllByRecursion}
 use Rattle.std.proofs.lemmas.Bool.{eqb-true}
-use Rattle.std.proofs.lemmas.List.{take_all, take_more}
+use Rattle.std.proofs.lemmas.List.{take_all, take_more, take-append-drop}
+use Rattle.std.proofs.lemmas.Option.{slice_get-get_or}
 use Rattle.std.proofs.lemmas.List.Elements.{All-contains, All-from_recursion, Contains-append_left, Contains-append_right}
-use Rattle.cnf_base.specs.Assignments.{fresh_bits}
 use Rattle.cnf_base.proofs.Lists.{each_append}
 use Rattle.cnf_base.proofs.Options.{some_value, IsSome-from}
 use Rattle.smt_terms.specs.declared.node.Op.{Op}
 use Rattle.smt_terms.specs.declared.node.Node.{Node}
-use Rattle.smt_terms.specs.Bits.{TermBits, bits_in}
+use Rattle.smt_terms.specs.Bits.{TermBits, bits_in, image_in}
 use Rattle.smt_terms.specs.Nodes.{node_at}
-use Rattle.smt_terms.specs.Terms.{TermsValue, declaration_of, Agrees}
+use Rattle.smt_terms.specs.Ranks.{is_plain}
+use Rattle.smt_terms.specs.Terms.{TermsValue, declaration_of, sort_of, Agrees}
+use Rattle.smt_terms.proofs.Growing.{sort_longer}
 use Rattle.smt_build.proofs.Growth.{names_none}
 use Rattle.script_state.specs.States.{StateValue, RestValue, with_terms, Fit}
 use Rattle.script_state.proofs.Keeping.{fit_more}
+use Rattle.bv_rules.proofs.Keeping.{matched}
 use Rattle.bv_rules.proofs.Known.{or_cases}
 use Rattle.bv_rewrite.specs.declared.simplifying.Use.{Use}
 use Rattle.bv_rewrite.specs.Simplifying.{IsNeeded}
 use Rattle.reached_images.specs.declared.plan.Planned.{Planned}
-use Rattle.reached_images.specs.Plans.{is_for, planned_in, uses_of, AreNext, IsKnown}
+use Rattle.reached_images.specs.Plans.{is_for, planned_in, uses_of, AreNext, IsKnown, IsPlan}
+use Rattle.reached_images.specs.Settled.{AreOwn, KeepsItself}
+use Rattle.proof_log.specs.declared.entry.RuleUse.{RuleUse}
 use Rattle.proof_log.specs.declared.entry.Entry.{Entry}
 use Rattle.proof_log.specs.declared.entry.Entry.TheVariants as step
 use Rattle.proof_log.specs.Faults.{IsValid, terms_after, Answers}
-use Rattle.proof_log.specs.Logs.{LogState, start, after, leaf_after, block_after, rewrite_after, state_of, IsLog, IsStep}
+use Rattle.proof_log.specs.Logs.{LogState, start, state_of, IsLog, IsStep}
 use Rattle.proof_log.specs.Places.{IsForTerm}
 use Rattle.proof_log.specs.Stored.{LogValue, Stands}
-use Rattle.proof_log.proofs.Standing.{stands_longer, stands_over, value_here}
+use Rattle.proof_log.proofs.Standing.{stands_longer, stands_over}
 use Rattle.proof_log.proofs.Staying.{log_stays, state_from-append}
 use Rattle.accepted_proof.specs.Turns.{IsOfScript, with_step}
 use Rattle.accepted_proof.proofs.Good.{step_grows, step_list}
-use Rattle.smt_session.specs.Growing.{HasBits, LeadsTo}
-use Rattle.smt_session.specs.Planning.{AreTaken, IsForPlanned, IsPlanned, IsTaken, Prepares}
-use Rattle.smt_session.specs.Thorough.{IsUsed}
-use Rattle.smt_session.proofs.Leading.{behind_of, leads_more, leads_none, leads_one}
+use Rattle.smt_session.specs.Growing.{GivesNoBits, HasBits, LeadsTo}
+use Rattle.smt_session.specs.Planning.{grown_by, AddsTerms, AreTaken, AreTakenOver, Encodes, IsForPlanned, IsPlanned, IsTaken}
+use Rattle.smt_session.specs.Thorough.{AreSimplified, IsSeenAs, IsUsed}
+use Rattle.smt_session.proofs.Leading.{behind_of, leads_more, leads_none, leads_one, limit_led}
+use Rattle.smt_session.proofs.Reasons.{keeps_planned, leaves_bits, plan_take, reason_at, seen_array, seen_same, seen_step, simplified_append, simplified_bare}
 
 -- ---- bits
-
--- what a step that gives bits leaves
-step_leaves : (nodes : List Node) (s : LogState) (t : ℕ) (e : Entry) → IsStep nodes s e → IsForTerm t e → IsSome ((after nodes s e).bits t)
-step_leaves nodes s t (step.Leaf x) i h =
-    let own : x ≡ t = cc in
-    IsSome-from ((after nodes s (step.Leaf x)).bits t) (fresh_bits s.next i.width)
-    (ap (λ o. (leaf_after s x o).bits t) i.constant ∙ subst (λ y. (leaf_after s x (Some i.width)).bits y ≡ Some (fresh_bits s.next i.width)) own (value_here s.bits x (fresh_bits s.next i.width)))
-step_leaves nodes s t (step.Encode x) i h =
-    let own : x ≡ t = cc in
-    IsSome-from ((after nodes s (step.Encode x)).bits t) i.block.bits
-    (ap (λ o. (block_after s x o).bits t) i.circuit ∙ subst (λ y. (block_after s x (Some i.block)).bits y ≡ Some i.block.bits) own (value_here s.bits x i.block.bits))
-step_leaves nodes s t (step.Rewrite r) i h =
-    let own : r.from ≡ t = cc in
-    let b = some_value (s.bits r.to) i.held in
-    IsSome-from ((after nodes s (step.Rewrite r)).bits t) b.0
-    (ap (λ o. (rewrite_after s r o).bits t) b.1 ∙ subst (λ y. (rewrite_after s r (Some b.0)).bits y ≡ Some b.0) own (value_here s.bits r.from b.0))
-step_leaves nodes s t (step.Node n) i h = let f : ⊥ = cc in absurd f
-step_leaves nodes s t (step.Selector a x) i h = let f : ⊥ = cc in absurd f
-step_leaves nodes s t (step.Chain c hints) i h = let f : ⊥ = cc in absurd f
-step_leaves nodes s t (step.Equal x y) i h = let f : ⊥ = cc in absurd f
-step_leaves nodes s t (step.Lemma l) i h = let f : ⊥ = cc in absurd f
-
-leaves_bits : (nodes : List Node) (old new : LogValue) (t : ℕ) (e : Entry) → Stands nodes new → new.entries ≡ old.entries ++ e ∷ [] → IsStep nodes (state_of nodes old.entries) e → IsForTerm t e → HasBits new t
-leaves_bits nodes old new t e stands entries i h =
-    let b = some_value ((after nodes (state_of nodes old.entries) e).bits t) (step_leaves nodes (state_of nodes old.entries) t e i h) in
-    IsSome-from (bits_in new.bits t) b.0
-    ((stands_over nodes new stands).bits t
-    ∙ ap (λ es. (state_of nodes es).bits t) entries
-    ∙ ap (λ s. s.bits t) (state_from-append nodes start old.entries (e ∷ []))
-    ∙ b.1)
 
 -- a term keeps its bits
 pub led_bits : (s s' : StateValue) (old new : LogValue) (t : ℕ) → Stands s.terms.nodes old → LeadsTo s old s' new → HasBits old t → HasBits new t
@@ -83,49 +59,75 @@ led_bits s s' old new t stands l has =
 
 -- ---- taking
 
-abbrev pub taken_none : (s : StateValue) (l : LogValue) → Stands s.terms.nodes l → AreTaken s l s l []
-taken_none s l h = record { leads = leads_none s l h; each = tt }
+-- steps that were taken before others
+taken_earlier : (over : List Node) (t u : StateValue) (b c : LogValue) (added : List Entry) (l : LeadsTo t b u c) → Stands t.terms.nodes b → (ps : List Planned) → AllByRecursion (IsTaken over b added) ps → AllByRecursion (IsTaken over c (added ++ l.added)) ps
+taken_earlier over t u b c added l h [] k = tt
+taken_earlier over t u b c added l h (x ∷ ps) k = (
+  record {
+    bits = λ plain. led_bits t u b c x.term h l (k.0.bits plain);
+    used = λ y e. (let w = k.0.used y e in (w.0, Contains-append_left added l.added (step.Rewrite w.0) w.1, w.2));
+  },
+  taken_earlier over t u b c added l h ps k.1,
+)
 
-module _ (s t u : StateValue) (a b c : LogValue) (p q : List Planned) where
-  pub taken_more : AreTaken s a t b p → AreTaken t b u c q → AreTaken s a u c (p ++ q)
-  taken_more g h = record {
-    leads = leads_more s t u a b c g.leads h.leads;
-    each = each_append (IsTaken c (g.leads.added ++ h.leads.added)) p q (earlier p g.each) (later q h.each);
-  }
-    where
-      earlier : (ps : List Planned) → AllByRecursion (IsTaken b g.leads.added) ps → AllByRecursion (IsTaken c (g.leads.added ++ h.leads.added)) ps
-      earlier [] k = tt
-      earlier (x ∷ ps) k = (
-        record {
-          bits = led_bits t u b c x.term g.leads.stands h.leads k.0.bits;
-          used = λ y e. (let w = k.0.used y e in (w.0, Contains-append_left g.leads.added h.leads.added (step.Rewrite w.0) w.1, w.2));
-        },
-        earlier ps k.1,
-      )
+taken_later : (over : List Node) (c : LogValue) (added more : List Entry) (ps : List Planned) → AllByRecursion (IsTaken over c more) ps → AllByRecursion (IsTaken over c (added ++ more)) ps
+taken_later over c added more [] k = tt
+taken_later over c added more (x ∷ ps) k = (
+  record {
+    bits = k.0.bits;
+    used = λ y e. (let w = k.0.used y e in (w.0, Contains-append_right added more (step.Rewrite w.0) w.1, w.2));
+  },
+  taken_later over c added more ps k.1,
+)
 
-      later : (ps : List Planned) → AllByRecursion (IsTaken c h.leads.added) ps → AllByRecursion (IsTaken c (g.leads.added ++ h.leads.added)) ps
-      later [] k = tt
-      later (x ∷ ps) k = (
-        record {
-          bits = k.0.bits;
-          used = λ y e. (let w = k.0.used y e in (w.0, Contains-append_right g.leads.added h.leads.added (step.Rewrite w.0) w.1, w.2));
-        },
-        later ps k.1,
-      )
+abbrev taken_more : (over : List Node) (s t u : StateValue) (a b c : LogValue) (p q : List Planned) → AreTaken over s a t b p → AreTaken over t b u c q → AreTaken over s a u c (p ++ q)
+taken_more over s t u a b c p q g h = record {
+  leads = leads_more s t u a b c g.leads h.leads;
+  each = each_append (IsTaken over c (g.leads.added ++ h.leads.added)) p q (taken_earlier over t u b c g.leads.added h.leads g.leads.stands p g.each) (taken_later over c g.leads.added h.leads.added q h.each);
+}
 
 -- terms more behind these steps
-pub taken_on : (s t u : StateValue) (a b c : LogValue) (p : List Planned) → AreTaken s a t b p → LeadsTo t b u c → AreTaken s a u c p
-taken_on s t u a b c p g h = subst (AreTaken s a u c) (append-nil p) (taken_more s t u a b c p [] g (record { leads = h; each = tt }))
+abbrev taken_on : (over : List Node) (s t u : StateValue) (a b c : LogValue) (p : List Planned) → AreTaken over s a t b p → LeadsTo t b u c → AreTaken over s a u c p
+taken_on over s t u a b c p g h = record { leads = leads_more s t u a b c g.leads h; each = taken_earlier over t u b c g.leads.added h g.leads.stands p g.each }
 
--- one of these steps more
-pub taken_next : (s t u v : StateValue) (a b c e : LogValue) (steps : List Planned) (k : ℕ) (d p : Planned) → AreTaken s a t b (take k steps) → LeadsTo t b u c → AreTaken u c v e (p ∷ []) → k < length steps → p ≡ get_or steps k d → AreTaken s a v e (take (k + 1) steps)
-taken_next s t u v a b c e steps k d p g l h lt own =
-    subst (AreTaken s a v e) (ap (λ x. take k steps ++ x ∷ []) own ∙ sym (take_more steps k d lt))
-    (taken_more s u v a c e (take k steps) (p ∷ []) (taken_on s t u a b c (take k steps) g l) h)
+module _ (v : TermsValue) (bits : List TermBits) where
+  pub over_none : (s : StateValue) (l : LogValue) → Stands s.terms.nodes l → IsSeenAs v.nodes bits [] (bits_in l.bits) (image_in l.bits) → AreTakenOver v bits [] s l s l []
+  over_none s l h seen = record { taken = record { leads = leads_none s l h; each = tt }; simple = tt; seen = seen }
 
--- all of these steps
-pub taken_all : (s t : StateValue) (a b : LogValue) (steps : List Planned) (k : ℕ) → length steps ≤ k → AreTaken s a t b (take k steps) → AreTaken s a t b steps
-taken_all s t a b steps k le h = subst (AreTaken s a t b) (take_all k steps le) h
+  over_more : (s t u : StateValue) (a b c : LogValue) (x p q : List Planned) → AreTakenOver v bits x s a t b p → AreTakenOver v bits (x ++ p) t b u c q → AreTakenOver v bits x s a u c (p ++ q)
+  over_more s t u a b c x p q g h = record {
+    taken = taken_more v.nodes s t u a b c p q g.taken h.taken;
+    simple = simplified_append v a.entries g.taken.leads.added h.taken.leads.added g.simple (subst (λ l. AreSimplified v l h.taken.leads.added) g.taken.leads.entries h.simple);
+    seen = subst (λ l. IsSeenAs v.nodes bits l (bits_in c.bits) (image_in c.bits)) (append_assoc x p q) h.seen;
+  }
+
+  pub over_adds : (s t u : StateValue) (a b c : LogValue) (x p : List Planned) → AreTakenOver v bits x s a t b p → AddsTerms t b u c → AreTakenOver v bits x s a u c p
+  over_adds s t u a b c x p g d = record {
+    taken = taken_on v.nodes s t u a b c p g.taken d.leads;
+    simple = simplified_append v a.entries g.taken.leads.added d.leads.added g.simple (simplified_bare v (a.entries ++ g.taken.leads.added) d.leads.added d.bare);
+    seen = seen_same v.nodes bits (x ++ p) b c d.bits d.images g.seen;
+  }
+
+  -- one of these steps more
+  pub over_next : (s t u : StateValue) (a b c e : LogValue) (steps : List Planned) (k : ℕ) (d p : Planned) (rest : List Node) → AreTakenOver v bits [] s a t b (take k steps) → AddsTerms t b u c → v.nodes ≡ u.terms.nodes ++ rest → IsPlan v.nodes bits steps → AreOwn v bits steps → k < length steps → p ≡ get_or steps k d
+      → ((w : TermsValue) (held : List TermBits) (before : List Planned) (rest : List Node) → w.nodes ≡ u.terms.nodes ++ rest → IsPlan w.nodes held before → IsSeenAs w.nodes held before (bits_in c.bits) (image_in c.bits) → (p.used ≡ None → KeepsItself w held before p.term) → AreTakenOver w held before u c u e (p ∷ []))
+      → AreTakenOver v bits [] s a u e (take (k + 1) steps)
+  over_next s t u a b c e steps k d p rest g l nodes plan own lt is one =
+      let mid = over_adds s t u a b c [] (take k steps) g l in
+      let at : slice_get steps k ≡ Some p = slice_get-get_or steps k d lt ∙ ap Some (sym is) in
+      subst (AreTakenOver v bits [] s a u e) (ap (λ x. take k steps ++ x ∷ []) is ∙ sym (take_more steps k d lt))
+      (over_more s u u a c e [] (take k steps) (p ∷ []) mid (one v bits (take k steps) rest nodes (plan_take v.nodes bits k steps plan) mid.seen (own k p at)))
+
+  -- all of these steps
+  pub over_all : (s t : StateValue) (a b : LogValue) (steps : List Planned) (k : ℕ) → length steps ≤ k → AreTakenOver v bits [] s a t b (take k steps) → AreTakenOver v bits [] s a t b steps
+  over_all s t a b steps k le h = subst (AreTakenOver v bits [] s a t b) (take_all k steps le) h
+
+-- so many of the terms of a plan are made
+pub made_parts : (base made now : List Node) (k : ℕ) → now ≡ base ++ take k made → base ++ made ≡ now ++ drop k made
+made_parts base made now k e =
+    ap (λ l. base ++ l) (sym (take-append-drop k made))
+    ∙ sym (append_assoc base (take k made) (drop k made))
+    ∙ ap (λ l. l ++ drop k made) (sym e)
 
 -- ---- a term more
 
@@ -138,11 +140,36 @@ node_fits t w r old new n p fit none h =
     subst (λ x. Fit x r) (sym h.1)
     (fit_more t (terms_after t (step.Node n)) r (step_grows (with_terms r t) old.entries (step.Node n) h.0 of) (step_list (with_terms r t) old.entries (step.Node n) fit.state h.0) fit)
 
-pub node_taken : (s s' : StateValue) (t w : TermsValue) (r : RestValue) (old new : LogValue) (n : Node) (p : ℕ) → s ≡ with_terms r t → s' ≡ with_terms r w → declaration_of n.op ≡ None → Answers t w (step.Node n) old new (Ok p) → LeadsTo s old s' new
-node_taken s s' t w r old new n p before behind none h =
-    subst (λ x. LeadsTo x old s' new) (sym before)
-    (subst (λ x. LeadsTo (with_terms r t) old x new) (sym behind)
-    (leads_one (with_terms r t) (with_terms r w) old new (step.Node n) h.0 (names_none r.symbols.signatures n.op none) tt (ap (with_terms r) h.1) h.2.entries h.2.stands))
+same_bits : (nodes : List Node) (old new : LogValue) (n : Node) → Stands nodes old → Stands nodes new → new.entries ≡ old.entries ++ step.Node n ∷ [] → (t : ℕ) → (bits_in new.bits t ≡ bits_in old.bits t) × (image_in new.bits t ≡ image_in old.bits t)
+same_bits nodes old new n a b entries t =
+    let there = ap (state_of nodes) entries ∙ state_from-append nodes start old.entries (step.Node n ∷ []) in
+    let k = stands_over nodes old a in
+    let l = stands_over nodes new b in
+    (l.bits t ∙ ap (λ r. r.bits t) there ∙ sym (k.bits t), l.images t ∙ ap (λ r. r.images t) there ∙ sym (k.images t))
+
+pub node_adds : (s s' : StateValue) (t w : TermsValue) (r : RestValue) (old new : LogValue) (n : Node) (p : ℕ) → s ≡ with_terms r t → s' ≡ with_terms r w → declaration_of n.op ≡ None → Stands t.nodes old → Answers t w (step.Node n) old new (Ok p) → AddsTerms s old s' new
+node_adds s s' t w r old new n p before behind none stands h =
+    let more : w.nodes ≡ t.nodes ++ n ∷ [] = ap (λ (x : TermsValue). x.nodes) h.1 in
+    let same = same_bits w.nodes old new n (subst (λ ns. Stands ns old) (sym more) (stands_longer t.nodes (n ∷ []) old stands)) h.2.stands h.2.entries in
+    subst (λ x. AddsTerms x old s' new) (sym before)
+    (subst (λ x. AddsTerms (with_terms r t) old x new) (sym behind)
+    (record {
+      leads = leads_one (with_terms r t) (with_terms r w) old new (step.Node n) h.0 (names_none r.symbols.signatures n.op none) (λ off. tt) (ap (with_terms r) h.1) h.2.entries h.2.stands;
+      bare = ((λ x e. let f : ⊥ = cc in f), tt);
+      bits = λ x. (same x).0;
+      images = λ x. (same x).1;
+    }))
+
+pub adds_none : (s : StateValue) (l : LogValue) → Stands s.terms.nodes l → AddsTerms s l s l
+adds_none s l h = record { leads = leads_none s l h; bare = tt; bits = λ t. refl; images = λ t. refl }
+
+pub adds_more : (s t u : StateValue) (a b c : LogValue) → AddsTerms s a t b → AddsTerms t b u c → AddsTerms s a u c
+adds_more s t u a b c g h = record {
+  leads = leads_more s t u a b c g.leads h.leads;
+  bare = each_append GivesNoBits g.leads.added h.leads.added g.bare h.bare;
+  bits = λ x. h.bits x ∙ g.bits x;
+  images = λ x. h.images x ∙ g.images x;
+}
 
 pub node_made : (s s' : StateValue) (t w : TermsValue) (r : RestValue) (old new : LogValue) (n : Node) (p : ℕ) → s ≡ with_terms r t → s' ≡ with_terms r w → Answers t w (step.Node n) old new (Ok p) → s'.terms.nodes ≡ s.terms.nodes ++ n ∷ []
 node_made s s' t w r old new n p before behind h =
@@ -168,20 +195,73 @@ bits_state : (s : StateValue) (t : ℕ) (e : Entry) → IsForTerm t e → s ≡ 
 bits_state s t (step.Node n) h = let f : ⊥ = cc in absurd f
 bits_state s t e h = refl
 
-pub step_taken : (s : StateValue) (v : TermsValue) (old new : LogValue) (p : Planned) (e : Entry) (at : ℕ) → v ≡ s.terms → IsForPlanned v.nodes p e → Answers v v e old new (Ok at) → AreTaken s old s new (p ∷ [])
-step_taken s v old new p e at same for h =
-    let i : IsForPlanned s.terms.nodes p e = subst (λ (x : TermsValue). IsForPlanned x.nodes p e) same for in
+abbrev step_taken : (s : StateValue) (v : TermsValue) (old new : LogValue) (p : Planned) (e : Entry) (at : ℕ) → v ≡ s.terms → IsForPlanned s.symbols.theories v.nodes p e → Answers v v e old new (Ok at) → (over : List Node) → AreTaken over s old s new (p ∷ [])
+step_taken s v old new p e at same for h over =
+    let i : IsForPlanned s.symbols.theories s.terms.nodes p e = subst (λ (x : TermsValue). IsForPlanned s.symbols.theories x.nodes p e) same for in
     let valid : IsValid s.terms (state_of s.terms.nodes old.entries) e = subst (λ (x : TermsValue). IsValid x (state_of x.nodes old.entries) e) same h.0 in
     let stands : Stands s.terms.nodes new = subst (λ (x : TermsValue). Stands x.nodes new) same h.2.stands in
     record {
       leads = leads_one s s old new e valid (bits_script s p.term e i.term) i.words (bits_state s p.term e i.term) h.2.entries stands;
       each = (
         record {
-          bits = leaves_bits s.terms.nodes old new p.term e stands h.2.entries (bits_step s.terms (state_of s.terms.nodes old.entries) p.term e i.term valid) i.term;
+          bits = λ plain. leaves_bits s.terms.nodes old new p.term e stands h.2.entries (bits_step s.terms (state_of s.terms.nodes old.entries) p.term e i.term valid) i.term;
           used = λ u is. (let w = i.used u is in (w.0, (0, omega arith, w.1), w.2));
         },
         tt,
       );
+    }
+
+-- a term that gets bits is a Bool or a word, where one that gets bits of its own is
+plain_planned : (theories : Bool) (nodes : List Node) (s : LogState) (p : Planned) (e : Entry) → IsForPlanned theories nodes p e → IsStep nodes s e → (p.used ≡ None → is_plain (sort_of nodes p.term) ≡ true) → is_plain (sort_of nodes p.term) ≡ true
+plain_planned theories nodes s p e i valid own = go p.used refl where
+  ruled : (r : RuleUse) → IsForTerm p.term (step.Rewrite r) → IsStep nodes s (step.Rewrite r) → is_plain (sort_of nodes p.term) ≡ true
+  ruled r f is =
+      let same : r.from ≡ p.term = cc in
+      subst (λ t. is_plain (sort_of nodes t) ≡ true) same (matched nodes s.images is.ruled.rule r.from r.to is.ruled.takes).plain
+
+  go : (o : Option Use) → p.used ≡ o → is_plain (sort_of nodes p.term) ≡ true
+  go None q = own q
+  go (Some u) q = let w = i.used u q in ruled w.0 (subst (IsForTerm p.term) w.1 i.term) (subst (IsStep nodes s) w.1 valid)
+
+-- what is a Bool or a word, or no such term, is so among more terms
+pub sorted_over : (nodes over rest : List Node) (t : ℕ) (b : Bool) → over ≡ nodes ++ rest → t < length nodes → is_plain (sort_of nodes t) ≡ b → is_plain (sort_of over t) ≡ b
+sorted_over nodes over rest t b e lt h = ap (λ (ns : List Node). is_plain (sort_of ns t)) e ∙ ap is_plain (sort_longer nodes rest t lt) ∙ h
+
+-- a step for an array is none of the log
+pub array_over : (s : StateValue) (x : TermsValue) (log : LogValue) (p : Planned) → x ≡ s.terms → Stands s.terms.nodes log → p.term < length s.terms.nodes → (p.used ≡ None) × (is_plain (sort_of x.nodes p.term) ≡ false)
+    → (v : TermsValue) (bits : List TermBits) (before : List Planned) (rest : List Node) → v.nodes ≡ s.terms.nodes ++ rest → IsPlan v.nodes bits before → IsSeenAs v.nodes bits before (bits_in log.bits) (image_in log.bits) → (p.used ≡ None → KeepsItself v bits before p.term) → AreTakenOver v bits before s log s log (p ∷ [])
+array_over s x log p same stands held own v bits before rest nodes plan seen keeps =
+    let array : is_plain (sort_of v.nodes p.term) ≡ false = sorted_over s.terms.nodes v.nodes rest p.term false nodes held (subst (λ (y : TermsValue). is_plain (sort_of y.nodes p.term) ≡ false) same own.1) in
+    record {
+      taken = record {
+        leads = leads_none s log stands;
+        each = (
+          record {
+            bits = λ plain. (let q : true ≡ false = sym plain ∙ array in let f : ⊥ = cc in absurd f);
+            used = λ u e. (let q : None ≡ Some u = sym own.0 ∙ e in let f : ⊥ = cc in absurd f);
+          },
+          tt,
+        );
+      };
+      simple = tt;
+      seen = seen_array v.nodes bits before p log own.0 array seen;
+    }
+
+-- behind others of a plan
+pub step_over : (s : StateValue) (x : TermsValue) (old new : LogValue) (p : Planned) (e : Entry) (at : ℕ) → x ≡ s.terms → Stands s.terms.nodes old → p.term < length s.terms.nodes → IsForPlanned s.symbols.theories x.nodes p e → (p.used ≡ None → is_plain (sort_of x.nodes p.term) ≡ true) → Answers x x e old new (Ok at)
+    → (v : TermsValue) (bits : List TermBits) (before : List Planned) (rest : List Node) → v.nodes ≡ s.terms.nodes ++ rest → IsPlan v.nodes bits before → IsSeenAs v.nodes bits before (bits_in old.bits) (image_in old.bits) → (p.used ≡ None → KeepsItself v bits before p.term) → AreTakenOver v bits before s old s new (p ∷ [])
+step_over s x old new p e at same stands held fits sorted h v bits before rest nodes plan seen own =
+    let i : IsForPlanned s.symbols.theories s.terms.nodes p e = subst (λ (y : TermsValue). IsForPlanned s.symbols.theories y.nodes p e) same fits in
+    let valid : IsValid s.terms (state_of s.terms.nodes old.entries) e = subst (λ (y : TermsValue). IsValid y (state_of y.nodes old.entries) e) same h.0 in
+    let behind : Stands s.terms.nodes new = subst (λ (y : TermsValue). Stands y.nodes new) same h.2.stands in
+    let over : Stands v.nodes old = subst (λ ns. Stands ns old) (sym nodes) (stands_longer s.terms.nodes rest old stands) in
+    let is = bits_step s.terms (state_of s.terms.nodes old.entries) p.term e i.term valid in
+    let plain : is_plain (sort_of s.terms.nodes p.term) ≡ true =
+    plain_planned s.symbols.theories s.terms.nodes (state_of s.terms.nodes old.entries) p e i is (subst (λ (y : TermsValue). p.used ≡ None → is_plain (sort_of y.nodes p.term) ≡ true) same sorted) in
+    record {
+      taken = step_taken s x old new p e at same fits h v.nodes;
+      simple = (keeps_planned s.symbols.theories v s.terms.nodes old.entries p e i (λ none. reason_at v old bits before p.term over plan seen (own none)), tt);
+      seen = seen_step s.symbols.theories v.nodes s.terms.nodes old new bits before p e stands behind h.2.entries is i (sorted_over s.terms.nodes v.nodes rest p.term true nodes held plain) seen;
     }
 
 -- ---- plans
@@ -191,10 +271,10 @@ held_from nodes bits before [] h = tt
 held_from nodes bits before (p ∷ ps) h = (h.0.held, held_from nodes bits (before ++ p ∷ []) ps h.1)
 
 -- the terms of a plan's steps are held
-pub plan_held : (nodes made : List Node) (log : LogValue) (roots : List ℕ) (steps : List Planned) → IsPlanned nodes log made roots steps → All (λ (p : Planned). p.term < length nodes + length made) steps
-plan_held nodes made log roots steps h =
-    subst (λ n. All (λ (p : Planned). p.term < n) steps) (length-append nodes made)
-    (All-from_recursion (λ (p : Planned). p.term < length (nodes ++ made)) steps (held_from (nodes ++ made) log.bits [] steps h.plan))
+pub plan_held : (v : TermsValue) (made : List Node) (log : LogValue) (roots : List ℕ) (steps : List Planned) → IsPlanned v log made roots steps → All (λ (p : Planned). p.term < length v.nodes + length made) steps
+plan_held v made log roots steps h =
+    subst (λ n. All (λ (p : Planned). p.term < n) steps) (length-append v.nodes made)
+    (All-from_recursion (λ (p : Planned). p.term < length (v.nodes ++ made)) steps (held_from (v.nodes ++ made) log.bits [] steps h.plan))
 
 -- a use of the plan is that of a step
 use_among : (steps : List Planned) (u : Use) → Contains (uses_of steps) u → (p : Planned) × Contains steps p × (p.used ≡ Some u)
@@ -221,16 +301,25 @@ step_among (p ∷ ps) t h =
     go true e rest k = (p, (0, omega arith, refl), eqb-true p.term t e)
     go false e rest k = rest (rw e at k)
 
-module _ (s s' : StateValue) (old new : LogValue) (made : List Node) (roots : List ℕ) (steps : List Planned) (stands : Stands s.terms.nodes old) (planned : IsPlanned s.terms.nodes old made roots steps) (taken : AreTaken s old s' new steps) (nodes : s'.terms.nodes ≡ s.terms.nodes ++ made) where
-  taken_of : (p : Planned) → Contains steps p → IsTaken new taken.leads.added p
-  taken_of p c = All-contains (IsTaken new taken.leads.added) steps p (All-from_recursion (IsTaken new taken.leads.added) steps taken.each) c
+module _ (s s' : StateValue) (old new : LogValue) (made : List Node) (roots : List ℕ) (steps : List Planned) (stands : Stands s.terms.nodes old) (planned : IsPlanned s.terms old made roots steps) (over : AreTakenOver (grown_by s.terms made) old.bits [] s old s' new steps) (nodes : s'.terms.nodes ≡ s.terms.nodes ++ made) where
+  abbrev taken : AreTaken (s.terms.nodes ++ made) s old s' new steps
+  taken = over.taken
 
-  pub prepared : Prepares s old s' new
-  prepared = record {
+  taken_of : (p : Planned) → Contains steps p → IsTaken (s.terms.nodes ++ made) new taken.leads.added p
+  taken_of p c = All-contains (IsTaken (s.terms.nodes ++ made) new taken.leads.added) steps p (All-from_recursion (IsTaken (s.terms.nodes ++ made) new taken.leads.added) steps taken.each) c
+
+  pub encoded : Encodes s old s' new
+  encoded = record {
     leads = taken.leads;
     used = λ t le lt. used_by t (planned.needed t le (subst (λ (ns : List Node). t < length ns) nodes lt));
+    simple = subst (λ v. AreSimplified v old.entries taken.leads.added) same_terms over.simple;
   }
     where
+      same_terms : grown_by s.terms made ≡ s'.terms
+      same_terms =
+          let limit : s'.terms.limit ≡ s.terms.limit = ap (λ (x : StateValue). x.terms.limit) taken.leads.state ∙ limit_led s taken.leads.added in
+          (λ i. record { nodes = sym nodes i; limit = sym limit i })
+
       used_by : (t : ℕ) → IsNeeded (s.terms.nodes ++ made) (uses_of steps) t → IsUsed s'.terms.nodes taken.leads.added t
       used_by t n =
           let p = use_among steps n.by n.among in
@@ -238,11 +327,12 @@ module _ (s s' : StateValue) (old new : LogValue) (made : List Node) (roots : Li
           subst (λ ns. IsUsed ns taken.leads.added t) (sym nodes)
           (record { by = w.0; among = w.1; is = subst (λ u. (u ≡ t) ⊎ Contains (node_at (s.terms.nodes ++ made) u).args t) (sym w.2) n.is })
 
-  root_bits : (t : ℕ) → IsKnown old.bits steps t → HasBits new t
-  root_bits t known =
+  root_bits : (t : ℕ) → is_plain (sort_of (s.terms.nodes ++ made) t) ≡ true → IsKnown old.bits steps t → HasBits new t
+  root_bits t plain known =
       or_cases (is_some (bits_in old.bits t)) (is_some (planned_in steps t)) known
       (λ has. led_bits s s' old new t stands taken.leads has)
-      (λ has. (let p = step_among steps t has in subst (HasBits new) p.2 (taken_of p.0 p.1).bits))
+      (λ has. (let p = step_among steps t has in subst (HasBits new) p.2 ((taken_of p.0 p.1).bits (subst (λ u. is_plain (sort_of (s.terms.nodes ++ made) u) ≡ true) (sym p.2) plain))))
 
-  pub roots_taken : All (HasBits new) roots
-  roots_taken k d lt = root_bits (get_or roots k d) (planned.known k d lt)
+  pub roots_taken : All (λ t. t < length s.terms.nodes) roots → All (λ t. is_plain (sort_of s.terms.nodes t) ≡ true) roots → All (HasBits new) roots
+  roots_taken held plain k d lt =
+      root_bits (get_or roots k d) (sorted_over s.terms.nodes (s.terms.nodes ++ made) made (get_or roots k d) true refl (held k d lt) (plain k d lt)) (planned.known k d lt)

@@ -9,6 +9,7 @@ use Rattle.smt_terms.specs.Bits.{TermBits}
 use Rattle.bv_rewrite.specs.Simplifying.{AreNeeded, IsGrown}
 use Rattle.reached_images.specs.declared.plan.Planned.{Planned}
 use Rattle.reached_images.specs.Plans.{uses_of, ImagesHaveBits, IsKnown, IsPlan}
+use Rattle.reached_images.specs.Settled.{AreOwn}
 use Rattle.proof_log.specs.Stored.{LogValue, Stands}
 use Rattle.proof_log.proofs.Linked.{linked_bits, log_linked}
 use Rattle.proof_log.proofs.Standing.{stands_over}
@@ -38,9 +39,10 @@ module _ (v w : TermsValue) (log : LogValue) (bits : List TermBits) (made : List
   whole : v.nodes ++ made ≡ w.nodes
   whole = ap (λ l. l ++ made) (sym (take-append_seam v.nodes grown.more)) ∙ ap (λ l. take (length v.nodes) l ++ made) (sym grown.nodes) ∙ ap (λ n. take n w.nodes ++ made) (sym count) ∙ all
 
-  pub planned : IsPlan w.nodes bits steps → All (IsKnown bits steps) roots → AreNeeded (length v.nodes) w.nodes (uses_of steps) → IsPlanned v.nodes log made roots steps
-  planned plan known needed = record {
+  pub planned : IsPlan w.nodes bits steps → All (IsKnown bits steps) roots → AreNeeded (length v.nodes) w.nodes (uses_of steps) → AreOwn w bits steps → IsPlanned v log made roots steps
+  planned plan known needed own = record {
     plan = subst (λ ns. IsPlan ns log.bits steps) (sym whole) (subst (λ b. IsPlan w.nodes b steps) same plan);
     known = subst (λ b. All (IsKnown b steps) roots) same known;
     needed = subst (λ ns. AreNeeded (length v.nodes) ns (uses_of steps)) (sym whole) needed;
+    own = subst (λ (x : TermsValue). AreOwn x log.bits steps) (λ i. record { nodes = sym whole i; limit = grown.limit i }) (subst (λ b. AreOwn w b steps) same own);
   }

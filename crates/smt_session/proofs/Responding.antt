@@ -41,7 +41,7 @@ module _ (limits : Limits) (line : ℕ) (a : Answer) (s : StateValue) (l : LogVa
     steps = [];
     shown = None;
     proof = proof;
-    thorough = record { terms = λ t le lt. absurd (omega (arith, le, lt)); cubes = tt };
+    thorough = record { terms = λ t le lt. absurd (omega (arith, le, lt)); simple = tt; cubes = tt };
     state = refl;
     log = sym (append-nil l.entries);
     kept = refl;
@@ -155,7 +155,7 @@ check_keeps limits s s' new_state old new shown h checked e =
       state = standing_state s' (Some (verdict_of shown)) k.state;
       theories = k.theories;
       stands = k.stands;
-      each = more_steps s' (concluded s' (verdict_of shown)) [] new.entries (sym (append-nil s'.terms.nodes)) (λ d g q. q) (λ a t q. q) k.each;
+      each = more_steps s' (concluded s' (verdict_of shown)) [] new.entries (sym (append-nil s'.terms.nodes)) refl (λ d g q. q) (λ a t q. q) k.each;
     })
 
 pub is_answered : (limits : Limits) (chunk : Chunk) (s mid last final : StateValue) (l new : LogValue) (before now : Option Record) (a : Answer) (es : Reading) (r : Response) (w x : Option (List ℕ)) → ReadsAs chunk es → ◌≡◌ {A = Step} (step s es) (a, mid) → Responds limits chunk.line a mid last l new before now r w x

@@ -1,7 +1,9 @@
 -- The terms of live assertions, and of assumptions.
-use Rattle.std.proofs.Common.{◌≡◌, ℕ, false, map}
+use Rattle.std.proofs.Common.{◌≡◌, ℕ, ◌<◌, true, false, length, map, ap}
 use Rattle.std.specs.Prelude.{All}
 use Rattle.std.proofs.lemmas.List.Elements.{All-from_recursion, recursion_from_All}
+use Rattle.smt_terms.specs.Ranks as ranks
+use Rattle.smt_terms.specs.Terms.{sort_of}
 use Rattle.scope_selectors.specs.declared.live.Live.{Live}
 use Rattle.script_state.specs.declared.answer.Asked.{Asked}
 use Rattle.script_state.specs.States.{StateValue, IsState, assumptions, roots}
@@ -28,6 +30,16 @@ roots_live P s h = All-from_recursion (λ (a : Live). P a.term) s.scopes.live (e
 
 pub roots_assumed : (P : ℕ → Type 0) (s : StateValue) → All P (roots s) → All (λ (a : Asked). P a.term) (assumptions s)
 roots_assumed P s h = All-from_recursion (λ (a : Asked). P a.term) (assumptions s) (each_mapped term_asked P (assumptions s) (each_behind P (map term_of s.scopes.live) (map term_asked (assumptions s)) (recursion_from_All P (roots s) h)))
+
+-- they are held
+pub roots_held : (s : StateValue) → IsState s → All (λ t. t < length s.terms.nodes) (roots s)
+roots_held s is = roots_all (λ t. t < length s.terms.nodes) s is.held (λ k a lt. (is.assumed k a lt).held)
+
+-- they are Bools
+pub roots_sorted : (s : StateValue) → IsState s → All (λ t. ranks.is_plain (sort_of s.terms.nodes t) ≡ true) (roots s)
+roots_sorted s is =
+    roots_all (λ t. ranks.is_plain (sort_of s.terms.nodes t) ≡ true) s (λ k a lt. ap ranks.is_plain (is.truths k a lt))
+    (λ k a lt. ap ranks.is_plain (is.assumed k a lt).truth)
 
 -- they are plain
 pub roots_plain : (s : StateValue) → IsState s → s.symbols.theories ≡ false → All (IsPlainTerm s.terms.nodes) (roots s)

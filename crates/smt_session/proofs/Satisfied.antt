@@ -80,11 +80,11 @@ have_selectors log (a ∷ live) (x ∷ given) e =
     let rest : map (λ (y : Live). selector_in log.selectors y.assertion) live ≡ map Some given = cc in
     All-cons (λ (y : Live). IsSome (selector_in log.selectors y.assertion)) a live (IsSome-from (selector_in log.selectors a.assertion) x first) (have_selectors log live given rest)
 
-pub enough : (s : StateValue) (log : LogValue) (from reached positions : List ℕ) (live : List Live) → from ≡ roots s → live ≡ s.scopes.live → AreClosed s.terms.nodes (image_in log.bits) (Contains reached) → All (Contains reached) from → ArePositions log reached live positions
-    → AreEnough s.terms.nodes log (roots s) s.scopes.live positions
-enough s log from reached positions live e f closed among h = record {
+pub enough : (s : StateValue) (log : LogValue) (from reached positions : List ℕ) (live : List Live) → live ≡ s.scopes.live → AreClosed s.terms.nodes (image_in log.bits) (Contains reached) → All (Contains reached) from → ArePositions log reached live positions
+    → AreEnough s.terms.nodes log from s.scopes.live positions
+enough s log from reached positions live f closed among h = record {
   reached = reached;
   closed = closed;
-  among = subst (All (Contains reached)) e among;
+  among = among;
   each = subst (λ l. ArePositions log reached l positions) f h;
 }

@@ -18,7 +18,7 @@ use Rattle.proof_log.specs.Stored.{LogValue, Stands, IsPushed, selector_in, lite
 use Rattle.proof_log.specs.Words.{IsOfWords}
 use Rattle.proof_log.proofs.Standing.{stands_over, some_literal}
 use Rattle.proof_log.proofs.Staying.{log_stays}
-use Rattle.smt_session.specs.Growing.{IsStepFor, AreStepsFor, Grows, HasBits, AreSelectors}
+use Rattle.smt_session.specs.Growing.{IsStepFor, AreStepsFor, GivesNoBits, Grows, HasBits, AreSelectors}
 
 pub none_of_not : {A : Type 0} (o : Option A) → (IsSome o → ⊥) → o ≡ None
 none_of_not None h = refl
@@ -27,10 +27,10 @@ none_of_not (Some x) h = absurd (h refl)
 -- ---- growing
 
 pub grows_none : (s : StateValue) (l : LogValue) → Stands s.terms.nodes l → Grows s l l
-grows_none s l h = record { added = []; entries = sym (append-nil l.entries); each = tt; still = tt; stands = h }
+grows_none s l h = record { added = []; entries = sym (append-nil l.entries); each = tt; still = tt; bare = tt; stands = h }
 
-pub grows_one : (s : StateValue) (old new : LogValue) (e : Entry) (p : ℕ) → IsStepFor s e → MakesNoTerm e → IsPushed s.terms.nodes old new e p → Grows s old new
-grows_one s old new e p step none h = record { added = e ∷ []; entries = h.entries; each = (step, tt); still = (none, tt); stands = h.stands }
+pub grows_one : (s : StateValue) (old new : LogValue) (e : Entry) (p : ℕ) → IsStepFor s e → MakesNoTerm e → GivesNoBits e → IsPushed s.terms.nodes old new e p → Grows s old new
+grows_one s old new e p step none bare h = record { added = e ∷ []; entries = h.entries; each = (step, tt); still = (none, tt); bare = (bare, tt); stands = h.stands }
 
 pub grows_more : (s : StateValue) (a b c : LogValue) → Grows s a b → Grows s b c → Grows s a c
 grows_more s a b c g h = record {
@@ -38,13 +38,14 @@ grows_more s a b c g h = record {
   entries = h.entries ∙ ap (λ x. x ++ h.added) g.entries ∙ append_assoc a.entries g.added h.added;
   each = each_append (IsStepFor s) g.added h.added g.each h.each;
   still = each_append MakesNoTerm g.added h.added g.still h.still;
+  bare = each_append GivesNoBits g.added h.added g.bare h.bare;
   stands = h.stands;
 }
 
--- each step is of Bools and words
-pub words_of : (s : StateValue) (es : List Entry) → AreStepsFor s es → AllByRecursion (IsOfWords s.terms.nodes) es
-words_of s [] h = tt
-words_of s (e ∷ es) h = (h.0.1, words_of s es h.1)
+-- each step is of Bools and words, where functions and arrays are not read
+pub words_of : (s : StateValue) (es : List Entry) → s.symbols.theories ≡ false → AreStepsFor s es → AllByRecursion (IsOfWords s.terms.nodes) es
+words_of s [] off h = tt
+words_of s (e ∷ es) off h = (h.0.1 off, words_of s es off h.1)
 
 -- ---- staying
 

@@ -22,7 +22,7 @@ use Rattle.proof_log.proofs.Standing.{stands_over, some_literal}
 use Rattle.proof_log.proofs.Staying.{state_from-append, steps_parts}
 use Rattle.cube_tree.specs.Closing.{Closes}
 use Rattle.accepted_proof.specs.Turns.{AreStepsOf, with_step, with_steps, IsAgainstOne, IsRefutation}
-use Rattle.smt_session.specs.Growing.{IsStepFor, AreStepsFor, AreLined, Grows, AreGiven, AreSelectors}
+use Rattle.smt_session.specs.Growing.{IsStepFor, AreStepsFor, AreLined, GivesNoBits, Grows, AreGiven, AreSelectors}
 use Rattle.smt_session.specs.Searched.{HasTrueSelector}
 use Rattle.smt_session.proofs.Staying.{selector_of, selector_stays, bit_stays}
 use Rattle.smt_session.proofs.Giving.{bit_of}
@@ -118,13 +118,18 @@ true_selectors s l v (a ∷ live) (x ∷ given) listed h each known e all =
 
 search_steps : (s : StateValue) (es : List Entry) → AllByRecursion IsOfSearch es → AreStepsFor s es
 search_steps s [] h = tt
-search_steps s (step.Chain c hints ∷ es) h = ((tt, tt, refl), search_steps s es h.1)
+search_steps s (step.Chain c hints ∷ es) h = ((tt, λ off. tt, refl), search_steps s es h.1)
 search_steps s (e ∷ es) h = let q = h.0 in let f : ⊥ = cc in absurd f
 
 searches_still : (es : List Entry) → AllByRecursion IsOfSearch es → AllByRecursion MakesNoTerm es
 searches_still [] h = tt
 searches_still (e ∷ es) h = (search_step e h.0, searches_still es h.1)
 
+searches_bare : (es : List Entry) → AllByRecursion IsOfSearch es → AllByRecursion GivesNoBits es
+searches_bare [] h = tt
+searches_bare (step.Chain c hints ∷ es) h = ((λ t e. let f : ⊥ = cc in f), searches_bare es h.1)
+searches_bare (e ∷ es) h = let q = h.0 in let f : ⊥ = cc in absurd f
+
 -- a log that searches added to
 pub grows_by_searches : (s : StateValue) (old new : LogValue) → Prolongs old.entries new.entries → Stands s.terms.nodes new → Grows s old new
-grows_by_searches s old new g h = record { added = g.more; entries = g.is; each = search_steps s g.more g.of_search; still = searches_still g.more g.of_search; stands = h }
+grows_by_searches s old new g h = record { added = g.more; entries = g.is; each = search_steps s g.more g.of_search; still = searches_still g.more g.of_search; bare = searches_bare g.more g.of_search; stands = h }

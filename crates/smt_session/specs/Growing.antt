@@ -1,5 +1,5 @@
 -- A log that grows by the steps of a check.
-use Rattle.std.specs.Prelude.{◌≡◌, ◌<◌, ℕ, List, [], ◌∷◌, ◌++◌, length, map, slice_get, Some, IsSome}
+use Rattle.std.specs.Prelude.{◌≡◌, ◌<◌, ℕ, false, List, [], ◌∷◌, ◌++◌, length, map, slice_get, Some, IsSome}
 use Rattle.std.specs.List.{AllByRecursion}
 use Rattle.cnf_base.specs.Literals.{Literal}
 use Rattle.smt_terms.specs.declared.sort.Sort.TheVariants as sort
@@ -10,14 +10,19 @@ use Rattle.script_state.specs.declared.answer.Asked.{Asked}
 use Rattle.script_state.specs.States.{StateValue, assumptions}
 use Rattle.proof_log.specs.declared.entry.Entry.{Entry}
 use Rattle.proof_log.specs.Faults.{MakesNoTerm}
+use Rattle.proof_log.specs.Places.{IsForTerm}
 use Rattle.proof_log.specs.Stored.{LogValue, Stands, selector_in}
 use Rattle.proof_log.specs.Words.{IsOfWords}
 use Rattle.proof_text.specs.Entries.{entry_line}
 use Rattle.accepted_proof.specs.Turns.{IsOfScript, AreStepsOf, with_steps}
 
--- what the step names of the script is as the script has it, it is of Bools and words, and it has a line
+-- where functions and arrays are not read, the step is of Bools and words
+abbrev pub IsOfTheories : StateValue → Entry → Type 0
+IsOfTheories s e = s.symbols.theories ≡ false → IsOfWords s.terms.nodes e
+
+-- what the step names of the script is as the script has it, it is of what is read, and it has a line
 abbrev pub IsStepFor : StateValue → Entry → Type 0
-IsStepFor s e = IsOfScript s e × IsOfWords s.terms.nodes e × IsSome (entry_line e)
+IsStepFor s e = IsOfScript s e × IsOfTheories s e × IsSome (entry_line e)
 
 abbrev pub AreStepsFor : StateValue → List Entry → Type 0
 AreStepsFor s = AllByRecursion (IsStepFor s)
@@ -26,12 +31,17 @@ AreStepsFor s = AllByRecursion (IsStepFor s)
 abbrev pub AreLined : List Entry → Type 0
 AreLined = AllByRecursion (λ e. IsSome (entry_line e))
 
--- the log has more steps, all of them for the script, none of which makes a term, and stands over its terms
+-- the step gives no term bits
+abbrev pub GivesNoBits : Entry → Type 0
+GivesNoBits e = (t : ℕ) → IsForTerm t e → ⊥
+
+-- the log has more steps, all of them for the script, none of which makes a term or gives one bits, and stands over its terms
 pub record Grows (s : StateValue) (old new : LogValue) : Type 0 where
   pub added : List Entry
   pub entries : new.entries ≡ old.entries ++ added
   pub each : AreStepsFor s added
   pub still : AllByRecursion MakesNoTerm added
+  pub bare : AllByRecursion GivesNoBits added
   pub stands : Stands s.terms.nodes new
 
 -- the log has more steps, which may follow one after the other in the one state, and lead to the other
@@ -40,7 +50,7 @@ pub record LeadsTo (s : StateValue) (old : LogValue) (s' : StateValue) (new : Lo
   pub entries : new.entries ≡ old.entries ++ added
   pub steps : AreStepsOf s old.entries added
   pub state : s' ≡ with_steps s added
-  pub words : AllByRecursion (IsOfWords s'.terms.nodes) added
+  pub words : AllByRecursion (IsOfTheories s') added
   pub stands : Stands s'.terms.nodes new
 
 -- the term has bits

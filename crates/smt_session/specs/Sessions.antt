@@ -1,5 +1,5 @@
 -- What contracts see of a session.
-use Rattle.std.specs.Prelude.{◌≡◌, ℕ, ◌<◌, Bool, true, false, List, [], ◌++◌, length, All, Option, Some}
+use Rattle.std.specs.Prelude.{◌≡◌, ℕ, ◌<◌, ◌≤◌, Bool, true, false, List, [], ◌++◌, length, All, Option, Some}
 use Rattle.std.specs.List.{flat_map, AllByRecursion}
 use Rattle.std.specs.Io.KnownBytes.{Appends}
 use Rattle.smt_text.specs.declared.chunk.Chunk.{Chunk}
@@ -13,21 +13,25 @@ use Rattle.proof_log.specs.declared.entry.Entry.{Entry}
 use Rattle.proof_log.specs.Stored.{LogValue, Stands}
 use Rattle.proof_text.specs.declared.record.Record.{Record}
 use Rattle.proof_text.specs.Lines.{line_text, IsLine}
-use Rattle.accepted_proof.specs.Searching.{Limits}
+use Rattle.accepted_proof.specs.Searching.{Limits, AreLimits}
 use Rattle.accepted_proof.specs.Turns.{Turn, IsTurn, IsShown, HasProof, with_steps, concluded_by, state_after, shown_lines, step_lines, turn_lines}
 use Rattle.accepted_proof.specs.Answers.{answer_text, is_error, is_refused, last_shown, turn_text}
 use Rattle.smt_session.specs.declared.response.Response.{Response}
 use Rattle.smt_session.specs.declared.response.Stop.{Stop}
 use Rattle.smt_session.specs.declared.response.Stop.TheVariants.{Failed, NoMemory}
 use Rattle.smt_session.specs.declared.settings.Settings.{Settings}
-use Rattle.cube_search.specs.declared.search.Search.{Search}
-use Rattle.cube_search.specs.Running.{IsResting}
 use Rattle.smt_session.specs.Growing.{AreStepsFor, Grows, LeadsTo}
 use Rattle.smt_session.specs.Thorough.{AreSearched, IsThorough}
 
 -- the limits that settings give
 abbrev pub limits_of : Settings → Limits
 limits_of s = record { cubes = s.cubes; budget = s.budget }
+
+-- the limits are allowed, and there are 1 to 64 workers
+pub record AreSettings (s : Settings) : Type 0 where
+  pub limits : AreLimits (limits_of s)
+  pub some : 0 < s.workers
+  pub few : s.workers ≤ 64
 
 -- the state of the commands, the log of the checks, the record of the last check, and the limits of every check
 pub record SessionValue : Type 0 where
@@ -42,10 +46,6 @@ pub record IsSession (s : StateValue) (log : LogValue) : Type 0 where
   pub theories : s.symbols.theories ≡ false
   pub stands : Stands s.terms.nodes log
   pub each : AreStepsFor s log.entries
-
--- the search keeps clauses of the log
-abbrev pub RestsBeside : LogValue → Search → Type 0
-RestsBeside log x = IsResting x log.clauses log.entries
 
 -- a text, which may be an error, and with which the run may end
 abbrev pub response : List ℕ → Bool → Bool → Response

@@ -1,9 +1,18 @@
--- What a check does beside what its proof shows: it makes no term but for its uses of rules, and searches each of its cubes.
-use Rattle.std.specs.Prelude.{◌≡◌, ◌⊎◌, ℕ, ◌<◌, ◌≤◌, ◌^◌, List, [], ◌∷◌, ◌++◌, length, All, Contains, Option, Some}
+-- What a check does beside what its proof shows: it makes no term but those that watch its arrays and those of its uses of rules,
+-- simplifies what gets bits, and searches each of its cubes.
+use Rattle.std.specs.Prelude.{◌≡◌, ◌⊎◌, ℕ, ◌<◌, ◌≤◌, ◌^◌, true, List, [], ◌∷◌, ◌++◌, length, All, Contains, Option, Some, is_some}
 use Rattle.cnf_base.specs.Literals.{Literal, negated}
 use Rattle.smt_terms.specs.declared.node.Node.{Node}
 use Rattle.smt_terms.specs.Nodes.{node_at}
-use Rattle.script_state.specs.States.{StateValue}
+use Rattle.smt_terms.specs.Bits.{TermBits}
+use Rattle.smt_terms.specs.Ranks.{is_plain}
+use Rattle.smt_terms.specs.Terms.{TermsValue, sort_of}
+use Rattle.reached_images.specs.declared.plan.Planned.{Planned}
+use Rattle.reached_images.specs.Plans.{is_known, known_image, IsPlan}
+use Rattle.reached_images.specs.Settled.{KeepsItself}
+use Rattle.array_watches.specs.Needed.{watched}
+use Rattle.array_watches.specs.Watched.{IsIndexWord, IsOfWatch}
+use Rattle.script_state.specs.States.{StateValue, roots}
 use Rattle.script_state.specs.Steps.{step}
 use Rattle.proof_log.specs.declared.entry.RuleUse.{RuleUse}
 use Rattle.proof_log.specs.declared.entry.Entry.{Entry}
@@ -47,10 +56,47 @@ pub record IsUsed (nodes : List Node) (steps : List Entry) (t : ℕ) : Type 0 wh
 abbrev pub AreUsed : ℕ → List Node → List Entry → Type 0
 AreUsed count nodes steps = (t : ℕ) → count ≤ t → t < length nodes → IsUsed nodes steps t
 
--- No term is made but what uses of rules lead to, and their arguments: a check needs none but those of its own text and these,
--- so no idle term is told. And all cubes were searched.
+-- the node watches the arrays of a check of these terms, which makes it before all else: it is the witness of a reached equality of
+-- arrays, the select of one of its sides there, or an index word of a reached constant array
+abbrev pub IsWatching : List Node → List ℕ → Node → Type 0
+IsWatching nodes roots n = IsOfWatch nodes (watched nodes roots) roots n ⊎ IsIndexWord nodes (watched nodes roots) roots n
+
+-- each term behind those of the state watches the arrays of its check, or is used so
+abbrev pub AreWanted : StateValue → List Node → List Entry → Type 0
+AreWanted s nodes steps = (t : ℕ) → length s.terms.nodes ≤ t → t < length nodes → IsWatching s.terms.nodes (roots s) (node_at nodes t) ⊎ IsUsed nodes steps t
+
+-- The Bools and words that have bits, and their images, are what is known behind these steps of a plan, and its images. An array has no
+-- bits.
+pub record IsSeenAs (nodes : List Node) (bits : List TermBits) (steps : List Planned) (has : ℕ → Option (List Literal)) (images : ℕ → Option ℕ) : Type 0 where
+  pub known : (t : ℕ) → is_plain (sort_of nodes t) ≡ true → is_known bits steps t ≡ is_some (has t)
+  pub becomes : (t : ℕ) → known_image bits steps t ≡ images t
+
+-- Behind these steps of a log the term has to keep its operator: no rule but that on arguments takes it further (or it is a
+-- difference whose sum none does), or what it becomes over the images that there are then finds no room or no place.
+pub record HasReason (v : TermsValue) (log : List Entry) (t : ℕ) : Type 0 where
+  pub bits : List TermBits
+  pub steps : List Planned
+  pub plan : IsPlan v.nodes bits steps
+  pub seen : IsSeenAs v.nodes bits steps (state_of v.nodes log).bits (state_of v.nodes log).images
+  pub keeps : KeepsItself v bits steps t
+
+-- where the step gives a term the bits of its own operator, it has to
+abbrev pub KeepsForReason : TermsValue → List Entry → Entry → Type 0
+KeepsForReason v log (entry.Leaf t) = HasReason v log t
+KeepsForReason v log (entry.Encode t) = HasReason v log t
+KeepsForReason v log _ = Unit {0}
+
+-- so it is of each of these steps, behind the log and those before it
+abbrev pub AreSimplified : TermsValue → List Entry → List Entry → Type 0
+AreSimplified v log [] = Unit {0}
+AreSimplified v log (e ∷ es) = KeepsForReason v log e × AreSimplified v (log ++ e ∷ []) es
+
+-- No term is made but those that watch the arrays of the check, what uses of rules lead to, and the arguments of these: a check needs
+-- none but those of its own text and these, so no idle term is told. What gets bits of its own was simplified before. And all cubes
+-- were searched.
 pub record IsThorough (limits : Limits) (s : StateValue) (log steps : List Entry) (shown : Option Record) : Type 0 where
-  pub terms : AreUsed (length s.terms.nodes) (with_steps s steps).terms.nodes steps
+  pub terms : AreWanted s (with_steps s steps).terms.nodes steps
+  pub simple : AreSimplified (with_steps s steps).terms log steps
   pub cubes : AreSearched limits s (with_steps s steps).terms.nodes (log ++ steps) shown
 
 -- the same of each of the turns

@@ -1,29 +1,34 @@
 // A check: its steps, its verdict, and its record.
 
-ghost use Rattle.std.specs.Prelude.{◌≡◌, ◌++◌, ◌-◌, ◌<◌, IfOk, OnOk, drop, length};
+ghost use Rattle.std.specs.Prelude.{◌≡◌, ◌++◌, ◌-◌, ◌<◌, ◌≤◌, ℕ, List, IfOk, OnOk, drop, length};
 ghost use Rattle.std.specs.List.{flat_map, AllByRecursion};
 ghost use Rattle.proof_log.specs.Stored.{Stands};
 ghost use Rattle.proof_text.specs.Lines.{line_text, IsLine};
 ghost use Rattle.proof_text.specs.Records.{AreWritten, HaveDigits, record_lines};
 ghost use Rattle.script_state.specs.States.{roots};
+ghost use Rattle.array_watches.specs.Needed.{watched};
+ghost use Rattle.watch_roots.specs.Roots.{AreLive};
 ghost use Rattle.accepted_proof.specs.Searching.{AreLimits, Rise, cube_variables};
 ghost use Rattle.accepted_proof.specs.Turns.{verdict_of, step_lines};
-ghost use Rattle.check_cubes.specs.Searches.{limits_of};
+ghost use Rattle.check_cubes.specs.Searches as check_cubes;
+ghost use Rattle.cube_workers.specs.Crews.{AreAtRest};
 ghost use Rattle.smt_session.specs.Growing.{AreGiven, AreLined};
 ghost use Rattle.smt_session.specs.Planning.{Prepares};
 ghost use Rattle.smt_session.specs.Searched.{AreEnough};
-ghost use Rattle.smt_session.specs.Sessions.{IsChecked, IsConcluded, IsSession, RestsBeside};
+ghost use Rattle.smt_session.specs.Sessions.{IsChecked, IsConcluded, IsSession, AreSettings, limits_of};
 
+use crate::encoding::encode;
 use crate::given::give;
 use crate::model::model;
 use crate::positions::positions;
-use crate::reach::{reach_by_images, roots};
-use crate::solve::{Found, solve};
-use crate::taking::rewrite;
+use crate::reach::reach_by_images;
+use crate::searching::search_cubes;
+use crate::settings::Settings;
 use crate::workspace::Workspace;
 use check_cubes::{Limits, cube_variables};
 use cnf_base::{Lit, Pos};
 use cube_tree::Tree;
+use cube_workers::{Check, Gate, Outcome, Settings as CubeSettings};
 use proof_log::Log;
 use proof_text::entry::write_entry;
 use proof_text::record::{Record, write_record};
@@ -31,6 +36,8 @@ use script_state::answer::Verdict;
 use script_state::state::State;
 use smt_text::text::Text;
 use std::alloc::{AllocError, Global};
+use std::sync::Wait;
+use std::thread::Threads;
 use term_reach::Reached;
 
 /// The verdict that a record shows.
@@ -52,10 +59,10 @@ fn split(
     limits: Limits,
     reached: &mut Reached,
 ) -> Result<Tree, AllocError>
-    requires limits { AreLimits (limits_of limits) }
+    requires limits { AreLimits (check_cubes.limits_of limits) }
     requires stands { Stands state.now.terms.nodes log.now }
     ensures variables { IfOk result
-        (λ t. t ≡ cube_variables (limits_of limits) state.now state.now.terms.nodes
+        (λ t. t ≡ cube_variables (check_cubes.limits_of limits) state.now state.now.terms.nodes
         log.now.entries) }
     ensures rise { IfOk result (λ t. Rise 2 log.now.next t) }
 {
@@ -65,41 +72,46 @@ fn split(
 
 /// Searches the cubes of a check under the selectors of the live assertions and the bits of the assumptions, over these steps,
 /// and gives the record that shows what was found.
-fn conclude(
+fn conclude<R: Threads + Wait + Sync, G: Gate + Sync>(
+    rt: &R,
     alloc: Global,
     state: &State,
     workspace: &mut Workspace,
     steps: &[Pos],
     given: &[Lit],
-    limits: Limits,
+    settings: Settings,
+    gate: &G,
 ) -> Result<Record, AllocError>
     requires session { IsSession state.now workspace.old.log }
-    requires resting { RestsBeside workspace.old.log workspace.old.search }
+    requires resting { AreAtRest workspace.old.log workspace.old.searches.items }
     requires steps { AreEnough state.now.terms.nodes workspace.old.log (roots state.now)
         state.now.scopes.live steps.now }
     requires given { AreGiven state.now workspace.old.log given.now }
-    requires limits { AreLimits (limits_of limits) }
+    requires settings { AreSettings settings }
     ensures checked { IfOk result
-        (λ r. IsConcluded (limits_of limits) state.now workspace.old.log workspace.new.log r) }
-    ensures resting { OnOk result (RestsBeside workspace.new.log workspace.new.search) }
+        (λ r. IsConcluded (limits_of settings) state.now workspace.old.log workspace.new.log r) }
+    ensures resting { OnOk result (AreAtRest workspace.new.log workspace.new.searches.items) }
 {
+    let limits = settings.limits();
     let tree = split(alloc, state, &workspace.log, limits, &mut workspace.reached)?;
-    let found = solve(
-        alloc,
-        state.terms(),
-        workspace,
-        steps,
-        &tree,
-        given,
-        limits.budget,
-    )?;
-    match found {
-        Found::Refuted(at) => Ok(Record::Unsat(at)),
-        Found::Model => {
-            let values = model(alloc, state, &workspace.log, &workspace.search)?;
+    let asked = Check {
+        positions: steps,
+        tree: &tree,
+        assumed: given,
+        settings: CubeSettings {
+            workers: settings.workers,
+            budget: limits.budget,
+        },
+    };
+    let (outcome, by) = search_cubes(rt, alloc, state.terms(), workspace, &asked, gate)?;
+    match outcome {
+        Outcome::Unsat(at) => Ok(Record::Unsat(at)),
+        Outcome::Sat => {
+            let search = &workspace.searches[by].search;
+            let values = model(alloc, state, &workspace.log, search)?;
             Ok(Record::Sat(values))
         }
-        Found::Spent(diary) => Ok(Record::Unknown(diary)),
+        Outcome::Unknown(diary) => Ok(Record::Unknown(diary)),
     }
 }
 
@@ -110,31 +122,36 @@ struct Prepared {
     given: Vec<Lit>,
 }
 
-/// Simplifies what the live assertions and the assumptions reach and that has no bits, gives bits to what needs them then, and
-/// gives each live assertion a selector.
+/// Gives bits to all that a check needs, and each live assertion a selector.
 fn prepare(
     alloc: Global,
     state: &mut State,
     workspace: &mut Workspace,
 ) -> Result<Prepared, AllocError>
     requires session { IsSession state.old workspace.old.log }
-    requires resting { RestsBeside workspace.old.log workspace.old.search }
+    requires resting { AreAtRest workspace.old.log workspace.old.searches.items }
+    requires fits { length (watched state.old.terms.nodes (roots state.old))
+        ≤ state.old.terms.limit }
     ensures prepares { OnOk result
         (Prepares state.old workspace.old.log state.new workspace.new.log) }
-    ensures resting { OnOk result (RestsBeside workspace.new.log workspace.new.search) }
+    ensures resting { OnOk result (AreAtRest workspace.new.log workspace.new.searches.items) }
     ensures steps { IfOk result
         (λ p. AreEnough state.new.terms.nodes workspace.new.log (roots state.new)
         state.new.scopes.live p.steps.items) }
+    // of the terms that its arrays need too
+    ensures live { IfOk result (λ p. (live : List ℕ)
+        × AreLive (watched state.old.terms.nodes (roots state.old)) (roots state.old) live
+        × AreEnough state.new.terms.nodes workspace.new.log live state.new.scopes.live
+        p.steps.items) }
     ensures given { IfOk result (λ p. AreGiven state.new workspace.new.log p.given.items) }
 {
-    let roots = roots(alloc, state)?;
-    rewrite(alloc, state, workspace, roots.as_slice())?;
+    let live = encode(alloc, state, workspace)?;
     let given = give(alloc, state, &mut workspace.log)?;
     reach_by_images(
         alloc,
         state,
         &workspace.log,
-        roots.as_slice(),
+        live.as_slice(),
         &mut workspace.reached,
     )?;
     let reached = workspace.reached.terms();
@@ -142,29 +159,35 @@ fn prepare(
     Ok(Prepared { steps, given })
 }
 
-/// Prepares a check, searches for its verdict, and gives the record that shows it.
-fn check(
+/// Prepares a check, searches for its verdict, and gives the record that shows it. The search may wait.
+fn check<R: Threads + Wait + Sync, G: Gate + Sync>(
+    rt: &R,
     alloc: Global,
     state: &mut State,
     workspace: &mut Workspace,
-    limits: Limits,
+    settings: Settings,
+    gate: &G,
 ) -> Result<Record, AllocError>
     requires session { IsSession state.old workspace.old.log }
-    requires resting { RestsBeside workspace.old.log workspace.old.search }
-    requires limits { AreLimits (limits_of limits) }
-    ensures checked { IfOk result (λ r. IsChecked (limits_of limits) state.old state.new
+    requires resting { AreAtRest workspace.old.log workspace.old.searches.items }
+    requires fits { length (watched state.old.terms.nodes (roots state.old))
+        ≤ state.old.terms.limit }
+    requires settings { AreSettings settings }
+    ensures checked { IfOk result (λ r. IsChecked (limits_of settings) state.old state.new
         workspace.old.log workspace.new.log r) }
-    ensures resting { OnOk result (RestsBeside workspace.new.log workspace.new.search) }
+    ensures resting { OnOk result (AreAtRest workspace.new.log workspace.new.searches.items) }
 {
     let prepared = prepare(alloc, state, workspace)?;
     let Prepared { steps, given } = prepared;
     conclude(
+        rt,
         alloc,
         state,
         workspace,
         steps.as_slice(),
         given.as_slice(),
-        limits,
+        settings,
+        gate,
     )
 }
 
@@ -205,19 +228,24 @@ fn lines(alloc: Global, log: &Log, from: Pos, shown: &Record) -> Result<Text, Al
     Ok(out)
 }
 
-/// Checks the live assertions under the assumptions within the limits: the record of the check, and its lines.
-pub(crate) fn run_check(
+/// Checks the live assertions under the assumptions within the limits: the record of the check, and its lines. There is room for
+/// the terms that watch its arrays.
+pub(crate) fn run_check<R: Threads + Wait + Sync, G: Gate + Sync>(
+    rt: &R,
     alloc: Global,
     state: &mut State,
     workspace: &mut Workspace,
-    limits: Limits,
+    settings: Settings,
+    gate: &G,
 ) -> Result<(Record, Text), AllocError>
     requires session { IsSession state.old workspace.old.log }
-    requires resting { RestsBeside workspace.old.log workspace.old.search }
-    requires limits { AreLimits (limits_of limits) }
-    ensures resting { OnOk result (RestsBeside workspace.new.log workspace.new.search) }
+    requires resting { AreAtRest workspace.old.log workspace.old.searches.items }
+    requires fits { length (watched state.old.terms.nodes (roots state.old))
+        ≤ state.old.terms.limit }
+    requires settings { AreSettings settings }
+    ensures resting { OnOk result (AreAtRest workspace.new.log workspace.new.searches.items) }
     ensures checked { IfOk result
-        (λ r. IsChecked (limits_of limits) state.old state.new workspace.old.log workspace.new.log
+        (λ r. IsChecked (limits_of settings) state.old state.new workspace.old.log workspace.new.log
         r.0) }
     ensures text { IfOk result
         (λ r. r.1 ≡ flat_map line_text
@@ -229,7 +257,7 @@ pub(crate) fn run_check(
         ++ record_lines r.0)) }
 {
     let from = workspace.log.len();
-    let shown = check(alloc, state, workspace, limits)?;
+    let shown = check(rt, alloc, state, workspace, settings, gate)?;
     let text = lines(alloc, &workspace.log, from, &shown)?;
     Ok((shown, text))
 }

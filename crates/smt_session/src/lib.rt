@@ -1,19 +1,20 @@
 //! A session: the commands of a script in order, each with its response, and the proof lines of each check.
 //!
-//! A check simplifies what its live assertions and its assumptions reach by the rules of rewriting, and encodes what that
-//! needs; it searches its cubes one after the other, and writes the lines of its steps and its record to the proof before it
-//! is answered. Where each cube is closed, the clauses that close them are joined to a refutation; where the budget was spent
-//! on one and no other gave a model, the answer is `unknown`, with the diary of the lowest such cube as record. The search is
-//! kept from check to check, and goes over to what the next one reaches. A model and the values of terms are printed from the
-//! record of the last check, and so are the names of a core and the assumptions that a refutation rests on. The terms whose
-//! values are asked for are forgotten once they are printed. The contract of [`session::Session::command`] says what each
-//! command leaves and answers, which bytes the proof got, and whether the run ends. The crate stands on `script_state` for
-//! what a command does, on `reached_images` for what terms become, on `proof_log` for the steps, on `proof_text` for their
-//! lines, on `check_cubes`, `cube_search` and `cube_tree` for the verdict, and on `smt_eval` for values.
+//! A check makes the terms that watch its arrays, simplifies what these, its live assertions and its assumptions reach by the
+//! rules of rewriting, and encodes what that needs; one worker or several search its cubes, and the lines of its steps and its
+//! record are written to the proof before it is answered. Where each cube is closed, the clauses that close them are joined to a refutation; where the budget was spent
+//! on one and no other gave a model, the answer is `unknown`, with the diary of the lowest such cube as record. The searches
+//! of the workers are kept from check to check, and go over to what the next one reaches. A model and the values of terms are
+//! printed from the record of the last check, and so are the names of a core and the assumptions that a refutation rests on.
+//! The terms whose values are asked for are forgotten once they are printed. The contract of [`session::Session::command`]
+//! says what each command leaves and answers, which bytes the proof got, and whether the run ends. The crate stands on
+//! `script_state` for what a command does, on `reached_images` for what terms become, on `proof_log` for the steps, on
+//! `proof_text` for their lines, on `check_cubes`, `cube_tree` and `cube_workers` for the verdict, and on `smt_eval` for values.
 #![tactic(auto)]
 
 mod check;
 mod cores;
+mod encoding;
 mod given;
 mod last;
 mod lists;
@@ -22,11 +23,12 @@ mod planned;
 mod positions;
 mod reach;
 pub mod response;
+mod searching;
 mod selecting;
 pub mod session;
 pub mod settings;
-mod solve;
 mod taking;
 mod texts;
 mod values;
+mod watching;
 mod workspace;

@@ -14,7 +14,7 @@ use std::mem;
 use term_reach::Reached;
 
 /// The terms from a number on.
-fn nodes_from(alloc: Global, terms: &Terms, from: u32) -> Result<Vec<Node>, AllocError>
+pub(crate) fn nodes_from(alloc: Global, terms: &Terms, from: u32) -> Result<Vec<Node>, AllocError>
     requires { from ≤ length terms.now.nodes }
     ensures { IfOk result
         (λ made. take from terms.now.nodes ++ made.items ≡ terms.now.nodes) }
@@ -85,7 +85,7 @@ fn plan_over(
     requires stands { Stands terms.old.nodes log.now }
     ensures same { OnOk result (terms.new ≡ terms.old) }
     ensures planned { IfOk result
-        (λ made. IsPlanned terms.old.nodes log.now made.items roots.now plan.new) }
+        (λ made. IsPlanned terms.old log.now made.items roots.now plan.new) }
 {
     let order = needed_order(alloc, terms, log, roots, plan, reached)?;
     let from = terms.len();
@@ -108,7 +108,7 @@ pub(crate) fn plan_check(
     requires stands { Stands state.old.terms.nodes log.now }
     ensures same { OnOk result (state.new ≡ state.old) }
     ensures planned { IfOk result
-        (λ made. IsPlanned state.old.terms.nodes log.now made.items roots.now plan.new) }
+        (λ made. IsPlanned state.old.terms log.now made.items roots.now plan.new) }
 {
     let (mut terms, rest) = mem::replace(state, State::new(alloc)).into_parts();
     let Ok(made) = plan_over(alloc, &mut terms, log, roots, plan, reached) else {

@@ -1,6 +1,6 @@
 // Which positions of a log a search needs.
 
-ghost use Rattle.std.specs.Prelude.{◌≡◌, All, IfOk, OnOk, Contains, IsSome};
+ghost use Rattle.std.specs.Prelude.{All, IfOk, IsSome};
 ghost use Rattle.scope_selectors.specs.declared.live.Live.{Live as LiveValue};
 ghost use Rattle.proof_log.specs.Stored.{Stands, selector_in};
 ghost use Rattle.smt_session.specs.Growing.{HasBits};

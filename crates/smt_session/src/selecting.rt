@@ -1,13 +1,7 @@
 // The steps that give assertions selectors.
 
-ghost use Rattle.std.specs.Prelude.{◌≡◌, ◌<◌, ℕ, All, IfOk, IsTrue, IsFalse, IsSome, None, Some, length, true};
+ghost use Rattle.std.specs.Prelude.{◌≡◌, All, IfOk, IsSome, None, Some};
 ghost use Rattle.scope_selectors.specs.declared.live.Live.{Live as LiveValue};
-ghost use Rattle.smt_terms.specs.Bits.{bits_in};
-ghost use Rattle.smt_terms.specs.Nodes.{node_at};
-ghost use Rattle.smt_terms.specs.Terms.{IsTermList};
-ghost use Rattle.smt_terms.specs.Scalars.{is_fixed};
-ghost use Rattle.script_state.specs.Plain.{is_plain, is_plain_op};
-ghost use Rattle.proof_log.specs.Logs.{constant_width};
 ghost use Rattle.proof_log.specs.Stored.{Stands, selector_in};
 ghost use Rattle.smt_session.specs.Growing.{Grows, HasBits, IsAsserted, AreSelectors};
 
@@ -16,7 +10,6 @@ use proof_log::Log;
 use proof_log::entry::Entry;
 use scope_selectors::live::Live;
 use script_state::state::State;
-use smt_terms::node::{Op, TermId};
 use std::alloc::{AllocError, Global};
 
 /// Gives an assertion that has no selector one.

@@ -6,9 +6,9 @@ ghost use Rattle.smt_desk.specs.Faults.{Rose};
 ghost use Rattle.proof_text.specs.declared.record.Record.{Record as RecordValue};
 ghost use Rattle.script_state.specs.States.{no_state, IsState};
 ghost use Rattle.script_state.specs.Steps.{forgotten};
-ghost use Rattle.accepted_proof.specs.Searching.{AreLimits, Limits as LimitsValue};
-ghost use Rattle.check_cubes.specs.Searches as check_cubes;
-ghost use Rattle.smt_session.specs.Sessions.{AreHeld, IsAnswered, IsSession, Responds, RestsBeside, asks_values, limits_of};
+ghost use Rattle.accepted_proof.specs.Searching.{Limits};
+ghost use Rattle.cube_workers.specs.Crews.{AreAtRest};
+ghost use Rattle.smt_session.specs.Sessions.{AreHeld, IsAnswered, IsSession, AreSettings, Responds, asks_values, limits_of};
 ghost use Rattle.smt_session.specs.Sessions.{CutsCheck, CutsTurn, Leaves, WritesFront};
 ghost use Rattle.smt_session.specs.Parts.{AreParts, seen_of};
 
@@ -20,8 +20,7 @@ use crate::settings::Settings;
 use crate::texts::model_text;
 use crate::values::values_text;
 use crate::workspace::Workspace;
-use check_cubes::Limits;
-use cube_search::Search;
+use cube_workers::Gate;
 use proof_log::Log;
 use reached_images::Plan;
 use script_state::answer::Answer;
@@ -31,15 +30,17 @@ use smt_text::chunk::Chunk;
 use smt_text::text::Text;
 use std::alloc::{AllocError, Global};
 use std::marker::Model;
+use std::sync::Wait;
+use std::thread::Threads;
 use term_reach::Reached;
 
-/// The state of a script's commands, the log of its checks, the record of the last one, and the limits of each.
+/// The state of a script's commands, the log of its checks, the record of the last one, and how each is searched.
 #[derive(Drop)]
 struct Parts {
     state: State,
     workspace: Workspace,
     last: Last,
-    limits: Limits,
+    settings: Settings,
 }
 
 /// A session. Its parts are in one place, so that it costs a pointer to pass it on.
@@ -74,30 +75,34 @@ fn write_lines<Q: Sink>(text: &Text, proof: &mut Q) -> Result<(), Stop>
 }
 
 /// Checks the live assertions under the assumptions, and answers once the lines of the check are written.
-fn answer_check<Q: Sink>(
+fn answer_check<R: Threads + Wait + Sync, Q: Sink, G: Gate + Sync>(
+    rt: &R,
     alloc: Global,
     line: u64,
     state: &mut State,
     workspace: &mut Workspace,
     last: &mut Last,
-    limits: Limits,
+    settings: Settings,
     proof: &mut Q,
+    gate: &G,
 ) -> Result<Response, Stop>
     requires session { IsSession state.old workspace.old.log }
-    requires resting { RestsBeside workspace.old.log workspace.old.search }
-    requires limits { AreLimits (check_cubes.limits_of limits) }
+    requires resting { AreAtRest workspace.old.log workspace.old.searches.items }
+    requires settings { AreSettings settings }
     ensures session { OnOk result (IsSession state.new workspace.new.log) }
-    ensures resting { OnOk result (RestsBeside workspace.new.log workspace.new.search) }
-    ensures response { IfOk result (λ r. Responds (check_cubes.limits_of limits) line Answer.Check
+    ensures resting { OnOk result (AreAtRest workspace.new.log workspace.new.searches.items) }
+    ensures response { IfOk result (λ r. Responds (limits_of settings) line Answer.Check
         state.old state.new workspace.old.log workspace.new.log last.old last.new r
         (Q.written proof.old) (Q.written proof.new)) }
     ensures cut { IfErr result (λ stop. Leaves stop
-        (CutsCheck (check_cubes.limits_of limits) Answer.Check state.old workspace.old.log.entries
+        (CutsCheck (limits_of settings) Answer.Check state.old workspace.old.log.entries
         (Q.written proof.old) (Q.written proof.new)) (Q.written proof.old) (Q.written proof.new)) }
     ensures failed { result ≡ Err Stop.Failed → Rose (Q.faults proof.old) (Q.faults proof.new) }
     ensures later { Q.faults proof.old ≤ Q.faults proof.new }
 {
-    let (shown, text) = run_check(alloc, state, workspace, limits)?;
+    // The contract of `len` says that there is room for the terms.
+    let _count = state.terms().len();
+    let (shown, text) = run_check(rt, alloc, state, workspace, settings, gate)?;
     let verdict = verdict_of(&shown);
     let response = Response::verdict(alloc, verdict)?;
     last.put(shown);
@@ -143,7 +148,7 @@ fn response_without_check(
     requires session { IsSession state.now log.now }
     requires held { AreHeld state.now answer }
     requires unchecked { answer ≢ Answer.Check }
-    ensures response { IfOk result (λ r. (limits : LimitsValue) (written : Option (List ℕ))
+    ensures response { IfOk result (λ r. (limits : Limits) (written : Option (List ℕ))
         → Responds limits line answer state.now state.now log.now log.now last.old last.old r
         written written) }
     ensures same { last.new ≡ last.old }
@@ -163,36 +168,40 @@ fn response_without_check(
 }
 
 /// Answers what the state says of the command on a line.
-fn respond<Q: Sink>(
+fn respond<R: Threads + Wait + Sync, Q: Sink, G: Gate + Sync>(
+    rt: &R,
     alloc: Global,
     line: u64,
     answer: Answer,
     state: &mut State,
     workspace: &mut Workspace,
     last: &mut Last,
-    limits: Limits,
+    settings: Settings,
     proof: &mut Q,
+    gate: &G,
 ) -> Result<Response, Stop>
     requires session { IsSession state.old workspace.old.log }
-    requires resting { RestsBeside workspace.old.log workspace.old.search }
+    requires resting { AreAtRest workspace.old.log workspace.old.searches.items }
     requires held { AreHeld state.old answer }
-    requires limits { AreLimits (check_cubes.limits_of limits) }
+    requires settings { AreSettings settings }
     ensures session { OnOk result (IsSession state.new workspace.new.log) }
-    ensures resting { OnOk result (RestsBeside workspace.new.log workspace.new.search) }
+    ensures resting { OnOk result (AreAtRest workspace.new.log workspace.new.searches.items) }
     ensures still { asks_values answer ≡ true
         → OnOk result ((state.new ≡ state.old) × (workspace.new.log ≡ workspace.old.log)) }
-    ensures response { IfOk result (λ r. Responds (check_cubes.limits_of limits) line answer
+    ensures response { IfOk result (λ r. Responds (limits_of settings) line answer
         state.old state.new workspace.old.log workspace.new.log last.old last.new r
         (Q.written proof.old) (Q.written proof.new)) }
     ensures cut { IfErr result (λ stop. Leaves stop
-        (CutsCheck (check_cubes.limits_of limits) answer state.old workspace.old.log.entries
+        (CutsCheck (limits_of settings) answer state.old workspace.old.log.entries
         (Q.written proof.old) (Q.written proof.new)) (Q.written proof.old) (Q.written proof.new)) }
     ensures failed { result ≡ Err Stop.Failed → Rose (Q.faults proof.old) (Q.faults proof.new) }
     ensures later { Q.faults proof.old ≤ Q.faults proof.new }
 {
     if is_check(&answer) {
         drop(answer);
-        return answer_check(alloc, line, state, workspace, last, limits, proof);
+        return answer_check(
+            rt, alloc, line, state, workspace, last, settings, proof, gate,
+        );
     }
     let response = response_without_check(
         alloc,
@@ -208,11 +217,13 @@ fn respond<Q: Sink>(
 
 impl Parts {
     /// Does what a command says, and gives its response. After an error the parts are no session any more.
-    fn command<Q: Sink>(
+    fn command<R: Threads + Wait + Sync, Q: Sink, G: Gate + Sync>(
         &mut self,
+        rt: &R,
         alloc: Global,
         chunk: &Chunk,
         proof: &mut Q,
+        gate: &G,
     ) -> Result<Response, Stop>
         requires { AreParts self.old }
         ensures parts { OnOk result (AreParts self.new) }
@@ -234,14 +245,16 @@ impl Parts {
         };
         let asked = asks_values(&answer);
         let response = respond(
+            rt,
             alloc,
             chunk.line,
             answer,
             &mut self.state,
             &mut self.workspace,
             &mut self.last,
-            self.limits,
+            self.settings,
             proof,
+            gate,
         )?;
         settle(&mut self.state, asked, len);
         Ok(response)
@@ -249,30 +262,25 @@ impl Parts {
 }
 
 impl Session {
-    /// A session before its first command, each of whose checks is searched within the limits of these settings. The one
-    /// error is want of memory.
+    /// A session before its first command, each of whose checks is searched as these settings say. The one error is want of
+    /// memory.
     pub fn new(alloc: Global, settings: Settings) -> Result<Session, AllocError>
-        requires { AreLimits (limits_of settings) }
+        requires { AreSettings settings }
         ensures fresh { IfOk result (λ s. (s.state ≡ no_state) × (s.log.entries ≡ [])
             × (s.shown ≡ None)) }
         ensures limits { IfOk result (λ s. s.limits ≡ limits_of settings) }
     {
-        let search = Search::new(alloc)?;
-        let Ok(log) = Log::new(alloc) else {
-            drop(search);
-            return Err(AllocError);
-        };
+        let log = Log::new(alloc)?;
         let parts = Parts {
             state: State::new(alloc),
             workspace: Workspace {
                 log,
-                search,
-                made: 0,
+                searches: Vec::new(alloc),
                 reached: Reached::new(alloc),
                 plan: Plan::new(alloc),
             },
             last: Last::new(),
-            limits: settings.limits(),
+            settings,
         };
         let parts = Box::new(alloc, parts)?;
         Ok(Session { parts })
@@ -281,11 +289,16 @@ impl Session {
     /// Does what a command says: gives the session behind it, and its response. A check's lines and record are written before
     /// the response is given. After an error there is no session any more; for want of numbers of assertions it is that of
     /// want of memory. Where a write failed, the proof has a front of the check's lines; for want of memory nothing is written.
-    pub fn command<Q: Sink>(
+    ///
+    /// Where the settings name several workers, each searches cubes of a check in a thread of its own, and waits for the others'
+    /// turns. What is promised is promised of a call that returns. The workers pass the gate at points of their work.
+    pub fn command<R: Threads + Wait + Sync, Q: Sink, G: Gate + Sync>(
         self,
+        rt: &R,
         alloc: Global,
         chunk: &Chunk,
         proof: &mut Q,
+        gate: &G,
     ) -> Result<(Session, Response), Stop>
         ensures answered { IfOk result (λ r. IsAnswered chunk.now self r.0 r.1
             (Q.written proof.old) (Q.written proof.new)) }
@@ -296,7 +309,7 @@ impl Session {
         ensures later { Q.faults proof.old ≤ Q.faults proof.new }
     {
         let Session { mut parts } = self;
-        match parts.command(alloc, chunk, proof) {
+        match parts.command(rt, alloc, chunk, proof, gate) {
             Ok(response) => Ok((Session { parts }, response)),
             Err(stop) => {
                 drop(parts);

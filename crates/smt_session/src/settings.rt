@@ -9,6 +9,8 @@ use check_cubes::Limits;
 /// How checks are searched.
 #[derive(Clone, Copy, Debug, PartialEq, Eq)]
 pub struct Settings {
+    /// How many workers search the cubes of a check, from 1 to 64.
+    pub workers: u32,
     /// How many variables split a check into cubes.
     pub cubes: u32,
     /// How many clauses the search of a cube may learn.
@@ -16,8 +18,9 @@ pub struct Settings {
 }
 
 impl Settings {
-    /// One cube, a budget of 100000 clauses.
+    /// One worker, one cube, a budget of 100000 clauses.
     pub const DEFAULT: Settings = Settings {
+        workers: 1,
         cubes: 0,
         budget: 100000,
     };

@@ -1,16 +1,23 @@
 // The steps that make a log of a plan.
 
-ghost use Rattle.std.specs.Prelude.{◌≡◌, ◌<◌, ◌≤◌, ◌+◌, ◌∷◌, ◌++◌, [], ℕ, List, All, OnOk, Ok, None, false, is_some, take, length};
+ghost use Rattle.std.specs.Prelude.{◌≡◌, ◌<◌, ◌≤◌, ◌+◌, ◌∷◌, ◌++◌, [], ℕ, List, All, MatchBool, OnOk, Ok, None, false, true, is_some, take, length};
 ghost use Rattle.smt_terms.specs.declared.node.Node.{Node as NodeValue};
-ghost use Rattle.smt_terms.specs.Terms.{declaration_of};
+ghost use Rattle.smt_terms.specs.Nodes.{node_at};
+ghost use Rattle.smt_terms.specs.Bits.{TermBits, bits_in, image_in};
+ghost use Rattle.smt_terms.specs.Ranks.{is_plain};
+ghost use Rattle.smt_terms.specs.Terms.{TermsValue, declaration_of, sort_of};
 ghost use Rattle.proof_log.specs.declared.entry.Entry.TheVariants as step;
 ghost use Rattle.proof_log.specs.Faults.{Answers};
-ghost use Rattle.proof_log.specs.Logs.{constant_width};
+ghost use Rattle.proof_log.specs.Logs.{constant_width, leaf_width};
 ghost use Rattle.proof_log.specs.Stored.{Stands};
 ghost use Rattle.reached_images.specs.declared.plan.Planned.{Planned as PlannedValue};
-ghost use Rattle.smt_session.specs.Growing.{HasBits, LeadsTo};
+ghost use Rattle.reached_images.specs.Plans.{IsPlan};
+ghost use Rattle.reached_images.specs.Settled.{AreOwn, KeepsItself};
+ghost use Rattle.smt_session.specs.Growing.{HasBits};
 ghost use Rattle.smt_session.specs.Sessions.{IsSession};
-ghost use Rattle.smt_session.specs.Planning.{AreTaken, IsForPlanned, Prepares};
+ghost use Rattle.smt_session.specs.Planning.{grown_by, AddsTerms, AreTakenOver, IsForPlanned};
+ghost use Rattle.smt_session.specs.Planning.{Encodes};
+ghost use Rattle.smt_session.specs.Thorough.{IsSeenAs};
 
 use crate::planned::plan_check;
 use crate::workspace::Workspace;
@@ -23,6 +30,7 @@ use smt_terms::sort::Sort;
 use smt_terms::terms::Terms;
 use std::alloc::{AllocError, Global};
 use std::mem;
+use theory_terms::shape::{Shape, shape_at};
 
 /// Whether an operator names what a script declared or a parameter of a definition, which no step makes.
 fn is_named(op: &Op) -> bool
@@ -52,7 +60,7 @@ fn push_node(alloc: Global, terms: &mut Terms, log: &mut Log, node: Node) -> Res
 /// The same over the terms of a state.
 fn take_node(alloc: Global, state: &mut State, log: &mut Log, node: Node) -> Result<(), AllocError>
     requires session { IsSession state.old log.old }
-    ensures leads { OnOk result (LeadsTo state.old log.old state.new log.new) }
+    ensures adds { OnOk result (AddsTerms state.old log.old state.new log.new) }
     ensures made { OnOk result (state.new.terms.nodes ≡ state.old.terms.nodes ++ node ∷ []) }
 {
     if is_named(&node.op) {
@@ -69,7 +77,7 @@ fn take_node(alloc: Global, state: &mut State, log: &mut Log, node: Node) -> Res
 }
 
 /// Makes the terms at these places.
-fn take_nodes(
+pub(crate) fn take_nodes(
     alloc: Global,
     state: &mut State,
     log: &mut Log,
@@ -79,7 +87,7 @@ fn take_nodes(
 ) -> Result<(), AllocError>
     requires session { IsSession state.old log.old }
     requires places { (from ≤ end) × (end ≤ length nodes.now) }
-    ensures leads { OnOk result (LeadsTo state.old log.old state.new log.new) }
+    ensures adds { OnOk result (AddsTerms state.old log.old state.new log.new) }
     ensures made { OnOk result ((base : List NodeValue)
         → state.old.terms.nodes ≡ base ++ take from nodes.now
         → state.new.terms.nodes ≡ base ++ take end nodes.now) }
@@ -92,7 +100,7 @@ fn take_nodes(
 }
 
 /// Whether the operator is a declared Bool or word.
-fn is_leaf(op: &Op) -> bool
+fn is_constant(op: &Op) -> bool
     ensures { result ≡ is_some (constant_width op.now) }
 {
     match op {
@@ -108,10 +116,41 @@ fn is_leaf(op: &Op) -> bool
     }
 }
 
+/// Whether no circuit gives the bits of a term: of a declared constant, an element of an array, a witness or an application that is
+/// a Bool or a word, or of an equality of arrays.
+fn is_free(terms: &Terms, term: TermId) -> bool
+    requires { term < length terms.now.nodes }
+    ensures { result ≡ is_some (leaf_width terms.now.nodes term) }
+{
+    match shape_at(terms, term) {
+        Shape::Declaring { sort, .. } => sort.is_plain(),
+        Shape::Selecting { .. } => terms.sort(term).is_plain(),
+        Shape::Witnessing { .. } => terms.sort(term).is_plain(),
+        Shape::Applying { .. } => terms.sort(term).is_plain(),
+        Shape::Equating { left, .. } => left < term && !terms.sort(left).is_plain(),
+        _ => false,
+    }
+}
+
+/// Whether a term gets its bits as a leaf: of all whose bits no circuit gives, declared Bools and words alone where functions and
+/// arrays are not read.
+fn is_leaf(terms: &Terms, term: TermId, theories: bool) -> bool
+    requires { term < length terms.now.nodes }
+    ensures words { theories ≡ false
+        → result ≡ is_some (constant_width (node_at terms.now.nodes term).op) }
+    ensures all { theories ≡ true → result ≡ is_some (leaf_width terms.now.nodes term) }
+{
+    if theories {
+        is_free(terms, term)
+    } else {
+        is_constant(&terms.node(term).op)
+    }
+}
+
 /// The step that gives a term its bits.
-fn step_for(terms: &Terms, planned: &Planned) -> Entry
+fn step_for(terms: &Terms, planned: &Planned, theories: bool) -> Entry
     requires { planned.now.term < length terms.now.nodes }
-    ensures { IsForPlanned terms.now.nodes planned.now result }
+    ensures { IsForPlanned theories terms.now.nodes planned.now result }
 {
     match planned.used {
         Some(used) => Entry::Rewrite(RuleUse {
@@ -120,7 +159,7 @@ fn step_for(terms: &Terms, planned: &Planned) -> Entry
             to: used.to,
         }),
         None => {
-            if is_leaf(&terms.node(planned.term).op) {
+            if is_leaf(terms, planned.term, theories) {
                 Entry::Leaf(planned.term)
             } else {
                 Entry::Encode(planned.term)
@@ -129,19 +168,41 @@ fn step_for(terms: &Terms, planned: &Planned) -> Entry
     }
 }
 
-/// Adds the step that gives a term its bits. No step of a plan is refused; a refusal would be an error like want of memory.
+/// Whether a step of a plan is for an array, which has no bits.
+fn is_for_array(terms: &Terms, planned: &Planned) -> bool
+    requires { planned.now.term < length terms.now.nodes }
+    ensures { MatchBool result ((planned.now.used ≡ None)
+        × (is_plain (sort_of terms.now.nodes planned.now.term) ≡ false))
+        (planned.now.used ≡ None
+        → is_plain (sort_of terms.now.nodes planned.now.term) ≡ true) }
+{
+    planned.used.is_none() && !terms.sort(planned.term).is_plain()
+}
+
+/// Adds the step that gives a term its bits, unless it is an array. No step of a plan is refused; a refusal would be an error like want of memory.
 fn take_step(
     alloc: Global,
     state: &State,
     log: &mut Log,
     planned: &Planned,
+    theories: bool,
 ) -> Result<(), AllocError>
     requires session { IsSession state.now log.old }
+    requires read { state.now.symbols.theories ≡ theories }
     requires held { planned.now.term < length state.now.terms.nodes }
-    ensures { OnOk result (AreTaken state.now log.old state.now log.new (planned.now ∷ [])) }
+    // over terms that have perhaps grown, where the term keeps its operator only if it has to
+    ensures { OnOk result ((v : TermsValue) (bits : List TermBits) (before : List PlannedValue)
+        (rest : List NodeValue)
+        → v.nodes ≡ state.now.terms.nodes ++ rest → IsPlan v.nodes bits before
+        → IsSeenAs v.nodes bits before (bits_in log.old.bits) (image_in log.old.bits)
+        → (planned.now.used ≡ None → KeepsItself v bits before planned.now.term)
+        → AreTakenOver v bits before state.now log.old state.now log.new (planned.now ∷ [])) }
 {
     let terms = state.terms();
-    match log.try_put(alloc, terms, step_for(terms, planned)) {
+    if is_for_array(terms, planned) {
+        return Ok(());
+    }
+    match log.try_put(alloc, terms, step_for(terms, planned, theories)) {
         Ok(_) => Ok(()),
         Err(_) => Err(AllocError),
     }
@@ -168,11 +229,16 @@ fn take_plan(
     log: &mut Log,
     steps: &[Planned],
     made: &[Node],
+    theories: bool,
 ) -> Result<(), AllocError>
     requires session { IsSession state.old log.old }
+    requires read { state.old.symbols.theories ≡ theories }
     requires held { All
         (λ (p : PlannedValue). p.term < length state.old.terms.nodes + length made.now) steps.now }
-    ensures taken { OnOk result (AreTaken state.old log.old state.new log.new steps.now) }
+    requires plan { IsPlan (state.old.terms.nodes ++ made.now) log.old.bits steps.now }
+    requires own { AreOwn (grown_by state.old.terms made.now) log.old.bits steps.now }
+    ensures taken { OnOk result (AreTakenOver (grown_by state.old.terms made.now) log.old.bits []
+        state.old log.old state.new log.new steps.now) }
     ensures made { OnOk result (state.new.terms.nodes ≡ state.old.terms.nodes ++ made.now) }
 {
     let before = state.terms().len() as usize;
@@ -181,25 +247,29 @@ fn take_plan(
         let end = end_for(planned, before, done, made.len());
         take_nodes(alloc, state, log, made, done, end)?;
         done = end;
-        take_step(alloc, state, log, planned)?;
+        take_step(alloc, state, log, planned, theories)?;
     }
     take_nodes(alloc, state, log, made, done, made.len())?;
     Ok(())
 }
 
-/// Gives all that the roots reach and that needs them bits: those of what it becomes by the rules of rewriting.
+/// Gives all Bools and words that the roots reach and that need them bits: those of what they become by the rules of rewriting. The
+/// caller says whether functions and arrays are read.
 pub(crate) fn rewrite(
     alloc: Global,
     state: &mut State,
     workspace: &mut Workspace,
     roots: &[TermId],
+    theories: bool,
 ) -> Result<(), AllocError>
     requires session { IsSession state.old workspace.old.log }
+    requires read { state.old.symbols.theories ≡ theories }
     requires held { All (λ t. t < length state.old.terms.nodes) roots.now }
-    ensures prepares { OnOk result
-        (Prepares state.old workspace.old.log state.new workspace.new.log) }
+    requires plain { All (λ t. is_plain (sort_of state.old.terms.nodes t) ≡ true) roots.now }
+    ensures encodes { OnOk result
+        (Encodes state.old workspace.old.log state.new workspace.new.log) }
     ensures roots { OnOk result (All (HasBits workspace.new.log) roots.now) }
-    ensures search { OnOk result (workspace.new.search ≡ workspace.old.search) }
+    ensures searches { OnOk result (workspace.new.searches ≡ workspace.old.searches) }
 {
     let made = plan_check(
         alloc,
@@ -215,6 +285,7 @@ pub(crate) fn rewrite(
         &mut workspace.log,
         workspace.plan.steps(),
         made.as_slice(),
+        theories,
     )?;
     Ok(())
 }

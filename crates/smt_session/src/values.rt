@@ -1,6 +1,6 @@
 // The values of terms in a model (SMT-LIB 2.6, section 4.2.6).
 
-ghost use Rattle.std.specs.Prelude.{◌≡◌, ◌<◌, ◌++◌, All, IfOk, OnOk, codes, false, length, map};
+ghost use Rattle.std.specs.Prelude.{◌≡◌, ◌<◌, ◌++◌, All, IfOk, codes, false, length, map};
 ghost use Rattle.smt_values.specs.Held.{interpretation_of, meaning};
 ghost use Rattle.smt_eval.specs.Evaluated.{is_table};
 ghost use Rattle.script_state.specs.declared.answer.Asked.{Asked as AskedValue};

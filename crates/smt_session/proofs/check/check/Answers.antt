@@ -1,14 +1,14 @@
 use Rattle.std.proofs.lemmas.Result.{IfOk-weaker}
-use Rattle.check_cubes.specs.Searches.{limits_of}
+use Rattle.smt_session.specs.Sessions.{limits_of}
 use Rattle.smt_session.proofs.Checked.{is_checked}
 use Rattle.smt_session.proofs.Leading.{session_led}
 use Rattle.smt_session.proofs.check.check.Goals as goal
 
 pub conclude-requires-clause-session : goal.conclude-requires-clause-session
-conclude-requires-clause-session c = session_led c.args.state.now c.prepare.new.state c.args.workspace.now.log c.prepare.new.workspace.log c.requires.session c.in_ok-prepared.ensures.prepares.leads
+conclude-requires-clause-session g c κs within = session_led c.args.state.now c.prepare.new.state c.args.workspace.now.log c.prepare.new.workspace.log c.requires.session c.in_ok-prepared.ensures.prepares.leads
 
 pub returns-clause-checked : goal.returns-clause-checked
-returns-clause-checked c =
+returns-clause-checked g c =
     IfOk-weaker c.conclude.result _ _
-    (λ r. is_checked (limits_of c.args.limits) c.args.state.now c.prepare.new.state c.args.workspace.now.log c.prepare.new.workspace.log c.conclude.new.workspace.log r c.requires.session c.in_ok-prepared.ensures.prepares)
+    (λ r. is_checked (limits_of c.args.settings) c.args.state.now c.prepare.new.state c.args.workspace.now.log c.prepare.new.workspace.log c.conclude.new.workspace.log r c.requires.session c.in_ok-prepared.ensures.prepares)
     c.conclude.ensures.checked

@@ -16,4 +16,4 @@ returns-clause-planned c =
     (rw c.in_ok-order.ensures.same at c.in_ok-plan_each.ensures.grown) (rw c.in_ok-order.ensures.same at c.len-from.ensures.length) c.in_ok-made.ensures c.bits.ensures c.in_ok-plan_each.ensures.plan
     (among_all (IsKnown c.bits.result.now c.plan_each.new.plan) c.as_slice.result.now c.args.roots.now c.in_ok-plan_each.ensures.order
     (subst (λ l. All (Contains l) c.args.roots.now) (sym c.as_slice.ensures.value) c.in_ok-order.ensures.roots))
-    (rw c.in_ok-order.ensures.same at c.in_ok-plan_each.ensures.needed)
+    (rw c.in_ok-order.ensures.same at c.in_ok-plan_each.ensures.needed) c.in_ok-plan_each.ensures.own

@@ -6,7 +6,7 @@ use Rattle.smt_session.proofs.reach.reach_by_images.Goals as goal
 pub reach-requires-clause-acyclic : goal.reach-requires-clause-acyclic
 reach-requires-clause-acyclic c =
     rw (c.terms-terms.ensures.terms, c.bits.ensures)
-    (log_acyclic c.args.state.now.terms.nodes c.args.log.now c.requires.session.state.terms c.requires.session.stands (words_of c.args.state.now c.args.log.now.entries c.requires.session.each))
+    (log_acyclic c.args.state.now.terms.nodes c.args.log.now c.requires.session.state.terms c.requires.session.stands (words_of c.args.state.now c.args.log.now.entries c.requires.session.theories c.requires.session.each))
 
 pub reach-requires-clause-within : goal.reach-requires-clause-within
 reach-requires-clause-within c =
@@ -29,4 +29,4 @@ returns-clause-from c =
 pub returns-clause-bits : goal.returns-clause-bits
 returns-clause-bits c =
     reached_have_bits c.args.state.now.terms.nodes c.args.log.now c.requires.session.state.terms c.requires.session.stands c.args.from.now c.reach.new.reached (rw (c.terms-terms.ensures.terms, c.bits.ensures) at c.in_ok-reach.ensures)
-    (words_of c.args.state.now c.args.log.now.entries c.requires.session.each) c.requires.bits
+    (words_of c.args.state.now c.args.log.now.entries c.requires.session.theories c.requires.session.each) c.requires.bits

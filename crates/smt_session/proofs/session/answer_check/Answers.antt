@@ -4,22 +4,25 @@ use Rattle.std.proofs.lemmas.Result.{err_from_is_err_and}
 use Rattle.script_state.specs.declared.answer.Answer.TheVariants as answer
 use Rattle.script_state.specs.States.{concluded}
 use Rattle.accepted_proof.specs.Answers.{verdict_text}
-use Rattle.check_cubes.specs.Searches.{limits_of}
-use Rattle.smt_session.specs.Sessions.{Responds, response}
+use Rattle.smt_session.specs.Sessions.{Responds, limits_of, response}
+use Rattle.smt_session.proofs.Arrayless.{watches_fit}
 use Rattle.smt_session.proofs.Responding.{check_responds, check_cut, check_keeps}
 use Rattle.smt_session.proofs.session.answer_check.Goals as goal
 
+pub run_check-requires-clause-fits : goal.run_check-requires-clause-fits
+run_check-requires-clause-fits g c κs within = watches_fit c.args.state.now c.requires.session.state c.requires.session.theories (rw c.terms.ensures.terms at c.len-count.ensures.terms)
+
 pub returns-clause-session : goal.returns-clause-session
 returns-clause-session g c =
-    check_keeps (limits_of c.args.limits) c.args.state.now c.run_check.new.state c.conclude.new.self c.args.workspace.now.log c.run_check.new.workspace.log c.in_ok-shown.shown c.requires.session c.in_ok-shown.ensures.checked
+    check_keeps (limits_of c.args.settings) c.args.state.now c.run_check.new.state c.conclude.new.self c.args.workspace.now.log c.run_check.new.workspace.log c.in_ok-shown.shown c.requires.session c.in_ok-shown.ensures.checked
     (c.conclude.ensures ∙ ap (concluded c.run_check.new.state) c.verdict_of-verdict.ensures)
 
 pub returns-clause-response : goal.returns-clause-response
 returns-clause-response g c =
     subst
-    (λ now. Responds (limits_of c.args.limits) c.args.line answer.Check c.args.state.now c.conclude.new.self c.args.workspace.now.log c.run_check.new.workspace.log c.args.last.now now c.in_ok-response.response (g.Q.Sink.written c.args.proof.now) (g.Q.Sink.written c.write_lines.new.proof))
+    (λ now. Responds (limits_of c.args.settings) c.args.line answer.Check c.args.state.now c.conclude.new.self c.args.workspace.now.log c.run_check.new.workspace.log c.args.last.now now c.in_ok-response.response (g.Q.Sink.written c.args.proof.now) (g.Q.Sink.written c.write_lines.new.proof))
     (sym c.put.ensures)
-    (check_responds (limits_of c.args.limits) c.args.line c.args.state.now c.run_check.new.state c.conclude.new.self c.args.workspace.now.log c.run_check.new.workspace.log c.in_ok-shown.shown c.in_ok-shown.text c.in_ok-response.response
+    (check_responds (limits_of c.args.settings) c.args.line c.args.state.now c.run_check.new.state c.conclude.new.self c.args.workspace.now.log c.run_check.new.workspace.log c.in_ok-shown.shown c.in_ok-shown.text c.in_ok-response.response
     (g.Q.Sink.written c.args.proof.now) (g.Q.Sink.written c.write_lines.new.proof) c.args.last.now
     c.in_ok-shown.ensures.checked c.in_ok-shown.ensures.text c.in_ok-shown.ensures.readable c.in_ok-write_lines.ensures.ok
     (c.in_ok-response.ensures ∙ ap (λ v. response (verdict_text v) false false) c.verdict_of-verdict.ensures)
@@ -40,6 +43,6 @@ returns-in_err-write_lines-clause-cut g c =
     let p = err_from_is_err_and c.from_residual-in_err-write_lines.result c.from_residual-in_err-write_lines.ensures.1 in
     let cut = c.in_err-write_lines.ensures.cut in
     rw (p.1, p.2, cut.0)
-    (check_cut (limits_of c.args.limits) c.args.state.now c.run_check.new.state c.args.workspace.now.log c.run_check.new.workspace.log c.in_ok-shown.shown c.in_ok-shown.text
+    (check_cut (limits_of c.args.settings) c.args.state.now c.run_check.new.state c.args.workspace.now.log c.run_check.new.workspace.log c.in_ok-shown.shown c.in_ok-shown.text
     (g.Q.Sink.written c.args.proof.now) (g.Q.Sink.written c.write_lines.new.proof)
     c.in_ok-shown.ensures.checked c.in_ok-shown.ensures.text c.in_ok-shown.ensures.readable cut.1)

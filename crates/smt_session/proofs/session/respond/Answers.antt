@@ -3,8 +3,7 @@ use Rattle.std.specs.Prelude.{Option}
 use Rattle.std.proofs.KnownBytes.{Appends-nil}
 use Rattle.std.proofs.lemmas.Result.{IfOk-weaker, IfErr-weaker, err_from_is_err_and}
 use Rattle.proof_text.specs.declared.record.Record.{Record}
-use Rattle.check_cubes.specs.Searches.{limits_of}
-use Rattle.smt_session.specs.Sessions.{Responds}
+use Rattle.smt_session.specs.Sessions.{Responds, limits_of}
 use Rattle.smt_session.proofs.Responding.{checks_nothing, of_check, cut_of_check}
 use Rattle.smt_session.proofs.session.respond.Goals as goal
 
@@ -21,9 +20,9 @@ response_without_check-requires-clause-unchecked g c = c.if-is_check.ensures
 pub returns-clause-response : goal.returns-clause-response
 returns-clause-response g c =
     subst
-    (λ (now : Option Record). Responds (limits_of c.args.limits) c.args.line c.args.answer c.args.state.now c.args.state.now c.args.workspace.now.log c.args.workspace.now.log c.args.last.now now c.in_ok-response.response (g.Q.Sink.written c.args.proof.now) (g.Q.Sink.written c.args.proof.now))
+    (λ (now : Option Record). Responds (limits_of c.args.settings) c.args.line c.args.answer c.args.state.now c.args.state.now c.args.workspace.now.log c.args.workspace.now.log c.args.last.now now c.in_ok-response.response (g.Q.Sink.written c.args.proof.now) (g.Q.Sink.written c.args.proof.now))
     (sym c.in_ok-response.ensures.same)
-    (c.in_ok-response.ensures.response (limits_of c.args.limits) (g.Q.Sink.written c.args.proof.now))
+    (c.in_ok-response.ensures.response (limits_of c.args.settings) (g.Q.Sink.written c.args.proof.now))
 
 pub returns-then-is_check-clause-cut : goal.returns-then-is_check-clause-cut
 returns-then-is_check-clause-cut g c =
