@@ -1,4 +1,4 @@
--- Words without a fault ask for a command with its files, and the limits that they give are numbers in range.
+-- Words without a fault ask for a command with its files, and the numbers that they give are in range.
 use Rattle.std.proofs.Common.{◌≡◌, Bool, true, false, List, [], ◌∷◌, Option, Some, None, refl, sym, ap, ◌∙◌, subst, inl, inr, ⊎_elim}
 use Rattle.std.specs.Prelude.{codes, ◌⊎◌, ◌||◌, is_some, not, if◌then◌else◌, option_map}
 use Rattle.std.specs.Option.{option_map_or}
@@ -10,10 +10,10 @@ use Rattle.clap.specs.Takes.{is_given}
 use Rattle.clap.specs.Faults.{fault_of, level_fault, check_fault, entered_fault}
 use Rattle.clap.proofs.OnLiterals.{clap_on_literals}
 use Rattle.smt_run.specs.declared.words.Command.{Command}
-use Rattle.smt_run.specs.declared.words.Command.TheVariants.{Solve, Check, Lrat}
-use Rattle.accepted_proof.specs.Searching.{Limits}
+use Rattle.smt_run.specs.declared.words.Command.TheVariants.{Solve, Check, Lrat, Cnf}
+use Rattle.smt_session.specs.declared.settings.Settings.{Settings}
 use Rattle.smt_run.proofs.OneValue.{ArePlain, AreFine, only_one, level_end, fine_after, value_given, number_of_option, no_option}
-use Rattle.smt_run.specs.Words.{proof_argument, script_argument, number_option, app_named, solve_app, program, name_of, limits_in, AreUpTo, AsksFor}
+use Rattle.smt_run.specs.Words.{proof_argument, script_argument, number_option, app_named, solve_app, program, name_of, settings_in, AreWithin, AsksFor}
 
 -- ---- the command line as it is built
 
@@ -23,17 +23,20 @@ first_file = with_index 1 (filled proof_argument)
 abbrev second_file : Rule
 second_file = with_index 2 (filled script_argument)
 
+abbrev workers_option : Rule
+workers_option = filled (number_option (codes "workers") 1 64)
+
 abbrev cubes_option : Rule
-cubes_option = filled (number_option (codes "cubes") 10)
+cubes_option = filled (number_option (codes "cubes") 0 10)
 
 abbrev budget_option : Rule
-budget_option = filled (number_option (codes "budget") 1000000000)
+budget_option = filled (number_option (codes "budget") 0 1000000000)
 
 abbrev files : List Rule
 files = first_file ∷ second_file ∷ []
 
-abbrev with_limits : List Rule
-with_limits = first_file ∷ second_file ∷ cubes_option ∷ budget_option ∷ []
+abbrev with_numbers : List Rule
+with_numbers = first_file ∷ second_file ∷ workers_option ∷ cubes_option ∷ budget_option ∷ []
 
 abbrev above : Shape
 above = (built program).top
@@ -47,11 +50,14 @@ check_leaf = built_leaf (inherited above (app_named (codes "check")).top)
 abbrev lrat_leaf : Shape
 lrat_leaf = built_leaf (inherited above (app_named (codes "lrat")).top)
 
-subs_are : (built program).subs ≡ solve_leaf ∷ check_leaf ∷ lrat_leaf ∷ []
+abbrev cnf_leaf : Shape
+cnf_leaf = built_leaf (inherited above (app_named (codes "cnf")).top)
+
+subs_are : (built program).subs ≡ solve_leaf ∷ check_leaf ∷ lrat_leaf ∷ cnf_leaf ∷ []
 unfolding clap_on_literals
 subs_are = refl
 
-solve_rules : solve_leaf.rules ≡ with_limits
+solve_rules : solve_leaf.rules ≡ with_numbers
 unfolding clap_on_literals
 solve_rules = refl
 
@@ -63,6 +69,10 @@ lrat_rules : lrat_leaf.rules ≡ files
 unfolding clap_on_literals
 lrat_rules = refl
 
+cnf_rules : cnf_leaf.rules ≡ files
+unfolding clap_on_literals
+cnf_rules = refl
+
 files_plain : ArePlain files
 unfolding clap_on_literals
 files_plain = record {
@@ -70,23 +80,28 @@ files_plain = record {
   no_short = λ x. refl;
 }
 
-limits_plain : ArePlain with_limits
+numbers_plain : ArePlain with_numbers
 unfolding clap_on_literals
-limits_plain = record {
-  each = (record { known = refl; action = refl; takes = refl; one = only_one; defaults = refl }, (record { known = refl; action = refl; takes = refl; one = only_one; defaults = refl }, (record { known = refl; action = refl; takes = refl; one = only_one; defaults = refl }, (record { known = refl; action = refl; takes = refl; one = only_one; defaults = refl }, tt))));
+numbers_plain = record {
+  each = (record { known = refl; action = refl; takes = refl; one = only_one; defaults = refl }, (record { known = refl; action = refl; takes = refl; one = only_one; defaults = refl }, (record { known = refl; action = refl; takes = refl; one = only_one; defaults = refl }, (record { known = refl; action = refl; takes = refl; one = only_one; defaults = refl }, (record { known = refl; action = refl; takes = refl; one = only_one; defaults = refl }, tt)))));
   no_short = λ x. refl;
 }
 
-numbers_of_solve : (rows : List Row) → AreFine with_limits rows → AreUpTo rows
+numbers_of_solve : (rows : List Row) → AreFine with_numbers rows → AreWithin rows
 unfolding clap_on_literals
 numbers_of_solve rows h = record {
-  cubes = number_of_option with_limits (codes "cubes") 10 refl rows h;
-  budget = number_of_option with_limits (codes "budget") 1000000000 refl rows h;
+  workers = number_of_option with_numbers (codes "workers") 1 64 refl rows h;
+  cubes = number_of_option with_numbers (codes "cubes") 0 10 refl rows h;
+  budget = number_of_option with_numbers (codes "budget") 0 1000000000 refl rows h;
 }
 
-numbers_of_files : (rows : List Row) → AreFine files rows → AreUpTo rows
+numbers_of_files : (rows : List Row) → AreFine files rows → AreWithin rows
 unfolding clap_on_literals
-numbers_of_files rows h = record { cubes = no_option files (codes "cubes") 10 refl rows h; budget = no_option files (codes "budget") 1000000000 refl rows h }
+numbers_of_files rows h = record {
+  workers = no_option files (codes "workers") 1 64 refl rows h;
+  cubes = no_option files (codes "cubes") 0 10 refl rows h;
+  budget = no_option files (codes "budget") 0 1000000000 refl rows h;
+}
 
 -- ---- the program
 
@@ -95,10 +110,10 @@ pub record IsFound (found : Option (Text × List Row)) (name : Text) : Type 0 wh
   pub command : found ≡ Some (name, rows)
   pub proof : Text
   pub proof_is : first_of (codes "PROOF") rows ≡ Some proof
-  pub numbers : AreUpTo rows
+  pub numbers : AreWithin rows
 
 abbrev pub Found : Option (Text × List Row) → Type 0
-Found found = IsFound found (codes "solve") ⊎ (IsFound found (codes "check") ⊎ IsFound found (codes "lrat"))
+Found found = IsFound found (codes "solve") ⊎ (IsFound found (codes "check") ⊎ (IsFound found (codes "lrat") ⊎ IsFound found (codes "cnf")))
 
 given_of : (b : Bool) → check_kinds false false (not b || false) ≡ [] → b ≡ true
 given_of true e = refl
@@ -107,9 +122,9 @@ given_of false e = let q : ⊥ = cc in absurd q
 solve_found : (words : List Text) → level_fault solve_leaf [] nothing_held words false [] ≡ [] → IsFound (Some (rows_at solve_leaf words)) (codes "solve")
 solve_found words e =
     let ends = level_end solve_leaf [] words false [] e in
-    let rows = rows_after with_limits [] words in
-    let fine : AreFine with_limits rows = fine_after solve_leaf refl limits_plain words ends in
-    let v = value_given with_limits (codes "PROOF") rows fine (given_of (is_given (codes "PROOF") rows) ends.check) in
+    let rows = rows_after with_numbers [] words in
+    let fine : AreFine with_numbers rows = fine_after solve_leaf refl numbers_plain words ends in
+    let v = value_given with_numbers (codes "PROOF") rows fine (given_of (is_given (codes "PROOF") rows) ends.check) in
     record { rows = rows; command = refl; proof = v.0; proof_is = v.1; numbers = numbers_of_solve rows fine }
 
 check_found : (words : List Text) → level_fault check_leaf [] nothing_held words false [] ≡ [] → IsFound (Some (rows_at check_leaf words)) (codes "check")
@@ -128,18 +143,27 @@ lrat_found words e =
     let v = value_given files (codes "PROOF") rows fine (given_of (is_given (codes "PROOF") rows) ends.check) in
     record { rows = rows; command = refl; proof = v.0; proof_is = v.1; numbers = numbers_of_files rows fine }
 
-abbrev either : Bool → Bool → Bool → Option Shape
-either b c d = if b then Some solve_leaf else (if c then Some check_leaf else (if d then Some lrat_leaf else None))
+cnf_found : (words : List Text) → level_fault cnf_leaf [] nothing_held words false [] ≡ [] → IsFound (Some (rows_at cnf_leaf words)) (codes "cnf")
+cnf_found words e =
+    let ends = level_end cnf_leaf [] words false [] e in
+    let rows = rows_after files [] words in
+    let fine : AreFine files rows = fine_after cnf_leaf refl files_plain words ends in
+    let v = value_given files (codes "PROOF") rows fine (given_of (is_given (codes "PROOF") rows) ends.check) in
+    record { rows = rows; command = refl; proof = v.0; proof_is = v.1; numbers = numbers_of_files rows fine }
 
-one_found : (b c d : Bool) (words : List Text) → is_some (option_map (λ s. rows_at s words) (either b c d)) ≡ true → option_map_or (λ s. level_fault s [] nothing_held words false []) (either b c d) [] ≡ [] → Found (option_map (λ s. rows_at s words) (either b c d))
-one_found true c d words h e = inl (solve_found words e)
-one_found false true d words h e = inr (inl (check_found words e))
-one_found false false true words h e = inr (inr (lrat_found words e))
-one_found false false false words h e = let q : ⊥ = cc in absurd q
+abbrev either : Bool → Bool → Bool → Bool → Option Shape
+either b c d e = if b then Some solve_leaf else (if c then Some check_leaf else (if d then Some lrat_leaf else (if e then Some cnf_leaf else None)))
+
+one_found : (b c d e : Bool) (words : List Text) → is_some (option_map (λ s. rows_at s words) (either b c d e)) ≡ true → option_map_or (λ s. level_fault s [] nothing_held words false []) (either b c d e) [] ≡ [] → Found (option_map (λ s. rows_at s words) (either b c d e))
+one_found true c d e words h k = inl (solve_found words k)
+one_found false true d e words h k = inr (inl (check_found words k))
+one_found false false true e words h k = inr (inr (inl (lrat_found words k)))
+one_found false false false true words h k = inr (inr (inr (cnf_found words k)))
+one_found false false false false words h k = let q : ⊥ = cc in absurd q
 
 stop_found : (o : Option (Text × List Text)) → is_some (entered (built program) o) ≡ true → entered_fault (built program) o ≡ [] → Found (entered (built program) o)
 stop_found None h e = let q : ⊥ = cc in absurd q
-stop_found (Some p) h e = one_found (answers_to p.0 (label_of solve_leaf)) (answers_to p.0 (label_of check_leaf)) (answers_to p.0 (label_of lrat_leaf)) p.1 h e
+stop_found (Some p) h e = one_found (answers_to p.0 (label_of solve_leaf)) (answers_to p.0 (label_of check_leaf)) (answers_to p.0 (label_of lrat_leaf)) (answers_to p.0 (label_of cnf_leaf)) p.1 h e
 
 wanted : (b : Bool) (rows : List Row) → check_fault above rows b ≡ [] → b ≡ true
 wanted true rows e = refl
@@ -156,22 +180,22 @@ rows_in None = []
 rows_in (Some p) = p.1
 
 -- the words of a command that is found give numbers in range
-pub numbers_found : (words : List Text) (name : Text) (rows : List Row) → fault_of program words ≡ [] → subcommand_of program words ≡ Some (name, rows) → AreUpTo rows
-numbers_found words name rows e found = ⊎_elim (λ f. from _ f) (λ k. ⊎_elim (λ f. from _ f) (λ f. from _ f) k) (faultless_found words e)
+pub numbers_found : (words : List Text) (name : Text) (rows : List Row) → fault_of program words ≡ [] → subcommand_of program words ≡ Some (name, rows) → AreWithin rows
+numbers_found words name rows e found = ⊎_elim (λ f. from _ f) (λ k. ⊎_elim (λ f. from _ f) (λ m. ⊎_elim (λ f. from _ f) (λ f. from _ f) m) k) (faultless_found words e)
   where
-    from : (n : Text) → IsFound (subcommand_of program words) n → AreUpTo rows
+    from : (n : Text) → IsFound (subcommand_of program words) n → AreWithin rows
     from n f =
         let same : f.rows ≡ rows = ap rows_in (sym f.command ∙ found) in
-        subst AreUpTo same f.numbers
+        subst AreWithin same f.numbers
 
 -- what is found asks for a command
-asked : (command : Command) (words : List Text) → fault_of program words ≡ [] → IsFound (subcommand_of program words) (name_of command) → (l : Limits) × AsksFor command l words
-asked command words e f = (limits_in f.rows, (f.proof, first_of (codes "SCRIPT") f.rows, record { taken = e; names = record { rows = f.rows; command = f.command; proof_is = f.proof_is; script_is = refl; limits_are = refl } }))
+asked : (command : Command) (words : List Text) → fault_of program words ≡ [] → IsFound (subcommand_of program words) (name_of command) → (s : Settings) × AsksFor command s words
+asked command words e f = (settings_in f.rows, (f.proof, first_of (codes "SCRIPT") f.rows, record { taken = e; names = record { rows = f.rows; command = f.command; proof_is = f.proof_is; script_is = refl; settings_are = refl } }))
 
--- words without a fault ask for one of the three
-pub faultless_asks : (words : List Text) → fault_of program words ≡ [] → ((l : Limits) × AsksFor Solve l words) ⊎ (((l : Limits) × AsksFor Check l words) ⊎ ((l : Limits) × AsksFor Lrat l words))
+-- words without a fault ask for one of the four
+pub faultless_asks : (words : List Text) → fault_of program words ≡ [] → ((s : Settings) × AsksFor Solve s words) ⊎ (((s : Settings) × AsksFor Check s words) ⊎ (((s : Settings) × AsksFor Lrat s words) ⊎ ((s : Settings) × AsksFor Cnf s words)))
 faultless_asks words e =
     ⊎_elim
     (λ f. inl (asked Solve words e f))
-    (λ k. inr (⊎_elim (λ f. inl (asked Check words e f)) (λ f. inr (asked Lrat words e f)) k))
+    (λ k. inr (⊎_elim (λ f. inl (asked Check words e f)) (λ m. inr (⊎_elim (λ f. inl (asked Lrat words e f)) (λ f. inr (asked Cnf words e f)) m)) k))
     (faultless_found words e)

@@ -8,3 +8,4 @@ pub mod Faultless
 pub mod WordsTaken
 pub mod Cutting
 pub mod Refuted
+pub mod Searched

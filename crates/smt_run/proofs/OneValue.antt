@@ -23,7 +23,7 @@ use Rattle.clap.specs.Walk.{first_of, one_of, row_text, at_row, more_values, wit
 use Rattle.clap.specs.Simple.{Shape, filled}
 use Rattle.clap.specs.Takes.{is_given}
 use Rattle.clap.specs.Faults.{level_fault, check_fault, walk_fault, turn_fault, word_fault, flag_word_fault, long_fault, option_fault, positional_fault, stray_fault, step_fault, settle_fault, use_fault, set_fault, action_fault, repeat_fault, values_fault, react_fault, defaults_fault}
-use Rattle.smt_run.specs.Words.{number_option, IsUpTo}
+use Rattle.smt_run.specs.Words.{number_option, IsWithin}
 use Rattle.cnf_base.proofs.Lists.{each_append}
 
 -- ---- the first of several faults
@@ -278,37 +278,37 @@ value_given c id (r ∷ rows) h e = go (bytes_eq r.id id) (value_given c id rows
     go false rest k = rest k
 
 -- a value that passes is a number in range
-number_passes : (most : ℕ) (v : Text) (vs : List Text) → values_kinds false (Unsigned 0 most) (v ∷ vs) ≡ [] → IsUnsignedIn 0 most v
-number_passes most v vs e = accepts-Accepts false (Unsigned 0 most) v (go (accepts false (Unsigned 0 most) v) (or_both (value_kinds false (Unsigned 0 most) v) (values_kinds false (Unsigned 0 most) vs) e).0)
+number_passes : (least most : ℕ) (v : Text) (vs : List Text) → values_kinds false (Unsigned least most) (v ∷ vs) ≡ [] → IsUnsignedIn least most v
+number_passes least most v vs e = accepts-Accepts false (Unsigned least most) v (go (accepts false (Unsigned least most) v) (or_both (value_kinds false (Unsigned least most) v) (values_kinds false (Unsigned least most) vs) e).0)
   where
     go : (b : Bool) → (if b then [] else ValueValidation ∷ []) ≡ [] → b ≡ true
     go true e = refl
     go false e = let q : ⊥ = cc in absurd q
 
 -- a row of a number's option
-number_in_row : (c : List Rule) (id : Text) (most : ℕ) (r : Row) → IsFine c r → arg_by_id c r.id ≡ Some (filled (number_option id most)) → IsUpTo most (row_text r)
-number_in_row c id most r fine e =
-    let same : fine.rule ≡ filled (number_option id most) = let i : Some fine.rule ≡ Some (filled (number_option id most)) = sym fine.known ∙ e in cc in
+number_in_row : (c : List Rule) (id : Text) (least most : ℕ) (r : Row) → IsFine c r → arg_by_id c r.id ≡ Some (filled (number_option id least most)) → IsWithin least most (row_text r)
+number_in_row c id least most r fine e =
+    let same : fine.rule ≡ filled (number_option id least most) = let i : Some fine.rule ≡ Some (filled (number_option id least most)) = sym fine.known ∙ e in cc in
     go r.values r.reading fine.full (subst (λ (a : Rule). values_fault a r.values ≡ []) same fine.good) (fine.reading ∙ ap reading_by same)
   where
-    go : (values : List Text) (how : Reading) → 0 < length values → values_kinds false (Unsigned 0 most) values ≡ [] → how ≡ AsWritten → IsUpTo most (option_map (read_as how) (slice_get values 0))
+    go : (values : List Text) (how : Reading) → 0 < length values → values_kinds false (Unsigned least most) values ≡ [] → how ≡ AsWritten → IsWithin least most (option_map (read_as how) (slice_get values 0))
     go [] how lt e w = absurd (omega (arith, lt))
-    go (v ∷ vs) how lt e w = subst (λ (x : Reading). IsUpTo most (Some (read_as x v))) (sym w) (number_passes most v vs e)
+    go (v ∷ vs) how lt e w = subst (λ (x : Reading). IsWithin least most (Some (read_as x v))) (sym w) (number_passes least most v vs e)
 
-pub number_of_option : (c : List Rule) (id : Text) (most : ℕ) → arg_by_id c id ≡ Some (filled (number_option id most)) → (rows : List Row) → AreFine c rows → IsUpTo most (one_of id rows)
-number_of_option c id most known [] h = tt
-number_of_option c id most known (r ∷ rows) h = go (bytes_eq r.id id) refl (number_of_option c id most known rows h.1)
+pub number_of_option : (c : List Rule) (id : Text) (least most : ℕ) → arg_by_id c id ≡ Some (filled (number_option id least most)) → (rows : List Row) → AreFine c rows → IsWithin least most (one_of id rows)
+number_of_option c id least most known [] h = tt
+number_of_option c id least most known (r ∷ rows) h = go (bytes_eq r.id id) refl (number_of_option c id least most known rows h.1)
   where
-    go : (b : Bool) → bytes_eq r.id id ≡ b → IsUpTo most (one_of id rows) → IsUpTo most (option_and_then row_text (if b then Some r else find (λ (x : Row). bytes_eq x.id id) rows))
-    go true e rest = number_in_row c id most r h.0 (ap (arg_by_id c) ((bytes_eq-Decides r.id id).0 e) ∙ known)
+    go : (b : Bool) → bytes_eq r.id id ≡ b → IsWithin least most (one_of id rows) → IsWithin least most (option_and_then row_text (if b then Some r else find (λ (x : Row). bytes_eq x.id id) rows))
+    go true e rest = number_in_row c id least most r h.0 (ap (arg_by_id c) ((bytes_eq-Decides r.id id).0 e) ∙ known)
     go false e rest = rest
 
 -- a command without the option has no row of it
-pub no_option : (c : List Rule) (id : Text) (most : ℕ) → arg_by_id c id ≡ None → (rows : List Row) → AreFine c rows → IsUpTo most (one_of id rows)
-no_option c id most none [] h = tt
-no_option c id most none (r ∷ rows) h = go (bytes_eq r.id id) refl (no_option c id most none rows h.1)
+pub no_option : (c : List Rule) (id : Text) (least most : ℕ) → arg_by_id c id ≡ None → (rows : List Row) → AreFine c rows → IsWithin least most (one_of id rows)
+no_option c id least most none [] h = tt
+no_option c id least most none (r ∷ rows) h = go (bytes_eq r.id id) refl (no_option c id least most none rows h.1)
   where
-    go : (b : Bool) → bytes_eq r.id id ≡ b → IsUpTo most (one_of id rows) → IsUpTo most (option_and_then row_text (if b then Some r else find (λ (x : Row). bytes_eq x.id id) rows))
+    go : (b : Bool) → bytes_eq r.id id ≡ b → IsWithin least most (one_of id rows) → IsWithin least most (option_and_then row_text (if b then Some r else find (λ (x : Row). bytes_eq x.id id) rows))
     go true e rest =
         let i : Some h.0.rule ≡ None = sym h.0.known ∙ ap (arg_by_id c) ((bytes_eq-Decides r.id id).0 e) ∙ none in
         let q : ⊥ = cc in absurd q

@@ -14,6 +14,7 @@ use Rattle.proof_text.specs.Lines.{line_text}
 use Rattle.accepted_proof.specs.Turns.{Turn, AreTurns, turn_lines}
 use Rattle.accepted_proof.specs.Right.{AreRight, ArePrinted}
 use Rattle.accepted_proof.specs.Answers.{answers_of, is_refused, header_text, proof_of}
+use Rattle.accepted_proof.proofs.Plain.{accepted_turns}
 use Rattle.accepted_proof.specs.Accepted.{AreRead, AreAll, Accepted, EndLast, IsFront, IsBegun, has_error}
 use Rattle.proof_checker.specs.Checked.{IsAccepted, verdicts_of}
 use Rattle.smt_check.specs.declared.status.Status.{Status}
@@ -43,7 +44,7 @@ checked_cut limits pass allowed text chunks turns front read last run =
       rest = k.1;
       text_is = k.2;
       whole = k.3;
-      checked = pass k.0 (proof_of limits turns) turns (record { allowed = allowed; chunks = chunks; cut = inl k.3; read = read; last = last; run = run; lines = refl });
+      checked = pass k.0 (proof_of limits turns) turns (accepted_turns no_state limits k.0 turns chunks allowed (inl k.3) read last run);
     }
 
 -- ---- texts
@@ -310,14 +311,14 @@ module _ (limits : Limits) where
   told_all (Some x) (Some y) None (Some z) (Some m) p' refused status allowed law pass e h w = absurd w.adds.answers
   told_all (Some x) (Some y) (Some y') (Some z) (Some m) None refused status allowed law pass e h w = absurd w.adds.proof
   told_all (Some x) (Some y) (Some y') (Some z) (Some m) (Some z') refused status allowed law pass e h w =
-      let accepted : Accepted limits x (header_text limits ++ lines_of w.turns) w.turns = record { allowed = allowed; chunks = w.chunks; cut = w.cut; read = w.adds.follow.read; last = w.adds.follow.last; run = w.adds.follow.run; lines = refl } in (
+      let accepted : Accepted limits x (header_text limits ++ lines_of w.turns) w.turns = accepted_turns no_state limits x w.turns w.chunks allowed w.cut w.adds.follow.read w.adds.follow.last w.adds.follow.run in (
         answers_of w.turns,
         header_text limits ++ lines_of w.turns,
         ap Some (rw append-nil at w.adds.answers),
         ap Some (added_proof z m z' _ h (rw append-nil at w.adds.proof)),
         record {
           turns = w.turns;
-          whole = record { accepted = accepted; texts = refl };
+          whole = record { accepted = accepted; run = w.adds.follow.run; lines = refl; texts = refl };
           checked = pass x (header_text limits ++ lines_of w.turns) w.turns accepted;
           thorough = w.adds.thorough;
           right = (law w.turns w.adds.follow.run).0;
@@ -371,12 +372,12 @@ module _ (limits : Limits) where
       front = front_of_all text k.whole.accepted.chunks k.turns k.whole.accepted.cut;
       read = k.whole.accepted.read;
       last = k.whole.accepted.last;
-      run = k.whole.accepted.run;
-      lines = k.whole.accepted.lines ∙ sym (append-nil (proof_of limits k.turns));
+      run = k.whole.run;
+      lines = k.whole.lines ∙ sym (append-nil (proof_of limits k.turns));
       texts = k.whole.texts ∙ sym (append-nil (answers_of k.turns));
       unfinished = inl refl;
     };
-    checked = checked_cut limits pass k.whole.accepted.allowed text k.whole.accepted.chunks k.turns (front_of_all text k.whole.accepted.chunks k.turns k.whole.accepted.cut) k.whole.accepted.read k.whole.accepted.last k.whole.accepted.run;
+    checked = checked_cut limits pass k.whole.accepted.allowed text k.whole.accepted.chunks k.turns (front_of_all text k.whole.accepted.chunks k.turns k.whole.accepted.cut) k.whole.accepted.read k.whole.accepted.last k.whole.run;
     behind = inl (refl, refl);
     thorough = k.thorough;
     right = k.right;
@@ -391,7 +392,7 @@ module _ (limits : Limits) where
     front = front_of_all text k.whole.accepted.chunks k.turns k.whole.accepted.cut;
     read = k.whole.accepted.read;
     last = k.whole.accepted.last;
-    run = k.whole.accepted.run;
+    run = k.whole.run;
     answers = sym k.whole.texts ∙ sym (append-nil answered);
   }
 

@@ -12,10 +12,12 @@ use Rattle.clap.proofs.WalkLemmas.{first_value-rows}
 use Rattle.clap.specs.declared.parser.matches.ArgMatches.{ArgMatches}
 use Rattle.clap.specs.declared.parser.matches.ArgMatches.TheViews.{out-ArgMatches}
 use Rattle.smt_run.specs.declared.words.Command.{Command}
-use Rattle.smt_run.specs.declared.words.Command.TheVariants.{Solve, Check, Lrat}
+use Rattle.smt_run.specs.declared.words.Command.TheVariants.{Solve, Check, Lrat, Cnf}
 use Rattle.smt_run.proofs.Faultless.{faultless_asks, numbers_found}
-use Rattle.accepted_proof.specs.Searching.{Limits, AreLimits}
-use Rattle.smt_run.specs.Words.{program, Names, name_of, Asks, AsksFor, IsToSolve, IsToSolveWithin, IsToCheck, IsToRefute, AreTaken, limits_in, number_or, IsUpTo, AreUpTo}
+use Rattle.accepted_proof.specs.Searching.{Limits}
+use Rattle.smt_session.specs.declared.settings.Settings.{Settings}
+use Rattle.smt_session.specs.Sessions.{AreSettings, limits_of}
+use Rattle.smt_run.specs.Words.{program, Names, name_of, Asks, AsksFor, IsToSolve, IsToSolveWithin, IsToCheck, IsToRefute, IsToSearch, AreTaken, settings_in, number_or, IsWithin, AreWithin}
 
 -- a name and rows
 abbrev Entry : Type 0
@@ -45,25 +47,25 @@ rows_same o name t rows others e h = sym (ap rows_of_entry e) ∙ ap rows_of_ent
 pub found_rows : (m files : ArgMatches) (name : Text) → Some name ≡ subcommand_name_of m → Some (rows_of (found_of files)) ≡ option_map (λ (p : Text × List Row). p.1) (subcommand_rows_of m) → subcommand_rows_of m ≡ Some (name, rows_of (found_of files))
 found_rows m files name e h = both _ _ (out-ArgMatches m).subcommand name (rows_of (found_of files)) e h
 
-pub names_in : (m files : ArgMatches) (name proof : Text) (command : Command) (s : Option (Bor Text)) (limits : Limits) → subcommand_rows_of m ≡ Some (name, rows_of (found_of files)) → name ≡ name_of command → Some proof ≡ first_value (found_of files) (codes "PROOF") → option_map (λ x. x.now) s ≡ first_value (found_of files) (codes "SCRIPT") → limits ≡ limits_in (rows_of (found_of files))
-    → Names (subcommand_rows_of m) (name_of command) proof (option_map (λ x. x.now) s) limits
-names_in m files name proof command s limits e n p q l = record {
+pub names_in : (m files : ArgMatches) (name proof : Text) (command : Command) (s : Option (Bor Text)) (settings : Settings) → subcommand_rows_of m ≡ Some (name, rows_of (found_of files)) → name ≡ name_of command → Some proof ≡ first_value (found_of files) (codes "PROOF") → option_map (λ x. x.now) s ≡ first_value (found_of files) (codes "SCRIPT") → settings ≡ settings_in (rows_of (found_of files))
+    → Names (subcommand_rows_of m) (name_of command) proof (option_map (λ x. x.now) s) settings
+names_in m files name proof command s settings e n p q l = record {
   rows = rows_of (found_of files);
   command = e ∙ ap (λ t. Some (t, rows_of (found_of files))) n;
   proof_is = sym (first_value-rows (found_of files) (codes "PROOF")) ∙ sym p;
   script_is = sym (first_value-rows (found_of files) (codes "SCRIPT")) ∙ sym q;
-  limits_are = sym l;
+  settings_are = sym l;
 }
 
 -- where there is no proof file
-pub no_names : (m files : ArgMatches) (name t proof : Text) (script : Option Text) (limits : Limits) → subcommand_rows_of m ≡ Some (name, rows_of (found_of files)) → None ≡ first_value (found_of files) (codes "PROOF") → Names (subcommand_rows_of m) t proof script limits → ⊥
-no_names m files name t proof script limits e p k =
+pub no_names : (m files : ArgMatches) (name t proof : Text) (script : Option Text) (settings : Settings) → subcommand_rows_of m ≡ Some (name, rows_of (found_of files)) → None ≡ first_value (found_of files) (codes "PROOF") → Names (subcommand_rows_of m) t proof script settings → ⊥
+no_names m files name t proof script settings e p k =
     let same : rows_of (found_of files) ≡ k.rows = rows_same (subcommand_rows_of m) name t (rows_of (found_of files)) k.rows e k.command in
     let q : None ≡ Some proof = p ∙ first_value-rows (found_of files) (codes "PROOF") ∙ ap (first_of (codes "PROOF")) same ∙ k.proof_is in
     let z : ⊥ = cc in z
 
 -- a number in range is read as it is
-pub number_read : {E : Type 0} (G : List ℕ → Result ℕ E → Type 0) (usual : ℕ) (t : Option Text) (o : Option ℕ) → (t ≡ None → o ≡ None) → ((x : Text) → t ≡ Some x → ReadsOne G x o) → ((x : Text) (r : Result ℕ E) → G x r → ParsesUnsigned 32 10 x r) → IsUpTo 4294967295 t → unwrap_or o usual ≡ number_or usual t
+pub number_read : {E : Type 0} (G : List ℕ → Result ℕ E → Type 0) (usual : ℕ) (t : Option Text) (o : Option ℕ) → (t ≡ None → o ≡ None) → ((x : Text) → t ≡ Some x → ReadsOne G x o) → ((x : Text) (r : Result ℕ E) → G x r → ParsesUnsigned 32 10 x r) → IsWithin 0 4294967295 t → unwrap_or o usual ≡ number_or usual t
 number_read G usual None o none read only h = ap (λ (x : Option ℕ). unwrap_or x usual) (none refl)
 number_read {E} G usual (Some t) o none read only h = go o (read t refl)
   where
@@ -71,10 +73,10 @@ number_read {E} G usual (Some t) o none read only h = go o (read t refl)
     go (Some n) r = (only t (Ok n) r).1
     go None r = absurd (only t (Err r.0) r.1 (h.0, omega (arith, h.3)))
 
--- a number up to a greatest one is one up to a greater one
-pub up_to : (n m : ℕ) (o : Option Text) → n ≤ m → IsUpTo n o → IsUpTo m o
-up_to n m None lt h = tt
-up_to n m (Some t) lt h = (h.0, h.1, h.2, omega (arith, lt, h.3))
+-- a number between two others is one up to a greater one
+pub up_to : (least n m : ℕ) (o : Option Text) → n ≤ m → IsWithin least n o → IsWithin 0 m o
+up_to least n m None lt h = tt
+up_to least n m (Some t) lt h = (h.0, h.1, omega arith, omega (arith, lt, h.3))
 
 simple : is_simple program ≡ true
 unfolding clap_on_literals
@@ -85,31 +87,35 @@ found_same : (app : App) (m : ArgMatches) (words : List Text) → app ≡ progra
 found_same app m words e h = (h (ap is_simple e ∙ simple)).1 ∙ ap (λ a. subcommand_of a words) e
 
 -- a parse of the program's command line finds what is asked for by words that are taken
-pub nothing_asked : (app : App) (m : ArgMatches) (words : List Text) → app ≡ program → HasMatchesOf app words m → ((command : Command) (proof : Text) (script : Option Text) (limits : Limits) → Names (subcommand_rows_of m) (name_of command) proof script limits → ⊥) → AreTaken words → ⊥
+pub nothing_asked : (app : App) (m : ArgMatches) (words : List Text) → app ≡ program → HasMatchesOf app words m → ((command : Command) (proof : Text) (script : Option Text) (settings : Settings) → Names (subcommand_rows_of m) (name_of command) proof script settings → ⊥) → AreTaken words → ⊥
 nothing_asked app m words e h none k =
     let found : subcommand_rows_of m ≡ subcommand_of program words = found_same app m words e h in
-    let no_one : (command : Command) → ((l : Limits) × AsksFor command l words) → ⊥ = λ command s. none command s.1.0 s.1.1 s.0 (subst (λ o. Names o (name_of command) s.1.0 s.1.1 s.0) (sym found) s.1.2.names) in
-    ⊎_elim (no_one Solve) (⊎_elim (no_one Check) (no_one Lrat)) (faultless_asks words k)
+    let no_one : (command : Command) → ((s : Settings) × AsksFor command s words) → ⊥ = λ command s. none command s.1.0 s.1.1 s.0 (subst (λ o. Names o (name_of command) s.1.0 s.1.1 s.0) (sym found) s.1.2.names) in
+    ⊎_elim (no_one Solve) (⊎_elim (no_one Check) (⊎_elim (no_one Lrat) (no_one Cnf))) (faultless_asks words k)
 
 free : is_simple_and_free program ≡ true
 unfolding clap_on_literals
 free = refl
 
 -- and its numbers are in range
-pub numbers_asked : (app : App) (m : ArgMatches) (words : List Text) → app ≡ program → HasMatchesOf app words m → (is_simple_and_free app ≡ true → fault_of app words ≡ []) → (name : Text) (rows : List Row) → subcommand_rows_of m ≡ Some (name, rows) → AreUpTo rows
+pub numbers_asked : (app : App) (m : ArgMatches) (words : List Text) → app ≡ program → HasMatchesOf app words m → (is_simple_and_free app ≡ true → fault_of app words ≡ []) → (name : Text) (rows : List Row) → subcommand_rows_of m ≡ Some (name, rows) → AreWithin rows
 numbers_asked app m words e h k name rows found =
     numbers_found words name rows (subst (λ a. fault_of a words ≡ []) e (k (ap is_simple_and_free e ∙ free))) (sym (found_same app m words e h) ∙ found)
 
--- numbers in range are limits
-pub limits_in_range : (rows : List Row) → AreUpTo rows → AreLimits (limits_in rows)
-limits_in_range rows h = record { cubes = upto 10 0 (omega arith) _ h.cubes; budget = upto 1000000000 100000 (omega arith) _ h.budget }
+-- numbers in range are allowed
+pub settings_in_range : (rows : List Row) → AreWithin rows → AreSettings (settings_in rows)
+settings_in_range rows h = record {
+  limits = record { cubes = (within 0 10 0 (omega arith) (omega arith) _ h.cubes).1; budget = (within 0 1000000000 100000 (omega arith) (omega arith) _ h.budget).1 };
+  some = (within 1 64 1 (omega arith) (omega arith) _ h.workers).0;
+  few = (within 1 64 1 (omega arith) (omega arith) _ h.workers).1;
+}
   where
-    upto : (most usual : ℕ) → usual ≤ most → (o : Option Text) → IsUpTo most o → number_or usual o ≤ most
-    upto most usual lt None h = lt
-    upto most usual lt (Some t) h = h.3
+    within : (least most usual : ℕ) → least ≤ usual → usual ≤ most → (o : Option Text) → IsWithin least most o → (least ≤ number_or usual o) × (number_or usual o ≤ most)
+    within least most usual low high None h = (low, high)
+    within least most usual low high (Some t) h = (h.2, h.3)
 
-pub names_limits : (found : Option (Text × List Row)) (name proof : Text) (script : Option Text) (limits : Limits) → Names found name proof script limits → ((n : Text) (rows : List Row) → found ≡ Some (n, rows) → AreUpTo rows) → AreLimits limits
-names_limits found name proof script limits k h = subst AreLimits k.limits_are (limits_in_range k.rows (h name k.rows k.command))
+pub names_settings : (found : Option (Text × List Row)) (name proof : Text) (script : Option Text) (settings : Settings) → Names found name proof script settings → ((n : Text) (rows : List Row) → found ≡ Some (n, rows) → AreWithin rows) → AreSettings settings
+names_settings found name proof script settings k h = subst AreSettings k.settings_are (settings_in_range k.rows (h name k.rows k.command))
 
 -- ---- one command
 
@@ -118,37 +124,56 @@ name_in None = []
 name_in (Some p) = p.0
 
 -- the words ask for one command
-same_name : (a b : Command) (words : List Text) → ((l : Limits) × AsksFor a l words) → ((l : Limits) × AsksFor b l words) → get_or (name_of a) 0 0 ≡ get_or (name_of b) 0 0
-same_name a b words s k =
+same_name : (a b : Command) (i : ℕ) (words : List Text) → ((s : Settings) × AsksFor a s words) → ((s : Settings) × AsksFor b s words) → get_or (name_of a) i 0 ≡ get_or (name_of b) i 0
+same_name a b i words s k =
     let e : name_of a ≡ name_of b = sym (ap name_in s.1.2.names.command) ∙ ap name_in k.1.2.names.command in
-    ap (λ (t : Text). get_or t 0 0) e
+    ap (λ (t : Text). get_or t i 0) e
 
 pub one_command : (words : List Text) → IsToSolve words → IsToCheck words → ⊥
-one_command words s k = let f : 115 ≡ 99 = same_name Solve Check words s k in omega (arith, f)
+one_command words s k = let f : 115 ≡ 99 = same_name Solve Check 0 words s k in omega (arith, f)
 
 pub solve_or_refute : (words : List Text) → IsToSolve words → IsToRefute words → ⊥
-solve_or_refute words s k = let f : 115 ≡ 108 = same_name Solve Lrat words s k in omega (arith, f)
+solve_or_refute words s k = let f : 115 ≡ 108 = same_name Solve Lrat 0 words s k in omega (arith, f)
 
 pub check_or_refute : (words : List Text) → IsToCheck words → IsToRefute words → ⊥
-check_or_refute words s k = let f : 99 ≡ 108 = same_name Check Lrat words s k in omega (arith, f)
+check_or_refute words s k = let f : 99 ≡ 108 = same_name Check Lrat 0 words s k in omega (arith, f)
 
-pub asks_solve : (k : Command) (words : List Text) (proof : Text) (script : Option Text) (l : Limits) → k ≡ Solve → Asks k words proof script l → IsToSolve words
+pub solve_or_search : (words : List Text) → IsToSolve words → IsToSearch words → ⊥
+solve_or_search words s k = let f : 115 ≡ 99 = same_name Solve Cnf 0 words s k in omega (arith, f)
+
+pub check_or_search : (words : List Text) → IsToCheck words → IsToSearch words → ⊥
+check_or_search words s k = let f : 104 ≡ 110 = same_name Check Cnf 1 words s k in omega (arith, f)
+
+pub refute_or_search : (words : List Text) → IsToRefute words → IsToSearch words → ⊥
+refute_or_search words s k = let f : 108 ≡ 99 = same_name Lrat Cnf 0 words s k in omega (arith, f)
+
+pub asks_solve : (k : Command) (words : List Text) (proof : Text) (script : Option Text) (l : Settings) → k ≡ Solve → Asks k words proof script l → IsToSolve words
 asks_solve Solve words proof script l e h = (l, (proof, script, h))
 asks_solve Check words proof script l e h = let z : ⊥ = cc in absurd z
 asks_solve Lrat words proof script l e h = let z : ⊥ = cc in absurd z
+asks_solve Cnf words proof script l e h = let z : ⊥ = cc in absurd z
 
 -- the words give one pair of limits
-pub same_limits : (k : Command) (words : List Text) (proof : Text) (script : Option Text) (l m : Limits) → k ≡ Solve → Asks k words proof script l → IsToSolveWithin m words → l ≡ m
-same_limits k words proof script l m e h w =
-    let same : h.names.rows ≡ w.2.names.rows = ap rows_of_entry (sym h.names.command ∙ w.2.names.command) in
-    sym h.names.limits_are ∙ ap limits_in same ∙ w.2.names.limits_are
+pub same_limits : (k : Command) (words : List Text) (proof : Text) (script : Option Text) (s : Settings) (m : Limits) → k ≡ Solve → Asks k words proof script s → IsToSolveWithin m words → limits_of s ≡ m
+same_limits k words proof script s m e h w =
+    let names = w.asks.2.names in
+    let same : h.names.rows ≡ names.rows = ap rows_of_entry (sym h.names.command ∙ names.command) in
+    ap limits_of (sym h.names.settings_are ∙ ap settings_in same ∙ names.settings_are) ∙ w.within
 
-pub asks_check : (k : Command) (words : List Text) (proof : Text) (script : Option Text) (l : Limits) → k ≡ Check → Asks k words proof script l → IsToCheck words
+pub asks_check : (k : Command) (words : List Text) (proof : Text) (script : Option Text) (l : Settings) → k ≡ Check → Asks k words proof script l → IsToCheck words
 asks_check Solve words proof script l e h = let z : ⊥ = cc in absurd z
 asks_check Check words proof script l e h = (l, (proof, script, h))
 asks_check Lrat words proof script l e h = let z : ⊥ = cc in absurd z
+asks_check Cnf words proof script l e h = let z : ⊥ = cc in absurd z
 
-pub asks_refute : (k : Command) (words : List Text) (proof : Text) (script : Option Text) (l : Limits) → k ≡ Lrat → Asks k words proof script l → IsToRefute words
+pub asks_refute : (k : Command) (words : List Text) (proof : Text) (script : Option Text) (l : Settings) → k ≡ Lrat → Asks k words proof script l → IsToRefute words
 asks_refute Solve words proof script l e h = let z : ⊥ = cc in absurd z
 asks_refute Check words proof script l e h = let z : ⊥ = cc in absurd z
 asks_refute Lrat words proof script l e h = (l, (proof, script, h))
+asks_refute Cnf words proof script l e h = let z : ⊥ = cc in absurd z
+
+pub asks_search : (k : Command) (words : List Text) (proof : Text) (script : Option Text) (l : Settings) → k ≡ Cnf → Asks k words proof script l → IsToSearch words
+asks_search Solve words proof script l e h = let z : ⊥ = cc in absurd z
+asks_search Check words proof script l e h = let z : ⊥ = cc in absurd z
+asks_search Lrat words proof script l e h = let z : ⊥ = cc in absurd z
+asks_search Cnf words proof script l e h = (l, (proof, script, h))

@@ -4,3 +4,4 @@ pub mod Adding
 pub mod Beside
 pub mod Commands
 pub mod Refuting
+pub mod Searching

@@ -6,6 +6,7 @@ ghost use Rattle.smt_check.specs.Runs.{AddsTo, IsLater, HasCause, counts};
 ghost use Rattle.smt_run.specs.Solving.{StopsWriting};
 ghost use Rattle.smt_run.specs.Adding.{moment_of, streams, with_piece, Advances, BreaksAt, AdvancesWithin, BreaksWithin, AddsLast};
 
+use cube_workers::Gate;
 use smt_check::status::Status;
 use smt_desk::stream::{Sink, write_whole};
 use smt_session::response::Stop;
@@ -13,6 +14,8 @@ use smt_session::session::Session;
 use smt_text::chunk::Chunk;
 use smt_text::framer::Framer;
 use std::alloc::Global;
+use std::sync::Wait;
+use std::thread::Threads;
 
 /// A session, whether an error was among its responses, and whether the last command ended the run.
 #[derive(Drop)]
@@ -45,12 +48,14 @@ pub(crate) fn end_status(refused: bool) -> Status
 }
 
 /// Answers a command. The error is the status of a run that ends here.
-fn answer<W: Sink, Q: Sink>(
+fn answer<R: Threads + Wait + Sync, W: Sink, Q: Sink, G: Gate + Sync>(
+    rt: &R,
     alloc: Global,
     so_far: Answered,
     chunk: &Chunk,
     answers: &mut W,
     proof: &mut Q,
+    gate: &G,
 ) -> Result<Answered, Status>
     ensures turn { IfOk result
         (λ r. Advances (moment_of so_far.session) so_far.refused r
@@ -69,7 +74,7 @@ fn answer<W: Sink, Q: Sink>(
         (HasCause (counts 0 (W.faults answers.old) (Q.faults proof.old))
         (counts 0 (W.faults answers.new) (Q.faults proof.new))) }
 {
-    let (session, response) = match so_far.session.command(alloc, chunk, proof) {
+    let (session, response) = match so_far.session.command(rt, alloc, chunk, proof, gate) {
         Ok(answered) => answered,
         Err(Stop::Failed) => return Err(Status::WriteFault),
         Err(Stop::NoMemory) => return Err(Status::NoMemory),
@@ -91,12 +96,14 @@ fn answer<W: Sink, Q: Sink>(
 }
 
 /// Answers each whole command that is held, up to the one that ends the run.
-fn answer_held<W: Sink, Q: Sink>(
+fn answer_held<R: Threads + Wait + Sync, W: Sink, Q: Sink, G: Gate + Sync>(
+    rt: &R,
     alloc: Global,
     so_far: Answered,
     framer: &mut Framer,
     answers: &mut W,
     proof: &mut Q,
+    gate: &G,
 ) -> Result<Answered, Status>
     requires { so_far.ended ≡ false }
     ensures turns { IfOk result
@@ -125,19 +132,21 @@ fn answer_held<W: Sink, Q: Sink>(
         let Some(chunk) = next else {
             break;
         };
-        so_far = answer(alloc, so_far, &chunk, answers, proof)?;
+        so_far = answer(rt, alloc, so_far, &chunk, answers, proof, gate)?;
     }
     Ok(so_far)
 }
 
 /// Takes the next piece of the script, and answers each command that is then whole, up to the one that ends the run.
-pub(crate) fn answer_piece<W: Sink, Q: Sink>(
+pub(crate) fn answer_piece<R: Threads + Wait + Sync, W: Sink, Q: Sink, G: Gate + Sync>(
+    rt: &R,
     alloc: Global,
     so_far: Answered,
     framer: &mut Framer,
     piece: &[u8],
     answers: &mut W,
     proof: &mut Q,
+    gate: &G,
 ) -> Result<Answered, Status>
     requires { so_far.ended ≡ false }
     ensures turns { IfOk result
@@ -161,16 +170,18 @@ pub(crate) fn answer_piece<W: Sink, Q: Sink>(
         drop(so_far);
         return Err(Status::NoMemory);
     };
-    answer_held(alloc, so_far, framer, answers, proof)
+    answer_held(rt, alloc, so_far, framer, answers, proof, gate)
 }
 
 /// Answers what the end of the script closes, and tells whether an error was among the responses.
-pub(crate) fn answer_rest<W: Sink, Q: Sink>(
+pub(crate) fn answer_rest<R: Threads + Wait + Sync, W: Sink, Q: Sink, G: Gate + Sync>(
+    rt: &R,
     alloc: Global,
     so_far: Answered,
     framer: &mut Framer,
     answers: &mut W,
     proof: &mut Q,
+    gate: &G,
 ) -> Result<bool, Status>
     ensures turns { IfOk result
         (λ r. AddsLast (moment_of so_far.session) so_far.refused
@@ -196,7 +207,7 @@ pub(crate) fn answer_rest<W: Sink, Q: Sink>(
         return Err(Status::NoMemory);
     };
     match last {
-        Some(chunk) => Ok(answer(alloc, so_far, &chunk, answers, proof)?.end()),
+        Some(chunk) => Ok(answer(rt, alloc, so_far, &chunk, answers, proof, gate)?.end()),
         None => Ok(so_far.end()),
     }
 }

@@ -1,15 +1,15 @@
 // The words that the program takes.
 
-ghost use Rattle.std.specs.Prelude.{◌≡◌, ◌↔◌, ℕ, List, Option, Some, None, false, IfOk, IfSome, MatchResult, map, option_map};
+ghost use Rattle.std.specs.Prelude.{◌≡◌, ◌↔◌, ℕ, List, Option, Some, None, false, IfOk, IfSome, MatchResult, codes, map, option_map};
 ghost use Rattle.clap.specs.Walk.{Text, Row, one_of, rule_of, rows_of};
 ghost use Rattle.clap.specs.Matches.{found_of};
 ghost use Rattle.clap.specs.Values.{kind_of};
-ghost use Rattle.clap.specs.Simple.{app_of, subcommand_rows_of};
+ghost use Rattle.clap.specs.Simple.{app_of, subcommand_rows_of, with_subcommand};
 ghost use Rattle.clap.specs.declared.builder.command.Command.TheViews.{out-Command as fields_of};
-ghost use Rattle.accepted_proof.specs.Searching.{Limits, AreLimits};
-ghost use Rattle.smt_session.specs.Sessions.{limits_of};
+ghost use Rattle.smt_session.specs.declared.settings.Settings.{Settings as Numbers};
+ghost use Rattle.smt_session.specs.Sessions.{AreSettings};
 ghost use Rattle.smt_run.specs.declared.words.Command.{Command as Kind};
-ghost use Rattle.smt_run.specs.Words.{app_named, solve_app, bare_program, program, number_option, number_or, limits_in, IsUpTo, AreUpTo, Names, name_of, Asks, AreTaken};
+ghost use Rattle.smt_run.specs.Words.{app_named, solve_app, bare_program, program, number_option, number_or, settings_in, IsWithin, AreWithin, Names, name_of, Asks, AreTaken};
 
 use crate::words::{Command, Plan, Unplanned};
 use clap::builder::ValueParser;
@@ -17,6 +17,9 @@ use clap::error::ErrorKind;
 use clap::{Arg, ArgMatches, Command as CommandLine, Error};
 use smt_session::settings::Settings;
 use std::alloc::{AllocError, Global};
+
+/// The most workers that may search a check.
+const MOST_WORKERS: u64 = 64;
 
 /// The most variables that may split a check.
 const MOST_CUBES: u64 = 10;
@@ -34,24 +37,28 @@ fn command_of<'a>(alloc: Global, name: &'a str) -> Result<CommandLine<'a>, Alloc
     CommandLine::new(alloc, name).arg(proof)?.arg(script)
 }
 
-/// An option `--NAME N` with a whole number, which is at most `most`.
-fn number_option<'a>(alloc: Global, name: &'a str, most: u64) -> Arg<'a>
-    ensures rule { rule_of result ≡ number_option name.entry.now most }
+/// An option `--NAME N` with a whole number, which is at least `least` and at most `most`.
+fn number_option<'a>(alloc: Global, name: &'a str, least: u64, most: u64) -> Arg<'a>
+    ensures rule { rule_of result ≡ number_option name.entry.now least most }
     ensures local { result.global ≡ false }
 {
     Arg::new(alloc, name)
         .long(name)
-        .value_parser(ValueParser::unsigned(0, most))
+        .value_parser(ValueParser::unsigned(least, most))
 }
 
-/// The command that answers a script, with the limits of its search.
+/// The command that answers a script, with the number of workers and the limits of their search.
 fn solve_command<'a>(alloc: Global) -> Result<CommandLine<'a>, AllocError>
     ensures app { IfOk result (λ c. app_of c ≡ solve_app) }
     ensures local { IfOk result (λ c. (fields_of c).has_globals ≡ false) }
 {
-    let cubes = number_option(alloc, "cubes", MOST_CUBES);
-    let budget = number_option(alloc, "budget", MOST_BUDGET);
-    command_of(alloc, "solve")?.arg(cubes)?.arg(budget)
+    let workers = number_option(alloc, "workers", 1, MOST_WORKERS);
+    let cubes = number_option(alloc, "cubes", 0, MOST_CUBES);
+    let budget = number_option(alloc, "budget", 0, MOST_BUDGET);
+    command_of(alloc, "solve")?
+        .arg(workers)?
+        .arg(cubes)?
+        .arg(budget)
 }
 
 /// The program without its commands.
@@ -66,17 +73,23 @@ fn bare<'a>(alloc: Global) -> CommandLine<'a>
         .subcommand_required(true)
 }
 
+/// The program with its commands on scripts.
+fn with_scripts<'a>(alloc: Global) -> Result<CommandLine<'a>, AllocError>
+    ensures { IfOk result (λ c. app_of c ≡ with_subcommand
+        (with_subcommand bare_program solve_app.top) (app_named (codes "check")).top) }
+{
+    let solve = solve_command(alloc)?;
+    let check = command_of(alloc, "check")?;
+    bare(alloc).subcommand(solve)?.subcommand(check)
+}
+
 /// The program's command line.
 fn command_line<'a>(alloc: Global) -> Result<CommandLine<'a>, AllocError>
     ensures { IfOk result (λ c. app_of c ≡ program) }
 {
-    let solve = solve_command(alloc)?;
-    let check = command_of(alloc, "check")?;
     let lrat = command_of(alloc, "lrat")?;
-    bare(alloc)
-        .subcommand(solve)?
-        .subcommand(check)?
-        .subcommand(lrat)
+    let cnf = command_of(alloc, "cnf")?;
+    with_scripts(alloc)?.subcommand(lrat)?.subcommand(cnf)
 }
 
 /// The command of this name.
@@ -87,39 +100,42 @@ fn command_named(name: &str) -> Option<Command>
         "solve" => Some(Command::Solve),
         "check" => Some(Command::Check),
         "lrat" => Some(Command::Lrat),
+        "cnf" => Some(Command::Cnf),
         _ => None,
     }
 }
 
 /// The number that was given to an option, or the usual one.
 fn number_or<'a>(found: &ArgMatches<'a>, option: &str, usual: u32) -> u32
-    requires { IsUpTo 4294967295 (one_of option.now (rows_of (found_of found.now))) }
+    requires { IsWithin 0 4294967295 (one_of option.now (rows_of (found_of found.now))) }
     ensures { result ≡ number_or usual (one_of option.now (rows_of (found_of found.now))) }
 {
     found.get_one(option).unwrap_or(usual)
 }
 
-/// The limits of a search that were given, or the usual ones.
+/// The number of workers and the limits of their search that were given, or the usual ones.
 fn settings_of<'a>(found: &ArgMatches<'a>) -> Settings
-    requires { AreUpTo (rows_of (found_of found.now)) }
-    ensures { limits_of result ≡ limits_in (rows_of (found_of found.now)) }
+    requires { AreWithin (rows_of (found_of found.now)) }
+    ensures { result ≡ settings_in (rows_of (found_of found.now)) }
 {
     Settings {
+        workers: number_or(found, "workers", Settings::DEFAULT.workers),
         cubes: number_or(found, "cubes", Settings::DEFAULT.cubes),
         budget: number_or(found, "budget", Settings::DEFAULT.budget),
     }
 }
 
-/// The command that was found, with its files and limits.
+/// The command that was found, with its files and numbers.
 fn plan_of<'a>(found: &ArgMatches<'a>) -> Option<Plan<'a>>
     requires { (name : Text) (rows : List Row) → subcommand_rows_of found.now ≡ Some (name, rows)
-        → AreUpTo rows }
+        → AreWithin rows }
     ensures some { IfSome result
         (λ plan. Names (subcommand_rows_of found.now) (name_of plan.command) plan.proof.now
-        (option_map (λ s. s.now) plan.script) (limits_of plan.settings)) }
+        (option_map (λ s. s.now) plan.script) plan.settings) }
     ensures none { result ≡ None
-        → (command : Kind) (proof : List ℕ) (script : Option (List ℕ)) (limits : Limits)
-        → ¬ (Names (subcommand_rows_of found.now) (name_of command) proof script limits) }
+        → (command : Kind) (proof : List ℕ) (script : Option (List ℕ))
+        (settings : Numbers)
+        → ¬ (Names (subcommand_rows_of found.now) (name_of command) proof script settings) }
 {
     let (name, inner) = found.subcommand()?;
     Some(Plan {
@@ -141,14 +157,14 @@ fn refusal(error: &Error) -> Unplanned
 }
 
 /// The plan of the words after the program's name: `solve` with the name of a proof file, perhaps that of a script, and
-/// perhaps limits of its search; `check` with both files; or `lrat` with the name of a refutation and perhaps that of the
-/// clauses. `clap` reads them.
+/// perhaps how many workers search and within which limits; `check` with both files; `lrat` or `cnf` with the name of a refutation and perhaps that of
+/// the clauses. `clap` reads them.
 pub fn plan<'a>(alloc: Global, words: &'a [&'a str]) -> Result<Plan<'a>, Unplanned>
     ensures asked { MatchResult result
         (λ plan. Asks plan.command (map (λ w. w.now) words.now) plan.proof.now
-        (option_map (λ s. s.now) plan.script) (limits_of plan.settings))
+        (option_map (λ s. s.now) plan.script) plan.settings)
         (λ e. e ≡ Unplanned.Usage → ¬ (AreTaken (map (λ w. w.now) words.now))) }
-    ensures limits { IfOk result (λ plan. AreLimits (limits_of plan.settings)) }
+    ensures settings { IfOk result (λ plan. AreSettings plan.settings) }
 {
     match command_line(alloc)?.try_get_matches_from(words) {
         Ok(found) => match plan_of(&found) {

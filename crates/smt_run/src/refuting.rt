@@ -24,7 +24,7 @@ fn status_by(fault: Option<Fault>) -> Status
 }
 
 /// The status of a check that did not read an input to its end.
-fn status_unread(why: Unread) -> Status
+pub(crate) fn status_unread(why: Unread) -> Status
     ensures { result ≡ status_unread why }
 {
     match why {

@@ -2,23 +2,26 @@
 
 ghost use Rattle.std.specs.Prelude.{◌≡◌, ◌≢◌, ◌+◌, ◌++◌, ◌⊎◌, ◌≤◌, ℕ, List, IfErr, IfOk, OnOk, length, map};
 ghost use Rattle.std.specs.Io.KnownBytes.{Appends};
-ghost use Rattle.accepted_proof.specs.Searching.{Limits, AreLimits};
+ghost use Rattle.accepted_proof.specs.Searching.{Limits};
 ghost use Rattle.accepted_proof.specs.Answers.{header_text};
-ghost use Rattle.smt_session.specs.Sessions.{limits_of};
-ghost use Rattle.smt_run.specs.Words.{IsToSolve, IsToSolveWithin, IsToCheck, IsToRefute, AreTaken};
+ghost use Rattle.smt_session.specs.Sessions.{AreSettings, limits_of};
+ghost use Rattle.smt_run.specs.Words.{IsToSolve, IsToSolveWithin, IsToCheck, IsToRefute, IsToSearch, AreTaken};
 ghost use Rattle.smt_check.specs.Runs.{AddsTo, ReadsBytes, ReadsWithin, IsLater, HasCause, counts, input_limit};
 ghost use Rattle.smt_run.specs.Solving.{BeginsWith, StopsWriting, FailsToRead};
 ghost use Rattle.smt_run.specs.Beside.{Told, IsBeside, IsAllAnswered, IsPrefix, IsAnsweredToRead, IsReadOut};
 ghost use Rattle.smt_run.specs.Commands.{files, stream, IsEnd, IsNoProof, Solves, Checks, AddsToFiles};
 ghost use Rattle.smt_run.specs.Refuting.{Refutes};
+ghost use Rattle.smt_run.specs.Searching.{Searches};
 ghost use Rattle.smt_check.specs.Checks.{ReadsForStatus, HasCheckCause, ToldOf, IsEndOfCheck, IsFrontOfCheck, IsRightlyAccepted};
 
 use crate::answering::end_status;
 use crate::command_line::plan;
 use crate::refuting::check_refutation;
 use crate::scripts::answer_script;
+use crate::searching::search_clauses;
 use crate::words::{Command, Unplanned};
 use accepted_proof::{answers_are_right, what_is_printed_is_right};
+use cube_workers::Gate;
 use proof_checker::{accepted_proofs_pass, texts_are_judged_one_way, what_is_accepted_is_right};
 use proof_text::header::write_header;
 use smt_check::checking::check;
@@ -27,6 +30,8 @@ use smt_desk::stream::{Sink, Source, write_whole};
 use smt_session::settings::Settings;
 use smt_text::text::Text;
 use std::alloc::{AllocError, Global};
+use std::sync::Wait;
+use std::thread::Threads;
 
 /// Writes the first line of a proof, which has the limits of its checks.
 fn open_proof<Q: Sink>(alloc: Global, settings: &Settings, proof: &mut Q) -> Result<(), Status>
@@ -59,15 +64,17 @@ fn zeros(alloc: Global, size: usize) -> Result<Vec<u8>, AllocError>
     vec![in alloc; 0u8; size]
 }
 
-/// Writes the first line of a proof, and answers a script to its end, each check within the limits of the settings.
-fn solve<S: Source, W: Sink, Q: Sink>(
+/// Writes the first line of a proof, and answers a script to its end, each check as the settings say.
+fn solve<R: Threads + Wait + Sync, S: Source, W: Sink, Q: Sink, G: Gate + Sync>(
+    rt: &R,
     alloc: Global,
     settings: Settings,
     script: &mut S,
     answers: &mut W,
     proof: &mut Q,
+    gate: &G,
 ) -> Status
-    requires { AreLimits (limits_of settings) }
+    requires settings { AreSettings settings }
     ensures usage { result ≢ Status.Usage }
     ensures beside { Told (S.left script.old) (W.written answers.old) (W.written answers.new)
         (Q.written proof.old) (Q.written proof.new) (IsBeside (limits_of settings)) }
@@ -108,7 +115,16 @@ fn solve<S: Source, W: Sink, Q: Sink>(
         Ok(buffer) => buffer,
         Err(_) => return Status::NoMemory,
     };
-    match answer_script(alloc, settings, &mut buffer, script, answers, proof) {
+    match answer_script(
+        rt,
+        alloc,
+        settings,
+        &mut buffer,
+        script,
+        answers,
+        proof,
+        gate,
+    ) {
         Ok(refused) => end_status(refused),
         Err(status) => status,
     }
@@ -150,17 +166,23 @@ fn check_proof<S: Source, P: Source, W: Sink>(
     check(alloc, &mut buffer, script, proof, answers)
 }
 
-/// Does what the words ask for. `solve` answers the script on `answers`, each check within the limits that the words give, and
-/// writes its proof to `proof_out`, each check's lines and record before its answer. `check` reads the script and the proof
+/// Does what the words ask for. `solve` answers the script on `answers`, each check by as many workers and within the limits that
+/// the words give, and writes its proof to `proof_out`, each check's lines and record before its answer. `check` reads the script and the proof
 /// `proof_in`, and tells on `answers` the verdict of each record as soon as it is accepted, and then what is judged of them.
-/// `lrat` reads clauses in place of a script and then the refutation `proof_in`, and tells what is judged of them.
-pub fn run<S: Source, P: Source, W: Sink, Q: Sink>(
+/// `lrat` reads clauses in place of a script and then the refutation `proof_in`, and tells what is judged of them. `cnf` reads
+/// clauses in place of a script and searches them, writes a refutation to `proof_out`, and tells what it found.
+///
+/// Several workers are threads, which wait for each other's turns, and pass the gate at points of their work. Each clause is
+/// promised of a call that returns, for any number of workers and however their turns fall.
+pub fn run<R: Threads + Wait + Sync, S: Source, P: Source, W: Sink, Q: Sink, G: Gate + Sync>(
+    rt: &R,
     alloc: Global,
     words: &[&str],
     script: &mut S,
     proof_in: &mut P,
     answers: &mut W,
     proof_out: &mut Q,
+    gate: &G,
 ) -> Status
     // The words come first: where they are not taken, nothing is read or written. To read them takes memory.
     ensures usage { result ≡ Status.Usage → ¬ (AreTaken (map (λ w. w.now) words.now)) }
@@ -169,10 +191,11 @@ pub fn run<S: Source, P: Source, W: Sink, Q: Sink>(
     ensures untouched { result ≡ Status.Usage → (script.new ≡ script.old)
         × (proof_in.new ≡ proof_in.old)
         × (answers.new ≡ answers.old) × (proof_out.new ≡ proof_out.old) }
-    // Words that are taken ask for one of the three commands.
+    // Words that are taken ask for one of the four commands.
     ensures asked { AreTaken (map (λ w. w.now) words.now)
         → IsToSolve (map (λ w. w.now) words.now)
-        ⊎ (IsToCheck (map (λ w. w.now) words.now) ⊎ IsToRefute (map (λ w. w.now) words.now)) }
+        ⊎ (IsToCheck (map (λ w. w.now) words.now)
+        ⊎ (IsToRefute (map (λ w. w.now) words.now) ⊎ IsToSearch (map (λ w. w.now) words.now))) }
 
     // `solve` reads no proof, answers the script, and writes a proof that is accepted.
     ensures solves { (limits : Limits) → IsToSolveWithin limits (map (λ w. w.now) words.now)
@@ -204,6 +227,16 @@ pub fn run<S: Source, P: Source, W: Sink, Q: Sink>(
         (files (stream (S.left script.new) (S.faults script.new))
         (stream (W.written answers.new) (W.faults answers.new))
         (stream (P.left proof_in.new) (P.faults proof_in.new))) }
+    // `cnf` reads no proof, searches the clauses that it reads, and writes a refutation.
+    ensures searches { IsToSearch (map (λ w. w.now) words.now)
+        → (proof_in.new ≡ proof_in.old)
+        × Searches result
+        (files (stream (S.left script.old) (S.faults script.old))
+        (stream (W.written answers.old) (W.faults answers.old))
+        (stream (Q.written proof_out.old) (Q.faults proof_out.old)))
+        (files (stream (S.left script.new) (S.faults script.new))
+        (stream (W.written answers.new) (W.faults answers.new))
+        (stream (Q.written proof_out.new) (Q.faults proof_out.new))) }
 
     // Whatever the words ask for, what is written stays, and no count of faults falls.
     ensures stays { AddsToFiles
@@ -217,9 +250,10 @@ pub fn run<S: Source, P: Source, W: Sink, Q: Sink>(
 {
     match plan(alloc, words) {
         Ok(plan) => match plan.command {
-            Command::Solve => solve(alloc, plan.settings, script, answers, proof_out),
+            Command::Solve => solve(rt, alloc, plan.settings, script, answers, proof_out, gate),
             Command::Check => check_proof(alloc, script, proof_in, answers),
             Command::Lrat => check_refutation(alloc, script, proof_in, answers),
+            Command::Cnf => search_clauses(alloc, script, answers, proof_out),
         },
         Err(Unplanned::Usage) => Status::Usage,
         Err(Unplanned::NoMemory) => Status::NoMemory,

@@ -1,14 +1,14 @@
 // A script, read in pieces, each command answered before the next read.
 
 ghost use Rattle.std.specs.Prelude.{◌<◌, IfOk, IfErr, IfSome, MatchResult, length};
-ghost use Rattle.accepted_proof.specs.Searching.{AreLimits};
-ghost use Rattle.smt_session.specs.Sessions.{limits_of};
+ghost use Rattle.smt_session.specs.Sessions.{AreSettings, limits_of};
 ghost use Rattle.smt_check.specs.Runs.{AddsTo, IsLater, HasCause, counts};
 ghost use Rattle.smt_run.specs.Solving.{IsRead, FailsToRead};
 ghost use Rattle.smt_run.specs.Adding.{streams, AnswersAll, AnswersFront, AnswersRead};
 ghost use Rattle.smt_run.specs.Beside.{IsReadOut};
 
 use crate::answering::{Answered, answer_piece, answer_rest};
+use cube_workers::Gate;
 use smt_check::reading::{INPUT_LIMIT, read_piece};
 use smt_check::status::Status;
 use smt_desk::stream::{Sink, Source};
@@ -16,19 +16,23 @@ use smt_session::session::Session;
 use smt_session::settings::Settings;
 use smt_text::framer::Framer;
 use std::alloc::Global;
+use std::sync::Wait;
+use std::thread::Threads;
 
 /// Answers a script to its end, or to the command that ends the run, and tells whether an error was among the responses. The
 /// error is the status of a run that stops before. The script is read into the buffer, piece by piece.
-pub(crate) fn answer_script<S: Source, W: Sink, Q: Sink>(
+pub(crate) fn answer_script<R: Threads + Wait + Sync, S: Source, W: Sink, Q: Sink, G: Gate + Sync>(
+    rt: &R,
     alloc: Global,
     settings: Settings,
     buffer: &mut [u8],
     script: &mut S,
     answers: &mut W,
     proof: &mut Q,
+    gate: &G,
 ) -> Result<bool, Status>
     requires room { 0 < length buffer.old }
-    requires limits { AreLimits (limits_of settings) }
+    requires settings { AreSettings settings }
     ensures read { IsRead (S.left script.old) (S.left script.new) result }
     ensures read_out { IfOk result (λ _. IsReadOut (S.left script.old) (S.left script.new)) }
     ensures turns { IfSome (S.left script.old) (λ text. MatchResult result
@@ -68,10 +72,11 @@ pub(crate) fn answer_script<S: Source, W: Sink, Q: Sink>(
             }
         };
         if size == 0 {
-            return answer_rest(alloc, so_far, &mut framer, answers, proof);
+            return answer_rest(rt, alloc, so_far, &mut framer, answers, proof, gate);
         }
         left -= size as u64;
-        so_far = answer_piece(alloc, so_far, &mut framer, &buffer[..size], answers, proof)?;
+        let piece = &buffer[..size];
+        so_far = answer_piece(rt, alloc, so_far, &mut framer, piece, answers, proof, gate)?;
     }
     Ok(so_far.end())
 }

@@ -12,6 +12,8 @@ pub enum Command {
     Check,
     /// To check a refutation of clauses, which stands in a file.
     Lrat,
+    /// To search clauses, and to write a refutation of them into a file.
+    Cnf,
 }
 
 #[derive(Clone, Copy, Debug)]

@@ -6,7 +6,9 @@ use smt_check::status::Status;
 use smt_desk::memory::MemSink;
 use std::alloc::{AllocError, AllocGlobal, Global};
 use std::process::Abort;
+use std::sync::Wait;
 use std::test::Fail;
+use std::thread::Threads;
 
 /// A script with its proof.
 #[derive(Clone, Copy)]
@@ -112,13 +114,18 @@ fn parts(row: &str) -> Option<(u64, &str, &str, &str)> {
 }
 
 /// Whether the proof is judged as the row says where the row's line is changed.
-fn is_judged(alloc: Global, proved: &Proved, row: &str) -> Result<bool, AllocError> {
+fn is_judged(
+    rt: &(impl Threads + Wait + Sync + AllocGlobal),
+    proved: &Proved,
+    row: &str,
+) -> Result<bool, AllocError> {
     let Some((at, line, name, to)) = parts(row) else {
         return Ok(false);
     };
+    let alloc = rt.alloc();
     let changed = with_line(alloc, proved.proof, at, to)?;
     let mut answers = MemSink::new(alloc, 100, &[]);
-    let status = check(alloc, proved.script, changed.as_slice(), 100, &mut answers);
+    let status = check(rt, proved.script, changed.as_slice(), 100, &mut answers);
     if name == "accepted" {
         return Ok(status == Status::Done);
     }
@@ -135,12 +142,12 @@ pub(crate) struct Changes {
 
 /// Each change is judged as its row says.
 pub(crate) fn judge_changes(
-    rt: &(impl Abort + AllocGlobal),
+    rt: &(impl Threads + Wait + Sync + Abort + AllocGlobal),
     tables: &[Changes],
 ) -> Result<(), Fail> {
     for table in tables {
         for row in table.rows.lines() {
-            assert!(rt; is_judged(rt.alloc(), &table.of, row)?, "{row}");
+            assert!(rt; is_judged(rt, &table.of, row)?, "{row}");
         }
     }
     Ok(())
@@ -148,7 +155,7 @@ pub(crate) fn judge_changes(
 
 const BAD_HEADERS: Changes = Changes {
     of: FALSE,
-    rows: "1 1 header smt_proof 2 cubes 0 budget 100000|\n\
+    rows: "1 1 header smt_proof 3 cubes 0 budget 100000|\n\
     1 1 header smt_proof 1 cubes 11 budget 100000|\n\
     1 1 header smt_proof 1 cubes 0 budget 1000000001|\n\
     1 1 header smt_proof 1 cubes 00 budget 100000|\n\

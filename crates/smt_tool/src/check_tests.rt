@@ -1,9 +1,12 @@
 //! Checks of a proof beside its script: what they answer, in whatever pieces both come, and how they end where a call fails.
 
+use cube_workers::NoGate;
 use smt_check::status::Status;
 use smt_desk::memory::{MemSink, MemSource};
 use smt_run::running::run;
-use std::alloc::Global;
+use std::alloc::AllocGlobal;
+use std::sync::Wait;
+use std::thread::Threads;
 
 const SCRIPT: &[u8] = b"(assert false) (check-sat)\n";
 
@@ -11,22 +14,25 @@ const PROOF: &[u8] = b"smt_proof 1 cubes 0 budget 100000\ne 0\ns 0\nc -2 0 0.0 2
 
 /// The status and the answers of a check of both texts, which come in pieces of so many bytes.
 pub(crate) fn check<'a>(
-    alloc: Global,
+    rt: &(impl Threads + Wait + Sync + AllocGlobal),
     script: &'a [u8],
     proof: &'a [u8],
     piece: usize,
     answers: &mut MemSink<'a>,
 ) -> Status {
+    let alloc = rt.alloc();
     let mut script = MemSource::new(script, piece.max(1), &[]);
     let mut proof = MemSource::new(proof, piece.max(1), &[]);
     let mut unwritten = MemSink::new(alloc, 1, &[]);
     run(
+        rt,
         alloc,
         &["check", "PROOF"],
         &mut script,
         &mut proof,
         answers,
         &mut unwritten,
+        &NoGate,
     )
 }
 
@@ -92,22 +98,22 @@ const CHECKED: [(&str, &[u8], &[u8], Status, &[u8]); 8] = [
 
 /// Whether both texts, which come in pieces of so many bytes, give this status and these answers.
 fn is_checked(
-    alloc: Global,
+    rt: &(impl Threads + Wait + Sync + AllocGlobal),
     script: &[u8],
     proof: &[u8],
     piece: usize,
     status: Status,
     wanted: &[u8],
 ) -> bool {
-    let mut answers = MemSink::new(alloc, 3, &[]);
-    check(alloc, script, proof, piece, &mut answers) == status && answers.bytes() == wanted
+    let mut answers = MemSink::new(rt.alloc(), 3, &[]);
+    check(rt, script, proof, piece, &mut answers) == status && answers.bytes() == wanted
 }
 
 #[test]
 fn proofs_are_checked_in_whatever_pieces_they_come(rt: HostRuntime) {
     for (what, script, proof, status, wanted) in &CHECKED {
         for piece in [1, 7, 1000] {
-            let is_so = is_checked(rt.alloc(), script, proof, piece, *status, wanted);
+            let is_so = is_checked(&rt, script, proof, piece, *status, wanted);
             assert!(rt; is_so, "{what}, pieces of {piece}");
         }
     }
@@ -125,32 +131,32 @@ const FAULTS: [(Failing, Status); 4] = [
 ];
 
 /// The status of a check of both texts where these calls fail.
-fn failing(alloc: Global, script: &[u8], proof: &[u8], calls: Failing) -> Status {
+fn failing(
+    rt: &(impl Threads + Wait + Sync + AllocGlobal),
+    script: &[u8],
+    proof: &[u8],
+    calls: Failing,
+) -> Status {
+    let alloc = rt.alloc();
     run(
+        rt,
         alloc,
         &["check", "PROOF"],
         &mut MemSource::new(script, 10, calls[0]),
         &mut MemSource::new(proof, 10, calls[1]),
         &mut MemSink::new(alloc, 3, calls[2]),
         &mut MemSink::new(alloc, 1, &[]),
+        &NoGate,
     )
 }
 
 #[test]
 fn faults_of_sources_and_sinks(rt: HostRuntime) {
     for (row, (calls, status)) in FAULTS.iter().enumerate() {
-        assert!(rt;
-            failing(rt.alloc(), SCRIPT, PROOF, *calls) == *status,
-            "row {row}"
-        );
+        assert!(rt; failing(&rt, SCRIPT, PROOF, *calls) == *status, "row {row}");
     }
     // A script is not read on behind `exit`.
     let header = b"smt_proof 1 cubes 0 budget 100000\n";
-    let status = failing(
-        rt.alloc(),
-        b"(exit)    (check-sat)",
-        header,
-        [&[2], &[], &[]],
-    );
+    let status = failing(&rt, b"(exit)    (check-sat)", header, [&[2], &[], &[]]);
     assert!(rt; status == Status::Done);
 }

@@ -79,9 +79,6 @@ const COMMANDS: [(&str, &[&str], &[u8], &[u8]); 11] = [
 #[test]
 fn commands_are_answered(rt: HostRuntime) {
     for (what, words, script, answers) in &COMMANDS {
-        assert!(rt;
-            is_answered(rt.alloc(), words, script, answers, None),
-            "{what}"
-        );
+        assert!(rt; is_answered(&rt, words, script, answers, None), "{what}");
     }
 }

@@ -5,8 +5,10 @@ use crate::check_tests::check;
 use crate::worked::{count, solve};
 use smt_check::status::Status;
 use smt_desk::memory::MemSink;
-use std::alloc::Global;
+use std::alloc::AllocGlobal;
+use std::sync::Wait;
 use std::test::Fail;
+use std::thread::Threads;
 
 /// Four clauses of two symbols that no assignment satisfies, checked.
 const CLAUSES: &[u8] =
@@ -70,25 +72,30 @@ const LIMITED: [Limited; 4] = [
 ];
 
 /// Whether a check accepts the proof, and tells this.
-fn is_accepted(alloc: Global, script: &[u8], proof: &[u8], told: &[u8]) -> bool {
-    let mut answers = MemSink::new(alloc, 100, &[]);
-    check(alloc, script, proof, 100, &mut answers) == Status::Done && answers.bytes() == told
+fn is_accepted(
+    rt: &(impl Threads + Wait + Sync + AllocGlobal),
+    script: &[u8],
+    proof: &[u8],
+    told: &[u8],
+) -> bool {
+    let mut answers = MemSink::new(rt.alloc(), 100, &[]);
+    check(rt, script, proof, 100, &mut answers) == Status::Done && answers.bytes() == told
 }
 
 /// Whether the script is answered so, with so many puts in the proof, which a check accepts.
-fn is_limited(alloc: Global, row: &Limited) -> bool {
-    let (status, answers, proof) = solve(alloc, row.words, row.script);
+fn is_limited(rt: &(impl Threads + Wait + Sync + AllocGlobal), row: &Limited) -> bool {
+    let (status, answers, proof) = solve(rt, row.words, row.script);
     status == Status::Done
         && answers.as_slice() == row.answers
         && count(&proof, b"\n+ ") == row.puts
-        && is_accepted(alloc, row.script, &proof, row.told)
+        && is_accepted(rt, row.script, &proof, row.told)
 }
 
 #[test]
 fn checks_within_limits(rt: HostRuntime) {
     for row in &LIMITED {
         let what = row.what;
-        assert!(rt; is_limited(rt.alloc(), row), "{what}");
+        assert!(rt; is_limited(&rt, row), "{what}");
     }
 }
 

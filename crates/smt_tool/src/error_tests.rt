@@ -260,7 +260,7 @@ fn nested(alloc: Global, text: &[u8], depth: usize, behind: &[u8]) -> Result<Vec
 fn a_million_parentheses_may_be_open(rt: HostRuntime) -> Result<(), Fail> {
     for (row, (text, depth, behind, wanted)) in DEEP.iter().enumerate() {
         let script = nested(rt.alloc(), text, *depth, behind)?;
-        let is_told = is_answered(rt.alloc(), SOLVE, script.as_slice(), wanted, None);
+        let is_told = is_answered(&rt, SOLVE, script.as_slice(), wanted, None);
         assert!(rt; is_told, "row {row}");
     }
     Ok(())

@@ -4,6 +4,7 @@ ghost use Rattle.std.specs.Prelude.{IfSome};
 ghost use Rattle.proof_text.specs.Lines.{IsLine};
 
 use accepted_proof::refusal::{Refusal, RuleName};
+use cube_workers::NoGate;
 use proof_checker::checker::Checker;
 use proof_text::line::Line;
 use proof_text::reader::ProofReader;
@@ -16,7 +17,9 @@ use smt_session::settings::Settings;
 use smt_text::chunk::Chunk;
 use smt_text::framer::chunks;
 use smt_text::text::Text;
-use std::alloc::{AllocError, Global};
+use std::alloc::{AllocError, AllocGlobal, Global};
+use std::sync::Wait;
+use std::thread::Threads;
 
 /// A symbol is asserted and checked.
 const SCRIPT: &[u8] = b"(declare-const p Bool) (assert p) (check-sat)";
@@ -35,7 +38,7 @@ fn commands_of(alloc: Global, script: &[u8]) -> Result<Vec<Chunk>, AllocError> {
 
 /// Lets a session answer these commands, and tells whether it answered each.
 fn answer_each(
-    alloc: Global,
+    rt: &(impl Threads + Wait + Sync + AllocGlobal),
     session: Session,
     commands: &[Chunk],
     answers: &mut Vec<u8>,
@@ -43,7 +46,7 @@ fn answer_each(
 ) -> bool {
     let mut session = session;
     for command in commands {
-        let Ok((next, response)) = session.command(alloc, command, proof) else {
+        let Ok((next, response)) = session.command(rt, rt.alloc(), command, proof, &NoGate) else {
             return false;
         };
         session = next;
@@ -58,24 +61,26 @@ fn answer_each(
 
 /// Lets a new session answer the script, and tells whether it answered each command.
 fn answer_script(
-    alloc: Global,
+    rt: &(impl Threads + Wait + Sync + AllocGlobal),
     answers: &mut Vec<u8>,
     proof: &mut MemSink<'_>,
 ) -> Result<bool, AllocError> {
+    let alloc = rt.alloc();
     let settings = Settings {
+        workers: 1,
         cubes: 0,
         budget: 9,
     };
     let commands = commands_of(alloc, SCRIPT)?;
     let session = Session::new(alloc, settings)?;
-    Ok(answer_each(alloc, session, commands.as_slice(), answers, proof))
+    Ok(answer_each(rt, session, commands.as_slice(), answers, proof))
 }
 
 #[test]
 fn a_session_answers_command_by_command(rt: HostRuntime) {
     let mut answers = Vec::new(rt.alloc());
     let mut proof = MemSink::new(rt.alloc(), 100, &[]);
-    let answered = answer_script(rt.alloc(), &mut answers, &mut proof);
+    let answered = answer_script(&rt, &mut answers, &mut proof);
     assert!(rt; answered == Ok(true));
     assert!(rt; answers.as_slice() == b"sat\n".as_slice());
     assert!(rt; proof.bytes() == CHECK);

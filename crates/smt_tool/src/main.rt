@@ -1,5 +1,5 @@
-//! Answers scripts of SMT-LIB 2.6 over truth values and words, writes the proof of each answer, and checks such proofs, and
-//! refutations of clauses by LRAT.
+//! Answers scripts of SMT-LIB 2.6 over truth values and words, writes the proof of each answer, and checks such proofs;
+//! searches clauses of DIMACS, writes a refutation of them by LRAT, and checks such refutations.
 //!
 //! The program hands `run` of `smt_run`, which does what its words ask for, the script's file or standard input, standard output
 //! and the proof file, and ends with the number of its status. The tests of sessions, of runs and of checks stand here, each a
@@ -11,6 +11,8 @@
 mod change_tests;
 #[cfg(test)]
 mod check_tests;
+#[cfg(test)]
+mod clause_tests;
 #[cfg(test)]
 mod command_tests;
 #[cfg(test)]
@@ -43,7 +45,10 @@ mod tests;
 mod word_tests;
 #[cfg(test)]
 mod worked;
+#[cfg(test)]
+mod worker_tests;
 
+use cube_workers::NoGate;
 use smt_check::reading::INPUT_LIMIT;
 use smt_check::status::Status;
 use smt_desk::files::{FileSink, FileSource, StandardInput, StandardOutput};
@@ -51,16 +56,17 @@ use smt_desk::stream::Source;
 use smt_run::command_line::plan;
 use smt_run::running::run;
 use smt_run::words::Unplanned;
+use std::alloc::AllocGlobal;
 use std::io::ErrorKind;
 use std::process::ExitCode;
-use std::rt::Files;
+use std::rt::{Env, Files};
+use std::sync::Wait;
+use std::thread::Threads;
 use std::{env, fs};
 
-// What is told where the words are not taken, and where memory is wanting.
+// What is told where the words are not taken.
 const USAGE: &str =
-    "usage: smt_tool solve PROOF [SCRIPT] [--cubes 0..10] [--budget 0..1000000000] | check PROOF [SCRIPT] | lrat PROOF [CNF]";
-
-const NO_MEMORY: &str = "smt_tool: memory is wanting";
+    "usage: smt_tool solve PROOF [SCRIPT] [--workers 1..64] [--cubes 0..10] [--budget 0..1000000000] | check PROOF [SCRIPT] | lrat PROOF [CNF] | cnf PROOF [CNF]";
 
 // The number of a status.
 fn exit_code(status: Status) -> ExitCode {
@@ -75,56 +81,91 @@ fn exit_code(status: Status) -> ExitCode {
     })
 }
 
+// What ended a run without an answer.
+#[derive(Clone, Copy)]
+enum Cause {
+    Usage,
+    ProofUnread,
+    ScriptUnread,
+    ProofUnwritten,
+    AnswersUnwritten,
+    NoMemory,
+    ProofTooLong,
+    ScriptTooLong,
+}
+
+impl Cause {
+    // What is told of it.
+    fn text(self) -> &'static str {
+        match self {
+            Cause::Usage => USAGE,
+            Cause::ProofUnread => "smt_tool: the proof cannot be read",
+            Cause::ScriptUnread => "smt_tool: the script cannot be read",
+            Cause::ProofUnwritten => "smt_tool: the proof cannot be written",
+            Cause::AnswersUnwritten => "smt_tool: the answers cannot be written",
+            Cause::NoMemory => "smt_tool: memory is wanting",
+            Cause::ProofTooLong => "smt_tool: the proof is longer than 2^32 bytes",
+            Cause::ScriptTooLong => "smt_tool: the script is longer than 2^32 bytes",
+        }
+    }
+}
+
 // How a run ended: its status, and where that is none of an answer, what ended it.
 #[derive(Clone, Copy)]
 struct Ending {
     status: Status,
-    cause: Option<&'static str>,
+    cause: Option<Cause>,
 }
 
 // What ended a run: a file that was read or written tells whether it was this one, and else it was the other.
-fn cause<R: Files>(
+fn blame<R: Files>(
     status: Status,
     proof: &FileSource<'_, R>,
     written: &FileSink<'_, R>,
-) -> Option<&'static str> {
+) -> Option<Cause> {
     match status {
         Status::Done | Status::Refused => None,
-        Status::Usage => Some(USAGE),
-        Status::ReadFault if proof.has_failed() => Some("smt_tool: the proof cannot be read"),
-        Status::ReadFault => Some("smt_tool: the script cannot be read"),
-        Status::WriteFault if written.has_failed() => {
-            Some("smt_tool: the proof cannot be written")
-        }
-        Status::WriteFault => Some("smt_tool: the answers cannot be written"),
-        Status::NoMemory => Some(NO_MEMORY),
-        Status::TooLong if proof.taken() > INPUT_LIMIT => {
-            Some("smt_tool: the proof is longer than 2^32 bytes")
-        }
-        Status::TooLong => Some("smt_tool: the script is longer than 2^32 bytes"),
+        Status::Usage => Some(Cause::Usage),
+        Status::ReadFault if proof.has_failed() => Some(Cause::ProofUnread),
+        Status::ReadFault => Some(Cause::ScriptUnread),
+        Status::WriteFault if written.has_failed() => Some(Cause::ProofUnwritten),
+        Status::WriteFault => Some(Cause::AnswersUnwritten),
+        Status::NoMemory => Some(Cause::NoMemory),
+        Status::TooLong if proof.taken() > INPUT_LIMIT => Some(Cause::ProofTooLong),
+        Status::TooLong => Some(Cause::ScriptTooLong),
     }
 }
 
 // Does what the words ask for, with this script and this proof file.
-fn run_with<S: Source>(rt: &HostRuntime, words: &[&str], script: &mut S, proof: &str) -> Ending {
+fn run_with<R: Files + Print + AllocGlobal + Threads + Wait + Sync, S: Source>(
+    rt: &R,
+    words: &[&str],
+    script: &mut S,
+    proof: &str,
+) -> Ending {
     let mut read = FileSource::new(rt, proof);
     let mut written = FileSink::new(rt, proof);
     let mut answers = StandardOutput::new(rt);
     let status = run(
+        rt,
         rt.alloc(),
         words,
         script,
         &mut read,
         &mut answers,
         &mut written,
+        &NoGate,
     );
-    let cause = cause(status, &read, &written);
+    let cause = blame(status, &read, &written);
     Ending { status, cause }
 }
 
 // Does what the words ask for: the script is read from its file, or where none is named from standard input. No file is
 // opened before its first use.
-fn run_words(rt: &HostRuntime, words: &[&str]) -> Result<Ending, Unplanned> {
+fn run_words<R: Files + Input + Print + AllocGlobal + Threads + Wait + Sync>(
+    rt: &R,
+    words: &[&str],
+) -> Result<Ending, Unplanned> {
     let plan = plan(rt.alloc(), words)?;
     Ok(match plan.script {
         Some(path) => run_with(rt, words, &mut FileSource::new(rt, path), plan.proof),
@@ -133,7 +174,7 @@ fn run_words(rt: &HostRuntime, words: &[&str]) -> Result<Ending, Unplanned> {
 }
 
 // The words behind the program's name. Bytes that are no text are none of the words that are taken.
-fn given_words(rt: &HostRuntime) -> Result<Vec<String>, Unplanned> {
+fn given_words<R: Env + AllocGlobal>(rt: &R) -> Result<Vec<String>, Unplanned> {
     match env::args(rt) {
         Ok(words) => Ok(words.skip(1).collect(rt.alloc())?),
         Err(error) if error.kind() == ErrorKind::OutOfMemory => Err(Unplanned::NoMemory),
@@ -142,7 +183,9 @@ fn given_words(rt: &HostRuntime) -> Result<Vec<String>, Unplanned> {
 }
 
 // Does what the words that the program is given ask for.
-fn run_given(rt: &HostRuntime) -> Result<Ending, Unplanned> {
+fn run_given<R: Env + Files + Input + Print + AllocGlobal + Threads + Wait + Sync>(
+    rt: &R,
+) -> Result<Ending, Unplanned> {
     let given = given_words(rt)?;
     let words: Vec<&str> = given.iter().map(|word| word.as_str()).collect(rt.alloc())?;
     run_words(rt, &words)
@@ -153,11 +196,11 @@ fn unplanned(why: Unplanned) -> Ending {
     match why {
         Unplanned::Usage => Ending {
             status: Status::Usage,
-            cause: Some(USAGE),
+            cause: Some(Cause::Usage),
         },
         Unplanned::NoMemory => Ending {
             status: Status::NoMemory,
-            cause: Some(NO_MEMORY),
+            cause: Some(Cause::NoMemory),
         },
     }
 }
@@ -172,7 +215,8 @@ fn main(rt: HostRuntime) -> ExitCode {
     };
     if let Some(cause) = ending.cause {
         // Where standard error cannot be written, the status tells it alone.
-        let _ = eprintln!(&rt; "{cause}");
+        let text = cause.text();
+        let _ = eprintln!(&rt; "{text}");
     }
     drop(taken);
     exit_code(ending.status)

@@ -1,9 +1,12 @@
 //! Checks of refutations of clauses: what they answer, in whatever pieces both texts come, and how they end where a call fails.
 
+use cube_workers::NoGate;
 use smt_check::status::Status;
 use smt_desk::memory::{MemSink, MemSource};
 use smt_run::running::run;
-use std::alloc::Global;
+use std::alloc::AllocGlobal;
+use std::sync::Wait;
+use std::thread::Threads;
 
 const ONE: &[u8] = b"p cnf 1 2\n1 0\n-1 0\n";
 
@@ -74,7 +77,7 @@ type Failing = [&'static [u64]; 3];
 
 /// The status of a check of both texts, which come in pieces of so many bytes, where these calls fail.
 fn refute<'a>(
-    alloc: Global,
+    rt: &(impl Threads + Wait + Sync + AllocGlobal),
     clauses: &[u8],
     refutation: &[u8],
     piece: usize,
@@ -83,29 +86,31 @@ fn refute<'a>(
 ) -> Status {
     let mut clauses = MemSource::new(clauses, piece.max(1), calls[0]);
     let mut refutation = MemSource::new(refutation, piece.max(1), calls[1]);
-    let mut unwritten = MemSink::new(alloc, 1, &[]);
+    let mut unwritten = MemSink::new(rt.alloc(), 1, &[]);
     run(
-        alloc,
+        rt,
+        rt.alloc(),
         &["lrat", "PROOF"],
         &mut clauses,
         &mut refutation,
         answers,
         &mut unwritten,
+        &NoGate,
     )
 }
 
 /// Whether both texts, which come in pieces of so many bytes, give this status and these answers.
 fn is_refuted(
-    alloc: Global,
+    rt: &(impl Threads + Wait + Sync + AllocGlobal),
     clauses: &[u8],
     refutation: &[u8],
     piece: usize,
     status: Status,
     wanted: &[u8],
 ) -> bool {
-    let mut answers = MemSink::new(alloc, 3, &[]);
+    let mut answers = MemSink::new(rt.alloc(), 3, &[]);
     let calls: Failing = [&[], &[], &[]];
-    refute(alloc, clauses, refutation, piece, calls, &mut answers) == status
+    refute(rt, clauses, refutation, piece, calls, &mut answers) == status
         && answers.bytes() == wanted
 }
 
@@ -113,7 +118,7 @@ fn is_refuted(
 fn refutations_are_checked_in_whatever_pieces_they_come(rt: HostRuntime) {
     for (what, clauses, refutation, status, wanted) in &REFUTED {
         for piece in [1, 7, 1000] {
-            let is_so = is_refuted(rt.alloc(), clauses, refutation, piece, *status, wanted);
+            let is_so = is_refuted(&rt, clauses, refutation, piece, *status, wanted);
             assert!(rt; is_so, "{what}, pieces of {piece}");
         }
     }
@@ -128,18 +133,19 @@ const FAULTS: [(Failing, Status, &[u8]); 4] = [
 ];
 
 /// Whether a check where these calls fail ends with this status, and tells this.
-fn is_failing(alloc: Global, calls: Failing, status: Status, wanted: &[u8]) -> bool {
-    let mut answers = MemSink::new(alloc, 3, calls[2]);
-    refute(alloc, ONE, b"3 0 1 2 0\n", 10, calls, &mut answers) == status
-        && answers.bytes() == wanted
+fn is_failing(
+    rt: &(impl Threads + Wait + Sync + AllocGlobal),
+    calls: Failing,
+    status: Status,
+    wanted: &[u8],
+) -> bool {
+    let mut answers = MemSink::new(rt.alloc(), 3, calls[2]);
+    refute(rt, ONE, b"3 0 1 2 0\n", 10, calls, &mut answers) == status && answers.bytes() == wanted
 }
 
 #[test]
 fn faults_of_clauses_refutation_and_answers(rt: HostRuntime) {
     for (row, (calls, status, wanted)) in FAULTS.iter().enumerate() {
-        assert!(rt;
-            is_failing(rt.alloc(), *calls, *status, wanted),
-            "row {row}"
-        );
+        assert!(rt; is_failing(&rt, *calls, *status, wanted), "row {row}");
     }
 }

@@ -2,8 +2,10 @@
 
 use crate::worked::{SOLVE, is_answered, joined};
 use smt_check::status::Status;
-use std::alloc::Global;
+use std::alloc::AllocGlobal;
+use std::sync::Wait;
 use std::test::Fail;
+use std::thread::Threads;
 
 /// What a script shows, its answers and its status.
 const SESSIONS: [(&str, &[u8], &[u8], Status); 7] = [
@@ -54,7 +56,7 @@ const SESSIONS: [(&str, &[u8], &[u8], Status); 7] = [
 #[test]
 fn sessions_are_answered(rt: HostRuntime) {
     for (what, script, answers, status) in &SESSIONS {
-        let is_so = is_answered(rt.alloc(), SOLVE, script, answers, Some(*status));
+        let is_so = is_answered(&rt, SOLVE, script, answers, Some(*status));
         assert!(rt; is_so, "{what}");
     }
 }
@@ -94,28 +96,29 @@ const COMMANDS: [(&[u8], &[u8]); 20] = [
 
 /// Whether behind the lines that are answered so, a front of a command on this line is told to be unfinished.
 fn is_cut(
-    alloc: Global,
+    rt: &(impl Threads + Wait + Sync + AllocGlobal),
     lines: &[u8],
     answers: &[u8],
     front: &[u8],
     line: usize,
 ) -> Result<bool, Fail> {
+    let alloc = rt.alloc();
     let script = joined(alloc, &[lines, front])?;
     let error = format!(in alloc; "(error \"line {line}: unfinished command\")\n")?;
     let wanted = joined(alloc, &[answers, error.as_bytes()])?;
-    Ok(is_answered(alloc, SOLVE, script.as_slice(), wanted.as_slice(), None))
+    Ok(is_answered(rt, SOLVE, script.as_slice(), wanted.as_slice(), None))
 }
 
 /// Whether that holds of each front of the command.
 fn are_cut(
-    alloc: Global,
+    rt: &(impl Threads + Wait + Sync + AllocGlobal),
     lines: &[u8],
     answers: &[u8],
     command: &[u8],
     line: usize,
 ) -> Result<bool, Fail> {
     for end in 1..command.len() {
-        if !is_cut(alloc, lines, answers, &command[..end], line)? {
+        if !is_cut(rt, lines, answers, &command[..end], line)? {
             return Ok(false);
         }
     }
@@ -129,11 +132,11 @@ fn every_prefix_answers_its_whole_commands(rt: HostRuntime) -> Result<(), Fail> 
     let mut answers: Vec<u8> = Vec::new(alloc);
     for (row, (command, told)) in COMMANDS.iter().enumerate() {
         let line = row.saturating_add(1);
-        let are_cut = are_cut(alloc, lines.as_slice(), answers.as_slice(), command, line)?;
+        let are_cut = are_cut(&rt, lines.as_slice(), answers.as_slice(), command, line)?;
         assert!(rt; are_cut, "line {line}");
         lines.extend_from_slice(command)?;
         answers.extend_from_slice(told)?;
-        let is_so = is_answered(alloc, SOLVE, lines.as_slice(), answers.as_slice(), None);
+        let is_so = is_answered(&rt, SOLVE, lines.as_slice(), answers.as_slice(), None);
         assert!(rt; is_so, "line {line}");
         lines.push(b'\n')?;
     }

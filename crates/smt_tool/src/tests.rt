@@ -1,10 +1,13 @@
 //! Runs of `solve`: what they answer and prove, and how they end where a call fails.
 
 use crate::worked::{SOLVE, count};
+use cube_workers::NoGate;
 use smt_check::status::Status;
 use smt_desk::memory::{MemSink, MemSource};
 use smt_run::running::run;
-use std::alloc::Global;
+use std::alloc::AllocGlobal;
+use std::sync::Wait;
+use std::thread::Threads;
 
 const FIRST: &[u8] =
     b"(declare-const x (_ BitVec 8)) (declare-const y (_ BitVec 8)) (assert (= (bvadd x y) #x0f)) (assert (= (bvand x #xf0) (bvnot #x0f))) (assert (= y #x1f)) (check-sat) (assert (= x y)) (check-sat)\n";
@@ -26,22 +29,25 @@ type Pieces = [usize; 3];
 
 /// The status, the answers and the proof of a script that comes in such pieces, where these calls fail.
 fn solve_in(
-    alloc: Global,
+    rt: &(impl Threads + Wait + Sync + AllocGlobal),
     script: &[u8],
     pieces: Pieces,
     failing: Failing<'_>,
 ) -> (Status, Vec<u8>, Vec<u8>) {
+    let alloc = rt.alloc();
     let mut script = MemSource::new(script, pieces[0].max(1), failing[0]);
     let mut unread = MemSource::new(b"", 1, &[]);
     let mut answers = MemSink::new(alloc, pieces[1].max(1), failing[1]);
     let mut proof = MemSink::new(alloc, pieces[2].max(1), failing[2]);
     let status = run(
+        rt,
         alloc,
         SOLVE,
         &mut script,
         &mut unread,
         &mut answers,
         &mut proof,
+        &NoGate,
     );
     (status, answers.into_bytes(), proof.into_bytes())
 }
@@ -129,8 +135,8 @@ fn is_written(proof: &[u8], wanted: &Written) -> bool {
     }
 }
 
-fn is_run(alloc: Global, row: &Run) -> bool {
-    let (status, answers, proof) = solve_in(alloc, row.script, row.pieces, row.failing);
+fn is_run(rt: &(impl Threads + Wait + Sync + AllocGlobal), row: &Run) -> bool {
+    let (status, answers, proof) = solve_in(rt, row.script, row.pieces, row.failing);
     status == row.status
         && answers.as_slice() == row.answers
         && is_written(proof.as_slice(), &row.proof)
@@ -140,25 +146,28 @@ fn is_run(alloc: Global, row: &Run) -> bool {
 fn scripts_are_run(rt: HostRuntime) {
     for row in &RUNS {
         let what = row.what;
-        assert!(rt; is_run(rt.alloc(), row), "{what}");
+        assert!(rt; is_run(&rt, row), "{what}");
     }
 }
 
 /// What a run of the first script answers and proves, its bytes one by one, where these calls fail.
-fn run_bytewise(alloc: Global, failing: Failing<'_>) -> (Status, Vec<u8>, Vec<u8>) {
-    solve_in(alloc, FIRST, [1, 1, 50], failing)
+fn run_bytewise(
+    rt: &(impl Threads + Wait + Sync + AllocGlobal),
+    failing: Failing<'_>,
+) -> (Status, Vec<u8>, Vec<u8>) {
+    solve_in(rt, FIRST, [1, 1, 50], failing)
 }
 
 /// Whether a run is whole where no call has failed, and else ends with this status and has written a front of it all, in which
 /// each answer of a check has its record.
 fn is_front(
-    alloc: Global,
+    rt: &(impl Threads + Wait + Sync + AllocGlobal),
     failing: Failing<'_>,
     stopped: Option<Status>,
     all_answers: &[u8],
     all_proof: &[u8],
 ) -> bool {
-    let (status, answers, proof) = run_bytewise(alloc, failing);
+    let (status, answers, proof) = run_bytewise(rt, failing);
     match stopped {
         None => {
             status == Status::Done
@@ -176,7 +185,7 @@ fn is_front(
 
 /// The same where the call of this number fails of the script, of the answers or of the proof, numbered from 0.
 fn is_front_behind(
-    alloc: Global,
+    rt: &(impl Threads + Wait + Sync + AllocGlobal),
     stream: u8,
     call: u64,
     stopped: Option<Status>,
@@ -189,7 +198,7 @@ fn is_front_behind(
         1 => [&[], &calls, &[]],
         _ => [&[], &[], &calls],
     };
-    is_front(alloc, failing, stopped, all_answers, all_proof)
+    is_front(rt, failing, stopped, all_answers, all_proof)
 }
 
 /// The stream, how many calls a whole run makes of it, and the status where one of them fails.
@@ -201,11 +210,11 @@ const STREAMS: [(u8, u64, Status); 3] = [
 
 #[test]
 fn each_call_of_each_stream_fails_in_turn(rt: HostRuntime) {
-    let (_, answers, proof) = run_bytewise(rt.alloc(), [&[], &[], &[]]);
+    let (_, answers, proof) = run_bytewise(&rt, [&[], &[], &[]]);
     for (stream, calls, stopped) in &STREAMS {
         for call in 0..=*calls {
             let stopped = if call < *calls { Some(*stopped) } else { None };
-            let right = is_front_behind(rt.alloc(), *stream, call, stopped, &answers, &proof);
+            let right = is_front_behind(&rt, *stream, call, stopped, &answers, &proof);
             assert!(rt; right, "stream {stream}, call {call}");
         }
     }

@@ -19,11 +19,15 @@ fn asks(
     }
 }
 
-// Whether the words ask to solve with this proof file and these limits.
-fn asks_within(alloc: Global, words: &[&str], cubes: u32, budget: u32) -> bool {
+// Whether the words ask to solve with this proof file and these numbers.
+fn asks_within(alloc: Global, words: &[&str], numbers: [u32; 3]) -> bool {
     match plan(alloc, words) {
         Ok(plan) => {
-            let settings = Settings { cubes, budget };
+            let settings = Settings {
+                workers: numbers[0],
+                cubes: numbers[1],
+                budget: numbers[2],
+            };
             plan.command == Command::Solve && plan.proof == "p" && plan.settings == settings
         }
         Err(_) => false,
@@ -35,7 +39,17 @@ fn is_refused(alloc: Global, words: &[&str]) -> bool {
 }
 
 /// Words that say all that can be said.
-const ALL_WORDS: [&str; 7] = ["solve", "PROOF", "SCRIPT", "--cubes", "2", "--budget", "3"];
+const ALL_WORDS: [&str; 9] = [
+    "solve",
+    "PROOF",
+    "SCRIPT",
+    "--workers",
+    "4",
+    "--cubes",
+    "2",
+    "--budget",
+    "3",
+];
 
 // Whether all of these words are planned.
 fn are_planned(alloc: Global) -> bool {
@@ -44,6 +58,7 @@ fn are_planned(alloc: Global) -> bool {
             plan.command == Command::Solve
                 && plan.proof == "PROOF"
                 && plan.script == Some("SCRIPT")
+                && plan.settings.workers == 4
                 && (plan.settings.cubes, plan.settings.budget) == (2, 3)
         }
         Err(_) => false,
@@ -70,11 +85,20 @@ const CHECKED: [(&[&str], &str, Option<&str>); 3] = [
     (&["check", "--", "p"], "p", None),
 ];
 
+/// Words that ask for `cnf`, with these files.
+const SEARCHED: [(&[&str], &str, Option<&str>); 2] = [
+    (&["cnf", "p"], "p", None),
+    (&["cnf", "p", "c"], "p", Some("c")),
+];
+
 /// Words that are refused.
-const REFUSED: [&[&str]; 24] = [
+const REFUSED: [&[&str]; 25] = [
     &[],
     &["solve"],
     &["check"],
+    &["cnf"],
+    &["cnf", "p", "c", "more"],
+    &["cnf", "p", "--budget", "1"],
     &["solve", "p", "s", "more"],
     &["check", "p", "s", "more"],
     &["prove", "p"],
@@ -92,37 +116,52 @@ const REFUSED: [&[&str]; 24] = [
     &["solve", "--help"],
     &["solve", "p", "-h"],
     &["check", "p", "--version"],
-    &["solve", "p", "--workers", "2"],
-    &["solve", "--workers=1", "p"],
     &["solve", "p", "s", "--seed", "3"],
     &["--workers", "2", "solve", "p"],
 ];
 
-/// Words that ask for `solve`, with its limits: how many variables split a check, and how many clauses a cube may learn.
-const LIMITED: [(&[&str], u32, u32); 15] = [
-    (&["solve", "p"], 0, 100000),
-    (&["solve", "p", "--cubes", "1"], 1, 100000),
-    (&["solve", "p", "--budget", "0"], 0, 0),
+/// Words that ask for `solve`, with its numbers: how many workers search, how many variables split a check, and how many clauses a
+/// cube may learn.
+const LIMITED: [(&[&str], [u32; 3]); 20] = [
+    (&["solve", "p"], [1, 0, 100000]),
+    (&["solve", "p", "--cubes", "1"], [1, 1, 100000]),
+    (&["solve", "p", "--budget", "0"], [1, 0, 0]),
     (
         &["solve", "p", "--cubes", "10", "--budget", "1000000000"],
-        10,
-        1000000000,
+        [1, 10, 1000000000],
     ),
-    (&["solve", "p", "s", "--budget", "3", "--cubes", "0"], 0, 3),
-    (&["solve", "--cubes", "2", "p", "--budget", "7", "s"], 2, 7),
-    (&["solve", "--cubes=3", "p"], 3, 100000),
-    (&["solve", "--budget=12", "p", "s"], 0, 12),
-    (&["solve", "--budget", "4", "--", "p"], 0, 4),
-    (&["solve", "p", "--cubes", "007"], 7, 100000),
-    (&["solve", "p", "--cubes", "+5"], 5, 100000),
-    (&["solve", "p", "--budget", "0001000000000"], 0, 1000000000),
-    (&["solve", "p", "--", "--cubes"], 0, 100000),
-    (&["solve", "--budget", "100000", "p"], 0, 100000),
-    (&["solve", "p", "s", "--cubes=+0"], 0, 100000),
+    (
+        &["solve", "p", "s", "--budget", "3", "--cubes", "0"],
+        [1, 0, 3],
+    ),
+    (
+        &["solve", "--cubes", "2", "p", "--budget", "7", "s"],
+        [1, 2, 7],
+    ),
+    (&["solve", "--cubes=3", "p"], [1, 3, 100000]),
+    (&["solve", "--budget=12", "p", "s"], [1, 0, 12]),
+    (&["solve", "--budget", "4", "--", "p"], [1, 0, 4]),
+    (&["solve", "p", "--cubes", "007"], [1, 7, 100000]),
+    (&["solve", "p", "--cubes", "+5"], [1, 5, 100000]),
+    (
+        &["solve", "p", "--budget", "0001000000000"],
+        [1, 0, 1000000000],
+    ),
+    (&["solve", "p", "--", "--cubes"], [1, 0, 100000]),
+    (&["solve", "--budget", "100000", "p"], [1, 0, 100000]),
+    (&["solve", "p", "s", "--cubes=+0"], [1, 0, 100000]),
+    (&["solve", "p", "--workers", "2"], [2, 0, 100000]),
+    (&["solve", "--workers=1", "p"], [1, 0, 100000]),
+    (
+        &["solve", "p", "s", "--workers", "64", "--cubes", "10"],
+        [64, 10, 100000],
+    ),
+    (&["solve", "--budget", "5", "--workers=+8", "p"], [8, 0, 5]),
+    (&["solve", "p", "--", "--workers"], [1, 0, 100000]),
 ];
 
-/// Words that are refused for their limits.
-const LIMITS_REFUSED: [&[&str]; 24] = [
+/// Words that are refused for their numbers.
+const LIMITS_REFUSED: [&[&str]; 35] = [
     // out of range
     &["solve", "p", "--cubes", "11"],
     &["solve", "p", "--cubes=4294967296"],
@@ -130,6 +169,10 @@ const LIMITS_REFUSED: [&[&str]; 24] = [
     &["solve", "p", "--budget", "18446744073709551616"],
     &["solve", "p", "--cubes=-1"],
     &["solve", "p", "--cubes", "-1"],
+    &["solve", "p", "--workers", "0"],
+    &["solve", "p", "--workers", "65"],
+    &["solve", "--workers=4294967297", "p"],
+    &["solve", "p", "--workers=-2"],
     // no whole number
     &["solve", "p", "--cubes", ""],
     &["solve", "p", "--cubes="],
@@ -139,18 +182,25 @@ const LIMITS_REFUSED: [&[&str]; 24] = [
     &["solve", "p", "--budget", "0x10"],
     &["solve", "p", "--budget", " 1"],
     &["solve", "p", "--cubes", "+"],
+    &["solve", "p", "--workers", "two"],
+    &["solve", "p", "--workers="],
     // without a value
     &["solve", "p", "--cubes"],
     &["solve", "p", "--budget", "--cubes", "1"],
+    &["solve", "p", "--workers"],
     // twice
     &["solve", "p", "--cubes", "1", "--cubes", "1"],
     &["solve", "--budget=1", "p", "--budget", "2"],
+    &["solve", "p", "--workers", "2", "--workers", "2"],
     // another name, another place
     &["solve", "p", "--cube", "1"],
     &["solve", "p", "-c", "1"],
     &["--cubes", "1", "solve", "p"],
     &["check", "p", "--cubes", "1"],
     &["check", "p", "s", "--budget=1"],
+    &["check", "p", "--workers", "1"],
+    &["cnf", "p", "--workers", "2"],
+    &["solve", "p", "--worker", "2"],
     &["solve", "--cubes", "1"],
 ];
 
@@ -169,11 +219,11 @@ fn first_other(
     None
 }
 
-/// The number of the first row of words that sets other limits.
-fn first_unlimited(alloc: Global, rows: &[(&[&str], u32, u32)]) -> Option<usize> {
+/// The number of the first row of words that sets other numbers.
+fn first_unlimited(alloc: Global, rows: &[(&[&str], [u32; 3])]) -> Option<usize> {
     for at in 0..rows.len() {
-        let (words, cubes, budget) = rows[at];
-        if !asks_within(alloc, words, cubes, budget) {
+        let (words, numbers) = rows[at];
+        if !asks_within(alloc, words, numbers) {
             return Some(at);
         }
     }
@@ -197,6 +247,7 @@ fn words_are_planned_or_refused(rt: HostRuntime) {
     let wrong = [
         ("solve", first_other(alloc, &SOLVED, Command::Solve)),
         ("check", first_other(alloc, &CHECKED, Command::Check)),
+        ("cnf", first_other(alloc, &SEARCHED, Command::Cnf)),
         ("refused", first_taken(alloc, &REFUSED)),
         ("limits", first_unlimited(alloc, &LIMITED)),
         ("refused limits", first_taken(alloc, &LIMITS_REFUSED)),

@@ -3,12 +3,15 @@
 //! A test function takes its proof some seconds, however little it holds, and a row of a table next to nothing. So there are few,
 //! each of which walks many tables, and tells the table and the row that fails.
 
+use cube_workers::NoGate;
 use smt_check::status::Status;
 use smt_desk::memory::{MemSink, MemSource};
 use smt_run::running::run;
 use std::alloc::{AllocError, AllocGlobal, Global};
 use std::process::Abort;
+use std::sync::Wait;
 use std::test::Fail;
+use std::thread::Threads;
 
 /// The words that ask for a script to be solved within the limits that stand where none are said.
 pub(crate) const SOLVE: &[&str] = &["solve", "PROOF"];
@@ -41,31 +44,38 @@ pub(crate) fn count(bytes: &[u8], word: &[u8]) -> usize {
 }
 
 /// The status, the answers and the proof of a script that is solved as the words ask.
-pub(crate) fn solve(alloc: Global, words: &[&str], script: &[u8]) -> (Status, Vec<u8>, Vec<u8>) {
+pub(crate) fn solve(
+    rt: &(impl Threads + Wait + Sync + AllocGlobal),
+    words: &[&str],
+    script: &[u8],
+) -> (Status, Vec<u8>, Vec<u8>) {
+    let alloc = rt.alloc();
     let mut source = MemSource::new(script, 4096, &[]);
     let mut unread = MemSource::new(b"", 1, &[]);
     let mut answers = MemSink::new(alloc, 100, &[]);
     let mut proof = MemSink::new(alloc, 100, &[]);
     let status = run(
+        rt,
         alloc,
         words,
         &mut source,
         &mut unread,
         &mut answers,
         &mut proof,
+        &NoGate,
     );
     (status, answers.into_bytes(), proof.into_bytes())
 }
 
 /// Whether a script that is solved as the words ask is answered so, with this status where one is said.
 pub(crate) fn is_answered(
-    alloc: Global,
+    rt: &(impl Threads + Wait + Sync + AllocGlobal),
     words: &[&str],
     script: &[u8],
     answers: &[u8],
     status: Option<Status>,
 ) -> bool {
-    let (found, told, proof) = solve(alloc, words, script);
+    let (found, told, proof) = solve(rt, words, script);
     drop(proof);
     told.as_slice() == answers && (status.is_none() || status == Some(found))
 }
@@ -90,24 +100,24 @@ pub(crate) struct Table {
 
 /// Whether a command is answered so between the declarations and a check.
 fn is_answered_between(
-    alloc: Global,
+    rt: &(impl Threads + Wait + Sync + AllocGlobal),
     command: &[u8],
     answers: &[u8],
     status: Status,
 ) -> Result<bool, AllocError> {
-    let script = joined(alloc, &[DECLARED, command, CHECK])?;
-    Ok(is_answered(alloc, SOLVE, script.as_slice(), answers, Some(status)))
+    let script = joined(rt.alloc(), &[DECLARED, command, CHECK])?;
+    Ok(is_answered(rt, SOLVE, script.as_slice(), answers, Some(status)))
 }
 
 /// The number of the first of the commands that is not answered so, counted from 0.
 fn first_other_command(
-    alloc: Global,
+    rt: &(impl Threads + Wait + Sync + AllocGlobal),
     commands: &[&[u8]],
     answers: &[u8],
     status: Status,
 ) -> Result<Option<usize>, AllocError> {
     for at in 0..commands.len() {
-        if !is_answered_between(alloc, commands[at], answers, status)? {
+        if !is_answered_between(rt, commands[at], answers, status)? {
             return Ok(Some(at));
         }
     }
@@ -115,9 +125,12 @@ fn first_other_command(
 }
 
 /// The number of the first of the scripts that has other answers.
-fn first_other_script(alloc: Global, scripts: &[(&[u8], &[u8])]) -> Option<usize> {
+fn first_other_script(
+    rt: &(impl Threads + Wait + Sync + AllocGlobal),
+    scripts: &[(&[u8], &[u8])],
+) -> Option<usize> {
     for at in 0..scripts.len() {
-        if !is_answered(alloc, SOLVE, scripts[at].0, scripts[at].1, None) {
+        if !is_answered(rt, SOLVE, scripts[at].0, scripts[at].1, None) {
             return Some(at);
         }
     }
@@ -125,21 +138,27 @@ fn first_other_script(alloc: Global, scripts: &[(&[u8], &[u8])]) -> Option<usize
 }
 
 /// The number of the first row that does not hold.
-fn first_wrong(alloc: Global, rows: Rows) -> Result<Option<usize>, AllocError> {
+fn first_wrong(
+    rt: &(impl Threads + Wait + Sync + AllocGlobal),
+    rows: Rows,
+) -> Result<Option<usize>, AllocError> {
     match rows {
         Rows::Told(error, commands) => {
-            let wanted = joined(alloc, &[b"(error \"line 2: ", error, b"\")\nsat\n"])?;
-            first_other_command(alloc, commands, wanted.as_slice(), Status::Refused)
+            let wanted = joined(rt.alloc(), &[b"(error \"line 2: ", error, b"\")\nsat\n"])?;
+            first_other_command(rt, commands, wanted.as_slice(), Status::Refused)
         }
-        Rows::Taken(commands) => first_other_command(alloc, commands, b"sat\n", Status::Done),
-        Rows::Answered(scripts) => Ok(first_other_script(alloc, scripts)),
+        Rows::Taken(commands) => first_other_command(rt, commands, b"sat\n", Status::Done),
+        Rows::Answered(scripts) => Ok(first_other_script(rt, scripts)),
     }
 }
 
 /// Each row of each of the tables holds.
-pub(crate) fn judge(rt: &(impl Abort + AllocGlobal), tables: &[Table]) -> Result<(), Fail> {
+pub(crate) fn judge(
+    rt: &(impl Threads + Wait + Sync + Abort + AllocGlobal),
+    tables: &[Table],
+) -> Result<(), Fail> {
     for table in tables {
-        if let Some(row) = first_wrong(rt.alloc(), table.rows)? {
+        if let Some(row) = first_wrong(rt, table.rows)? {
             let what = table.what;
             panic!(rt; "{what}: row {row}");
         }

@@ -3,8 +3,8 @@ use Rattle.smt_run.proofs.WordsTaken.{found_rows, names_in, no_names}
 use Rattle.smt_run.proofs.command_line.plan_of.Goals as goal
 
 pub returns-in_err-get_str-clause-none : goal.returns-in_err-get_str-clause-none
-returns-in_err-get_str-clause-none c = λ _ command proof script limits.
-    no_names c.args.found.now c.in_ok-name.inner.now c.in_ok-name.name.now _ proof script limits
+returns-in_err-get_str-clause-none c = λ _ command proof script settings.
+    no_names c.args.found.now c.in_ok-name.inner.now c.in_ok-name.name.now _ proof script settings
     (found_rows c.args.found.now c.in_ok-name.inner.now c.in_ok-name.name.now c.in_ok-name.ensures.name c.in_ok-name.ensures.rows)
     c.in_err-get_str.ensures
 

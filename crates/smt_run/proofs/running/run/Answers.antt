@@ -10,11 +10,12 @@ use Rattle.smt_run.proofs.Telling.{told_silent, unbegun_beside, unbegun_prefix}
 use Rattle.smt_run.proofs.Ends.{answered_unless, judged_unless, memory_usage, memory_done, memory_refused, memory_end, memory_long, memory_reads}
 use Rattle.smt_run.proofs.Faultless.{faultless_asks}
 use Rattle.dimacs_run.proofs.Told.{front_none}
-use Rattle.smt_run.proofs.WordsTaken.{asks_solve, asks_check, asks_refute, one_command, solve_or_refute, check_or_refute, same_limits}
+use Rattle.smt_run.proofs.WordsTaken.{asks_solve, asks_check, asks_refute, asks_search, one_command, solve_or_refute, check_or_refute, solve_or_search, check_or_search, refute_or_search, same_limits}
+use Rattle.smt_run.proofs.Searched.{search_unbegun}
 use Rattle.smt_run.proofs.running.run.Goals as goal
 
-pub solve-requires : goal.solve-requires
-solve-requires g c = c.in-Ok.ensures.limits
+pub solve-requires-clause-settings : goal.solve-requires-clause-settings
+solve-requires-clause-settings g c κs within = c.in-Ok.ensures.settings
 
 -- ---- a script was answered
 
@@ -56,6 +57,9 @@ returns-in-Solve-clause-checks g c = λ k. absurd (one_command _ (asks_solve _ _
 pub returns-in-Solve-clause-refutes : goal.returns-in-Solve-clause-refutes
 returns-in-Solve-clause-refutes g c = λ k. absurd (solve_or_refute _ (asks_solve _ _ _ _ _ c.in-Solve.is c.in-Ok.ensures.asked) k)
 
+pub returns-in-Solve-clause-searches : goal.returns-in-Solve-clause-searches
+returns-in-Solve-clause-searches g c = λ k. absurd (solve_or_search _ (asks_solve _ _ _ _ _ c.in-Solve.is c.in-Ok.ensures.asked) k)
+
 pub returns-in-Solve-clause-stays : goal.returns-in-Solve-clause-stays
 returns-in-Solve-clause-stays g c = record { answers = c.solve.ensures.answers; proof = c.solve.ensures.proof; later = c.solve.ensures.later }
 
@@ -77,7 +81,7 @@ pub returns-in-Check-clause-asked : goal.returns-in-Check-clause-asked
 returns-in-Check-clause-asked g c = λ t. faultless_asks _ t
 
 pub returns-in-Check-clause-solves : goal.returns-in-Check-clause-solves
-returns-in-Check-clause-solves g c = λ limits s. absurd (one_command _ (limits, s) (asks_check _ _ _ _ _ c.in-Check.is c.in-Ok.ensures.asked))
+returns-in-Check-clause-solves g c = λ limits s. absurd (one_command _ (s.settings, s.asks) (asks_check _ _ _ _ _ c.in-Check.is c.in-Ok.ensures.asked))
 
 pub returns-in-Check-clause-checks : goal.returns-in-Check-clause-checks
 returns-in-Check-clause-checks g c = λ _. (
@@ -95,6 +99,9 @@ returns-in-Check-clause-checks g c = λ _. (
 
 pub returns-in-Check-clause-refutes : goal.returns-in-Check-clause-refutes
 returns-in-Check-clause-refutes g c = λ k. absurd (check_or_refute _ (asks_check _ _ _ _ _ c.in-Check.is c.in-Ok.ensures.asked) k)
+
+pub returns-in-Check-clause-searches : goal.returns-in-Check-clause-searches
+returns-in-Check-clause-searches g c = λ k. absurd (check_or_search _ (asks_check _ _ _ _ _ c.in-Check.is c.in-Ok.ensures.asked) k)
 
 pub returns-in-Check-clause-stays : goal.returns-in-Check-clause-stays
 returns-in-Check-clause-stays g c = record {
@@ -121,7 +128,7 @@ pub returns-in-Lrat-clause-asked : goal.returns-in-Lrat-clause-asked
 returns-in-Lrat-clause-asked g c = λ t. faultless_asks _ t
 
 pub returns-in-Lrat-clause-solves : goal.returns-in-Lrat-clause-solves
-returns-in-Lrat-clause-solves g c = λ limits s. absurd (solve_or_refute _ (limits, s) (asks_refute _ _ _ _ _ c.in-Lrat.is c.in-Ok.ensures.asked))
+returns-in-Lrat-clause-solves g c = λ limits s. absurd (solve_or_refute _ (s.settings, s.asks) (asks_refute _ _ _ _ _ c.in-Lrat.is c.in-Ok.ensures.asked))
 
 pub returns-in-Lrat-clause-checks : goal.returns-in-Lrat-clause-checks
 returns-in-Lrat-clause-checks g c = λ k. absurd (check_or_refute _ k (asks_refute _ _ _ _ _ c.in-Lrat.is c.in-Ok.ensures.asked))
@@ -139,6 +146,9 @@ returns-in-Lrat-clause-refutes g c = λ _. (
   },
 )
 
+pub returns-in-Lrat-clause-searches : goal.returns-in-Lrat-clause-searches
+returns-in-Lrat-clause-searches g c = λ k. absurd (refute_or_search _ (asks_refute _ _ _ _ _ c.in-Lrat.is c.in-Ok.ensures.asked) k)
+
 pub returns-in-Lrat-clause-stays : goal.returns-in-Lrat-clause-stays
 returns-in-Lrat-clause-stays g c = record {
   answers = c.check_refutation.ensures.answers;
@@ -148,6 +158,47 @@ returns-in-Lrat-clause-stays g c = record {
 
 pub returns-in-Lrat-clause-later : goal.returns-in-Lrat-clause-later
 returns-in-Lrat-clause-later g c = c.check_refutation.ensures.later.proof
+
+-- ---- clauses were searched
+
+pub returns-in-Cnf-clause-usage : goal.returns-in-Cnf-clause-usage
+returns-in-Cnf-clause-usage g c = λ e. absurd (c.search_clauses.ensures.usage e)
+
+pub returns-in-Cnf-clause-usage_always : goal.returns-in-Cnf-clause-usage_always
+returns-in-Cnf-clause-usage_always g c = λ n. absurd (n (asks_search _ _ _ _ _ c.in-Cnf.is c.in-Ok.ensures.asked).1.2.taken)
+
+pub returns-in-Cnf-clause-untouched : goal.returns-in-Cnf-clause-untouched
+returns-in-Cnf-clause-untouched g c = λ e. absurd (c.search_clauses.ensures.usage e)
+
+pub returns-in-Cnf-clause-asked : goal.returns-in-Cnf-clause-asked
+returns-in-Cnf-clause-asked g c = λ t. faultless_asks _ t
+
+pub returns-in-Cnf-clause-solves : goal.returns-in-Cnf-clause-solves
+returns-in-Cnf-clause-solves g c = λ limits s. absurd (solve_or_search _ (s.settings, s.asks) (asks_search _ _ _ _ _ c.in-Cnf.is c.in-Ok.ensures.asked))
+
+pub returns-in-Cnf-clause-checks : goal.returns-in-Cnf-clause-checks
+returns-in-Cnf-clause-checks g c = λ k. absurd (check_or_search _ k (asks_search _ _ _ _ _ c.in-Cnf.is c.in-Ok.ensures.asked))
+
+pub returns-in-Cnf-clause-refutes : goal.returns-in-Cnf-clause-refutes
+returns-in-Cnf-clause-refutes g c = λ k. absurd (refute_or_search _ k (asks_search _ _ _ _ _ c.in-Cnf.is c.in-Ok.ensures.asked))
+
+pub returns-in-Cnf-clause-searches : goal.returns-in-Cnf-clause-searches
+returns-in-Cnf-clause-searches g c = λ _. (
+  refl,
+  record {
+    searched = c.search_clauses.ensures.searched;
+    always = λ x z. answered_unless _ _ _ _ _ c.search_clauses.ensures.usage c.search_clauses.ensures.too_long c.search_clauses.ensures.cause x z;
+    within = c.search_clauses.ensures.within;
+    too_long = c.search_clauses.ensures.too_long;
+    cause = c.search_clauses.ensures.cause;
+  },
+)
+
+pub returns-in-Cnf-clause-stays : goal.returns-in-Cnf-clause-stays
+returns-in-Cnf-clause-stays g c = record { answers = c.search_clauses.ensures.answers; proof = c.search_clauses.ensures.refutation; later = c.search_clauses.ensures.later }
+
+pub returns-in-Cnf-clause-later : goal.returns-in-Cnf-clause-later
+returns-in-Cnf-clause-later g c = omega arith
 
 -- ---- the words are not taken
 
@@ -164,13 +215,16 @@ pub returns-in-Err-Usage-clause-asked : goal.returns-in-Err-Usage-clause-asked
 returns-in-Err-Usage-clause-asked g c = λ t. faultless_asks _ t
 
 pub returns-in-Err-Usage-clause-solves : goal.returns-in-Err-Usage-clause-solves
-returns-in-Err-Usage-clause-solves g c = λ _ s. absurd (c.in-Err-Usage.ensures.asked c.in-Err-Usage.field-0-is s.2.taken)
+returns-in-Err-Usage-clause-solves g c = λ _ s. absurd (c.in-Err-Usage.ensures.asked c.in-Err-Usage.field-0-is s.asks.2.taken)
 
 pub returns-in-Err-Usage-clause-checks : goal.returns-in-Err-Usage-clause-checks
 returns-in-Err-Usage-clause-checks g c = λ k. absurd (c.in-Err-Usage.ensures.asked c.in-Err-Usage.field-0-is k.1.2.taken)
 
 pub returns-in-Err-Usage-clause-refutes : goal.returns-in-Err-Usage-clause-refutes
 returns-in-Err-Usage-clause-refutes g c = λ k. absurd (c.in-Err-Usage.ensures.asked c.in-Err-Usage.field-0-is k.1.2.taken)
+
+pub returns-in-Err-Usage-clause-searches : goal.returns-in-Err-Usage-clause-searches
+returns-in-Err-Usage-clause-searches g c = λ k. absurd (c.in-Err-Usage.ensures.asked c.in-Err-Usage.field-0-is k.1.2.taken)
 
 pub returns-in-Err-Usage-clause-stays : goal.returns-in-Err-Usage-clause-stays
 returns-in-Err-Usage-clause-stays g c = record { answers = adds_none _; proof = adds_none _; later = later_same _ }
@@ -232,6 +286,18 @@ returns-in-Err-NoMemory-clause-refutes g c = λ _. (
     front = front_none (g.S.Source.left c.args.script.now) (g.P.Source.left c.args.proof_in.now) (g.W.Sink.written c.args.answers.now);
     always = λ _ _ _. inr (inr refl);
     within = (within_none _, within_none _);
+    cause = tt;
+  },
+)
+
+pub returns-in-Err-NoMemory-clause-searches : goal.returns-in-Err-NoMemory-clause-searches
+returns-in-Err-NoMemory-clause-searches g c = λ _. (
+  refl,
+  record {
+    searched = search_unbegun (g.S.Source.left c.args.script.now) (g.W.Sink.written c.args.answers.now) (g.Q.Sink.written c.args.proof_out.now);
+    always = λ _ _. inr (inr refl);
+    within = λ _. within_none _;
+    too_long = λ e. absurd (memory_long e);
     cause = tt;
   },
 )

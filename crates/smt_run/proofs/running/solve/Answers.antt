@@ -19,13 +19,13 @@ pub returns-in-Err-zeros-clause-prefix : goal.returns-in-Err-zeros-clause-prefix
 returns-in-Err-zeros-clause-prefix g c = let a = c.open_proof.ensures.added in told_silent _ _ _ _ a.0 _ a.2 (λ text. unbegun_prefix _ text a.0)
 
 pub returns-in-Ok-answer_script-clause-whole : goal.returns-in-Ok-answer_script-clause-whole
-returns-in-Ok-answer_script-clause-whole g c = λ _. whole_all _ _ _ _ _ _ _ c.requires (λ turns run. (c.answers_are_right.ensures _ turns run, c.what_is_printed_is_right.ensures _ turns run)) (c.accepted_proofs_pass.ensures _) c.in-Ok.ensures.ok _ _ c.end_status.ensures c.in-Ok-answer_script.ensures.turns
+returns-in-Ok-answer_script-clause-whole g c = λ _. whole_all _ _ _ _ _ _ _ c.requires.settings.limits (λ turns run. (c.answers_are_right.ensures _ turns run, c.what_is_printed_is_right.ensures _ turns run)) (c.accepted_proofs_pass.ensures _) c.in-Ok.ensures.ok _ _ c.end_status.ensures c.in-Ok-answer_script.ensures.turns
 
 pub returns-in-Ok-answer_script-clause-beside : goal.returns-in-Ok-answer_script-clause-beside
-returns-in-Ok-answer_script-clause-beside g c = whole_beside _ _ _ _ _ _ _ c.requires (λ turns run. (c.answers_are_right.ensures _ turns run, c.what_is_printed_is_right.ensures _ turns run)) (c.accepted_proofs_pass.ensures _) c.in-Ok.ensures.ok _ _ c.end_status.ensures c.in-Ok-answer_script.ensures.turns
+returns-in-Ok-answer_script-clause-beside g c = whole_beside _ _ _ _ _ _ _ c.requires.settings.limits (λ turns run. (c.answers_are_right.ensures _ turns run, c.what_is_printed_is_right.ensures _ turns run)) (c.accepted_proofs_pass.ensures _) c.in-Ok.ensures.ok _ _ c.end_status.ensures c.in-Ok-answer_script.ensures.turns
 
 pub returns-in-Ok-answer_script-clause-prefix : goal.returns-in-Ok-answer_script-clause-prefix
-returns-in-Ok-answer_script-clause-prefix g c = whole_prefix _ _ _ _ _ _ _ c.requires (λ turns run. (c.answers_are_right.ensures _ turns run, c.what_is_printed_is_right.ensures _ turns run)) (c.accepted_proofs_pass.ensures _) c.in-Ok.ensures.ok _ _ c.end_status.ensures c.in-Ok-answer_script.ensures.turns
+returns-in-Ok-answer_script-clause-prefix g c = whole_prefix _ _ _ _ _ _ _ c.requires.settings.limits (λ turns run. (c.answers_are_right.ensures _ turns run, c.what_is_printed_is_right.ensures _ turns run)) (c.accepted_proofs_pass.ensures _) c.in-Ok.ensures.ok _ _ c.end_status.ensures c.in-Ok-answer_script.ensures.turns
 
 pub returns-in-Ok-answer_script-clause-proof : goal.returns-in-Ok-answer_script-clause-proof
 returns-in-Ok-answer_script-clause-proof g c = let a = c.open_proof.ensures.added in adds_more _ _ _ (a.0, a.2) c.answer_script.ensures.proof
@@ -34,10 +34,10 @@ pub returns-in-Ok-answer_script-clause-header : goal.returns-in-Ok-answer_script
 returns-in-Ok-answer_script-clause-header g c = λ _ _. begins_with _ _ _ _ c.in-Ok.ensures.ok c.answer_script.ensures.proof
 
 pub returns-clause-beside : goal.returns-clause-beside
-returns-clause-beside g c = front_beside _ _ _ _ _ _ _ c.requires (λ turns run. (c.answers_are_right.ensures _ turns run, c.what_is_printed_is_right.ensures _ turns run)) (c.accepted_proofs_pass.ensures _) c.in-Ok.ensures.ok c.in-Err-answer_script.ensures.turns
+returns-clause-beside g c = front_beside _ _ _ _ _ _ _ c.requires.settings.limits (λ turns run. (c.answers_are_right.ensures _ turns run, c.what_is_printed_is_right.ensures _ turns run)) (c.accepted_proofs_pass.ensures _) c.in-Ok.ensures.ok c.in-Err-answer_script.ensures.turns
 
 pub returns-clause-prefix : goal.returns-clause-prefix
-returns-clause-prefix g c = front_prefix _ _ _ _ _ _ _ c.requires (λ turns run. (c.answers_are_right.ensures _ turns run, c.what_is_printed_is_right.ensures _ turns run)) (c.accepted_proofs_pass.ensures _) c.in-Ok.ensures.ok c.in-Err-answer_script.ensures.turns
+returns-clause-prefix g c = front_prefix _ _ _ _ _ _ _ c.requires.settings.limits (λ turns run. (c.answers_are_right.ensures _ turns run, c.what_is_printed_is_right.ensures _ turns run)) (c.accepted_proofs_pass.ensures _) c.in-Ok.ensures.ok c.in-Err-answer_script.ensures.turns
 
 pub returns-clause-proof : goal.returns-clause-proof
 returns-clause-proof g c = let a = c.open_proof.ensures.added in adds_more _ _ _ (a.0, a.2) c.answer_script.ensures.proof
