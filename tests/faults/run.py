@@ -4,11 +4,12 @@
 usage: run.py [PROGRAM]    (default: the program that `rt run` leaves in crates/smt_tool/out)
 
 For each script of `examples/` and of the rows it first runs `solve` undisturbed. Then it runs it again under less and less memory
-(a limit on the address space), with a proof or answers that cannot be written (`/dev/full`), and with a script that cannot be read (a
-folder). Each time:
+(a limit on the address space), under limits up to a gigabyte, on a stack of 256 kilobytes, under limits of the size of a file, with a
+proof or answers that cannot be written (`/dev/full`), and with a script that cannot be read (a folder). Each time:
 
 - the status is the one of the undisturbed run, or 5 under a limit of memory, 4 where nothing can be written, 3 where nothing
-  can be read;
+  can be read; past a limit of file size it is 4 where the signal that tells of it (SIGXFSZ) is ignored, as the parent set it, and
+  the signal ends the run where it is not;
 - what was answered is a front of the undisturbed answers;
 - standard error has one line that says what ended the run, and none where nothing did;
 - `check`, which has all the memory it wants, accepts a record for each verdict that was answered whole.
@@ -24,20 +25,26 @@ import os
 import pathlib
 import re
 import resource
+import signal
 import subprocess
 import sys
 import tempfile
 
 ROOT = pathlib.Path(__file__).resolve().parents[2]
+sys.path.insert(0, str(ROOT / "tests/hostile"))
+import made  # noqa: E402
+
 VERDICTS = (b"sat", b"unsat", b"unknown")
 MEGABYTE = 1 << 20
 USAGE = b"usage: smt_tool solve PROOF [SCRIPT] "
-CAUSES = {0: b"", 1: b"", 5: b"smt_tool: memory is wanting\n"}
+UNWRITTEN = b"smt_tool: the proof cannot be written\n"
+CAUSES = {0: b"", 1: b"", 4: UNWRITTEN, 5: b"smt_tool: memory is wanting\n", -signal.SIGXFSZ: b""}
 
 
 def scripts():
-    """The scripts of the examples, and of the rows that solve."""
+    """The scripts of the examples, of the rows that solve, and three that take some hundred megabytes."""
     found = [path.read_bytes() for path in sorted((ROOT / "examples").glob("*.smt2"))]
+    found += [make(size)[0] for make, size in ((made.deep_sums, 8_000), (made.named_chain, 10_000), (made.wide_disjunction, 5_000))]
     for path in sorted((ROOT / "tests" / "rows").glob("*.row")):
         parts = re.split(rb"^== (.*)\n", path.read_bytes(), flags=re.M)
         held = dict(zip(parts[1::2], parts[2::2]))
@@ -55,6 +62,18 @@ def run(program, words, script, limit=None, out=subprocess.PIPE):
 
     done = subprocess.run([program, *words], input=script, stdout=out, stderr=subprocess.PIPE, preexec_fn=limited)
     return done.returncode, done.stdout or b"", done.stderr
+
+
+def run_under(program, words, script, limits, signals=True):
+    """The same under other limits; the signal of a file that is too long is not ignored where `signals` says so."""
+
+    def limited():
+        for kind, size in limits:
+            resource.setrlimit(kind, (size, size))
+
+    done = subprocess.run(
+        [program, *words], input=script, stdout=subprocess.PIPE, stderr=subprocess.PIPE, preexec_fn=limited, restore_signals=signals)
+    return done.returncode, done.stdout, done.stderr
 
 
 def verdicts(text):
@@ -99,8 +118,26 @@ def disturbed(program, script, folder, least):
         got = run(program, ["solve", proof], script, least * MEGABYTE + extra * 1024)
         faults.append(fault(program, proof, script, full[1], {full[0], 5}, got))
         runs, wanted = runs + 1, wanted + (got[0] == 5)
+    for size in (20, 40, 64, 96, 128, 256, 512, 1024):
+        got = run(program, ["solve", proof], script, max(size, least) * MEGABYTE)
+        faults.append(fault(program, proof, script, full[1], {full[0], 5} if size < 512 else {full[0]}, got))
+        runs, wanted = runs + 1, wanted + (got[0] == 5)
+    more = list(limited_runs(program, proof, script, full))
+    faults.extend(more)
     faults.extend(refused(program, proof, script, folder, full))
-    return [f for f in faults if f], runs + 4, wanted
+    return [f for f in faults if f], runs + len(more) + 4, wanted
+
+
+def limited_runs(program, proof, script, full):
+    """The faults of runs on a small stack, and under limits of the size of a file."""
+    got = run_under(program, ["solve", proof], script, [(resource.RLIMIT_STACK, 1 << 18)])
+    yield None if got == full else f"{got} on a small stack"
+    whole = len(pathlib.Path(proof).read_bytes())
+    for size in sorted({0, 1, 30, whole // 2, max(whole - 1, 0), whole}):
+        for signals in (False, True):
+            got = run_under(program, ["solve", proof], script, [(resource.RLIMIT_FSIZE, size)], signals)
+            past = -signal.SIGXFSZ if signals else 4
+            yield fault(program, proof, script, full[1], {full[0] if size >= whole else past}, got)
 
 
 def refused(program, proof, script, folder, full):

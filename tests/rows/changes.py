@@ -16,6 +16,9 @@ from operators import Refused
 
 HERE = pathlib.Path(__file__).resolve().parent
 
+# what stands before the chain of the diary, in the second format
+FORMAT_2 = "smt_proof 2 cubes 0 budget 0|f 0|f 1|e 2|e 3|e 4|e 5|e 6|e 7|s 0|s 1|s 2|s 3"
+
 CHANGES = [
     # the limits of the header
     (1, 1, "smt_proof 1 cubes 0 budget 0", "accepted"),
@@ -25,6 +28,20 @@ CHANGES = [
     (1, 1, "smt_proof 1 cubes 11 budget 0", "header"),
     (1, 1, "smt_proof 1 cubes 0 budget 1000000001", "header"),
     (1, 1, "smt_proof 1 cubes 00 budget 0", "other numbers"),
+    # the second format, and what is deleted
+    (1, 1, "smt_proof 2 cubes 0 budget 0", "accepted"),
+    (1, 1, "smt_proof 3 cubes 0 budget 0", "header"),
+    (15, 0, "d 13", "no deletion"),
+    (1, 16, FORMAT_2 + "|c 2 -8 -9 0 9.0 10.0 3.2 5.2|d 13|unknown 0 13 1|+ 13", "a deleted entry"),
+    (1, 16, FORMAT_2 + "|c 2 -8 -9 0 9.0 10.0 3.2 5.2|d 13|c 2 -8 -9 0 9.0 10.0 3.2 5.2|unknown 0 13 1|+ 14", "accepted"),
+    (1, 16, FORMAT_2 + "|c 2 -8 -9 0 9.0 10.0 3.2 5.2|d 13|unknown 0 13 2|= 13|+ 13", "a deleted entry"),
+    (1, 16, FORMAT_2 + "|d 12", "no lemma and no chain"),
+    (1, 16, FORMAT_2 + "|d 0", "no lemma and no chain"),
+    (1, 16, FORMAT_2 + "|d 13", "no lemma and no chain"),
+    (1, 16, FORMAT_2 + "|d", "no deletion"),
+    (1, 16, FORMAT_2 + "|c 2 -8 -9 0 9.0 10.0 3.2 5.2|d 13 13", "a place twice"),
+    (1, 16, FORMAT_2 + "|c 2 -8 -9 0 9.0 10.0 3.2 5.2|d 13|d 13", "was deleted before"),
+    (1, 16, FORMAT_2 + "|c 2 -8 -9 0 9.0 10.0 3.2 5.2|d 13|c 2 -8 -9 0 13.0", "was deleted"),
     # the cube, the start and the number of lines
     (15, 1, "unknown 1 13 1", "no such cube"),
     (15, 1, "unknown 0 12 1", "is no chain"),

@@ -1,7 +1,7 @@
 """Diaries of proof files: that the budget of a search was spent on a cube of a check.
 
 A diary says which clauses a search held, line by line: `= P` holds the clauses of entry P, `+ P` puts the chain P, which is
-then held, `- P` drops a held chain. It is spent where it has one put more than the budget, the last line being the last put.
+then held, `- P` drops a held chain. What was deleted before the diary is not held at its start, and no line names it. It is spent where it has one put more than the budget, the last line being the last put.
 """
 from operators import need
 
@@ -45,11 +45,12 @@ class Diary:
         need(start <= len(log.rows), "diary: no such start")
         need(log.built < start, "diary: a step behind the start is no chain, equality or lemma")
         self.log, self.given = log, literals
-        self.held = {p for p in range(start) if p not in log.chains}
+        self.held = {p for p in range(start) if p not in log.chains and p not in log.deleted}
         self.puts, self.may_drop = 0, 0
 
     def line(self, kind, at):
         need(at < len(self.log.rows), "diary: no such entry")
+        need(at not in self.log.deleted, "diary: a deleted entry")
         if kind == "-":
             need(self.may_drop > 0 and at in self.held and at in self.log.chains, "diary: no chain that may be dropped")
             self.held.remove(at)

@@ -5,7 +5,7 @@ usage: reference.py SCRIPT PROOF [theories]
 
 Reads a script over Bools and words (declare-const, declare-fun, assert, push, pop, reset, check-sat, check-sat-assuming, exit,
 with all operators of Core and of words, `let` and `:named`), with the third word over functions and arrays too, and the
-proof file that the solver wrote for it, and replays every line by the rules of the format. Prints the verdict of each
+proof file that was written for it, in either format, and replays every line by the rules of the format. Prints the verdict of each
 record and `accepted N`, or `refused line L: why`. It shares no code with the solver or its checker. terms.py reads the
 script, operators.py has the sorts and values of terms, circuits.py the gates of each operator, rules.py the rules of rewriting,
 accesses.py the lemmas on functions and arrays, diaries.py the diaries of searches.
@@ -23,7 +23,7 @@ from terms import NUMERAL, Script
 # By which rule a line of this kind is refused, but for those that are no lines.
 RULES = {
     "t": "node", "f": "leaf", "e": "encode", "r": "rewrite", "s": "selector", "q": "equal", "l": "lemma", "c": "chain",
-    "sat": "sat", "unsat": "unsat", "unknown": "diary",
+    "d": "delete", "sat": "sat", "unsat": "unsat", "unknown": "diary",
 }
 
 
@@ -40,13 +40,15 @@ class BadLine(Refused):
 class Log:
     """The clauses of each entry, the bits and the images of terms, their equalities and the selectors of assertions."""
 
-    def __init__(self, script):
-        self.script, self.terms = script, script.terms
+    def __init__(self, script, version=1):
+        self.script, self.terms, self.format = script, script.terms, version
         self.next, self.bits, self.images, self.equalities, self.selectors = 2, {}, {}, {}, {}
         self.rows = [[[1]]]
         # the declared constants with `f` lines, the hints of each chain by its position, and the last position of a step that
         # is none of a search
         self.leaves, self.chains, self.built = [], {}, -1
+        # the positions of lemmas, and those that were deleted
+        self.lemmas, self.deleted = set(), set()
 
     def node(self, t):
         need(t < len(self.terms.nodes), "no such term")
@@ -129,12 +131,24 @@ class Log:
         return self.bits[t][0]
 
     def lemma(self, clause):
+        self.lemmas.add(len(self.rows))
         self.rows.append([clause])
+
+    # ---- deletions
+
+    def delete(self, places):
+        """The places hold no clause any more. All of them are looked at first, so that none goes where one may not."""
+        need(len(set(places)) == len(places), "d: a place twice")
+        for p in places:
+            need(p in self.lemmas or p in self.chains, "d: no lemma and no chain")
+            need(p not in self.deleted, "d: a place that was deleted before")
+        self.deleted.update(places)
 
     # ---- chains
 
     def clause(self, pos, part):
         need(pos < len(self.rows) and part < len(self.rows[pos]), "no such clause")
+        need(pos not in self.deleted, "the clause was deleted")
         return self.rows[pos][part]
 
     def chain(self, clause, hints):
@@ -199,7 +213,7 @@ def literals_of(words):
 
 
 def step(log, kind, words):
-    """A line that adds to the log."""
+    """A line that adds to the log, or deletes places of it."""
     need(kind in RULES, "line: unknown kind")
     match kind, words:
         case "t", [op, *rest]:
@@ -208,6 +222,9 @@ def step(log, kind, words):
             need("0" in words, "line: a clause without an end")
             end = words.index("0")
             log.chain(literals_of(words[:end]), [numbers_of(w.split("."), 2) for w in words[end + 1:]])
+        case "d", _:
+            need(log.format == 2 and words, "line: no deletion")
+            log.delete(numbers_of(words, len(words)))
         case "r", _:
             log.rewrite(*numbers_of(words, 3))
         case "q", _:
@@ -338,12 +355,12 @@ def unknown_record(log, limits, n, start, count, lines):
 # ---- whole proofs
 
 def limits_of(header):
-    """The most split variables and the budget."""
+    """The format, the most split variables and the budget."""
     match header.split(" "):
-        case ["smt_proof", "1", "cubes", depth, "budget", budget]:
+        case ["smt_proof", "1" | "2" as version, "cubes", depth, "budget", budget]:
             depth, budget = numbers_of([depth, budget], 2)
             need(depth <= 10 and budget <= 1000000000, "header")
-            return depth, budget
+            return int(version), depth, budget
     raise Refused("header")
 
 
@@ -370,9 +387,9 @@ def one_check(log, limits, lines):
 def replay(script_text, proof, theories=False):
     """The verdicts of a proof's records and the log behind them, where it is accepted."""
     lines = Lines(proof)
-    limits = judged(lines, "header", lambda: limits_of(lines.take()))
+    version, *limits = judged(lines, "header", lambda: limits_of(lines.take()))
     script = Script(script_text, theories)
-    log, verdicts = Log(script), []
+    log, verdicts = Log(script, version), []
     for _ in script.checks():
         verdicts.append(one_check(log, limits, lines))
     if lines.are_left():
