@@ -144,7 +144,7 @@ module _ (nodes : List Node) (bits : List TermBits) (arrays first indexes widths
       })
       (λ (more : length first + 1 ≤ length h.indexes). record {
         indexes = first;
-        among = λ u l own' start width. subst (λ xs. Contains xs l.index) (sym is) (mapped_found (λ (r : Landing). r.index) old.landings.items l ((had u own').start l start));
+        among = λ u l own' start width. (l.index, subst (λ xs. Contains xs l.index) (sym is) (mapped_found (λ (r : Landing). r.index) old.landings.items l ((had u own').start l start)), ([], refl));
         words = λ k lt le. word_at t x n m k own e s (omega (arith, le)) (λ i under. h.words i (omega (arith, under, lt)) (omega (arith, under, le, more)));
       })
       (cases_lt (length h.indexes) (length first + 1))

@@ -23,7 +23,7 @@ use Rattle.access_tables.specs.Held.{HasRow, IsAccess, assigned_value}
 use Rattle.access_walk.specs.declared.guard.Guard.TheVariants.{Differs}
 use Rattle.access_walk.specs.declared.network.Network.{Network}
 use Rattle.access_walk.specs.declared.values.Entry.{Entry}
-use Rattle.access_walk.specs.Maps.{AreIndexes, IsMap, IsValued, gate_of}
+use Rattle.access_walk.specs.Maps.{AreIndexes, AreLinked, IsMap, IsValued, gate_of}
 use Rattle.access_walk.specs.Networks.{no_landing}
 use Rattle.access_walk.specs.Valued.{IsGuarded, IsWordTerm, start_of}
 use Rattle.access_walk.specs.Valuing.{is_store, IsNetworkOf, IsEntry, AreEntries, AreValues, starts_in, origins_in, landings_in}
@@ -129,9 +129,11 @@ module _ (nodes : List Node) (bits : List TermBits) (f : ℕ → Bool) (terms : 
     access_is e c = let h = are.each e c in one_of (IsAccess nodes bits terms) n.landings.items net.accesses h.place e.landing h.landing
 
     module _ (held : (t x w m : ℕ) → IsOwn (Contains terms) (image_in bits) t → shape_at nodes t ≡ Filling x → sort_of nodes t ≡ sort.Array w m → HasHeldWords nodes bits (Contains terms) w) (values : HaveWordValues nodes bits f)
+        (linked : AreLinked (image_in bits) (assigned_value nodes bits f))
         (gates : List Gate) (gates_are : gates ≡ map (gate_of (assigned_value nodes bits f)) n.guards.items) where
       valued : IsValued nodes (image_in bits) (Contains terms) (assigned_value nodes bits f) terms n.guards.items (landings_in entries) gates (starts_in entries)
       valued = record {
+        linked = linked;
         indexes = λ s w l at q.
             let b = back s l at in
             let a = one_of (IsAccess nodes bits terms) n.landings.items net.accesses b.0 l b.1 in
@@ -141,7 +143,7 @@ module _ (nodes : List Node) (bits : List TermBits) (f : ℕ → Bool) (terms : 
             word_value nodes bits f i w q g.2;
         words = λ t x w m k u own q s spare is.
             let h = held t x w m own q s in
-            let p = h.words k spare.within (few nodes (image_in bits) (Contains terms) (assigned_value nodes bits f) w h.indexes h.among k spare) in
+            let p = h.words k spare.within (few nodes (image_in bits) (Contains terms) (assigned_value nodes bits f) w h.indexes linked h.among k spare) in
             let same : p.0 ≡ u = (let z : Some p.0 ≡ Some u = sym p.1.0 ∙ is.0 in cc) in
             values w k u is (subst (HasRow nodes bits) same p.2);
         gates_are = gates_are;

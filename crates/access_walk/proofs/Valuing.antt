@@ -1,5 +1,5 @@
 -- A map is a network under each assignment.
-use Rattle.std.proofs.Common.{◌≡◌, ℕ, zero, suc, Bool, true, false, not, List, [], ◌∷◌, length, Option, Some, refl, sym, ap, ◌∙◌, subst, inl, inr, ⊎_elim, ◌<◌, ◌≤◌, arith}
+use Rattle.std.proofs.Common.{◌≡◌, ℕ, zero, suc, Bool, true, false, not, List, [], ◌∷◌, length, Option, Some, None, refl, sym, ap, ◌∙◌, subst, inl, inr, ⊎_elim, ◌<◌, ◌≤◌, arith}
 use Rattle.std.specs.Prelude.{◌==◌, map, slice_get}
 use Rattle.std.proofs.lemmas.Bool.{eq-eqb, eqb-true, not-true}
 use Rattle.std.proofs.lemmas.Option.{slice_get-get_or}
@@ -22,11 +22,13 @@ use Rattle.access_spread.specs.declared.spreading.Start.{Start}
 use Rattle.access_spread.specs.Graphs.{passes, gate_at}
 use Rattle.access_walk.specs.declared.guard.Guard.{Guard}
 use Rattle.access_walk.specs.declared.guard.Guard.TheVariants.{Differs, Holds, Fails}
-use Rattle.access_walk.specs.Maps.{when, gate_of, unless_of, HasIndex, IsMap, IsValued}
+use Rattle.access_walk.specs.Maps.{when, gate_of, unless_of, HasIndex, Becomes, AreLinked, AreAllIndexes, IsMap, IsValued}
 use Rattle.access_tables.specs.Ready.{IsOwn}
 use Rattle.access_tables.specs.Tables.{IsTaken, IsSpare}
 use Rattle.theory_terms.specs.declared.lemma.Start as of
-use Rattle.std.specs.Prelude.{◌⊎◌, Contains, get_or}
+use Rattle.std.specs.Prelude.{◌⊎◌, Contains, get_or, option_to_list}
+use Rattle.cnf_base.proofs.Lists.{Contains-nil, Contains-one}
+use Rattle.term_reach.proofs.Ways.{way_closed}
 use Rattle.std.proofs.lemmas.Bool.{cases_lt}
 use Rattle.indexmap.proofs.IndexTableLemmas.Probe.{pigeonhole}
 use Rattle.access_walk.specs.Networks.{IsIndexOf, IsNetwork}
@@ -78,11 +80,19 @@ get_map f (x ∷ us) (suc j) u e = get_map f us j u e
 
 -- ---- the spare number is at most the number of the indexes
 
+-- what a term becomes has its value
+became_same : (image : ℕ → Option ℕ) (val : ℕ → Value) → AreLinked image val → (t u : ℕ) → Becomes image t u → val t ≡ val u
+became_same image val linked t u b =
+    way_closed (λ x. option_to_list (image x)) (λ x. val t ≡ val x) (λ x y e c. e ∙ linked x y (listed (image x) y c)) t b.0 u b.1 refl where
+      listed : (o : Option ℕ) (y : ℕ) → Contains (option_to_list o) y → o ≡ Some y
+      listed None y c = absurd (Contains-nil y c)
+      listed (Some x) y c = ap Some (Contains-one x y c)
+
 module _ (nodes : List Node) (image : ℕ → Option ℕ) (Here : ℕ → Type 0) (val : ℕ → Value) (n : ℕ) (indexes : List ℕ)
-    (among : (t : ℕ) (l : Landing) → IsOwn Here image t → start_of t (shape_at nodes t) ≡ Some l → sort_of nodes l.index ≡ sort.Word n → Contains indexes l.index)
+    (linked : AreLinked image val) (among : AreAllIndexes nodes image Here n indexes)
     (s : ℕ) (spare : IsSpare nodes Here image val n s) where
   term_for : (i : ℕ) → i < s → (j : ℕ) × Contains indexes j × (number_of (val j) ≡ i)
-  term_for i lt = let k = spare.least i lt in (k.1.index, among k.0 k.1 k.2 k.3 k.4, k.5)
+  term_for i lt = let k = spare.least i lt in let j = among k.0 k.1 k.2 k.3 k.4 in (j.0, j.1, ap number_of (sym (became_same image val linked k.1.index j.0 j.2)) ∙ k.5)
 
   place_of : ℕ → ℕ
   place_of i = ⊎_elim (λ lt. (term_for i lt).1.0) (λ le. 0) (cases_lt i s)
@@ -131,7 +141,7 @@ module _ (nodes : List Node) (image : ℕ → Option ℕ) (Here : ℕ → Type 0
         (w.0, w.1, w.2, w.3, w.4, ap (λ y. number_of (val y)) w.5 ∙ c.5))
         (λ (c : IsSpare nodes Here image val n k).
         let first = net.words t x n m h e s in
-        let w = first.words k c.within (few nodes image Here val n first.indexes first.among k c) in
+        let w = first.words k c.within (few nodes image Here val n first.indexes valued.linked first.among k c) in
         (w.0, w.1, w.2, w.3, w.4, valued.words t x n m k w.1.index h e s c w.5))
         a;
     everywhere = net.everywhere;

@@ -1,5 +1,5 @@
 -- The arrays, moves and accesses of reached terms, before any assignment; and gates and starts under one.
-use Rattle.std.specs.Prelude.{◌≡◌, ◌<◌, ◌≤◌, ◌^◌, ℕ, Bool, true, List, length, map, Some, Option, slice_get, Contains, if◌then◌else◌}
+use Rattle.std.specs.Prelude.{◌≡◌, ◌<◌, ◌≤◌, ◌^◌, ℕ, Bool, true, List, length, map, Some, Option, option_to_list, slice_get, Contains, if◌then◌else◌}
 use Rattle.smt_terms.specs.declared.sort.Sort.TheVariants as sort
 use Rattle.smt_terms.specs.declared.node.Node.{Node}
 use Rattle.smt_terms.specs.Terms.{sort_of}
@@ -16,6 +16,7 @@ use Rattle.theory_terms.specs.declared.shape.Shape.TheVariants.{Filling}
 use Rattle.theory_terms.specs.declared.lemma.Start as of
 use Rattle.theory_terms.specs.Shapes.{shape_at, term_of}
 use Rattle.theory_terms.specs.Lemmas.{start_of, landing_of, turn_of}
+use Rattle.term_reach.specs.Reach.{Reaches}
 use Rattle.access_tables.specs.Ready.{IsOwn}
 use Rattle.access_tables.specs.Tables.{IsSpare}
 use Rattle.theory_terms.specs.Named.{mover}
@@ -68,9 +69,18 @@ pub record IsArc (nodes : List Node) (arrays : List ℕ) (e : Edge) (m : Move) (
 abbrev pub IsWordOf : List Node → ℕ → ℕ → ℕ → Type 0
 IsWordOf nodes n k w = (term_of nodes (leaf (Word n k)) ≡ Some w) × (sort_of nodes w ≡ sort.Word n)
 
--- each index of this width that a select or a store among the terms has is one of these
+-- u is t, or images lead from t to it, one after the other
+abbrev pub Becomes : (ℕ → Option ℕ) → ℕ → ℕ → Type 0
+Becomes image t u = Reaches (λ x. option_to_list (image x)) t u
+
+-- a term has the value of its image
+abbrev pub AreLinked : (ℕ → Option ℕ) → (ℕ → Value) → Type 0
+AreLinked image val = (t u : ℕ) → image t ≡ Some u → val t ≡ val u
+
+-- each index of this width that a select or a store among the terms has becomes one of these
 abbrev pub AreAllIndexes : List Node → (ℕ → Option ℕ) → (ℕ → Type 0) → ℕ → List ℕ → Type 0
-AreAllIndexes nodes image Here n indexes = (t : ℕ) (l : Landing) → IsOwn Here image t → start_of t (shape_at nodes t) ≡ Some l → sort_of nodes l.index ≡ sort.Word n → Contains indexes l.index
+AreAllIndexes nodes image Here n indexes = (t : ℕ) (l : Landing) → IsOwn Here image t → start_of t (shape_at nodes t) ≡ Some l → sort_of nodes l.index ≡ sort.Word n
+    → (i : ℕ) × Contains indexes i × Becomes image l.index i
 
 -- the array starts with this element at the words from 0 up to the number of the indexes of the width, or up to its last word
 pub record HasFirstWords (nodes : List Node) (image : ℕ → Option ℕ) (Here : ℕ → Type 0) (landings : List Landing) (t x n : ℕ) : Type 0 where
@@ -91,8 +101,10 @@ pub record IsMap (nodes : List Node) (image : ℕ → Option ℕ) (Here : ℕ �
   pub moved : (here i a : ℕ) (m : Move) (w : Turn) → slice_get arrays here ≡ Some a → is_array (sort_of nodes a) ≡ true → IsOwn Here image (mover m) → turn_of nodes i a m ≡ Some w
       → (j : ℕ) × (e : Edge) × (slice_get g.edges.items j ≡ Some e) × (e.from ≡ here) × (slice_get moves j ≡ Some m)
 
--- gates and starts are those of an assignment, which gives words of their sorts, and the spare index its number where a word is made for it
+-- Gates and starts are those of an assignment, which gives words of their sorts, terms the values of their images, and the spare index
+-- its number where a word is made for it.
 pub record IsValued (nodes : List Node) (image : ℕ → Option ℕ) (Here : ℕ → Type 0) (val : ℕ → Value) (arrays : List ℕ) (guards : List Guard) (landings : List Landing) (gates : List Gate) (starts : List Start) : Type 0 where
+  pub linked : AreLinked image val
   pub indexes : (s n : ℕ) (l : Landing) → slice_get landings s ≡ Some l → sort_of nodes l.index ≡ sort.Word n → HasSort (sort.Word n) (val l.index)
   pub guarded : (j i n : ℕ) → slice_get guards j ≡ Some (Differs i) → sort_of nodes i ≡ sort.Word n → HasSort (sort.Word n) (val i)
   pub words : (t x n m k w : ℕ) → IsOwn Here image t → shape_at nodes t ≡ Filling x → sort_of nodes t ≡ sort.Array n m → IsSpare nodes Here image val n k

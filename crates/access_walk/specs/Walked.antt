@@ -29,7 +29,8 @@ Reached nodes bits live = IsReached (leads nodes (image_in bits)) live
 abbrev pub IsHeldWord : List Node → List TermBits → ℕ → ℕ → Type 0
 IsHeldWord nodes bits n k = (w : ℕ) × IsWordOf nodes n k w × HasRow nodes bits w
 
--- the words of a width from 0 up to the number of its indexes, or up to the last of the width, are made and have bits
+-- Each index of the width becomes one of some terms, and the words of the width from 0 up to the number of these, or up to its last,
+-- are made and have bits.
 pub record HasHeldWords (nodes : List Node) (bits : List TermBits) (Here : ℕ → Type 0) (n : ℕ) : Type 0 where
   pub indexes : List ℕ
   pub among : AreAllIndexes nodes (image_in bits) Here n indexes

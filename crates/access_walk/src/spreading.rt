@@ -10,7 +10,9 @@ ghost use Rattle.access_spread.specs.Graphs.{IsGraph, AreGated};
 ghost use Rattle.access_spread.specs.Spreads.{AreRising, AreTold, IsSpread, start_at};
 ghost use Rattle.bit_blast.specs.Assigned.{assigned};
 ghost use Rattle.access_tables.specs.Encoded.{HaveBits};
+ghost use Rattle.access_tables.specs.Held.{assigned_value};
 ghost use Rattle.access_tables.specs.Ready.{IsOwn};
+ghost use Rattle.access_walk.specs.Maps.{AreLinked};
 ghost use Rattle.access_walk.specs.Spread.{IsSpreading};
 ghost use Rattle.access_walk.specs.Told.{IsAllTold};
 ghost use Rattle.access_walk.specs.Valuing.{IsNetworkOf};
@@ -111,6 +113,8 @@ pub fn find_clashes(
         → shape_at terms.now.nodes t ≡ Filling x → sort_of terms.now.nodes t ≡ sort.Array n m
         → HasHeldWords terms.now.nodes bits.now (Contains reached.now) n }
     requires values { HaveWordValues terms.now.nodes bits.now (assigned assignment.now) }
+    requires linked { AreLinked (image_in bits.now)
+        (assigned_value terms.now.nodes bits.now (assigned assignment.now)) }
     ensures found { IfOk result
         (IsSpreading terms.now.nodes bits.now (assigned assignment.now) reached.now) }
     ensures told { IfOk result

@@ -11,6 +11,7 @@ ghost use Rattle.bit_blast.specs.Assigned.{assigned};
 ghost use Rattle.access_tables.specs.Encoded.{HaveBits};
 ghost use Rattle.access_tables.specs.Held.{IsAccess, assigned_value};
 ghost use Rattle.access_tables.specs.Ready.{IsOwn};
+ghost use Rattle.access_walk.specs.Maps.{AreLinked};
 ghost use Rattle.access_walk.specs.Valued.{start_of};
 ghost use Rattle.access_walk.specs.Valuing.{is_store, is_select, IsNetworkOf, AreEntries, AreValues, starts_in};
 ghost use Rattle.access_walk.specs.Walked.{HasHeldWords, HaveWordValues};
@@ -142,6 +143,8 @@ impl Values {
             → shape_at terms.now.nodes t ≡ Filling x → sort_of terms.now.nodes t ≡ sort.Array n m
             → HasHeldWords terms.now.nodes bits.now (Contains reached.now) n }
         requires values { HaveWordValues terms.now.nodes bits.now (assigned assignment.now) }
+        requires linked { AreLinked (image_in bits.now)
+            (assigned_value terms.now.nodes bits.now (assigned assignment.now)) }
         ensures { OnOk result (AreValues terms.now.nodes bits.now (assigned assignment.now)
             reached.now network.now self.new.entries.items self.new.gates.items
             self.new.starts.items) }

@@ -6,6 +6,7 @@ ghost use Rattle.bit_blast.specs.Assigned.{assigned};
 ghost use Rattle.term_reach.specs.Reach.{IsReach};
 ghost use Rattle.access_tables.specs.Leading.{leads};
 ghost use Rattle.access_tables.specs.Held.{assigned_value};
+ghost use Rattle.access_walk.specs.Maps.{AreLinked};
 ghost use Rattle.access_walk.specs.Networks.{AreApart, AreCongruent};
 ghost use Rattle.access_walk.specs.Rows.{AreClosedRows};
 ghost use Rattle.access_walk.specs.Searched.{IsPrepared, AreAllConflicts, AreNoClashes, AreConflicts, IsWalked};
@@ -234,6 +235,8 @@ pub fn walk(
     requires reach { IsReach (leads terms.now.nodes (image_in bits.now)) live.now reached.now }
     requires prepared { IsPrepared terms.now.nodes bits.now reached.now prepared.now }
     requires values { HaveWordValues terms.now.nodes bits.now (assigned assignment.now) }
+    requires linked { AreLinked (image_in bits.now)
+        (assigned_value terms.now.nodes bits.now (assigned assignment.now)) }
     ensures { IfOk result
         (IsWalked terms.now.nodes bits.now (assigned assignment.now) live.now reached.now) }
 {

@@ -19,8 +19,9 @@ use Rattle.theory_terms.specs.declared.shape.Shape.TheVariants.{Selecting, Stori
 use Rattle.theory_terms.specs.Shapes.{shape_at}
 use Rattle.bit_blast.specs.Blocks.{Block, with_first, all_bits, block_over, block_of}
 use Rattle.access_tables.specs.Encoded.{HaveBits, IsSatisfied, AreSatisfied}
-use Rattle.access_tables.specs.Held.{value_with, value_by}
-use Rattle.access_tables.specs.Ready.{AreKept, IsFreeShape, IsFree}
+use Rattle.access_tables.specs.Held.{assigned_value, value_with, value_by}
+use Rattle.access_tables.specs.Ready.{AreImages, AreKept, IsFreeShape, IsFree}
+use Rattle.access_walk.specs.Maps.{AreLinked}
 use Rattle.proof_log.specs.declared.entry.RuleUse.{RuleUse}
 use Rattle.proof_log.specs.declared.entry.Entry.{Entry}
 use Rattle.proof_log.specs.declared.entry.Entry.TheVariants as step
@@ -237,6 +238,10 @@ module _ (nodes : List Node) (terms : IsTermList nodes) (different : AreDifferen
   linked_images t u e =
       let k = log_linked nodes log stands t u (sym (images t) ∙ e) in
       are t ∙ k.own ∙ sym (linked_bits nodes log t u stands k) ∙ sym (are u)
+
+  -- a term has the value of its image
+  pub linked_values : AreImages nodes (image_in bits) → AreLinked (image_in bits) (assigned_value nodes bits f)
+  linked_values sorts t u e = ap (value_by f (sort_of nodes t)) (linked_images t u e) ∙ ap (λ s. value_by f s (bits_in bits u)) (sym (sorts.sort t u e))
 
   pub satisfied : (Here : ℕ → Type 0) → HaveBits nodes bits Here → Contains opening 0 → Contains variables 1 → ((t : ℕ) → Here t → IsSome ((state_of nodes log).bits t) → IsGiven nodes log variables opening t) → AreSatisfied nodes bits f Here
   satisfied Here have k one steps = record {

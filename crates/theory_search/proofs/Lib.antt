@@ -2,7 +2,6 @@ mod Same
 mod Grown
 mod Apart
 mod Listed
-mod Below
 mod Valued
 mod Given
 mod Numbered

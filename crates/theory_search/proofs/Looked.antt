@@ -10,9 +10,10 @@ use Rattle.smt_terms.specs.Values.{Interpretation}
 use Rattle.term_reach.specs.Reach.{IsReached, IsReach}
 use Rattle.access_tables.specs.Leading.{leads}
 use Rattle.access_tables.specs.Encoded.{HaveBits, AreSatisfied}
-use Rattle.access_tables.specs.Held.{TableValue, value_by}
+use Rattle.access_tables.specs.Held.{TableValue, assigned_value, value_by}
 use Rattle.access_tables.specs.Modeled.{IsModel}
 use Rattle.access_walk.specs.declared.walking.Conflicts.{Conflicts}
+use Rattle.access_walk.specs.Maps.{AreLinked}
 use Rattle.access_walk.specs.Searched.{IsPrepared, AreConflicts}
 use Rattle.access_walk.specs.Walked.{IsWalkable, HaveWordValues, IsWalkedTable}
 use Rattle.access_walk.proofs.Conflicting.{bits_here}
@@ -25,7 +26,7 @@ use Rattle.theory_search.specs.Theories.{IsTheory}
 use Rattle.theory_search.specs.Ends.{IsModelOf}
 use Rattle.theory_search.specs.Looks.{AreLemmas}
 use Rattle.theory_search.proofs.Same.{same_rows, same_images, walkable_by, reach_by, prepared_by, values_by}
-use Rattle.theory_search.proofs.Given.{value_agrees, satisfied, one_true}
+use Rattle.theory_search.proofs.Given.{value_agrees, linked_values, satisfied, one_true}
 use Rattle.theory_search.proofs.Wanted.{encoded_ready}
 
 -- what is at hand when a search has found a model
@@ -74,6 +75,9 @@ module _ (nodes : List Node) (log : List Entry) (opening : List ℕ) (given : Li
 
   pub words_have_values : HaveWordValues nodes bits f
   words_have_values = values_by nodes h.bits bits rows pictures f (h.numbered f (one_true nodes k.terms k.different log k.stands bits k.are k.images opening given v k.model t.variables f k.agrees h.first h.one))
+
+  pub values_linked : AreLinked (image_in bits) (assigned_value nodes bits f)
+  values_linked = linked_values nodes k.terms k.different log k.stands bits k.are k.images opening given v k.model t.variables f k.agrees walks.bits_are.images
 
   module _ (table : TableValue) (walked : IsWalkedTable nodes bits f t.live.items table) where
     pub table_bits : HaveBits nodes bits (Contains table.terms)

@@ -23,7 +23,7 @@ use Rattle.access_walk.specs.declared.walking.Prepared.{Prepared}
 use Rattle.access_walk.specs.declared.spares.Indexes.{Indexes}
 use Rattle.access_walk.specs.declared.witnesses.Watched.{Watched}
 use Rattle.access_walk.specs.Congruent.{IsScalarTerm, IsApplied, AreApplications}
-use Rattle.access_walk.specs.Maps.{IsMap}
+use Rattle.access_walk.specs.Maps.{Becomes, IsMap}
 use Rattle.access_walk.specs.Searched.{IsPrepared}
 use Rattle.access_walk.specs.Spared.{HasIndexTerm, HasWidth, AreIndexesOf}
 use Rattle.access_walk.specs.Valued.{IsGuarded}
@@ -151,7 +151,7 @@ module _ (nodes : List Node) (a b : List TermBits) (rows : bits_in a ≡ bits_in
   words_by : (live : List ℕ) (n : ℕ) → HasHeldWords nodes a (Reached nodes a live) n → HasHeldWords nodes b (Reached nodes b live) n
   words_by live n h = record {
     indexes = h.indexes;
-    among = λ t l own start sort. h.among t l (here_from live t own.0, ap (λ f. f t) images ∙ own.1) start sort;
+    among = λ t l own start sort. (let j = h.among t l (here_from live t own.0, ap (λ f. f t) images ∙ own.1) start sort in (j.0, j.1, subst (λ image. Becomes image l.index j.0) images j.2));
     words = λ k lt le. (let w = h.words k lt le in (w.0, w.1, row_of w.0 w.2));
   }
 

@@ -5,6 +5,8 @@ ghost use Rattle.bit_blast.specs.Assigned.{assigned};
 ghost use Rattle.smt_terms.specs.Bits.{image_in};
 ghost use Rattle.term_reach.specs.Reach.{IsReach};
 ghost use Rattle.access_tables.specs.Leading.{leads};
+ghost use Rattle.access_tables.specs.Held.{assigned_value};
+ghost use Rattle.access_walk.specs.Maps.{AreLinked};
 ghost use Rattle.access_walk.specs.Searched.{IsPrepared};
 ghost use Rattle.access_walk.specs.Walked.{IsWalkable, HaveWordValues};
 ghost use Rattle.walk_rows.specs.Fitting.{AreUnlinked};
@@ -36,6 +38,8 @@ fn rows_of(
     requires reach { IsReach (leads terms.now.nodes (image_in bits.now)) live.now reached.now }
     requires prepared { IsPrepared terms.now.nodes bits.now reached.now prepared.now }
     requires values { HaveWordValues terms.now.nodes bits.now (assigned assignment.now) }
+    requires linked { AreLinked (image_in bits.now)
+        (assigned_value terms.now.nodes bits.now (assigned assignment.now)) }
 {
     match walk(
         alloc, terms, bits, assignment, live, reached, prepared, workspace,
@@ -61,6 +65,8 @@ fn walk_times<R: Clock>(
     requires reach { IsReach (leads terms.now.nodes (image_in bits.now)) live.now reached.now }
     requires prepared { IsPrepared terms.now.nodes bits.now reached.now prepared.now }
     requires values { HaveWordValues terms.now.nodes bits.now (assigned assignment.now) }
+    requires linked { AreLinked (image_in bits.now)
+        (assigned_value terms.now.nodes bits.now (assigned assignment.now)) }
 {
     let mut workspace = Workspace::new(alloc);
     let mut rows = None;

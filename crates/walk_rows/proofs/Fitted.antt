@@ -136,7 +136,7 @@ module _ (nodes : List Node) (terms : IsTermList nodes) (bits : List TermBits) (
     words_from : (n : ℕ) → (n ≡ 1) × IsHeldWord nodes bits 1 0 × IsHeldWord nodes bits 1 1 → HasHeldWords nodes bits (Reached nodes bits live) n
     words_from n h = subst (HasHeldWords nodes bits (Reached nodes bits live)) (sym h.0) (record {
       indexes = range_with_len 0 (length nodes);
-      among = λ t l own s i. in_range (length nodes) l.index (word_within nodes l.index 1 i);
+      among = λ t l own s i. (l.index, in_range (length nodes) l.index (word_within nodes l.index 1 i), ([], refl));
       words = λ k lt le. both_words 0 k h.1 h.2 lt;
     })
 
@@ -180,6 +180,7 @@ module _ (nodes : List Node) (terms : IsTermList nodes) (bits : List TermBits) (
     pub ready : IsReady nodes bits f
     ready = record {
       words = λ n k w e row. (let p = at_place nodes (leaf (Word n k)) w e.0 in word_value n k w e.1 p.1 ((given w p.0).words n k p.1));
+      linked = λ t u e. absurd (never t u e);
       satisfied = record {
         first = first;
         kept = λ M v ev t u e. absurd (never t u e);

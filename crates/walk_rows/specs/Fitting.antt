@@ -12,8 +12,9 @@ use Rattle.theory_terms.specs.Shapes.{IsPlain, shape_at}
 use Rattle.theory_terms.specs.Lemmas.{watch}
 use Rattle.bit_blast.specs.Circuits.{literal_bits}
 use Rattle.access_tables.specs.Encoded.{AreSatisfied}
-use Rattle.access_tables.specs.Held.{HasRow}
+use Rattle.access_tables.specs.Held.{HasRow, assigned_value}
 use Rattle.access_tables.specs.Ready.{IsFree}
+use Rattle.access_walk.specs.Maps.{AreLinked}
 use Rattle.access_walk.specs.Walked.{IsHeldWord, HaveWordValues}
 
 -- no term has the bits of another
@@ -67,7 +68,8 @@ pub record IsGiven (nodes : List Node) (bits : List TermBits) (t : ℕ) : Type 0
   pub value : IsPlain (sort_of nodes t) → IsFree nodes t ⊎ IsLiteral nodes bits t
   pub words : (n k : ℕ) → node_at nodes t ≡ leaf (Word n k) → IsLiteral nodes bits t
 
--- words have their numbers as values, and the clauses of all circuits are true
+-- words have their numbers as values, terms those of their images, and the clauses of all circuits are true
 pub record IsReady (nodes : List Node) (bits : List TermBits) (f : ℕ → Bool) : Type 0 where
   pub words : HaveWordValues nodes bits f
+  pub linked : AreLinked (image_in bits) (assigned_value nodes bits f)
   pub satisfied : AreSatisfied nodes bits f (λ t. t < length nodes)

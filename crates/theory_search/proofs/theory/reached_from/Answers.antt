@@ -5,7 +5,7 @@ use Rattle.smt_terms.specs.Bits.{image_in}
 use Rattle.term_reach.specs.Reach.{LeadsBelow}
 use Rattle.term_reach.proofs.Ways.{root_reached}
 use Rattle.access_tables.specs.Leading.{leads}
-use Rattle.theory_search.proofs.Below.{leads_below}
+use Rattle.access_walk.proofs.Below.{leads_below}
 use Rattle.theory_search.proofs.theory.reached_from.Goals as goal
 
 pub reach-requires-clause-within : goal.reach-requires-clause-within

@@ -11,7 +11,7 @@ use Rattle.smt_values.specs.Held.{interpretation_of}
 use Rattle.theory_search.specs.Ends.{IsModelOf}
 use Rattle.theory_search.specs.Looks.{AreLemmas}
 use Rattle.cube_search.specs.Running.{given_in, subject_of, valuation_of}
-use Rattle.theory_search.proofs.Looked.{look_at, walks, reaches, is_prepared, words_have_values, table_bits, table_satisfied, table_model, conflicts_ready}
+use Rattle.theory_search.proofs.Looked.{look_at, walks, reaches, is_prepared, words_have_values, values_linked, table_bits, table_satisfied, table_model, conflicts_ready}
 use Rattle.theory_search.proofs.theory.Theory.look.Goals as goal
 
 pub walk-requires-clause-walkable : goal.walk-requires-clause-walkable
@@ -25,6 +25,9 @@ walk-requires-clause-prepared g c = is_prepared c.args.terms.now.nodes (g.B.Boar
 
 pub walk-requires-clause-values : goal.walk-requires-clause-values
 walk-requires-clause-values g c = words_have_values c.args.terms.now.nodes (g.B.Board.log c.args.board.now) c.args.search.now.opening.items (given_in c.args.search.now) (valuation_of c.args.search.now) c.bits-bits.result.now c.args.self.now (assigned c.in_ok-assignment.assignment) (look_at (g.B.Board.nodes c.args.board.now) c.args.terms.now (g.B.Board.log c.args.board.now) c.args.search.now.opening.items (given_in c.args.search.now) (valuation_of c.args.search.now) c.bits-bits.result.now c.args.self.now (assigned c.in_ok-assignment.assignment) c.requires.nodes c.len-count.ensures.terms c.bits-bits.ensures.stands c.bits-bits.ensures.bits c.bits-bits.ensures.images c.requires.model c.requires.theory c.in_ok-assignment.ensures)
+
+pub walk-requires-clause-linked : goal.walk-requires-clause-linked
+walk-requires-clause-linked g c = values_linked c.args.terms.now.nodes (g.B.Board.log c.args.board.now) c.args.search.now.opening.items (given_in c.args.search.now) (valuation_of c.args.search.now) c.bits-bits.result.now c.args.self.now (assigned c.in_ok-assignment.assignment) (look_at (g.B.Board.nodes c.args.board.now) c.args.terms.now (g.B.Board.log c.args.board.now) c.args.search.now.opening.items (given_in c.args.search.now) (valuation_of c.args.search.now) c.bits-bits.result.now c.args.self.now (assigned c.in_ok-assignment.assignment) c.requires.nodes c.len-count.ensures.terms c.bits-bits.ensures.stands c.bits-bits.ensures.bits c.bits-bits.ensures.images c.requires.model c.requires.theory c.in_ok-assignment.ensures)
 
 pub build-requires-clause-bits : goal.build-requires-clause-bits
 build-requires-clause-bits g c = table_bits c.args.terms.now.nodes (g.B.Board.log c.args.board.now) c.args.search.now.opening.items (given_in c.args.search.now) (valuation_of c.args.search.now) c.bits-bits.result.now c.args.self.now (assigned c.in_ok-assignment.assignment) (look_at (g.B.Board.nodes c.args.board.now) c.args.terms.now (g.B.Board.log c.args.board.now) c.args.search.now.opening.items (given_in c.args.search.now) (valuation_of c.args.search.now) c.bits-bits.result.now c.args.self.now (assigned c.in_ok-assignment.assignment) c.requires.nodes c.len-count.ensures.terms c.bits-bits.ensures.stands c.bits-bits.ensures.bits c.bits-bits.ensures.images c.requires.model c.requires.theory c.in_ok-assignment.ensures) c.in-Table.table (subst (λ (l : List ℕ). IsWalked c.args.terms.now.nodes c.bits-bits.result.now (assigned c.in_ok-assignment.assignment) l c.args.self.now.reached (of.Table c.in-Table.table)) c.as_slice.ensures.value (subst (IsWalked c.args.terms.now.nodes c.bits-bits.result.now (assigned c.in_ok-assignment.assignment) c.as_slice.result.now c.args.self.now.reached) c.in-Table.is c.in_ok-walked.ensures))

@@ -5,7 +5,7 @@ use Rattle.std.specs.List.{AllByRecursion}
 use Rattle.std.proofs.lemmas.Bool.{cases_lt}
 use Rattle.std.proofs.lemmas.List.{get_or_past}
 use Rattle.std.proofs.lemmas.List.Elements.{Contains-append_cases}
-use Rattle.cnf_base.proofs.Lists.{Contains-nil}
+use Rattle.cnf_base.proofs.Lists.{Contains-nil, Contains-one}
 use Rattle.smt_terms.specs.declared.node.Node.{Node}
 use Rattle.smt_terms.specs.Nodes.{node_at, no_node}
 use Rattle.smt_terms.specs.Bits.{TermBits, image_in}
@@ -19,12 +19,11 @@ use Rattle.theory_terms.proofs.Shapes.{shape_within}
 use Rattle.theory_terms.proofs.Sound.{watch_is}
 use Rattle.term_reach.specs.Reach.{arguments, LeadsBelow}
 use Rattle.access_tables.specs.Leading.{selects_of, watched, leads_by, leads}
-use Rattle.theory_search.proofs.Listed.{in_one}
 
 all_in : (P : ℕ → Type 0) (xs : List ℕ) (u : ℕ) → AllByRecursion P xs → Contains xs u → P u
 all_in P [] u h c = absurd (Contains-nil u c)
 all_in P (x ∷ xs) u h c = ⊎_elim
-    (λ (p : Contains (x ∷ []) u). subst P (in_one x u p) h.0)
+    (λ (p : Contains (x ∷ []) u). subst P (Contains-one x u p) h.0)
     (λ (p : Contains xs u). all_in P xs u h.1 p)
     (Contains-append_cases (x ∷ []) xs u c)
 
@@ -43,8 +42,8 @@ module _ (nodes : List Node) (terms : IsTermList nodes) where
   select_below a b u (Some w) p c =
       let i = watch_is nodes a b w p in
       ⊎_elim
-      (λ (q : Contains (w.left ∷ []) u). subst (λ x. x < length nodes) (in_one w.left u q) (select_within w.left a w.witness i.left))
-      (λ (q : Contains (w.right ∷ []) u). subst (λ x. x < length nodes) (in_one w.right u q) (select_within w.right b w.witness i.right))
+      (λ (q : Contains (w.left ∷ []) u). subst (λ x. x < length nodes) (Contains-one w.left u q) (select_within w.left a w.witness i.left))
+      (λ (q : Contains (w.right ∷ []) u). subst (λ x. x < length nodes) (Contains-one w.right u q) (select_within w.right b w.witness i.right))
       (Contains-append_cases (w.left ∷ []) (w.right ∷ []) u c)
 
   watched_below : (u : ℕ) (k : Shape) → Contains (watched nodes k) u → u < length nodes
@@ -59,7 +58,7 @@ module _ (nodes : List Node) (terms : IsTermList nodes) where
   watched_below u Other c = absurd (Contains-nil u c)
 
   by_below : (t u : ℕ) (o : Option ℕ) → ((i : ℕ) → o ≡ Some i → i < length nodes) → Contains (leads_by nodes t o) u → u < length nodes
-  by_below t u (Some i) images c = subst (λ x. x < length nodes) (in_one i u c) (images i refl)
+  by_below t u (Some i) images c = subst (λ x. x < length nodes) (Contains-one i u c) (images i refl)
   by_below t u None images c = ⊎_elim
       (λ (p : Contains (arguments nodes t) u). argument_below t u p)
       (λ (p : Contains (watched nodes (shape_at nodes t)) u). watched_below u (shape_at nodes t) p)
