@@ -1,5 +1,5 @@
 -- Where functions and arrays are not read, a check reaches no array, and needs no terms that watch one.
-use Rattle.std.proofs.Common.{◌≡◌, ℕ, zero, suc, ◌<◌, ◌≤◌, Bool, true, false, ◌&&◌, List, [], ◌∷◌, length, get_or, Ok, refl, sym, ap, ◌∙◌, subst, arith}
+use Rattle.std.proofs.Common.{◌≡◌, ℕ, zero, suc, ◌<◌, ◌≤◌, Bool, true, false, ◌&&◌, List, [], ◌∷◌, length, Ok, refl, sym, ap, ◌∙◌, subst, arith}
 use Rattle.std.specs.Prelude.{map, All, Contains}
 use Rattle.std.specs.List.{AllByRecursion, list_all}
 use Rattle.std.proofs.lemmas.Bool.{and_parts}
@@ -8,7 +8,7 @@ use Rattle.smt_terms.specs.declared.sort.Sort.{Sort}
 use Rattle.smt_terms.specs.declared.sort.Sort.TheVariants as sort
 use Rattle.smt_terms.specs.declared.operator.Operator.TheVariants as plain
 use Rattle.smt_terms.specs.declared.node.Op.{Op}
-use Rattle.smt_terms.specs.declared.node.Op.TheVariants.{Plain, ConstantArray, Constant, Apply, Param}
+use Rattle.smt_terms.specs.declared.node.Op.TheVariants.{Plain, ConstantArray, Constant, Apply}
 use Rattle.smt_terms.specs.declared.node.Node.{Node}
 use Rattle.smt_terms.specs.Nodes.{node_at}
 use Rattle.smt_terms.specs.Ranks.{is_array}
@@ -17,7 +17,7 @@ use Rattle.smt_terms.specs.Terms.{op_rank, sort_of, AreTerms, IsTermList}
 use Rattle.term_reach.specs.Reach.{arguments, IsReached}
 use Rattle.term_reach.proofs.Ways.{reached_closed}
 use Rattle.theory_terms.specs.declared.shape.Shape.TheVariants.{Other}
-use Rattle.theory_terms.specs.Shapes.{IsPlain, shape_of, shape_at}
+use Rattle.theory_terms.specs.Shapes.{IsPlain, shape_of}
 use Rattle.theory_terms.proofs.Ranked.{choice_rank, constant_rank, equal_rank}
 use Rattle.access_tables.proofs.Giving.{other_plain}
 use Rattle.array_watches.specs.Needed.{watched}

@@ -15,7 +15,7 @@ pub mod Leading
 pub mod PlanSteps
 pub mod Plans
 pub mod Checked
-pub mod Acyclic
+pub mod Founded
 pub mod Reaching
 pub mod Concluding
 pub mod Going
@@ -29,3 +29,4 @@ pub mod Valuing
 pub mod Tabling
 pub mod Coring
 pub mod Settling
+pub mod Ordered

@@ -17,7 +17,7 @@ use Rattle.proof_log.proofs.Linked.{stored_images_are}
 use Rattle.proof_log.proofs.Settled.{stands_settled}
 use Rattle.smt_session.specs.Growing.{HasBits}
 use Rattle.smt_session.specs.Reaching.{by_images}
-use Rattle.smt_session.proofs.Acyclic.{have_bits}
+use Rattle.smt_session.proofs.Founded.{have_bits}
 
 module _ (nodes : List Node) (log : LogValue) (all : IsTermList nodes) (stands : Stands nodes log) where
   -- images are terms

@@ -73,7 +73,7 @@ settled_on s last Exit q = refl
 module _ (s mid last final : StateValue) (l new : LogValue) (a : Answer) (r : Reading) (asked : Bool) (n : ℕ)
     (session : IsSession s l) (does : ◌≡◌ {A = Step} (step s r) (a, mid)) (told : asked ≡ asks_values a) (count : n ≡ length s.terms.nodes)
     (still : asks_values a ≡ true → (last ≡ mid) × (new ≡ l)) where
-  forgotten_is : asks_values a ≡ true → forgotten last n ≡ s
+  pub forgotten_is : asks_values a ≡ true → forgotten last n ≡ s
   forgotten_is q = ap (λ (x : StateValue). forgotten x n) (still q).0 ∙ ap (forgotten mid) count ∙ back s mid a r session.state does q
 
   -- the terms can be forgotten

@@ -1,6 +1,6 @@
 -- Terms that watch arrays are made before the steps that give bits.
 use Rattle.std.proofs.Common.{◌≡◌, ℕ, ◌<◌, ◌≤◌, true, List, ◌++◌, get_or, length, length-append, sym, ap, ◌∙◌, subst, inl, inr, ⊎_elim, arith}
-use Rattle.std.specs.Prelude.{All, ◌⊎◌}
+use Rattle.std.specs.Prelude.{All}
 use Rattle.std.proofs.lemmas.Bool.{cases_lt}
 use Rattle.std.proofs.lemmas.List.Elements.{Contains-append_right}
 use Rattle.smt_terms.specs.declared.node.Node.{Node}
@@ -9,14 +9,13 @@ use Rattle.smt_terms.specs.Ranks.{is_plain}
 use Rattle.smt_terms.specs.Terms.{sort_of}
 use Rattle.smt_terms.proofs.Growing.{node_longer}
 use Rattle.array_watches.specs.Needed.{watched}
-use Rattle.array_watches.specs.Watched.{IsIndexWord, IsOfWatch}
 use Rattle.array_watches.proofs.Whole.{watches_are_made}
 use Rattle.watch_roots.specs.Roots.{IsScalar}
 use Rattle.script_state.specs.States.{StateValue, IsState, roots}
 use Rattle.proof_log.specs.declared.entry.Entry.TheVariants as step
 use Rattle.proof_log.specs.Stored.{LogValue}
 use Rattle.smt_session.specs.Planning.{AddsTerms, Encodes, Prepares}
-use Rattle.smt_session.specs.Thorough.{AreSimplified, AreWanted, IsUsed, IsWatching}
+use Rattle.smt_session.specs.Thorough.{AreSimplified, IsUsed, IsWatching}
 use Rattle.smt_session.proofs.Leading.{behind_of, leads_more}
 use Rattle.smt_session.proofs.PlanSteps.{sorted_over}
 use Rattle.smt_session.proofs.Reasons.{simplified_append, simplified_bare}

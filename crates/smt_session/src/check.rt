@@ -7,11 +7,12 @@ ghost use Rattle.proof_text.specs.Lines.{line_text, IsLine};
 ghost use Rattle.proof_text.specs.Records.{AreWritten, HaveDigits, record_lines};
 ghost use Rattle.script_state.specs.States.{roots};
 ghost use Rattle.array_watches.specs.Needed.{watched};
-ghost use Rattle.watch_roots.specs.Roots.{AreLive};
 ghost use Rattle.accepted_proof.specs.Searching.{AreLimits, Rise, cube_variables};
 ghost use Rattle.accepted_proof.specs.Turns.{verdict_of, step_lines};
 ghost use Rattle.check_cubes.specs.Searches as check_cubes;
 ghost use Rattle.cube_workers.specs.Crews.{AreAtRest};
+ghost use Rattle.session_terms.specs.Placed.{IsInOrder};
+ghost use Rattle.session_terms.specs.Walked.{IsEncoded};
 ghost use Rattle.smt_session.specs.Growing.{AreGiven, AreLined};
 ghost use Rattle.smt_session.specs.Planning.{Prepares};
 ghost use Rattle.smt_session.specs.Searched.{AreEnough};
@@ -129,6 +130,7 @@ fn prepare(
     workspace: &mut Workspace,
 ) -> Result<Prepared, AllocError>
     requires session { IsSession state.old workspace.old.log }
+    requires order { IsInOrder state.old.terms.nodes workspace.old.log.bits }
     requires resting { AreAtRest workspace.old.log workspace.old.searches.items }
     requires fits { length (watched state.old.terms.nodes (roots state.old))
         ≤ state.old.terms.limit }
@@ -138,15 +140,19 @@ fn prepare(
     ensures steps { IfOk result
         (λ p. AreEnough state.new.terms.nodes workspace.new.log (roots state.new)
         state.new.scopes.live p.steps.items) }
+    ensures order { OnOk result (IsInOrder state.new.terms.nodes workspace.new.log.bits) }
     // of the terms that its arrays need too
     ensures live { IfOk result (λ p. (live : List ℕ)
-        × AreLive (watched state.old.terms.nodes (roots state.old)) (roots state.old) live
+        × IsEncoded state.old.terms.nodes state.new.terms.nodes workspace.new.log (roots state.old)
+        live
         × AreEnough state.new.terms.nodes workspace.new.log live state.new.scopes.live
         p.steps.items) }
     ensures given { IfOk result (λ p. AreGiven state.new workspace.new.log p.given.items) }
 {
     let live = encode(alloc, state, workspace)?;
     let given = give(alloc, state, &mut workspace.log)?;
+    // The contract of `len` says that no two terms are equal.
+    let _count = state.terms().len();
     reach_by_images(
         alloc,
         state,
@@ -169,12 +175,14 @@ fn check<R: Threads + Wait + Sync, G: Gate + Sync>(
     gate: &G,
 ) -> Result<Record, AllocError>
     requires session { IsSession state.old workspace.old.log }
+    requires order { IsInOrder state.old.terms.nodes workspace.old.log.bits }
     requires resting { AreAtRest workspace.old.log workspace.old.searches.items }
     requires fits { length (watched state.old.terms.nodes (roots state.old))
         ≤ state.old.terms.limit }
     requires settings { AreSettings settings }
     ensures checked { IfOk result (λ r. IsChecked (limits_of settings) state.old state.new
         workspace.old.log workspace.new.log r) }
+    ensures order { IfOk result (λ _. IsInOrder state.new.terms.nodes workspace.new.log.bits) }
     ensures resting { OnOk result (AreAtRest workspace.new.log workspace.new.searches.items) }
 {
     let prepared = prepare(alloc, state, workspace)?;
@@ -239,6 +247,7 @@ pub(crate) fn run_check<R: Threads + Wait + Sync, G: Gate + Sync>(
     gate: &G,
 ) -> Result<(Record, Text), AllocError>
     requires session { IsSession state.old workspace.old.log }
+    requires order { IsInOrder state.old.terms.nodes workspace.old.log.bits }
     requires resting { AreAtRest workspace.old.log workspace.old.searches.items }
     requires fits { length (watched state.old.terms.nodes (roots state.old))
         ≤ state.old.terms.limit }
@@ -247,6 +256,7 @@ pub(crate) fn run_check<R: Threads + Wait + Sync, G: Gate + Sync>(
     ensures checked { IfOk result
         (λ r. IsChecked (limits_of settings) state.old state.new workspace.old.log workspace.new.log
         r.0) }
+    ensures order { OnOk result (IsInOrder state.new.terms.nodes workspace.new.log.bits) }
     ensures text { IfOk result
         (λ r. r.1 ≡ flat_map line_text
         (step_lines (drop (length workspace.old.log.entries) workspace.new.log.entries))

@@ -1,9 +1,11 @@
 // The bits that a check needs.
 
-ghost use Rattle.std.specs.Prelude.{◌≡◌, ◌≤◌, All, IfOk, OnOk, length};
+ghost use Rattle.std.specs.Prelude.{◌≡◌, ◌≤◌, ◌++◌, List, All, IfOk, OnOk, length};
+ghost use Rattle.smt_terms.specs.declared.node.Node.{Node};
 ghost use Rattle.array_watches.specs.Needed.{watched};
 ghost use Rattle.watch_roots.specs.Roots.{AreLive};
 ghost use Rattle.script_state.specs.States.{roots};
+ghost use Rattle.session_terms.specs.Placed.{IsInOrder};
 ghost use Rattle.smt_session.specs.Growing.{HasBits};
 ghost use Rattle.smt_session.specs.Planning.{Prepares};
 ghost use Rattle.smt_session.specs.Sessions.{IsSession};
@@ -25,6 +27,7 @@ pub(crate) fn encode(
     workspace: &mut Workspace,
 ) -> Result<Vec<TermId>, AllocError>
     requires session { IsSession state.old workspace.old.log }
+    requires order { IsInOrder state.old.terms.nodes workspace.old.log.bits }
     requires fits { length (watched state.old.terms.nodes (roots state.old))
         ≤ state.old.terms.limit }
     ensures prepares { OnOk result
@@ -33,6 +36,9 @@ pub(crate) fn encode(
         (λ live. AreLive (watched state.old.terms.nodes (roots state.old)) (roots state.old)
         live.items) }
     ensures bits { IfOk result (λ live. All (HasBits workspace.new.log) live.items) }
+    ensures made { OnOk result ((more : List Node) × (state.new.terms.nodes
+        ≡ watched state.old.terms.nodes (roots state.old) ++ more)) }
+    ensures order { OnOk result (IsInOrder state.new.terms.nodes workspace.new.log.bits) }
     ensures searches { OnOk result (workspace.new.searches ≡ workspace.old.searches) }
 {
     let roots = roots(alloc, state)?;

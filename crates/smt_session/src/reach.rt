@@ -4,6 +4,7 @@ ghost use Rattle.std.specs.Prelude.{◌≡◌, false, All, IfOk, OnOk, Contains}
 ghost use Rattle.smt_terms.specs.Bits.{image_in};
 ghost use Rattle.script_state.specs.States.{roots};
 ghost use Rattle.proof_log.specs.Assigned.{AreClosed};
+ghost use Rattle.session_terms.specs.Placed.{IsInOrder};
 ghost use Rattle.smt_session.specs.Growing.{HasBits};
 ghost use Rattle.smt_session.specs.Reaching.{IsPlainTerm};
 ghost use Rattle.smt_session.specs.Sessions.{IsSession};
@@ -61,6 +62,7 @@ pub(crate) fn reach_by_images(
     reached: &mut Reached,
 ) -> Result<(), AllocError>
     requires session { IsSession state.now log.now }
+    requires order { IsInOrder state.now.terms.nodes log.now.bits }
     requires bits { All (HasBits log.now) from.now }
     ensures closed { OnOk result
         (AreClosed state.now.terms.nodes (image_in log.now.bits) (Contains reached.new)) }

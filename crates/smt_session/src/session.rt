@@ -8,6 +8,7 @@ ghost use Rattle.script_state.specs.States.{no_state, IsState};
 ghost use Rattle.script_state.specs.Steps.{forgotten};
 ghost use Rattle.accepted_proof.specs.Searching.{Limits};
 ghost use Rattle.cube_workers.specs.Crews.{AreAtRest};
+ghost use Rattle.session_terms.specs.Placed.{IsInOrder};
 ghost use Rattle.smt_session.specs.Sessions.{AreHeld, IsAnswered, IsSession, AreSettings, Responds, asks_values, limits_of};
 ghost use Rattle.smt_session.specs.Sessions.{CutsCheck, CutsTurn, Leaves, WritesFront};
 ghost use Rattle.smt_session.specs.Parts.{AreParts, seen_of};
@@ -87,9 +88,11 @@ fn answer_check<R: Threads + Wait + Sync, Q: Sink, G: Gate + Sync>(
     gate: &G,
 ) -> Result<Response, Stop>
     requires session { IsSession state.old workspace.old.log }
+    requires order { IsInOrder state.old.terms.nodes workspace.old.log.bits }
     requires resting { AreAtRest workspace.old.log workspace.old.searches.items }
     requires settings { AreSettings settings }
     ensures session { OnOk result (IsSession state.new workspace.new.log) }
+    ensures order { OnOk result (IsInOrder state.new.terms.nodes workspace.new.log.bits) }
     ensures resting { OnOk result (AreAtRest workspace.new.log workspace.new.searches.items) }
     ensures response { IfOk result (λ r. Responds (limits_of settings) line Answer.Check
         state.old state.new workspace.old.log workspace.new.log last.old last.new r
@@ -181,10 +184,12 @@ fn respond<R: Threads + Wait + Sync, Q: Sink, G: Gate + Sync>(
     gate: &G,
 ) -> Result<Response, Stop>
     requires session { IsSession state.old workspace.old.log }
+    requires order { IsInOrder state.old.terms.nodes workspace.old.log.bits }
     requires resting { AreAtRest workspace.old.log workspace.old.searches.items }
     requires held { AreHeld state.old answer }
     requires settings { AreSettings settings }
     ensures session { OnOk result (IsSession state.new workspace.new.log) }
+    ensures order { OnOk result (IsInOrder state.new.terms.nodes workspace.new.log.bits) }
     ensures resting { OnOk result (AreAtRest workspace.new.log workspace.new.searches.items) }
     ensures still { asks_values answer ≡ true
         → OnOk result ((state.new ≡ state.old) × (workspace.new.log ≡ workspace.old.log)) }

@@ -13,6 +13,7 @@ ghost use Rattle.proof_log.specs.Stored.{Stands};
 ghost use Rattle.reached_images.specs.declared.plan.Planned.{Planned as PlannedValue};
 ghost use Rattle.reached_images.specs.Plans.{IsPlan};
 ghost use Rattle.reached_images.specs.Settled.{AreOwn, KeepsItself};
+ghost use Rattle.session_terms.specs.Placed.{IsInOrder};
 ghost use Rattle.smt_session.specs.Growing.{HasBits};
 ghost use Rattle.smt_session.specs.Sessions.{IsSession};
 ghost use Rattle.smt_session.specs.Planning.{grown_by, AddsTerms, AreTakenOver, IsForPlanned};
@@ -266,9 +267,11 @@ pub(crate) fn rewrite(
     requires read { state.old.symbols.theories ≡ theories }
     requires held { All (λ t. t < length state.old.terms.nodes) roots.now }
     requires plain { All (λ t. is_plain (sort_of state.old.terms.nodes t) ≡ true) roots.now }
+    requires order { IsInOrder state.old.terms.nodes workspace.old.log.bits }
     ensures encodes { OnOk result
         (Encodes state.old workspace.old.log state.new workspace.new.log) }
     ensures roots { OnOk result (All (HasBits workspace.new.log) roots.now) }
+    ensures order { OnOk result (IsInOrder state.new.terms.nodes workspace.new.log.bits) }
     ensures searches { OnOk result (workspace.new.searches ≡ workspace.old.searches) }
 {
     let made = plan_check(

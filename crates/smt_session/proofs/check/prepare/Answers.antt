@@ -1,4 +1,4 @@
-use Rattle.std.proofs.Common.{◌≡◌, sym, ap, ◌∙◌, subst}
+use Rattle.std.proofs.Common.{sym, subst}
 use Rattle.std.specs.Prelude.{All, Contains, IsSome}
 use Rattle.scope_selectors.specs.declared.live.Live.{Live}
 use Rattle.script_state.specs.States.{roots}
@@ -6,8 +6,10 @@ use Rattle.proof_log.specs.Stored.{selector_in}
 use Rattle.smt_session.specs.Growing.{HasBits}
 use Rattle.smt_session.specs.Searched.{ArePositions}
 use Rattle.smt_session.proofs.Leading.{grows_leads, prepares_more, roots_led, session_led}
+use Rattle.smt_session.proofs.Ordered.{is_encoded, order_grows}
 use Rattle.smt_session.proofs.Plans.{among_all}
 use Rattle.smt_session.proofs.Resting.{all_led}
+use Rattle.smt_session.proofs.Roots.{roots_held}
 use Rattle.smt_session.proofs.Satisfied.{enough, have_selectors, reached_bits}
 use Rattle.smt_session.proofs.check.prepare.Goals as goal
 
@@ -27,6 +29,9 @@ reach_by_images-requires-clause-bits c =
     rw c.as_slice.ensures.value
     (reached_bits c.encode.new.state c.encode.new.workspace.log c.give.new.log c.in_ok-live.live.items c.in_ok-live.ensures.prepares.leads.stands c.in_ok-given.ensures.grows c.in_ok-live.ensures.bits)
 
+pub reach_by_images-requires-clause-order : goal.reach_by_images-requires-clause-order
+reach_by_images-requires-clause-order c = order_grows c.encode.new.state c.encode.new.workspace.log c.give.new.log c.in_ok-live.ensures.prepares.leads.stands c.in_ok-given.ensures.grows c.in_ok-live.ensures.order
+
 pub positions-requires-clause-bits : goal.positions-requires-clause-bits
 positions-requires-clause-bits c = rw c.terms-reached.ensures.terms c.in_ok-reach_by_images.ensures.bits
 
@@ -37,6 +42,9 @@ positions-requires-clause-selectors c =
 
 pub returns-clause-prepares : goal.returns-clause-prepares
 returns-clause-prepares c = prepares_more c.args.state.now c.encode.new.state c.args.workspace.now.log c.encode.new.workspace.log c.give.new.log c.in_ok-live.ensures.prepares c.in_ok-given.ensures.grows
+
+pub returns-clause-order : goal.returns-clause-order
+returns-clause-order c = order_grows c.encode.new.state c.encode.new.workspace.log c.give.new.log c.in_ok-live.ensures.prepares.leads.stands c.in_ok-given.ensures.grows c.in_ok-live.ensures.order
 
 pub returns-clause-resting : goal.returns-clause-resting
 returns-clause-resting c =
@@ -58,8 +66,14 @@ pub returns-clause-live : goal.returns-clause-live
 returns-clause-live c =
     let each : ArePositions c.give.new.log c.reach_by_images.new.reached c.live.result.now c.in_ok-steps.steps.items =
     subst (λ l. ArePositions c.give.new.log l c.live.result.now c.in_ok-steps.steps.items) c.terms-reached.ensures.terms c.in_ok-steps.ensures in
-    let among = rw c.as_slice.ensures.value at c.in_ok-reach_by_images.ensures.from in (
+    let among = rw c.as_slice.ensures.value at c.in_ok-reach_by_images.ensures.from in
+    let behind =
+    session_led c.encode.new.state c.encode.new.state c.encode.new.workspace.log c.give.new.log
+    (session_led c.args.state.now c.encode.new.state c.args.workspace.now.log c.encode.new.workspace.log c.requires.session c.in_ok-live.ensures.prepares.leads)
+    (grows_leads c.encode.new.state c.encode.new.workspace.log c.give.new.log c.in_ok-given.ensures.grows) in (
       c.in_ok-live.live.items,
-      c.in_ok-live.ensures.live,
+      is_encoded c.args.state.now c.encode.new.state c.give.new.log c.in_ok-live.live.items c.in_ok-live.ensures.made.0 behind.state.terms (rw c.terms.ensures.terms at c.len-count.ensures.terms.different) c.in_ok-live.ensures.made.1 (roots_held c.args.state.now c.requires.session.state) behind.stands
+          (order_grows c.encode.new.state c.encode.new.workspace.log c.give.new.log c.in_ok-live.ensures.prepares.leads.stands c.in_ok-given.ensures.grows c.in_ok-live.ensures.order) c.in_ok-live.ensures.live
+          (reached_bits c.encode.new.state c.encode.new.workspace.log c.give.new.log c.in_ok-live.live.items c.in_ok-live.ensures.prepares.leads.stands c.in_ok-given.ensures.grows c.in_ok-live.ensures.bits),
       enough c.encode.new.state c.give.new.log c.in_ok-live.live.items c.reach_by_images.new.reached c.in_ok-steps.steps.items c.live.result.now c.live.ensures.live c.in_ok-reach_by_images.ensures.closed among each,
     )

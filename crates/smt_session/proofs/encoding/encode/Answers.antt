@@ -1,10 +1,11 @@
-use Rattle.std.proofs.Common.{◌≡◌, ◌<◌, true, length, sym, ap, ◌∙◌, subst}
+use Rattle.std.proofs.Common.{◌<◌, length, sym, ap, ◌∙◌, subst}
 use Rattle.std.specs.Prelude.{All}
 use Rattle.smt_terms.specs.Terms.{TermsValue}
 use Rattle.array_watches.specs.Needed.{watched}
 use Rattle.watch_roots.specs.Roots.{AreLive, IsScalar}
 use Rattle.script_state.specs.States.{roots}
 use Rattle.smt_session.proofs.Leading.{session_led, theories_led}
+use Rattle.smt_session.proofs.Ordered.{made_more, order_adds}
 use Rattle.smt_session.proofs.Roots.{roots_held}
 use Rattle.smt_session.proofs.Watched.{prepares_watched, roots_scalars, scalars_held, scalars_plain}
 use Rattle.smt_session.proofs.encoding.encode.Goals as goal
@@ -55,3 +56,11 @@ returns-clause-live c =
 
 pub returns-clause-bits : goal.returns-clause-bits
 returns-clause-bits c = rw c.as_slice-3.ensures.value at c.in_ok-rewrite.ensures.roots
+
+pub rewrite-requires-clause-order : goal.rewrite-requires-clause-order
+rewrite-requires-clause-order c = order_adds c.args.state.now c.watch.new.state c.args.workspace.now.log c.watch.new.workspace.log c.in_ok-watch.ensures.adds c.requires.order
+
+pub returns-clause-made : goal.returns-clause-made
+returns-clause-made c =
+    let made = c.in_ok-watch.ensures.made ∙ ap (watched c.args.state.now.terms.nodes) (c.as_slice.ensures.value ∙ c.in_ok-roots.ensures.roots) in
+    made_more c.args.state.now c.watch.new.state c.rewrite.new.state c.watch.new.workspace.log c.rewrite.new.workspace.log made c.in_ok-rewrite.ensures.encodes.leads

@@ -1,4 +1,5 @@
-use Rattle.smt_session.proofs.Acyclic.{log_acyclic}
+use Rattle.session_terms.proofs.Placing.{never_leads_back}
+use Rattle.session_terms.proofs.Planned.{bare_free}
 use Rattle.smt_session.proofs.Reaching.{images_below, with_bits_held, reached_is_closed, roots_reached, reached_have_bits}
 use Rattle.smt_session.proofs.Staying.{words_of}
 use Rattle.smt_session.proofs.reach.reach_by_images.Goals as goal
@@ -6,7 +7,8 @@ use Rattle.smt_session.proofs.reach.reach_by_images.Goals as goal
 pub reach-requires-clause-acyclic : goal.reach-requires-clause-acyclic
 reach-requires-clause-acyclic c =
     rw (c.terms-terms.ensures.terms, c.bits.ensures)
-    (log_acyclic c.args.state.now.terms.nodes c.args.log.now c.requires.session.state.terms c.requires.session.stands (words_of c.args.state.now c.args.log.now.entries c.requires.session.theories c.requires.session.each))
+    (never_leads_back c.args.state.now.terms.nodes c.args.log.now.bits c.requires.order c.requires.session.state.terms
+    (bare_free c.args.state.now.terms.nodes c.args.log.now c.requires.session.state.terms c.requires.session.stands))
 
 pub reach-requires-clause-within : goal.reach-requires-clause-within
 reach-requires-clause-within c =

@@ -2,8 +2,9 @@ use Rattle.std.proofs.Common.{false, sym, ap, ◌∙◌, subst}
 use Rattle.std.proofs.KnownBytes.{Appends-nil}
 use Rattle.std.proofs.lemmas.Result.{err_from_is_err_and}
 use Rattle.script_state.specs.declared.answer.Answer.TheVariants as answer
-use Rattle.script_state.specs.States.{concluded}
+use Rattle.script_state.specs.States.{StateValue, concluded}
 use Rattle.accepted_proof.specs.Answers.{verdict_text}
+use Rattle.session_terms.specs.Placed.{IsInOrder}
 use Rattle.smt_session.specs.Sessions.{Responds, limits_of, response}
 use Rattle.smt_session.proofs.Arrayless.{watches_fit}
 use Rattle.smt_session.proofs.Responding.{check_responds, check_cut, check_keeps}
@@ -16,6 +17,10 @@ pub returns-clause-session : goal.returns-clause-session
 returns-clause-session g c =
     check_keeps (limits_of c.args.settings) c.args.state.now c.run_check.new.state c.conclude.new.self c.args.workspace.now.log c.run_check.new.workspace.log c.in_ok-shown.shown c.requires.session c.in_ok-shown.ensures.checked
     (c.conclude.ensures ∙ ap (concluded c.run_check.new.state) c.verdict_of-verdict.ensures)
+
+pub returns-clause-order : goal.returns-clause-order
+returns-clause-order g c =
+    subst (λ (x : StateValue). IsInOrder x.terms.nodes c.run_check.new.workspace.log.bits) (sym c.conclude.ensures) c.in_ok-shown.ensures.order
 
 pub returns-clause-response : goal.returns-clause-response
 returns-clause-response g c =

@@ -1,4 +1,4 @@
-use Rattle.std.proofs.Common.{sym, ◌∙◌, subst}
+use Rattle.std.proofs.Common.{sym, subst}
 use Rattle.smt_session.specs.Planning.{IsForPlanned}
 use Rattle.smt_session.proofs.PlanSteps.{array_over, step_over}
 use Rattle.smt_session.proofs.taking.take_step.Goals as goal

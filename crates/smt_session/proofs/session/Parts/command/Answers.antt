@@ -4,12 +4,16 @@ use Rattle.std.proofs.lemmas.Result.{err_from_is_err_and}
 use Rattle.smt_terms.specs.Terms.{TermsValue}
 use Rattle.smt_session.specs.Sessions.{limits_of}
 use Rattle.smt_session.proofs.Going.{still_session}
+use Rattle.smt_session.proofs.Ordered.{order_settled, order_still}
 use Rattle.smt_session.proofs.Responding.{is_answered, is_cut}
 use Rattle.smt_session.proofs.Settling.{held_of, can_forget, settled_is, settled_session}
 use Rattle.smt_session.proofs.session.Parts.command.Goals as goal
 
 pub respond-requires-clause-session : goal.respond-requires-clause-session
 respond-requires-clause-session g c κs within = still_session c.args.self.now.state c.apply.new.self c.args.self.now.workspace.log c.in-Ok.answer c.in-Ok.ensures.0 c.requires.0 c.in-Ok.ensures.2
+
+pub respond-requires-clause-order : goal.respond-requires-clause-order
+respond-requires-clause-order g c κs within = order_still c.args.self.now.state c.apply.new.self c.args.self.now.workspace.log c.in-Ok.answer c.in-Ok.ensures.0 c.requires.0 c.in-Ok.ensures.2 c.requires.3
 
 pub respond-requires-clause-resting : goal.respond-requires-clause-resting
 respond-requires-clause-resting g c κs within = c.requires.2
@@ -32,6 +36,9 @@ returns-clause-parts g c = (
       c.settle.ensures c.in_ok-response.ensures.session,
   c.requires.1,
   c.in_ok-response.ensures.resting,
+  order_settled c.args.self.now.state c.apply.new.self c.respond.new.state c.settle.new.state c.args.self.now.workspace.log c.respond.new.workspace.log c.in-Ok.answer c.in-Ok.ensures.0 c.asks_values-asked.result c.len-len.result
+      c.requires.0 c.in-Ok.ensures.2 c.asks_values-asked.ensures (c.len-len.ensures.length ∙ ap (λ (v : TermsValue). length v.nodes) c.terms.ensures.terms) c.in_ok-response.ensures.still
+      c.settle.ensures c.requires.3 c.in_ok-response.ensures.order,
 )
 
 pub returns-clause-answered : goal.returns-clause-answered

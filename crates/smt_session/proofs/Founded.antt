@@ -1,4 +1,4 @@
--- In a log of Bools and words terms got their bits behind those on whose bits theirs stand, so no way of these leads back.
+-- In a log of Bools and words terms got their bits behind those on whose bits theirs stand.
 use Rattle.std.proofs.Common.{◌≡◌, ℕ, zero, suc, ◌+◌, ◌<◌, true, false, List, [], ◌∷◌, length, map, Option, Some, None, Ok, refl, sym, ap, ◌∙◌, subst, ⊎_elim, arith}
 use Rattle.std.specs.Prelude.{is_some, Contains, IsSome}
 use Rattle.std.specs.List.{AllByRecursion}
@@ -15,15 +15,12 @@ use Rattle.smt_terms.specs.Bits.{bits_in, image_in}
 use Rattle.smt_terms.specs.Nodes.{node_at}
 use Rattle.smt_terms.specs.Terms.{sort_of, op_rank, IsTermList}
 use Rattle.bit_blast.specs.Blocks.{all_bits, with_first}
-use Rattle.term_reach.specs.Reach.{IsAcyclic, IsRank}
-use Rattle.term_reach.proofs.Ways.{argument_earlier}
 use Rattle.proof_log.specs.declared.entry.Entry.{Entry}
 use Rattle.proof_log.specs.declared.entry.Entry.TheVariants as step
 use Rattle.proof_log.specs.Assigned.{stands_on}
 use Rattle.proof_log.specs.Logs.{LogState, start, constant_width, with_value, leaf_after, block_after, rewrite_after, selector_after, after, state_from, state_of, IsStep, AreSteps}
 use Rattle.proof_log.specs.Stored.{LogValue, Stands}
 use Rattle.proof_log.specs.Words.{IsOfWords}
-use Rattle.smt_session.specs.Reaching.{by_images}
 use Rattle.proof_log.proofs.Sound.{block_rows}
 use Rattle.proof_log.proofs.Standing.{stands_over, value_here}
 use Rattle.proof_log.proofs.Staying.{elsewhere}
@@ -219,37 +216,3 @@ module _ (nodes : List Node) (log : LogValue) (all : IsTermList nodes) (stands :
       let p = some_value (placed.0 t) (h.same t ∙ sym (ap is_some (k.bits t)) ∙ has) in
       let e = h.earlier t p.0 u p.1 (subst (λ o. Contains (stands_on nodes t o) u) (k.images t) c) in
       ap is_some (k.bits u) ∙ sym (h.same u) ∙ ap is_some e.1
-
-  abbrev rank_by : ℕ → Option ℕ → ℕ
-  rank_by t None = placed.1 + t
-  rank_by t (Some p) = p
-
-  abbrev rank : ℕ → ℕ
-  rank t = rank_by t (placed.0 t)
-
-  falls : IsRank (by_images nodes log.bits) rank
-  falls t u c = go (placed.0 t) refl
-    where
-      images : image_in log.bits t ≡ (state_of nodes log.entries).images t
-      images = (stands_over nodes log stands).images t
-
-      below_open : u < t → (o : Option ℕ) → placed.0 u ≡ o → rank_by u o < placed.1 + t
-      below_open lt None e = omega (arith, lt)
-      below_open lt (Some q) e = let l = placed.2.below u q e in omega (arith, l)
-
-      go : (o : Option ℕ) → placed.0 t ≡ o → rank u < rank t
-      go (Some p) e =
-          let k = placed.2.earlier t p u e (subst (λ o. Contains (stands_on nodes t o) u) images c) in
-          rw (e, k.1) k.2
-      go None e =
-          let bits : is_some ((state_of nodes log.entries).bits t) ≡ false = sym (placed.2.same t) ∙ ap is_some e in
-          let none : image_in log.bits t ≡ None = images ∙ placed.2.free t (none_of ((state_of nodes log.entries).bits t) bits) in
-          let lt = argument_earlier nodes all t u (subst (λ o. Contains (stands_on nodes t o) u) none c) in
-          rw e (below_open lt (placed.0 u) refl)
-        where
-          none_of : {A : Type 0} (o : Option A) → is_some o ≡ false → o ≡ None
-          none_of None h = refl
-          none_of (Some x) h = let f : ⊥ = cc in absurd f
-
-  pub log_acyclic : IsAcyclic (by_images nodes log.bits)
-  log_acyclic = (rank, falls)
