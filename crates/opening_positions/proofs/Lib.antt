@@ -1,0 +1,9 @@
+pub mod Listed
+pub mod Behind
+pub mod Nexts
+pub mod Afters
+pub mod Kept
+pub mod Stepping
+pub mod Holds
+pub mod Opens
+pub mod Calls
