@@ -1,0 +1,5 @@
+pub mod Alike
+pub mod Fitting
+pub mod Reading
+pub mod Found
+pub mod Written
