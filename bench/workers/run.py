@@ -1,15 +1,17 @@
 #!/usr/bin/env python3
 """Runs the built program on scripts that take one worker some seconds, with 1, 2 and 4 workers, and prints a table.
 
-usage: run.py [PROGRAM] [--only TEXT] [--workers 1,2,4] [--cubes 4] [--limit SECONDS] [--times N]
+usage: run.py [PROGRAM] [--only TEXT] [--workers 1,2,4] [--cubes 4] [--limit SECONDS] [--times N] [--narrower N]
        (default: the program that `rt run` leaves in crates/smt_tool/out, 4 variables that split a check, 120 seconds, once)
 
 The first column of seconds is one worker without a split; the others are so many workers over the cubes. Seconds are of the
-clock, the least of N runs. Every verdict is compared with the one that is known, and `check` has to accept each proof.
+clock, and behind them those of all processors, each the least of N runs. Every verdict is compared with the one that is known, and
+`check` has to accept each proof. `--narrower 3` takes 3 bits off each width, for a run of some seconds.
 """
 import argparse
 import os
 import pathlib
+import resource
 import subprocess
 import sys
 import tempfile
@@ -35,17 +37,22 @@ def factors(width, number):
             % (declared("xy", width), product, number, 2 * width, width))
 
 
-def scripts():
+def prime_below(bound):
+    """The greatest prime below a number above 2."""
+    return next(n for n in range(bound - 1, 1, -1) if all(n % d for d in range(2, int(n ** 0.5) + 1)))
+
+
+def scripts(narrower):
     """The name, the text and the verdict of each script."""
-    for n in (7, 8):
+    for n in (7 - narrower, 8 - narrower):
         yield "distributivity_%d" % n, law(n, "xyz", "(bvmul x (bvadd y z))", "(bvadd (bvmul x y) (bvmul x z))"), "unsat"
         yield "difference_of_squares_%d" % n, law(n, "xy", "(bvmul (bvadd x y) (bvsub x y))", "(bvsub (bvmul x x) (bvmul y y))"), "unsat"
-    for n in (5, 6):
+    for n in (5 - narrower, 6 - narrower):
         yield "associativity_%d" % n, law(n, "xyz", "(bvmul x (bvmul y z))", "(bvmul (bvmul x y) z)"), "unsat"
-    for n, prime in ((14, 150000001), (15, 600000001), (16, 2147483647)):
-        yield "prime_%d" % n, factors(n, prime), "unsat"
-    for n, one, other in ((16, 40009, 50021), (17, 80021, 90001), (18, 190027, 250007)):
-        yield "two_primes_%d" % n, factors(n, one * other), "sat"
+    for n in (14 - narrower, 15 - narrower, 16 - narrower):
+        yield "prime_%d" % n, factors(n, prime_below(1 << 2 * n - 1)), "unsat"
+    for n in (16 - narrower, 17 - narrower, 18 - narrower):
+        yield "two_primes_%d" % n, factors(n, prime_below(5 << n - 3) * prime_below(1 << n)), "sat"
 
 
 class Bench:
@@ -59,24 +66,28 @@ class Bench:
         told = subprocess.run([self.options.program, "check", str(self.proof), script], capture_output=True, text=True).stdout
         return None if told == "%s\naccepted 1\n" % verdict else "check told %r" % told
 
+    def timed(self, command):
+        """The output and the status of a run, and the seconds of the clock and of all processors that it took."""
+        start, before = time.monotonic(), resource.getrusage(resource.RUSAGE_CHILDREN)
+        ran = subprocess.run(["timeout", str(self.options.limit), *command], stdin=subprocess.DEVNULL, capture_output=True, text=True)
+        after = resource.getrusage(resource.RUSAGE_CHILDREN)
+        used = after.ru_utime + after.ru_stime - before.ru_utime - before.ru_stime
+        return ran.stdout, ran.returncode, (time.monotonic() - start, used)
+
     def measured(self, script, verdict, workers, cubes):
-        """The least seconds of the clock, and what was wrong."""
+        """The least seconds of the clock and of all processors (None where the limit was reached), and what was wrong."""
         words = ["--workers", str(workers), "--cubes", str(cubes), "--budget", "1000000000"]
-        command, limit = [self.options.program, "solve", str(self.proof), script, *words], self.options.limit
-        least, wrong = limit, None
+        seconds, wrong = [], None
         for _ in range(self.options.times):
-            start = time.monotonic()
-            ran = subprocess.run(["timeout", str(limit), *command], stdin=subprocess.DEVNULL, capture_output=True, text=True)
-            least = min(least, time.monotonic() - start)
-            if ran.returncode == 124:
-                return limit, "limit"
-            wrong = wrong or self.fault(script, verdict, ran.stdout, ran.returncode)
-        return least, wrong
+            output, status, took = self.timed([self.options.program, "solve", str(self.proof), script, *words])
+            if status == 124:
+                return None, wrong
+            seconds.append(took)
+            wrong = wrong or self.fault(script, verdict, output, status)
+        return [min(column) for column in zip(*seconds)], wrong
 
-
-def shown(measured):
-    seconds, fault = measured
-    return ">%d" % seconds if fault == "limit" else "%.2f" % seconds
+    def shown(self, seconds):
+        return "%.2f (%.2f)" % tuple(seconds) if seconds else ">%d" % self.options.limit
 
 
 def read_options():
@@ -84,7 +95,7 @@ def read_options():
     parser.add_argument("program", nargs="?", default=str(PROGRAM))
     parser.add_argument("--only", default="", help="scripts whose name has this text")
     parser.add_argument("--workers", default="1,2,4")
-    for name, default in ("cubes", 4), ("limit", 120), ("times", 1):
+    for name, default in ("cubes", 4), ("limit", 120), ("times", 1), ("narrower", 0):
         parser.add_argument("--" + name, type=int, default=default)
     return parser.parse_args()
 
@@ -98,14 +109,14 @@ def main():
     with tempfile.TemporaryDirectory() as folder:
         bench = Bench(options, pathlib.Path(folder))
         script = pathlib.Path(folder) / "script.smt2"
-        for name, text, verdict in scripts():
+        for name, text, verdict in scripts(options.narrower):
             if options.only not in name:
                 continue
             script.write_text(text)
             found = [bench.measured(str(script), verdict, 1, 0)]
             found += [bench.measured(str(script), verdict, n, options.cubes) for n in counts]
-            print("| %s | %s | %s |" % (name, verdict, " | ".join(map(shown, found))), flush=True)
-            for fault in {f for _, f in found if f not in (None, "limit")}:
+            print("| %s | %s | %s |" % (name, verdict, " | ".join(bench.shown(seconds) for seconds, _ in found)), flush=True)
+            for fault in {f for _, f in found if f}:
                 print("\n%s: %s\n" % (name, fault))
                 wrong += 1
     print("\n%d wrong" % wrong)

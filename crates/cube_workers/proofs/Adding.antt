@@ -1,5 +1,5 @@
 -- One worker more is added to what others came to.
-use Rattle.std.proofs.Common.{◌≡◌, ℕ, ◌≤◌, Bool, true, false, List, [], ◌∷◌, ◌++◌, length, Option, Some, None, refl, sym, ap, ◌∙◌, subst, ⊎_elim, arith, length-append}
+use Rattle.std.proofs.Common.{◌≡◌, ℕ, ◌≤◌, Bool, true, false, List, [], ◌∷◌, ◌++◌, length, Option, Some, None, refl, sym, ap, ◌∙◌, subst, ⊎_elim, inl, inr, arith, length-append}
 use Rattle.std.specs.Prelude.{◌⊎◌, ◌≢◌, slice_get, MatchOption}
 use Rattle.std.proofs.lemmas.Option.{same_Some, slice_get_within}
 use Rattle.cnf_base.proofs.Lists.{slice_get-push, slice_get-push_cases, slice_get-longer}
@@ -7,7 +7,7 @@ use Rattle.proof_log.specs.declared.diary.Diary.{Diary}
 use Rattle.cube_workers.specs.declared.kept.KeptSearch.{KeptSearch}
 use Rattle.cube_workers.specs.declared.worker.Reached.{Reached}
 use Rattle.cube_workers.specs.declared.worker.Reached.TheVariants as reached
-use Rattle.cube_workers.specs.Crews.{Each, Left, IsModelAmong, AreKept, IsLowest}
+use Rattle.cube_workers.specs.Crews.{Each, Left, IsModelAmong, RestsAnywhere, AreKept, IsLowest}
 
 -- ---- lists by place
 
@@ -37,11 +37,21 @@ module _ {X : Type 0} where
 
 -- ---- searches
 
+abbrev IsLeftBy : List Left → KeptSearch → Type 0
+IsLeftBy xs s = (k : ℕ) × (x : Left) × (slice_get xs k ≡ Some x) × (x.reached ≢ reached.NoMemory) × (x.kept ≡ s)
+
 abbrev IsOwn : List Left → ℕ → KeptSearch → Type 0
-IsOwn xs i s = (k : ℕ) × (x : Left) × (slice_get xs k ≡ Some x) × (x.reached ≢ reached.NoMemory) × (x.kept ≡ s)
+IsOwn xs i s = RestsAnywhere s ⊎ IsLeftBy xs s
 
 own_longer : (xs : List Left) (x : Left) (i : ℕ) (s : KeptSearch) → IsOwn xs i s → IsOwn (xs ++ x ∷ []) i s
-own_longer xs x i s h = (h.0, h.1, slice_get-longer xs (x ∷ []) h.0 h.1 h.2, h.3, h.4)
+own_longer xs x i s h = ⊎_elim (λ new. inl new) (λ (o : IsLeftBy xs s). inr (o.0, o.1, slice_get-longer xs (x ∷ []) o.0 o.1 o.2, o.3, o.4)) h
+
+-- one search more, for one worker more
+count_pushed : (old new : List KeptSearch) (kept : KeptSearch) (xs : List Left) (x : Left) → new ≡ old ++ kept ∷ [] → length old ≡ length xs → length new ≡ length (xs ++ x ∷ [])
+count_pushed old new kept xs x is was = omega (arith, was, ap length is, length-append old (kept ∷ []), length-append xs (x ∷ []))
+
+found_pushed : (old new : List KeptSearch) (kept : KeptSearch) → new ≡ old ++ kept ∷ [] → (i : ℕ) (s : KeptSearch) → slice_get old i ≡ Some s → slice_get new i ≡ Some s
+found_pushed old new kept is i s e = ap (λ l. slice_get l i) is ∙ slice_get-longer old (kept ∷ []) i s e
 
 -- a worker that found no model is added
 model_longer : (model : Option ℕ) (old new : List KeptSearch) (xs : List Left) (x : Left) → ((i : ℕ) (s : KeptSearch) → slice_get old i ≡ Some s → slice_get new i ≡ Some s) → x.reached ≢ reached.Model → IsModelAmong model old xs → IsModelAmong model new (xs ++ x ∷ [])
@@ -56,15 +66,15 @@ model_longer (Some i) old new xs x more other h = (
 )
 
 pub kept_none : AreKept [] None false []
-kept_none = record { own = each_none (IsOwn []); found = each_none (λ k x. x.reached ≢ reached.Model); memory = λ calm. each_none (λ k x. x.reached ≢ reached.NoMemory); whole = λ calm. refl }
+kept_none = record { own = each_none (IsOwn []); count = refl; found = each_none (λ k x. x.reached ≢ reached.Model); memory = λ calm. each_none (λ k x. x.reached ≢ reached.NoMemory) }
 
--- one that had no memory
-pub kept_without : (searches : List KeptSearch) (model : Option ℕ) (wanting : Bool) (xs : List Left) (x : Left) (r : Reached) → r ≡ reached.NoMemory → x.reached ≡ r → AreKept searches model wanting xs → AreKept searches model true (xs ++ x ∷ [])
-kept_without searches model wanting xs x r is reached_is h = record {
-  own = each_weaker (IsOwn xs) (IsOwn (xs ++ x ∷ [])) searches (own_longer xs x) h.own;
-  found = model_longer model searches searches xs x (λ i s e. e) (λ m. let e : reached.NoMemory ≡ reached.Model = sym is ∙ sym reached_is ∙ m in let f : ⊥ = cc in f) h.found;
+-- one that had no memory: a new search is kept
+pub kept_without : (old new : List KeptSearch) (fresh : KeptSearch) (model : Option ℕ) (wanting : Bool) (xs : List Left) (x : Left) (r : Reached) → new ≡ old ++ fresh ∷ [] → RestsAnywhere fresh → r ≡ reached.NoMemory → x.reached ≡ r → AreKept old model wanting xs → AreKept new model true (xs ++ x ∷ [])
+kept_without old new fresh model wanting xs x r is rests none reached_is h = record {
+  own = each_pushed (IsOwn (xs ++ x ∷ [])) old new fresh is (each_weaker (IsOwn xs) (IsOwn (xs ++ x ∷ [])) old (own_longer xs x) h.own) (inl rests);
+  count = count_pushed old new fresh xs x is h.count;
+  found = model_longer model old new xs x (found_pushed old new fresh is) (λ m. let e : reached.NoMemory ≡ reached.Model = sym none ∙ sym reached_is ∙ m in let f : ⊥ = cc in f) h.found;
   memory = λ calm. let f : ⊥ = cc in absurd f;
-  whole = λ calm. let f : ⊥ = cc in absurd f;
 }
 
 -- one that had memory
@@ -72,25 +82,23 @@ module _ (old new : List KeptSearch) (kept : KeptSearch) (wanting : Bool) (xs : 
   own_pushed : Each (IsOwn xs) old → Each (IsOwn (xs ++ x ∷ [])) new
   own_pushed h =
       each_pushed (IsOwn (xs ++ x ∷ [])) old new kept is (each_weaker (IsOwn xs) (IsOwn (xs ++ x ∷ [])) old (own_longer xs x) h)
-      (length xs, x, slice_get-push xs x, memory, same)
+      (inr (length xs, x, slice_get-push xs x, memory, same))
 
   wanting_pushed : (wanting ≡ false → Each (λ k y. y.reached ≢ reached.NoMemory) xs) → wanting ≡ false → Each (λ k y. y.reached ≢ reached.NoMemory) (xs ++ x ∷ [])
   wanting_pushed h calm = each_push (λ k y. y.reached ≢ reached.NoMemory) xs x (h calm) memory
 
-  whole_pushed : (wanting ≡ false → length old ≡ length xs) → wanting ≡ false → length new ≡ length (xs ++ x ∷ [])
-  whole_pushed h calm = let was = h calm in omega (arith, was, ap length is, length-append old (kept ∷ []), length-append xs (x ∷ []))
-
   pub kept_other : (model : Option ℕ) → x.reached ≢ reached.Model → AreKept old model wanting xs → AreKept new model wanting (xs ++ x ∷ [])
   kept_other model other h = record {
     own = own_pushed h.own;
-    found = model_longer model old new xs x (λ i s e. ap (λ l. slice_get l i) is ∙ slice_get-longer old (kept ∷ []) i s e) other h.found;
+    count = count_pushed old new kept xs x is h.count;
+    found = model_longer model old new xs x (found_pushed old new kept is) other h.found;
     memory = wanting_pushed h.memory;
-    whole = whole_pushed h.whole;
   }
 
   pub kept_model : (model : Option ℕ) (place : ℕ) → place ≡ length old → x.reached ≡ reached.Model → AreKept old model wanting xs → AreKept new (Some place) wanting (xs ++ x ∷ [])
   kept_model model place at found h = record {
     own = own_pushed h.own;
+    count = count_pushed old new kept xs x is h.count;
     found = (
       length xs,
       x,
@@ -100,7 +108,6 @@ module _ (old new : List KeptSearch) (kept : KeptSearch) (wanting : Bool) (xs : 
       each_push (λ j y. y.reached ≡ reached.Model → j ≤ length xs) xs x (λ j y e m. let lt = slice_get_within xs j y e in omega (arith, lt)) (λ m. omega arith),
     );
     memory = wanting_pushed h.memory;
-    whole = whole_pushed h.whole;
   }
 
 -- ---- spent cubes

@@ -1,13 +1,15 @@
 -- What the workers came to together, over the log with the steps of their history.
-use Rattle.std.proofs.Common.{◌≡◌, ℕ, ◌-◌, ◌<◌, ◌≤◌, ◌^◌, Bool, false, List, [], ◌∷◌, ◌++◌, length, take, drop, Option, Some, None, refl, sym, ap, ◌∙◌, subst, arith, length-append}
-use Rattle.std.specs.Prelude.{◌≢◌, slice_get, slice_index_or}
+use Rattle.std.proofs.Common.{◌≡◌, ℕ, zero, suc, ◌+◌, ◌-◌, ◌<◌, ◌≤◌, ◌^◌, Bool, false, List, [], ◌∷◌, ◌++◌, length, take, drop, Option, Some, None, refl, sym, ap, ◌∙◌, subst, ⊎_elim, arith, length-append}
+use Rattle.std.specs.Prelude.{◌≢◌, min, slice_get, slice_index_or}
 use Rattle.std.specs.List.{AllByRecursion}
+use Rattle.std.proofs.Math.Nat.{le-min}
+use Rattle.std.proofs.lemmas.Nat.{pow_pos}
 use Rattle.std.proofs.lemmas.List.{take-append-drop}
 use Rattle.std.proofs.lemmas.List.Elements.{recursion_from_All}
 use Rattle.std.proofs.lemmas.Option.{slice_get_within}
 use Rattle.cnf_base.specs.Literals.{Literal}
 use Rattle.cnf_base.specs.Assignments.{AreBelow}
-use Rattle.cnf_base.proofs.Lists.{each_front, slice_get-take}
+use Rattle.cnf_base.proofs.Lists.{each_front, slice_get-take, slice_get-there}
 use Rattle.shared_history.specs.Events.{of_pass, StartsWith}
 use Rattle.smt_terms.specs.declared.node.Node.{Node}
 use Rattle.smt_terms.specs.Terms.{IsTermList}
@@ -29,10 +31,11 @@ use Rattle.cube_workers.specs.declared.check.Check.{Check}
 use Rattle.cube_workers.specs.declared.kept.KeptSearch.{KeptSearch}
 use Rattle.cube_workers.specs.declared.worker.Reached.{Reached}
 use Rattle.cube_workers.specs.declared.worker.Reached.TheVariants as reached
-use Rattle.cube_workers.specs.Searched.{IsProblem, IsModelOf, AreTried, RestsBeside}
+use Rattle.cube_workers.specs.declared.outcome.Outcome.{Outcome}
+use Rattle.cube_workers.specs.Searched.{Problem, IsProblem, IsModelOf, AreTried, IsFound, RestsBeside}
 use Rattle.cube_workers.specs.Workers.{problem_over, problem_in, IsOpenFor, IsReached, RestsOn, RestsAfter}
 use Rattle.cube_workers.specs.Histories.{IsMadeBy, ArePlaces}
-use Rattle.cube_workers.specs.Crews.{Left, IsLeft, IsModelAmong, AreAtRest, values_of, values_in}
+use Rattle.cube_workers.specs.Crews.{Left, IsLeft, IsModelAmong, RestsAnywhere, AreAtRest, values_of, values_in}
 use Rattle.cube_workers.specs.Closed.{IsClosedHub, IsSumOf}
 use Rattle.cube_workers.proofs.Cubes.{cube_below}
 use Rattle.cube_workers.proofs.OnHub.{problem_now}
@@ -71,7 +74,14 @@ pub part_grows : (law : HubValue) (old new : List Entry) (events : List Event) (
 part_grows law old new events k is chains made =
     made_grows law old new (take k events) is (each_front (λ (e : Event). AddsChains e.call) (take k events) (drop k events) (subst AddChains (sym (take-append-drop k events)) chains)) made
 
--- ---- searches
+-- ---- workers and searches
+
+-- where one worker is allowed, one works
+pub some_workers : (allowed cubes : ℕ) → 0 < allowed → 0 < min allowed (2 ^ cubes)
+some_workers allowed cubes some =
+    let p = pow_pos cubes in
+    let h : 1 ≤ min allowed (2 ^ cubes) = le-min (omega (arith, some)) (omega (arith, p)) in
+    omega (arith, h)
 
 rests_on : (b : BoardValue) (s : Search) (r : Reached) → RestsAfter b s r → r ≢ reached.NoMemory → RestsOn b s
 rests_on b s reached.Done h memory = h
@@ -102,6 +112,23 @@ only_one all left new x y one was is = is ∙ ap (λ l. l ++ y ∷ []) (none_els
 pub rest_one : (log : LogValue) (new : List KeptSearch) (k : KeptSearch) → new ≡ k ∷ [] → RestsBeside log k.search → AreAtRest log new
 rest_one log new k is here = rest_pushed log [] new k is here (λ i s e. let f : ⊥ = cc in absurd f)
 
+-- others were put behind
+pub values_front : (old new : List KeptSearch) (i : ℕ) → ((j : ℕ) (k : KeptSearch) → slice_get old j ≡ Some k → slice_get new j ≡ Some k) → i < length old → values_in new i ≡ values_in old i
+values_front old new i front lt =
+    let here = slice_get-there old i lt in
+    ap values_of (front i here.0 here.1 ∙ sym here.1)
+
+pub found_front : (p : Problem) (log : List Entry) (old new : List KeptSearch) (i : ℕ) (o : Outcome) → ((j : ℕ) (k : KeptSearch) → slice_get old j ≡ Some k → slice_get new j ≡ Some k) → i < length old → IsFound p log (values_in old i) o → IsFound p log (values_in new i) o
+found_front p log old new i o front lt is = subst (λ v. IsFound p log v o) (sym (values_front old new i front lt)) is
+
+slice_get-drop : (n : ℕ) (xs : List KeptSearch) (i : ℕ) → slice_get (drop n xs) i ≡ slice_get xs (n + i)
+slice_get-drop zero xs i = let e : i ≡ 0 + i = omega arith in ap (slice_get xs) e
+slice_get-drop (suc n) [] i = refl
+slice_get-drop (suc n) (x ∷ xs) i = let e : suc (n + i) ≡ suc n + i = omega arith in slice_get-drop n xs i ∙ ap (slice_get (x ∷ xs)) e
+
+pub rest_dropped : (log : LogValue) (n : ℕ) (xs new : List KeptSearch) → new ≡ drop n xs → AreAtRest log xs → AreAtRest log new
+rest_dropped log n xs new is h i s e = h (n + i) s (sym (slice_get-drop n xs i) ∙ ap (λ l. slice_get l i) (sym is) ∙ e)
+
 -- ---- what is found
 
 module _ (law : HubValue) (k : Check) (nodes : List Node) (log : LogValue) (all : List Event) (searches : List KeptSearch) (model : Option ℕ) (wanting : Bool) (spent : Option Diary) (count : ℕ) (xs : List Left)
@@ -113,9 +140,8 @@ module _ (law : HubValue) (k : Check) (nodes : List Node) (log : LogValue) (all 
   grown_from b is seen = subst (Grows (view_in b).log) (sym hub.log_is) (grown_whole law all b is seen hub.chains)
 
   -- the searches that are kept rest beside the log
-  pub all_rest : Stands nodes log → AreAtRest log searches
-  all_rest stands i s e =
-      let o = sum.kept.own i s e in
+  left_rests : Stands nodes log → (s : KeptSearch) → (k : ℕ) × (x : Left) × (slice_get xs k ≡ Some x) × (x.reached ≢ reached.NoMemory) × (x.kept ≡ s) → RestsBeside log s.search
+  left_rests stands s o =
       let q = left_at o.0 o.1 o.2 in
       let same : q.0.hist.law.nodes ≡ nodes = ap (λ (l : HubValue). l.nodes) q.1.law_is ∙ hub.nodes_are in
       let rests : RestsOn q.0 o.1.kept.search = rests_on q.0 o.1.kept.search o.1.reached q.1.resting o.3 in
@@ -123,6 +149,9 @@ module _ (law : HubValue) (k : Check) (nodes : List Node) (log : LogValue) (all 
       (rests_stored nodes log o.1.kept.search stands
       (rests_grown nodes (view_in q.0).log log.entries o.1.kept.search (grown_from q.0 q.1.law_is q.2)
       (subst (λ n. IsResting o.1.kept.search (state_of n (view_in q.0).log).clauses (view_in q.0).log) same rests)))
+
+  pub all_rest : Stands nodes log → AreAtRest log searches
+  all_rest stands i s e = ⊎_elim (λ (new : RestsAnywhere s). new log.clauses log.entries) (λ own. left_rests stands s own) (sum.kept.own i s e)
 
   -- a model is that of its search
   pub model_found : (by : ℕ) → model ≡ Some by → IsModelOf (problem_in law k) log.entries (values_in searches by)
@@ -148,5 +177,9 @@ module _ (law : HubValue) (k : Check) (nodes : List Node) (log : LogValue) (all 
       subst (λ l. AreTried (problem_in law k) l (2 ^ length k.tree.now) closed spent) (sym hub.log_is)
       (tried law k all count xs sum.some sum.long sum.below sum.first sum.left (subst (λ o. IsModelAmong o searches xs) none sum.kept.found) (sum.kept.memory calm) hub.opened hub.made hub.chains hub.open_for spent closed sum.lowest places (len ∙ sym hub.open_for.count))
 
-  pub some_kept : wanting ≡ false → 0 < length searches
-  some_kept calm = let whole = sum.kept.whole calm in let long = sum.long in let some = sum.some in omega (arith, whole, long, some)
+  -- there is a search for each worker
+  pub count_kept : length searches ≡ count
+  count_kept = sum.kept.count ∙ sum.long
+
+  pub some_kept : 0 < length searches
+  some_kept = let whole = count_kept in let some = sum.some in omega (arith, whole, some)

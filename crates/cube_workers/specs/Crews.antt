@@ -1,9 +1,11 @@
 -- What is left of workers that have ended, and what they came to together.
-use Rattle.std.specs.Prelude.{◌≡◌, ◌≢◌, ◌≤◌, ◌+◌, ℕ, Bool, false, List, Option, Some, None, length, slice_get}
+use Rattle.std.specs.Prelude.{◌≡◌, ◌≢◌, ◌⊎◌, ◌≤◌, ◌+◌, ℕ, Bool, false, List, Option, Some, None, length, slice_get}
+use Rattle.cnf_base.specs.Literals.{Literal}
 use Rattle.shared_history.specs.Events.{of_pass, StartsWith}
 use Rattle.proof_log.specs.declared.diary.Diary.{Diary}
+use Rattle.proof_log.specs.declared.entry.Entry.{Entry}
 use Rattle.proof_log.specs.Stored.{LogValue}
-use Rattle.cube_search.specs.Running.{valuation_of}
+use Rattle.cube_search.specs.Running.{IsResting, valuation_of}
 use Rattle.hub_core.specs.declared.events.Event.{Event}
 use Rattle.hub_core.specs.Hubs.{HubValue, by_of}
 use Rattle.hub_board.specs.Boards.{BoardValue, IsBoard}
@@ -44,12 +46,16 @@ abbrev pub IsModelAmong : Option ℕ → List KeptSearch → List Left → Type 
 IsModelAmong None searches xs = Each (λ k x. x.reached ≢ reached.Model) xs
 IsModelAmong (Some i) searches xs = (k : ℕ) × (x : Left) × (slice_get xs k ≡ Some x) × (x.reached ≡ reached.Model) × (slice_get searches i ≡ Some x.kept) × Each (λ j y. y.reached ≡ reached.Model → j ≤ k) xs
 
--- the searches are those of the workers that had memory
+-- the search rests beside every log
+abbrev pub RestsAnywhere : KeptSearch → Type 0
+RestsAnywhere s = (rows : List (List (List Literal))) (log : List Entry) → IsResting s.search rows log
+
+-- There is a search for each worker: each is that of one that had memory, or a new one.
 pub record AreKept (searches : List KeptSearch) (model : Option ℕ) (wanting : Bool) (xs : List Left) : Type 0 where
-  pub own : Each (λ i s. (k : ℕ) × (x : Left) × (slice_get xs k ≡ Some x) × (x.reached ≢ reached.NoMemory) × (x.kept ≡ s)) searches
+  pub own : Each (λ i s. RestsAnywhere s ⊎ ((k : ℕ) × (x : Left) × (slice_get xs k ≡ Some x) × (x.reached ≢ reached.NoMemory) × (x.kept ≡ s))) searches
+  pub count : length searches ≡ length xs
   pub found : IsModelAmong model searches xs
   pub memory : wanting ≡ false → Each (λ k x. x.reached ≢ reached.NoMemory) xs
-  pub whole : wanting ≡ false → length searches ≡ length xs
 
 -- no cube was told as spent; or this diary is that of one of them, and no other is of a lower one
 abbrev pub IsLowest : Option Diary → List Left → Type 0

@@ -1,5 +1,7 @@
 //! What is searched, and how.
 
+ghost use Rattle.std.specs.Prelude.{◌≡◌, ◌^◌, min, length};
+
 use cnf_base::{Lit, Pos};
 use cube_tree::Tree;
 
@@ -19,4 +21,13 @@ pub struct Check<'t> {
     pub tree: &'t Tree,
     pub assumed: &'t [Lit],
     pub settings: Settings,
+}
+
+impl Check<'_> {
+    /// How many workers search it: as many as its settings allow, but no more than it has cubes.
+    pub fn workers(&self) -> u32
+        ensures { result ≡ min self.now.settings.workers (2 ^ length self.now.tree.now) }
+    {
+        self.settings.workers.min(self.tree.leaves())
+    }
 }

@@ -150,7 +150,7 @@ fn gather<'h, 'a, 't, R: Wait>(
         } = worker;
         board.facts();
         hist.merge(first, board.into_pass());
-        sum.add(kept, spent, reached)?;
+        sum.add(alloc, kept, spent, reached)?;
     }
     Ok(sum)
 }

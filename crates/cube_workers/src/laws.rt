@@ -13,7 +13,7 @@ ghost use Rattle.cube_workers.specs.Workers.{problem_in};
 ghost use Rattle.cube_workers.specs.Crews.{Left, AreAtRest, values_in};
 ghost use Rattle.cube_workers.specs.Closed.{IsClosedHub, IsSumOf, AreAllTried};
 
-/// Where workers have ended over a hub that is closed, the searches of those that had memory rest beside the log with the steps
+/// Where workers have ended over a hub that is closed, the searches that are kept, one for each, rest beside the log with the steps
 /// of the whole history. Where one found a model, it is one under the values of the search that is named. Where each had memory
 /// and none found a model, each cube is closed at the position that the history tells, or the lowest diary that a worker has is
 /// that of the lowest cube that is spent, and the others were searched too.

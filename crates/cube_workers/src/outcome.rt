@@ -21,7 +21,7 @@ pub enum Outcome {
 pub struct Found {
     /// The log, with what the searches put.
     pub log: Log,
-    /// The searches of the workers that had memory. They rest beside the log.
+    /// As many searches as the settings allow workers. They rest beside the log.
     pub searches: Vec<KeptSearch>,
     pub outcome: Outcome,
     /// The place of a search; of a model, that of the search which found it.

@@ -1,13 +1,14 @@
 //! The search of a check's cubes by one worker or by several, which share what they learn (M. Heule, O. Kullmann, S. Wieringa
 //! and A. Biere, "Cube and Conquer: Guiding CDCL SAT Solvers by Lookaheads", 2011).
 
-ghost use Rattle.std.specs.Prelude.{◌≡◌, ◌<◌, ◌≤◌, ◌^◌, ℕ, suc, List, length, IfOk, IfErr, OnOk, slice_index_or};
+ghost use Rattle.std.specs.Prelude.{◌≡◌, ◌<◌, ◌≤◌, ◌+◌, ◌^◌, ℕ, suc, List, Some, length, slice_get, IfOk, IfErr, OnOk, slice_index_or};
 ghost use Rattle.cnf_base.specs.Literals.{Literal};
 ghost use Rattle.smt_terms.specs.Terms.{IsTermList};
 ghost use Rattle.proof_log.specs.Boards.{Grows};
 ghost use Rattle.proof_log.specs.Stored.{LogValue, Stands};
 ghost use Rattle.cube_tree.specs.Cubes.{cube_of};
 ghost use Rattle.hub_core.specs.Hubs.{HubValue, IsOpening};
+ghost use Rattle.cube_workers.specs.declared.kept.KeptSearch.{KeptSearch as Kept};
 ghost use Rattle.cube_workers.specs.Searched.{IsProblem, IsFound};
 ghost use Rattle.cube_workers.specs.Workers.{problem_over, problem_in, IsOpenFor};
 ghost use Rattle.cube_workers.specs.Crews.{Left, AreAtRest, values_in};
@@ -46,7 +47,7 @@ fn fill(alloc: Global, searches: &mut Vec<KeptSearch>, workers: usize) -> Result
     Ok(())
 }
 
-// One worker searches the cubes, over the log alone.
+// One worker searches the cubes, over the log alone and without a thread.
 fn solve_alone(
     alloc: Global,
     terms: &Terms,
@@ -62,6 +63,7 @@ fn solve_alone(
     ensures stands { IfOk result (λ r. Stands terms.now.nodes r.log) }
     ensures grows { IfOk result (λ r. Grows log.entries r.log.entries) }
     ensures resting { IfOk result (λ r. AreAtRest r.log r.searches.items) }
+    ensures count { IfOk result (λ r. length r.searches.items ≡ length searches.items) }
     ensures by { IfOk result (λ r. r.by < length r.searches.items) }
     ensures found { IfOk result
         (λ r. IsFound (problem_over terms.now.nodes log.entries check.now) r.log.entries
@@ -153,6 +155,7 @@ fn conclude(
     ensures stands { IfOk result (λ r. Stands terms.now.nodes r.log) }
     ensures grows { IfOk result (λ r. Grows log.entries r.log.entries) }
     ensures resting { IfOk result (λ r. AreAtRest r.log r.searches.items) }
+    ensures count { IfOk result (λ r. length r.searches.items ≡ length sum.searches.items) }
     ensures by { IfOk result (λ r. r.by < length r.searches.items) }
     ensures found { IfOk result (λ r. (law : HubValue) (count : ℕ) (xs : List Left) →
         IsClosedHub law check.now terms.now.nodes log.entries all.now →
@@ -197,7 +200,7 @@ fn conclude(
     }
 }
 
-// Several workers search the cubes, over a hub that is opened over the log.
+// A worker for each search, in a thread of its own, over a hub that is opened over the log.
 fn solve_together<R: Threads + Wait + Sync, G: Gate + Sync>(
     rt: &R,
     alloc: Global,
@@ -215,6 +218,7 @@ fn solve_together<R: Threads + Wait + Sync, G: Gate + Sync>(
     ensures stands { IfOk result (λ r. Stands terms.now.nodes r.log) }
     ensures grows { IfOk result (λ r. Grows log.entries r.log.entries) }
     ensures resting { IfOk result (λ r. AreAtRest r.log r.searches.items) }
+    ensures count { IfOk result (λ r. length r.searches.items ≡ length searches.items) }
     ensures by { IfOk result (λ r. r.by < length r.searches.items) }
     ensures found { IfOk result
         (λ r. IsFound (problem_over terms.now.nodes log.entries check.now) r.log.entries
@@ -250,8 +254,57 @@ fn solve_together<R: Threads + Wait + Sync, G: Gate + Sync>(
     }
 }
 
-/// Searches the cubes of a check over the log, by as many workers as its settings say: one by one, or each cube by the worker that
-/// claims it. Each worker has a search; those that the last check left keep what they learnt, as long as there are enough.
+// A worker for each search.
+fn solve_by<R: Threads + Wait + Sync, G: Gate + Sync>(
+    rt: &R,
+    alloc: Global,
+    gate: &G,
+    terms: &Terms,
+    log: Log,
+    searches: Vec<KeptSearch>,
+    check: &Check<'_>,
+) -> Result<Found, Lost>
+    requires listed { IsTermList terms.now.nodes }
+    requires stands { Stands terms.now.nodes log }
+    requires some { (0 < length searches.items) × (length searches.items ≤ 64) }
+    requires resting { AreAtRest log searches.items }
+    requires problem { IsProblem (problem_over terms.now.nodes log.entries check.now) log.entries }
+    ensures stands { IfOk result (λ r. Stands terms.now.nodes r.log) }
+    ensures grows { IfOk result (λ r. Grows log.entries r.log.entries) }
+    ensures resting { IfOk result (λ r. AreAtRest r.log r.searches.items) }
+    ensures count { IfOk result (λ r. length r.searches.items ≡ length searches.items) }
+    ensures by { IfOk result (λ r. r.by < length r.searches.items) }
+    ensures found { IfOk result
+        (λ r. IsFound (problem_over terms.now.nodes log.entries check.now) r.log.entries
+        (values_in r.searches.items r.by) r.outcome) }
+    ensures lost { IfErr result (λ lost. Stands terms.now.nodes lost.log
+        × Grows log.entries lost.log.entries × AreAtRest lost.log lost.searches.items) }
+{
+    if searches.len() == 1 {
+        return solve_alone(alloc, terms, log, searches, check);
+    }
+    solve_together(rt, alloc, gate, terms, log, searches, check)
+}
+
+// Puts the others behind these searches.
+fn put_behind(searches: &mut Vec<KeptSearch>, mut others: Vec<KeptSearch>) -> Result<(), AllocError>
+    ensures resting { (log : LogValue) → AreAtRest log searches.old.items
+        → AreAtRest log others.items → AreAtRest log searches.new.items }
+    ensures front { (i : ℕ) (kept : Kept) → slice_get searches.old.items i ≡ Some kept
+        → slice_get searches.new.items i ≡ Some kept }
+    ensures count { OnOk result (length searches.new.items ≡ length searches.old.items
+        + length others.items) }
+{
+    searches.reserve(others.len())?;
+    'others: while let Some(kept) = others.pop() {
+        searches.push_reserved(kept);
+    }
+    Ok(())
+}
+
+/// Searches the cubes of a check over the log, by as many workers as its settings allow, but no more than there are cubes: one by
+/// one, or each cube by the worker that claims it, in threads where there are several workers. As many searches are kept as the
+/// settings allow workers; those that the last check left keep what they learnt, as long as there are enough.
 ///
 /// What is found is the first of these: a model, of the lowest worker that has one; want of memory, where a worker had none; the
 /// lowest cube on which the budget was spent, where each lower one is closed; a clause of opposites of assumed literals. The log
@@ -273,6 +326,7 @@ pub fn solve<R: Threads + Wait + Sync, G: Gate + Sync>(
     ensures stands { IfOk result (λ r. Stands terms.now.nodes r.log) }
     ensures grows { IfOk result (λ r. Grows log.entries r.log.entries) }
     ensures resting { IfOk result (λ r. AreAtRest r.log r.searches.items) }
+    ensures count { IfOk result (λ r. length r.searches.items ≡ check.now.settings.workers) }
     ensures by { IfOk result (λ r. r.by < length r.searches.items) }
     ensures found { IfOk result
         (λ r. IsFound (problem_over terms.now.nodes log.entries check.now) r.log.entries
@@ -280,12 +334,25 @@ pub fn solve<R: Threads + Wait + Sync, G: Gate + Sync>(
     ensures lost { IfErr result (λ lost. Stands terms.now.nodes lost.log
         × Grows log.entries lost.log.entries × AreAtRest lost.log lost.searches.items) }
 {
-    let workers = check.settings.workers;
-    let Ok(()) = fill(alloc, &mut searches, workers as usize) else {
+    let count = check.settings.workers as usize;
+    let Ok(()) = fill(alloc, &mut searches, count) else {
         return Err(Lost { log, searches });
     };
-    if workers == 1 {
-        return solve_alone(alloc, terms, log, searches, check);
+    let Ok(others) = searches.split_off(check.workers() as usize) else {
+        return Err(Lost { log, searches });
+    };
+    match solve_by(rt, alloc, gate, terms, log, searches, check) {
+        Ok(mut found) => match put_behind(&mut found.searches, others) {
+            Ok(()) => Ok(found),
+            Err(_) => {
+                let Found { log, searches, .. } = found;
+                Err(Lost { log, searches })
+            }
+        },
+        Err(mut lost) => {
+            // As many as there is room for.
+            let _ = put_behind(&mut lost.searches, others);
+            Err(lost)
+        }
     }
-    solve_together(rt, alloc, gate, terms, log, searches, check)
 }

@@ -11,7 +11,7 @@ use std::alloc::{AllocError, Global};
 /// What the workers came to that were added, the one of the highest number first.
 #[derive(Drop)]
 pub struct Sum {
-    /// The searches of those that had memory.
+    /// The searches of all; of one that had no memory a new one.
     pub searches: Vec<KeptSearch>,
     /// The place of the search that found a model, of the lowest worker that did.
     pub model: Option<usize>,
@@ -35,8 +35,8 @@ impl Sum {
         }
     }
 
-    // Keeps the search of a worker that had memory.
-    fn keep(&mut self, kept: KeptSearch, reached: Reached) -> Result<(), AllocError>
+    // Keeps the search of a worker, or a new one in the place of what a worker without memory left.
+    fn keep(&mut self, alloc: Global, kept: KeptSearch, reached: Reached) -> Result<(), AllocError>
         ensures spent { self.new.spent ≡ self.old.spent }
         ensures kept { OnOk result ((xs : List Left) (x : Left) → x.kept ≡ kept
             → x.reached ≡ reached
@@ -45,6 +45,8 @@ impl Sum {
     {
         match reached {
             Reached::NoMemory => {
+                drop(kept);
+                self.searches.push(KeptSearch::new(alloc)?)?;
                 self.wanting = true;
                 Ok(())
             }
@@ -78,9 +80,11 @@ impl Sum {
         }
     }
 
-    /// Adds what a worker came to: its search, the lowest cube that it told as spent, and how it ended.
+    /// Adds what a worker came to: its search, the lowest cube that it told as spent, and how it ended. A worker without memory
+    /// has a new search from now on.
     pub fn add(
         &mut self,
+        alloc: Global,
         kept: KeptSearch,
         spent: Option<Diary>,
         reached: Reached,
@@ -93,7 +97,7 @@ impl Sum {
             → x ≡ record { kept = kept; spent = spent; reached = reached }
             → IsLowest self.old.spent xs → IsLowest self.new.spent (xs ++ x ∷ [])) }
     {
-        self.keep(kept, reached)?;
+        self.keep(alloc, kept, reached)?;
         self.spend(spent);
         Ok(())
     }

@@ -7,12 +7,15 @@ ghost use Rattle.cube_workers.specs.Crews.{AreAtRest};
 use crate::square::{BITS, Proof, square};
 use crate::steps::ask;
 use cnf_base::Lit;
-use cube_workers::{Check, Found, Gate, KeptSearch, NoGate, Outcome, PairGate, Settings, solve};
+use cube_workers::{
+    Check, Found, Gate, KeptSearch, NoGate, Outcome, PairGate, Point, Settings, solve,
+};
 use proof_log::Log;
 use smt_terms::terms::Terms;
 use std::alloc::{AllocError, Global};
 use std::process::Abort;
 use std::sync::Wait;
+use std::sync::atomic::{AtomicU64, Ordering};
 use std::test::Fail;
 use std::thread::Threads;
 
@@ -215,5 +218,44 @@ fn two_workers_stand_at_their_first_cubes_at_one_time(rt: HostRuntime) -> Result
     let (first, second) = both(&rt, rt.alloc(), &gate, 13, (way, way))?;
     assert_eq!(rt; (first, second), (Came::NoRoot, Came::NoRoot));
     assert!(rt; !gate.gave_up());
+    Ok(())
+}
+
+// A gate that counts the workers that begin.
+#[derive(Drop)]
+struct CountGate {
+    begun: AtomicU64,
+}
+
+impl Gate for CountGate {
+    fn pass(&self, worker: u32, point: Point) {
+        let _ = worker;
+        if point == Point::Begin {
+            let _ = self.begun.fetch_add(1, Ordering::SeqCst);
+        }
+    }
+}
+
+#[test]
+fn no_more_workers_begin_than_there_are_cubes(rt: HostRuntime) -> Result<(), Fail> {
+    let gate = CountGate {
+        begun: AtomicU64::new(0),
+    };
+    let came = both(&rt, rt.alloc(), &gate, 13, (narrow(8), narrow(2)))?;
+    assert_eq!(rt; came, (Came::Spent(0), Came::Spent(0)));
+    assert_eq!(rt; gate.begun.load(Ordering::SeqCst), 0);
+    let two_cubes = Way {
+        depth: 1,
+        workers: 8,
+        budget: AMPLE,
+    };
+    let one_cube = Way {
+        depth: 0,
+        workers: 8,
+        budget: AMPLE,
+    };
+    let came = both(&rt, rt.alloc(), &gate, 13, (two_cubes, one_cube))?;
+    assert_eq!(rt; came, (Came::NoRoot, Came::NoRoot));
+    assert_eq!(rt; gate.begun.load(Ordering::SeqCst), 2);
     Ok(())
 }

@@ -39,6 +39,11 @@ returns-in-Ok-together-clause-grows g c =
     let new = c.put_history.new.log in
     IfOk-weaker c.conclude.result _ _ (λ r. found_grows l h k nodes c.args.log log0 all stands.0 same c.in-Ok.ensures.nodes c.in-Ok.ensures.log c.in-Ok.ensures.opening c.in-Ok.ensures.open_for stands.1 back new.entries c.in-Ok-put_history.ensures.all r) c.conclude.ensures.grows
 
+pub returns-in-Ok-together-clause-count : goal.returns-in-Ok-together-clause-count
+returns-in-Ok-together-clause-count g c =
+    let gathered = c.in-Ok-together.ensures.gathered in
+    IfOk-weaker c.conclude.result _ _ (λ r same. same ∙ gathered.1.kept.count ∙ gathered.1.long) c.conclude.ensures.count
+
 pub returns-in-Ok-together-clause-found : goal.returns-in-Ok-together-clause-found
 returns-in-Ok-together-clause-found g c =
     let l = c.in-Ok.law in let h = c.in-Ok-start.started.0.law in let k = c.args.check.now in
