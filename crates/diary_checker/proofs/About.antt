@@ -5,7 +5,6 @@ use Rattle.cnf_base.specs.Literals.{Literal}
 use Rattle.smt_terms.specs.declared.node.Node.{Node}
 use Rattle.proof_log.specs.Logs.{LogState, start, state_of}
 use Rattle.proof_log.specs.Stored.{LogValue, Stands}
-use Rattle.proof_log.specs.Diaries.{Subject}
 use Rattle.proof_log.proofs.Staying.{same_state}
 use Rattle.diary_checker.specs.Readers.{IsAbout}
 

@@ -49,14 +49,19 @@ filed_more look old new lists lists' at w kept here h id c held is =
     (λ before. let f = h id c before is in (f.0, f.1, kept f.0 id f.2))
     (held_cases old at true id.pos (sym (w id.pos) ∙ held))
 
--- a position less, where nothing more is filed
-pub filed_less : (look : Lookup) (old new : ℕ → Bool) (lists : List (List ClauseId)) (at : ℕ) →
-    ((p : ℕ) → new p ≡ with_held old at false p) → AreFiled look old lists → AreFiled look new lists
-filed_less look old new lists at w h id c held is =
+-- a position less, where what is filed of others stays
+pub filed_less : (look : Lookup) (old new : ℕ → Bool) (lists lists' : List (List ClauseId)) (at : ℕ) →
+    ((p : ℕ) → new p ≡ with_held old at false p) →
+    ((k : Option Literal) (i : ClauseId) → (i.pos ≡ at → ⊥) → Contains (filed_under lists k) i → Contains (filed_under lists' k) i) →
+    AreFiled look old lists → AreFiled look new lists'
+filed_less look old new lists lists' at w kept h id c held is =
     ⊎_elim
     (λ e. let a = sym (w id.pos) ∙ held in let b = ap (λ t. if t then false else old id.pos) (eq-eqb id.pos at e) in let f : false ≡ true = sym b ∙ a in absurd (true_is_not_false f))
-    (λ before. h id c before is)
-    (held_cases old at false id.pos (sym (w id.pos) ∙ held))
+    (λ ne.
+    let was : old id.pos ≡ true = sym (w id.pos ∙ ap (λ t. if t then false else old id.pos) (ne_eqb id.pos at ne)) ∙ held in
+    let f = h id c was is in
+    (f.0, f.1, kept f.0 id ne f.2))
+    (cases_eq id.pos at)
   where
     true_is_not_false : false ≡ true → ⊥
     true_is_not_false f = cc

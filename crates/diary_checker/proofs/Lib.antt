@@ -1,4 +1,5 @@
 mod Tables
+mod Removing
 mod Sets
 mod Using
 mod Keys

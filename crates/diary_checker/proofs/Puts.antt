@@ -1,5 +1,5 @@
 -- When a put is good.
-use Rattle.std.proofs.Common.{◌≡◌, ℕ, ◌<◌, Bool, true, false, not, List, refl, sym, subst, arith}
+use Rattle.std.proofs.Common.{◌≡◌, ℕ, ◌<◌, Bool, true, false, not, List, sym, subst, arith}
 use Rattle.std.specs.Prelude.{Contains, Result, Ok, Err, IfOk, MatchBool, map}
 use Rattle.cnf_base.specs.Literals.{Literal, negated}
 use Rattle.cnf_base.specs.declared.clause.ClauseId.{ClauseId}

@@ -1,5 +1,5 @@
 -- Lines that are taken and refused, and what follows for the lines of a diary.
-use Rattle.std.proofs.Common.{◌≡◌, ℕ, suc, ◌+◌, ◌-◌, ◌<◌, ◌≤◌, Bool, true, false, not, List, [], ◌∷◌, ◌++◌, length, Option, Some, sym, ap, ◌∙◌, subst, arith, add-one}
+use Rattle.std.proofs.Common.{◌≡◌, ℕ, suc, ◌+◌, ◌-◌, ◌<◌, ◌≤◌, Bool, true, false, not, List, [], ◌∷◌, ◌++◌, length, Option, Some, None, refl, sym, ap, ◌∙◌, subst, arith, add-one}
 use Rattle.std.specs.Prelude.{◌≢◌, ◌↔◌, ◌&&◌, ◌||◌, ltb, Contains, MatchBool, MatchResult, Result, Ok, Err}
 use Rattle.std.specs.Result.{IsErrAnd}
 use Rattle.std.proofs.lemmas.Result.{err_from_is_err_and}
@@ -127,14 +127,19 @@ put_not_good g log at v old c hints e about is bad p =
     let good = subst (λ hs. IsGoodPut g (bit_in old.held) c hs) same.1 (subst (λ d. IsGoodPut g (bit_in old.held) d p.1) same.0 p.3) in
     bad (subst (λ (o : ReaderValue). IsGoodPut g (bit_in o.held) c hints) (sym e) good)
 
-pub drop_not_chain : (g : Subject) (log : LogValue) (at : ℕ) (old : ReaderValue) → IsAbout g log → is_chain (entry_at log.entries at) ≡ false → ¬ (IsLine g (state_in old) (Drop at))
-drop_not_chain g log at old about no_chain p =
-    let e : is_chain (entry_at log.entries at) ≡ true = subst (λ l. is_chain (entry_at l at) ≡ true) (sym about.entries) p.1 in
-    let f : false ≡ true = sym no_chain ∙ e in
-    absurd (not_both f)
-  where
-    not_both : false ≡ true → ⊥
-    not_both h = cc
+no_chain : (o : Option Entry) → ((c : List Literal) (hints : List ClauseId) → o ≢ Some (step.Chain c hints)) → is_chain o ≡ true → ⊥
+no_chain None none e = cc
+no_chain (Some (step.Node n)) none e = cc
+no_chain (Some (step.Leaf t)) none e = cc
+no_chain (Some (step.Encode t)) none e = cc
+no_chain (Some (step.Selector a t)) none e = cc
+no_chain (Some (step.Chain c hints)) none e = none c hints refl
+no_chain (Some (step.Rewrite u)) none e = cc
+no_chain (Some (step.Equal s t)) none e = cc
+no_chain (Some (step.Lemma l)) none e = cc
+
+pub drop_refused : (g : Subject) (log : LogValue) (at : ℕ) (old : ReaderValue) → IsAbout g log → ((c : List Literal) (hints : List ClauseId) → entry_at log.entries at ≢ Some (step.Chain c hints)) → ¬ (IsLine g (state_in old) (Drop at))
+drop_refused g log at old about none p = no_chain (entry_at log.entries at) none (subst (λ l. is_chain (entry_at l at) ≡ true) (sym about.entries) p.1)
 
 -- ---- memory was wanting
 

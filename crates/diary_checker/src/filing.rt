@@ -1,12 +1,12 @@
 //! What is held, with its clauses filed.
 
-ghost use Rattle.std.specs.Prelude.{◌≡◌, ◌≤◌, ◌⊎◌, ◌&&◌, ◌||◌, ◌+◌, not, ltb, true, false, ℕ, List, Option, Some, Contains, OnOk, OnErr, length};
+ghost use Rattle.std.specs.Prelude.{◌≡◌, ◌≢◌, ◌≤◌, ◌⊎◌, ◌&&◌, ◌||◌, ◌+◌, not, ltb, true, false, ℕ, List, Option, Some, Contains, OnOk, OnErr, length};
 ghost use Rattle.cnf_base.specs.Literals.{Literal};
 ghost use Rattle.cnf_base.specs.declared.clause.ClauseId.{ClauseId};
 ghost use Rattle.proof_log.specs.Logs.{clause_at, entry_at};
 ghost use Rattle.proof_log.specs.Diaries.{is_chain, with_held};
 ghost use Rattle.diary_checker.specs.Tables.{bit_in, filed_under, IsFiled, IsShortest};
-ghost use Rattle.diary_checker.specs.Uses.{AreFiled};
+ghost use Rattle.diary_checker.specs.Uses.{AreFiled, MayBeUnder};
 
 use crate::positions::Positions;
 use crate::watches::Watches;
@@ -92,6 +92,19 @@ pub(crate) fn hold(
     }
     file(watches, log, at)?;
     held.set(at, true)
+}
+
+// Takes a position out of the lists in which its clause may be filed.
+pub(crate) fn unfile(watches: &mut Watches, at: Pos, clause: &[Lit])
+    ensures kept { (k : Option Literal) (i : ClauseId) → i.pos ≢ at
+        → Contains (filed_under watches.old k) i → Contains (filed_under watches.new k) i }
+    ensures gone { (k : Option Literal) (i : ClauseId) → MayBeUnder clause.now k
+        → Contains (filed_under watches.new k) i → i.pos ≢ at }
+{
+    watches.remove(None, at);
+    for l in clause {
+        watches.remove(Some(*l), at);
+    }
 }
 
 // Whether a position is deleted or a chain's.

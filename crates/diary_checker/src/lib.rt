@@ -5,8 +5,9 @@
 //! of them; `is_spent` answers true exactly where they have spent a budget. What a diary is, and when it has spent its
 //! budget, is defined in `proof_log`, and what deletions change of that in `proof_text`; `specs/Readers` says what the reader
 //! keeps. A put is decided in a time that is linear
-//! in the literals of its clause, of its hints' clauses and of the held clauses that are filed under one of its literals. The
-//! crate stands on `proof_text`, `proof_log`, `hint_chain`, `smt_terms` and `cnf_base`.
+//! in the literals of its clause, of its hints' clauses and of the held clauses that are filed under one of its literals; a
+//! clause that is given up is filed no more. The crate stands on `proof_text`, `proof_log`, `hint_chain`, `smt_terms` and
+//! `cnf_base`.
 #![tactic(auto)]
 
 mod conditions;

@@ -13,7 +13,7 @@ ghost use Rattle.diary_checker.specs.Tables.{bit_in};
 ghost use Rattle.diary_checker.specs.Readers.{IsAbout, IsSetUp, HasRead, IsDecided, IsUndecided};
 
 use crate::conditions::insert;
-use crate::filing::{hold, hold_start, is_chain_at};
+use crate::filing::{hold, hold_start, is_chain_at, unfile};
 use crate::goodness::{Scratch, is_good_put};
 use crate::positions::Positions;
 use crate::table::LiteralNumbers;
@@ -184,10 +184,11 @@ impl DiaryReader {
         if !self.held.has(at) {
             return Ok(false);
         }
-        if !is_chain_at(log, at) {
+        let Some((clause, _)) = chain_at(log, at) else {
             return Ok(false);
-        }
+        };
         self.held.set(at, false)?;
+        unfile(&mut self.watches, at, clause.literals());
         self.chains = self.chains.saturating_sub(1);
         self.drops -= 1;
         self.ended = false;

@@ -1,11 +1,11 @@
 //! Clauses by one of their literals.
 
-ghost use Rattle.std.specs.Prelude.{◌≡◌, ◌<◌, ◌+◌, ℕ, List, [], ◌∷◌, ◌++◌, Option, Contains, length, OnOk, OnErr, slice_index_or};
+ghost use Rattle.std.specs.Prelude.{◌≡◌, ◌≢◌, ◌==◌, ◌<◌, ◌+◌, ℕ, not, List, [], ◌∷◌, ◌++◌, Option, Contains, filter, length, OnOk, OnErr, slice_index_or};
 ghost use Rattle.cnf_base.specs.Literals.{Literal};
 ghost use Rattle.cnf_base.specs.declared.clause.ClauseId.{ClauseId};
 ghost use Rattle.diary_checker.specs.Tables.{filed_under, row_of};
 
-use cnf_base::{ClauseId, Lit};
+use cnf_base::{ClauseId, Lit, Pos};
 use std::alloc::{AllocError, Global};
 use std::marker::Model;
 
@@ -39,6 +39,13 @@ impl Names {
     {
         self.items.push(id)?;
         Ok(())
+    }
+
+    // Takes out the names of a position.
+    fn remove(&mut self, at: Pos)
+        ensures { self.new ≡ filter (λ id. not (id.pos == at)) self.old }
+    {
+        self.items.retain(|id| id.pos != at);
     }
 
     fn as_slice(&self) -> &[ClauseId]
@@ -92,6 +99,20 @@ impl Watches {
         let at = row(key);
         grow(self.alloc, &mut self.lists, at)?;
         self.lists[at].push(id)
+    }
+
+    /// Takes out, of the clauses that are filed under a literal, or under none, those of a position.
+    pub(crate) fn remove(&mut self, key: Option<Lit>, at: Pos)
+        ensures kept { (k : Option Literal) (i : ClauseId) → i.pos ≢ at
+            → Contains (filed_under self.old k) i → Contains (filed_under self.new k) i }
+        ensures gone { (i : ClauseId) → Contains (filed_under self.new key) i → i.pos ≢ at }
+        ensures none { (k : Option Literal) (i : ClauseId) → Contains (filed_under self.new k) i
+            → Contains (filed_under self.old k) i }
+    {
+        let row = row(key);
+        if row < self.lists.len() {
+            self.lists[row].remove(at);
+        }
     }
 }
 
