@@ -72,37 +72,37 @@ none_push n = pushed n ∙ ap no_lists (let z : suc n ≡ n + 1 = omega arith in
     pushed (suc m) = ap (λ (r : List (List ℕ)). [] ∷ r) (pushed m)
 
 module _ (count : ℕ) (steps : List Line) (last : List ℕ) (n : ℕ) (lists : List (List ℕ)) (same : length steps ≡ length last) (lt : n < length steps) (d : Line) (f : AreFiled count steps last n lists) where
-  due_next : (part : ℕ) → due part 1 (take (n + 1) steps) (take (n + 1) last) ≡ due part 1 (take n steps) (take n last) ++ one_if (is_added (kind_of (get_or steps n d)) && (get_or last n 0 == part)) (n + 1)
-  due_next part =
+  due_next : (row : ℕ) → due row 1 (take (n + 1) steps) (take (n + 1) last) ≡ due row 1 (take n steps) (take n last) ++ one_if (is_added (kind_of (get_or steps n d)) && (get_or last n 0 == row)) (n + 1)
+  due_next row =
       let short : length (take n steps) ≡ n = length-take-le n steps (omega arith) in
       let short' : length (take n last) ≡ n = length-take-le n last (omega arith) in
-      ap₂ (λ (x : List Line) (y : List ℕ). due part 1 x y) (take_more steps n d lt) (take_more last n 0 (omega arith))
-      ∙ due_push part 1 (take n steps) (take n last) (get_or steps n d) (get_or last n 0) (short ∙ sym short')
-      ∙ ap (λ (q : ℕ). due part 1 (take n steps) (take n last) ++ one_if (is_added (kind_of (get_or steps n d)) && (get_or last n 0 == part)) q) (let z : 1 + length (take n steps) ≡ n + 1 = omega arith in z)
+      ap₂ (λ (x : List Line) (y : List ℕ). due row 1 x y) (take_more steps n d lt) (take_more last n 0 (omega arith))
+      ∙ due_push row 1 (take n steps) (take n last) (get_or steps n d) (get_or last n 0) (short ∙ sym short')
+      ∙ ap (λ (q : ℕ). due row 1 (take n steps) (take n last) ++ one_if (is_added (kind_of (get_or steps n d)) && (get_or last n 0 == row)) q) (let z : 1 + length (take n steps) ≡ n + 1 = omega arith in z)
 
   -- where it can be deleted, it is filed
   pub filed_more : (new : List (List ℕ)) → kind_of (get_or steps n d) ≡ Added → new ≡ filed (get_or last n 0) (n + 1) lists → AreFiled count steps last (n + 1) new
   filed_more new k e = record {
     count_is = ap length e ∙ length_filed (get_or last n 0) (n + 1) lists ∙ f.count_is;
-    each = λ part p.
-        ap (λ (x : List (List ℕ)). get_or x part []) e ∙ filed_at (get_or last n 0) (n + 1) lists part (let z : part < length lists = (let c = f.count_is in omega arith) in z)
-        ∙ ap (λ (x : List ℕ). x ++ one_if (get_or last n 0 == part) (n + 1)) (f.each part p)
-        ∙ sym (due_next part ∙ ap (λ (x : Kind). due part 1 (take n steps) (take n last) ++ one_if (is_added x && (get_or last n 0 == part)) (n + 1)) k);
+    each = λ row p.
+        ap (λ (x : List (List ℕ)). get_or x row []) e ∙ filed_at (get_or last n 0) (n + 1) lists row (let z : row < length lists = (let c = f.count_is in omega arith) in z)
+        ∙ ap (λ (x : List ℕ). x ++ one_if (get_or last n 0 == row) (n + 1)) (f.each row p)
+        ∙ sym (due_next row ∙ ap (λ (x : Kind). due row 1 (take n steps) (take n last) ++ one_if (is_added x && (get_or last n 0 == row)) (n + 1)) k);
   }
 
   -- else it is not
   pub filed_same : is_added (kind_of (get_or steps n d)) ≡ false → AreFiled count steps last (n + 1) lists
   filed_same k = record {
     count_is = f.count_is;
-    each = λ part p.
-        f.each part p
-        ∙ sym (due_next part ∙ ap (λ (b : Bool). due part 1 (take n steps) (take n last) ++ one_if (b && (get_or last n 0 == part)) (n + 1)) k ∙ append-nil (due part 1 (take n steps) (take n last)));
+    each = λ row p.
+        f.each row p
+        ∙ sym (due_next row ∙ ap (λ (b : Bool). due row 1 (take n steps) (take n last) ++ one_if (b && (get_or last n 0 == row)) (n + 1)) k ∙ append-nil (due row 1 (take n steps) (take n last)));
   }
 
 pub all_filed : (count : ℕ) (steps : List Line) (last : List ℕ) (n : ℕ) (lists : List (List ℕ)) → length steps ≡ length last → length steps ≤ n → AreFiled count steps last n lists → AreDue count steps last lists
 all_filed count steps last n lists same le f = record {
   count_is = f.count_is;
-  each = λ part p. f.each part p ∙ ap₂ (λ (x : List Line) (y : List ℕ). due part 1 x y) (take_all n steps le) (take_all n last (omega arith));
+  each = λ row p. f.each row p ∙ ap₂ (λ (x : List Line) (y : List ℕ). due row 1 x y) (take_all n steps le) (take_all n last (omega arith));
 }
 
 -- what is no lemma and no chain

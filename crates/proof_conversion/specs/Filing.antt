@@ -16,4 +16,4 @@ no_lists (suc n) = [] ∷ no_lists n
 -- the list of each number has the places that this part is the last to need
 pub record AreDue (count : ℕ) (steps : List Line) (last : List ℕ) (lists : List (List ℕ)) : Type 0 where
   pub count_is : length lists ≡ count
-  pub each : (part : ℕ) → part < count → get_or lists part [] ≡ due part 1 steps last
+  pub each : (row : ℕ) → row < count → get_or lists row [] ≡ due row 1 steps last

@@ -106,7 +106,7 @@ due part p (l ∷ ls) [] = []
 due part p (l ∷ ls) (k ∷ ks) = (if is_added (kind_of l) && (k == part) then (p ∷ []) else []) ++ due part (suc p) ls ks
 
 abbrev pub due_in : Known → ℕ → List ℕ
-due_in k part = due part 1 k.steps k.last
+due_in k row = due row 1 k.steps k.last
 
 -- one line deletes all of them; none stands there for none
 abbrev pub deletion : List ℕ → List Line
