@@ -5,7 +5,8 @@ usage: run.py [PROGRAM]    (default: the program that `rt run` leaves in crates/
 
 A row is a file NAME.row with the sections `== words`, `== script`, `== answers`, `== status` and, where the proof file
 is fixed to the byte, `== proof`, or `== puts`, how many lines of it put a clause in a diary. The word PROOF stands for a new file, which has the text of `== given` where the row has
-that section, and the word SCRIPT for a file that has the script, which standard input has not then. A section's text ends
+that section, the word SCRIPT for a file that has the script, which standard input has not then, and the word OUT for a file
+that is not there before: it has the text of `== out` afterwards, and without that section it was not made. A section's text ends
 before the next line that begins with `==`; a last line `\\` takes away the line feed before it. Whatever a `solve` wrote
 is replayed by reference.py too, unless the row says `== no replay`.
 """
@@ -30,7 +31,8 @@ def sections(path):
 def faults(program, row, folder):
     proof = folder / "proof"
     named = folder / "named"
-    words = [{"PROOF": str(proof), "SCRIPT": str(named)}.get(w, w) for w in row["words"].split()]
+    out = folder / "out"
+    words = [{"PROOF": str(proof), "SCRIPT": str(named), "OUT": str(out)}.get(w, w) for w in row["words"].split()]
     script = row.get("script", "").encode("latin-1")
     named.write_bytes(script)
     if "given" in row:
@@ -43,6 +45,9 @@ def faults(program, row, folder):
     written = proof.read_bytes().decode("latin-1") if proof.exists() else None
     if "proof" in row and written != row["proof"]:
         yield "proof: %r" % written
+    made = out.read_bytes().decode("latin-1") if out.exists() else None
+    if made != row.get("out"):
+        yield "out: %r" % made
     if "puts" in row and (written or "").count("\n+ ") != int(row["puts"]):
         yield "proof: %r" % written
     if words[:1] == ["solve"] and int(row["status"]) in (0, 1) and "no replay" not in row:

@@ -1,6 +1,6 @@
 -- Words without a fault ask for a command with its files, and the numbers that they give are in range.
 use Rattle.std.proofs.Common.{◌≡◌, Bool, true, false, List, [], ◌∷◌, Option, Some, None, refl, sym, ap, ◌∙◌, subst, inl, inr, ⊎_elim}
-use Rattle.std.specs.Prelude.{codes, ◌⊎◌, ◌||◌, is_some, not, if◌then◌else◌, option_map}
+use Rattle.std.specs.Prelude.{codes, ◌⊎◌, ◌||◌, is_some, not, if◌then◌else◌, option_map, unwrap_or}
 use Rattle.std.specs.Option.{option_map_or}
 use Rattle.clap.specs.Kinds.{check_kinds}
 use Rattle.clap.specs.Walk.{Text, Rule, Row}
@@ -10,10 +10,10 @@ use Rattle.clap.specs.Takes.{is_given}
 use Rattle.clap.specs.Faults.{fault_of, level_fault, check_fault, entered_fault}
 use Rattle.clap.proofs.OnLiterals.{clap_on_literals}
 use Rattle.smt_run.specs.declared.words.Command.{Command}
-use Rattle.smt_run.specs.declared.words.Command.TheVariants.{Solve, Check, Lrat, Cnf}
+use Rattle.smt_run.specs.declared.words.Command.TheVariants.{Solve, Check, Lrat, Cnf, Convert}
 use Rattle.smt_session.specs.declared.settings.Settings.{Settings}
 use Rattle.smt_run.proofs.OneValue.{ArePlain, AreFine, only_one, level_end, fine_after, value_given, number_of_option, no_option}
-use Rattle.smt_run.specs.Words.{proof_argument, script_argument, number_option, app_named, solve_app, program, name_of, settings_in, AreWithin, AsksFor}
+use Rattle.smt_run.specs.Words.{proof_argument, script_argument, out_argument, number_option, app_named, solve_app, convert_app, program, name_of, settings_in, AreWithin, AsksFor}
 
 -- ---- the command line as it is built
 
@@ -22,6 +22,9 @@ first_file = with_index 1 (filled proof_argument)
 
 abbrev second_file : Rule
 second_file = with_index 2 (filled script_argument)
+
+abbrev other_file : Rule
+other_file = with_index 2 (filled out_argument)
 
 abbrev workers_option : Rule
 workers_option = filled (number_option (codes "workers") 1 64)
@@ -34,6 +37,9 @@ budget_option = filled (number_option (codes "budget") 0 1000000000)
 
 abbrev files : List Rule
 files = first_file ∷ second_file ∷ []
+
+abbrev both_files : List Rule
+both_files = first_file ∷ other_file ∷ []
 
 abbrev with_numbers : List Rule
 with_numbers = first_file ∷ second_file ∷ workers_option ∷ cubes_option ∷ budget_option ∷ []
@@ -53,7 +59,10 @@ lrat_leaf = built_leaf (inherited above (app_named (codes "lrat")).top)
 abbrev cnf_leaf : Shape
 cnf_leaf = built_leaf (inherited above (app_named (codes "cnf")).top)
 
-subs_are : (built program).subs ≡ solve_leaf ∷ check_leaf ∷ lrat_leaf ∷ cnf_leaf ∷ []
+abbrev convert_leaf : Shape
+convert_leaf = built_leaf (inherited above convert_app.top)
+
+subs_are : (built program).subs ≡ solve_leaf ∷ check_leaf ∷ lrat_leaf ∷ cnf_leaf ∷ convert_leaf ∷ []
 unfolding clap_on_literals
 subs_are = refl
 
@@ -73,9 +82,20 @@ cnf_rules : cnf_leaf.rules ≡ files
 unfolding clap_on_literals
 cnf_rules = refl
 
+convert_rules : convert_leaf.rules ≡ both_files
+unfolding clap_on_literals
+convert_rules = refl
+
 files_plain : ArePlain files
 unfolding clap_on_literals
 files_plain = record {
+  each = (record { known = refl; action = refl; takes = refl; one = only_one; defaults = refl }, (record { known = refl; action = refl; takes = refl; one = only_one; defaults = refl }, tt));
+  no_short = λ x. refl;
+}
+
+both_plain : ArePlain both_files
+unfolding clap_on_literals
+both_plain = record {
   each = (record { known = refl; action = refl; takes = refl; one = only_one; defaults = refl }, (record { known = refl; action = refl; takes = refl; one = only_one; defaults = refl }, tt));
   no_short = λ x. refl;
 }
@@ -103,6 +123,14 @@ numbers_of_files rows h = record {
   budget = no_option files (codes "budget") 0 1000000000 refl rows h;
 }
 
+numbers_of_both : (rows : List Row) → AreFine both_files rows → AreWithin rows
+unfolding clap_on_literals
+numbers_of_both rows h = record {
+  workers = no_option both_files (codes "workers") 1 64 refl rows h;
+  cubes = no_option both_files (codes "cubes") 0 10 refl rows h;
+  budget = no_option both_files (codes "budget") 0 1000000000 refl rows h;
+}
+
 -- ---- the program
 
 pub record IsFound (found : Option (Text × List Row)) (name : Text) : Type 0 where
@@ -113,11 +141,15 @@ pub record IsFound (found : Option (Text × List Row)) (name : Text) : Type 0 wh
   pub numbers : AreWithin rows
 
 abbrev pub Found : Option (Text × List Row) → Type 0
-Found found = IsFound found (codes "solve") ⊎ (IsFound found (codes "check") ⊎ (IsFound found (codes "lrat") ⊎ IsFound found (codes "cnf")))
+Found found = IsFound found (codes "solve") ⊎ (IsFound found (codes "check") ⊎ (IsFound found (codes "lrat") ⊎ (IsFound found (codes "cnf") ⊎ IsFound found (codes "convert"))))
 
 given_of : (b : Bool) → check_kinds false false (not b || false) ≡ [] → b ≡ true
 given_of true e = refl
 given_of false e = let q : ⊥ = cc in absurd q
+
+first_given : (b c : Bool) → check_kinds false false (not b || (not c || false)) ≡ [] → b ≡ true
+first_given true c e = refl
+first_given false c e = let q : ⊥ = cc in absurd q
 
 solve_found : (words : List Text) → level_fault solve_leaf [] nothing_held words false [] ≡ [] → IsFound (Some (rows_at solve_leaf words)) (codes "solve")
 solve_found words e =
@@ -151,19 +183,28 @@ cnf_found words e =
     let v = value_given files (codes "PROOF") rows fine (given_of (is_given (codes "PROOF") rows) ends.check) in
     record { rows = rows; command = refl; proof = v.0; proof_is = v.1; numbers = numbers_of_files rows fine }
 
-abbrev either : Bool → Bool → Bool → Bool → Option Shape
-either b c d e = if b then Some solve_leaf else (if c then Some check_leaf else (if d then Some lrat_leaf else (if e then Some cnf_leaf else None)))
+convert_found : (words : List Text) → level_fault convert_leaf [] nothing_held words false [] ≡ [] → IsFound (Some (rows_at convert_leaf words)) (codes "convert")
+convert_found words e =
+    let ends = level_end convert_leaf [] words false [] e in
+    let rows = rows_after both_files [] words in
+    let fine : AreFine both_files rows = fine_after convert_leaf refl both_plain words ends in
+    let v = value_given both_files (codes "PROOF") rows fine (first_given (is_given (codes "PROOF") rows) (is_given (codes "OUT") rows) ends.check) in
+    record { rows = rows; command = refl; proof = v.0; proof_is = v.1; numbers = numbers_of_both rows fine }
 
-one_found : (b c d e : Bool) (words : List Text) → is_some (option_map (λ s. rows_at s words) (either b c d e)) ≡ true → option_map_or (λ s. level_fault s [] nothing_held words false []) (either b c d e) [] ≡ [] → Found (option_map (λ s. rows_at s words) (either b c d e))
-one_found true c d e words h k = inl (solve_found words k)
-one_found false true d e words h k = inr (inl (check_found words k))
-one_found false false true e words h k = inr (inr (inl (lrat_found words k)))
-one_found false false false true words h k = inr (inr (inr (cnf_found words k)))
-one_found false false false false words h k = let q : ⊥ = cc in absurd q
+abbrev either : Bool → Bool → Bool → Bool → Bool → Option Shape
+either b c d e f = if b then Some solve_leaf else (if c then Some check_leaf else (if d then Some lrat_leaf else (if e then Some cnf_leaf else (if f then Some convert_leaf else None))))
+
+one_found : (b c d e f : Bool) (words : List Text) → is_some (option_map (λ s. rows_at s words) (either b c d e f)) ≡ true → option_map_or (λ s. level_fault s [] nothing_held words false []) (either b c d e f) [] ≡ [] → Found (option_map (λ s. rows_at s words) (either b c d e f))
+one_found true c d e f words h k = inl (solve_found words k)
+one_found false true d e f words h k = inr (inl (check_found words k))
+one_found false false true e f words h k = inr (inr (inl (lrat_found words k)))
+one_found false false false true f words h k = inr (inr (inr (inl (cnf_found words k))))
+one_found false false false false true words h k = inr (inr (inr (inr (convert_found words k))))
+one_found false false false false false words h k = let q : ⊥ = cc in absurd q
 
 stop_found : (o : Option (Text × List Text)) → is_some (entered (built program) o) ≡ true → entered_fault (built program) o ≡ [] → Found (entered (built program) o)
 stop_found None h e = let q : ⊥ = cc in absurd q
-stop_found (Some p) h e = one_found (answers_to p.0 (label_of solve_leaf)) (answers_to p.0 (label_of check_leaf)) (answers_to p.0 (label_of lrat_leaf)) (answers_to p.0 (label_of cnf_leaf)) p.1 h e
+stop_found (Some p) h e = one_found (answers_to p.0 (label_of solve_leaf)) (answers_to p.0 (label_of check_leaf)) (answers_to p.0 (label_of lrat_leaf)) (answers_to p.0 (label_of cnf_leaf)) (answers_to p.0 (label_of convert_leaf)) p.1 h e
 
 wanted : (b : Bool) (rows : List Row) → check_fault above rows b ≡ [] → b ≡ true
 wanted true rows e = refl
@@ -181,7 +222,7 @@ rows_in (Some p) = p.1
 
 -- the words of a command that is found give numbers in range
 pub numbers_found : (words : List Text) (name : Text) (rows : List Row) → fault_of program words ≡ [] → subcommand_of program words ≡ Some (name, rows) → AreWithin rows
-numbers_found words name rows e found = ⊎_elim (λ f. from _ f) (λ k. ⊎_elim (λ f. from _ f) (λ m. ⊎_elim (λ f. from _ f) (λ f. from _ f) m) k) (faultless_found words e)
+numbers_found words name rows e found = ⊎_elim (λ f. from _ f) (λ k. ⊎_elim (λ f. from _ f) (λ m. ⊎_elim (λ f. from _ f) (λ n. ⊎_elim (λ f. from _ f) (λ f. from _ f) n) m) k) (faultless_found words e)
   where
     from : (n : Text) → IsFound (subcommand_of program words) n → AreWithin rows
     from n f =
@@ -190,12 +231,12 @@ numbers_found words name rows e found = ⊎_elim (λ f. from _ f) (λ k. ⊎_eli
 
 -- what is found asks for a command
 asked : (command : Command) (words : List Text) → fault_of program words ≡ [] → IsFound (subcommand_of program words) (name_of command) → (s : Settings) × AsksFor command s words
-asked command words e f = (settings_in f.rows, (f.proof, first_of (codes "SCRIPT") f.rows, record { taken = e; names = record { rows = f.rows; command = f.command; proof_is = f.proof_is; script_is = refl; settings_are = refl } }))
+asked command words e f = (settings_in f.rows, (f.proof, unwrap_or (first_of (codes "OUT") f.rows) f.proof, first_of (codes "SCRIPT") f.rows, record { taken = e; names = record { rows = f.rows; command = f.command; proof_is = f.proof_is; out_is = refl; script_is = refl; settings_are = refl } }))
 
--- words without a fault ask for one of the four
-pub faultless_asks : (words : List Text) → fault_of program words ≡ [] → ((s : Settings) × AsksFor Solve s words) ⊎ (((s : Settings) × AsksFor Check s words) ⊎ (((s : Settings) × AsksFor Lrat s words) ⊎ ((s : Settings) × AsksFor Cnf s words)))
+-- words without a fault ask for one of the five
+pub faultless_asks : (words : List Text) → fault_of program words ≡ [] → ((s : Settings) × AsksFor Solve s words) ⊎ (((s : Settings) × AsksFor Check s words) ⊎ (((s : Settings) × AsksFor Lrat s words) ⊎ (((s : Settings) × AsksFor Cnf s words) ⊎ ((s : Settings) × AsksFor Convert s words))))
 faultless_asks words e =
     ⊎_elim
     (λ f. inl (asked Solve words e f))
-    (λ k. inr (⊎_elim (λ f. inl (asked Check words e f)) (λ m. inr (⊎_elim (λ f. inl (asked Lrat words e f)) (λ f. inr (asked Cnf words e f)) m)) k))
+    (λ k. inr (⊎_elim (λ f. inl (asked Check words e f)) (λ m. inr (⊎_elim (λ f. inl (asked Lrat words e f)) (λ n. inr (⊎_elim (λ f. inl (asked Cnf words e f)) (λ f. inr (asked Convert words e f)) n)) m)) k))
     (faultless_found words e)

@@ -9,3 +9,4 @@ pub mod WordsTaken
 pub mod Cutting
 pub mod Refuted
 pub mod Searched
+pub mod Converted

@@ -12,12 +12,12 @@ use Rattle.clap.proofs.WalkLemmas.{first_value-rows}
 use Rattle.clap.specs.declared.parser.matches.ArgMatches.{ArgMatches}
 use Rattle.clap.specs.declared.parser.matches.ArgMatches.TheViews.{out-ArgMatches}
 use Rattle.smt_run.specs.declared.words.Command.{Command}
-use Rattle.smt_run.specs.declared.words.Command.TheVariants.{Solve, Check, Lrat, Cnf}
+use Rattle.smt_run.specs.declared.words.Command.TheVariants.{Solve, Check, Lrat, Cnf, Convert}
 use Rattle.smt_run.proofs.Faultless.{faultless_asks, numbers_found}
 use Rattle.accepted_proof.specs.Searching.{Limits}
 use Rattle.smt_session.specs.declared.settings.Settings.{Settings}
 use Rattle.smt_session.specs.Sessions.{AreSettings, limits_of}
-use Rattle.smt_run.specs.Words.{program, Names, name_of, Asks, AsksFor, IsToSolve, IsToSolveWithin, IsToCheck, IsToRefute, IsToSearch, AreTaken, settings_in, number_or, IsWithin, AreWithin}
+use Rattle.smt_run.specs.Words.{program, Names, name_of, Asks, AsksFor, IsToSolve, IsToSolveWithin, IsToCheck, IsToRefute, IsToSearch, IsToConvert, AreTaken, settings_in, number_or, IsWithin, AreWithin}
 
 -- a name and rows
 abbrev Entry : Type 0
@@ -47,19 +47,25 @@ rows_same o name t rows others e h = sym (ap rows_of_entry e) ∙ ap rows_of_ent
 pub found_rows : (m files : ArgMatches) (name : Text) → Some name ≡ subcommand_name_of m → Some (rows_of (found_of files)) ≡ option_map (λ (p : Text × List Row). p.1) (subcommand_rows_of m) → subcommand_rows_of m ≡ Some (name, rows_of (found_of files))
 found_rows m files name e h = both _ _ (out-ArgMatches m).subcommand name (rows_of (found_of files)) e h
 
-pub names_in : (m files : ArgMatches) (name proof : Text) (command : Command) (s : Option (Bor Text)) (settings : Settings) → subcommand_rows_of m ≡ Some (name, rows_of (found_of files)) → name ≡ name_of command → Some proof ≡ first_value (found_of files) (codes "PROOF") → option_map (λ x. x.now) s ≡ first_value (found_of files) (codes "SCRIPT") → settings ≡ settings_in (rows_of (found_of files))
-    → Names (subcommand_rows_of m) (name_of command) proof (option_map (λ x. x.now) s) settings
-names_in m files name proof command s settings e n p q l = record {
+-- the text of what is borrowed where there is one, and else of another
+or_else : (o : Option (Bor Text)) (b : Bor Text) (found : Option Text) → option_map (λ x. x.now) o ≡ found → unwrap_or found b.now ≡ (unwrap_or o b).now
+or_else None b found e = ap (λ (x : Option Text). unwrap_or x b.now) (sym e)
+or_else (Some a) b found e = ap (λ (x : Option Text). unwrap_or x b.now) (sym e)
+
+pub names_in : (m files : ArgMatches) (name : Text) (proof out : Bor Text) (command : Command) (o s : Option (Bor Text)) (settings : Settings) → subcommand_rows_of m ≡ Some (name, rows_of (found_of files)) → name ≡ name_of command → Some proof.now ≡ first_value (found_of files) (codes "PROOF") → option_map (λ x. x.now) o ≡ first_value (found_of files) (codes "OUT") → out ≡ unwrap_or o proof → option_map (λ x. x.now) s ≡ first_value (found_of files) (codes "SCRIPT") → settings ≡ settings_in (rows_of (found_of files))
+    → Names (subcommand_rows_of m) (name_of command) proof.now out.now (option_map (λ x. x.now) s) settings
+names_in m files name proof out command o s settings e n p r u q l = record {
   rows = rows_of (found_of files);
   command = e ∙ ap (λ t. Some (t, rows_of (found_of files))) n;
   proof_is = sym (first_value-rows (found_of files) (codes "PROOF")) ∙ sym p;
+  out_is = or_else o proof (first_of (codes "OUT") (rows_of (found_of files))) (r ∙ first_value-rows (found_of files) (codes "OUT")) ∙ ap (λ (x : Bor Text). x.now) (sym u);
   script_is = sym (first_value-rows (found_of files) (codes "SCRIPT")) ∙ sym q;
   settings_are = sym l;
 }
 
 -- where there is no proof file
-pub no_names : (m files : ArgMatches) (name t proof : Text) (script : Option Text) (settings : Settings) → subcommand_rows_of m ≡ Some (name, rows_of (found_of files)) → None ≡ first_value (found_of files) (codes "PROOF") → Names (subcommand_rows_of m) t proof script settings → ⊥
-no_names m files name t proof script settings e p k =
+pub no_names : (m files : ArgMatches) (name t proof out : Text) (script : Option Text) (settings : Settings) → subcommand_rows_of m ≡ Some (name, rows_of (found_of files)) → None ≡ first_value (found_of files) (codes "PROOF") → Names (subcommand_rows_of m) t proof out script settings → ⊥
+no_names m files name t proof out script settings e p k =
     let same : rows_of (found_of files) ≡ k.rows = rows_same (subcommand_rows_of m) name t (rows_of (found_of files)) k.rows e k.command in
     let q : None ≡ Some proof = p ∙ first_value-rows (found_of files) (codes "PROOF") ∙ ap (first_of (codes "PROOF")) same ∙ k.proof_is in
     let z : ⊥ = cc in z
@@ -87,11 +93,11 @@ found_same : (app : App) (m : ArgMatches) (words : List Text) → app ≡ progra
 found_same app m words e h = (h (ap is_simple e ∙ simple)).1 ∙ ap (λ a. subcommand_of a words) e
 
 -- a parse of the program's command line finds what is asked for by words that are taken
-pub nothing_asked : (app : App) (m : ArgMatches) (words : List Text) → app ≡ program → HasMatchesOf app words m → ((command : Command) (proof : Text) (script : Option Text) (settings : Settings) → Names (subcommand_rows_of m) (name_of command) proof script settings → ⊥) → AreTaken words → ⊥
+pub nothing_asked : (app : App) (m : ArgMatches) (words : List Text) → app ≡ program → HasMatchesOf app words m → ((command : Command) (proof out : Text) (script : Option Text) (settings : Settings) → Names (subcommand_rows_of m) (name_of command) proof out script settings → ⊥) → AreTaken words → ⊥
 nothing_asked app m words e h none k =
     let found : subcommand_rows_of m ≡ subcommand_of program words = found_same app m words e h in
-    let no_one : (command : Command) → ((s : Settings) × AsksFor command s words) → ⊥ = λ command s. none command s.1.0 s.1.1 s.0 (subst (λ o. Names o (name_of command) s.1.0 s.1.1 s.0) (sym found) s.1.2.names) in
-    ⊎_elim (no_one Solve) (⊎_elim (no_one Check) (⊎_elim (no_one Lrat) (no_one Cnf))) (faultless_asks words k)
+    let no_one : (command : Command) → ((s : Settings) × AsksFor command s words) → ⊥ = λ command s. none command s.1.0 s.1.1 s.1.2 s.0 (subst (λ o. Names o (name_of command) s.1.0 s.1.1 s.1.2 s.0) (sym found) s.1.3.names) in
+    ⊎_elim (no_one Solve) (⊎_elim (no_one Check) (⊎_elim (no_one Lrat) (⊎_elim (no_one Cnf) (no_one Convert)))) (faultless_asks words k)
 
 free : is_simple_and_free program ≡ true
 unfolding clap_on_literals
@@ -114,8 +120,8 @@ settings_in_range rows h = record {
     within least most usual low high None h = (low, high)
     within least most usual low high (Some t) h = (h.2, h.3)
 
-pub names_settings : (found : Option (Text × List Row)) (name proof : Text) (script : Option Text) (settings : Settings) → Names found name proof script settings → ((n : Text) (rows : List Row) → found ≡ Some (n, rows) → AreWithin rows) → AreSettings settings
-names_settings found name proof script settings k h = subst AreSettings k.settings_are (settings_in_range k.rows (h name k.rows k.command))
+pub names_settings : (found : Option (Text × List Row)) (name proof out : Text) (script : Option Text) (settings : Settings) → Names found name proof out script settings → ((n : Text) (rows : List Row) → found ≡ Some (n, rows) → AreWithin rows) → AreSettings settings
+names_settings found name proof out script settings k h = subst AreSettings k.settings_are (settings_in_range k.rows (h name k.rows k.command))
 
 -- ---- one command
 
@@ -126,7 +132,7 @@ name_in (Some p) = p.0
 -- the words ask for one command
 same_name : (a b : Command) (i : ℕ) (words : List Text) → ((s : Settings) × AsksFor a s words) → ((s : Settings) × AsksFor b s words) → get_or (name_of a) i 0 ≡ get_or (name_of b) i 0
 same_name a b i words s k =
-    let e : name_of a ≡ name_of b = sym (ap name_in s.1.2.names.command) ∙ ap name_in k.1.2.names.command in
+    let e : name_of a ≡ name_of b = sym (ap name_in s.1.3.names.command) ∙ ap name_in k.1.3.names.command in
     ap (λ (t : Text). get_or t i 0) e
 
 pub one_command : (words : List Text) → IsToSolve words → IsToCheck words → ⊥
@@ -147,33 +153,56 @@ check_or_search words s k = let f : 104 ≡ 110 = same_name Check Cnf 1 words s 
 pub refute_or_search : (words : List Text) → IsToRefute words → IsToSearch words → ⊥
 refute_or_search words s k = let f : 108 ≡ 99 = same_name Lrat Cnf 0 words s k in omega (arith, f)
 
-pub asks_solve : (k : Command) (words : List Text) (proof : Text) (script : Option Text) (l : Settings) → k ≡ Solve → Asks k words proof script l → IsToSolve words
-asks_solve Solve words proof script l e h = (l, (proof, script, h))
-asks_solve Check words proof script l e h = let z : ⊥ = cc in absurd z
-asks_solve Lrat words proof script l e h = let z : ⊥ = cc in absurd z
-asks_solve Cnf words proof script l e h = let z : ⊥ = cc in absurd z
+pub solve_or_convert : (words : List Text) → IsToSolve words → IsToConvert words → ⊥
+solve_or_convert words s k = let f : 115 ≡ 99 = same_name Solve Convert 0 words s k in omega (arith, f)
+
+pub check_or_convert : (words : List Text) → IsToCheck words → IsToConvert words → ⊥
+check_or_convert words s k = let f : 104 ≡ 111 = same_name Check Convert 1 words s k in omega (arith, f)
+
+pub refute_or_convert : (words : List Text) → IsToRefute words → IsToConvert words → ⊥
+refute_or_convert words s k = let f : 108 ≡ 99 = same_name Lrat Convert 0 words s k in omega (arith, f)
+
+pub search_or_convert : (words : List Text) → IsToSearch words → IsToConvert words → ⊥
+search_or_convert words s k = let f : 110 ≡ 111 = same_name Cnf Convert 1 words s k in omega (arith, f)
+
+pub asks_solve : (k : Command) (words : List Text) (proof out : Text) (script : Option Text) (l : Settings) → k ≡ Solve → Asks k words proof out script l → IsToSolve words
+asks_solve Solve words proof out script l e h = (l, (proof, out, script, h))
+asks_solve Check words proof out script l e h = let z : ⊥ = cc in absurd z
+asks_solve Lrat words proof out script l e h = let z : ⊥ = cc in absurd z
+asks_solve Cnf words proof out script l e h = let z : ⊥ = cc in absurd z
+asks_solve Convert words proof out script l e h = let z : ⊥ = cc in absurd z
 
 -- the words give one pair of limits
-pub same_limits : (k : Command) (words : List Text) (proof : Text) (script : Option Text) (s : Settings) (m : Limits) → k ≡ Solve → Asks k words proof script s → IsToSolveWithin m words → limits_of s ≡ m
-same_limits k words proof script s m e h w =
-    let names = w.asks.2.names in
+pub same_limits : (k : Command) (words : List Text) (proof out : Text) (script : Option Text) (s : Settings) (m : Limits) → k ≡ Solve → Asks k words proof out script s → IsToSolveWithin m words → limits_of s ≡ m
+same_limits k words proof out script s m e h w =
+    let names = w.asks.3.names in
     let same : h.names.rows ≡ names.rows = ap rows_of_entry (sym h.names.command ∙ names.command) in
     ap limits_of (sym h.names.settings_are ∙ ap settings_in same ∙ names.settings_are) ∙ w.within
 
-pub asks_check : (k : Command) (words : List Text) (proof : Text) (script : Option Text) (l : Settings) → k ≡ Check → Asks k words proof script l → IsToCheck words
-asks_check Solve words proof script l e h = let z : ⊥ = cc in absurd z
-asks_check Check words proof script l e h = (l, (proof, script, h))
-asks_check Lrat words proof script l e h = let z : ⊥ = cc in absurd z
-asks_check Cnf words proof script l e h = let z : ⊥ = cc in absurd z
+pub asks_check : (k : Command) (words : List Text) (proof out : Text) (script : Option Text) (l : Settings) → k ≡ Check → Asks k words proof out script l → IsToCheck words
+asks_check Solve words proof out script l e h = let z : ⊥ = cc in absurd z
+asks_check Check words proof out script l e h = (l, (proof, out, script, h))
+asks_check Lrat words proof out script l e h = let z : ⊥ = cc in absurd z
+asks_check Cnf words proof out script l e h = let z : ⊥ = cc in absurd z
+asks_check Convert words proof out script l e h = let z : ⊥ = cc in absurd z
 
-pub asks_refute : (k : Command) (words : List Text) (proof : Text) (script : Option Text) (l : Settings) → k ≡ Lrat → Asks k words proof script l → IsToRefute words
-asks_refute Solve words proof script l e h = let z : ⊥ = cc in absurd z
-asks_refute Check words proof script l e h = let z : ⊥ = cc in absurd z
-asks_refute Lrat words proof script l e h = (l, (proof, script, h))
-asks_refute Cnf words proof script l e h = let z : ⊥ = cc in absurd z
+pub asks_refute : (k : Command) (words : List Text) (proof out : Text) (script : Option Text) (l : Settings) → k ≡ Lrat → Asks k words proof out script l → IsToRefute words
+asks_refute Solve words proof out script l e h = let z : ⊥ = cc in absurd z
+asks_refute Check words proof out script l e h = let z : ⊥ = cc in absurd z
+asks_refute Lrat words proof out script l e h = (l, (proof, out, script, h))
+asks_refute Cnf words proof out script l e h = let z : ⊥ = cc in absurd z
+asks_refute Convert words proof out script l e h = let z : ⊥ = cc in absurd z
 
-pub asks_search : (k : Command) (words : List Text) (proof : Text) (script : Option Text) (l : Settings) → k ≡ Cnf → Asks k words proof script l → IsToSearch words
-asks_search Solve words proof script l e h = let z : ⊥ = cc in absurd z
-asks_search Check words proof script l e h = let z : ⊥ = cc in absurd z
-asks_search Lrat words proof script l e h = let z : ⊥ = cc in absurd z
-asks_search Cnf words proof script l e h = (l, (proof, script, h))
+pub asks_search : (k : Command) (words : List Text) (proof out : Text) (script : Option Text) (l : Settings) → k ≡ Cnf → Asks k words proof out script l → IsToSearch words
+asks_search Solve words proof out script l e h = let z : ⊥ = cc in absurd z
+asks_search Check words proof out script l e h = let z : ⊥ = cc in absurd z
+asks_search Lrat words proof out script l e h = let z : ⊥ = cc in absurd z
+asks_search Cnf words proof out script l e h = (l, (proof, out, script, h))
+asks_search Convert words proof out script l e h = let z : ⊥ = cc in absurd z
+
+pub asks_convert : (k : Command) (words : List Text) (proof out : Text) (script : Option Text) (l : Settings) → k ≡ Convert → Asks k words proof out script l → IsToConvert words
+asks_convert Solve words proof out script l e h = let z : ⊥ = cc in absurd z
+asks_convert Check words proof out script l e h = let z : ⊥ = cc in absurd z
+asks_convert Lrat words proof out script l e h = let z : ⊥ = cc in absurd z
+asks_convert Cnf words proof out script l e h = let z : ⊥ = cc in absurd z
+asks_convert Convert words proof out script l e h = (l, (proof, out, script, h))

@@ -5,3 +5,4 @@ pub mod Beside
 pub mod Commands
 pub mod Refuting
 pub mod Searching
+pub mod Converting

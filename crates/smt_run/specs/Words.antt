@@ -1,7 +1,7 @@
--- The words that the program takes, those after its own name: as `clap` takes them for a program of four commands, each with
--- the name of a proof file and perhaps that of a script, or of clauses. The first has three options too: how many workers search, and the
--- limits of their search.
-use Rattle.std.specs.Prelude.{◌≡◌, ℕ, true, List, [], codes, Option, Some, None}
+-- The words that the program takes, those after its own name: as `clap` takes them for a program of five commands, each with
+-- the name of a proof file. Behind it the last has that of the file that a proof is written into, and each other perhaps that of a
+-- script, or of clauses. The first has three options too: how many workers search, and the limits of their search.
+use Rattle.std.specs.Prelude.{◌≡◌, ℕ, true, List, [], codes, Option, Some, None, unwrap_or}
 use Rattle.std.specs.Str.Parse.{without_leading_plus, digits_value}
 use Rattle.clap.specs.Walk.{Text, Rule, Row, first_of, one_of}
 use Rattle.clap.specs.Simple.{App, on_top, new_rule, new_app, with_rule, with_subcommand, subcommand_of}
@@ -12,7 +12,7 @@ use Rattle.accepted_proof.specs.Searching.{Limits}
 use Rattle.smt_session.specs.declared.settings.Settings.{Settings}
 use Rattle.smt_session.specs.Sessions.{limits_of}
 use Rattle.smt_run.specs.declared.words.Command.{Command}
-use Rattle.smt_run.specs.declared.words.Command.TheVariants.{Solve, Check, Lrat, Cnf}
+use Rattle.smt_run.specs.declared.words.Command.TheVariants.{Solve, Check, Lrat, Cnf, Convert}
 
 -- ---- the program's command line
 
@@ -22,6 +22,10 @@ proof_argument = record (new_rule (codes "PROOF")) { required = true }
 
 abbrev pub script_argument : Rule
 script_argument = new_rule (codes "SCRIPT")
+
+-- the name of the file that a proof is written into, which has to be there too
+abbrev pub out_argument : Rule
+out_argument = record (new_rule (codes "OUT")) { required = true }
 
 -- `--NAME N`, where N is at least and at most so many
 abbrev pub number_option : Text → ℕ → ℕ → Rule
@@ -34,6 +38,10 @@ app_named name = with_rule (with_rule (new_app name) proof_argument) script_argu
 -- a command with both files, the number of workers and the limits of their search
 abbrev pub solve_app : App
 solve_app = with_rule (with_rule (with_rule (app_named (codes "solve")) (number_option (codes "workers") 1 64)) (number_option (codes "cubes") 0 10)) (number_option (codes "budget") 0 1000000000)
+
+-- the command that converts a proof
+abbrev pub convert_app : App
+convert_app = with_rule (with_rule (new_app (codes "convert")) proof_argument) out_argument
 
 -- a command is wanted, and none of them is help or a version
 abbrev pub bare_program : App
@@ -49,7 +57,7 @@ bare_program =
     (new_app (codes "smt_tool"))
 
 abbrev pub program : App
-program = with_subcommand (with_subcommand (with_subcommand (with_subcommand bare_program solve_app.top) (app_named (codes "check")).top) (app_named (codes "lrat")).top) (app_named (codes "cnf")).top
+program = with_subcommand (with_subcommand (with_subcommand (with_subcommand (with_subcommand bare_program solve_app.top) (app_named (codes "check")).top) (app_named (codes "lrat")).top) (app_named (codes "cnf")).top) convert_app.top
 
 -- ---- numbers
 
@@ -78,11 +86,13 @@ pub record AreWithin (rows : List Row) : Type 0 where
 
 -- ---- words
 
--- what was found of a command: its name, the name of a proof file, that of a script, if there is one, and its numbers
-pub record Names (found : Option (Text × List Row)) (name proof : Text) (script : Option Text) (settings : Settings) : Type 0 where
+-- What was found of a command: its name, the name of a proof file, that of the file that a proof is written into, which is the same
+-- where no other is named, that of a script, if there is one, and its numbers.
+pub record Names (found : Option (Text × List Row)) (name proof out : Text) (script : Option Text) (settings : Settings) : Type 0 where
   pub rows : List Row
   pub command : found ≡ Some (name, rows)
   pub proof_is : first_of (codes "PROOF") rows ≡ Some proof
+  pub out_is : unwrap_or (first_of (codes "OUT") rows) proof ≡ out
   pub script_is : first_of (codes "SCRIPT") rows ≡ script
   pub settings_are : settings_in rows ≡ settings
 
@@ -91,18 +101,19 @@ name_of Solve = codes "solve"
 name_of Check = codes "check"
 name_of Lrat = codes "lrat"
 name_of Cnf = codes "cnf"
+name_of Convert = codes "convert"
 
 -- the words are taken: there is no fault in them
 abbrev pub AreTaken : List (List ℕ) → Type 0
 AreTaken words = fault_of program words ≡ []
 
 -- they are taken, and ask for this command with these files and numbers
-pub record Asks (command : Command) (words : List (List ℕ)) (proof : Text) (script : Option Text) (settings : Settings) : Type 0 where
+pub record Asks (command : Command) (words : List (List ℕ)) (proof out : Text) (script : Option Text) (settings : Settings) : Type 0 where
   pub taken : AreTaken words
-  pub names : Names (subcommand_of program words) (name_of command) proof script settings
+  pub names : Names (subcommand_of program words) (name_of command) proof out script settings
 
 abbrev pub AsksFor : Command → Settings → List (List ℕ) → Type 0
-AsksFor command settings words = (proof : Text) × (script : Option Text) × Asks command words proof script settings
+AsksFor command settings words = (proof : Text) × (out : Text) × (script : Option Text) × Asks command words proof out script settings
 
 -- to answer a script within these limits, by any number of workers
 pub record IsToSolveWithin (limits : Limits) (words : List (List ℕ)) : Type 0 where
@@ -121,3 +132,6 @@ IsToRefute words = (settings : Settings) × AsksFor Lrat settings words
 
 abbrev pub IsToSearch : List (List ℕ) → Type 0
 IsToSearch words = (settings : Settings) × AsksFor Cnf settings words
+
+abbrev pub IsToConvert : List (List ℕ) → Type 0
+IsToConvert words = (settings : Settings) × AsksFor Convert settings words

@@ -9,7 +9,7 @@ ghost use Rattle.clap.specs.declared.builder.command.Command.TheViews.{out-Comma
 ghost use Rattle.smt_session.specs.declared.settings.Settings.{Settings as Numbers};
 ghost use Rattle.smt_session.specs.Sessions.{AreSettings};
 ghost use Rattle.smt_run.specs.declared.words.Command.{Command as Kind};
-ghost use Rattle.smt_run.specs.Words.{app_named, solve_app, bare_program, program, number_option, number_or, settings_in, IsWithin, AreWithin, Names, name_of, Asks, AreTaken};
+ghost use Rattle.smt_run.specs.Words.{app_named, solve_app, convert_app, bare_program, program, number_option, number_or, settings_in, IsWithin, AreWithin, Names, name_of, Asks, AreTaken};
 
 use crate::words::{Command, Plan, Unplanned};
 use clap::builder::ValueParser;
@@ -61,6 +61,16 @@ fn solve_command<'a>(alloc: Global) -> Result<CommandLine<'a>, AllocError>
         .arg(budget)
 }
 
+/// The command that converts a proof, with the names of both files.
+fn convert_command<'a>(alloc: Global) -> Result<CommandLine<'a>, AllocError>
+    ensures app { IfOk result (λ c. app_of c ≡ convert_app) }
+    ensures local { IfOk result (λ c. (fields_of c).has_globals ≡ false) }
+{
+    let proof = Arg::new(alloc, "PROOF").required(true);
+    let out = Arg::new(alloc, "OUT").required(true);
+    CommandLine::new(alloc, "convert").arg(proof)?.arg(out)
+}
+
 /// The program without its commands.
 fn bare<'a>(alloc: Global) -> CommandLine<'a>
     ensures { app_of result ≡ bare_program }
@@ -89,7 +99,11 @@ fn command_line<'a>(alloc: Global) -> Result<CommandLine<'a>, AllocError>
 {
     let lrat = command_of(alloc, "lrat")?;
     let cnf = command_of(alloc, "cnf")?;
-    with_scripts(alloc)?.subcommand(lrat)?.subcommand(cnf)
+    let convert = convert_command(alloc)?;
+    with_scripts(alloc)?
+        .subcommand(lrat)?
+        .subcommand(cnf)?
+        .subcommand(convert)
 }
 
 /// The command of this name.
@@ -101,6 +115,7 @@ fn command_named(name: &str) -> Option<Command>
         "check" => Some(Command::Check),
         "lrat" => Some(Command::Lrat),
         "cnf" => Some(Command::Cnf),
+        "convert" => Some(Command::Convert),
         _ => None,
     }
 }
@@ -131,16 +146,19 @@ fn plan_of<'a>(found: &ArgMatches<'a>) -> Option<Plan<'a>>
         → AreWithin rows }
     ensures some { IfSome result
         (λ plan. Names (subcommand_rows_of found.now) (name_of plan.command) plan.proof.now
-        (option_map (λ s. s.now) plan.script) plan.settings) }
+        plan.out.now (option_map (λ s. s.now) plan.script) plan.settings) }
     ensures none { result ≡ None
-        → (command : Kind) (proof : List ℕ) (script : Option (List ℕ))
+        → (command : Kind) (proof out : List ℕ) (script : Option (List ℕ))
         (settings : Numbers)
-        → ¬ (Names (subcommand_rows_of found.now) (name_of command) proof script settings) }
+        → ¬ (Names (subcommand_rows_of found.now) (name_of command) proof out script settings) }
 {
     let (name, inner) = found.subcommand()?;
+    let command = command_named(name)?;
+    let proof = inner.get_str("PROOF")?;
     Some(Plan {
-        command: command_named(name)?,
-        proof: inner.get_str("PROOF")?,
+        command,
+        proof,
+        out: inner.get_str("OUT").unwrap_or(proof),
         script: inner.get_str("SCRIPT"),
         settings: settings_of(inner),
     })
@@ -158,10 +176,10 @@ fn refusal(error: &Error) -> Unplanned
 
 /// The plan of the words after the program's name: `solve` with the name of a proof file, perhaps that of a script, and
 /// perhaps how many workers search and within which limits; `check` with both files; `lrat` or `cnf` with the name of a refutation and perhaps that of
-/// the clauses. `clap` reads them.
+/// the clauses; `convert` with the names of a proof file and of the file that it is written into. `clap` reads them.
 pub fn plan<'a>(alloc: Global, words: &'a [&'a str]) -> Result<Plan<'a>, Unplanned>
     ensures asked { MatchResult result
-        (λ plan. Asks plan.command (map (λ w. w.now) words.now) plan.proof.now
+        (λ plan. Asks plan.command (map (λ w. w.now) words.now) plan.proof.now plan.out.now
         (option_map (λ s. s.now) plan.script) plan.settings)
         (λ e. e ≡ Unplanned.Usage → ¬ (AreTaken (map (λ w. w.now) words.now))) }
     ensures settings { IfOk result (λ plan. AreSettings plan.settings) }

@@ -5,17 +5,19 @@ ghost use Rattle.std.specs.Io.KnownBytes.{Appends};
 ghost use Rattle.accepted_proof.specs.Searching.{Limits};
 ghost use Rattle.accepted_proof.specs.Answers.{header_text};
 ghost use Rattle.smt_session.specs.Sessions.{AreSettings, limits_of};
-ghost use Rattle.smt_run.specs.Words.{IsToSolve, IsToSolveWithin, IsToCheck, IsToRefute, IsToSearch, AreTaken};
+ghost use Rattle.smt_run.specs.Words.{IsToSolve, IsToSolveWithin, IsToCheck, IsToRefute, IsToSearch, IsToConvert, AreTaken};
 ghost use Rattle.smt_check.specs.Runs.{AddsTo, ReadsBytes, ReadsWithin, IsLater, HasCause, counts, input_limit};
 ghost use Rattle.smt_run.specs.Solving.{BeginsWith, StopsWriting, FailsToRead};
 ghost use Rattle.smt_run.specs.Beside.{Told, IsBeside, IsAllAnswered, IsPrefix, IsAnsweredToRead, IsReadOut};
 ghost use Rattle.smt_run.specs.Commands.{files, stream, IsEnd, IsNoProof, Solves, Checks, AddsToFiles};
 ghost use Rattle.smt_run.specs.Refuting.{Refutes};
 ghost use Rattle.smt_run.specs.Searching.{Searches};
+ghost use Rattle.smt_run.specs.Converting.{Converts};
 ghost use Rattle.smt_check.specs.Checks.{ReadsForStatus, HasCheckCause, ToldOf, IsEndOfCheck, IsFrontOfCheck, IsRightlyAccepted};
 
 use crate::answering::end_status;
 use crate::command_line::plan;
+use crate::converting::convert_proof;
 use crate::refuting::check_refutation;
 use crate::scripts::answer_script;
 use crate::searching::search_clauses;
@@ -55,10 +57,10 @@ fn open_proof<Q: Sink>(alloc: Global, settings: &Settings, proof: &mut Q) -> Res
 }
 
 /// How many bytes are asked for at most in one read.
-const PIECE: usize = 1 << 16;
+pub(crate) const PIECE: usize = 1 << 16;
 
 /// So many bytes.
-fn zeros(alloc: Global, size: usize) -> Result<Vec<u8>, AllocError>
+pub(crate) fn zeros(alloc: Global, size: usize) -> Result<Vec<u8>, AllocError>
     ensures { IfOk result (λ v. length v.items ≡ size) }
 {
     vec![in alloc; 0u8; size]
@@ -170,7 +172,8 @@ fn check_proof<S: Source, P: Source, W: Sink>(
 /// the words give, and writes its proof to `proof_out`, each check's lines and record before its answer. `check` reads the script and the proof
 /// `proof_in`, and tells on `answers` the verdict of each record as soon as it is accepted, and then what is judged of them.
 /// `lrat` reads clauses in place of a script and then the refutation `proof_in`, and tells what is judged of them. `cnf` reads
-/// clauses in place of a script and searches them, writes a refutation to `proof_out`, and tells what it found.
+/// clauses in place of a script and searches them, writes a refutation to `proof_out`, and tells what it found. `convert` reads
+/// no script: it reads the proof `proof_in`, writes it in the second format to `proof_out`, and tells how many records it has.
 ///
 /// Several workers are threads, which wait for each other's turns, and pass the gate at points of their work. Each clause is
 /// promised of a call that returns, for any number of workers and however their turns fall.
@@ -191,11 +194,12 @@ pub fn run<R: Threads + Wait + Sync, S: Source, P: Source, W: Sink, Q: Sink, G: 
     ensures untouched { result ≡ Status.Usage → (script.new ≡ script.old)
         × (proof_in.new ≡ proof_in.old)
         × (answers.new ≡ answers.old) × (proof_out.new ≡ proof_out.old) }
-    // Words that are taken ask for one of the four commands.
+    // Words that are taken ask for one of the five commands.
     ensures asked { AreTaken (map (λ w. w.now) words.now)
         → IsToSolve (map (λ w. w.now) words.now)
         ⊎ (IsToCheck (map (λ w. w.now) words.now)
-        ⊎ (IsToRefute (map (λ w. w.now) words.now) ⊎ IsToSearch (map (λ w. w.now) words.now))) }
+        ⊎ (IsToRefute (map (λ w. w.now) words.now)
+        ⊎ (IsToSearch (map (λ w. w.now) words.now) ⊎ IsToConvert (map (λ w. w.now) words.now)))) }
 
     // `solve` reads no proof, answers the script, and writes a proof that is accepted.
     ensures solves { (limits : Limits) → IsToSolveWithin limits (map (λ w. w.now) words.now)
@@ -237,6 +241,16 @@ pub fn run<R: Threads + Wait + Sync, S: Source, P: Source, W: Sink, Q: Sink, G: 
         (files (stream (S.left script.new) (S.faults script.new))
         (stream (W.written answers.new) (W.faults answers.new))
         (stream (Q.written proof_out.new) (Q.faults proof_out.new))) }
+    // `convert` reads no script, and writes the proof that it reads in the second format.
+    ensures converts { IsToConvert (map (λ w. w.now) words.now)
+        → (script.new ≡ script.old)
+        × Converts result
+        (files (stream (P.left proof_in.old) (P.faults proof_in.old))
+        (stream (W.written answers.old) (W.faults answers.old))
+        (stream (Q.written proof_out.old) (Q.faults proof_out.old)))
+        (files (stream (P.left proof_in.new) (P.faults proof_in.new))
+        (stream (W.written answers.new) (W.faults answers.new))
+        (stream (Q.written proof_out.new) (Q.faults proof_out.new))) }
 
     // Whatever the words ask for, what is written stays, and no count of faults falls.
     ensures stays { AddsToFiles
@@ -254,6 +268,7 @@ pub fn run<R: Threads + Wait + Sync, S: Source, P: Source, W: Sink, Q: Sink, G: 
             Command::Check => check_proof(alloc, script, proof_in, answers),
             Command::Lrat => check_refutation(alloc, script, proof_in, answers),
             Command::Cnf => search_clauses(alloc, script, answers, proof_out),
+            Command::Convert => convert_proof(alloc, proof_in, answers, proof_out),
         },
         Err(Unplanned::Usage) => Status::Usage,
         Err(Unplanned::NoMemory) => Status::NoMemory,

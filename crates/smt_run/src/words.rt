@@ -14,6 +14,8 @@ pub enum Command {
     Lrat,
     /// To search clauses, and to write a refutation of them into a file.
     Cnf,
+    /// To read a proof of the first format, which stands in a file, and to write it in the second into another.
+    Convert,
 }
 
 #[derive(Clone, Copy, Debug)]
@@ -21,6 +23,8 @@ pub struct Plan<'a> {
     pub command: Command,
     /// The name of the proof file.
     pub proof: &'a str,
+    /// The name of the file that a proof is written into: the same, but where another is named for it.
+    pub out: &'a str,
     /// The name of the file of the script, or of the clauses; without one that is read from standard input.
     pub script: Option<&'a str>,
     pub settings: Settings,

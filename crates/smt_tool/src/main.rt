@@ -1,5 +1,6 @@
 //! Answers scripts of SMT-LIB 2.6 over truth values and words, writes the proof of each answer, and checks such proofs;
-//! searches clauses of DIMACS, writes a refutation of them by LRAT, and checks such refutations.
+//! searches clauses of DIMACS, writes a refutation of them by LRAT, and checks such refutations; and writes a proof of the first
+//! format in the second.
 //!
 //! The program hands `run` of `smt_run`, which does what its words ask for, the script's file or standard input, standard output
 //! and the proof file, and ends with the number of its status. The tests of sessions, of runs and of checks stand here, each a
@@ -15,6 +16,8 @@ mod check_tests;
 mod clause_tests;
 #[cfg(test)]
 mod command_tests;
+#[cfg(test)]
+mod conversion_tests;
 #[cfg(test)]
 mod diary_tests;
 #[cfg(test)]
@@ -66,7 +69,7 @@ use std::{env, fs};
 
 // What is told where the words are not taken.
 const USAGE: &str =
-    "usage: smt_tool solve PROOF [SCRIPT] [--workers 1..64] [--cubes 0..10] [--budget 0..1000000000] | check PROOF [SCRIPT] | lrat PROOF [CNF] | cnf PROOF [CNF]";
+    "usage: smt_tool solve PROOF [SCRIPT] [--workers 1..64] [--cubes 0..10] [--budget 0..1000000000] | check PROOF [SCRIPT] | lrat PROOF [CNF] | cnf PROOF [CNF] | convert PROOF OUT";
 
 // The number of a status.
 fn exit_code(status: Status) -> ExitCode {
@@ -136,15 +139,16 @@ fn blame<R: Files>(
     }
 }
 
-// Does what the words ask for, with this script and this proof file.
+// Does what the words ask for, with this script, this proof file and this file that a proof is written into.
 fn run_with<R: Files + Print + AllocGlobal + Threads + Wait + Sync, S: Source>(
     rt: &R,
     words: &[&str],
     script: &mut S,
     proof: &str,
+    out: &str,
 ) -> Ending {
     let mut read = FileSource::new(rt, proof);
-    let mut written = FileSink::new(rt, proof);
+    let mut written = FileSink::new(rt, out);
     let mut answers = StandardOutput::new(rt);
     let status = run(
         rt,
@@ -168,8 +172,14 @@ fn run_words<R: Files + Input + Print + AllocGlobal + Threads + Wait + Sync>(
 ) -> Result<Ending, Unplanned> {
     let plan = plan(rt.alloc(), words)?;
     Ok(match plan.script {
-        Some(path) => run_with(rt, words, &mut FileSource::new(rt, path), plan.proof),
-        None => run_with(rt, words, &mut StandardInput::new(rt), plan.proof),
+        Some(path) => {
+            let mut script = FileSource::new(rt, path);
+            run_with(rt, words, &mut script, plan.proof, plan.out)
+        }
+        None => {
+            let mut script = StandardInput::new(rt);
+            run_with(rt, words, &mut script, plan.proof, plan.out)
+        }
     })
 }
 

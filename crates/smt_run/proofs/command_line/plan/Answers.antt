@@ -6,7 +6,7 @@ pub plan_of-requires : goal.plan_of-requires
 plan_of-requires c = numbers_asked _ c.in-Ok.found _ c.in_ok-command_line.ensures c.in-Ok.ensures.matches c.in-Ok.ensures.kinds
 
 pub returns-in-Some-clause-settings : goal.returns-in-Some-clause-settings
-returns-in-Some-clause-settings c = names_settings _ _ _ _ _ c.in-Some.ensures.some (numbers_asked _ c.in-Ok.found _ c.in_ok-command_line.ensures c.in-Ok.ensures.matches c.in-Ok.ensures.kinds)
+returns-in-Some-clause-settings c = names_settings _ _ _ _ _ _ c.in-Some.ensures.some (numbers_asked _ c.in-Ok.found _ c.in_ok-command_line.ensures c.in-Ok.ensures.matches c.in-Ok.ensures.kinds)
 
 pub returns-in-Ok-clause-asked : goal.returns-in-Ok-clause-asked
 returns-in-Ok-clause-asked c = λ _. nothing_asked _ c.in-Ok.found _ c.in_ok-command_line.ensures c.in-Ok.ensures.matches (c.in-None.ensures.none refl)

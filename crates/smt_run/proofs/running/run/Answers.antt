@@ -4,13 +4,15 @@ use Rattle.accepted_proof.specs.Answers.{header_text}
 use Rattle.smt_session.specs.Sessions.{limits_of}
 use Rattle.smt_check.proofs.Parts.{adds_none, later_same}
 use Rattle.smt_check.proofs.Reported.{told_nothing}
+use Rattle.smt_check.specs.declared.status.Status.TheVariants.{NoMemory}
 use Rattle.smt_run.specs.Commands.{files, stream, Solves}
+use Rattle.smt_run.specs.Converting.{IsLeft}
 use Rattle.smt_run.proofs.Written.{within_none}
 use Rattle.smt_run.proofs.Telling.{told_silent, unbegun_beside, unbegun_prefix}
 use Rattle.smt_run.proofs.Ends.{answered_unless, judged_unless, memory_usage, memory_done, memory_refused, memory_end, memory_long, memory_reads}
 use Rattle.smt_run.proofs.Faultless.{faultless_asks}
 use Rattle.dimacs_run.proofs.Told.{front_none}
-use Rattle.smt_run.proofs.WordsTaken.{asks_solve, asks_check, asks_refute, asks_search, one_command, solve_or_refute, check_or_refute, solve_or_search, check_or_search, refute_or_search, same_limits}
+use Rattle.smt_run.proofs.WordsTaken.{asks_solve, asks_check, asks_refute, asks_search, asks_convert, one_command, solve_or_refute, check_or_refute, solve_or_search, check_or_search, refute_or_search, solve_or_convert, check_or_convert, refute_or_convert, search_or_convert, same_limits}
 use Rattle.smt_run.proofs.Searched.{search_unbegun}
 use Rattle.smt_run.proofs.running.run.Goals as goal
 
@@ -23,7 +25,7 @@ pub returns-in-Solve-clause-usage : goal.returns-in-Solve-clause-usage
 returns-in-Solve-clause-usage g c = λ e. absurd (c.solve.ensures.usage e)
 
 pub returns-in-Solve-clause-usage_always : goal.returns-in-Solve-clause-usage_always
-returns-in-Solve-clause-usage_always g c = λ n. absurd (n (asks_solve _ _ _ _ _ c.in-Solve.is c.in-Ok.ensures.asked).1.2.taken)
+returns-in-Solve-clause-usage_always g c = λ n. absurd (n (asks_solve _ _ _ _ _ _ c.in-Solve.is c.in-Ok.ensures.asked).1.3.taken)
 
 pub returns-in-Solve-clause-untouched : goal.returns-in-Solve-clause-untouched
 returns-in-Solve-clause-untouched g c = λ e. absurd (c.solve.ensures.usage e)
@@ -33,7 +35,7 @@ returns-in-Solve-clause-asked g c = λ t. faultless_asks _ t
 
 pub returns-in-Solve-clause-solves : goal.returns-in-Solve-clause-solves
 returns-in-Solve-clause-solves g c = λ limits w.
-    let same : limits_of c.in-Ok.plan.settings ≡ limits = same_limits _ _ _ _ _ limits c.in-Solve.is c.in-Ok.ensures.asked w in
+    let same : limits_of c.in-Ok.plan.settings ≡ limits = same_limits _ _ _ _ _ _ limits c.in-Solve.is c.in-Ok.ensures.asked w in
     let does : Solves (limits_of c.in-Ok.plan.settings) c.solve.result
     (files (stream (g.S.Source.left c.args.script.now) (g.S.Source.faults c.args.script.now)) (stream (g.W.Sink.written c.args.answers.now) (g.W.Sink.faults c.args.answers.now)) (stream (g.Q.Sink.written c.args.proof_out.now) (g.Q.Sink.faults c.args.proof_out.now)))
     (files (stream (g.S.Source.left c.solve.new.script) (g.S.Source.faults c.solve.new.script)) (stream (g.W.Sink.written c.solve.new.answers) (g.W.Sink.faults c.solve.new.answers)) (stream (g.Q.Sink.written c.solve.new.proof) (g.Q.Sink.faults c.solve.new.proof)))
@@ -52,13 +54,16 @@ returns-in-Solve-clause-solves g c = λ limits w.
     (refl, rw (← same) does)
 
 pub returns-in-Solve-clause-checks : goal.returns-in-Solve-clause-checks
-returns-in-Solve-clause-checks g c = λ k. absurd (one_command _ (asks_solve _ _ _ _ _ c.in-Solve.is c.in-Ok.ensures.asked) k)
+returns-in-Solve-clause-checks g c = λ k. absurd (one_command _ (asks_solve _ _ _ _ _ _ c.in-Solve.is c.in-Ok.ensures.asked) k)
 
 pub returns-in-Solve-clause-refutes : goal.returns-in-Solve-clause-refutes
-returns-in-Solve-clause-refutes g c = λ k. absurd (solve_or_refute _ (asks_solve _ _ _ _ _ c.in-Solve.is c.in-Ok.ensures.asked) k)
+returns-in-Solve-clause-refutes g c = λ k. absurd (solve_or_refute _ (asks_solve _ _ _ _ _ _ c.in-Solve.is c.in-Ok.ensures.asked) k)
 
 pub returns-in-Solve-clause-searches : goal.returns-in-Solve-clause-searches
-returns-in-Solve-clause-searches g c = λ k. absurd (solve_or_search _ (asks_solve _ _ _ _ _ c.in-Solve.is c.in-Ok.ensures.asked) k)
+returns-in-Solve-clause-searches g c = λ k. absurd (solve_or_search _ (asks_solve _ _ _ _ _ _ c.in-Solve.is c.in-Ok.ensures.asked) k)
+
+pub returns-in-Solve-clause-converts : goal.returns-in-Solve-clause-converts
+returns-in-Solve-clause-converts g c = λ k. absurd (solve_or_convert _ (asks_solve _ _ _ _ _ _ c.in-Solve.is c.in-Ok.ensures.asked) k)
 
 pub returns-in-Solve-clause-stays : goal.returns-in-Solve-clause-stays
 returns-in-Solve-clause-stays g c = record { answers = c.solve.ensures.answers; proof = c.solve.ensures.proof; later = c.solve.ensures.later }
@@ -72,7 +77,7 @@ pub returns-in-Check-clause-usage : goal.returns-in-Check-clause-usage
 returns-in-Check-clause-usage g c = λ e. absurd (c.check_proof.ensures.usage e)
 
 pub returns-in-Check-clause-usage_always : goal.returns-in-Check-clause-usage_always
-returns-in-Check-clause-usage_always g c = λ n. absurd (n (asks_check _ _ _ _ _ c.in-Check.is c.in-Ok.ensures.asked).1.2.taken)
+returns-in-Check-clause-usage_always g c = λ n. absurd (n (asks_check _ _ _ _ _ _ c.in-Check.is c.in-Ok.ensures.asked).1.3.taken)
 
 pub returns-in-Check-clause-untouched : goal.returns-in-Check-clause-untouched
 returns-in-Check-clause-untouched g c = λ e. absurd (c.check_proof.ensures.usage e)
@@ -81,7 +86,7 @@ pub returns-in-Check-clause-asked : goal.returns-in-Check-clause-asked
 returns-in-Check-clause-asked g c = λ t. faultless_asks _ t
 
 pub returns-in-Check-clause-solves : goal.returns-in-Check-clause-solves
-returns-in-Check-clause-solves g c = λ limits s. absurd (one_command _ (s.settings, s.asks) (asks_check _ _ _ _ _ c.in-Check.is c.in-Ok.ensures.asked))
+returns-in-Check-clause-solves g c = λ limits s. absurd (one_command _ (s.settings, s.asks) (asks_check _ _ _ _ _ _ c.in-Check.is c.in-Ok.ensures.asked))
 
 pub returns-in-Check-clause-checks : goal.returns-in-Check-clause-checks
 returns-in-Check-clause-checks g c = λ _. (
@@ -98,10 +103,13 @@ returns-in-Check-clause-checks g c = λ _. (
 )
 
 pub returns-in-Check-clause-refutes : goal.returns-in-Check-clause-refutes
-returns-in-Check-clause-refutes g c = λ k. absurd (check_or_refute _ (asks_check _ _ _ _ _ c.in-Check.is c.in-Ok.ensures.asked) k)
+returns-in-Check-clause-refutes g c = λ k. absurd (check_or_refute _ (asks_check _ _ _ _ _ _ c.in-Check.is c.in-Ok.ensures.asked) k)
 
 pub returns-in-Check-clause-searches : goal.returns-in-Check-clause-searches
-returns-in-Check-clause-searches g c = λ k. absurd (check_or_search _ (asks_check _ _ _ _ _ c.in-Check.is c.in-Ok.ensures.asked) k)
+returns-in-Check-clause-searches g c = λ k. absurd (check_or_search _ (asks_check _ _ _ _ _ _ c.in-Check.is c.in-Ok.ensures.asked) k)
+
+pub returns-in-Check-clause-converts : goal.returns-in-Check-clause-converts
+returns-in-Check-clause-converts g c = λ k. absurd (check_or_convert _ (asks_check _ _ _ _ _ _ c.in-Check.is c.in-Ok.ensures.asked) k)
 
 pub returns-in-Check-clause-stays : goal.returns-in-Check-clause-stays
 returns-in-Check-clause-stays g c = record {
@@ -119,7 +127,7 @@ pub returns-in-Lrat-clause-usage : goal.returns-in-Lrat-clause-usage
 returns-in-Lrat-clause-usage g c = λ e. absurd (c.check_refutation.ensures.usage e)
 
 pub returns-in-Lrat-clause-usage_always : goal.returns-in-Lrat-clause-usage_always
-returns-in-Lrat-clause-usage_always g c = λ n. absurd (n (asks_refute _ _ _ _ _ c.in-Lrat.is c.in-Ok.ensures.asked).1.2.taken)
+returns-in-Lrat-clause-usage_always g c = λ n. absurd (n (asks_refute _ _ _ _ _ _ c.in-Lrat.is c.in-Ok.ensures.asked).1.3.taken)
 
 pub returns-in-Lrat-clause-untouched : goal.returns-in-Lrat-clause-untouched
 returns-in-Lrat-clause-untouched g c = λ e. absurd (c.check_refutation.ensures.usage e)
@@ -128,10 +136,10 @@ pub returns-in-Lrat-clause-asked : goal.returns-in-Lrat-clause-asked
 returns-in-Lrat-clause-asked g c = λ t. faultless_asks _ t
 
 pub returns-in-Lrat-clause-solves : goal.returns-in-Lrat-clause-solves
-returns-in-Lrat-clause-solves g c = λ limits s. absurd (solve_or_refute _ (s.settings, s.asks) (asks_refute _ _ _ _ _ c.in-Lrat.is c.in-Ok.ensures.asked))
+returns-in-Lrat-clause-solves g c = λ limits s. absurd (solve_or_refute _ (s.settings, s.asks) (asks_refute _ _ _ _ _ _ c.in-Lrat.is c.in-Ok.ensures.asked))
 
 pub returns-in-Lrat-clause-checks : goal.returns-in-Lrat-clause-checks
-returns-in-Lrat-clause-checks g c = λ k. absurd (check_or_refute _ k (asks_refute _ _ _ _ _ c.in-Lrat.is c.in-Ok.ensures.asked))
+returns-in-Lrat-clause-checks g c = λ k. absurd (check_or_refute _ k (asks_refute _ _ _ _ _ _ c.in-Lrat.is c.in-Ok.ensures.asked))
 
 pub returns-in-Lrat-clause-refutes : goal.returns-in-Lrat-clause-refutes
 returns-in-Lrat-clause-refutes g c = λ _. (
@@ -147,7 +155,10 @@ returns-in-Lrat-clause-refutes g c = λ _. (
 )
 
 pub returns-in-Lrat-clause-searches : goal.returns-in-Lrat-clause-searches
-returns-in-Lrat-clause-searches g c = λ k. absurd (refute_or_search _ (asks_refute _ _ _ _ _ c.in-Lrat.is c.in-Ok.ensures.asked) k)
+returns-in-Lrat-clause-searches g c = λ k. absurd (refute_or_search _ (asks_refute _ _ _ _ _ _ c.in-Lrat.is c.in-Ok.ensures.asked) k)
+
+pub returns-in-Lrat-clause-converts : goal.returns-in-Lrat-clause-converts
+returns-in-Lrat-clause-converts g c = λ k. absurd (refute_or_convert _ (asks_refute _ _ _ _ _ _ c.in-Lrat.is c.in-Ok.ensures.asked) k)
 
 pub returns-in-Lrat-clause-stays : goal.returns-in-Lrat-clause-stays
 returns-in-Lrat-clause-stays g c = record {
@@ -165,7 +176,7 @@ pub returns-in-Cnf-clause-usage : goal.returns-in-Cnf-clause-usage
 returns-in-Cnf-clause-usage g c = λ e. absurd (c.search_clauses.ensures.usage e)
 
 pub returns-in-Cnf-clause-usage_always : goal.returns-in-Cnf-clause-usage_always
-returns-in-Cnf-clause-usage_always g c = λ n. absurd (n (asks_search _ _ _ _ _ c.in-Cnf.is c.in-Ok.ensures.asked).1.2.taken)
+returns-in-Cnf-clause-usage_always g c = λ n. absurd (n (asks_search _ _ _ _ _ _ c.in-Cnf.is c.in-Ok.ensures.asked).1.3.taken)
 
 pub returns-in-Cnf-clause-untouched : goal.returns-in-Cnf-clause-untouched
 returns-in-Cnf-clause-untouched g c = λ e. absurd (c.search_clauses.ensures.usage e)
@@ -174,13 +185,13 @@ pub returns-in-Cnf-clause-asked : goal.returns-in-Cnf-clause-asked
 returns-in-Cnf-clause-asked g c = λ t. faultless_asks _ t
 
 pub returns-in-Cnf-clause-solves : goal.returns-in-Cnf-clause-solves
-returns-in-Cnf-clause-solves g c = λ limits s. absurd (solve_or_search _ (s.settings, s.asks) (asks_search _ _ _ _ _ c.in-Cnf.is c.in-Ok.ensures.asked))
+returns-in-Cnf-clause-solves g c = λ limits s. absurd (solve_or_search _ (s.settings, s.asks) (asks_search _ _ _ _ _ _ c.in-Cnf.is c.in-Ok.ensures.asked))
 
 pub returns-in-Cnf-clause-checks : goal.returns-in-Cnf-clause-checks
-returns-in-Cnf-clause-checks g c = λ k. absurd (check_or_search _ k (asks_search _ _ _ _ _ c.in-Cnf.is c.in-Ok.ensures.asked))
+returns-in-Cnf-clause-checks g c = λ k. absurd (check_or_search _ k (asks_search _ _ _ _ _ _ c.in-Cnf.is c.in-Ok.ensures.asked))
 
 pub returns-in-Cnf-clause-refutes : goal.returns-in-Cnf-clause-refutes
-returns-in-Cnf-clause-refutes g c = λ k. absurd (refute_or_search _ k (asks_search _ _ _ _ _ c.in-Cnf.is c.in-Ok.ensures.asked))
+returns-in-Cnf-clause-refutes g c = λ k. absurd (refute_or_search _ k (asks_search _ _ _ _ _ _ c.in-Cnf.is c.in-Ok.ensures.asked))
 
 pub returns-in-Cnf-clause-searches : goal.returns-in-Cnf-clause-searches
 returns-in-Cnf-clause-searches g c = λ _. (
@@ -194,11 +205,63 @@ returns-in-Cnf-clause-searches g c = λ _. (
   },
 )
 
+pub returns-in-Cnf-clause-converts : goal.returns-in-Cnf-clause-converts
+returns-in-Cnf-clause-converts g c = λ k. absurd (search_or_convert _ (asks_search _ _ _ _ _ _ c.in-Cnf.is c.in-Ok.ensures.asked) k)
+
 pub returns-in-Cnf-clause-stays : goal.returns-in-Cnf-clause-stays
 returns-in-Cnf-clause-stays g c = record { answers = c.search_clauses.ensures.answers; proof = c.search_clauses.ensures.refutation; later = c.search_clauses.ensures.later }
 
 pub returns-in-Cnf-clause-later : goal.returns-in-Cnf-clause-later
 returns-in-Cnf-clause-later g c = omega arith
+
+-- ---- a proof was converted
+
+pub returns-in-Convert-clause-usage : goal.returns-in-Convert-clause-usage
+returns-in-Convert-clause-usage g c = λ e. absurd (c.convert_proof.ensures.usage e)
+
+pub returns-in-Convert-clause-usage_always : goal.returns-in-Convert-clause-usage_always
+returns-in-Convert-clause-usage_always g c = λ n. absurd (n (asks_convert _ _ _ _ _ _ c.in-Convert.is c.in-Ok.ensures.asked).1.3.taken)
+
+pub returns-in-Convert-clause-untouched : goal.returns-in-Convert-clause-untouched
+returns-in-Convert-clause-untouched g c = λ e. absurd (c.convert_proof.ensures.usage e)
+
+pub returns-in-Convert-clause-asked : goal.returns-in-Convert-clause-asked
+returns-in-Convert-clause-asked g c = λ t. faultless_asks _ t
+
+pub returns-in-Convert-clause-solves : goal.returns-in-Convert-clause-solves
+returns-in-Convert-clause-solves g c = λ limits s. absurd (solve_or_convert _ (s.settings, s.asks) (asks_convert _ _ _ _ _ _ c.in-Convert.is c.in-Ok.ensures.asked))
+
+pub returns-in-Convert-clause-checks : goal.returns-in-Convert-clause-checks
+returns-in-Convert-clause-checks g c = λ k. absurd (check_or_convert _ k (asks_convert _ _ _ _ _ _ c.in-Convert.is c.in-Ok.ensures.asked))
+
+pub returns-in-Convert-clause-refutes : goal.returns-in-Convert-clause-refutes
+returns-in-Convert-clause-refutes g c = λ k. absurd (refute_or_convert _ k (asks_convert _ _ _ _ _ _ c.in-Convert.is c.in-Ok.ensures.asked))
+
+pub returns-in-Convert-clause-searches : goal.returns-in-Convert-clause-searches
+returns-in-Convert-clause-searches g c = λ k. absurd (search_or_convert _ k (asks_convert _ _ _ _ _ _ c.in-Convert.is c.in-Ok.ensures.asked))
+
+pub returns-in-Convert-clause-converts : goal.returns-in-Convert-clause-converts
+returns-in-Convert-clause-converts g c = λ _. (
+  refl,
+  record {
+    becomes = c.convert_proof.ensures.becomes;
+    at_end = c.convert_proof.ensures.at_end;
+    always = λ x z. answered_unless _ _ _ _ _ c.convert_proof.ensures.usage c.convert_proof.ensures.too_long c.convert_proof.ensures.cause x z;
+    within = c.convert_proof.ensures.within;
+    too_long = c.convert_proof.ensures.too_long;
+    cause = c.convert_proof.ensures.cause;
+  },
+)
+
+pub returns-in-Convert-clause-stays : goal.returns-in-Convert-clause-stays
+returns-in-Convert-clause-stays g c = record {
+  answers = c.convert_proof.ensures.answers;
+  proof = c.convert_proof.ensures.out;
+  later = record { script = omega arith; answers = c.convert_proof.ensures.later.answers; proof = c.convert_proof.ensures.later.proof };
+}
+
+pub returns-in-Convert-clause-later : goal.returns-in-Convert-clause-later
+returns-in-Convert-clause-later g c = c.convert_proof.ensures.later.script
 
 -- ---- the words are not taken
 
@@ -215,16 +278,19 @@ pub returns-in-Err-Usage-clause-asked : goal.returns-in-Err-Usage-clause-asked
 returns-in-Err-Usage-clause-asked g c = λ t. faultless_asks _ t
 
 pub returns-in-Err-Usage-clause-solves : goal.returns-in-Err-Usage-clause-solves
-returns-in-Err-Usage-clause-solves g c = λ _ s. absurd (c.in-Err-Usage.ensures.asked c.in-Err-Usage.field-0-is s.asks.2.taken)
+returns-in-Err-Usage-clause-solves g c = λ _ s. absurd (c.in-Err-Usage.ensures.asked c.in-Err-Usage.field-0-is s.asks.3.taken)
 
 pub returns-in-Err-Usage-clause-checks : goal.returns-in-Err-Usage-clause-checks
-returns-in-Err-Usage-clause-checks g c = λ k. absurd (c.in-Err-Usage.ensures.asked c.in-Err-Usage.field-0-is k.1.2.taken)
+returns-in-Err-Usage-clause-checks g c = λ k. absurd (c.in-Err-Usage.ensures.asked c.in-Err-Usage.field-0-is k.1.3.taken)
 
 pub returns-in-Err-Usage-clause-refutes : goal.returns-in-Err-Usage-clause-refutes
-returns-in-Err-Usage-clause-refutes g c = λ k. absurd (c.in-Err-Usage.ensures.asked c.in-Err-Usage.field-0-is k.1.2.taken)
+returns-in-Err-Usage-clause-refutes g c = λ k. absurd (c.in-Err-Usage.ensures.asked c.in-Err-Usage.field-0-is k.1.3.taken)
 
 pub returns-in-Err-Usage-clause-searches : goal.returns-in-Err-Usage-clause-searches
-returns-in-Err-Usage-clause-searches g c = λ k. absurd (c.in-Err-Usage.ensures.asked c.in-Err-Usage.field-0-is k.1.2.taken)
+returns-in-Err-Usage-clause-searches g c = λ k. absurd (c.in-Err-Usage.ensures.asked c.in-Err-Usage.field-0-is k.1.3.taken)
+
+pub returns-in-Err-Usage-clause-converts : goal.returns-in-Err-Usage-clause-converts
+returns-in-Err-Usage-clause-converts g c = λ k. absurd (c.in-Err-Usage.ensures.asked c.in-Err-Usage.field-0-is k.1.3.taken)
 
 pub returns-in-Err-Usage-clause-stays : goal.returns-in-Err-Usage-clause-stays
 returns-in-Err-Usage-clause-stays g c = record { answers = adds_none _; proof = adds_none _; later = later_same _ }
@@ -295,6 +361,21 @@ returns-in-Err-NoMemory-clause-searches g c = λ _. (
   refl,
   record {
     searched = search_unbegun (g.S.Source.left c.args.script.now) (g.W.Sink.written c.args.answers.now) (g.Q.Sink.written c.args.proof_out.now);
+    always = λ _ _. inr (inr refl);
+    within = λ _. within_none _;
+    too_long = λ e. absurd (memory_long e);
+    cause = tt;
+  },
+)
+
+pub returns-in-Err-NoMemory-clause-converts : goal.returns-in-Err-NoMemory-clause-converts
+returns-in-Err-NoMemory-clause-converts g c = λ _. (
+  refl,
+  record {
+    becomes =
+        told_silent (g.P.Source.left c.args.proof_in.now) (g.W.Sink.written c.args.answers.now) (g.Q.Sink.written c.args.proof_out.now) (g.Q.Sink.written c.args.proof_out.now) []
+        (λ text told written. IsLeft text told written NoMemory) (Appends-nil (g.Q.Sink.written c.args.proof_out.now)) (λ text. (refl, refl));
+    at_end = λ e. memory_end _ e;
     always = λ _ _. inr (inr refl);
     within = λ _. within_none _;
     too_long = λ e. absurd (memory_long e);
