@@ -14,6 +14,10 @@ proof or answers that cannot be written (`/dev/full`), and with a script that ca
 - standard error has one line that says what ended the run, and none where nothing did;
 - `check`, which has all the memory it wants, accepts a record for each verdict that was answered whole.
 
+A signal (SIGINT, SIGTERM) ends a run at once; it comes after each answer of a long script, and by chance between. Where nobody
+reads the answers or the proof any more, the status is 4, whether the parent set SIGPIPE to be ignored or not. What was answered is
+a front of the undisturbed answers then too, and `check` finds a record for each.
+
 Words that are not taken, bytes that are no text among them, give status 2, also where standard error cannot be written.
 Where a standard stream is closed from the start, no file of the run gets its number: closed answers cannot be written, a closed
 script cannot be read, and what is told on a closed standard error goes nowhere.
@@ -23,12 +27,15 @@ numbers.py makes one allocation, read or write after the other fail. Neither is 
 
 import os
 import pathlib
+import random
 import re
 import resource
 import signal
 import subprocess
 import sys
 import tempfile
+import threading
+import time
 
 ROOT = pathlib.Path(__file__).resolve().parents[2]
 sys.path.insert(0, str(ROOT / "tests/hostile"))
@@ -192,6 +199,102 @@ def closed_streams(program, script, folder):
     return faults, len(tried)
 
 
+def long_script():
+    """Checks that are refuted after some work, one after the other."""
+    lines = []
+    for holes in (4, 6, 5, 7, 4, 7, 6):
+        lines += ["(push 1)", *made.pigeonholes("false", holes), "(check-sat)", "(pop 1)"]
+    return made.text(lines)
+
+
+def ended(program, words, script, answers, ending):
+    """The status, the answers and what standard error has of a run, with which something is done after so many whole answers."""
+    with tempfile.TemporaryFile() as source, tempfile.TemporaryFile() as errors:
+        source.write(script)
+        source.seek(0)
+        process = subprocess.Popen([program, *words], stdin=source, stdout=subprocess.PIPE, stderr=errors)
+        said = b"".join(process.stdout.readline() for _ in range(answers))
+        rest = ending(process)
+        status = process.wait()
+        errors.seek(0)
+        return status, said + rest, errors.read()
+
+
+def signals_sent(program, script, folder, whole, chance):
+    """The faults of runs that a signal ends, and their number."""
+    proof, faults, runs = str(folder / "signalled"), [], 0
+    count = len(verdicts(whole[1]))
+    for kind in (signal.SIGINT, signal.SIGTERM):
+        for answers in range(count):
+            wait = chance.random() * 0.02
+
+            def ending(process):
+                time.sleep(wait)
+                process.send_signal(kind)
+                return process.stdout.read()
+
+            status, said, told = ended(program, ["solve", proof], script, answers, ending)
+            if status != -kind and (status, said, told) != whole:
+                faults.append(f"status {status} and {told!r} after signal {kind}")
+            faults.append(fault_of_answers(program, proof, script, whole[1], said))
+            runs += 1
+    return [f for f in faults if f], runs
+
+
+def fault_of_answers(program, proof, script, whole, said):
+    """What is wrong with what a run answered before it ended, or None."""
+    if not whole.startswith(said):
+        return f"answers are no front of the undisturbed ones: {said[-60:]!r}"
+    accepted = verdicts(run(program, ["check", proof], script)[1])
+    if accepted[: len(verdicts(said))] != verdicts(said):
+        return f"answered {verdicts(said)}, and the proof has {accepted}"
+    return None
+
+
+def readers_gone(program, script, folder, whole):
+    """The faults of runs whose answers, or whose proof, nobody reads any more, and their number."""
+    proof, pipe, faults, runs = str(folder / "unread"), str(folder / "pipe"), [], 0
+    os.mkfifo(pipe)
+    for ignored in (False, True):
+        for answers in range(len(verdicts(whole[1]))):
+            status, said, told = gone_after(program, ["solve", proof], script, answers, ignored)
+            if (status, told) != (4, b"smt_tool: the answers cannot be written\n"):
+                faults.append(f"status {status} and {told!r} where nobody reads the answers")
+            faults.append(fault_of_answers(program, proof, script, whole[1], said))
+            runs += 1
+        reader = threading.Thread(target=lambda: open(pipe, "rb").close())
+        reader.start()
+        status, said, told = gone_after(program, ["solve", pipe], script, None, ignored)
+        reader.join()
+        if (status, told) != (4, UNWRITTEN) or not whole[1].startswith(said) or said == whole[1]:
+            faults.append(f"status {status}, {said!r} and {told!r} where nobody reads the proof")
+        runs += 1
+    return [f for f in faults if f], runs
+
+
+def gone_after(program, words, script, answers, ignored):
+    """The same as of `run`, where the answers are not read after so many, and SIGPIPE is ignored or not."""
+    with tempfile.TemporaryFile() as source, tempfile.TemporaryFile() as errors:
+        source.write(script)
+        source.seek(0)
+        process = subprocess.Popen(
+            [program, *words], stdin=source, stdout=subprocess.PIPE, stderr=errors, restore_signals=not ignored)
+        said = process.stdout.read() if answers is None else b"".join(process.stdout.readline() for _ in range(answers))
+        process.stdout.close()
+        status = process.wait()
+        errors.seek(0)
+        return status, said, errors.read()
+
+
+def ended_runs(program, folder):
+    """The faults of runs that are ended from outside, and their number."""
+    script = long_script()
+    whole = run(program, ["solve", str(folder / "undisturbed")], script)
+    faults, runs = signals_sent(program, script, folder, whole, random.Random(1))
+    more, others = readers_gone(program, script, folder, whole)
+    return faults + more, runs + others
+
+
 def not_taken(program):
     """The faults of runs whose words are not taken, and their number."""
     faults, tried = [], [[], ["solve"], ["solve", b"\xff\xfe"], ["check", b"\xff\xfe"]]
@@ -215,6 +318,10 @@ def main(words):
     for text in faults:
         print(text)
     with tempfile.TemporaryDirectory() as name:
+        faults, count = ended_runs(program, pathlib.Path(name))
+        all_faults, runs = all_faults + len(faults), runs + count
+        for text in faults:
+            print(text)
         for number, script in enumerate(scripts()):
             faults, count, short = disturbed(program, script, pathlib.Path(name), least)
             more, others = closed_streams(program, script, pathlib.Path(name))

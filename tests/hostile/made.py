@@ -7,12 +7,19 @@ import dataclasses
 
 @dataclasses.dataclass(frozen=True)
 class Family:
-    """A family of scripts: who makes one, its first size, the exponent that its meaning forces, and whether the budget is the size."""
+    """A family of scripts: who makes one, its first size, the exponent that its meaning forces, whether the budget is the size, or
+    else what the budget is."""
 
     make: object
     size: int
     forced: float = 1.0
     budgeted: bool = False
+    budget: int | None = None
+
+    def options(self, size):
+        """The options of `solve` at a size."""
+        budget = size if self.budgeted else self.budget
+        return [] if budget is None else ["--budget", str(budget)]
 
 
 def text(lines):
@@ -178,6 +185,22 @@ def joined_words(n):
     return text([*lines, *asserted(f"(= d{n} (bvnot x))")]), ["unsat"]
 
 
+def divisions(n):
+    """Quotients of words of 64 bits, each of names of its own, under a condition that need not hold."""
+    lines = ["(declare-const p Bool)", *[f"(declare-const {v}{k} (_ BitVec 64))" for k in range(n) for v in "ab"]]
+    quotients = " ".join(f"(= (bvudiv a{k} b{k}) a{k})" for k in range(n))
+    return text(asserted(f"(or p {quotients})", lines)), ["sat"]
+
+
+def many_diaries(n):
+    """Checks over one refuted base that each end without an answer, with a budget of none."""
+    lines = ["(declare-const p Bool)", "(declare-const q Bool)"]
+    lines += ["(assert (or p q))", "(assert (or p (not q)))", "(assert (or (not p) q))", "(assert (or (not p) (not q)))"]
+    for i in range(n):
+        lines += ["(push 1)", f"(declare-const r{i} Bool)", f"(assert (or p r{i}))", "(check-sat)", "(pop 1)"]
+    return text(lines), ["unknown"] * n
+
+
 def pigeonholes(given, holes=10):
     """Pigeons in holes, one too many, each clause under what is given."""
     lines = [f"(declare-const p{p}h{h} Bool)" for p in range(holes + 1) for h in range(holes)]
@@ -187,14 +210,18 @@ def pigeonholes(given, holes=10):
     return lines
 
 
+# So many holes that no budget that is tried finds the refutation.
+HOLES = 13
+
+
 def spent_diary(n):
     """A diary of as many puts as the budget, the size, lets be."""
-    return text([*pigeonholes("false"), "(check-sat)"]), ["unknown"]
+    return text([*pigeonholes("false", HOLES), "(check-sat)"]), ["unknown"]
 
 
 def diary_under_one_literal(n):
     """The same where each clause of the diary has one literal in common, of the lowest variable."""
-    lines = ["(declare-const a Bool)", *pigeonholes("(not a)"), "(check-sat-assuming (a))"]
+    lines = ["(declare-const a Bool)", *pigeonholes("(not a)", HOLES), "(check-sat-assuming (a))"]
     return text(lines), ["unknown"]
 
 
@@ -224,6 +251,8 @@ FAMILIES = {
     "long_tokens": Family(long_tokens, 2_000_000),
     "many_faults": Family(many_faults, 20_000),
     "joined_words": Family(joined_words, 1_000),
+    "divisions": Family(divisions, 5),
+    "many_diaries": Family(many_diaries, 500, budget=0),
     "spent_diary": Family(spent_diary, 4_000, budgeted=True),
     "diary_under_one_literal": Family(diary_under_one_literal, 4_000, budgeted=True),
 }

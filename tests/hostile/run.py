@@ -1,12 +1,14 @@
 #!/usr/bin/env python3
-"""Runs `solve` and `check` over scripts that are made to be slow, each at two sizes, and tells how their times grow.
+"""Runs `solve` and `check` over scripts and proofs that are made to be slow, each at two sizes, and tells how their times grow.
 
-usage: run.py [--program FILE] [--times N] [--factor F] [NAME ..]   (default: the program that `rt run` leaves in crates/smt_tool/out)
+usage: run.py [NAME ..] [--program FILE] [--times N] [--factor F] [--sizes S ..]   (default: the program that `rt run` leaves in
+crates/smt_tool/out)
 
-For each family of made.py, at its size and at F times that (4 when nothing else is said): the processor seconds of `solve` and of `check`,
-the least of N runs (3), without those of an empty script; the exponent with which each grew; the megabytes of the larger run. It looks
-at the verdicts and has `check` accept the proof. An exponent above 1.3 more than its text forces, where the larger run takes more than
-a fifth of a second, is a fault. It is no part of the gate.
+For each family of made.py, at its size and at F times that (4 when nothing else is said): the processor seconds of `solve` and of
+`check`, the least of N runs (3), without those of an empty script; the exponent with which each grew; the megabytes of the larger
+run. It looks at the verdicts and has `check` accept the proof. For each family of forged.py it runs `check` alone, and looks at its
+answers. An exponent of more than 0.3 above what the family's meaning forces, where the larger run takes more than a fifth of a second,
+is a fault. With --sizes it tells the seconds at these sizes, and judges nothing. It is no part of the gate.
 """
 import argparse
 import math
@@ -16,6 +18,7 @@ import tempfile
 
 ROOT = pathlib.Path(__file__).resolve().parents[2]
 sys.path.insert(0, str(ROOT / "bench"))
+import forged
 import made
 import measuring
 
@@ -54,6 +57,24 @@ class Runs:
         seconds = [max(0.0, s - f) for s, f in zip((solving, checking), self.floor)]
         return seconds, max(held, more), proof.stat().st_size
 
+    def judged(self, script, proof, wanted):
+        """The seconds of `check` over a proof that no solver wrote, its megabytes, and the bytes of the proof."""
+        place, given = self.folder / "script", self.folder / "proof"
+        place.write_bytes(script)
+        given.write_bytes(proof)
+        said, status, checking, held = self.least(["check", str(given), str(place)])
+        if said.splitlines() != wanted or status != (0 if wanted[-1].startswith("accepted") else 1):
+            sys.exit(f"check ends with status {status}: {said.splitlines()[-1:]}")
+        return [0.0, max(0.0, checking - self.floor[1])], held, len(proof)
+
+    def of(self, name, size):
+        """What a family costs at a size."""
+        if name in forged.FAMILIES:
+            return self.judged(*forged.FAMILIES[name].make(size))
+        family = made.FAMILIES[name]
+        script, wanted = family.make(size)
+        return self.measured(script, family.options(size), wanted)
+
 
 def exponent(small, large, factor):
     return math.log(max(large, 1e-3) / max(small, 1e-3)) / math.log(factor)
@@ -61,17 +82,32 @@ def exponent(small, large, factor):
 
 def told(runs, name, family, factor):
     """The row of a family, and whether it grows too fast."""
-    found = []
-    for size in (family.size, family.size * factor):
-        script, wanted = family.make(size)
-        options = ["--budget", str(size)] if family.budgeted else []
-        found.append(runs.measured(script, options, wanted))
-    (small, _, _), (large, megabytes, proof) = found
+    (small, _, _), (large, megabytes, proof) = (runs.of(name, size) for size in (family.size, family.size * factor))
     grown = [exponent(s, l, factor) for s, l in zip(small, large)]
     fast = any(l > TELLS and g > family.forced + MOST for l, g in zip(large, grown))
-    columns = [f"{s:.2f} | {l:.2f} | {g:.2f}" for s, l, g in zip(small, large, grown)]
+    columns = [f"{s:.2f} | {l:.2f} | {g:.2f}" if l else "| |" for s, l, g in zip(small, large, grown)]
     row = f"| {name} | {family.size:,} | {columns[0]} | {columns[1]} | {proof / 1e6:.1f} | {megabytes:.0f} |{' too fast' if fast else ''}"
     return row, fast
+
+
+def sized(runs, name, sizes):
+    """A line for each of these sizes of a family."""
+    for size in sizes:
+        (solving, checking), megabytes, proof = runs.of(name, size)
+        yield f"{name} of {size:,}: solve {solving:.2f}, check {checking:.2f} seconds, {megabytes:.0f} MB, a proof of {proof / 1e6:.1f} MB"
+
+
+def table(runs, families, factor):
+    """Prints the rows of these families; the status is 1 where one grows too fast."""
+    faults = 0
+    print("| family | size | solve | larger | exponent | check | larger | exponent | proof, MB | memory, MB |")
+    print("|---|---|---|---|---|---|---|---|---|---|")
+    for name, family in families.items():
+        row, fast = told(runs, name, family, factor)
+        print(row, flush=True)
+        faults += fast
+    print(f"{faults} families grow too fast")
+    return 1 if faults else 0
 
 
 def main():
@@ -79,20 +115,18 @@ def main():
     parser.add_argument("--program", default=str(ROOT / "crates/smt_tool/out/smt_tool"))
     parser.add_argument("--times", type=int, default=3)
     parser.add_argument("--factor", type=int, default=4)
+    parser.add_argument("--sizes", type=int, nargs="*", default=[])
     parser.add_argument("names", nargs="*")
     words = parser.parse_args()
-    faults = 0
-    print("| family | size | solve | larger | exponent | check | larger | exponent | proof, MB | memory, MB |")
-    print("|---|---|---|---|---|---|---|---|---|---|")
-    with tempfile.TemporaryDirectory() as name:
-        runs = Runs(str(pathlib.Path(words.program).resolve()), pathlib.Path(name), words.times)
-        for name, family in made.FAMILIES.items():
-            if not words.names or name in words.names:
-                row, fast = told(runs, name, family, words.factor)
-                print(row, flush=True)
-                faults += fast
-    print(f"{faults} families grow too fast")
-    return 1 if faults else 0
+    families = {name: family for name, family in {**made.FAMILIES, **forged.FAMILIES}.items() if not words.names or name in words.names}
+    with tempfile.TemporaryDirectory() as folder:
+        runs = Runs(str(pathlib.Path(words.program).resolve()), pathlib.Path(folder), words.times)
+        if words.sizes:
+            for name in families:
+                for line in sized(runs, name, words.sizes):
+                    print(line, flush=True)
+            return 0
+        return table(runs, families, words.factor)
 
 
 if __name__ == "__main__":
