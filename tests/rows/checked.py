@@ -36,17 +36,16 @@ def fault(program, script, proof, limits):
     return None
 
 
-def main():
-    program = sys.argv[1] if len(sys.argv) > 1 else run.PROGRAM
-    count, failed = 0, 0
+def judged(program):
+    """Gives each script's name, and what was found wrong with it."""
     for name, script, limits in scripts():
         with tempfile.TemporaryDirectory() as folder:
-            found = fault(program, script, pathlib.Path(folder) / "proof", limits)
-        if found:
-            print("%s: %s" % (name, found))
-        count, failed = count + 1, failed + bool(found)
-    print("%d scripts, %d failed" % (count, failed))
-    return 1 if failed or not count else 0
+            yield name, fault(program, script, pathlib.Path(folder) / "proof", limits)
+
+
+def main():
+    program = sys.argv[1] if len(sys.argv) > 1 else run.PROGRAM
+    return run.tell("scripts", judged(program))
 
 
 if __name__ == "__main__":

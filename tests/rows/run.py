@@ -64,6 +64,17 @@ def replayed(script, proof, row, folder):
         yield "replay: %s%s" % (ran.stdout, ran.stderr)
 
 
+def tell(kind, judged):
+    """Prints each fault of these pairs of a name and what was found wrong, and how many pairs there were; gives the status to end with."""
+    count, failed = 0, 0
+    for name, found in judged:
+        if found:
+            print("%s: %s" % (name, found))
+        count, failed = count + 1, failed + bool(found)
+    print("%d %s, %d failed" % (count, kind, failed))
+    return 1 if failed or not count else 0
+
+
 def main():
     program = sys.argv[1] if len(sys.argv) > 1 else PROGRAM
     rows, failed = sorted(HERE.glob("*.row")), 0
