@@ -24,6 +24,3 @@ mod watches;
 
 pub use trail::Trail;
 pub use watches::Watches;
-
-#[cfg(test)]
-mod tests;

@@ -35,8 +35,3 @@ pub use laws::{
 };
 pub use log::Log;
 pub use pairs::Pairs;
-
-#[cfg(test)]
-mod lemma_board_tests;
-#[cfg(test)]
-mod tests;

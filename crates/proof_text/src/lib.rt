@@ -12,20 +12,14 @@ pub mod file;
 pub mod header;
 mod keyword;
 pub mod laws;
-#[cfg(test)]
-mod lemma_tests;
 pub mod line;
 pub mod list;
 pub mod operator;
-#[cfg(test)]
-mod printing_tests;
 pub mod reader;
 mod reading;
 mod reading_lemmas;
 mod reading_values;
 pub mod record;
-#[cfg(test)]
-mod tests;
 pub mod value;
 mod words;
 mod write;

@@ -17,5 +17,3 @@ pub mod rank;
 pub mod scalar;
 pub mod sort;
 pub mod terms;
-#[cfg(test)]
-mod tests;
