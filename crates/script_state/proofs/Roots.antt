@@ -2,7 +2,10 @@
 use Rattle.std.proofs.Common.{◌≡◌, ℕ, ◌<◌, true, List, ◌++◌, length, map, sym, subst}
 use Rattle.std.specs.Prelude.{All}
 use Rattle.std.proofs.lemmas.List.Elements.{All-from_recursion, recursion_from_All, All-weaker}
+use Rattle.smt_terms.specs.Evaluations.{has_no_witness}
 use Rattle.scope_selectors.specs.declared.live.Live.{Live}
+use Rattle.smt_build.specs.Scoped.{is_over}
+use Rattle.smt_build.proofs.Scoped.{over_has_no_witness}
 use Rattle.script_state.specs.declared.answer.Asked.{Asked}
 use Rattle.script_state.specs.Plain.{is_decided}
 use Rattle.script_state.specs.States.{StateValue, IsState, IsAssumption, assumptions, roots_of, roots}
@@ -32,6 +35,13 @@ module _ (s : StateValue) (is : IsState s) where
   -- a check can decide them
   pub all_decided : All (λ t. is_decided s.symbols.theories s.terms.nodes t ≡ true) (roots s)
   all_decided = all_roots (λ t. is_decided s.symbols.theories s.terms.nodes t ≡ true) s.scopes.live (assumptions s) is.plain is.asked
+
+  -- no witness stands in them
+  pub all_scripted : All (λ t. has_no_witness s.terms.nodes t ≡ true) (roots s)
+  all_scripted =
+      all_roots (λ t. has_no_witness s.terms.nodes t ≡ true) s.scopes.live (assumptions s)
+      (All-weaker (λ (a : Live). is_over s.symbols.live s.terms.nodes a.term ≡ true) (λ (a : Live). has_no_witness s.terms.nodes a.term ≡ true) (λ a h. over_has_no_witness s.symbols.live s.terms.nodes a.term h) s.scopes.live is.closed.terms)
+      (All-weaker (IsAssumption s.terms.nodes s.symbols.live) (λ (a : Asked). has_no_witness s.terms.nodes a.term ≡ true) (λ a h. over_has_no_witness s.symbols.live s.terms.nodes a.term h.closed) (assumptions s) is.assumed)
 
   pub roots_held : (found : List ℕ) → found ≡ roots s → All (λ t. t < length s.terms.nodes) found
   roots_held found e = subst (All (λ t. t < length s.terms.nodes)) (sym e) all_held

@@ -1,7 +1,8 @@
 //! What follows from the definitions of readings and steps alone.
 
-ghost use Rattle.std.specs.Prelude.{◌≡◌, ◌↔◌, ◌+◌, ◌≤◌, true, List, Some};
+ghost use Rattle.std.specs.Prelude.{◌≡◌, ◌↔◌, ◌+◌, ◌≤◌, true, List, All, Some};
 ghost use Rattle.smt_terms.specs.Terms.{TermsValue, IsTermList};
+ghost use Rattle.smt_terms.specs.Evaluations.{has_no_witness};
 ghost use Rattle.smt_text.specs.declared.chunk.Chunk.{Chunk};
 ghost use Rattle.smt_build.specs.Building.{Grows};
 ghost use Rattle.script_state.specs.Readings.{Reading, ReadsAs};
@@ -9,7 +10,7 @@ ghost use Rattle.script_state.specs.declared.answer.Answer.TheVariants.{Refused,
 ghost use Rattle.script_state.specs.declared.answer.Asked.{Asked};
 ghost use Rattle.script_state.specs.declared.answer.Verdict.TheVariants.{Sat, Unsat};
 ghost use Rattle.script_state.specs.declared.error_text.ErrorText.{ErrorText};
-ghost use Rattle.script_state.specs.States.{StateValue, RestValue, WatchesFit, IsState, Fit};
+ghost use Rattle.script_state.specs.States.{StateValue, RestValue, roots, WatchesFit, IsState, Fit};
 ghost use Rattle.script_state.specs.Steps.{IsAskedValues, step, ends};
 
 /// A chunk reads in one way: as one list of S-expressions, or as one error.
@@ -47,6 +48,12 @@ pub fn more_terms_fit()
 /// Where a check is begun, the terms that it makes before all else can be made.
 pub fn watches_of_checks_fit()
     ensures { (s : StateValue) (r : Reading) → (step s r).0 ≡ Check → WatchesFit (step s r).1 }
+{}
+
+/// No witness stands in a term that a check is about, since a script cannot write one.
+pub fn roots_have_no_witness()
+    ensures { (s : StateValue) → IsState s
+        → All (λ t. has_no_witness s.terms.nodes t ≡ true) (roots s) }
 {}
 
 /// The command that ends the run is answered so, and no other.

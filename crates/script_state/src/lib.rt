@@ -19,8 +19,6 @@
 
 pub mod answer;
 mod asked;
-#[cfg(test)]
-mod asked_tests;
 mod assertions;
 mod commands;
 pub mod error_text;
@@ -31,16 +29,8 @@ mod logic;
 pub mod options;
 mod plain;
 mod saying;
-#[cfg(test)]
-mod session_tests;
 pub mod state;
-#[cfg(test)]
-mod tests;
-#[cfg(test)]
-mod theory_tests;
 mod watches;
 mod whole;
 mod word;
-#[cfg(test)]
-mod worked;
 mod written;

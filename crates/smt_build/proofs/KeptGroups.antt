@@ -1,9 +1,11 @@
--- What operators on two or more arguments make has a property that their arguments have.
-use Rattle.std.proofs.Common.{ℕ, List, [], ◌∷◌, ◌++◌, Result, Ok, Err}
+-- What operators that are no witnesses make has a property that their arguments have.
+use Rattle.std.proofs.Common.{◌≡◌, ℕ, Bool, false, List, [], ◌∷◌, ◌++◌, refl, Result, Ok, Err}
 use Rattle.smt_syntax.specs.Walk.{◌>>=◌}
 use Rattle.smt_terms.specs.declared.operator.Operator.{Operator}
 use Rattle.smt_terms.specs.declared.operator.Operator.TheVariants.{True, Not, And, Equal, Concat}
+use Rattle.smt_terms.specs.declared.node.Op.TheVariants.{Plain}
 use Rattle.smt_terms.specs.Terms.{TermsValue}
+use Rattle.smt_terms.specs.Evaluations.{is_witness}
 use Rattle.smt_build.specs.declared.fault.BuildFault.{BuildFault}
 use Rattle.smt_build.specs.declared.fault.BuildFault.TheVariants.{WrongSort, Width, NotSupported}
 use Rattle.smt_build.specs.declared.operators.Arity.{Arity}
@@ -15,7 +17,12 @@ use Rattle.smt_build.specs.Building.{Built}
 use Rattle.smt_build.specs.Grouping.{each, of_one, of_two, left, right, Chain, next_equal, chain, chained, Listed, apart, apart_from, all_apart, all_true, joins_within, by_arity, are_taken, grouped, operation}
 use Rattle.smt_build.specs.Applying.{applied}
 use Rattle.smt_build.proofs.KeptTerms as kept_terms
-use Rattle.smt_build.proofs.KeptTerms.{IsKept, go_none}
+use Rattle.smt_build.proofs.KeptTerms.{IsKept, IsNoWitness, go_none}
+
+abbrev pub names_witness : Named → Bool
+names_witness (Applies o arity) = is_witness (Plain o)
+names_witness (Indexed k) = false
+names_witness (OfArrays o) = is_witness (Plain o)
 
 module _ (symbols : SymbolsValue) (Has : TermsValue → ℕ → Type 0) (kept : IsKept symbols Has) where
   abbrev Longer : TermsValue → TermsValue → Type 0
@@ -39,26 +46,26 @@ module _ (symbols : SymbolsValue) (Has : TermsValue → ℕ → Type 0) (kept : 
   keeps_bind : (v : TermsValue) (r : Built) (f : ℕ × TermsValue → Built) → Keeps v r → ((a : ℕ × TermsValue) → Longer v a.1 → Has a.1 a.0 → Keeps a.1 (f a)) → Keeps v (r >>= f)
   keeps_bind v r f h k = kept_terms.keeps_bind symbols Has v r f h k
 
-  keeps_one : (o : Operator) (terms : TermsValue) (a : ℕ) → Has terms a → Keeps terms (of_one o terms a)
-  keeps_one o terms a h = kept_terms.keeps_operator symbols Has kept o terms (a ∷ []) (h, tt)
+  keeps_one : (o : Operator) (terms : TermsValue) (a : ℕ) → IsNoWitness o → Has terms a → Keeps terms (of_one o terms a)
+  keeps_one o terms a other h = kept_terms.keeps_operator symbols Has kept o terms (a ∷ []) other (h, tt)
 
-  keeps_two : (o : Operator) (terms : TermsValue) (a b : ℕ) → Has terms a → Has terms b → Keeps terms (of_two o terms a b)
-  keeps_two o terms a b h k = kept_terms.keeps_operator symbols Has kept o terms (a ∷ b ∷ []) (h, (k, tt))
+  keeps_two : (o : Operator) (terms : TermsValue) (a b : ℕ) → IsNoWitness o → Has terms a → Has terms b → Keeps terms (of_two o terms a b)
+  keeps_two o terms a b other h k = kept_terms.keeps_operator symbols Has kept o terms (a ∷ b ∷ []) other (h, (k, tt))
 
   -- ---- from the left, and from the right
 
-  keeps_left : (o : Operator) (terms : TermsValue) (a : ℕ) (bs : List ℕ) → Has terms a → AllHave terms bs → Keeps terms (left o terms a bs)
+  keeps_left : (o : Operator) (terms : TermsValue) (a : ℕ) (bs : List ℕ) → IsNoWitness o → Has terms a → AllHave terms bs → Keeps terms (left o terms a bs)
   unfolding each
-  keeps_left o terms a [] h k = (go_none symbols.signatures terms, h)
-  keeps_left o terms a (b ∷ bs) h k = keeps_bind terms (of_two o terms a b) _ (keeps_two o terms a b h k.0) (λ r p m. keeps_left o r.1 r.0 bs m (all_on terms r.1 bs p k.1))
+  keeps_left o terms a [] other h k = (go_none symbols.signatures terms, h)
+  keeps_left o terms a (b ∷ bs) other h k = keeps_bind terms (of_two o terms a b) _ (keeps_two o terms a b other h k.0) (λ r p m. keeps_left o r.1 r.0 bs other m (all_on terms r.1 bs p k.1))
 
-  keeps_right : (o : Operator) (terms : TermsValue) (a : ℕ) (bs : List ℕ) → Has terms a → AllHave terms bs → Keeps terms (right o terms a bs)
-  keeps_right o terms a [] h k = (go_none symbols.signatures terms, h)
-  keeps_right o terms a (b ∷ bs) h k = keeps_bind terms (right o terms b bs) _ (keeps_right o terms b bs k.0 k.1) (λ r p m. keeps_two o r.1 a r.0 (on terms r.1 a p h) m)
+  keeps_right : (o : Operator) (terms : TermsValue) (a : ℕ) (bs : List ℕ) → IsNoWitness o → Has terms a → AllHave terms bs → Keeps terms (right o terms a bs)
+  keeps_right o terms a [] other h k = (go_none symbols.signatures terms, h)
+  keeps_right o terms a (b ∷ bs) other h k = keeps_bind terms (right o terms b bs) _ (keeps_right o terms b bs other k.0 k.1) (λ r p m. keeps_two o r.1 a r.0 other (on terms r.1 a p h) m)
 
   keeps_true : (terms : TermsValue) (ts : List ℕ) → AllHave terms ts → Keeps terms (all_true terms ts)
-  keeps_true terms [] h = kept_terms.keeps_operator symbols Has kept True terms [] tt
-  keeps_true terms (t ∷ ts) h = keeps_left And terms t ts h.0 h.1
+  keeps_true terms [] h = kept_terms.keeps_operator symbols Has kept True terms [] refl tt
+  keeps_true terms (t ∷ ts) h = keeps_left And terms t ts refl h.0 h.1
 
   collects_true : (v : TermsValue) (r : Listed) → Collects v r → Keeps v (r >>= λ r. all_true r.1 r.0)
   collects_true v r h = kept_terms.lists_bind symbols Has v r _ h (λ a k. keeps_true a.1 a.0 k)
@@ -71,7 +78,7 @@ module _ (symbols : SymbolsValue) (Has : TermsValue → ℕ → Type 0) (kept : 
   collects_chain : (c : Chain) (bs : List ℕ) → AllHave c.terms c.found → Has c.terms c.last → AllHave c.terms bs → Collects c.terms (listed (each next_equal c bs))
   unfolding each
   collects_chain c [] h l k = (go_none symbols.signatures c.terms, h)
-  collects_chain c (b ∷ bs) h l k = go (of_two Equal c.terms c.last b) (keeps_two Equal c.terms c.last b l k.0) (λ d p m. collects_chain d bs m) where
+  collects_chain c (b ∷ bs) h l k = go (of_two Equal c.terms c.last b) (keeps_two Equal c.terms c.last b refl l k.0) (λ d p m. collects_chain d bs m) where
     next : ℕ × TermsValue → Chain
     next r = record { found = c.found ++ r.0 ∷ []; last = b; terms = r.1 }
 
@@ -88,7 +95,7 @@ module _ (symbols : SymbolsValue) (Has : TermsValue → ℕ → Type 0) (kept : 
   -- ---- no two
 
   keeps_apart : (terms : TermsValue) (a b : ℕ) → Has terms a → Has terms b → Keeps terms (apart terms a b)
-  keeps_apart terms a b h k = keeps_bind terms (of_two Equal terms a b) _ (keeps_two Equal terms a b h k) (λ r p m. keeps_one Not r.1 r.0 m)
+  keeps_apart terms a b h k = keeps_bind terms (of_two Equal terms a b) _ (keeps_two Equal terms a b refl h k) (λ r p m. keeps_one Not r.1 r.0 refl m)
 
   -- a term more, and what follows
   collects_more : (v : TermsValue) (r : Built) (found : List ℕ) (f : List ℕ × TermsValue → Listed) → AllHave v found → Keeps v r → ((a : List ℕ × TermsValue) → Longer v a.1 → AllHave a.1 a.0 → Collects a.1 (f a)) → Collects v ((r >>= λ q. Ok (found ++ q.0 ∷ [], q.1)) >>= f)
@@ -109,28 +116,28 @@ module _ (symbols : SymbolsValue) (Has : TermsValue → ℕ → Type 0) (kept : 
 
   -- ---- applications
 
-  keeps_by_arity : (o : Operator) (arity : Arity) (terms : TermsValue) (a b : ℕ) (bs : List ℕ) → AllHave terms (a ∷ b ∷ bs) → Keeps terms (by_arity o arity terms a (b ∷ bs))
-  keeps_by_arity o Ranked terms a b bs h = tt
-  keeps_by_arity o LeftAssociative terms a b bs h = keeps_left o terms a (b ∷ bs) h.0 h.1
-  keeps_by_arity o RightAssociative terms a b bs h = keeps_right o terms a (b ∷ bs) h.0 h.1
-  keeps_by_arity o Chainable terms a b bs h = keeps_chained terms a (b ∷ bs) h.0 h.1
-  keeps_by_arity o Pairwise terms a b bs h = collects_true terms (all_apart terms [] (a ∷ b ∷ bs)) (collects_all_apart terms [] (a ∷ b ∷ bs) tt h)
-  keeps_by_arity o Joining terms a b bs h = kept_terms.keeps_if symbols Has terms (joins_within terms.nodes 0 (a ∷ b ∷ bs)) Width _ (keeps_left Concat terms a (b ∷ bs) h.0 h.1)
+  keeps_by_arity : (o : Operator) (arity : Arity) (terms : TermsValue) (a b : ℕ) (bs : List ℕ) → IsNoWitness o → AllHave terms (a ∷ b ∷ bs) → Keeps terms (by_arity o arity terms a (b ∷ bs))
+  keeps_by_arity o Ranked terms a b bs other h = tt
+  keeps_by_arity o LeftAssociative terms a b bs other h = keeps_left o terms a (b ∷ bs) other h.0 h.1
+  keeps_by_arity o RightAssociative terms a b bs other h = keeps_right o terms a (b ∷ bs) other h.0 h.1
+  keeps_by_arity o Chainable terms a b bs other h = keeps_chained terms a (b ∷ bs) h.0 h.1
+  keeps_by_arity o Pairwise terms a b bs other h = collects_true terms (all_apart terms [] (a ∷ b ∷ bs)) (collects_all_apart terms [] (a ∷ b ∷ bs) tt h)
+  keeps_by_arity o Joining terms a b bs other h = kept_terms.keeps_if symbols Has terms (joins_within terms.nodes 0 (a ∷ b ∷ bs)) Width _ (keeps_left Concat terms a (b ∷ bs) refl h.0 h.1)
 
-  keeps_grouped : (o : Operator) (arity : Arity) (terms : TermsValue) (args : List ℕ) → AllHave terms args → Keeps terms (grouped o arity terms args)
-  keeps_grouped o arity terms [] h = tt
-  keeps_grouped o arity terms (a ∷ []) h = tt
-  keeps_grouped o arity terms (a ∷ b ∷ bs) h = kept_terms.keeps_if symbols Has terms (are_taken arity terms.nodes a (b ∷ bs)) WrongSort _ (keeps_by_arity o arity terms a b bs h)
+  keeps_grouped : (o : Operator) (arity : Arity) (terms : TermsValue) (args : List ℕ) → IsNoWitness o → AllHave terms args → Keeps terms (grouped o arity terms args)
+  keeps_grouped o arity terms [] other h = tt
+  keeps_grouped o arity terms (a ∷ []) other h = tt
+  keeps_grouped o arity terms (a ∷ b ∷ bs) other h = kept_terms.keeps_if symbols Has terms (are_taken arity terms.nodes a (b ∷ bs)) WrongSort _ (keeps_by_arity o arity terms a b bs other h)
 
-  keeps_operation : (o : Operator) (arity : Arity) (terms : TermsValue) (args : List ℕ) → AllHave terms args → Keeps terms (operation o arity terms args)
-  keeps_operation o Ranked terms args h = kept_terms.keeps_operator symbols Has kept o terms args h
-  keeps_operation o LeftAssociative terms args h = keeps_grouped o LeftAssociative terms args h
-  keeps_operation o RightAssociative terms args h = keeps_grouped o RightAssociative terms args h
-  keeps_operation o Chainable terms args h = keeps_grouped o Chainable terms args h
-  keeps_operation o Pairwise terms args h = keeps_grouped o Pairwise terms args h
-  keeps_operation o Joining terms args h = keeps_grouped o Joining terms args h
+  keeps_operation : (o : Operator) (arity : Arity) (terms : TermsValue) (args : List ℕ) → IsNoWitness o → AllHave terms args → Keeps terms (operation o arity terms args)
+  keeps_operation o Ranked terms args other h = kept_terms.keeps_operator symbols Has kept o terms args other h
+  keeps_operation o LeftAssociative terms args other h = keeps_grouped o LeftAssociative terms args other h
+  keeps_operation o RightAssociative terms args other h = keeps_grouped o RightAssociative terms args other h
+  keeps_operation o Chainable terms args other h = keeps_grouped o Chainable terms args other h
+  keeps_operation o Pairwise terms args other h = keeps_grouped o Pairwise terms args other h
+  keeps_operation o Joining terms args other h = keeps_grouped o Joining terms args other h
 
-  pub keeps_applied : (terms : TermsValue) (named : Named) (args : List ℕ) → AllHave terms args → Keeps terms (applied symbols terms named args)
-  keeps_applied terms (OfArrays o) args h = kept_terms.keeps_if symbols Has terms symbols.theories NotSupported _ (keeps_operation o Ranked terms args h)
-  keeps_applied terms (Indexed k) args h = tt
-  keeps_applied terms (Applies o arity) args h = keeps_operation o arity terms args h
+  pub keeps_applied : (terms : TermsValue) (named : Named) (args : List ℕ) → names_witness named ≡ false → AllHave terms args → Keeps terms (applied symbols terms named args)
+  keeps_applied terms (OfArrays o) args other h = kept_terms.keeps_if symbols Has terms symbols.theories NotSupported _ (keeps_operation o Ranked terms args other h)
+  keeps_applied terms (Indexed k) args other h = tt
+  keeps_applied terms (Applies o arity) args other h = keeps_operation o arity terms args other h

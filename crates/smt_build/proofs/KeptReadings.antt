@@ -19,7 +19,8 @@ use Rattle.smt_build.specs.declared.parameters.Parameter.{Parameter}
 use Rattle.smt_build.specs.Parameters.{Parameters}
 use Rattle.smt_build.specs.Building.{Built}
 use Rattle.smt_build.specs.Applying.{word_term, application, indexed_term}
-use Rattle.smt_build.specs.Indices.{Head, plain, indexed, indexed_in, head_in}
+use Rattle.smt_build.specs.Indices.{Head, plain, indexed, everywhere, indexed_in}
+use Rattle.smt_build.specs.Heads.{head_in}
 use Rattle.smt_build.specs.Binding.{Bound, innermost, bound_at, new_variable, Progress, Read, as_read, first_of, local_at, local_or, parameter_or, is_local, misused, word_in, application_in, indexed_in_scope, is_given, naming, is_label, alone}
 use Rattle.smt_build.specs.Terms.{attributes_of, name_of, term_in, args_of, let_of, bindings_of, binding_of, body_of, annotated_of, term_alone, term_over}
 use Rattle.smt_build.proofs.KeptTerms as kept_terms
@@ -155,7 +156,7 @@ module _ (symbols : SymbolsValue) (Has : TermsValue → ℕ → Type 0) where
 
     -- a parameter names no declaration
     reads_parameter : (p : Progress) (o : Option Parameter) (r : Read) → ReadsOn p r → ReadsOn p (parameter_or p o r)
-    reads_parameter p (Some q) r h = reads_kept p _ (kept_terms.keeps_made symbols Has kept p.terms (leaf (Param q.place q.sort)) (none_stands symbols (Param q.place q.sort) refl) tt)
+    reads_parameter p (Some q) r h = reads_kept p _ (kept_terms.keeps_made symbols Has kept p.terms (leaf (Param q.place q.sort)) (none_stands symbols (Param q.place q.sort) refl refl) tt)
     reads_parameter p None r h = h
 
     reads_word : (bound : Bound) (p : Progress) (k : TokenKind) (x : List ℕ) → AreReady bound p → ReadsOn p (word_in symbols bound p k x)
@@ -167,11 +168,13 @@ module _ (symbols : SymbolsValue) (Has : TermsValue → ℕ → Type 0) where
     unfolding application_in
     reads_application bound p (plain f) args h k = reads_if p (is_local bound p f) WrongSort _ (reads_kept p (application symbols p.terms (plain f) args) (kept_words.keeps_application symbols Has kept p.terms (plain f) args h.2 k))
     reads_application bound p (indexed f is) args h k = reads_kept p _ (keeps_misused p.terms (is_local bound p f) (application symbols p.terms (indexed f is) args) (kept_words.keeps_application symbols Has kept p.terms (indexed f is) args h.2 k))
+    reads_application bound p (everywhere s) args h k = reads_kept p (application symbols p.terms (everywhere s) args) (kept_words.keeps_application symbols Has kept p.terms (everywhere s) args h.2 k)
 
     reads_indexed : (bound : Bound) (p : Progress) (h : Head) → ReadsOn p (indexed_in_scope symbols bound p h)
     unfolding indexed_in_scope
     reads_indexed bound p (plain f) = reads_kept p (indexed_term symbols p.terms (plain f)) (kept_words.keeps_indexed_term symbols Has kept p.terms (plain f))
     reads_indexed bound p (indexed f is) = reads_kept p _ (keeps_misused p.terms (is_local bound p f) (indexed_term symbols p.terms (indexed f is)) (kept_words.keeps_indexed_term symbols Has kept p.terms (indexed f is)))
+    reads_indexed bound p (everywhere s) = reads_kept p (indexed_term symbols p.terms (everywhere s)) (kept_words.keeps_indexed_term symbols Has kept p.terms (everywhere s))
 
     module _ (may_name : Bool) where
       names_label : (t : ℕ) (p : Progress) (es : Sexps) (b : Bool) → Renames p (name_of symbols may_name t p es) → Renames p (attributes_of symbols may_name t p es) → Renames p (if b then name_of symbols may_name t p es else attributes_of symbols may_name t p es)
@@ -212,7 +215,7 @@ module _ (symbols : SymbolsValue) (Has : TermsValue → ℕ → Type 0) where
         reads_term bound p (group (more (atom kind.Underscore l) es)) h = reads_then Has p (indexed_in es) _ (λ f. reads_indexed bound p f)
         reads_term bound p (group (more (atom kind.Let l) es)) h = reads_let bound p es h
         reads_term bound p (group (more (atom kind.Bang l) es)) h = reads_bang bound p es h
-        reads_term bound p (group (more (group x) es)) h = reads_then Has p (head_in x) _ (λ f. gives_bind AllHave Has p (args_of symbols may_name bound p [] es) _ (reads_args bound p [] es h tt) (λ r a k. reads_application bound r.1 f r.0 (ready_on bound p r.1 a h) k))
+        reads_term bound p (group (more (group x) es)) h = reads_then Has p (head_in symbols x) _ (λ f. gives_bind AllHave Has p (args_of symbols may_name bound p [] es) _ (reads_args bound p [] es h tt) (λ r a k. reads_application bound r.1 f r.0 (ready_on bound p r.1 a h) k))
         reads_term bound p (group _) h = tt
 
         reads_args : (bound : Bound) (p : Progress) (args : List ℕ) (es : Sexps) → AreReady bound p → AllHave p.terms args → Gives AllHave p (args_of symbols may_name bound p args es)

@@ -11,12 +11,13 @@ use Rattle.smt_terms.specs.declared.node.Node.{Node}
 use Rattle.smt_terms.specs.declared.fault.MakeFault.{MakeFault}
 use Rattle.smt_terms.specs.Nodes.{node_of, node_at, leaf}
 use Rattle.smt_terms.specs.Terms.{TermsValue, IsTermList, make, declaration_of}
+use Rattle.smt_terms.specs.Evaluations.{is_witness}
 use Rattle.smt_terms.proofs.Growing.{list_push, list_shorter}
 use Rattle.smt_terms.proofs.Made as making
 use Rattle.smt_build.specs.declared.fault.BuildFault.{BuildFault}
 use Rattle.smt_build.specs.declared.definition.Definition.{Definition}
 use Rattle.smt_build.specs.Names.{Meanings, SymbolsValue, AreDeclared, IsDeclared}
-use Rattle.smt_build.specs.Scoped.{names_live}
+use Rattle.smt_build.specs.Scoped.{is_scripted}
 use Rattle.smt_build.specs.Building.{Built, Grows, as_built, made}
 use Rattle.smt_build.specs.Grouping.{Listed}
 use Rattle.smt_build.proofs.Growth.{grows_none, grows_both, remade_grows, names_none}
@@ -55,13 +56,16 @@ Follows P (Err f) = Unit {0}
 
 -- ---- what a node may name
 
--- an operator names no declaration, or one that was made and is live
+abbrev pub IsNoWitness : Operator → Type 0
+IsNoWitness o = is_witness (Plain o) ≡ false
+
+-- an operator is no witness, and names no declaration, or one that was made and is live
 pub record MayStand (symbols : SymbolsValue) (op : Op) : Type 0 where
   pub declared : IsDeclared symbols.signatures op
-  pub live : names_live symbols.live (declaration_of op) ≡ true
+  pub scripted : is_scripted symbols.live op ≡ true
 
-pub none_stands : (symbols : SymbolsValue) (op : Op) → declaration_of op ≡ None → MayStand symbols op
-none_stands symbols op none = record { declared = names_none symbols.signatures op none; live = rw none refl }
+pub none_stands : (symbols : SymbolsValue) (op : Op) → declaration_of op ≡ None → is_witness op ≡ false → MayStand symbols op
+none_stands symbols op none other = record { declared = names_none symbols.signatures op none; scripted = rw (other, none) refl }
 
 -- ---- properties
 
@@ -138,8 +142,8 @@ module _ (symbols : SymbolsValue) (Has : TermsValue → ℕ → Type 0) where
       go (Ok r) e = (go_made symbols.signatures terms r.1 n r.0 (λ _. k.declared) e, kept.made terms r.1 n r.0 k h e)
       go (Err f) e = tt
 
-    pub keeps_operator : (o : Operator) (terms : TermsValue) (args : List ℕ) → AllHave terms args → Keeps terms (made terms (node_of (Plain o) args))
-    keeps_operator o terms args h = keeps_made terms (node_of (Plain o) args) (none_stands symbols (Plain o) refl) h
+    pub keeps_operator : (o : Operator) (terms : TermsValue) (args : List ℕ) → IsNoWitness o → AllHave terms args → Keeps terms (made terms (node_of (Plain o) args))
+    keeps_operator o terms args other h = keeps_made terms (node_of (Plain o) args) (none_stands symbols (Plain o) refl other) h
 
     pub keeps_literal : (terms : TermsValue) (n x : ℕ) → Keeps terms (made terms (leaf (Word n x)))
-    keeps_literal terms n x = keeps_made terms (leaf (Word n x)) (none_stands symbols (Word n x) refl) tt
+    keeps_literal terms n x = keeps_made terms (leaf (Word n x)) (none_stands symbols (Word n x) refl refl) tt

@@ -1,15 +1,17 @@
 -- What words and applications mean has a property that the bodies of definitions and the arguments have.
 use Rattle.std.proofs.Common.{◌≡◌, ℕ, ◌*◌, ◌^◌, Bool, true, false, List, [], ◌∷◌, length, refl, eq-eqb, Option, Some, None, Ok, Err}
-use Rattle.std.proofs.lemmas.Bool.{or_right}
+use Rattle.std.proofs.lemmas.Bool.{or_right, or_parts}
 use Rattle.std.specs.Prelude.{◌==◌, nat_le, nat_lt, slice_get, if◌then◌else◌}
 use Rattle.std.specs.Str.{bytes_eq}
+use Rattle.std.specs.List.{list_any}
 use Rattle.smt_text.specs.declared.token.TokenKind.{TokenKind}
 use Rattle.smt_text.specs.declared.token.TokenKind.TheVariants as kind
 use Rattle.smt_syntax.specs.Shapes.{is_word_name}
 use Rattle.smt_terms.specs.declared.sort.Sort.{Sort}
+use Rattle.smt_terms.specs.declared.sort.Sort.TheVariants as sort
 use Rattle.smt_terms.specs.declared.sort.Signature.{Signature}
 use Rattle.smt_terms.specs.declared.node.Op.{Op}
-use Rattle.smt_terms.specs.declared.node.Op.TheVariants.{Word, Constant, Apply}
+use Rattle.smt_terms.specs.declared.node.Op.TheVariants.{Word, ConstantArray, Constant, Apply}
 use Rattle.smt_terms.specs.Nodes.{node_of, leaf}
 use Rattle.smt_terms.specs.Terms.{TermsValue}
 use Rattle.smt_build.specs.declared.fault.BuildFault.{BuildFault}
@@ -21,18 +23,19 @@ use Rattle.smt_build.specs.declared.operators.Named.TheVariants.{Applies, Indexe
 use Rattle.smt_build.specs.declared.symbols.LiveName.{LiveName}
 use Rattle.smt_build.specs.declared.definition.Definition.{Definition}
 use Rattle.smt_build.specs.Literals.{bit_value, hexadecimal_value, value_in, width_of_numeral, number_of}
-use Rattle.smt_build.specs.Operators.{operator_named}
+use Rattle.smt_build.specs.Operators.{operators, look_up, operator_named}
 use Rattle.smt_build.specs.Names.{Meanings, SymbolsValue, declaration_of, meaning_in}
 use Rattle.smt_build.specs.Scoped.{is_live, names_live}
-use Rattle.smt_build.specs.Definitions.{used}
+use Rattle.smt_build.specs.Definitions.{have_sorts, used}
 use Rattle.smt_build.specs.Building.{Built, made, constant, declared_at, declared, function, called_at, called}
-use Rattle.smt_build.specs.Applying.{symbol_by, symbol_term, word_term, application_by, application, indexed_term}
-use Rattle.smt_build.specs.Indices.{Indices, one, two, many, Head, plain, indexed, word_by, word_in, word_of, known, with_indices, first_width, indexed_by, indexed_application}
+use Rattle.smt_build.specs.Applying.{symbol_by, symbol_term, word_term, application_by, constant_array, application, indexed_term}
+use Rattle.smt_build.specs.Indices.{Indices, one, two, many, Head, plain, indexed, everywhere, word_by, word_in, word_of, known, with_indices, first_width, indexed_by, indexed_application}
 use Rattle.smt_build.specs.Binding.{misused}
 use Rattle.smt_build.proofs.Growth.{constant_declared, function_declared}
 use Rattle.smt_build.proofs.KeptTerms as kept_terms
 use Rattle.smt_build.proofs.KeptTerms.{IsKept, MayStand, none_stands}
 use Rattle.smt_build.proofs.KeptGroups as kept_groups
+use Rattle.smt_build.proofs.KeptGroups.{names_witness}
 use Rattle.smt_build.proofs.KeptUses as kept_uses
 
 -- what is declared under a live name is live
@@ -46,6 +49,24 @@ live_found (l ∷ ls) x = go (bytes_eq x l.name) (declaration_of ls x) (live_fou
   go : (here : Bool) (d : Option ℕ) → names_live ls d ≡ true → names_live (l ∷ ls) (if here then Some l.declaration else d) ≡ true
   go true d h = rw (eq-eqb l.declaration l.declaration refl) refl
   go false d h = behind d h
+
+-- ---- names of operators
+
+abbrev FindsNoWitness : Option Named → Type 0
+FindsNoWitness None = Unit {0}
+FindsNoWitness (Some named) = names_witness named ≡ false
+
+look_up_other : (entries : List (List ℕ × Named)) (x : List ℕ) → list_any (λ (e : List ℕ × Named). names_witness e.1) entries ≡ false → FindsNoWitness (look_up entries x)
+look_up_other [] x h = tt
+look_up_other (e ∷ entries) x h = let p = or_parts (names_witness e.1) (list_any (λ (e : List ℕ × Named). names_witness e.1) entries) h in either (bytes_eq x e.0) (look_up entries x) p.0 (look_up_other entries x p.1) where
+  either : (b : Bool) (found : Option Named) → names_witness e.1 ≡ false → FindsNoWitness found → FindsNoWitness (if b then Some e.1 else found)
+  either true found k l = k
+  either false found k l = l
+
+-- no name is that of a witness
+named_other : (x : List ℕ) → FindsNoWitness (operator_named x)
+unfolding operator_named
+named_other x = look_up_other operators x refl
 
 module _ (symbols : SymbolsValue) (Has : TermsValue → ℕ → Type 0) (kept : IsKept symbols Has) where
   abbrev AllHave : TermsValue → List ℕ → Type 0
@@ -66,7 +87,7 @@ module _ (symbols : SymbolsValue) (Has : TermsValue → ℕ → Type 0) (kept : 
   -- ---- declared constants
 
   constant_stands : (d : ℕ) (s : Signature) → slice_get symbols.signatures d ≡ Some s → s.args ≡ [] → is_live symbols.live d ≡ true → MayStand symbols (Constant d s.value)
-  constant_stands d s e q live = record { declared = constant_declared symbols.signatures d s e q; live = live }
+  constant_stands d s e q live = record { declared = constant_declared symbols.signatures d s e q; scripted = live }
 
   keeps_constant : (terms : TermsValue) (d : ℕ) (s : Signature) → slice_get symbols.signatures d ≡ Some s → is_live symbols.live d ≡ true → Keeps terms (constant terms d s)
   keeps_constant terms d s e live = go s.args refl where
@@ -85,7 +106,7 @@ module _ (symbols : SymbolsValue) (Has : TermsValue → ℕ → Type 0) (kept : 
   -- ---- declared functions
 
   function_stands : (d : ℕ) (s : Signature) → slice_get symbols.signatures d ≡ Some s → is_live symbols.live d ≡ true → MayStand symbols (Apply d s)
-  function_stands d s e live = record { declared = function_declared symbols.signatures d s e; live = live }
+  function_stands d s e live = record { declared = function_declared symbols.signatures d s e; scripted = live }
 
   keeps_function : (terms : TermsValue) (d : ℕ) (s : Signature) (args : List ℕ) → slice_get symbols.signatures d ≡ Some s → is_live symbols.live d ≡ true → AllHave terms args → Keeps terms (function terms d s args)
   keeps_function terms d s args e live k = go s.args where
@@ -120,14 +141,14 @@ module _ (symbols : SymbolsValue) (Has : TermsValue → ℕ → Type 0) (kept : 
 
   -- ---- words
 
-  keeps_symbol_by : (terms : TermsValue) (named : Option Named) (f : Option Definition) (d : Option ℕ) → BodyHas terms f → names_live symbols.live d ≡ true → Keeps terms (symbol_by symbols terms named f d)
-  keeps_symbol_by terms (Some named) f d h live = kept_groups.keeps_applied symbols Has kept terms named [] tt
-  keeps_symbol_by terms None (Some f) d h live = keeps_used terms f [] h tt
-  keeps_symbol_by terms None None d h live = keeps_declared terms d live
+  keeps_symbol_by : (terms : TermsValue) (named : Option Named) (f : Option Definition) (d : Option ℕ) → FindsNoWitness named → BodyHas terms f → names_live symbols.live d ≡ true → Keeps terms (symbol_by symbols terms named f d)
+  keeps_symbol_by terms (Some named) f d other h live = kept_groups.keeps_applied symbols Has kept terms named [] other tt
+  keeps_symbol_by terms None (Some f) d other h live = keeps_used terms f [] h tt
+  keeps_symbol_by terms None None d other h live = keeps_declared terms d live
 
   keeps_symbol : (terms : TermsValue) (x : List ℕ) → BodiesHave terms symbols.definitions → Keeps terms (symbol_term symbols terms x)
   unfolding symbol_term
-  keeps_symbol terms x h = keeps_symbol_by terms (operator_named x) (meaning_in symbols.definitions x) (declaration_of symbols.live x) (body_has terms symbols.definitions x h) (live_found symbols.live x)
+  keeps_symbol terms x h = keeps_symbol_by terms (operator_named x) (meaning_in symbols.definitions x) (declaration_of symbols.live x) (named_other x) (body_has terms symbols.definitions x h) (live_found symbols.live x)
 
   pub keeps_word : (terms : TermsValue) (k : TokenKind) (x : List ℕ) → BodiesHave terms symbols.definitions → Keeps terms (word_term symbols terms k x)
   unfolding word_term
@@ -142,23 +163,23 @@ module _ (symbols : SymbolsValue) (Has : TermsValue → ℕ → Type 0) (kept : 
 
   -- ---- applications
 
-  keeps_application_by : (terms : TermsValue) (named : Option Named) (f : Option Definition) (d : Option ℕ) (args : List ℕ) → BodyHas terms f → names_live symbols.live d ≡ true → AllHave terms args → Keeps terms (application_by symbols terms named f d args)
-  keeps_application_by terms (Some named) f d args h live k = kept_groups.keeps_applied symbols Has kept terms named args k
-  keeps_application_by terms None (Some f) d args h live k = keeps_used terms f args h k
-  keeps_application_by terms None None d args h live k = keeps_called terms d args live k
+  keeps_application_by : (terms : TermsValue) (named : Option Named) (f : Option Definition) (d : Option ℕ) (args : List ℕ) → FindsNoWitness named → BodyHas terms f → names_live symbols.live d ≡ true → AllHave terms args → Keeps terms (application_by symbols terms named f d args)
+  keeps_application_by terms (Some named) f d args other h live k = kept_groups.keeps_applied symbols Has kept terms named args other k
+  keeps_application_by terms None (Some f) d args other h live k = keeps_used terms f args h k
+  keeps_application_by terms None None d args other h live k = keeps_called terms d args live k
 
-  -- such an operator names no declaration
+  -- such an operator is no witness and names no declaration
   abbrev AllStand : Option Op → Type 0
   AllStand None = Unit {0}
   AllStand (Some op) = MayStand symbols op
 
   indices_stand : (k : Family) (is : Indices) (w : ℕ) → AllStand (with_indices k is w)
-  indices_stand family.Extract (two i j) w = none_stands symbols _ refl
-  indices_stand family.ZeroExtend (one i) w = none_stands symbols _ refl
-  indices_stand family.SignExtend (one i) w = none_stands symbols _ refl
-  indices_stand family.RotateLeft (one i) w = none_stands symbols _ refl
-  indices_stand family.RotateRight (one i) w = none_stands symbols _ refl
-  indices_stand family.Repeat (one i) w = none_stands symbols _ refl
+  indices_stand family.Extract (two i j) w = none_stands symbols _ refl refl
+  indices_stand family.ZeroExtend (one i) w = none_stands symbols _ refl refl
+  indices_stand family.SignExtend (one i) w = none_stands symbols _ refl refl
+  indices_stand family.RotateLeft (one i) w = none_stands symbols _ refl refl
+  indices_stand family.RotateRight (one i) w = none_stands symbols _ refl refl
+  indices_stand family.Repeat (one i) w = none_stands symbols _ refl refl
   indices_stand _ is w = tt
 
   keeps_indexed_by : (terms : TermsValue) (op : Option Op) (args : List ℕ) → AllStand op → AllHave terms args → Keeps terms (indexed_by terms op args)
@@ -171,10 +192,16 @@ module _ (symbols : SymbolsValue) (Has : TermsValue → ℕ → Type 0) (kept : 
   keeps_indexed terms f is (Some (OfArrays o)) args h = tt
   keeps_indexed terms f is None args h = tt
 
+  keeps_constant_array : (terms : TermsValue) (s : Sort) (args : List ℕ) → AllHave terms args → Keeps terms (constant_array terms s args)
+  keeps_constant_array terms sort.Bool args h = tt
+  keeps_constant_array terms (sort.Word n) args h = tt
+  keeps_constant_array terms (sort.Array n m) args h = keeps_if terms (have_sorts terms.nodes (sort.Word m ∷ []) args) WrongSort _ (kept_terms.keeps_made symbols Has kept terms (node_of (ConstantArray n) args) (none_stands symbols (ConstantArray n) refl refl) h)
+
   pub keeps_application : (terms : TermsValue) (f : Head) (args : List ℕ) → BodiesHave terms symbols.definitions → AllHave terms args → Keeps terms (application symbols terms f args)
   unfolding application
-  keeps_application terms (plain f) args h k = keeps_application_by terms (operator_named f) (meaning_in symbols.definitions f) (declaration_of symbols.live f) args (body_has terms symbols.definitions f h) (live_found symbols.live f) k
+  keeps_application terms (plain f) args h k = keeps_application_by terms (operator_named f) (meaning_in symbols.definitions f) (declaration_of symbols.live f) args (named_other f) (body_has terms symbols.definitions f h) (live_found symbols.live f) k
   keeps_application terms (indexed f is) args h k = keeps_indexed terms f is (operator_named f) args k
+  keeps_application terms (everywhere s) args h k = keeps_constant_array terms s args k
 
   keeps_word_by : (terms : TermsValue) (n : ℕ) (x : Option ℕ) → Keeps terms (word_by terms n x)
   keeps_word_by terms n None = tt
@@ -194,6 +221,7 @@ module _ (symbols : SymbolsValue) (Has : TermsValue → ℕ → Type 0) (kept : 
   pub keeps_indexed_term : (terms : TermsValue) (h : Head) → Keeps terms (indexed_term symbols terms h)
   unfolding indexed_term
   keeps_indexed_term terms (plain f) = tt
+  keeps_indexed_term terms (everywhere s) = tt
   keeps_indexed_term terms (indexed f is) = keeps_if terms (is_word_name f) (known symbols f) _ (keeps_word_of terms f is)
 
   pub keeps_misused : (terms : TermsValue) (b : Bool) (r : Built) → Keeps terms r → Keeps terms (misused b r)

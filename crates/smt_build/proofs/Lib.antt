@@ -4,6 +4,7 @@ pub mod ReservedWords
 pub mod NameLemmas
 pub mod Spellings
 pub mod Places
+pub mod SortWalks
 pub mod TermWalks
 pub mod Stepping
 pub mod PartLists

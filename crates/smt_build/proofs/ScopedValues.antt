@@ -1,9 +1,7 @@
 -- The value of a term over the live declarations depends on these alone.
-use Rattle.std.proofs.Common.{◌≡◌, ℕ, zero, suc, ◌<◌, true, false, List, [], ◌∷◌, map, refl, sym, ap, ◌∙◌, arith}
+use Rattle.std.proofs.Common.{◌≡◌, ℕ, zero, suc, ◌<◌, true, List, [], ◌∷◌, map, refl, sym, ap, ◌∙◌, arith}
 use Rattle.std.proofs.lemmas.Bool.{and_parts}
-use Rattle.std.specs.Prelude.{◌&&◌}
 use Rattle.std.specs.List.{list_all, AllByRecursion}
-use Rattle.std.proofs.lemmas.List.Folds.{list_all-map}
 use Rattle.smt_terms.specs.declared.sort.Signature.{Signature}
 use Rattle.smt_terms.specs.declared.node.Op.{Op}
 use Rattle.smt_terms.specs.declared.node.Op.TheVariants.{Plain, Word, Extract, ZeroExtend, SignExtend, RotateLeft, RotateRight, Repeat, ConstantArray, Constant, Apply, Param}
@@ -15,6 +13,7 @@ use Rattle.smt_terms.proofs.Recursion.{same_map, at_term_is}
 use Rattle.smt_build.specs.declared.symbols.LiveName.{LiveName}
 use Rattle.smt_build.specs.Scoped.{is_live, names_live, is_over}
 use Rattle.smt_build.proofs.Reaching.{earlier}
+use Rattle.smt_build.proofs.Scoped.{over_node, scripted_names}
 
 -- two interpretations agree on the live declarations
 pub record AgreeOn (live : List LiveName) (M N : Interpretation) : Type 0 where
@@ -45,19 +44,13 @@ module _ (live : List LiveName) (M N : Interpretation) (agree : AgreeOn live M N
   args_over nodes n (a ∷ args) h k = let p = and_parts (is_over live nodes a) (list_all (is_over live nodes) args) k in ((h.0, p.0), args_over nodes n args h.1 p.1)
 
   module _ (nodes : List Node) (list : IsTermList nodes) where
-    over_node : (t : ℕ) → is_over live nodes t ≡ true → (names_live live (declaration_of (node_at nodes t).op) && list_all (is_over live nodes) (node_at nodes t).args) ≡ true
-    over_node t h =
-        sym (ap (λ b. names_live live (declaration_of (node_at nodes t).op) && b) (list_all-map (λ b. b) (is_over live nodes) (node_at nodes t).args))
-        ∙ sym (at_term_is false (λ u op args. names_live live (declaration_of op) && list_all (λ b. b) args) nodes t (earlier nodes list t))
-        ∙ h
-
     value_upto : (n t : ℕ) → t < n → is_over live nodes t ≡ true → value M nodes t ≡ value N nodes t
     value_upto zero t lt h = absurd (omega arith)
     value_upto (suc n) t lt h =
-        let p = and_parts (names_live live (declaration_of (node_at nodes t).op)) (list_all (is_over live nodes) (node_at nodes t).args) (over_node t h) in
+        let p = over_node live nodes list t h in
         let args = args_over nodes t (node_at nodes t).args (earlier nodes list t) p.1 in
         at_term_is no_value (λ u. op_value M) nodes t (earlier nodes list t)
-        ∙ op_same (node_at nodes t).op (map (value M nodes) (node_at nodes t).args) p.0
+        ∙ op_same (node_at nodes t).op (map (value M nodes) (node_at nodes t).args) (scripted_names live (node_at nodes t).op p.0)
         ∙ ap (op_value N (node_at nodes t).op) (same_map (λ a. (a < t) × (is_over live nodes a ≡ true)) (value M nodes) (value N nodes) (λ a k. value_upto n a (omega (arith, k.0, lt)) k.1) (node_at nodes t).args args)
         ∙ sym (at_term_is no_value (λ u. op_value N) nodes t (earlier nodes list t))
 

@@ -145,6 +145,9 @@ not_part s (Ok r) q now k n = other q (ap (λ q. q.0) (let p : ◌≡◌ {A = Pa
   other parts.Bang e n = cc
   other parts.Label e n = cc
   other parts.Passed e n = cc
+  other parts.As e n = cc
+  other parts.Const e n = cc
+  other (parts.Sort p) e n = cc
 
 module _ (symbols : SymbolsValue) (may_name : Bool) (old : TermsValue) (scope : Scope) (none : scope ≡ scope_over scope.parameters) (tokens : List Token) (e : Sexp) (l : signs_in tokens ≡ spelling e) where
   abbrev start : State

@@ -11,8 +11,10 @@ use Rattle.smt_build.specs.declared.reader.Want.TheVariants as want
 use Rattle.smt_build.specs.Names.{SymbolsValue}
 use Rattle.smt_build.specs.Binding.{Bound, new_variable, Progress, Read, application_in, indexed_in_scope, naming, is_label, alone}
 use Rattle.smt_build.specs.Terms.{attributes_of, name_of, term_in, args_of, let_of, bindings_of, binding_of, body_of, annotated_of}
-use Rattle.smt_build.specs.Indices.{Indices, one, with_index, Head, plain, indices_behind, indexed_in, head_in}
+use Rattle.smt_build.specs.Indices.{Indices, one, with_index, Head, plain, indices_behind, indexed_in}
+use Rattle.smt_build.specs.Heads.{head_in}
 use Rattle.smt_build.specs.TermReader.{Part, term, head, name, label, passed, binding, Role, a_term, a_head, Open, started, marked, with_indices, application, let_started, let_bound, in_bindings, binding_started, binding_named, bang_started, annotated, labelled, unread, State, progress, state, after, as_part, at_word, opens, context, takes, closes, term_reader}
+use Rattle.smt_build.proofs.SortWalks.{walk-as}
 
 module _ (symbols : SymbolsValue) (may_name : Bool) where
   abbrev closed : Result (Open × State) BuildFault → Result (Part × State) BuildFault
@@ -43,10 +45,11 @@ module _ (symbols : SymbolsValue) (may_name : Bool) where
   walk-marked r s (more (atom _ f) es) = refl
   walk-marked r s (more (group x) es) = refl
 
-  walk-head : (s : State) (x : Sexps) → walk (term_reader symbols may_name) want.Head s (group x) ≡ head_in x >>= λ h. Ok (head h, s)
+  walk-head : (s : State) (x : Sexps) → walk (term_reader symbols may_name) want.Head s (group x) ≡ head_in symbols x >>= λ h. Ok (head h, s)
   unfolding walk walks at_word opens context takes closes
   walk-head s none = refl
   walk-head s (more (atom kind.Underscore l) es) = walk-marked a_head s es
+  walk-head s (more (atom kind.As l) es) = walk-as symbols may_name s es
   walk-head s (more (atom _ l) es) = refl
   walk-head s (more (group x) es) = refl
 
@@ -198,7 +201,7 @@ module _ (symbols : SymbolsValue) (may_name : Bool) where
     pub walk-term : (bound coming : Bound) (p : Progress) (e : Sexp) → walk (term_reader symbols may_name) want.Term (state p bound coming) e ≡ as_part (state p bound coming) (term_in symbols may_name bound p e)
     walk-term bound coming p (atom k x) = refl
     walk-term bound coming p (group none) = refl
-    walk-term bound coming p (group (more (group x) es)) = rw (walk-head (state p bound coming) x) (behind_head bound coming p es (head_in x) (λ f. walk-args bound coming p f [] es))
+    walk-term bound coming p (group (more (group x) es)) = rw (walk-head (state p bound coming) x) (behind_head bound coming p es (head_in symbols x) (λ f. walk-args bound coming p f [] es))
     walk-term bound coming p (group (more (atom kind.Symbol f) es)) = ap closed (walk-args bound coming p (plain f) [] es) ∙ closes_application bound coming p (plain f) (args_of symbols may_name bound p [] es)
     walk-term bound coming p (group (more (atom kind.Underscore l) es)) = walk-marked a_term (state p bound coming) es ∙ sym (bind_assoc (indexed_in es) _ _)
     walk-term bound coming p (group (more (atom kind.Let l) es)) = walk-let bound coming p es

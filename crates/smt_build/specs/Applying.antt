@@ -3,6 +3,10 @@ use Rattle.std.specs.Prelude.{ℕ, List, [], ◌∷◌, Option, Some, None, Err,
 use Rattle.smt_text.specs.declared.token.TokenKind.{TokenKind}
 use Rattle.smt_text.specs.declared.token.TokenKind.TheVariants as kind
 use Rattle.smt_syntax.specs.Shapes.{is_word_name}
+use Rattle.smt_terms.specs.declared.sort.Sort.{Sort}
+use Rattle.smt_terms.specs.declared.sort.Sort.TheVariants as sort
+use Rattle.smt_terms.specs.declared.node.Op.TheVariants.{ConstantArray}
+use Rattle.smt_terms.specs.Nodes.{node_of}
 use Rattle.smt_terms.specs.Terms.{TermsValue}
 use Rattle.smt_build.specs.declared.fault.BuildFault.TheVariants.{WrongSort, NotSupported}
 use Rattle.smt_build.specs.declared.operators.Arity.TheVariants.{Ranked}
@@ -11,10 +15,10 @@ use Rattle.smt_build.specs.declared.operators.Named.TheVariants.{Applies, Indexe
 use Rattle.smt_build.specs.Operators.{operator_named}
 use Rattle.smt_build.specs.declared.definition.Definition.{Definition}
 use Rattle.smt_build.specs.Names.{SymbolsValue, declaration_of, meaning_in}
-use Rattle.smt_build.specs.Definitions.{used}
-use Rattle.smt_build.specs.Building.{Built, binary, hexadecimal, declared, called}
+use Rattle.smt_build.specs.Definitions.{have_sorts, used}
+use Rattle.smt_build.specs.Building.{Built, made, binary, hexadecimal, declared, called}
 use Rattle.smt_build.specs.Grouping.{operation}
-use Rattle.smt_build.specs.Indices.{Head, plain, indexed, word_of, known, indexed_application}
+use Rattle.smt_build.specs.Indices.{Head, plain, indexed, everywhere, word_of, known, indexed_application}
 
 -- the term of an operator's name and its arguments
 abbrev pub applied : SymbolsValue → TermsValue → Named → List ℕ → Built
@@ -43,12 +47,18 @@ application_by symbols terms (Some named) f d args = applied symbols terms named
 application_by symbols terms None (Some f) d args = used terms f args
 application_by symbols terms None None d args = called symbols terms d args
 
+-- the array of a sort that has this one term as its element everywhere
+abbrev pub constant_array : TermsValue → Sort → List ℕ → Built
+constant_array terms (sort.Array n m) args = if have_sorts terms.nodes (sort.Word m ∷ []) args then made terms (node_of (ConstantArray n) args) else Err WrongSort
+constant_array terms _ args = Err WrongSort
+
 -- the term of a name and the terms that it is applied to
 unfoldable pub application : SymbolsValue → TermsValue → Head → List ℕ → Built
 application symbols terms (plain f) args = application_by symbols terms (operator_named f) (meaning_in symbols.definitions f) (declaration_of symbols.live f) args
 application symbols terms (indexed f is) args = indexed_application symbols terms f is (operator_named f) args
+application symbols terms (everywhere s) args = constant_array terms s args
 
 -- the term of a name with indices
 unfoldable pub indexed_term : SymbolsValue → TermsValue → Head → Built
-indexed_term symbols terms (plain f) = Err NotSupported
 indexed_term symbols terms (indexed f is) = if is_word_name f then word_of terms f is else Err (known symbols f)
+indexed_term symbols terms _ = Err NotSupported

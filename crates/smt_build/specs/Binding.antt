@@ -17,7 +17,7 @@ use Rattle.smt_build.specs.Names.{SymbolsValue, meaning_in, is_taken}
 use Rattle.smt_build.specs.Parameters.{Parameters}
 use Rattle.smt_build.specs.Building.{Built, made}
 pub use Rattle.smt_build.specs.Pairs.{Bound, innermost, bound_at}
-use Rattle.smt_build.specs.Indices.{Head, plain, indexed}
+use Rattle.smt_build.specs.Indices.{Head, plain, indexed, everywhere}
 use Rattle.smt_build.specs.Applying.{word_term, application, indexed_term}
 
 abbrev pub is_bound : Bound → List ℕ → Bool
@@ -81,10 +81,11 @@ module _ (symbols : SymbolsValue) where
   unfoldable pub application_in : Bound → Progress → Head → List ℕ → Read
   application_in bound p (plain f) args = if is_local bound p f then Err WrongSort else as_read p (application symbols p.terms (plain f) args)
   application_in bound p (indexed f is) args = as_read p (misused (is_local bound p f) (application symbols p.terms (indexed f is) args))
+  application_in bound p (everywhere s) args = as_read p (application symbols p.terms (everywhere s) args)
 
   unfoldable pub indexed_in_scope : Bound → Progress → Head → Read
-  indexed_in_scope bound p (plain f) = as_read p (indexed_term symbols p.terms (plain f))
   indexed_in_scope bound p (indexed f is) = as_read p (misused (is_local bound p f) (indexed_term symbols p.terms (indexed f is)))
+  indexed_in_scope bound p h = as_read p (indexed_term symbols p.terms h)
 
   -- ---- annotations
 

@@ -2,6 +2,7 @@
 use Rattle.std.specs.Prelude.{ℕ, ◌^◌, ◌||◌, is_some, max, nat_lt, List, [], ◌∷◌, Option, Some, None, Result, Ok, Err, if◌then◌else◌}
 use Rattle.smt_text.specs.declared.token.TokenKind.TheVariants as kind
 use Rattle.smt_syntax.specs.Sexps.{Sexps, atom, none, more}
+use Rattle.smt_terms.specs.declared.sort.Sort.{Sort}
 use Rattle.smt_terms.specs.declared.node.Op.{Op}
 use Rattle.smt_terms.specs.declared.node.Op.TheVariants.{Word, Extract, ZeroExtend, SignExtend, RotateLeft, RotateRight, Repeat}
 use Rattle.smt_terms.specs.Nodes.{node_of, leaf}
@@ -29,10 +30,11 @@ with_index (one i) j = two i j
 with_index (two i j) k = many
 with_index many k = many
 
--- a name, with indices or without
+-- a name, with indices or without, or `(as const S)`
 pub data Head : Type 0 where
   plain : List ℕ → Head
   indexed : List ℕ → Indices → Head
+  everywhere : Sort → Head
 
 abbrev pub indices_behind : List ℕ → Indices → Sexps → Result Head BuildFault
 indices_behind f is none = Ok (indexed f is)
@@ -43,11 +45,6 @@ indices_behind f is _ = Err NotSupported
 abbrev pub indexed_in : Sexps → Result Head BuildFault
 indexed_in (more (atom kind.Symbol f) (more (atom kind.Numeral i) es)) = indices_behind f (one i) es
 indexed_in _ = Err NotSupported
-
--- a list in the place of a function's name
-abbrev pub head_in : Sexps → Result Head BuildFault
-head_in (more (atom kind.Underscore l) es) = indexed_in es
-head_in _ = Err NotSupported
 
 -- ---- literals
 

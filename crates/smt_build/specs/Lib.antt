@@ -7,6 +7,8 @@ pub mod Declaring
 pub mod Building
 pub mod Grouping
 pub mod Indices
+pub mod SortParts
+pub mod Heads
 pub mod Definitions
 pub mod Reached
 pub mod Scoped

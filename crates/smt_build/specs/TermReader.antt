@@ -1,7 +1,8 @@
 -- The reader of terms, a token at a time.
-use Rattle.std.specs.Prelude.{ℕ, Bool, List, [], ◌∷◌, ◌++◌, length, take, drop, Result, Ok, Err, if◌then◌else◌}
+use Rattle.std.specs.Prelude.{ℕ, Bool, true, false, List, [], ◌∷◌, ◌++◌, length, take, drop, Result, Ok, Err, if◌then◌else◌}
 use Rattle.smt_text.specs.declared.token.TokenKind.{TokenKind}
 use Rattle.smt_text.specs.declared.token.TokenKind.TheVariants as kind
+use Rattle.smt_syntax.specs.Shapes.{is_const}
 use Rattle.smt_syntax.specs.Walk.{Reader, ◌>>=◌}
 use Rattle.smt_terms.specs.Terms.{TermsValue}
 use Rattle.smt_build.specs.declared.fault.BuildFault.{BuildFault}
@@ -10,7 +11,9 @@ use Rattle.smt_build.specs.declared.reader.Want.{Want}
 use Rattle.smt_build.specs.declared.reader.Want.TheVariants as want
 use Rattle.smt_build.specs.declared.scope.Scope.{Scope}
 use Rattle.smt_build.specs.Names.{SymbolsValue}
-use Rattle.smt_build.specs.Indices.{Indices, one, with_index, Head, plain, indexed}
+use Rattle.smt_build.specs.Indices.{Indices, one, with_index, Head, plain, indexed, everywhere}
+use Rattle.smt_build.specs.Heads.{where_read}
+use Rattle.smt_build.specs.SortParts.{SortPart, word, listed, SortParts, no_part, with_part, sort_of_part, sort_of_parts}
 use Rattle.smt_build.specs.Binding.{Bound, new_variable, Progress, Read, word_in, application_in, indexed_in_scope, naming, is_label}
 
 -- what a part of a list was read as
@@ -26,6 +29,9 @@ pub data Part : Type 0 where
   bang_word : Part
   label : Part
   passed : Part
+  as_word : Part
+  const_word : Part
+  sort_part : SortPart → Part
 
 -- whether a name with indices stands as a term, or as the head of a list
 pub data Role : Type 0 where
@@ -50,6 +56,10 @@ pub data Open : Type 0 where
   annotated : ℕ → Open
   labelled : ℕ → Open
   unread : Open
+  as_started : Open
+  const_read : Open
+  const_sorted : SortPart → Open
+  sort_list : Bool → SortParts → Open
 
 -- the terms, and what names mean within the term
 pub record State : Type 0 where
@@ -77,6 +87,7 @@ opens want.Bindings s = Ok (in_bindings (length s.scope.coming), s)
 opens (want.Binding n) s = Ok (binding_started n, s)
 opens want.Attribute s = Ok (unread, s)
 opens want.Anything s = Ok (unread, s)
+opens (want.Sort whole) s = Ok (sort_list whole no_part, s)
 opens _ s = Err NotSupported
 
 unfoldable pub context : Open → Want
@@ -97,6 +108,10 @@ context bang_started = want.Term
 context (annotated t) = want.Attribute
 context (labelled t) = want.Label t
 context unread = want.Anything
+context as_started = want.Const
+context const_read = want.Sort true
+context (const_sorted p) = want.Nothing
+context (sort_list whole ps) = want.Sort false
 
 abbrev pub with_binding : State → List ℕ → ℕ → State
 with_binding s x t = record { terms = s.terms; scope = record { bound = s.scope.bound; coming = s.scope.coming ++ (x, t) ∷ []; names = s.scope.names; parameters = s.scope.parameters } }
@@ -107,6 +122,7 @@ takes started mark s = Ok (marked a_term, s)
 takes started let_word s = Ok (let_started, s)
 takes started bang_word s = Ok (bang_started, s)
 takes head_started mark s = Ok (marked a_head, s)
+takes head_started as_word s = Ok (as_started, s)
 takes (marked r) (name f) s = Ok (named r f, s)
 takes (named r f) (index i) s = Ok (with_indices r f (one i), s)
 takes (with_indices r f is) (index i) s = Ok (with_indices r f (with_index is i), s)
@@ -121,6 +137,9 @@ takes (annotated t) label s = Ok (labelled t, s)
 takes (annotated t) passed s = Ok (annotated t, s)
 takes (labelled t) passed s = Ok (annotated t, s)
 takes unread passed s = Ok (unread, s)
+takes as_started const_word s = Ok (const_read, s)
+takes const_read (sort_part p) s = Ok (const_sorted p, s)
+takes (sort_list whole ps) (sort_part p) s = Ok (sort_list whole (with_part ps p), s)
 takes _ _ s = Err NotSupported
 
 -- the variables of the list of bindings from this place on are bound from now on
@@ -141,6 +160,8 @@ module _ (symbols : SymbolsValue) where
   closes (binding_done x t) s = Ok (binding x t, s)
   closes (annotated t) s = Ok (term t, s)
   closes unread s = Ok (passed, s)
+  closes (const_sorted p) s = where_read symbols (sort_of_part symbols.sorts p) >>= λ r. Ok (head (everywhere r), s)
+  closes (sort_list whole ps) s = Ok (sort_part (listed (sort_of_parts symbols whole ps)), s)
   closes _ s = Err NotSupported
 
 module _ (symbols : SymbolsValue) (may_name : Bool) where
@@ -151,12 +172,15 @@ module _ (symbols : SymbolsValue) (may_name : Bool) where
   at_word want.Head s kind.Let x = Ok (let_word, s)
   at_word want.Head s kind.Bang x = Ok (bang_word, s)
   at_word want.Mark s kind.Underscore x = Ok (mark, s)
+  at_word want.Mark s kind.As x = Ok (as_word, s)
   at_word want.Name s kind.Symbol x = Ok (name x, s)
   at_word want.Index s kind.Numeral x = Ok (index x, s)
   at_word (want.Variable n) s k x = new_variable (drop n s.scope.coming) x >>= λ y. Ok (name y, s)
   at_word want.Attribute s k x = Ok (if is_label k x then label else passed, s)
   at_word (want.Label t) s k x = naming symbols may_name t (progress s) x >>= λ p. Ok (passed, after s p)
   at_word want.Anything s k x = Ok (passed, s)
+  at_word want.Const s k x = if is_const k x then Ok (const_word, s) else Err NotSupported
+  at_word (want.Sort whole) s k x = Ok (sort_part (word k x), s)
   at_word _ s _ x = Err NotSupported
 
   abbrev pub term_reader : Reader Want Open Part State BuildFault

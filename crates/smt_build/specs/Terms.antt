@@ -10,7 +10,8 @@ use Rattle.smt_build.specs.declared.fault.BuildFault.TheVariants.{NotSupported}
 use Rattle.smt_build.specs.Names.{SymbolsValue}
 use Rattle.smt_build.specs.Parameters.{Parameters}
 use Rattle.smt_build.specs.Building.{Built}
-use Rattle.smt_build.specs.Indices.{plain, indexed_in, head_in}
+use Rattle.smt_build.specs.Indices.{plain, indexed_in}
+use Rattle.smt_build.specs.Heads.{head_in}
 use Rattle.smt_build.specs.Binding.{Bound, new_variable, Progress, Read, word_in, application_in, indexed_in_scope, naming, is_label, alone}
 
 -- `may_name` says whether terms may be given names here
@@ -33,7 +34,7 @@ module _ (symbols : SymbolsValue) (may_name : Bool) where
     term_in bound p (group (more (atom kind.Underscore l) es)) = indexed_in es >>= λ h. indexed_in_scope symbols bound p h
     term_in bound p (group (more (atom kind.Let l) es)) = let_of bound p es
     term_in bound p (group (more (atom kind.Bang l) es)) = annotated_of bound p es
-    term_in bound p (group (more (group h) es)) = head_in h >>= λ f. args_of bound p [] es >>= λ r. application_in symbols bound r.1 f r.0
+    term_in bound p (group (more (group h) es)) = head_in symbols h >>= λ f. args_of bound p [] es >>= λ r. application_in symbols bound r.1 f r.0
     term_in bound p (group _) = Err NotSupported
 
     -- these terms, behind the ones that were read before

@@ -15,11 +15,16 @@ use Rattle.smt_build.specs.declared.indices.Head.{Head as ReadHead}
 use Rattle.smt_build.specs.declared.indices.Head.TheVariants as heads
 use Rattle.smt_build.specs.declared.reader.Role.{Role as ReadRole}
 use Rattle.smt_build.specs.declared.reader.Role.TheVariants as roles
+use Rattle.smt_build.specs.declared.sort_parts.SortPart.{SortPart as ReadSortPart}
+use Rattle.smt_build.specs.declared.sort_parts.SortPart.TheVariants as sort_parts
+use Rattle.smt_build.specs.declared.sort_parts.SortParts.{SortParts as ReadSortParts}
+use Rattle.smt_build.specs.declared.sort_parts.SortParts.TheVariants as sort_lists
 use Rattle.smt_build.specs.declared.scope.Scope.{Scope}
-use Rattle.smt_build.specs.Indices.{Indices, one, two, many, Head, plain, indexed}
+use Rattle.smt_build.specs.Indices.{Indices, one, two, many, Head, plain, indexed, everywhere}
+use Rattle.smt_build.specs.SortParts.{SortPart, word, listed, SortParts, no_part, one_part, two_parts, three_parts, more_parts}
 use Rattle.smt_build.specs.Parameters.{Parameters}
 use Rattle.smt_build.specs.Binding.{Progress, Read}
-use Rattle.smt_build.specs.TermReader.{Part, term, head, mark, name, index, let_word, binding, bindings, bang_word, label, passed, Role, a_term, a_head, Open, started, head_started, marked, named, with_indices, application, let_started, let_bound, let_done, in_bindings, binding_started, binding_named, binding_done, bang_started, annotated, labelled, unread, State}
+use Rattle.smt_build.specs.TermReader.{Part, term, head, mark, name, index, let_word, binding, bindings, bang_word, label, passed, as_word, const_word, sort_part, Role, a_term, a_head, Open, started, head_started, marked, named, with_indices, application, let_started, let_bound, let_done, in_bindings, binding_started, binding_named, binding_done, bang_started, annotated, labelled, unread, as_started, const_read, const_sorted, sort_list, State}
 
 abbrev pub indices_of : ReadIndices → Indices
 indices_of (counts.One i) = one i.now
@@ -29,6 +34,18 @@ indices_of counts.Many = many
 abbrev pub head_of : ReadHead → Head
 head_of (heads.Plain f) = plain f.now
 head_of (heads.Indexed f is) = indexed f.now (indices_of is)
+head_of (heads.Everywhere s) = everywhere s
+
+abbrev pub sort_part_of : ReadSortPart → SortPart
+sort_part_of (sort_parts.Word k x) = word k x.now
+sort_part_of (sort_parts.Listed r) = listed r
+
+abbrev pub sort_parts_of : ReadSortParts → SortParts
+sort_parts_of sort_lists.None = no_part
+sort_parts_of (sort_lists.One p) = one_part (sort_part_of p)
+sort_parts_of (sort_lists.Two p q) = two_parts (sort_part_of p) (sort_part_of q)
+sort_parts_of (sort_lists.Three p q r) = three_parts (sort_part_of p) (sort_part_of q) (sort_part_of r)
+sort_parts_of sort_lists.More = more_parts
 
 abbrev pub role_of : ReadRole → Role
 role_of roles.Term = a_term
@@ -41,6 +58,9 @@ part_of (parts.Bindings n) = bindings n
 part_of parts.Bang = bang_word
 part_of parts.Label = label
 part_of parts.Passed = passed
+part_of parts.As = as_word
+part_of parts.Const = const_word
+part_of (parts.Sort p) = sort_part (sort_part_of p)
 part_of (parts.Term t) = term t
 part_of (parts.Head f) = head (head_of f)
 part_of parts.Mark = mark
@@ -59,6 +79,10 @@ open_of lists.BangStarted = bang_started
 open_of (lists.Annotated t) = annotated t
 open_of (lists.Labelled t) = labelled t
 open_of lists.Unread = unread
+open_of lists.AsStarted = as_started
+open_of lists.ConstRead = const_read
+open_of (lists.ConstSorted p) = const_sorted (sort_part_of p)
+open_of (lists.SortList whole ps) = sort_list whole (sort_parts_of ps)
 open_of lists.Started = started
 open_of lists.HeadStarted = head_started
 open_of (lists.Marked r) = marked (role_of r)

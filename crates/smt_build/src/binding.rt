@@ -139,7 +139,7 @@ fn misused(is_local: bool, error: BuildError) -> BuildError
     }
 }
 
-/// The term of a name and the arguments that it is applied to.
+/// The term of a name, or of `(as const S)`, and the arguments that it is applied to.
 #[tactic(auto, unfolding(crate::specs::Binding::application_in))]
 pub(crate) fn application_in(
     alloc: Global,
@@ -170,6 +170,7 @@ pub(crate) fn application_in(
                 Err(error) => Err(misused(is_local, error)),
             }
         }
+        Head::Everywhere(_) => application(alloc, symbols, terms, reached, head, args),
     }
 }
 

@@ -5,12 +5,12 @@ ghost use Rattle.smt_terms.specs.Nodes.{leaf};
 ghost use Rattle.smt_terms.specs.declared.sort.Signature.{Signature as SignatureValue};
 ghost use Rattle.smt_build.specs.Names.{AreDeclared, declaration_of, meaning_in};
 ghost use Rattle.smt_build.specs.Building.{made, binary, hexadecimal, constant, declared, declared_at, function, called, called_at, Builds, Means, Grows};
-ghost use Rattle.smt_build.specs.Applying.{applied, symbol_term, word_term, application_by, application, indexed_term};
+ghost use Rattle.smt_build.specs.Applying.{applied, symbol_term, word_term, application_by, constant_array, application, indexed_term};
 ghost use Rattle.smt_build.specs.Indices.{indexed};
 ghost use Rattle.smt_build.specs.Operators.{operator_named};
 ghost use Rattle.smt_build.specs.Views.{head_of, indices_of};
 
-use crate::definition::used;
+use crate::definition::{have_sorts, used};
 use crate::fault::{BuildError, BuildFault};
 use crate::grouping::operation;
 use crate::indices::{Head, Indices, indexed_application, known, word_of};
@@ -21,7 +21,7 @@ use crate::symbols::Symbols;
 use smt_syntax::words::is_word_name;
 use smt_terms::list::Arguments;
 use smt_terms::node::{Node, Op, TermId};
-use smt_terms::sort::{DeclId, Signature};
+use smt_terms::sort::{DeclId, Signature, Sort};
 use smt_terms::terms::Terms;
 use smt_text::token::TokenKind;
 use std::alloc::Global;
@@ -256,7 +256,23 @@ fn plain_application(
     }
 }
 
-/// The term of a name and the arguments that it is applied to.
+/// The array of a sort that has one term as its element everywhere.
+fn constant_array(terms: &mut Terms, sort: Sort, args: Vec<TermId>) -> Result<TermId, BuildError>
+    ensures means { Means (constant_array terms.old sort args.items) result terms.new }
+    ensures grows { (signatures : List SignatureValue) → Grows signatures terms.old terms.new }
+{
+    let Sort::Array(index, element) = sort else {
+        return Err(BuildError::Fault(BuildFault::WrongSort));
+    };
+    if !have_sorts(terms, &[Sort::Word(element)], args.as_slice()) {
+        return Err(BuildError::Fault(BuildFault::WrongSort));
+    }
+    let op = Op::ConstantArray(u64::from(index));
+    let args = Arguments::from_vec(args);
+    made(terms, Node { op, args })
+}
+
+/// The term of a name, or of `(as const S)`, and the arguments that it is applied to.
 #[tactic(auto, unfolding(crate::specs::Applying::application))]
 pub fn application(
     alloc: Global,
@@ -274,6 +290,7 @@ pub fn application(
     match head {
         Head::Plain(name) => plain_application(alloc, symbols, terms, reached, name, args),
         Head::Indexed(name, indices) => indexed_application(symbols, terms, name, indices, args),
+        Head::Everywhere(sort) => constant_array(terms, sort, args),
     }
 }
 

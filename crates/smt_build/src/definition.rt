@@ -37,7 +37,7 @@ impl Definition {
 }
 
 /// Whether there are as many terms as sorts, each of its sort.
-fn have_sorts(terms: &Terms, sorts: &[Sort], args: &[TermId]) -> bool
+pub(crate) fn have_sorts(terms: &Terms, sorts: &[Sort], args: &[TermId]) -> bool
     ensures { result ≡ have_sorts terms.now.nodes sorts.now args.now }
 {
     if sorts.len() != args.len() {

@@ -15,6 +15,7 @@ use crate::operators::{Family, Named, operator_named};
 use crate::symbols::Symbols;
 use smt_terms::list::Arguments;
 use smt_terms::node::{Node, Op, TermId};
+use smt_terms::sort::Sort;
 use smt_terms::terms::Terms;
 use std::alloc::Global;
 
@@ -26,11 +27,12 @@ pub enum Indices<'a> {
     Many,
 }
 
-/// A name, with indices or without.
+/// What terms are applied to: a name, with indices or without, or `(as const S)`.
 #[derive(Clone, Copy)]
 pub enum Head<'a> {
     Plain(&'a [u8]),
     Indexed(&'a [u8], Indices<'a>),
+    Everywhere(Sort),
 }
 
 /// One index more.

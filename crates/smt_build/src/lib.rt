@@ -8,7 +8,8 @@
 //! functions and names of sorts are defined. All operators of Core, of FixedSizeBitVectors and of the
 //! logic QF_BV are read, those on two or more arguments grouped, chained or held pairwise as the standard says, and so are
 //! literals, `(_ bvX n)`, names with indices, `let`, and terms with attributes; other forms of the standard are told as not
-//! supported. Symbols that are made by `with_theories` take functions with arguments, array sorts, `select` and `store` too. The crate stands on `smt_syntax`, `smt_terms`, `term_reach` and `indexmap`.
+//! supported. Symbols that are made by `with_theories` take functions with arguments, array sorts, `select`, `store` and
+//! `((as const S) t)` too. The crate stands on `smt_syntax`, `smt_terms`, `term_reach` and `indexmap`.
 //!
 //! [`symbols::Symbols::assert_term`] reads the term of an assertion in the same way; there alone terms may be given names by
 //! `:named`, which are definitions from then on. [`naming::name_of_assertion`] tells the name of the assertion itself.
@@ -20,8 +21,6 @@ mod build;
 mod declare;
 mod define;
 pub mod definition;
-#[cfg(test)]
-mod definition_tests;
 mod elaborate;
 pub mod fault;
 mod grouping;
@@ -33,9 +32,6 @@ mod operators;
 mod parameters;
 mod reader;
 mod scope;
+mod sort_parts;
 mod sorts;
 pub mod symbols;
-#[cfg(test)]
-mod tests;
-#[cfg(test)]
-mod theory_tests;

@@ -13,6 +13,7 @@ use crate::binding::{
 use crate::fault::{BuildError, BuildFault};
 use crate::indices::{Head, Indices, with_index};
 use crate::scope::Scope;
+use crate::sort_parts::{SortPart, SortParts, constant_sort, sort_of_parts, with_part};
 use crate::symbols::Symbols;
 use smt_terms::node::TermId;
 use smt_terms::terms::Terms;
@@ -27,8 +28,12 @@ pub enum Want {
     Term,
     /// What a term's list begins with.
     Head,
-    /// The underscore that a list in the place of a head begins with.
+    /// The underscore, or `as`, that a list in the place of a head begins with.
     Mark,
+    /// `const`.
+    Const,
+    /// A sort, and whether it is a whole one, which may be one of arrays.
+    Sort(bool),
     /// A name that has indices.
     Name,
     /// An index.
@@ -76,6 +81,11 @@ pub enum Part<'a> {
     Label,
     /// What was passed over.
     Passed,
+    /// `as`
+    As,
+    /// `const`
+    Const,
+    Sort(SortPart<'a>),
 }
 
 /// An open list, with what was read of it.
@@ -101,6 +111,11 @@ pub enum Open<'a> {
     /// The name of the term is to come.
     Labelled(TermId),
     Unread,
+    AsStarted,
+    ConstRead,
+    ConstSorted(SortPart<'a>),
+    /// The parts of a sort, which may be a whole one.
+    SortList(bool, SortParts<'a>),
 }
 
 /// A list opens.
@@ -114,6 +129,7 @@ pub fn opens<'a>(want: Want, scope: &Scope<'a>) -> Result<Open<'a>, BuildFault>
         Want::Bindings => Ok(Open::InBindings(scope.coming.len())),
         Want::Binding(place) => Ok(Open::BindingStarted(place)),
         Want::Attribute | Want::Anything => Ok(Open::Unread),
+        Want::Sort(whole) => Ok(Open::SortList(whole, SortParts::None)),
         _ => Err(BuildFault::NotSupported),
     }
 }
@@ -131,12 +147,15 @@ pub fn context(list: &Open<'_>) -> Want
         Open::Application(..) => Want::Term,
         Open::LetStarted => Want::Bindings,
         Open::LetBound(_) | Open::BindingNamed(_) | Open::BangStarted => Want::Term,
-        Open::LetDone(..) | Open::BindingDone(..) => Want::Nothing,
+        Open::LetDone(..) | Open::BindingDone(..) | Open::ConstSorted(_) => Want::Nothing,
         Open::InBindings(place) => Want::Binding(*place),
         Open::BindingStarted(place) => Want::Variable(*place),
         Open::Annotated(_) => Want::Attribute,
         Open::Labelled(term) => Want::Label(*term),
         Open::Unread => Want::Anything,
+        Open::AsStarted => Want::Const,
+        Open::ConstRead => Want::Sort(true),
+        Open::SortList(..) => Want::Sort(false),
     }
 }
 
@@ -156,6 +175,7 @@ pub fn takes<'a>(
         (Open::Started, Part::Let) => Ok(Open::LetStarted),
         (Open::Started, Part::Bang) => Ok(Open::BangStarted),
         (Open::HeadStarted, Part::Mark) => Ok(Open::Marked(Role::Head)),
+        (Open::HeadStarted, Part::As) => Ok(Open::AsStarted),
         (Open::Marked(role), Part::Name(name)) => Ok(Open::Named(role, name)),
         (Open::Named(role, name), Part::Index(index)) => {
             Ok(Open::WithIndices(role, name, Indices::One(index)))
@@ -179,6 +199,11 @@ pub fn takes<'a>(
         (Open::Annotated(term), Part::Label) => Ok(Open::Labelled(term)),
         (Open::Annotated(term) | Open::Labelled(term), Part::Passed) => Ok(Open::Annotated(term)),
         (Open::Unread, Part::Passed) => Ok(Open::Unread),
+        (Open::AsStarted, Part::Const) => Ok(Open::ConstRead),
+        (Open::ConstRead, Part::Sort(part)) => Ok(Open::ConstSorted(part)),
+        (Open::SortList(whole, parts), Part::Sort(part)) => {
+            Ok(Open::SortList(whole, with_part(parts, part)))
+        }
         _ => Err(BuildError::Fault(BuildFault::NotSupported)),
     }
 }
@@ -222,6 +247,14 @@ pub fn closes<'a>(
         Open::BindingDone(name, term) => Ok(Part::Binding(name, term)),
         Open::Annotated(term) => Ok(Part::Term(term)),
         Open::Unread => Ok(Part::Passed),
+        Open::ConstSorted(part) => match constant_sort(symbols, part) {
+            Ok(sort) => Ok(Part::Head(Head::Everywhere(sort))),
+            Err(fault) => Err(BuildError::Fault(fault)),
+        },
+        Open::SortList(whole, parts) => {
+            let sort = sort_of_parts(symbols, whole, parts);
+            Ok(Part::Sort(SortPart::Listed(sort)))
+        }
         _ => Err(BuildError::Fault(BuildFault::NotSupported)),
     }
 }
@@ -252,6 +285,7 @@ pub fn at_word<'a>(
         }
         (Want::Head, TokenKind::Symbol) => Ok(Part::Head(Head::Plain(text))),
         (Want::Head | Want::Mark, TokenKind::Underscore) => Ok(Part::Mark),
+        (Want::Mark, TokenKind::As) => Ok(Part::As),
         (Want::Head, TokenKind::Let) => Ok(Part::Let),
         (Want::Head, TokenKind::Bang) => Ok(Part::Bang),
         (Want::Name, TokenKind::Symbol) => Ok(Part::Name(text)),
@@ -266,6 +300,8 @@ pub fn at_word<'a>(
             Ok(Part::Passed)
         }
         (Want::Anything, _) => Ok(Part::Passed),
+        (Want::Const, TokenKind::Symbol) if text == b"const".as_slice() => Ok(Part::Const),
+        (Want::Sort(_), _) => Ok(Part::Sort(SortPart::Word(kind, text))),
         _ => Err(BuildError::Fault(BuildFault::NotSupported)),
     }
 }

@@ -14,7 +14,11 @@ use smt_text::token::{Token, TokenKind};
 use std::alloc::{AllocError, Global};
 
 /// The sort that a word names.
-fn sort_named(symbols: &Symbols, kind: TokenKind, name: &[u8]) -> Result<Sort, BuildFault>
+pub(crate) fn sort_named(
+    symbols: &Symbols,
+    kind: TokenKind,
+    name: &[u8],
+) -> Result<Sort, BuildFault>
     ensures { result ≡ sort_named symbols.now.sorts kind name.now }
 {
     match kind {
@@ -65,13 +69,17 @@ fn named_sort(
 }
 
 /// The sort of three words in a list.
-fn indexed_sort(mark: &Token<'_>, name: &Token<'_>, width: &Token<'_>) -> Result<Sort, BuildFault>
-    ensures { result
-        ≡ indexed_sort mark.now.kind name.now.kind name.now.text.now width.now.kind
-        width.now.text.now }
+pub(crate) fn indexed_sort(
+    mark: TokenKind,
+    kind: TokenKind,
+    name: &[u8],
+    index: TokenKind,
+    width: &[u8],
+) -> Result<Sort, BuildFault>
+    ensures { result ≡ indexed_sort mark kind name.now index width.now }
 {
-    match mark.kind {
-        TokenKind::Underscore => named_sort(name.kind, name.text, width.kind, width.text),
+    match mark {
+        TokenKind::Underscore => named_sort(kind, name, index, width),
         _ => Err(BuildFault::NotSupported),
     }
 }
@@ -83,13 +91,15 @@ fn part_sort(symbols: &Symbols, tokens: &[Token<'_>]) -> Result<Sort, BuildFault
 {
     match tokens {
         [name] => sort_named(symbols, name.kind, name.text),
-        [_, mark, name, width, _] => indexed_sort(mark, name, width),
+        [_, mark, name, width, _] => {
+            indexed_sort(mark.kind, name.kind, name.text, width.kind, width.text)
+        }
         _ => Err(BuildFault::NotSupported),
     }
 }
 
 /// The sort of arrays whose indexes and elements have these sorts.
-fn array_by(
+pub(crate) fn array_by(
     index: Result<Sort, BuildFault>,
     element: Result<Sort, BuildFault>,
 ) -> Result<Sort, BuildFault>
