@@ -1,9 +1,9 @@
 -- Answers are right where turns follow one after the other.
-use Rattle.std.proofs.Common.{◌≡◌, ℕ, Bool, List, [], ◌∷◌, ◌++◌, map, ap, sym, subst, append-nil, Option, Some, None}
+use Rattle.std.proofs.Common.{◌≡◌, ℕ, Bool, true, List, [], ◌∷◌, ◌++◌, map, ap, sym, subst, append-nil, Option, Some, None}
 use Rattle.script_state.specs.declared.answer.Answer.{Answer}
 use Rattle.script_state.specs.declared.answer.Answer.TheVariants.{Done, Refused, Check, Says, Model, Values, Core, Assumptions, Exit}
 use Rattle.script_state.specs.declared.answer.Asked.{Asked}
-use Rattle.script_state.specs.States.{StateValue, start_of, no_state}
+use Rattle.script_state.specs.States.{StateValue, start_of}
 use Rattle.script_state.specs.Steps.{step}
 use Rattle.proof_log.specs.declared.entry.Entry.{Entry}
 use Rattle.proof_text.specs.declared.line.Format.{Format}
@@ -111,8 +111,8 @@ turns_are_right limits s log [] reached are = tt
 turns_are_right limits s log (t ∷ ts) reached are =
     (shows_right t.answer (step s t.says).1 log t.steps t.shown (reached_by_command s log t.says reached) (turn_shows limits s log t are.0), turns_are_right limits (state_after s t) (log ++ t.steps) ts (reached_by_turn limits s log t reached are.0) are.1)
 
-pub first_turns_are_right : (limits : Limits) (turns : List Turn) → AreTurns limits no_state [] turns → AreRight no_state turns
-first_turns_are_right limits turns are = turns_are_right limits no_state [] turns reached_first are
+pub first_turns_are_right : (limits : Limits) (turns : List Turn) → AreTurns limits (start_of true) [] turns → AreRight (start_of true) turns
+first_turns_are_right limits turns are = turns_are_right limits (start_of true) [] turns reached_first are
 
 parts_are_right : (format : Format) (limits : Limits) (s : StateValue) (log : List Entry) (deleted : List ℕ) (parts : List Part) → IsReached s log → AreParts format limits s log deleted parts → AreRight s (map turn_of parts)
 parts_are_right format limits s log deleted [] reached are = tt

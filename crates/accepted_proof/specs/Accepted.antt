@@ -5,7 +5,7 @@ use Rattle.smt_text.specs.declared.chunk.Chunk.{Chunk}
 use Rattle.smt_text.specs.Framing.{Held}
 use Rattle.smt_text.specs.Script.{AreChunks, Begins}
 use Rattle.script_state.specs.Readings.{Reading, ReadsAs}
-use Rattle.script_state.specs.States.{StateValue, no_state}
+use Rattle.script_state.specs.States.{StateValue, start_of}
 use Rattle.script_state.specs.Steps.{ends}
 use Rattle.accepted_proof.specs.Searching.{Limits, AreLimits}
 use Rattle.proof_text.specs.declared.line.Format.{Format}
@@ -54,9 +54,9 @@ pub record AcceptedFrom (start : StateValue) (limits : Limits) (script proof : L
   pub run : AreParts format limits start [] [] parts
   pub lines : proof ≡ written_of format limits parts
 
--- the same of a script that begins where nothing is declared, and neither functions with arguments nor arrays are read
+-- the same of a script that begins where nothing is declared
 abbrev pub Accepted : Limits → List ℕ → List ℕ → List Turn → Type 0
-Accepted limits script proof turns = AcceptedFrom no_state limits script proof turns
+Accepted limits script proof turns = AcceptedFrom (start_of true) limits script proof turns
 
 -- The proof begins with the accepted proof of the first commands of the script, which are obeyed from this state on, whatever
 -- stands behind in either text.
@@ -74,7 +74,7 @@ pub record AcceptedSoFarFrom (start : StateValue) (limits : Limits) (script proo
   pub lines : proof ≡ written_of format limits parts ++ rest
 
 abbrev pub AcceptedSoFar : Limits → List ℕ → List ℕ → List Turn → Type 0
-AcceptedSoFar limits script proof turns = AcceptedSoFarFrom no_state limits script proof turns
+AcceptedSoFar limits script proof turns = AcceptedSoFarFrom (start_of true) limits script proof turns
 
 -- a front of the answer to the next command of the script, which is not the whole answer
 pub record IsBegun (limits : Limits) (script : List ℕ) (chunks : List Chunk) (turns : List Turn) (begun : List ℕ) : Type 0 where
@@ -84,7 +84,7 @@ pub record IsBegun (limits : Limits) (script : List ℕ) (chunks : List Chunk) (
   pub front : IsFront script (chunks ++ next ∷ [])
   pub read : AreRead (chunks ++ next ∷ []) (turns ++ turn ∷ [])
   pub last : EndLast (turns ++ turn ∷ [])
-  pub run : AreTurns limits no_state [] (turns ++ turn ∷ [])
+  pub run : AreTurns limits (start_of true) [] (turns ++ turn ∷ [])
   pub texts : answers_of (turns ++ turn ∷ []) ≡ answers_of turns ++ begun ++ rest
   pub unfinished : 0 < length rest
 
@@ -99,7 +99,7 @@ pub record StandsBeside (limits : Limits) (script answers proof : List ℕ) : Ty
   pub front : IsFront script chunks
   pub read : AreRead chunks turns
   pub last : EndLast turns
-  pub run : AreTurns limits no_state [] turns
+  pub run : AreTurns limits (start_of true) [] turns
   pub lines : proof ≡ proof_of limits turns ++ more
   pub texts : answers ≡ answers_of turns ++ begun
   pub unfinished : (begun ≡ []) ⊎ IsBegun limits script chunks turns begun
@@ -107,7 +107,7 @@ pub record StandsBeside (limits : Limits) (script answers proof : List ℕ) : Ty
 -- the answers are those to the whole script, and the proof is accepted, and of the first format
 pub record IsWhole (limits : Limits) (script answers proof : List ℕ) (turns : List Turn) : Type 0 where
   pub accepted : Accepted limits script proof turns
-  pub run : AreTurns limits no_state [] turns
+  pub run : AreTurns limits (start_of true) [] turns
   pub lines : proof ≡ proof_of limits turns
   pub texts : answers ≡ answers_of turns
 

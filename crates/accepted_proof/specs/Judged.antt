@@ -7,7 +7,7 @@ use Rattle.smt_values.specs.declared.value.Value.{Value}
 use Rattle.smt_build.specs.declared.symbols.LiveName.{LiveName}
 use Rattle.script_state.specs.declared.answer.Answer.{Answer}
 use Rattle.script_state.specs.declared.answer.Answer.TheVariants as answer
-use Rattle.script_state.specs.States.{StateValue, no_state, concluded}
+use Rattle.script_state.specs.States.{StateValue, start_of, concluded}
 use Rattle.script_state.specs.Readings.{Reading, ReadsAs}
 use Rattle.script_state.specs.Steps.{step, settled, ends}
 use Rattle.proof_log.specs.declared.entry.Entry.{Entry}
@@ -61,9 +61,6 @@ pub record Judging : Type 0 where
 -- behind the header, which is line 1, where the commands are obeyed from this state on
 abbrev pub judging_from : StateValue → Format → Limits → Judging
 judging_from start format limits = record { format = format; limits = limits; state = start; log = []; deleted = []; owed = Nothing; line = 2 }
-
-abbrev pub no_judging : Format → Limits → Judging
-no_judging format limits = judging_from no_state format limits
 
 -- ---- where it goes
 
@@ -252,7 +249,7 @@ JudgedProofFrom start cs [] o = o ≡ Some bad_header
 JudgedProofFrom start cs (l ∷ ls) o = ((format : Format) × (limits : Limits) × IsHeader l format limits × Judged (judging_from start format limits) cs ls o) ⊎ (((format : Format) (limits : Limits) → IsHeader l format limits → ⊥) × (o ≡ Some bad_header))
 
 abbrev pub JudgedProof : List Reading → List (Option Line) → Option Refusal → Type 0
-JudgedProof cs ls o = JudgedProofFrom no_state cs ls o
+JudgedProof cs ls o = JudgedProofFrom (start_of true) cs ls o
 
 -- each is a line that can be read, or none
 abbrev pub AreReadable : List (Option Line) → Type 0

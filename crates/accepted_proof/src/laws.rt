@@ -1,7 +1,7 @@
 //! What follows from the definitions alone.
 
-ghost use Rattle.std.specs.Prelude.{◌≡◌, ℕ, Bool, List, [], None};
-ghost use Rattle.script_state.specs.States.{no_state, start_of};
+ghost use Rattle.std.specs.Prelude.{◌≡◌, ℕ, Bool, List, [], None, true};
+ghost use Rattle.script_state.specs.States.{start_of};
 ghost use Rattle.smt_terms.specs.declared.node.Node.{Node};
 ghost use Rattle.proof_log.specs.declared.entry.Entry.{Entry};
 ghost use Rattle.proof_log.specs.Logs.{state_of, IsLog};
@@ -13,16 +13,16 @@ ghost use Rattle.accepted_proof.specs.Accepted.{Accepted, AcceptedFrom, StandsBe
 /// Where turns follow one after the other, each `sat` stands beside a model of the assertions that are live there under the
 /// assumptions of the check, and where there is an `unsat` they have none.
 pub fn answers_are_right()
-    ensures { (limits : Limits) (turns : List Turn) → AreTurns limits no_state [] turns
-        → AreRight no_state turns }
+    ensures { (limits : Limits) (turns : List Turn) → AreTurns limits (start_of true) [] turns
+        → AreRight (start_of true) turns }
 {}
 
 /// Where turns follow one after the other, what is printed of the check that stands is right. A model and values are those
 /// of its record, under which all is true that is live and assumed then. The assertions of a core, with all that have no
 /// name and with the assumptions, have no model. The assumptions that are printed have none with all live assertions.
 pub fn what_is_printed_is_right()
-    ensures { (limits : Limits) (turns : List Turn) → AreTurns limits no_state [] turns
-        → ArePrinted no_state [] None turns }
+    ensures { (limits : Limits) (turns : List Turn) → AreTurns limits (start_of true) [] turns
+        → ArePrinted (start_of true) [] None turns }
 {}
 
 /// What an accepted proof shows is right, whoever wrote it, and whether functions and arrays are read or not.
@@ -35,7 +35,7 @@ pub fn accepted_proofs_are_right()
 /// What stands beside answers is right, also where a run ended early.
 pub fn answers_beside_proofs_are_right()
     ensures { (limits : Limits) (script answers proof : List ℕ)
-        (beside : StandsBeside limits script answers proof) → AreRight no_state beside.turns }
+        (beside : StandsBeside limits script answers proof) → AreRight (start_of true) beside.turns }
 {}
 
 /// The commands of a script are read in one way: the turns of two accepted proofs begin on the same lines and say the same.

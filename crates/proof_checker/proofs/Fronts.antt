@@ -1,7 +1,7 @@
 -- What is accepted of fronts of two texts stays so in the whole.
 use Rattle.std.proofs.Common.{◌≡◌, ℕ, Bool, true, false, List, [], ◌∷◌, ◌++◌, Option, None, refl, sym, ap, ◌∙◌, subst, inl, inr, append_assoc}
 use Rattle.script_state.specs.declared.answer.Verdict.{Verdict}
-use Rattle.script_state.specs.States.{StateValue, no_state}
+use Rattle.script_state.specs.States.{StateValue, start_of}
 use Rattle.script_state.specs.Steps.{ends}
 use Rattle.script_state.proofs.Deciding.{ends_by_exit}
 use Rattle.smt_text.proofs.Cuts.{AreCut-one}
@@ -90,4 +90,4 @@ fronts_stay_over start script proof vs us o a b =
     proof_told_first start a.lines a.later a.says all.rest vs us o a.told (subst (λ x. TellsProofFrom start (a.says ++ all.rest) x us o) (sym lines) t)
 
 pub fronts_stay : (script proof : List ℕ) (vs us : List Verdict) (o : Option Refusal) → IsAcceptedSoFar script proof vs → IsJudged script proof us o → (rest : List Verdict) × (us ≡ vs ++ rest)
-fronts_stay script proof vs us o a b = fronts_stay_over no_state script proof vs us o a b
+fronts_stay script proof vs us o a b = fronts_stay_over (start_of true) script proof vs us o a b

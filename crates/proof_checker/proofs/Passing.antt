@@ -7,7 +7,7 @@ use Rattle.smt_text.specs.declared.chunk.Chunk.{Chunk}
 use Rattle.smt_text.specs.Script.{AreChunks}
 use Rattle.smt_text.proofs.Cuts.{AreCut-one}
 use Rattle.script_state.specs.declared.answer.Verdict.{Verdict}
-use Rattle.script_state.specs.States.{StateValue, no_state}
+use Rattle.script_state.specs.States.{StateValue, start_of}
 use Rattle.script_state.specs.Steps.{ends}
 use Rattle.script_state.proofs.Deciding.{reads_one_way}
 use Rattle.cnf_base.proofs.Lists.{each_append}
@@ -102,7 +102,7 @@ judged_one_way_over start script proof vs us o q a b =
     one_proof_telling start b.lines (b.says ++ all.other) vs us o q (subst (λ x. TellsProofFrom start (b.says ++ all.other) x vs o) lines t) (b.told all.other all.too)
 
 pub judged_one_way : (script proof : List ℕ) (vs us : List Verdict) (o q : Option Refusal) → IsJudged script proof vs o → IsJudged script proof us q → (vs ≡ us) × (o ≡ q)
-judged_one_way script proof vs us o q a b = judged_one_way_over no_state script proof vs us o q a b
+judged_one_way script proof vs us o q a b = judged_one_way_over (start_of true) script proof vs us o q a b
 
 -- ---- what is accepted is right
 

@@ -1,10 +1,10 @@
 -- What is accepted of fronts of two texts is right.
-use Rattle.std.proofs.Common.{◌≡◌, ℕ, Bool, false, List, [], ◌∷◌, ◌++◌, map, Option, Some, None, refl, sym, ap, ◌∙◌, subst, inl, inr, append_assoc}
+use Rattle.std.proofs.Common.{◌≡◌, ℕ, Bool, true, List, [], ◌∷◌, ◌++◌, map, Option, Some, None, refl, sym, ap, ◌∙◌, subst, inl, inr, append_assoc}
 use Rattle.std.specs.Prelude.{IfSome}
 use Rattle.std.specs.List.{flat_map}
 use Rattle.cnf_base.proofs.Lists.{each_front}
 use Rattle.script_state.specs.declared.answer.Verdict.{Verdict}
-use Rattle.script_state.specs.States.{start_of, no_state}
+use Rattle.script_state.specs.States.{start_of}
 use Rattle.proof_text.specs.declared.line.Line.{Line}
 use Rattle.proof_text.specs.declared.line.Line.TheVariants as line
 use Rattle.proof_text.specs.Lines.{line_text, IsLine}
@@ -66,5 +66,5 @@ fronts_right_over theories script proof vs h =
     } in
     (m.limits, turns, begun, start_parts_are_right theories begun.format m.limits begun.parts turns begun.turns_are begun.run, proof_verdicts start m.format m.limits m.rest h.says vs m.told ∙ ap (flat_map line_verdict) t.1 ∙ of_parts t.0)
 
-pub fronts_right : (script proof : List ℕ) (vs : List Verdict) → IsAcceptedSoFar script proof vs → (limits : Limits) × (turns : List Turn) × AcceptedSoFar limits script proof turns × AreRight no_state turns × (vs ≡ verdicts_of turns)
-fronts_right script proof vs h = fronts_right_over false script proof vs h
+pub fronts_right : (script proof : List ℕ) (vs : List Verdict) → IsAcceptedSoFar script proof vs → (limits : Limits) × (turns : List Turn) × AcceptedSoFar limits script proof turns × AreRight (start_of true) turns × (vs ≡ verdicts_of turns)
+fronts_right script proof vs h = fronts_right_over true script proof vs h

@@ -6,7 +6,7 @@ use Rattle.smt_text.specs.declared.chunk.Chunk.{Chunk}
 use Rattle.smt_text.specs.Framing.{Held}
 use Rattle.smt_text.specs.Script.{AreCut}
 use Rattle.script_state.specs.declared.answer.Verdict.{Verdict}
-use Rattle.script_state.specs.States.{StateValue, no_state}
+use Rattle.script_state.specs.States.{StateValue, start_of}
 use Rattle.script_state.specs.Steps.{ends}
 use Rattle.proof_text.specs.declared.line.Format.{Format}
 use Rattle.proof_text.specs.declared.line.Line.{Line}
@@ -82,12 +82,12 @@ IsJudgedOver start script proof verdicts refusal = IsTold (TellsProofFrom start)
 abbrev pub IsAcceptedOver : StateValue → List ℕ → List ℕ → List Verdict → Type 0
 IsAcceptedOver start script proof verdicts = IsJudgedOver start script proof verdicts None
 
--- the same of a script that begins where nothing is declared, and neither functions with arguments nor arrays are read
+-- the same of a script that begins where nothing is declared
 abbrev pub IsJudged : List ℕ → List ℕ → List Verdict → Option Refusal → Type 0
-IsJudged script proof verdicts refusal = IsJudgedOver no_state script proof verdicts refusal
+IsJudged script proof verdicts refusal = IsJudgedOver (start_of true) script proof verdicts refusal
 
 abbrev pub IsAccepted : List ℕ → List ℕ → List Verdict → Type 0
-IsAccepted script proof verdicts = IsAcceptedOver no_state script proof verdicts
+IsAccepted script proof verdicts = IsAcceptedOver (start_of true) script proof verdicts
 
 -- The first commands of the script read so, and the first lines of the proof are these. With those commands alone these lines
 -- are accepted, and this is told of them, whatever stands behind in either text.
@@ -108,7 +108,7 @@ abbrev pub IsAcceptedSoFarOver : StateValue → List ℕ → List ℕ → List V
 IsAcceptedSoFarOver start script proof verdicts = IsToldSoFar (TellsProofFrom start) (record { line = 1; bytes = script }) proof verdicts
 
 abbrev pub IsAcceptedSoFar : List ℕ → List ℕ → List Verdict → Type 0
-IsAcceptedSoFar script proof verdicts = IsAcceptedSoFarOver no_state script proof verdicts
+IsAcceptedSoFar script proof verdicts = IsAcceptedSoFarOver (start_of true) script proof verdicts
 
 -- the first bad line and its rule, and the verdicts of the records before it
 abbrev pub IsRefused : List ℕ → List ℕ → List Verdict → Refusal → Type 0

@@ -1,8 +1,8 @@
 //! What is judged of two texts.
 
-ghost use Rattle.std.specs.Prelude.{◌≡◌, ◌++◌, ℕ, Bool, List, Option};
+ghost use Rattle.std.specs.Prelude.{◌≡◌, ◌++◌, ℕ, Bool, List, Option, true};
 ghost use Rattle.script_state.specs.declared.answer.Verdict.{Verdict};
-ghost use Rattle.script_state.specs.States.{StateValue, no_state, start_of};
+ghost use Rattle.script_state.specs.States.{StateValue, start_of};
 ghost use Rattle.accepted_proof.specs.declared.refusal.Refusal.{Refusal};
 ghost use Rattle.accepted_proof.specs.Searching.{Limits};
 ghost use Rattle.accepted_proof.specs.Turns.{Turn};
@@ -35,7 +35,7 @@ pub fn accepted_fronts_stay()
 pub fn what_is_accepted_is_right()
     ensures { (script proof : List ℕ) (vs : List Verdict) → IsAccepted script proof vs
         → (limits : Limits) × (turns : List Turn) × Accepted limits script proof turns
-        × AreRight no_state turns × (vs ≡ verdicts_of turns) }
+        × AreRight (start_of true) turns × (vs ≡ verdicts_of turns) }
 {
     judged_proofs_are_accepted();
     accepted_proofs_are_right();

@@ -218,9 +218,10 @@ impl Checking {
     /// Nothing was fed yet.
     pub fn new(alloc: Global) -> Checking
         ensures judged { (script proof : List ℕ) (vs : List Verdict) (o : Option Refusal)
-            → Judges result script proof vs o → IsJudged script proof vs o }
+            → Judges result script proof vs o → IsJudgedOver (start_of false) script proof vs o }
         ensures accepted { (script proof : List ℕ) (vs : List Verdict)
-            → Accepts result script proof vs → IsAcceptedSoFar script proof vs }
+            → Accepts result script proof vs
+            → IsAcceptedSoFarOver (start_of false) script proof vs }
         ensures verdicts { verdicts_by result.checker ≡ [] }
         ensures ended { AreEnded result false false }
     {
@@ -230,9 +231,9 @@ impl Checking {
     /// Nothing was fed yet, and functions with arguments and arrays are read in the script.
     pub fn with_theories(alloc: Global) -> Checking
         ensures judged { (script proof : List ℕ) (vs : List Verdict) (o : Option Refusal)
-            → Judges result script proof vs o → IsJudgedOver (start_of true) script proof vs o }
+            → Judges result script proof vs o → IsJudged script proof vs o }
         ensures accepted { (script proof : List ℕ) (vs : List Verdict)
-            → Accepts result script proof vs → IsAcceptedSoFarOver (start_of true) script proof vs }
+            → Accepts result script proof vs → IsAcceptedSoFar script proof vs }
         ensures verdicts { verdicts_by result.checker ≡ [] }
         ensures ended { AreEnded result false false }
     {

@@ -26,8 +26,6 @@ mod records;
 mod refutations;
 pub mod report;
 mod steps;
-#[cfg(test)]
-mod theory_tests;
 mod values;
 mod written;
 
@@ -36,10 +34,3 @@ pub use check_laws::{
     accepted_proofs_pass_over, texts_are_judged_one_way, what_is_accepted_is_right,
     what_is_accepted_over_is_right,
 };
-
-#[cfg(test)]
-mod deletion_tests;
-#[cfg(test)]
-mod lemma_tests;
-#[cfg(test)]
-mod rewrite_tests;
