@@ -1,0 +1,4 @@
+pub mod Rows
+pub mod Constants
+pub mod Leaves
+pub mod Found
