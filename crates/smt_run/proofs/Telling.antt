@@ -8,7 +8,7 @@ use Rattle.smt_text.specs.declared.chunk.Chunk.{Chunk}
 use Rattle.smt_text.specs.Framing.{Held, first_chunk, last_chunk}
 use Rattle.smt_text.specs.Script.{Begins, AreChunks}
 use Rattle.smt_text.proofs.Cuts.{Begins-append}
-use Rattle.script_state.specs.States.{no_state}
+use Rattle.script_state.specs.States.{start_of}
 use Rattle.accepted_proof.specs.Searching.{Limits, AreLimits}
 use Rattle.proof_text.specs.Lines.{line_text}
 use Rattle.accepted_proof.specs.Turns.{Turn, AreTurns, turn_lines}
@@ -29,14 +29,14 @@ use Rattle.smt_run.proofs.Turning.{Follow-append, answers-append, Adds-trans, Ad
 
 -- what answers to turns that follow one another are
 abbrev pub RightLaw : Limits → Type 0
-RightLaw limits = (turns : List Turn) → AreTurns limits no_state [] turns → AreRight no_state turns × ArePrinted no_state [] None turns
+RightLaw limits = (turns : List Turn) → AreTurns limits (start_of true) [] turns → AreRight (start_of true) turns × ArePrinted (start_of true) [] None turns
 
 -- which proofs a check accepts
 abbrev pub PassLaw : Limits → Type 0
 PassLaw limits = (script proof : List ℕ) (turns : List Turn) → Accepted limits script proof turns → IsAccepted script proof (verdicts_of turns)
 
 -- cut behind its first chunks, a script has the accepted proof of their turns
-checked_cut : (limits : Limits) → PassLaw limits → AreLimits limits → (text : List ℕ) (chunks : List Chunk) (turns : List Turn) → IsFront text chunks → AreRead chunks turns → EndLast turns → AreTurns limits no_state [] turns → IsAcceptedCut limits text chunks turns
+checked_cut : (limits : Limits) → PassLaw limits → AreLimits limits → (text : List ℕ) (chunks : List Chunk) (turns : List Turn) → IsFront text chunks → AreRead chunks turns → EndLast turns → AreTurns limits (start_of true) [] turns → IsAcceptedCut limits text chunks turns
 checked_cut limits pass allowed text chunks turns front read last run =
     let k = front_parts text chunks front in
     record {
@@ -44,7 +44,7 @@ checked_cut limits pass allowed text chunks turns front read last run =
       rest = k.1;
       text_is = k.2;
       whole = k.3;
-      checked = pass k.0 (proof_of limits turns) turns (accepted_turns no_state limits k.0 turns chunks allowed (inl k.3) read last run);
+      checked = pass k.0 (proof_of limits turns) turns (accepted_turns (start_of true) limits k.0 turns chunks allowed (inl k.3) read last run);
     }
 
 -- ---- texts
@@ -311,7 +311,7 @@ module _ (limits : Limits) where
   told_all (Some x) (Some y) None (Some z) (Some m) p' refused status allowed law pass e h w = absurd w.adds.answers
   told_all (Some x) (Some y) (Some y') (Some z) (Some m) None refused status allowed law pass e h w = absurd w.adds.proof
   told_all (Some x) (Some y) (Some y') (Some z) (Some m) (Some z') refused status allowed law pass e h w =
-      let accepted : Accepted limits x (header_text limits ++ lines_of w.turns) w.turns = accepted_turns no_state limits x w.turns w.chunks allowed w.cut w.adds.follow.read w.adds.follow.last w.adds.follow.run in (
+      let accepted : Accepted limits x (header_text limits ++ lines_of w.turns) w.turns = accepted_turns (start_of true) limits x w.turns w.chunks allowed w.cut w.adds.follow.read w.adds.follow.last w.adds.follow.run in (
         answers_of w.turns,
         header_text limits ++ lines_of w.turns,
         ap Some (rw append-nil at w.adds.answers),

@@ -6,7 +6,7 @@ use Rattle.smt_desk.specs.Faults.{Rose}
 use Rattle.smt_text.specs.declared.chunk.Chunk.{Chunk}
 use Rattle.smt_text.specs.Framing.{Held, first_chunk}
 use Rattle.smt_text.specs.Script.{Begins, AreChunks}
-use Rattle.script_state.specs.States.{no_state}
+use Rattle.script_state.specs.States.{start_of}
 use Rattle.accepted_proof.specs.Searching.{Limits}
 use Rattle.proof_text.specs.Lines.{line_text}
 use Rattle.accepted_proof.specs.Turns.{Turn, AreTurns, turn_lines}
@@ -49,7 +49,7 @@ pub record IsBegunBehind (limits : Limits) (text : List ℕ) (chunks : List Chun
   pub front : IsFront text (chunks ++ next ∷ [])
   pub read : AreRead (chunks ++ next ∷ []) (turns ++ turn ∷ [])
   pub last : EndLast (turns ++ turn ∷ [])
-  pub run : AreTurns limits no_state [] (turns ++ turn ∷ [])
+  pub run : AreTurns limits (start_of true) [] (turns ++ turn ∷ [])
   pub left : List ℕ
   pub lines : flat_map line_text (turn_lines turn) ≡ more ++ left
   pub cut : ((begun ≡ []) × (0 < length left))
@@ -65,9 +65,9 @@ pub record IsBesideProof (limits : Limits) (text answered proved : List ℕ) : T
   pub checked : IsAcceptedCut limits text beside.chunks beside.turns
   pub behind : ((beside.begun ≡ []) × (beside.more ≡ []))
       ⊎ IsBegunBehind limits text beside.chunks beside.turns beside.begun beside.more
-  pub thorough : AreThorough limits no_state [] beside.turns
-  pub right : AreRight no_state beside.turns
-  pub printed : ArePrinted no_state [] None beside.turns
+  pub thorough : AreThorough limits (start_of true) [] beside.turns
+  pub right : AreRight (start_of true) beside.turns
+  pub printed : ArePrinted (start_of true) [] None beside.turns
 
 abbrev pub IsBeside : Limits → List ℕ → List ℕ → List ℕ → Type 0
 IsBeside limits text answered proved = IsUnbegun limits answered proved ⊎ IsBesideProof limits text answered proved
@@ -78,9 +78,9 @@ pub record IsAllAnswered (limits : Limits) (status : Status) (text answered prov
   pub turns : List Turn
   pub whole : IsWhole limits text answered proved turns
   pub checked : IsAccepted text proved (verdicts_of turns)
-  pub thorough : AreThorough limits no_state [] turns
-  pub right : AreRight no_state turns
-  pub printed : ArePrinted no_state [] None turns
+  pub thorough : AreThorough limits (start_of true) [] turns
+  pub right : AreRight (start_of true) turns
+  pub printed : ArePrinted (start_of true) [] None turns
   pub status_is : status ≡ (if has_error turns then Refused else Done)
 
 -- the answers are a front of those to the first commands of the script
@@ -91,7 +91,7 @@ pub record IsPrefix (limits : Limits) (text answered : List ℕ) : Type 0 where
   pub front : IsFront text chunks
   pub read : AreRead chunks turns
   pub last : EndLast turns
-  pub run : AreTurns limits no_state [] turns
+  pub run : AreTurns limits (start_of true) [] turns
   pub answers : answers_of turns ≡ answered ++ rest
 
 -- Where a read of the script failed, or it is too long, each command that is whole in what was read before is answered, and
@@ -111,8 +111,8 @@ pub record IsAnsweredToRead (limits : Limits) (status : Status) (left : Option (
   pub turns : List Turn
   pub commands : AreRead chunks turns
   pub going : has_ended turns ≡ false
-  pub run : AreTurns limits no_state [] turns
-  pub thorough : AreThorough limits no_state [] turns
+  pub run : AreTurns limits (start_of true) [] turns
+  pub thorough : AreThorough limits (start_of true) [] turns
   pub answers : answered ≡ answers_of turns
   pub proof : proved ≡ proof_of limits turns
 

@@ -1,15 +1,12 @@
 -- What the search of its cubes shows of a check.
-use Rattle.std.proofs.Common.{◌≡◌, ℕ, zero, suc, ◌<◌, ◌≤◌, ◌^◌, Bool, true, false, List, [], ◌∷◌, ◌++◌, length, map, flat_map, take, Option, Some, refl, sym, ap, ◌∙◌, subst, inl, inr, ⊎_elim, append_assoc, arith}
-use Rattle.std.specs.Prelude.{◌⊎◌, ◌&&◌, is_some, if◌then◌else◌, All, Contains, option_to_list, slice_get}
+use Rattle.std.proofs.Common.{◌≡◌, ℕ, suc, ◌<◌, ◌≤◌, ◌^◌, Bool, false, List, [], ◌∷◌, ◌++◌, length, map, flat_map, Option, Some, refl, sym, ap, ◌∙◌, subst, inl, inr, ⊎_elim, append_assoc, arith}
+use Rattle.std.specs.Prelude.{◌⊎◌, All, Contains, option_to_list}
 use Rattle.std.specs.List.{AllByRecursion}
-use Rattle.std.proofs.lemmas.List.Elements.{All-contains, All-cons, All-from_recursion, All-nil, All-weaker, Contains-append_left, Contains-append_right, recursion_from_All}
+use Rattle.std.proofs.lemmas.List.Elements.{All-cons, All-from_recursion, All-nil, All-weaker, Contains-append_left, Contains-append_right}
 use Rattle.cnf_base.specs.Literals.{Literal, negated}
-use Rattle.cnf_base.specs.Clauses.{lit_true}
 use Rattle.cnf_base.specs.Assignments.{AreBelow}
-use Rattle.cnf_base.proofs.Options.{same_found}
 use Rattle.smt_terms.specs.declared.node.Node.{Node}
 use Rattle.smt_terms.specs.Bits.{bits_in}
-use Rattle.smt_terms.specs.Nodes.{node_at}
 use Rattle.smt_terms.specs.Terms.{TermsValue}
 use Rattle.smt_values.specs.declared.value.Value.{Value}
 use Rattle.scope_selectors.specs.declared.live.Live.{Live}
@@ -18,37 +15,37 @@ use Rattle.script_state.specs.States.{StateValue, assumptions, roots}
 use Rattle.proof_log.specs.declared.entry.Entry.{Entry}
 use Rattle.proof_log.specs.declared.entry.Entry.TheVariants as step
 use Rattle.proof_log.specs.declared.diary.Diary.{Diary}
-use Rattle.proof_log.specs.Assigned.{AreClosed}
-use Rattle.proof_log.specs.Boards.{IsOfSearch, Grows as Prolongs}
 use Rattle.proof_log.specs.Diaries.{IsSpent, is_chain}
+use Rattle.proof_log.specs.LemmaBoards.{Adds}
 use Rattle.proof_log.specs.Places.{IsForTerm}
-use Rattle.proof_log.specs.Logs.{Asserted, LogState, clause_at, constant_width, entry_at, state_of}
-use Rattle.proof_log.specs.Stored.{LogValue, Stands, selector_in}
-use Rattle.proof_log.specs.Words.{IsOfWords}
-use Rattle.proof_log.proofs.Growth.{chain_is_added, entry_within, grown_keeps}
+use Rattle.proof_log.specs.Logs.{Asserted, clause_at, entry_at, state_of}
+use Rattle.proof_log.specs.Stored.{LogValue, Stands, IsKept, selector_in}
+use Rattle.proof_log.proofs.Growth.{entry_within}
 use Rattle.proof_log.proofs.Standing.{stands_over, some_literal}
+use Rattle.cube_search.proofs.Longer.{longer_holds}
+use Rattle.cube_tree.specs.Closing.{Closes}
 use Rattle.cube_tree.specs.Cubes.{cube_of}
-use Rattle.cube_tree.proofs.Resolving.{members}
-use Rattle.cube_search.specs.Ends.{IsModel}
-use Rattle.proof_text.specs.Records.{AreWritten}
-use Rattle.proof_text.specs.declared.record.Record.TheVariants.{Sat, Unsat, Unknown}
-use Rattle.accepted_proof.specs.Models.{IsWrittenModel}
-use Rattle.accepted_proof.specs.Searching.{Limits, is_reached, variables_of, leaf_variables, Rise, cube_variables, selector_literals, bits_or_none, given_literals, HasSelector, HasBit, IsUnknown}
-use Rattle.reached_steps.specs.Reached.{IsOfTerms, AreReachedSteps}
-use Rattle.reached_steps.proofs.Separate.{reached_are_separate}
-use Rattle.smt_session.specs.Growing.{Grows, IsStepFor, AreBits, AreGiven, AreSelectors}
 use Rattle.cube_workers.specs.declared.outcome.Outcome.{Outcome}
 use Rattle.cube_workers.specs.declared.outcome.Outcome.TheVariants as outcome
 use Rattle.cube_workers.specs.Searched.{IsProblem, IsSpentCube, IsClosed, IsLowestSpent, IsFound, problem}
-use Rattle.cube_workers.proofs.Cubes.{grown_chain}
-use Rattle.smt_session.specs.Searched.{IsTermStep, IsAssertionStep, IsStepOf, AreEnough, AreSatisfied, HasTrueSelector, HasTrueBit}
+use Rattle.theory_cubes.specs.Searched as theory
+use Rattle.theory_cubes.specs.declared.outcome.Outcome as found
+use Rattle.theory_cubes.specs.declared.outcome.Outcome.TheVariants as interpreted
+use Rattle.proof_text.specs.Records.{AreWritten}
+use Rattle.proof_text.specs.declared.record.Record.{Record}
+use Rattle.proof_text.specs.declared.record.Record.TheVariants.{Sat, Unsat, Unknown}
+use Rattle.accepted_proof.specs.Models.{IsWrittenModel}
+use Rattle.accepted_proof.specs.Searching.{Limits, Rise, cube_variables, selector_literals, bits_or_none, given_literals, HasSelector, HasBit, IsUnknown}
+use Rattle.reached_steps.specs.Reached.{IsOfTerms}
+use Rattle.reached_steps.specs.Opening.{IsOfPair, IsOfLemma, AreOpeningSteps}
+use Rattle.reached_steps.proofs.Separate.{openings_are_separate}
+use Rattle.smt_session.specs.Growing.{Grows, AreBits, AreGiven, AreSelectors}
 use Rattle.smt_session.specs.Thorough.{IsClosedCube, AreOthersSearched}
 use Rattle.smt_session.specs.Sessions.{IsSession, IsConcluded}
-use Rattle.smt_session.proofs.Giving.{given_below, given_stays, selectors_true, true_bits}
-use Rattle.smt_session.proofs.Roots.{roots_live}
-use Rattle.smt_session.proofs.Satisfied.{satisfied}
-use Rattle.smt_session.proofs.Staying.{grown_steps, words_of}
-use Rattle.smt_session.proofs.Turning.{refutation, true_selectors, grows_by_searches}
+use Rattle.smt_session.proofs.Adding.{added_behind, grows_by_adds, variables_stay}
+use Rattle.smt_session.proofs.Giving.{given_below, given_stays}
+use Rattle.smt_session.proofs.Staying.{grows_more}
+use Rattle.smt_session.proofs.Turning.{refutation}
 
 -- ---- what is searched
 
@@ -63,99 +60,86 @@ rise_below low high (x ∷ xs) h = (below x xs h.1, rise_below (suc x) high xs h
     below : (x : ℕ) (xs : List ℕ) → Rise (suc x) high xs → x < high
     below x xs h = let le = ends (suc x) high xs h in omega (arith, le)
 
-entry_among : (log : List Entry) (p : ℕ) (e : Entry) → entry_at log p ≡ Some e → Contains log e
-entry_among log zero e h = let q : ⊥ = cc in absurd q
-entry_among log (suc k) e h = go log k h
-  where
-    go : (log : List Entry) (k : ℕ) → slice_get log k ≡ Some e → Contains log e
-    go [] k h = let q : ⊥ = cc in absurd q
-    go (x ∷ log) zero h = let q : x ≡ e = cc in (zero, omega arith, q)
-    go (x ∷ log) (suc k) h = let r = go log k h in (suc r.0, omega (arith, r.1), r.2)
+rise_more : (low high more : ℕ) (xs : List ℕ) → high ≤ more → Rise low high xs → Rise low more xs
+rise_more low high more [] le h = omega (arith, le, h)
+rise_more low high more (x ∷ xs) le h = (h.0, rise_more (suc x) high more xs le h.1)
+
+-- no variable goes where a log grows
+next_rises : (s : StateValue) (old new : LogValue) → Stands s.terms.nodes old → Grows s old new → old.next ≤ new.next
+next_rises s old new before g =
+    let a = (stands_over s.terms.nodes old before).next in
+    let k = stands_over s.terms.nodes new g.stands in
+    let b = k.next in
+    let le = (longer_holds s.terms.nodes old.entries new.entries g.added g.entries k.steps).next in
+    omega (arith, a, b, le)
+
+pub still_rise : (s : StateValue) (old new : LogValue) (xs : List ℕ) → Stands s.terms.nodes old → Grows s old new → Rise 2 old.next xs → Rise 2 new.next xs
+still_rise s old new xs before g h = rise_more 2 old.next new.next xs (next_rises s old new before g) h
 
 -- a step that gives a term bits is no chain
 bits_plain : (t : ℕ) (e : Entry) → IsForTerm t e → is_chain (Some e) ≡ false
 bits_plain t (step.Chain c hints) h = let f : ⊥ = cc in absurd f
 bits_plain t e h = refl
 
-module _ (s : StateValue) (log : LogValue) (session : IsSession s log) (positions : List ℕ) (enough : AreEnough s.terms.nodes log (roots s) s.scopes.live positions) where
-  -- the selector of a live assertion stands for its term, which is reached
-  selector_reached : (a : Live) (p t : ℕ) → Contains s.scopes.live a → entry_at log.entries p ≡ Some (step.Selector a.assertion t) → Contains enough.reached t
-  selector_reached a p t live e =
-      let known = All-contains (λ (b : Live). slice_get s.scopes.terms b.assertion ≡ Some b.term) s.scopes.live a session.state.scopes.known live in
-      let for_script = All-contains (IsStepFor s) log.entries (step.Selector a.assertion t) (All-from_recursion (IsStepFor s) log.entries session.each) (entry_among log.entries p (step.Selector a.assertion t) e) in
-      subst (Contains enough.reached) (same_found _ a.term t known for_script.0)
-      (All-contains (λ (b : Live). Contains enough.reached b.term) s.scopes.live a (roots_live (Contains enough.reached) s enough.among) live)
+-- the position is there, and its step is no chain
+abbrev IsPlainStep : List Entry → ℕ → Type 0
+IsPlainStep log p = (p < suc (length log)) × (is_chain (entry_at log p) ≡ false)
 
-  of_terms : (p : ℕ) → Contains positions p → IsOfTerms log.entries enough.reached p
-  of_terms p among =
-      ⊎_elim
-      (λ zero_is. inl zero_is)
-      (λ other. inr (⊎_elim
-      (λ (t : IsTermStep log enough.reached p). inl t)
-      (λ (a : IsAssertionStep log s.scopes.live p). inr (a.0.assertion, a.2.0, selector_reached a.0 p a.2.0 a.1 a.2.1, a.2.1))
-      other))
-      (All-contains (IsStepOf log enough.reached s.scopes.live) positions p enough.each.only among)
+plain_entry : (log : List Entry) (p : ℕ) (e : Entry) → entry_at log p ≡ Some e → is_chain (Some e) ≡ false → IsPlainStep log p
+plain_entry log p e at plain = let le = entry_within log p e at in (omega (arith, le), ap is_chain at ∙ plain)
 
-  reached_steps : AreReachedSteps s.terms.nodes log.entries positions
-  reached_steps = record { reached = enough.reached; closed = subst (λ (f : ℕ → Option ℕ). AreClosed s.terms.nodes f (Contains enough.reached)) (λ i t. (stands_over s.terms.nodes log session.stands).images t i) enough.closed; first = enough.each.first; terms = enough.each.terms; only = of_terms; words = words_of s log.entries session.theories session.each }
+module _ (nodes : List Node) (log : List Entry) (reached positions : List ℕ) (opening : AreOpeningSteps nodes log reached positions) where
+  of_terms : (p : ℕ) → IsOfTerms log reached p → IsPlainStep log p
+  of_terms p (inl e) = (omega (arith, e), ap (λ q. is_chain (entry_at log q)) e)
+  of_terms p (inr (inl h)) = plain_entry log p h.2.0 h.2.1 (bits_plain h.0 h.2.0 h.2.2)
+  of_terms p (inr (inr h)) = plain_entry log p (step.Selector h.0 h.1) h.3 refl
 
-  step_within : (p : ℕ) → Contains positions p → p < suc (length log.entries)
-  step_within p among =
-      ⊎_elim
-      (λ (e : p ≡ 0). omega (arith, e))
-      (λ other. ⊎_elim
-      (λ (t : IsTermStep log enough.reached p). (let le = entry_within log.entries p t.2.0 t.2.1 in omega (arith, le)))
-      (λ (a : IsAssertionStep log s.scopes.live p). (let le = entry_within log.entries p (step.Selector a.0.assertion a.2.0) a.2.1 in omega (arith, le)))
-      other)
-      (All-contains (IsStepOf log enough.reached s.scopes.live) positions p enough.each.only among)
+  of_theory : (p : ℕ) → IsOfPair log reached p ⊎ IsOfLemma nodes log positions p → IsPlainStep log p
+  of_theory p (inl h) = plain_entry log p (step.Equal h.0 h.1) h.4 refl
+  of_theory p (inr h) = plain_entry log p (step.Lemma h.lemma) h.is refl
 
-  -- the step at such a position is no chain
-  step_plain : (p : ℕ) → Contains positions p → is_chain (entry_at log.entries p) ≡ false
-  step_plain p among =
-      ⊎_elim
-      (λ (e : p ≡ 0). ap (λ q. is_chain (entry_at log.entries q)) e)
-      (λ other. ⊎_elim
-      (λ (t : IsTermStep log enough.reached p). ap is_chain t.2.1 ∙ bits_plain t.0 t.2.0 t.2.2)
-      (λ (a : IsAssertionStep log s.scopes.live p). ap is_chain a.2.1)
-      other)
-      (All-contains (IsStepOf log enough.reached s.scopes.live) positions p enough.each.only among)
+  plain_step : (p : ℕ) → Contains positions p → IsPlainStep log p
+  plain_step p among = ⊎_elim (of_terms p) (of_theory p) (opening.only p among)
 
-  pub is_problem : (variables : List ℕ) (given : List Literal) (budget : ℕ) → Rise 2 log.next variables → AreGiven s log given → IsProblem (problem s.terms.nodes log.entries positions variables given budget) log.entries
-  is_problem variables given budget rise are =
-      let over = stands_over s.terms.nodes log session.stands in
-      record {
-        positions = step_within;
-        begun = omega arith;
-        from = omega arith;
-        plain = step_plain;
-        chains = λ at e le q. absurd (let w = entry_within log.entries at e q in omega (arith, le, w));
-        separate = reached_are_separate s.terms.nodes log.entries positions (suc (length log.entries)) session.state.terms over.steps reached_steps;
-        variables = subst (λ n. All (λ x. x < n) variables) over.next (All-from_recursion (λ x. x < log.next) variables (rise_below 2 log.next variables rise));
-        assumed = subst (λ n. AreBelow n given) over.next (given_below s log given session.state.terms session.stands are);
-      }
+-- the problem of a search with functions and arrays
+abbrev pub theory_problem : List Node → List Entry → List ℕ → List ℕ → List ℕ → List Literal → ℕ → theory.Problem
+theory_problem nodes log live positions variables given budget = record { nodes = nodes; live = live; positions = positions; from = suc (length log); variables = variables; assumed = given; budget = budget }
+
+module _ (s : StateValue) (log : LogValue) (session : IsSession s log) (reached positions : List ℕ) (opening : AreOpeningSteps s.terms.nodes log.entries reached positions) (variables : List ℕ) (given : List Literal) (budget : ℕ) (rise : Rise 2 log.next variables) (are : AreGiven s log given) where
+  over : IsKept s.terms.nodes log
+  over = stands_over s.terms.nodes log session.stands
+
+  plain_at : (p : ℕ) → Contains positions p → IsPlainStep log.entries p
+  plain_at = plain_step s.terms.nodes log.entries reached positions opening
+
+  variables_below : All (λ x. x < (state_of s.terms.nodes log.entries).next) variables
+  variables_below = subst (λ n. All (λ x. x < n) variables) over.next (All-from_recursion (λ x. x < log.next) variables (rise_below 2 log.next variables rise))
+
+  assumed_below : AreBelow (state_of s.terms.nodes log.entries).next given
+  assumed_below = subst (λ n. AreBelow n given) over.next (given_below s log given session.state.terms session.stands are)
+
+  pub is_problem : IsProblem (problem s.terms.nodes log.entries positions variables given budget) log.entries
+  is_problem = record {
+    positions = λ p among. (plain_at p among).0;
+    begun = omega arith;
+    from = omega arith;
+    plain = λ p among. (plain_at p among).1;
+    chains = λ at e le q. absurd (let w = entry_within log.entries at e q in omega (arith, le, w));
+    separate = openings_are_separate s.terms.nodes log.entries reached positions (suc (length log.entries)) session.state.terms over.steps opening;
+    variables = variables_below;
+    assumed = assumed_below;
+  }
+
+  pub is_theory_problem : (live : List ℕ) → theory.IsProblem (theory_problem s.terms.nodes log.entries live positions variables given budget) log.entries
+  is_theory_problem live = record {
+    positions = λ p among. (plain_at p among).0;
+    from = omega arith;
+    plain = λ p among. (plain_at p among).1;
+    variables = variables_below;
+    assumed = assumed_below;
+  }
 
 -- ---- a spent cube
-
-module _ (from : List ℕ) (nodes : List Node) (s s' : LogState) (same : s'.bits ≡ s.bits) where
-  same_leaf : (e : Entry) → leaf_variables from nodes s' e ≡ leaf_variables from nodes s e
-  same_leaf (step.Leaf t) = ap (λ (bits : ℕ → Option (List Literal)). if is_some (constant_width (node_at nodes t).op) && is_reached from nodes t then variables_of (bits t) else []) same
-  same_leaf e = refl
-
-  chains_split : (more : List Entry) → AllByRecursion IsOfSearch more → flat_map (leaf_variables from nodes s') more ≡ []
-  chains_split [] h = refl
-  chains_split (step.Leaf t ∷ more) h = let q = h.0 in let f : ⊥ = cc in absurd f
-  chains_split (e ∷ more) h = chains_split more h.1
-
-  same_split : (log more : List Entry) → AllByRecursion IsOfSearch more → flat_map (leaf_variables from nodes s') (log ++ more) ≡ flat_map (leaf_variables from nodes s) log
-  same_split [] more h = chains_split more h
-  same_split (e ∷ log) more h = ap (λ xs. xs ++ flat_map (leaf_variables from nodes s') (log ++ more)) (same_leaf e) ∙ ap (λ xs. leaf_variables from nodes s e ++ xs) (same_split log more h)
-
--- chains leave the variables that split a check
-variables_stay : (limits : Limits) (s : StateValue) (nodes : List Node) (log log' : List Entry) → Prolongs log log' → cube_variables limits s nodes log' ≡ cube_variables limits s nodes log
-variables_stay limits s nodes log log' g =
-    ap (take limits.cubes)
-    (ap (λ es. flat_map (leaf_variables (roots s) nodes (state_of nodes log')) es) g.is
-    ∙ same_split (roots s) nodes (state_of nodes log) (state_of nodes log') (grown_keeps nodes log log' g).0 log g.more g.of_search)
 
 selectors_given : (nodes : List Node) (log : LogValue) (live : List Live) (selectors : List Literal) → Stands nodes log → AreSelectors log live selectors → flat_map (selector_literals (state_of nodes log.entries)) live ≡ selectors
 selectors_given nodes log [] [] h e = refl
@@ -197,13 +181,13 @@ have_bits nodes log (a ∷ asked) (x ∷ xs) h e =
     let rest : map (λ (y : Asked). bits_in log.bits y.term) asked ≡ map (λ l. Some (l ∷ [])) xs = cc in
     All-cons (HasBit (state_of nodes log.entries)) a asked (x, sym ((stands_over nodes log h).bits a.term) ∙ first) (have_bits nodes log asked xs h rest)
 
-module _ (limits : Limits) (s : StateValue) (old new : LogValue) (positions variables : List ℕ) (given : List Literal) (before : Stands s.terms.nodes old) (after : Stands s.terms.nodes new) (prolongs : Prolongs old.entries new.entries) (grows : Grows s old new)
+module _ (limits : Limits) (s : StateValue) (old new : LogValue) (positions variables : List ℕ) (given : List Literal) (before : Stands s.terms.nodes old) (after : Stands s.terms.nodes new) (adds : Adds old.entries new.entries)
     (split : variables ≡ cube_variables limits s s.terms.nodes old.entries) (are : AreGiven s old given) where
   now : AreGiven s new given
-  now = given_stays s old new given before grows are
+  now = given_stays s old new given before (grows_by_adds s old new adds after) are
 
   same : cube_variables limits s s.terms.nodes new.entries ≡ variables
-  same = variables_stay limits s s.terms.nodes old.entries new.entries prolongs ∙ sym split
+  same = variables_stay limits s s.terms.nodes old.entries new.entries adds ∙ sym split
 
   literals : (n : ℕ) → given_literals limits s s.terms.nodes new.entries n ≡ cube_of variables n ++ given
   literals n =
@@ -214,14 +198,14 @@ module _ (limits : Limits) (s : StateValue) (old new : LogValue) (positions vari
       ∙ ap (λ xs. cube_of variables n ++ xs) (sym now.all)
 
   -- the diary of a spent cube shows that the answer is not known
-  pub unknown : (d : Diary) → IsSpentCube (problem s.terms.nodes old.entries positions variables given limits.budget) new.entries d → IsUnknown limits s s.terms.nodes new.entries d
+  unknown : (d : Diary) → IsSpentCube (problem s.terms.nodes old.entries positions variables given limits.budget) new.entries d → IsUnknown limits s s.terms.nodes new.entries d
   unknown d h = record {
     search = record {
       cube_of_check = subst (λ (xs : List ℕ). d.cube < 2 ^ length xs) (sym same) h.cube;
       selectors = have_selectors s.terms.nodes new s.scopes.live now.selectors after now.chosen;
       bits = have_bits s.terms.nodes new (assumptions s) now.bits after now.assumed;
       within = h.within;
-      added = λ p e le q. (let start = h.start in chain_is_added e (grown_chain old.entries new.entries p e prolongs (omega (arith, start, le)) q));
+      added = λ p e le q. (let start = h.start in added_behind old.entries new.entries p e adds (omega (arith, start, le)) q);
     };
     spent = subst (λ xs. IsSpent (record { nodes = s.terms.nodes; log = new.entries; given = xs; from = d.start }) limits.budget d.lines) (sym (literals d.cube)) h.spent;
   }
@@ -238,7 +222,7 @@ module _ (limits : Limits) (s : StateValue) (old new : LogValue) (positions vari
         (λ l. ⊎_elim (Contains-append_left (cube_of variables n) given (negated l)) (Contains-append_right (cube_of variables n) given (negated l))) h.1.clause h.1.closing);
   }
 
-  pub others_searched : (d : Diary) → IsLowestSpent (problem s.terms.nodes old.entries positions variables given limits.budget) new.entries (2 ^ length variables) d → AreOthersSearched limits s s.terms.nodes new.entries d
+  others_searched : (d : Diary) → IsLowestSpent (problem s.terms.nodes old.entries positions variables given limits.budget) new.entries (2 ^ length variables) d → AreOthersSearched limits s s.terms.nodes new.entries d
   others_searched d h = record {
     lower = λ n lt. closed_cube n (h.lower n lt);
     later = λ n gt lt.
@@ -248,65 +232,83 @@ module _ (limits : Limits) (s : StateValue) (old new : LogValue) (positions vari
         (h.later n gt (subst (λ (xs : List ℕ). n < 2 ^ length xs) same lt));
   }
 
+  pub spent_checked : (d : Diary) → IsLowestSpent (problem s.terms.nodes old.entries positions variables given limits.budget) new.entries (2 ^ length variables) d → IsConcluded limits s old new (Unknown d)
+  spent_checked d h = record { grows = grows_by_adds s old new adds after; shown = unknown d h.own; cubes = others_searched d h }
+
 -- ---- what a check comes to
 
-module _ (s : StateValue) (terms : TermsValue) (old new : LogValue) (places variables : List ℕ) (given : List Literal) (budget : ℕ) (v : ℕ → Bool) (f : Outcome)
-    (own : terms ≡ s.terms) (session : IsSession s old) (are : AreGiven s old given) (prolongs : Prolongs old.entries new.entries) (after : Stands terms.nodes new)
-    (is : IsFound (problem terms.nodes old.entries places variables given budget) new.entries v f) where
+pub closed_checked : (limits : Limits) (s : StateValue) (old new : LogValue) (given : List Literal) (at : ℕ) → Stands s.terms.nodes old → Stands s.terms.nodes new → Adds old.entries new.entries → AreGiven s old given
+    → Closes (clause_at (state_of s.terms.nodes new.entries).clauses) given [] at → IsConcluded limits s old new (Unsat at)
+closed_checked limits s old new given at before after adds are h =
+    let grows = grows_by_adds s old new adds after in
+    record { grows = grows; shown = refutation s old new given at before grows are h; cubes = tt }
+
+pub model_checked : (limits : Limits) (s : StateValue) (old new : LogValue) (values : List (ℕ × Value)) → Stands s.terms.nodes new → Adds old.entries new.entries → AreWritten (Sat values) × IsWrittenModel s values → IsConcluded limits s old new (Sat values)
+model_checked limits s old new values after adds shown = record { grows = grows_by_adds s old new adds after; shown = shown; cubes = tt }
+
+-- by bits alone
+module _ (limits : Limits) (s : StateValue) (terms : TermsValue) (old new : LogValue) (positions variables : List ℕ) (given : List Literal) (budget : ℕ) (v : ℕ → Bool) (f : Outcome)
+    (own : terms ≡ s.terms) (before : Stands s.terms.nodes old) (are : AreGiven s old given) (adds : Adds old.entries new.entries) (after : Stands terms.nodes new)
+    (is : IsFound (problem terms.nodes old.entries positions variables given budget) new.entries v f) where
   stands : Stands s.terms.nodes new
   stands = subst (λ (t : TermsValue). Stands t.nodes new) own after
 
-  grows : Grows s old new
-  grows = grows_by_searches s old new prolongs stands
+  pub found_as : (g : Outcome) → f ≡ g → IsFound (problem s.terms.nodes old.entries positions variables given budget) new.entries v g
+  found_as g e =
+      subst (IsFound (problem s.terms.nodes old.entries positions variables given budget) new.entries v) e
+      (subst (λ (t : TermsValue). IsFound (problem t.nodes old.entries positions variables given budget) new.entries v f) own is)
 
-  found_in : IsFound (problem s.terms.nodes old.entries places variables given budget) new.entries v f
-  found_in = subst (λ (t : TermsValue). IsFound (problem t.nodes old.entries places variables given budget) new.entries v f) own is
+  pub refuted : (at : ℕ) → f ≡ outcome.Unsat at → IsConcluded limits s old new (Unsat at)
+  refuted at e = closed_checked limits s old new given at before stands adds are (found_as (outcome.Unsat at) e)
 
-  found_as : (g : Outcome) → f ≡ g → IsFound (problem s.terms.nodes old.entries places variables given budget) new.entries v g
-  found_as g e = subst (IsFound (problem s.terms.nodes old.entries places variables given budget) new.entries v) e found_in
+  pub spent : (d : Diary) (by : Limits) → by ≡ limits → budget ≡ by.budget → variables ≡ cube_variables by s s.terms.nodes old.entries → f ≡ outcome.Unknown d → IsConcluded limits s old new (Unknown d)
+  spent d by same b split e =
+      subst (λ (l : Limits). IsConcluded l s old new (Unknown d)) same
+      (spent_checked by s old new positions variables given before stands adds split are d
+      (subst (λ n. IsLowestSpent (problem s.terms.nodes old.entries positions variables given n) new.entries (2 ^ length variables) d) b (found_as (outcome.Unknown d) e)))
 
-  pub refuted_checked : (limits : Limits) (at : ℕ) → f ≡ outcome.Unsat at → IsConcluded limits s old new (Unsat at)
-  refuted_checked limits at e = record { grows = grows; shown = refutation s old new given at session.stands grows are (found_as (outcome.Unsat at) e); cubes = tt }
+-- with functions and arrays
 
-  pub unknown_checked : (limits : Limits) (d : Diary) → budget ≡ limits.budget → variables ≡ cube_variables limits s s.terms.nodes old.entries → f ≡ outcome.Unknown d → IsConcluded limits s old new (Unknown d)
-  unknown_checked limits d b split e =
-      let spent : IsLowestSpent (problem s.terms.nodes old.entries places variables given limits.budget) new.entries (2 ^ length variables) d =
-      subst (λ n. IsLowestSpent (problem s.terms.nodes old.entries places variables given n) new.entries (2 ^ length variables) d) b (found_as (outcome.Unknown d) e) in
-      record {
-        grows = grows;
-        shown = unknown limits s old new places variables given session.stands stands prolongs grows split are d spent.own;
-        cubes = others_searched limits s old new places variables given session.stands stands prolongs grows split are d spent;
-      }
+module _ (nodes : List Node) (log log' : List Entry) (live positions variables : List ℕ) (given : List Literal) (budget : ℕ) where
+  -- a diary that starts where the search did
+  as_spent : (d : Diary) → theory.IsSpentCube (theory_problem nodes log live positions variables given budget) log' d → IsSpentCube (problem nodes log positions variables given budget) log' d
+  as_spent d h = record { cube = h.cube; start = (let e = h.start in omega (arith, e)); within = h.within; spent = h.spent }
 
-  pub model_checked : (limits : Limits) (values : List (ℕ × Value)) → AreWritten (Sat values) × IsWrittenModel s values → IsConcluded limits s old new (Sat values)
-  model_checked limits values shown = record { grows = grows; shown = shown; cubes = tt }
+  as_lowest : (count : ℕ) (d : Diary) → theory.IsLowestSpent (theory_problem nodes log live positions variables given budget) log' count d → IsLowestSpent (problem nodes log positions variables given budget) log' count d
+  as_lowest count d h = record {
+    own = as_spent d h.own;
+    lower = λ n lt. h.lower n lt;
+    later = λ n gt lt.
+        ⊎_elim
+        (λ (c : theory.IsClosed (theory_problem nodes log live positions variables given budget) log' n). inl c)
+        (λ (e : (f : Diary) × (f.cube ≡ n) × theory.IsSpentCube (theory_problem nodes log live positions variables given budget) log' f). inr (e.0, e.1, as_spent e.0 e.2))
+        (h.later n gt lt);
+  }
 
-  module _ (model : f ≡ outcome.Sat) where
-    is_model : IsModel (state_of s.terms.nodes new.entries).clauses places given v
-    is_model = found_as outcome.Sat model
+module _ (limits : Limits) (s : StateValue) (terms : TermsValue) (old new : LogValue) (live positions variables : List ℕ) (given : List Literal) (budget : ℕ) (f : found.Outcome)
+    (own : terms ≡ s.terms) (before : Stands s.terms.nodes old) (are : AreGiven s old given) (adds : Adds old.entries new.entries) (after : Stands terms.nodes new)
+    (is : theory.IsFound (theory_problem terms.nodes old.entries live positions variables given budget) new.entries f) where
+  standing : Stands s.terms.nodes new
+  standing = subst (λ (t : TermsValue). Stands t.nodes new) own after
 
-    given_true : AllByRecursion (λ x. lit_true v x ≡ true) given
-    given_true = recursion_from_All (λ x. lit_true v x ≡ true) given (members (λ x. lit_true v x ≡ true) given is_model.literals)
+  pub interpreted_as : (g : found.Outcome) → f ≡ g → theory.IsFound (theory_problem s.terms.nodes old.entries live positions variables given budget) new.entries g
+  interpreted_as g e =
+      subst (theory.IsFound (theory_problem s.terms.nodes old.entries live positions variables given budget) new.entries) e
+      (subst (λ (t : TermsValue). theory.IsFound (theory_problem t.nodes old.entries live positions variables given budget) new.entries f) own is)
 
-    pub model_words : AllByRecursion (IsOfWords s.terms.nodes) new.entries
-    model_words = words_of s new.entries session.theories (grown_steps s old new session.each grows)
+  pub refuted_with_lemmas : (at : ℕ) → f ≡ interpreted.Unsat at → IsConcluded limits s old new (Unsat at)
+  refuted_with_lemmas at e = closed_checked limits s old new given at before standing adds are (interpreted_as (interpreted.Unsat at) e)
 
-    given_now : AreGiven s new given
-    given_now = given_stays s old new given session.stands grows are
+  pub spent_with_lemmas : (d : Diary) → budget ≡ limits.budget → variables ≡ cube_variables limits s s.terms.nodes old.entries → f ≡ interpreted.Unknown d → IsConcluded limits s old new (Unknown d)
+  spent_with_lemmas d b split e =
+      let lowest = as_lowest s.terms.nodes old.entries new.entries live positions variables given budget (2 ^ length variables) d (interpreted_as (interpreted.Unknown d) e) in
+      spent_checked limits s old new positions variables given before standing adds split are d
+      (subst (λ n. IsLowestSpent (problem s.terms.nodes old.entries positions variables given n) new.entries (2 ^ length variables) d) b lowest)
 
-    pub model_satisfies : AreEnough s.terms.nodes old (roots s) s.scopes.live places → AreSatisfied s.terms.nodes new (roots s) s.scopes.live v
-    model_satisfies enough =
-        satisfied s.terms.nodes old new (roots s) s.scopes.live places v session.stands stands prolongs enough
-        (λ at among k c q.
-        is_model.clauses (record { pos = at; part = k }) c among
-        (sym (ap (λ rows. clause_at rows (record { pos = at; part = k })) (stands_over s.terms.nodes new stands).clauses) ∙ q))
+-- what a further search comes to is what the check comes to
+pub concluded_then : (limits : Limits) (s : StateValue) (old mid new : LogValue) (r : Record) → Grows s old mid → IsConcluded limits s mid new r → IsConcluded limits s old new r
+concluded_then limits s old mid new r g h = record { grows = grows_more s old mid new g h.grows; shown = h.shown; cubes = h.cubes }
 
-    pub model_selects : All (HasTrueSelector s.terms.nodes new v) s.scopes.live
-    model_selects =
-        All-from_recursion (HasTrueSelector s.terms.nodes new v) s.scopes.live
-        (true_selectors s new v s.scopes.live given_now.selectors session.state.terms stands (grown_steps s old new session.each grows)
-        (recursion_from_All (λ (a : Live). slice_get s.scopes.terms a.assertion ≡ Some a.term) s.scopes.live session.state.scopes.known) given_now.chosen
-        (selectors_true s new v given given_now given_true))
-
-    pub model_assumes : All (HasTrueBit new v) (assumptions s)
-    model_assumes = All-from_recursion (HasTrueBit new v) (assumptions s) (true_bits s new v given given_now given_true)
+-- what holds over the terms of a state and the terms of its check holds over others that are the same
+pub over_roots : (P : List Node → List ℕ → Type 0) (s : StateValue) (terms : TermsValue) (live : List ℕ) → terms ≡ s.terms → live ≡ roots s → P s.terms.nodes (roots s) → P terms.nodes live
+over_roots P s terms live own all h = subst (λ (t : TermsValue). P t.nodes live) (sym own) (subst (P s.terms.nodes) (sym all) h)

@@ -22,7 +22,7 @@ use Rattle.proof_log.proofs.Ordered.{log_is_ordered}
 use Rattle.proof_log.proofs.Settled.{stands_settled}
 use Rattle.proof_log.proofs.Standing.{stands_over, some_literal}
 use Rattle.smt_session.specs.Growing.{Grows, HasBit, HasBits, AreBits, AreGiven, AreSelectors}
-use Rattle.smt_session.specs.Searched.{HasTrueBit}
+use Rattle.written_models.specs.Found.{IsGiven}
 use Rattle.smt_session.proofs.Roots.{roots_assumed}
 use Rattle.smt_session.proofs.Staying.{bit_stays, bits_stay, selectors_stay}
 
@@ -137,7 +137,7 @@ given_stays s old new given h g e = record {
 pub selectors_true : (s : StateValue) (l : LogValue) (v : ℕ → Bool) (given : List Literal) (g : AreGiven s l given) → AllByRecursion (λ x. lit_true v x ≡ true) given → AllByRecursion (λ x. lit_true v x ≡ true) g.selectors
 selectors_true s l v given g h = each_front (λ x. lit_true v x ≡ true) g.selectors g.bits (subst (AllByRecursion (λ x. lit_true v x ≡ true)) g.all h)
 
-true_each : (l : LogValue) (v : ℕ → Bool) (asked : List Asked) (bits : List Literal) → AreBits l asked bits → AllByRecursion (λ x. lit_true v x ≡ true) bits → AllByRecursion (HasTrueBit l v) asked
+true_each : (l : LogValue) (v : ℕ → Bool) (asked : List Asked) (bits : List Literal) → AreBits l asked bits → AllByRecursion (λ x. lit_true v x ≡ true) bits → AllByRecursion (IsGiven l v) asked
 true_each l v [] bits e h = tt
 true_each l v (a ∷ asked) [] e h = let q : ⊥ = cc in absurd q
 true_each l v (a ∷ asked) (b ∷ bits) e h =
@@ -145,6 +145,6 @@ true_each l v (a ∷ asked) (b ∷ bits) e h =
     let rest : map (λ (y : Asked). bits_in l.bits y.term) asked ≡ map one bits = cc in
     (record { bit = b; bits = first; holds = h.0 }, true_each l v asked bits rest h.1)
 
-pub true_bits : (s : StateValue) (l : LogValue) (v : ℕ → Bool) (given : List Literal) → AreGiven s l given → AllByRecursion (λ x. lit_true v x ≡ true) given → AllByRecursion (HasTrueBit l v) (assumptions s)
+pub true_bits : (s : StateValue) (l : LogValue) (v : ℕ → Bool) (given : List Literal) → AreGiven s l given → AllByRecursion (λ x. lit_true v x ≡ true) given → AllByRecursion (IsGiven l v) (assumptions s)
 true_bits s l v given g h =
     true_each l v (assumptions s) g.bits g.assumed (each_behind (λ x. lit_true v x ≡ true) g.selectors g.bits (subst (AllByRecursion (λ x. lit_true v x ≡ true)) g.all h))

@@ -21,11 +21,11 @@ use Rattle.proof_text.specs.Entries.{entry_line}
 use Rattle.accepted_proof.specs.Turns.{IsOfScript, AreStepsOf, with_step, with_steps}
 use Rattle.accepted_proof.proofs.Following.{same_assumed, same_scopes, same_symbols}
 use Rattle.accepted_proof.proofs.Good.{states_keep, step_grows}
-use Rattle.smt_session.specs.Growing.{AreStepsFor, Grows, IsOfTheories, IsStepFor, LeadsTo}
+use Rattle.smt_session.specs.Growing.{AreStepsFor, Grows, IsStepFor, LeadsTo}
 use Rattle.smt_session.specs.Planning.{Prepares}
 use Rattle.smt_session.specs.Sessions.{IsSession}
 use Rattle.smt_session.specs.Thorough.{IsUsed, IsWatching}
-use Rattle.smt_session.proofs.Going.{more_steps, read_more}
+use Rattle.smt_session.proofs.Going.{more_steps}
 use Rattle.smt_session.proofs.Reasons.{simplified_append, simplified_bare}
 use Rattle.smt_session.proofs.Turning.{are_steps, same_after}
 
@@ -74,23 +74,16 @@ behind_of s s' old new l =
     (n.0, ap (λ (x : StateValue). x.terms.nodes) l.state ∙ n.1)
 
 abbrev pub leads_none : (s : StateValue) (l : LogValue) → Stands s.terms.nodes l → LeadsTo s l s l
-leads_none s l h = record { added = []; entries = sym (append-nil l.entries); steps = tt; state = refl; words = tt; stands = h }
-
--- whether functions and arrays are read stays
-pub theories_led : (s s' : StateValue) (old new : LogValue) → LeadsTo s old s' new → s'.symbols.theories ≡ s.symbols.theories
-theories_led s s' old new l = ap (λ (x : StateValue). x.symbols.theories) l.state ∙ ap (λ (v : SymbolsValue). v.theories) (same_symbols s l.added)
+leads_none s l h = record { added = []; entries = sym (append-nil l.entries); steps = tt; state = refl; stands = h }
 
 abbrev pub leads_more : (s t u : StateValue) (a b c : LogValue) → LeadsTo s a t b → LeadsTo t b u c → LeadsTo s a u c
-leads_more s t u a b c g h =
-    let more = behind_of t u b c h in
-    record {
-      added = g.added ++ h.added;
-      entries = h.entries ∙ ap (λ x. x ++ h.added) g.entries ∙ append_assoc a.entries g.added h.added;
-      steps = steps_append s a.entries g.added h.added g.steps (subst (λ l. AreStepsOf (with_steps s g.added) l h.added) g.entries (subst (λ x. AreStepsOf x b.entries h.added) g.state h.steps));
-      state = h.state ∙ ap (λ x. with_steps x h.added) g.state ∙ sym (with_append s g.added h.added);
-      words = each_append (IsOfTheories u) g.added h.added (read_more t u more.0 g.added more.1 (theories_led t u b c h) g.words) h.words;
-      stands = h.stands;
-    }
+leads_more s t u a b c g h = record {
+  added = g.added ++ h.added;
+  entries = h.entries ∙ ap (λ x. x ++ h.added) g.entries ∙ append_assoc a.entries g.added h.added;
+  steps = steps_append s a.entries g.added h.added g.steps (subst (λ l. AreStepsOf (with_steps s g.added) l h.added) g.entries (subst (λ x. AreStepsOf x b.entries h.added) g.state h.steps));
+  state = h.state ∙ ap (λ x. with_steps x h.added) g.state ∙ sym (with_append s g.added h.added);
+  stands = h.stands;
+}
 
 -- steps that make no term
 abbrev pub grows_leads : (s : StateValue) (old new : LogValue) → Grows s old new → LeadsTo s old s new
@@ -99,13 +92,8 @@ grows_leads s old new g = record {
   entries = g.entries;
   steps = are_steps s old new g;
   state = sym (same_after s g.added g.still);
-  words = words_in g.added g.each;
   stands = g.stands;
 }
-  where
-    words_in : (es : List Entry) → AreStepsFor s es → AllByRecursion (IsOfTheories s) es
-    words_in [] h = tt
-    words_in (e ∷ es) h = (h.0.1, words_in es h.1)
 
 -- the state, where this is asserted and this is assumed
 abbrev pub state_with : StateValue → ScopesValue → Option (List Asked) → StateValue
@@ -138,36 +126,33 @@ pub step_lined : (s : StateValue) (log : List Entry) (e : Entry) → IsValid s.t
 step_lined s log (step.Node n) i = node_lined n.op n.args i.operator
 step_lined s log e i = refl
 
-abbrev pub leads_one : (s s' : StateValue) (old new : LogValue) (e : Entry) → IsValid s.terms (state_of s.terms.nodes old.entries) e → IsOfScript s e → IsOfTheories s' e → s' ≡ with_step s e → new.entries ≡ old.entries ++ e ∷ [] → Stands s'.terms.nodes new → LeadsTo s old s' new
-leads_one s s' old new e valid of words state entries stands = record {
+abbrev pub leads_one : (s s' : StateValue) (old new : LogValue) (e : Entry) → IsValid s.terms (state_of s.terms.nodes old.entries) e → IsOfScript s e → s' ≡ with_step s e → new.entries ≡ old.entries ++ e ∷ [] → Stands s'.terms.nodes new → LeadsTo s old s' new
+leads_one s s' old new e valid of state entries stands = record {
   added = e ∷ [];
   entries = entries;
   steps = (valid, of, step_lined s old.entries e valid, tt);
   state = state;
-  words = (words, tt);
   stands = stands;
 }
 
 -- ---- sessions
 
-for_script : (s t : StateValue) (log es : List Entry) → AllByRecursion (IsOfScript s) es → AllByRecursion (IsOfTheories s) es → AreStepsOf t log es → AreStepsFor s es
-for_script s t log [] h k l = tt
-for_script s t log (e ∷ es) h k l = ((h.0, k.0, l.2), for_script s (with_step t e) (log ++ e ∷ []) es h.1 k.1 l.3)
+for_script : (s t : StateValue) (log es : List Entry) → AllByRecursion (IsOfScript s) es → AreStepsOf t log es → AreStepsFor s es
+for_script s t log [] h l = tt
+for_script s t log (e ∷ es) h l = ((h.0, l.2), for_script s (with_step t e) (log ++ e ∷ []) es h.1 l.3)
 
 pub led_steps : (s s' : StateValue) (old new : LogValue) → AreStepsFor s old.entries → LeadsTo s old s' new → AreStepsFor s' new.entries
 led_steps s s' old new each l =
-    let more = behind_of s s' old new l in
     let symbols : s'.symbols ≡ s.symbols = ap (λ (x : StateValue). x.symbols) l.state ∙ same_symbols s l.added in
     let scopes : s'.scopes ≡ s.scopes = ap (λ (x : StateValue). x.scopes) l.state ∙ same_scopes s l.added in
     subst (AreStepsFor s') (sym l.entries)
     (each_append (IsStepFor s') old.entries l.added
-    (more_steps s s' more.0 old.entries more.1 (theories_led s s' old new l) (λ d r e. subst (λ (v : SymbolsValue). slice_get v.signatures d ≡ Some r) (sym symbols) e) (λ a t e. subst (λ (v : ScopesValue). slice_get v.terms a ≡ Some t) (sym scopes) e) each)
-    (for_script s' s old.entries l.added (scripted s s.symbols s.scopes old.entries l.added l.steps refl refl s' symbols scopes) l.words l.steps))
+    (more_steps s s' old.entries (λ d r e. subst (λ (v : SymbolsValue). slice_get v.signatures d ≡ Some r) (sym symbols) e) (λ a t e. subst (λ (v : ScopesValue). slice_get v.terms a ≡ Some t) (sym scopes) e) each)
+    (for_script s' s old.entries l.added (scripted s s.symbols s.scopes old.entries l.added l.steps refl refl s' symbols scopes) l.steps))
 
 pub session_led : (s s' : StateValue) (old new : LogValue) → IsSession s old → LeadsTo s old s' new → IsSession s' new
 session_led s s' old new h l = record {
   state = subst IsState (sym l.state) (states_keep.steps s old.entries l.added h.state l.steps);
-  theories = theories_led s s' old new l ∙ h.theories;
   stands = l.stands;
   each = led_steps s s' old new h.each l;
 }

@@ -1,12 +1,10 @@
 pub mod Staying
-pub mod HeldSteps
 pub mod Validity
 pub mod Resting
 pub mod Roots
-pub mod Arrayless
 pub mod Watched
 pub mod Made
-pub mod Satisfied
+pub mod Prepared
 pub mod Modeling
 pub mod Giving
 pub mod Turning
@@ -15,8 +13,8 @@ pub mod Leading
 pub mod PlanSteps
 pub mod Plans
 pub mod Checked
-pub mod Founded
 pub mod Reaching
+pub mod Adding
 pub mod Concluding
 pub mod Going
 pub mod Printing
@@ -30,3 +28,6 @@ pub mod Tabling
 pub mod Coring
 pub mod Settling
 pub mod Ordered
+pub mod Kept
+pub mod Readying
+pub mod Keeping

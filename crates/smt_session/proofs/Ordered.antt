@@ -1,6 +1,6 @@
 -- The terms of a session stay in order.
-use Rattle.std.proofs.Common.{◌≡◌, ℕ, ◌<◌, Bool, true, false, List, [], ◌++◌, length, refl, sym, ap, ◌∙◌, subst}
-use Rattle.std.specs.Prelude.{All, if◌then◌else◌, is_some}
+use Rattle.std.proofs.Common.{◌≡◌, ℕ, ◌<◌, List, [], ◌++◌, length, sym, ap, ◌∙◌, subst}
+use Rattle.std.specs.Prelude.{All, is_some}
 use Rattle.smt_terms.specs.declared.node.Node.{Node}
 use Rattle.smt_terms.specs.Bits.{TermBits, image_in}
 use Rattle.smt_terms.specs.Terms.{IsTermList, AreDifferent}
@@ -9,7 +9,7 @@ use Rattle.watch_roots.specs.Roots.{AreLive}
 use Rattle.script_state.specs.Readings.{Reading}
 use Rattle.script_state.specs.declared.answer.Answer.{Answer}
 use Rattle.script_state.specs.States.{StateValue, roots}
-use Rattle.script_state.specs.Steps.{Step, step, forgotten}
+use Rattle.script_state.specs.Steps.{Step, step}
 use Rattle.proof_log.specs.Stored.{LogValue, Stands}
 use Rattle.proof_log.proofs.Standing.{stands_longer}
 use Rattle.reached_images.specs.declared.plan.Planned.{Planned}
@@ -20,10 +20,9 @@ use Rattle.session_terms.proofs.Placing.{placed_longer, placed_same}
 use Rattle.session_terms.proofs.Planned.{plan_in_order}
 use Rattle.smt_session.specs.Growing.{Grows, HasBits, LeadsTo}
 use Rattle.smt_session.specs.Planning.{grown_by, AddsTerms, AreTakenOver, IsPlanned}
-use Rattle.smt_session.specs.Sessions.{IsSession, asks_values}
+use Rattle.smt_session.specs.Sessions.{IsSession}
 use Rattle.smt_session.proofs.Going.{goes_on}
 use Rattle.smt_session.proofs.Leading.{behind_of, session_led}
-use Rattle.smt_session.proofs.Settling.{forgotten_is}
 
 -- over terms that begin with those
 order_over : (nodes more over : List Node) (bits : List TermBits) → over ≡ nodes ++ more → IsInOrder nodes bits → IsInOrder over bits
@@ -55,19 +54,6 @@ pub order_still : (old new : StateValue) (log : LogValue) (a : Answer) (es : Rea
 order_still old new log a es h e order =
     let g = goes_on old new a es h.state e in
     order_over old.terms.nodes g.keeps.behind new.terms.nodes log.bits g.keeps.nodes order
-
--- and once it is answered
-module _ (s mid last final : StateValue) (l new : LogValue) (a : Answer) (r : Reading) (asked : Bool) (n : ℕ)
-    (session : IsSession s l) (does : ◌≡◌ {A = Step} (step s r) (a, mid)) (told : asked ≡ asks_values a) (count : n ≡ length s.terms.nodes)
-    (still : asks_values a ≡ true → (last ≡ mid) × (new ≡ l)) where
-  order_by : (b : Bool) → asks_values a ≡ b → final ≡ (if b then forgotten last n else last) → IsInOrder s.terms.nodes l.bits → IsInOrder last.terms.nodes new.bits → IsInOrder final.terms.nodes new.bits
-  order_by true q e old h =
-      subst (λ (x : StateValue). IsInOrder x.terms.nodes new.bits) (sym (e ∙ forgotten_is s mid last final l new a r asked n session does told count still q))
-      (subst (λ (x : LogValue). IsInOrder s.terms.nodes x.bits) (sym (still q).1) old)
-  order_by false q e old h = subst (λ (x : StateValue). IsInOrder x.terms.nodes new.bits) (sym e) h
-
-  pub order_settled : final ≡ (if asked then forgotten last n else last) → IsInOrder s.terms.nodes l.bits → IsInOrder last.terms.nodes new.bits → IsInOrder final.terms.nodes new.bits
-  order_settled e old h = order_by (asks_values a) refl (e ∙ ap (λ b. if b then forgotten last n else last) told) old h
 
 -- ---- a check
 

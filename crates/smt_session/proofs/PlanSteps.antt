@@ -8,14 +8,13 @@ use Rattle.std.proofs.lemmas.Option.{slice_get-get_or}
 use Rattle.std.proofs.lemmas.List.Elements.{All-contains, All-from_recursion, Contains-append_left, Contains-append_right}
 use Rattle.cnf_base.proofs.Lists.{each_append}
 use Rattle.cnf_base.proofs.Options.{some_value, IsSome-from}
-use Rattle.smt_terms.specs.declared.node.Op.{Op}
 use Rattle.smt_terms.specs.declared.node.Node.{Node}
 use Rattle.smt_terms.specs.Bits.{TermBits, bits_in, image_in}
 use Rattle.smt_terms.specs.Nodes.{node_at}
 use Rattle.smt_terms.specs.Ranks.{is_plain}
-use Rattle.smt_terms.specs.Terms.{TermsValue, declaration_of, sort_of, Agrees}
+use Rattle.smt_terms.specs.Terms.{TermsValue, sort_of}
 use Rattle.smt_terms.proofs.Growing.{sort_longer}
-use Rattle.smt_build.proofs.Growth.{names_none}
+use Rattle.smt_build.specs.Names.{IsDeclared}
 use Rattle.script_state.specs.States.{StateValue, RestValue, with_terms, Fit}
 use Rattle.script_state.proofs.Keeping.{fit_more}
 use Rattle.bv_rules.proofs.Keeping.{matched}
@@ -131,12 +130,8 @@ made_parts base made now k e =
 
 -- ---- a term more
 
-pub node_agrees : (nodes : List Node) (o : Op) → declaration_of o ≡ None → Agrees nodes o
-node_agrees nodes o none t d e f = let q : ⊥ = cc in absurd q
-
-pub node_fits : (t w : TermsValue) (r : RestValue) (old new : LogValue) (n : Node) (p : ℕ) → Fit t r → declaration_of n.op ≡ None → Answers t w (step.Node n) old new (Ok p) → Fit w r
-node_fits t w r old new n p fit none h =
-    let of : IsOfScript (with_terms r t) (step.Node n) = names_none r.symbols.signatures n.op none in
+pub node_fits : (t w : TermsValue) (r : RestValue) (old new : LogValue) (n : Node) (p : ℕ) → Fit t r → IsDeclared r.symbols.signatures n.op → Answers t w (step.Node n) old new (Ok p) → Fit w r
+node_fits t w r old new n p fit of h =
     subst (λ x. Fit x r) (sym h.1)
     (fit_more t (terms_after t (step.Node n)) r (step_grows (with_terms r t) old.entries (step.Node n) h.0 of) (step_list (with_terms r t) old.entries (step.Node n) fit.state h.0) fit)
 
@@ -147,14 +142,14 @@ same_bits nodes old new n a b entries t =
     let l = stands_over nodes new b in
     (l.bits t ∙ ap (λ r. r.bits t) there ∙ sym (k.bits t), l.images t ∙ ap (λ r. r.images t) there ∙ sym (k.images t))
 
-pub node_adds : (s s' : StateValue) (t w : TermsValue) (r : RestValue) (old new : LogValue) (n : Node) (p : ℕ) → s ≡ with_terms r t → s' ≡ with_terms r w → declaration_of n.op ≡ None → Stands t.nodes old → Answers t w (step.Node n) old new (Ok p) → AddsTerms s old s' new
-node_adds s s' t w r old new n p before behind none stands h =
+pub node_adds : (s s' : StateValue) (t w : TermsValue) (r : RestValue) (old new : LogValue) (n : Node) (p : ℕ) → s ≡ with_terms r t → s' ≡ with_terms r w → IsDeclared r.symbols.signatures n.op → Stands t.nodes old → Answers t w (step.Node n) old new (Ok p) → AddsTerms s old s' new
+node_adds s s' t w r old new n p before behind of stands h =
     let more : w.nodes ≡ t.nodes ++ n ∷ [] = ap (λ (x : TermsValue). x.nodes) h.1 in
     let same = same_bits w.nodes old new n (subst (λ ns. Stands ns old) (sym more) (stands_longer t.nodes (n ∷ []) old stands)) h.2.stands h.2.entries in
     subst (λ x. AddsTerms x old s' new) (sym before)
     (subst (λ x. AddsTerms (with_terms r t) old x new) (sym behind)
     (record {
-      leads = leads_one (with_terms r t) (with_terms r w) old new (step.Node n) h.0 (names_none r.symbols.signatures n.op none) (λ off. tt) (ap (with_terms r) h.1) h.2.entries h.2.stands;
+      leads = leads_one (with_terms r t) (with_terms r w) old new (step.Node n) h.0 of (ap (with_terms r) h.1) h.2.entries h.2.stands;
       bare = ((λ x e. let f : ⊥ = cc in f), tt);
       bits = λ x. (same x).0;
       images = λ x. (same x).1;
@@ -195,13 +190,12 @@ bits_state : (s : StateValue) (t : ℕ) (e : Entry) → IsForTerm t e → s ≡ 
 bits_state s t (step.Node n) h = let f : ⊥ = cc in absurd f
 bits_state s t e h = refl
 
-abbrev step_taken : (s : StateValue) (v : TermsValue) (old new : LogValue) (p : Planned) (e : Entry) (at : ℕ) → v ≡ s.terms → IsForPlanned s.symbols.theories v.nodes p e → Answers v v e old new (Ok at) → (over : List Node) → AreTaken over s old s new (p ∷ [])
-step_taken s v old new p e at same for h over =
-    let i : IsForPlanned s.symbols.theories s.terms.nodes p e = subst (λ (x : TermsValue). IsForPlanned s.symbols.theories x.nodes p e) same for in
+abbrev step_taken : (s : StateValue) (v : TermsValue) (old new : LogValue) (p : Planned) (e : Entry) (at : ℕ) → v ≡ s.terms → IsForPlanned p e → Answers v v e old new (Ok at) → (over : List Node) → AreTaken over s old s new (p ∷ [])
+step_taken s v old new p e at same i h over =
     let valid : IsValid s.terms (state_of s.terms.nodes old.entries) e = subst (λ (x : TermsValue). IsValid x (state_of x.nodes old.entries) e) same h.0 in
     let stands : Stands s.terms.nodes new = subst (λ (x : TermsValue). Stands x.nodes new) same h.2.stands in
     record {
-      leads = leads_one s s old new e valid (bits_script s p.term e i.term) i.words (bits_state s p.term e i.term) h.2.entries stands;
+      leads = leads_one s s old new e valid (bits_script s p.term e i.term) (bits_state s p.term e i.term) h.2.entries stands;
       each = (
         record {
           bits = λ plain. leaves_bits s.terms.nodes old new p.term e stands h.2.entries (bits_step s.terms (state_of s.terms.nodes old.entries) p.term e i.term valid) i.term;
@@ -212,8 +206,8 @@ step_taken s v old new p e at same for h over =
     }
 
 -- a term that gets bits is a Bool or a word, where one that gets bits of its own is
-plain_planned : (theories : Bool) (nodes : List Node) (s : LogState) (p : Planned) (e : Entry) → IsForPlanned theories nodes p e → IsStep nodes s e → (p.used ≡ None → is_plain (sort_of nodes p.term) ≡ true) → is_plain (sort_of nodes p.term) ≡ true
-plain_planned theories nodes s p e i valid own = go p.used refl where
+plain_planned : (nodes : List Node) (s : LogState) (p : Planned) (e : Entry) → IsForPlanned p e → IsStep nodes s e → (p.used ≡ None → is_plain (sort_of nodes p.term) ≡ true) → is_plain (sort_of nodes p.term) ≡ true
+plain_planned nodes s p e i valid own = go p.used refl where
   ruled : (r : RuleUse) → IsForTerm p.term (step.Rewrite r) → IsStep nodes s (step.Rewrite r) → is_plain (sort_of nodes p.term) ≡ true
   ruled r f is =
       let same : r.from ≡ p.term = cc in
@@ -248,20 +242,19 @@ array_over s x log p same stands held own v bits before rest nodes plan seen kee
     }
 
 -- behind others of a plan
-pub step_over : (s : StateValue) (x : TermsValue) (old new : LogValue) (p : Planned) (e : Entry) (at : ℕ) → x ≡ s.terms → Stands s.terms.nodes old → p.term < length s.terms.nodes → IsForPlanned s.symbols.theories x.nodes p e → (p.used ≡ None → is_plain (sort_of x.nodes p.term) ≡ true) → Answers x x e old new (Ok at)
+pub step_over : (s : StateValue) (x : TermsValue) (old new : LogValue) (p : Planned) (e : Entry) (at : ℕ) → x ≡ s.terms → Stands s.terms.nodes old → p.term < length s.terms.nodes → IsForPlanned p e → (p.used ≡ None → is_plain (sort_of x.nodes p.term) ≡ true) → Answers x x e old new (Ok at)
     → (v : TermsValue) (bits : List TermBits) (before : List Planned) (rest : List Node) → v.nodes ≡ s.terms.nodes ++ rest → IsPlan v.nodes bits before → IsSeenAs v.nodes bits before (bits_in old.bits) (image_in old.bits) → (p.used ≡ None → KeepsItself v bits before p.term) → AreTakenOver v bits before s old s new (p ∷ [])
-step_over s x old new p e at same stands held fits sorted h v bits before rest nodes plan seen own =
-    let i : IsForPlanned s.symbols.theories s.terms.nodes p e = subst (λ (y : TermsValue). IsForPlanned s.symbols.theories y.nodes p e) same fits in
+step_over s x old new p e at same stands held i sorted h v bits before rest nodes plan seen own =
     let valid : IsValid s.terms (state_of s.terms.nodes old.entries) e = subst (λ (y : TermsValue). IsValid y (state_of y.nodes old.entries) e) same h.0 in
     let behind : Stands s.terms.nodes new = subst (λ (y : TermsValue). Stands y.nodes new) same h.2.stands in
     let over : Stands v.nodes old = subst (λ ns. Stands ns old) (sym nodes) (stands_longer s.terms.nodes rest old stands) in
     let is = bits_step s.terms (state_of s.terms.nodes old.entries) p.term e i.term valid in
     let plain : is_plain (sort_of s.terms.nodes p.term) ≡ true =
-    plain_planned s.symbols.theories s.terms.nodes (state_of s.terms.nodes old.entries) p e i is (subst (λ (y : TermsValue). p.used ≡ None → is_plain (sort_of y.nodes p.term) ≡ true) same sorted) in
+    plain_planned s.terms.nodes (state_of s.terms.nodes old.entries) p e i is (subst (λ (y : TermsValue). p.used ≡ None → is_plain (sort_of y.nodes p.term) ≡ true) same sorted) in
     record {
-      taken = step_taken s x old new p e at same fits h v.nodes;
-      simple = (keeps_planned s.symbols.theories v s.terms.nodes old.entries p e i (λ none. reason_at v old bits before p.term over plan seen (own none)), tt);
-      seen = seen_step s.symbols.theories v.nodes s.terms.nodes old new bits before p e stands behind h.2.entries is i (sorted_over s.terms.nodes v.nodes rest p.term true nodes held plain) seen;
+      taken = step_taken s x old new p e at same i h v.nodes;
+      simple = (keeps_planned v old.entries p e i (λ none. reason_at v old bits before p.term over plan seen (own none)), tt);
+      seen = seen_step v.nodes s.terms.nodes old new bits before p e stands behind h.2.entries is i (sorted_over s.terms.nodes v.nodes rest p.term true nodes held plain) seen;
     }
 
 -- ---- plans

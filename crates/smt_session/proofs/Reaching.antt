@@ -1,27 +1,23 @@
--- On which terms' bits those of the roots of a check stand.
+-- Which terms a check reaches by images and arguments.
 use Rattle.std.proofs.Common.{◌≡◌, ℕ, zero, suc, ◌<◌, List, [], ◌∷◌, length, get_or, Option, Some, None, refl, subst, arith}
 use Rattle.std.specs.Prelude.{All, Contains}
-use Rattle.std.specs.List.{AllByRecursion}
-use Rattle.std.proofs.lemmas.List.Elements.{All-contains}
 use Rattle.cnf_base.proofs.Options.{some_value}
 use Rattle.cube_tree.proofs.Resolving.{members}
 use Rattle.smt_terms.specs.declared.node.Node.{Node}
 use Rattle.smt_terms.specs.Bits.{bits_in, image_in}
 use Rattle.smt_terms.specs.Terms.{IsTermList, AreDifferent}
 use Rattle.term_reach.specs.Reach.{IsReach, LeadsBelow}
-use Rattle.term_reach.proofs.Ways.{arguments_below, reached_closed, reached_further, root_reached}
+use Rattle.term_reach.proofs.Ways.{arguments_below, reached_further, root_reached}
 use Rattle.proof_log.specs.Assigned.{AreClosed, stands_on}
 use Rattle.proof_log.specs.Stored.{LogValue, Stands}
-use Rattle.proof_log.specs.Words.{IsOfWords}
 use Rattle.proof_log.proofs.Linked.{stored_images_are}
 use Rattle.proof_log.proofs.Settled.{stands_settled}
+use Rattle.session_terms.specs.Placed.{by_images}
 use Rattle.smt_session.specs.Growing.{HasBits}
-use Rattle.smt_session.specs.Reaching.{by_images}
-use Rattle.smt_session.proofs.Founded.{have_bits}
 
 module _ (nodes : List Node) (log : LogValue) (all : IsTermList nodes) (stands : Stands nodes log) where
   -- images are terms
-  pub images_below : AreDifferent nodes → LeadsBelow (length nodes) (by_images nodes log.bits)
+  pub images_below : AreDifferent nodes → LeadsBelow (length nodes) (by_images nodes (image_in log.bits))
   images_below different t u c = go (image_in log.bits t) refl c
     where
       go : (o : Option ℕ) → image_in log.bits t ≡ o → Contains (stands_on nodes t (image_in log.bits t)) u → u < length nodes
@@ -38,15 +34,9 @@ module _ (nodes : List Node) (log : LogValue) (all : IsTermList nodes) (stands :
       let b = some_value (bits_in log.bits (get_or roots k d)) (h k d lt) in
       ((stands_settled nodes log all stands).bits (get_or roots k d) b.0 b.1).0
 
-  module _ (roots reached : List ℕ) (r : IsReach (by_images nodes log.bits) roots reached) where
+  module _ (roots reached : List ℕ) (r : IsReach (by_images nodes (image_in log.bits)) roots reached) where
     pub reached_is_closed : AreClosed nodes (image_in log.bits) (Contains reached)
-    reached_is_closed t u c k = r.all u (reached_further (by_images nodes log.bits) roots t u (r.only t c) k)
+    reached_is_closed t u c k = r.all u (reached_further (by_images nodes (image_in log.bits)) roots t u (r.only t c) k)
 
     pub roots_reached : All (Contains reached) roots
-    roots_reached = members (Contains reached) roots (λ u c. r.all u (root_reached (by_images nodes log.bits) roots u c))
-
-    pub reached_have_bits : AllByRecursion (IsOfWords nodes) log.entries → All (HasBits log) roots → All (HasBits log) reached
-    reached_have_bits words h =
-        members (HasBits log) reached (λ u c.
-        reached_closed (by_images nodes log.bits) (HasBits log) roots (λ t v has k. have_bits nodes log all stands words t v has k)
-        (λ t k. All-contains (HasBits log) roots t h k) u (r.only u c))
+    roots_reached = members (Contains reached) roots (λ u c. r.all u (root_reached (by_images nodes (image_in log.bits)) roots u c))

@@ -46,8 +46,8 @@ simplified_bare v log [] h = tt
 simplified_bare v log (e ∷ es) h = (bare_keeps v log e h.0, simplified_bare v (log ++ e ∷ []) es h.1)
 
 -- the step of a plan's step
-pub keeps_planned : (theories : Bool) (v : TermsValue) (nodes : List Node) (log : List Entry) (p : Planned) (e : Entry) → IsForPlanned theories nodes p e → (p.used ≡ None → HasReason v log p.term) → KeepsForReason v log e
-keeps_planned theories v nodes log p e i h = go p.used refl where
+pub keeps_planned : (v : TermsValue) (log : List Entry) (p : Planned) (e : Entry) → IsForPlanned p e → (p.used ≡ None → HasReason v log p.term) → KeepsForReason v log e
+keeps_planned v log p e i h = go p.used refl where
   own : (x : Entry) → IsForTerm p.term x → HasReason v log p.term → KeepsForReason v log x
   own (step.Leaf x) f r = let q : p.term ≡ x = cc in subst (HasReason v log) q r
   own (step.Encode x) f r = let q : p.term ≡ x = cc in subst (HasReason v log) q r
@@ -133,8 +133,8 @@ module _ (nodes : List Node) (s : LogState) where
   own_images u (step.Lemma l) g i = let f : ⊥ = cc in absurd f
 
   -- the step of a plan's step gives the image to which the use leads
-  planned_image : (theories : Bool) (p : Planned) (e : Entry) → IsForPlanned theories nodes p e → IsStep nodes s e → s.images p.term ≡ None → (after nodes s e).images p.term ≡ led_to p.used
-  planned_image theories p e fits i none = go p.used refl where
+  planned_image : (p : Planned) (e : Entry) → IsForPlanned p e → IsStep nodes s e → s.images p.term ≡ None → (after nodes s e).images p.term ≡ led_to p.used
+  planned_image p e fits i none = go p.used refl where
     go : (o : Option Use) → p.used ≡ o → (after nodes s e).images p.term ≡ led_to p.used
     go None q = own_images p.term e (fits.own q) i ∙ none ∙ sym (ap led_to q)
     go (Some u) q =
@@ -215,8 +215,8 @@ pub seen_same : (over : List Node) (bits : List TermBits) (steps : List Planned)
 seen_same over bits steps old new f g h = record { known = λ t plain. h.known t plain ∙ ap is_some (sym (f t)); becomes = λ t. h.becomes t ∙ sym (g t) }
 
 -- behind the step of a plan's step
-module _ (theories : Bool) (over nodes : List Node) (old new : LogValue) (bits : List TermBits) (before : List Planned) (p : Planned) (e : Entry)
-    (a : Stands nodes old) (b : Stands nodes new) (entries : new.entries ≡ old.entries ++ e ∷ []) (i : IsStep nodes (state_of nodes old.entries) e) (fits : IsForPlanned theories nodes p e) (plain : is_plain (sort_of over p.term) ≡ true) (h : IsSeenAs over bits before (bits_in old.bits) (image_in old.bits)) where
+module _ (over nodes : List Node) (old new : LogValue) (bits : List TermBits) (before : List Planned) (p : Planned) (e : Entry)
+    (a : Stands nodes old) (b : Stands nodes new) (entries : new.entries ≡ old.entries ++ e ∷ []) (i : IsStep nodes (state_of nodes old.entries) e) (fits : IsForPlanned p e) (plain : is_plain (sort_of over p.term) ≡ true) (h : IsSeenAs over bits before (bits_in old.bits) (image_in old.bits)) where
   abbrev s : LogState
   s = state_of nodes old.entries
 
@@ -245,7 +245,7 @@ module _ (theories : Bool) (over nodes : List Node) (old new : LogValue) (bits :
   image_there t = ⊎_elim
       (λ (same : p.term ≡ t). subst (λ u. known_image bits (before ++ p ∷ []) u ≡ image_in new.bits u) same
       (image_here bits before p new_here
-      ∙ sym (planned_image nodes s theories p e fits i no_image)
+      ∙ sym (planned_image nodes s p e fits i no_image)
       ∙ ap (λ r. r.images p.term) (sym now)
       ∙ sym ((stands_over nodes new b).images p.term)))
       (λ (other : p.term ≡ t → ⊥).

@@ -13,7 +13,6 @@ use Rattle.script_state.specs.declared.error_text.ErrorText.{ErrorText}
 use Rattle.script_state.specs.Readings.{Reading, ReadsAs}
 use Rattle.script_state.specs.States.{StateValue, concluded}
 use Rattle.script_state.specs.Steps.{Step, step, settled}
-use Rattle.script_state.proofs.Asserting.{standing_state}
 use Rattle.proof_log.specs.declared.entry.Entry.{Entry}
 use Rattle.proof_log.specs.Logs.{state_of}
 use Rattle.proof_log.specs.Stored.{LogValue}
@@ -28,10 +27,8 @@ use Rattle.smt_session.specs.declared.response.Response.{Response}
 use Rattle.smt_session.specs.declared.response.Stop.{Stop}
 use Rattle.smt_session.specs.declared.response.Stop.TheVariants.{Failed, NoMemory}
 use Rattle.smt_session.specs.Thorough.{IsThorough}
-use Rattle.smt_session.specs.Sessions.{IsSession, IsChecked, Responds, IsAnswered, CutsCheck, CutsTurn, Leaves, WritesFront, response, asks_values, is_end}
+use Rattle.smt_session.specs.Sessions.{IsChecked, Responds, IsAnswered, CutsCheck, CutsTurn, Leaves, WritesFront, response, asks_values, is_end}
 use Rattle.smt_session.proofs.Ending.{ends_is}
-use Rattle.smt_session.proofs.Going.{more_steps}
-use Rattle.smt_session.proofs.Leading.{session_led}
 
 -- an answer without steps and a record
 module _ (limits : Limits) (line : ℕ) (a : Answer) (s : StateValue) (l : LogValue) (last : Option Record) (r : Response) (w : Option (List ℕ)) where
@@ -146,17 +143,6 @@ check_cut limits s s' old new shown text w x checked printed readable written = 
 -- what is cut off of a check is that of what is one
 pub cut_of_check : (limits : Limits) (s : StateValue) (log : List Entry) (w x : Option (List ℕ)) (a : Answer) (stop : Stop) → a ≡ Check → Leaves stop (CutsCheck limits Check s log w x) w x → Leaves stop (CutsCheck limits a s log w x) w x
 cut_of_check limits s log w x a stop e h = subst (λ b. Leaves stop (CutsCheck limits b s log w x) w x) (sym e) h
-
-pub check_keeps : (limits : Limits) (s s' new_state : StateValue) (old new : LogValue) (shown : Record) → IsSession s old → IsChecked limits s s' old new shown → new_state ≡ concluded s' (verdict_of shown) → IsSession new_state new
-check_keeps limits s s' new_state old new shown h checked e =
-    let k = session_led s s' old new h checked.leads in
-    subst (λ q. IsSession q new) (sym e)
-    (record {
-      state = standing_state s' (Some (verdict_of shown)) k.state;
-      theories = k.theories;
-      stands = k.stands;
-      each = more_steps s' (concluded s' (verdict_of shown)) [] new.entries (sym (append-nil s'.terms.nodes)) refl (λ d g q. q) (λ a t q. q) k.each;
-    })
 
 pub is_answered : (limits : Limits) (chunk : Chunk) (s mid last final : StateValue) (l new : LogValue) (before now : Option Record) (a : Answer) (es : Reading) (r : Response) (w x : Option (List ℕ)) → ReadsAs chunk es → ◌≡◌ {A = Step} (step s es) (a, mid) → Responds limits chunk.line a mid last l new before now r w x
     → final ≡ settled s a last → IsAnswered chunk (record { state = s; log = l; shown = before; limits = limits }) (record { state = final; log = new; shown = now; limits = limits }) r w x

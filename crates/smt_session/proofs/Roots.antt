@@ -1,14 +1,13 @@
 -- The terms of live assertions, and of assumptions.
-use Rattle.std.proofs.Common.{◌≡◌, ℕ, ◌<◌, true, false, length, map, ap}
+use Rattle.std.proofs.Common.{◌≡◌, ℕ, ◌<◌, true, length, map, ap}
 use Rattle.std.specs.Prelude.{All}
 use Rattle.std.proofs.lemmas.List.Elements.{All-from_recursion, recursion_from_All}
+use Rattle.smt_terms.specs.declared.sort.Sort.TheVariants as sort
 use Rattle.smt_terms.specs.Ranks as ranks
 use Rattle.smt_terms.specs.Terms.{sort_of}
 use Rattle.scope_selectors.specs.declared.live.Live.{Live}
 use Rattle.script_state.specs.declared.answer.Asked.{Asked}
 use Rattle.script_state.specs.States.{StateValue, IsState, assumptions, roots}
-use Rattle.script_state.proofs.Theories.{word_terms, word_assumptions}
-use Rattle.smt_session.specs.Reaching.{IsPlainTerm}
 use Rattle.cnf_base.proofs.Lists.{each_append, each_front, each_behind, each_map, each_mapped}
 
 abbrev term_of : Live → ℕ
@@ -36,13 +35,10 @@ pub roots_held : (s : StateValue) → IsState s → All (λ t. t < length s.term
 roots_held s is = roots_all (λ t. t < length s.terms.nodes) s is.held (λ k a lt. (is.assumed k a lt).held)
 
 -- they are Bools
+pub roots_true : (s : StateValue) → IsState s → All (λ t. sort_of s.terms.nodes t ≡ sort.Bool) (roots s)
+roots_true s is = roots_all (λ t. sort_of s.terms.nodes t ≡ sort.Bool) s is.truths (λ k a lt. (is.assumed k a lt).truth)
+
 pub roots_sorted : (s : StateValue) → IsState s → All (λ t. ranks.is_plain (sort_of s.terms.nodes t) ≡ true) (roots s)
 roots_sorted s is =
     roots_all (λ t. ranks.is_plain (sort_of s.terms.nodes t) ≡ true) s (λ k a lt. ap ranks.is_plain (is.truths k a lt))
     (λ k a lt. ap ranks.is_plain (is.assumed k a lt).truth)
-
--- they are plain
-pub roots_plain : (s : StateValue) → IsState s → s.symbols.theories ≡ false → All (IsPlainTerm s.terms.nodes) (roots s)
-roots_plain s is words =
-    roots_all (IsPlainTerm s.terms.nodes) s (λ k a lt. (is.held k a lt, word_terms s is words k a lt))
-    (λ k a lt. ((is.assumed k a lt).held, word_assumptions s is words k a lt))

@@ -8,8 +8,7 @@ use Rattle.script_state.specs.Readings.{Reading}
 use Rattle.script_state.specs.States.{StateValue, IsState}
 use Rattle.script_state.specs.Steps.{Step, IsAskedValues, step, settled, forgotten}
 use Rattle.script_state.proofs.Deciding.{values_after_sat}
-use Rattle.proof_log.specs.Stored.{LogValue}
-use Rattle.smt_session.specs.Sessions.{AreHeld, IsSession, asks_values}
+use Rattle.smt_session.specs.Sessions.{AreHeld, asks_values}
 
 -- values are asked of a state whose terms are forgotten again
 asked_of : (s mid : StateValue) (a : Answer) (r : Reading) (asked : List Asked) → IsState s → ◌≡◌ {A = Step} (step s r) (a, mid) → a ≡ Values asked → IsAskedValues s mid asked
@@ -69,16 +68,16 @@ settled_on s last Core q = refl
 settled_on s last Assumptions q = refl
 settled_on s last Exit q = refl
 
--- a command that is answered over a session
-module _ (s mid last final : StateValue) (l new : LogValue) (a : Answer) (r : Reading) (asked : Bool) (n : ℕ)
-    (session : IsSession s l) (does : ◌≡◌ {A = Step} (step s r) (a, mid)) (told : asked ≡ asks_values a) (count : n ≡ length s.terms.nodes)
-    (still : asks_values a ≡ true → (last ≡ mid) × (new ≡ l)) where
+-- a command that is answered over a state
+module _ (s mid last final : StateValue) (a : Answer) (r : Reading) (asked : Bool) (n : ℕ)
+    (is : IsState s) (does : ◌≡◌ {A = Step} (step s r) (a, mid)) (told : asked ≡ asks_values a) (count : n ≡ length s.terms.nodes)
+    (still : asks_values a ≡ true → last ≡ mid) where
   pub forgotten_is : asks_values a ≡ true → forgotten last n ≡ s
-  forgotten_is q = ap (λ (x : StateValue). forgotten x n) (still q).0 ∙ ap (forgotten mid) count ∙ back s mid a r session.state does q
+  forgotten_is q = ap (λ (x : StateValue). forgotten x n) (still q) ∙ ap (forgotten mid) count ∙ back s mid a r is does q
 
   -- the terms can be forgotten
   pub can_forget : asked ≡ true → IsState (forgotten last n)
-  can_forget q = subst IsState (sym (forgotten_is (sym told ∙ q))) session.state
+  can_forget q = subst IsState (sym (forgotten_is (sym told ∙ q))) is
 
   by : (b : Bool) → asks_values a ≡ b → final ≡ (if b then forgotten last n else last) → final ≡ settled s a last
   by true q e = e ∙ forgotten_is q ∙ sym (settled_back s last a q)
@@ -86,10 +85,3 @@ module _ (s mid last final : StateValue) (l new : LogValue) (a : Answer) (r : Re
 
   pub settled_is : final ≡ (if asked then forgotten last n else last) → final ≡ settled s a last
   settled_is e = by (asks_values a) refl (e ∙ ap (λ b. if b then forgotten last n else last) told)
-
-  session_by : (b : Bool) → asks_values a ≡ b → final ≡ (if b then forgotten last n else last) → IsSession last new → IsSession final new
-  session_by true q e h = subst (λ (x : StateValue). IsSession x new) (sym (e ∙ forgotten_is q)) (subst (IsSession s) (sym (still q).1) session)
-  session_by false q e h = subst (λ (x : StateValue). IsSession x new) (sym e) h
-
-  pub settled_session : final ≡ (if asked then forgotten last n else last) → IsSession last new → IsSession final new
-  settled_session e h = session_by (asks_values a) refl (e ∙ ap (λ b. if b then forgotten last n else last) told) h

@@ -1,7 +1,6 @@
 -- Bits and selectors stay where a log grows.
 use Rattle.std.proofs.Common.{◌≡◌, ℕ, zero, suc, ◌+◌, ◌<◌, false, take, List, [], ◌∷◌, ◌++◌, length, get_or, Option, Some, None, refl, sym, ap, ◌∙◌, subst, append_assoc, append-nil, arith}
 use Rattle.std.specs.Prelude.{map, IsSome, is_some, Contains}
-use Rattle.std.specs.List.{AllByRecursion}
 use Rattle.std.specs.Option.{option_map}
 use Rattle.std.proofs.lemmas.List.{take_more, map_push}
 use Rattle.cnf_base.specs.Literals.{Literal}
@@ -15,7 +14,6 @@ use Rattle.proof_log.specs.Faults.{MakesNoTerm}
 use Rattle.proof_log.specs.Logs.{state_of, IsLog}
 use Rattle.proof_log.specs.Meanings.{StaysLog}
 use Rattle.proof_log.specs.Stored.{LogValue, Stands, IsPushed, selector_in, literal_of}
-use Rattle.proof_log.specs.Words.{IsOfWords}
 use Rattle.proof_log.proofs.Standing.{stands_over, some_literal}
 use Rattle.proof_log.proofs.Staying.{log_stays}
 use Rattle.smt_session.specs.Growing.{IsStepFor, AreStepsFor, GivesNoBits, Grows, HasBits, AreSelectors}
@@ -41,11 +39,6 @@ grows_more s a b c g h = record {
   bare = each_append GivesNoBits g.added h.added g.bare h.bare;
   stands = h.stands;
 }
-
--- each step is of Bools and words, where functions and arrays are not read
-pub words_of : (s : StateValue) (es : List Entry) → s.symbols.theories ≡ false → AreStepsFor s es → AllByRecursion (IsOfWords s.terms.nodes) es
-words_of s [] off h = tt
-words_of s (e ∷ es) off h = (h.0.1 off, words_of s es off h.1)
 
 -- ---- staying
 

@@ -1,21 +1,23 @@
 -- The texts and the values of a table are those of its model.
-use Rattle.std.proofs.Common.{◌≡◌, ℕ, true, false, List, [], ◌∷◌, ◌++◌, map, Option, Some, None, refl, sym, ap, ◌∙◌, subst}
+use Rattle.std.proofs.Common.{◌≡◌, ℕ, true, false, List, [], ◌∷◌, ◌++◌, map, Option, Some, None, refl, sym, ap, ◌∙◌, subst, inr}
 use Rattle.std.specs.Prelude.{codes, slice_get}
 use Rattle.std.specs.List.{flat_map}
+use Rattle.std.proofs.lemmas.List.Elements.{recursion_from_All}
 use Rattle.smt_values.specs.declared.value.Value.{Value}
 use Rattle.smt_values.specs.Held.{set_for}
 use Rattle.smt_values.specs.Held as held
 use Rattle.smt_terms.specs.declared.node.Node.{Node}
 use Rattle.smt_terms.specs.declared.sort.Signature.{Signature}
 use Rattle.smt_build.specs.declared.symbols.LiveName.{LiveName}
-use Rattle.script_state.specs.States.{StateValue}
+use Rattle.smt_eval.specs.Evaluated.{AreSuited}
+use Rattle.script_state.specs.States.{StateValue, IsState}
 use Rattle.script_state.specs.declared.answer.Asked.{Asked}
 use Rattle.proof_text.specs.declared.record.Record.{Record}
 use Rattle.proof_text.specs.declared.record.Record.TheVariants.{Sat, Unsat, Unknown}
 use Rattle.accepted_proof.specs.Answers.{asked_text, definition_by, definitions_text, list_text, model_text, values_text}
-use Rattle.accepted_proof.specs.Models.{value_for}
-use Rattle.accepted_proof.proofs.Valuing.{same_interpretation}
-use Rattle.smt_session.specs.Tabled.{IsTable, IsTableOf, has_model, definitions_by}
+use Rattle.accepted_proof.specs.Models.{value_for, IsOfSignature}
+use Rattle.accepted_proof.proofs.Valuing.{same_interpretation, are_suited, value_among}
+use Rattle.smt_session.specs.Tabled.{IsTable, IsTableOf, AreOfSignatures, IsSortedRecord, has_model, definitions_by}
 
 each_definition : (signatures : List Signature) (values : List (ℕ × Value)) (table : List (Option Value)) → IsTable values table → (live : List LiveName)
     → flat_map (λ (l : LiveName). definition_by l.name (slice_get signatures l.declaration) (set_for table l.declaration)) live
@@ -52,6 +54,13 @@ model_of (Some (Unknown d)) e = let f : ⊥ = cc in absurd f
 module _ (o : Option Record) (values : List (ℕ × Value)) (table : List (Option Value)) (has : o ≡ Some (Sat values)) (tabled : IsTableOf o table) where
   is_table : IsTable values table
   is_table = subst (λ r. IsTableOf r table) has tabled
+
+  -- the table suits the terms, where the values are of the declarations' signatures
+  pub table_suits : (s : StateValue) → IsState s → IsSortedRecord s.symbols.signatures o → AreSuited s.terms.nodes table
+  table_suits s is sorted =
+      let each : AreOfSignatures s.symbols.signatures values = subst (IsSortedRecord s.symbols.signatures) has sorted in
+      let listed = recursion_from_All (λ (p : ℕ × Value). IsOfSignature p.1 (slice_get s.symbols.signatures p.0)) values each in
+      are_suited s is table (λ d v e. inr (value_among (λ x n. IsOfSignature x (slice_get s.symbols.signatures n)) values d v listed (sym (is_table d) ∙ e)))
 
   pub model_same : (s : StateValue) → codes "(" ++ 10 ∷ [] ++ definitions_by s table ++ codes ")" ++ 10 ∷ [] ≡ model_text s o
   model_same s =

@@ -1,29 +1,22 @@
 -- The steps of a check are those of a turn, and its record is one that may end it.
-use Rattle.std.proofs.Common.{◌≡◌, ℕ, List, [], ◌∷◌, ◌++◌, Some, refl, sym, ap, ◌∙◌, subst, inl, inr, ⊎_elim, arith}
-use Rattle.std.specs.Prelude.{◌⊎◌, map, slice_get, Contains, Bool, true}
+use Rattle.std.proofs.Common.{◌≡◌, ℕ, List, [], ◌∷◌, ◌++◌, refl, sym, ap, ◌∙◌, subst, inl, inr, ⊎_elim, arith}
+use Rattle.std.specs.Prelude.{◌⊎◌, Contains}
 use Rattle.std.specs.List.{AllByRecursion}
-use Rattle.std.proofs.lemmas.List.Elements.{All-contains, All-from_recursion, All-weaker, recursion_from_All, Contains-append_cases}
+use Rattle.std.proofs.lemmas.List.Elements.{All-weaker, recursion_from_All, Contains-append_cases}
 use Rattle.cnf_base.specs.Literals.{Literal, negated}
-use Rattle.cnf_base.specs.Clauses.{lit_true}
 use Rattle.cnf_base.proofs.Codes.{negated-negated}
-use Rattle.cnf_base.proofs.Options.{same_found}
-use Rattle.smt_terms.specs.Terms.{TermsValue, IsTermList}
-use Rattle.scope_selectors.specs.declared.live.Live.{Live}
+use Rattle.smt_terms.specs.Terms.{TermsValue}
 use Rattle.script_state.specs.States.{StateValue, assumptions}
 use Rattle.proof_log.specs.declared.entry.Entry.{Entry}
 use Rattle.proof_log.specs.declared.entry.Entry.TheVariants as step
-use Rattle.proof_log.specs.Logs.{Asserted, LogState, start, clause_at, IsStep, state_of, AreSteps, IsLog}
+use Rattle.proof_log.specs.Logs.{LogState, start, clause_at, IsStep, state_of, AreSteps, IsLog}
 use Rattle.proof_log.specs.Faults.{IsValid, MakesNoTerm}
-use Rattle.proof_log.specs.Stored.{LogValue, Stands, selector_in}
-use Rattle.proof_log.specs.Boards.{IsOfSearch, Grows as Prolongs}
-use Rattle.proof_log.proofs.Growth.{search_step}
-use Rattle.proof_log.proofs.Ordered.{log_is_ordered}
+use Rattle.proof_log.specs.Stored.{LogValue, Stands}
 use Rattle.proof_log.proofs.Standing.{stands_over, some_literal}
 use Rattle.proof_log.proofs.Staying.{state_from-append, steps_parts}
 use Rattle.cube_tree.specs.Closing.{Closes}
 use Rattle.accepted_proof.specs.Turns.{AreStepsOf, with_step, with_steps, IsAgainstOne, IsRefutation}
-use Rattle.smt_session.specs.Growing.{IsStepFor, AreStepsFor, AreLined, GivesNoBits, Grows, AreGiven, AreSelectors}
-use Rattle.smt_session.specs.Searched.{HasTrueSelector}
+use Rattle.smt_session.specs.Growing.{AreStepsFor, AreLined, Grows, AreGiven}
 use Rattle.smt_session.proofs.Staying.{selector_of, selector_stays, bit_stays}
 use Rattle.smt_session.proofs.Giving.{bit_of}
 
@@ -32,7 +25,7 @@ use Rattle.smt_session.proofs.Giving.{bit_of}
 -- each step for the script has a line
 pub log_lined : (s : StateValue) (es : List Entry) → AreStepsFor s es → AreLined es
 log_lined s [] h = tt
-log_lined s (e ∷ es) h = (h.0.2, log_lined s es h.1)
+log_lined s (e ∷ es) h = (h.0.1, log_lined s es h.1)
 
 valid : (v : TermsValue) (s : LogState) (e : Entry) → MakesNoTerm e → IsStep v.nodes s e → IsValid v s e
 valid v s (step.Node n) h i = absurd (h refl)
@@ -51,7 +44,7 @@ steps_of : (s : StateValue) (log es : List Entry) → AreSteps s.terms.nodes (st
 steps_of s log [] i h n = tt
 steps_of s log (e ∷ es) i h n =
     let rest = steps_of s (log ++ e ∷ []) es (subst (λ r. AreSteps s.terms.nodes r es) (sym (state_from-append s.terms.nodes start log (e ∷ []))) i.1) h.1 n.1 in
-    (valid s.terms (state_of s.terms.nodes log) e n.0 i.0, h.0.0, h.0.2, subst (λ r. AreStepsOf r (log ++ e ∷ []) es) (sym (same_state s e n.0)) rest)
+    (valid s.terms (state_of s.terms.nodes log) e n.0 i.0, h.0.0, h.0.1, subst (λ r. AreStepsOf r (log ++ e ∷ []) es) (sym (same_state s e n.0)) rest)
 
 pub are_steps : (s : StateValue) (old new : LogValue) (g : Grows s old new) → AreStepsOf s old.entries g.added
 are_steps s old new g =
@@ -90,46 +83,3 @@ refutation s old new given at h g e closes = record {
       (recursion_from_All (λ l. Contains given (negated l)) closes.clause
       (All-weaker (λ l. Contains [] (negated l) ⊎ Contains given (negated l)) (λ l. Contains given (negated l)) (λ l. ⊎_elim (λ q. absurd (omega (arith, q.1))) (λ q. q)) closes.clause closes.closing));
 }
-
--- ---- selectors of live assertions
-
-abbrev IsKnown : StateValue → Live → Type 0
-IsKnown s a = slice_get s.scopes.terms a.assertion ≡ Some a.term
-
--- an assertion's selector stands for its term
-selector_term : (s : StateValue) (l : LogValue) (a : Live) (r : Asserted) → IsTermList s.terms.nodes → Stands s.terms.nodes l → AreStepsFor s l.entries → IsKnown s a → (state_of s.terms.nodes l.entries).selectors a.assertion ≡ Some r → r.term ≡ a.term
-selector_term s l a r listed h each known e =
-    let k = stands_over s.terms.nodes l h in
-    let among = ((log_is_ordered s.terms.nodes l.entries listed k.steps).selectors a.assertion r e).2 in
-    let step = All-contains (IsStepFor s) l.entries (step.Selector a.assertion r.term) (All-from_recursion (IsStepFor s) l.entries each) among in
-    same_found _ r.term a.term step.0 known
-
--- where the given literals are true, so are the selectors of the assertions
-pub true_selectors : (s : StateValue) (l : LogValue) (v : ℕ → Bool) (live : List Live) (given : List Literal) → IsTermList s.terms.nodes → Stands s.terms.nodes l → AreStepsFor s l.entries → AllByRecursion (IsKnown s) live → AreSelectors l live given → AllByRecursion (λ x. lit_true v x ≡ true) given → AllByRecursion (HasTrueSelector s.terms.nodes l v) live
-true_selectors s l v [] given listed h each known e all = tt
-true_selectors s l v (a ∷ live) [] listed h each known e all = let q : ⊥ = cc in absurd q
-true_selectors s l v (a ∷ live) (x ∷ given) listed h each known e all =
-    let first : selector_in l.selectors a.assertion ≡ Some x = cc in
-    let rest : map (λ (y : Live). selector_in l.selectors y.assertion) live ≡ map Some given = cc in
-    let r = some_literal _ x (sym ((stands_over s.terms.nodes l h).selectors a.assertion) ∙ first) in
-    (record { selector = r.0; made = r.1; term = selector_term s l a r.0 listed h each known.0 r.1; holds = ap (lit_true v) r.2 ∙ all.0 }, true_selectors s l v live given listed h each known.1 rest all.1)
-
--- ---- what a check comes to
-
-search_steps : (s : StateValue) (es : List Entry) → AllByRecursion IsOfSearch es → AreStepsFor s es
-search_steps s [] h = tt
-search_steps s (step.Chain c hints ∷ es) h = ((tt, λ off. tt, refl), search_steps s es h.1)
-search_steps s (e ∷ es) h = let q = h.0 in let f : ⊥ = cc in absurd f
-
-searches_still : (es : List Entry) → AllByRecursion IsOfSearch es → AllByRecursion MakesNoTerm es
-searches_still [] h = tt
-searches_still (e ∷ es) h = (search_step e h.0, searches_still es h.1)
-
-searches_bare : (es : List Entry) → AllByRecursion IsOfSearch es → AllByRecursion GivesNoBits es
-searches_bare [] h = tt
-searches_bare (step.Chain c hints ∷ es) h = ((λ t e. let f : ⊥ = cc in f), searches_bare es h.1)
-searches_bare (e ∷ es) h = let q = h.0 in let f : ⊥ = cc in absurd f
-
--- a log that searches added to
-pub grows_by_searches : (s : StateValue) (old new : LogValue) → Prolongs old.entries new.entries → Stands s.terms.nodes new → Grows s old new
-grows_by_searches s old new g h = record { added = g.more; entries = g.is; each = search_steps s g.more g.of_search; still = searches_still g.more g.of_search; bare = searches_bare g.more g.of_search; stands = h }

@@ -23,8 +23,8 @@ term_asked a = a.term
 pub terms_held : (n : ℕ) (asked : List Asked) (terms slice : List ℕ) → terms ≡ map term_asked asked → slice ≡ terms → All (λ (a : Asked). a.term < n) asked → All (λ t. t < n) slice
 terms_held n asked terms slice e same h = subst (All (λ t. t < n)) (sym (same ∙ e)) (All-map (λ t. t < n) term_asked asked h)
 
-module _ (nodes held : List Node) (M : Interpretation) (asked : List Asked) (terms slice : List ℕ) (found : List Value)
-    (over : held ≡ nodes) (all : terms ≡ map term_asked asked) (given : slice ≡ terms) (are : AreValuesOf M held slice found) where
+module _ (nodes : List Node) (M : Interpretation) (asked : List Asked) (terms slice : List ℕ) (found : List Value)
+    (all : terms ≡ map term_asked asked) (given : slice ≡ terms) (are : AreValuesOf M nodes slice found) where
   place : (k : ℕ) → k < length asked → k < length slice
   place k lt = subst (λ m. k < m) (sym (ap length (given ∙ all) ∙ length-map asked term_asked)) lt
 
@@ -32,7 +32,7 @@ module _ (nodes held : List Node) (M : Interpretation) (asked : List Asked) (ter
   found_within k lt = subst (λ m. k < m) (sym are.count) (place k lt)
 
   pub found_plain : (k : ℕ) (v : Value) → k < length asked → v ≡ held_value found k → is_table v ≡ false
-  found_plain k v lt e = ap is_table e ∙ sort_plain (sort_of held (get_or slice k 0)) (held_value found k) (are.sorted k (place k lt))
+  found_plain k v lt e = ap is_table e ∙ sort_plain (sort_of nodes (get_or slice k 0)) (held_value found k) (are.sorted k (place k lt))
 
   -- one text more
   pub item_more : (items more : List (List ℕ)) (k : ℕ) (a : Asked) (v : Value) (item : List ℕ) → k < length asked → a ≡ get_or asked k a → v ≡ held_value found k
@@ -41,7 +41,7 @@ module _ (nodes held : List Node) (M : Interpretation) (asked : List Asked) (ter
   item_more items more k a v item lt at here text before e =
       let term : get_or slice k 0 ≡ a.term = ap (λ ts. get_or ts k 0) (given ∙ all) ∙ get_or-map term_asked asked k a 0 lt ∙ ap term_asked (sym at) in
       let means : meaning v ≡ value M nodes a.term =
-      ap meaning here ∙ are.means k (place k lt) ∙ ap (value M held) term ∙ ap (λ ns. value M ns a.term) over in
+      ap meaning here ∙ are.means k (place k lt) ∙ ap (value M nodes) term in
       let own : item ≡ asked_text nodes M a = text ∙ ap (λ x. codes "(" ++ a.text ++ codes " " ++ meaning_text x ++ codes ")") means in
       mapped_more (asked_text nodes M) asked items more k a item lt at before own e
 

@@ -1,5 +1,5 @@
 -- A log that grows by the steps of a check.
-use Rattle.std.specs.Prelude.{◌≡◌, ◌<◌, ℕ, false, List, [], ◌∷◌, ◌++◌, length, map, slice_get, Some, IsSome}
+use Rattle.std.specs.Prelude.{◌≡◌, ◌<◌, ℕ, List, [], ◌∷◌, ◌++◌, length, map, slice_get, Some, IsSome}
 use Rattle.std.specs.List.{AllByRecursion}
 use Rattle.cnf_base.specs.Literals.{Literal}
 use Rattle.smt_terms.specs.declared.sort.Sort.TheVariants as sort
@@ -12,17 +12,12 @@ use Rattle.proof_log.specs.declared.entry.Entry.{Entry}
 use Rattle.proof_log.specs.Faults.{MakesNoTerm}
 use Rattle.proof_log.specs.Places.{IsForTerm}
 use Rattle.proof_log.specs.Stored.{LogValue, Stands, selector_in}
-use Rattle.proof_log.specs.Words.{IsOfWords}
 use Rattle.proof_text.specs.Entries.{entry_line}
 use Rattle.accepted_proof.specs.Turns.{IsOfScript, AreStepsOf, with_steps}
 
--- where functions and arrays are not read, the step is of Bools and words
-abbrev pub IsOfTheories : StateValue → Entry → Type 0
-IsOfTheories s e = s.symbols.theories ≡ false → IsOfWords s.terms.nodes e
-
--- what the step names of the script is as the script has it, it is of what is read, and it has a line
+-- what the step names of the script is as the script has it, and it has a line
 abbrev pub IsStepFor : StateValue → Entry → Type 0
-IsStepFor s e = IsOfScript s e × IsOfTheories s e × IsSome (entry_line e)
+IsStepFor s e = IsOfScript s e × IsSome (entry_line e)
 
 abbrev pub AreStepsFor : StateValue → List Entry → Type 0
 AreStepsFor s = AllByRecursion (IsStepFor s)
@@ -50,7 +45,6 @@ pub record LeadsTo (s : StateValue) (old : LogValue) (s' : StateValue) (new : Lo
   pub entries : new.entries ≡ old.entries ++ added
   pub steps : AreStepsOf s old.entries added
   pub state : s' ≡ with_steps s added
-  pub words : AllByRecursion (IsOfTheories s') added
   pub stands : Stands s'.terms.nodes new
 
 -- the term has bits

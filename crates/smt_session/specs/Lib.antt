@@ -1,8 +1,6 @@
 pub mod Growing
 pub mod Planning
-pub mod Reaching
 pub mod Searched
-pub mod Modeled
 pub mod Tabled
 pub mod Blaming
 pub mod Thorough

@@ -1,13 +1,27 @@
 -- What contracts see of the parts of a session.
 use Rattle.cube_workers.specs.Crews.{AreAtRest}
+use Rattle.opening_positions.specs.Reading.{IsRead}
 use Rattle.session_terms.specs.Placed.{IsInOrder}
+use Rattle.script_state.specs.States.{StateValue}
 use Rattle.smt_session.specs.declared.session.Parts.{Parts}
+use Rattle.smt_session.specs.declared.workspace.Workspace.{Workspace}
+use Rattle.smt_session.specs.Tabled.{IsSortedRecord}
 use Rattle.smt_session.specs.Sessions.{SessionValue, IsSession, AreSettings, limits_of}
 
 -- the state, the log, the record of the last check, and the limits
 abbrev pub seen_of : Parts → SessionValue
 seen_of p = record { state = p.state; log = p.workspace.log; shown = p.last; limits = limits_of p.settings }
 
--- the log stands over the terms of the state, which are in order, the settings are allowed, and the searches keep clauses of the log
-abbrev pub AreParts : Parts → Type 0
-AreParts p = IsSession p.state p.workspace.log × AreSettings p.settings × AreAtRest p.workspace.log p.workspace.searches.items × IsInOrder p.state.terms.nodes p.workspace.log.bits
+-- What is kept from check to check: the log stands over the terms of the state, which are in order, what was read of its steps is
+-- theirs, and the searches keep clauses of the log.
+pub record IsKept (s : StateValue) (w : Workspace) : Type 0 where
+  pub session : IsSession s w.log
+  pub order : IsInOrder s.terms.nodes w.log.bits
+  pub read : IsRead s.terms.nodes w.log.entries w.steps
+  pub resting : AreAtRest w.log w.searches.items
+
+-- so it is, the settings are allowed, and a model that the last check found is of the declarations' sorts
+pub record AreParts (p : Parts) : Type 0 where
+  pub kept : IsKept p.state p.workspace
+  pub settings : AreSettings p.settings
+  pub sorted : IsSortedRecord p.state.symbols.signatures p.last

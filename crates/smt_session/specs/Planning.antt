@@ -16,7 +16,6 @@ use Rattle.proof_log.specs.declared.entry.Entry.{Entry}
 use Rattle.proof_log.specs.declared.entry.Entry.TheVariants as step
 use Rattle.proof_log.specs.Places.{IsForTerm}
 use Rattle.proof_log.specs.Stored.{LogValue}
-use Rattle.proof_log.specs.Words.{IsOfWords}
 use Rattle.smt_session.specs.Growing.{GivesNoBits, HasBits, LeadsTo}
 use Rattle.smt_session.specs.Thorough.{AreSimplified, AreUsed, AreWanted, IsSeenAs}
 
@@ -65,11 +64,9 @@ gives_own (step.Leaf t) = true
 gives_own (step.Encode t) = true
 gives_own _ = false
 
--- The step gives the term of a plan's step its bits: by the planned use of a rule, or its own. Where functions and arrays are not
--- read, a leaf is a declared Bool or word.
-pub record IsForPlanned (theories : Bool) (nodes : List Node) (p : Planned) (e : Entry) : Type 0 where
+-- the step gives the term of a plan's step its bits: by the planned use of a rule, or its own
+pub record IsForPlanned (p : Planned) (e : Entry) : Type 0 where
   pub term : IsForTerm p.term e
-  pub words : theories ≡ false → IsOfWords nodes e
   pub used : (u : Use) → p.used ≡ Some u → (r : RuleUse) × (e ≡ step.Rewrite r) × (r.to ≡ u.to)
   pub own : p.used ≡ None → gives_own e ≡ true
 

@@ -40,10 +40,9 @@ pub record SessionValue : Type 0 where
   pub shown : Option Record
   pub limits : Limits
 
--- the commands left a state of Bools and words, the log stands over its terms, and the steps are for the script
+-- the commands left a state, the log stands over its terms, and the steps are for the script
 pub record IsSession (s : StateValue) (log : LogValue) : Type 0 where
   pub state : IsState s
-  pub theories : s.symbols.theories ≡ false
   pub stands : Stands s.terms.nodes log
   pub each : AreStepsFor s log.entries
 

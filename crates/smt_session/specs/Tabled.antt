@@ -1,6 +1,7 @@
 -- The values of a model by declaration.
-use Rattle.std.specs.Prelude.{◌≡◌, ℕ, Bool, true, false, List, Option, None, Some, slice_get}
+use Rattle.std.specs.Prelude.{◌≡◌, ℕ, Bool, true, false, List, All, Option, None, Some, slice_get}
 use Rattle.std.specs.List.{flat_map}
+use Rattle.smt_terms.specs.declared.sort.Signature.{Signature}
 use Rattle.smt_values.specs.declared.value.Value.{Value}
 use Rattle.smt_values.specs.Held.{set_for}
 use Rattle.smt_build.specs.declared.symbols.LiveName.{LiveName}
@@ -8,7 +9,7 @@ use Rattle.script_state.specs.States.{StateValue}
 use Rattle.proof_text.specs.declared.record.Record.{Record}
 use Rattle.proof_text.specs.declared.record.Record.TheVariants.{Sat, Unsat, Unknown}
 use Rattle.accepted_proof.specs.Answers.{definition_by}
-use Rattle.accepted_proof.specs.Models.{value_for}
+use Rattle.accepted_proof.specs.Models.{value_for, IsOfSignature}
 
 -- each declaration has the value in the table that is written for it
 abbrev pub IsTable : List (ℕ × Value) → List (Option Value) → Type 0
@@ -25,6 +26,17 @@ IsTableOf (Some (Unknown d)) table = Unit {0}
 abbrev pub AreTabled : Option Record → Option (List (Option Value)) → Type 0
 AreTabled shown None = Unit {0}
 AreTabled shown (Some table) = IsTableOf shown table
+
+-- each value is one that its declaration may have
+abbrev pub AreOfSignatures : List Signature → List (ℕ × Value) → Type 0
+AreOfSignatures signatures values = All (λ (p : ℕ × Value). IsOfSignature p.1 (slice_get signatures p.0)) values
+
+-- where the record has a model, its values are such
+abbrev pub IsSortedRecord : List Signature → Option Record → Type 0
+IsSortedRecord signatures None = Unit {0}
+IsSortedRecord signatures (Some (Sat values)) = AreOfSignatures signatures values
+IsSortedRecord signatures (Some (Unsat p)) = Unit {0}
+IsSortedRecord signatures (Some (Unknown d)) = Unit {0}
 
 -- whether there is a model
 abbrev pub is_model : Record → Bool

@@ -40,6 +40,7 @@ pub(crate) fn encode(
         ≡ watched state.old.terms.nodes (roots state.old) ++ more)) }
     ensures order { OnOk result (IsInOrder state.new.terms.nodes workspace.new.log.bits) }
     ensures searches { OnOk result (workspace.new.searches ≡ workspace.old.searches) }
+    ensures steps { OnOk result (workspace.new.steps ≡ workspace.old.steps) }
 {
     let roots = roots(alloc, state)?;
     watch(alloc, state, workspace, roots.as_slice())?;
@@ -49,7 +50,6 @@ pub(crate) fn encode(
         roots.as_slice(),
         &mut workspace.reached,
     )?;
-    // Functions and arrays are not read.
-    rewrite(alloc, state, workspace, live.as_slice(), false)?;
+    rewrite(alloc, state, workspace, live.as_slice())?;
     Ok(live)
 }

@@ -15,12 +15,12 @@
 mod check;
 mod cores;
 mod encoding;
+mod finding;
 mod given;
 mod last;
 mod lists;
-mod model;
 mod planned;
-mod positions;
+mod preparing;
 mod reach;
 pub mod response;
 mod searching;

@@ -1,12 +1,11 @@
 // Which terms a check needs.
 
-ghost use Rattle.std.specs.Prelude.{◌≡◌, false, All, IfOk, OnOk, Contains};
+ghost use Rattle.std.specs.Prelude.{◌≡◌, All, IfOk, OnOk, Contains};
 ghost use Rattle.smt_terms.specs.Bits.{image_in};
 ghost use Rattle.script_state.specs.States.{roots};
 ghost use Rattle.proof_log.specs.Assigned.{AreClosed};
 ghost use Rattle.session_terms.specs.Placed.{IsInOrder};
 ghost use Rattle.smt_session.specs.Growing.{HasBits};
-ghost use Rattle.smt_session.specs.Reaching.{IsPlainTerm};
 ghost use Rattle.smt_session.specs.Sessions.{IsSession};
 
 use proof_log::Log;
@@ -19,9 +18,7 @@ use term_reach::{Next, Reached, reach};
 
 /// The terms of the live assertions, and then those of the assumptions.
 pub(crate) fn roots(alloc: Global, state: &State) -> Result<Vec<TermId>, AllocError>
-    requires { state.now.symbols.theories ≡ false }
-    ensures roots { IfOk result (λ r. r.items ≡ roots state.now) }
-    ensures plain { IfOk result (λ r. All (IsPlainTerm state.now.terms.nodes) r.items) }
+    ensures { IfOk result (λ r. r.items ≡ roots state.now) }
 {
     state.roots(alloc)
 }
@@ -33,9 +30,10 @@ struct ByImages<'a> {
 }
 
 impl<'a> Next for ByImages<'a> {
-    ghost use Rattle.smt_session.specs.Reaching.{by_images};
+    ghost use Rattle.smt_terms.specs.Bits.{image_in};
+    ghost use Rattle.session_terms.specs.Placed.{by_images};
 
-    ghost next_of = { λ n nodes. by_images nodes n.bits.now };
+    ghost next_of = { λ n nodes. by_images nodes (image_in n.bits.now) };
 
     fn next(
         &self,
@@ -67,7 +65,6 @@ pub(crate) fn reach_by_images(
     ensures closed { OnOk result
         (AreClosed state.now.terms.nodes (image_in log.now.bits) (Contains reached.new)) }
     ensures from { OnOk result (All (Contains reached.new) from.now) }
-    ensures bits { OnOk result (All (HasBits log.now) reached.new) }
 {
     let terms = state.terms();
     // The contract of `len` says that no two terms are equal.

@@ -4,14 +4,13 @@ ghost use Rattle.std.specs.Prelude.{◌≡◌, ◌≢◌, ◌≤◌, ℕ, List, 
 ghost use Rattle.std.specs.Io.KnownBytes.{Appends};
 ghost use Rattle.smt_desk.specs.Faults.{Rose};
 ghost use Rattle.proof_text.specs.declared.record.Record.{Record as RecordValue};
-ghost use Rattle.script_state.specs.States.{no_state, IsState};
+ghost use Rattle.script_state.specs.States.{start_of, IsState, WatchesFit};
 ghost use Rattle.script_state.specs.Steps.{forgotten};
 ghost use Rattle.accepted_proof.specs.Searching.{Limits};
-ghost use Rattle.cube_workers.specs.Crews.{AreAtRest};
-ghost use Rattle.session_terms.specs.Placed.{IsInOrder};
 ghost use Rattle.smt_session.specs.Sessions.{AreHeld, IsAnswered, IsSession, AreSettings, Responds, asks_values, limits_of};
 ghost use Rattle.smt_session.specs.Sessions.{CutsCheck, CutsTurn, Leaves, WritesFront};
-ghost use Rattle.smt_session.specs.Parts.{AreParts, seen_of};
+ghost use Rattle.smt_session.specs.Parts.{AreParts, IsKept, seen_of};
+ghost use Rattle.smt_session.specs.Tabled.{IsSortedRecord};
 
 use crate::check::{run_check, verdict_of};
 use crate::cores::{assumptions_text, core_text};
@@ -22,6 +21,7 @@ use crate::texts::model_text;
 use crate::values::values_text;
 use crate::workspace::Workspace;
 use cube_workers::Gate;
+use opening_positions::TheorySteps;
 use proof_log::Log;
 use reached_images::Plan;
 use script_state::answer::Answer;
@@ -87,13 +87,11 @@ fn answer_check<R: Threads + Wait + Sync, Q: Sink, G: Gate + Sync>(
     proof: &mut Q,
     gate: &G,
 ) -> Result<Response, Stop>
-    requires session { IsSession state.old workspace.old.log }
-    requires order { IsInOrder state.old.terms.nodes workspace.old.log.bits }
-    requires resting { AreAtRest workspace.old.log workspace.old.searches.items }
+    requires kept { IsKept state.old workspace.old }
+    requires fits { WatchesFit state.old }
     requires settings { AreSettings settings }
-    ensures session { OnOk result (IsSession state.new workspace.new.log) }
-    ensures order { OnOk result (IsInOrder state.new.terms.nodes workspace.new.log.bits) }
-    ensures resting { OnOk result (AreAtRest workspace.new.log workspace.new.searches.items) }
+    ensures kept { OnOk result (IsKept state.new workspace.new) }
+    ensures sorted { OnOk result (IsSortedRecord state.new.symbols.signatures last.new) }
     ensures response { IfOk result (λ r. Responds (limits_of settings) line Answer.Check
         state.old state.new workspace.old.log workspace.new.log last.old last.new r
         (Q.written proof.old) (Q.written proof.new)) }
@@ -103,8 +101,6 @@ fn answer_check<R: Threads + Wait + Sync, Q: Sink, G: Gate + Sync>(
     ensures failed { result ≡ Err Stop.Failed → Rose (Q.faults proof.old) (Q.faults proof.new) }
     ensures later { Q.faults proof.old ≤ Q.faults proof.new }
 {
-    // The contract of `len` says that there is room for the terms.
-    let _count = state.terms().len();
     let (shown, text) = run_check(rt, alloc, state, workspace, settings, gate)?;
     let verdict = verdict_of(&shown);
     let response = Response::verdict(alloc, verdict)?;
@@ -150,6 +146,7 @@ fn response_without_check(
 ) -> Result<Response, AllocError>
     requires session { IsSession state.now log.now }
     requires held { AreHeld state.now answer }
+    requires sorted { IsSortedRecord state.now.symbols.signatures last.old }
     requires unchecked { answer ≢ Answer.Check }
     ensures response { IfOk result (λ r. (limits : Limits) (written : Option (List ℕ))
         → Responds limits line answer state.now state.now log.now log.now last.old last.old r
@@ -183,16 +180,16 @@ fn respond<R: Threads + Wait + Sync, Q: Sink, G: Gate + Sync>(
     proof: &mut Q,
     gate: &G,
 ) -> Result<Response, Stop>
-    requires session { IsSession state.old workspace.old.log }
-    requires order { IsInOrder state.old.terms.nodes workspace.old.log.bits }
-    requires resting { AreAtRest workspace.old.log workspace.old.searches.items }
+    requires kept { IsKept state.old workspace.old }
     requires held { AreHeld state.old answer }
+    requires fits { answer ≡ Answer.Check → WatchesFit state.old }
+    requires sorted { IsSortedRecord state.old.symbols.signatures last.old }
     requires settings { AreSettings settings }
-    ensures session { OnOk result (IsSession state.new workspace.new.log) }
-    ensures order { OnOk result (IsInOrder state.new.terms.nodes workspace.new.log.bits) }
-    ensures resting { OnOk result (AreAtRest workspace.new.log workspace.new.searches.items) }
+    ensures kept { OnOk result (IsKept state.new workspace.new) }
+    ensures sorted { OnOk result (IsSortedRecord state.new.symbols.signatures last.new) }
     ensures still { asks_values answer ≡ true
-        → OnOk result ((state.new ≡ state.old) × (workspace.new.log ≡ workspace.old.log)) }
+        → OnOk result ((state.new ≡ state.old) × (workspace.new.log ≡ workspace.old.log)
+        × (workspace.new.steps ≡ workspace.old.steps)) }
     ensures response { IfOk result (λ r. Responds (limits_of settings) line answer
         state.old state.new workspace.old.log workspace.new.log last.old last.new r
         (Q.written proof.old) (Q.written proof.new)) }
@@ -271,15 +268,17 @@ impl Session {
     /// memory.
     pub fn new(alloc: Global, settings: Settings) -> Result<Session, AllocError>
         requires { AreSettings settings }
-        ensures fresh { IfOk result (λ s. (s.state ≡ no_state) × (s.log.entries ≡ [])
+        ensures fresh { IfOk result (λ s. (s.state ≡ start_of true) × (s.log.entries ≡ [])
             × (s.shown ≡ None)) }
         ensures limits { IfOk result (λ s. s.limits ≡ limits_of settings) }
     {
         let log = Log::new(alloc)?;
+        let steps = TheorySteps::new(alloc)?;
         let parts = Parts {
-            state: State::new(alloc),
+            state: State::with_theories(alloc),
             workspace: Workspace {
                 log,
+                steps,
                 searches: Vec::new(alloc),
                 reached: Reached::new(alloc),
                 plan: Plan::new(alloc),

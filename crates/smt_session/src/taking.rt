@@ -5,10 +5,11 @@ ghost use Rattle.smt_terms.specs.declared.node.Node.{Node as NodeValue};
 ghost use Rattle.smt_terms.specs.Nodes.{node_at};
 ghost use Rattle.smt_terms.specs.Bits.{TermBits, bits_in, image_in};
 ghost use Rattle.smt_terms.specs.Ranks.{is_plain};
-ghost use Rattle.smt_terms.specs.Terms.{TermsValue, declaration_of, sort_of};
+ghost use Rattle.smt_terms.specs.Terms.{TermsValue, Agrees, sort_of};
+ghost use Rattle.smt_build.specs.Names.{IsDeclared};
 ghost use Rattle.proof_log.specs.declared.entry.Entry.TheVariants as step;
 ghost use Rattle.proof_log.specs.Faults.{Answers};
-ghost use Rattle.proof_log.specs.Logs.{constant_width, leaf_width};
+ghost use Rattle.proof_log.specs.Logs.{leaf_width};
 ghost use Rattle.proof_log.specs.Stored.{Stands};
 ghost use Rattle.reached_images.specs.declared.plan.Planned.{Planned as PlannedValue};
 ghost use Rattle.reached_images.specs.Plans.{IsPlan};
@@ -27,28 +28,34 @@ use proof_log::entry::{Entry, RuleUse};
 use reached_images::Planned;
 use script_state::state::State;
 use smt_terms::node::{Node, Op, TermId};
-use smt_terms::sort::Sort;
 use smt_terms::terms::Terms;
 use std::alloc::{AllocError, Global};
 use std::mem;
 use theory_terms::shape::{Shape, shape_at};
 
-/// Whether an operator names what a script declared or a parameter of a definition, which no step makes.
-fn is_named(op: &Op) -> bool
-    ensures { result ≡ false → declaration_of op.now ≡ None }
+/// Whether a step may make a term of the operator: it applies a function as the script declares it, or names nothing of the script.
+/// A plan makes no declared constant and no parameter.
+fn is_of_script(state: &State, op: &Op) -> bool
+    ensures { result ≡ true → IsDeclared state.now.symbols.signatures op.now }
 {
     match op {
-        Op::Constant { .. } => true,
-        Op::Apply { .. } => true,
-        Op::Param { .. } => true,
-        _ => false,
+        Op::Constant { .. } => false,
+        Op::Param { .. } => false,
+        Op::Apply {
+            declaration,
+            signature,
+        } => match state.signature(*declaration) {
+            Some(own) => own == signature,
+            None => false,
+        },
+        _ => true,
     }
 }
 
 /// Makes a term by a step of the log. A plan makes none that a log refuses; a refusal would be an error like want of memory.
 fn push_node(alloc: Global, terms: &mut Terms, log: &mut Log, node: Node) -> Result<(), AllocError>
     requires stands { Stands terms.old.nodes log.old }
-    requires unnamed { declaration_of node.op ≡ None }
+    requires agrees { Agrees terms.old.nodes node.op }
     ensures { OnOk result ((at : ℕ)
         × Answers terms.old terms.new (step.Node node) log.old log.new (Ok at)) }
 {
@@ -64,7 +71,7 @@ fn take_node(alloc: Global, state: &mut State, log: &mut Log, node: Node) -> Res
     ensures adds { OnOk result (AddsTerms state.old log.old state.new log.new) }
     ensures made { OnOk result (state.new.terms.nodes ≡ state.old.terms.nodes ++ node ∷ []) }
 {
-    if is_named(&node.op) {
+    if !is_of_script(state, &node.op) {
         drop(node);
         return Err(AllocError);
     }
@@ -100,23 +107,6 @@ pub(crate) fn take_nodes(
     Ok(())
 }
 
-/// Whether the operator is a declared Bool or word.
-fn is_constant(op: &Op) -> bool
-    ensures { result ≡ is_some (constant_width op.now) }
-{
-    match op {
-        Op::Constant {
-            declaration: _,
-            sort,
-        } => match sort {
-            Sort::Bool => true,
-            Sort::Word(_) => true,
-            Sort::Array(_, _) => false,
-        },
-        _ => false,
-    }
-}
-
 /// Whether no circuit gives the bits of a term: of a declared constant, an element of an array, a witness or an application that is
 /// a Bool or a word, or of an equality of arrays.
 fn is_free(terms: &Terms, term: TermId) -> bool
@@ -133,25 +123,10 @@ fn is_free(terms: &Terms, term: TermId) -> bool
     }
 }
 
-/// Whether a term gets its bits as a leaf: of all whose bits no circuit gives, declared Bools and words alone where functions and
-/// arrays are not read.
-fn is_leaf(terms: &Terms, term: TermId, theories: bool) -> bool
-    requires { term < length terms.now.nodes }
-    ensures words { theories ≡ false
-        → result ≡ is_some (constant_width (node_at terms.now.nodes term).op) }
-    ensures all { theories ≡ true → result ≡ is_some (leaf_width terms.now.nodes term) }
-{
-    if theories {
-        is_free(terms, term)
-    } else {
-        is_constant(&terms.node(term).op)
-    }
-}
-
 /// The step that gives a term its bits.
-fn step_for(terms: &Terms, planned: &Planned, theories: bool) -> Entry
+fn step_for(terms: &Terms, planned: &Planned) -> Entry
     requires { planned.now.term < length terms.now.nodes }
-    ensures { IsForPlanned theories terms.now.nodes planned.now result }
+    ensures { IsForPlanned planned.now result }
 {
     match planned.used {
         Some(used) => Entry::Rewrite(RuleUse {
@@ -160,7 +135,7 @@ fn step_for(terms: &Terms, planned: &Planned, theories: bool) -> Entry
             to: used.to,
         }),
         None => {
-            if is_leaf(terms, planned.term, theories) {
+            if is_free(terms, planned.term) {
                 Entry::Leaf(planned.term)
             } else {
                 Entry::Encode(planned.term)
@@ -186,10 +161,8 @@ fn take_step(
     state: &State,
     log: &mut Log,
     planned: &Planned,
-    theories: bool,
 ) -> Result<(), AllocError>
     requires session { IsSession state.now log.old }
-    requires read { state.now.symbols.theories ≡ theories }
     requires held { planned.now.term < length state.now.terms.nodes }
     // over terms that have perhaps grown, where the term keeps its operator only if it has to
     ensures { OnOk result ((v : TermsValue) (bits : List TermBits) (before : List PlannedValue)
@@ -203,7 +176,7 @@ fn take_step(
     if is_for_array(terms, planned) {
         return Ok(());
     }
-    match log.try_put(alloc, terms, step_for(terms, planned, theories)) {
+    match log.try_put(alloc, terms, step_for(terms, planned)) {
         Ok(_) => Ok(()),
         Err(_) => Err(AllocError),
     }
@@ -230,10 +203,8 @@ fn take_plan(
     log: &mut Log,
     steps: &[Planned],
     made: &[Node],
-    theories: bool,
 ) -> Result<(), AllocError>
     requires session { IsSession state.old log.old }
-    requires read { state.old.symbols.theories ≡ theories }
     requires held { All
         (λ (p : PlannedValue). p.term < length state.old.terms.nodes + length made.now) steps.now }
     requires plan { IsPlan (state.old.terms.nodes ++ made.now) log.old.bits steps.now }
@@ -248,23 +219,20 @@ fn take_plan(
         let end = end_for(planned, before, done, made.len());
         take_nodes(alloc, state, log, made, done, end)?;
         done = end;
-        take_step(alloc, state, log, planned, theories)?;
+        take_step(alloc, state, log, planned)?;
     }
     take_nodes(alloc, state, log, made, done, made.len())?;
     Ok(())
 }
 
-/// Gives all Bools and words that the roots reach and that need them bits: those of what they become by the rules of rewriting. The
-/// caller says whether functions and arrays are read.
+/// Gives all Bools and words that the roots reach and that need them bits: those of what they become by the rules of rewriting.
 pub(crate) fn rewrite(
     alloc: Global,
     state: &mut State,
     workspace: &mut Workspace,
     roots: &[TermId],
-    theories: bool,
 ) -> Result<(), AllocError>
     requires session { IsSession state.old workspace.old.log }
-    requires read { state.old.symbols.theories ≡ theories }
     requires held { All (λ t. t < length state.old.terms.nodes) roots.now }
     requires plain { All (λ t. is_plain (sort_of state.old.terms.nodes t) ≡ true) roots.now }
     requires order { IsInOrder state.old.terms.nodes workspace.old.log.bits }
@@ -273,6 +241,7 @@ pub(crate) fn rewrite(
     ensures roots { OnOk result (All (HasBits workspace.new.log) roots.now) }
     ensures order { OnOk result (IsInOrder state.new.terms.nodes workspace.new.log.bits) }
     ensures searches { OnOk result (workspace.new.searches ≡ workspace.old.searches) }
+    ensures steps { OnOk result (workspace.new.steps ≡ workspace.old.steps) }
 {
     let made = plan_check(
         alloc,
@@ -288,7 +257,6 @@ pub(crate) fn rewrite(
         &mut workspace.log,
         workspace.plan.steps(),
         made.as_slice(),
-        theories,
     )?;
     Ok(())
 }

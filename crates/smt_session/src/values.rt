@@ -2,9 +2,10 @@
 
 ghost use Rattle.std.specs.Prelude.{◌≡◌, ◌<◌, ◌++◌, All, IfOk, codes, false, length, map};
 ghost use Rattle.smt_values.specs.Held.{interpretation_of, meaning};
-ghost use Rattle.smt_eval.specs.Evaluated.{is_table};
+ghost use Rattle.smt_eval.specs.Evaluated.{AreSuited, is_table};
 ghost use Rattle.script_state.specs.declared.answer.Asked.{Asked as AskedValue};
 ghost use Rattle.accepted_proof.specs.Answers.{asked_text, meaning_text, values_text};
+ghost use Rattle.smt_session.specs.Tabled.{IsSortedRecord};
 
 use crate::last::Last;
 use crate::lists::list_text;
@@ -13,6 +14,7 @@ use script_state::answer::Asked;
 use script_state::state::State;
 use smt_eval::values_with;
 use smt_terms::node::TermId;
+use smt_terms::terms::Terms;
 use smt_text::text::Text;
 use smt_values::{Interp, Value};
 use std::alloc::{AllocError, Global};
@@ -47,19 +49,19 @@ fn value_item(alloc: Global, asked: &Asked, value: &Value) -> Result<Text, Alloc
 /// Each term with its value under the values of the declarations. Only what the terms reach is evaluated.
 fn value_items(
     alloc: Global,
-    state: &State,
+    terms: &Terms,
     values: &Interp,
     asked: &[Asked],
     reached: &mut Reached,
 ) -> Result<Vec<Text>, AllocError>
-    requires held { All (λ (a : AskedValue). a.term < length state.now.terms.nodes) asked.now }
-    requires words { state.now.symbols.theories ≡ false }
+    requires held { All (λ (a : AskedValue). a.term < length terms.now.nodes) asked.now }
+    requires suited { AreSuited terms.now.nodes values.now }
     ensures { IfOk result
         (λ items. items.items
-        ≡ map (asked_text state.now.terms.nodes (interpretation_of values.now)) asked.now) }
+        ≡ map (asked_text terms.now.nodes (interpretation_of values.now)) asked.now) }
 {
-    let terms = terms_of(alloc, asked)?;
-    let found = values_with(alloc, state.terms(), values, terms.as_slice(), reached)?;
+    let numbers = terms_of(alloc, asked)?;
+    let found = values_with(alloc, terms, values, numbers.as_slice(), reached)?;
     let mut items = Vec::new(alloc);
     for at in 0..asked.len() {
         let item = value_item(alloc, &asked[at], &found[at])?;
@@ -77,7 +79,7 @@ pub(crate) fn values_text(
     reached: &mut Reached,
 ) -> Result<Text, AllocError>
     requires held { All (λ (a : AskedValue). a.term < length state.now.terms.nodes) asked.now }
-    requires words { state.now.symbols.theories ≡ false }
+    requires sorted { IsSortedRecord state.now.symbols.signatures last.old }
     ensures text { IfOk result (λ t. t ≡ values_text state.now.terms.nodes asked.now last.old) }
     ensures same { last.new ≡ last.old }
 {
@@ -85,7 +87,7 @@ pub(crate) fn values_text(
         return Ok(Text::new(alloc));
     }
     let values = last.take_values(alloc)?;
-    let items = value_items(alloc, state, &values, asked, reached)?;
+    let items = value_items(alloc, state.terms(), &values, asked, reached)?;
     last.keep(values);
     list_text(alloc, items.as_slice())
 }

@@ -92,6 +92,7 @@ pub(crate) fn watch(
         (AddsTerms state.old workspace.old.log state.new workspace.new.log) }
     ensures made { OnOk result (state.new.terms.nodes ≡ watched state.old.terms.nodes roots.now) }
     ensures searches { OnOk result (workspace.new.searches ≡ workspace.old.searches) }
+    ensures steps { OnOk result (workspace.new.steps ≡ workspace.old.steps) }
 {
     let made = watches(alloc, state, roots, &mut workspace.reached)?;
     take_nodes(

@@ -45,6 +45,8 @@ mod term_error_tests;
 #[cfg(test)]
 mod tests;
 #[cfg(test)]
+mod theory_tests;
+#[cfg(test)]
 mod word_tests;
 #[cfg(test)]
 mod worked;

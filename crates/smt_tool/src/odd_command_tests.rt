@@ -290,18 +290,42 @@ const A_HEAD_THAT_IS_LEFT_OUT: Table = Table {
     ),
 };
 
-const A_CONSTANT_ARRAY: Table = Table {
-    what: "a constant array",
+const A_CONSTANT_ARRAY_ALONE: Table = Table {
+    what: "a constant array without its parentheses",
     rows: Rows::Told(
         b"not supported",
         &[
             b"(assert (as const (Array (_ BitVec 8) (_ BitVec 8))))",
             b"(assert (as const))",
-            b"(assert ((as const (Array (_ BitVec 8) (_ BitVec 8))) x))",
-            b"(assert ((as |const| (Array (_ BitVec 8) (_ BitVec 8))) nope))",
-            b"(assert ((as const (Array (_ BitVec 8) (_ BitVec 8)))))",
-            b"(get-value (((as const (Array (_ BitVec 8) (_ BitVec 8))) x)))",
         ],
+    ),
+};
+
+const A_CONSTANT_ARRAY_OF_WRONG_ARGUMENTS: Table = Table {
+    what: "a constant array of wrong arguments, or in the place of a truth value",
+    rows: Rows::Told(
+        b"wrong number or sorts of arguments",
+        &[
+            b"(assert ((as const (Array (_ BitVec 8) (_ BitVec 8))) x))",
+            b"(assert ((as const (Array (_ BitVec 8) (_ BitVec 8)))))",
+            b"(assert ((as const Bool) p))",
+        ],
+    ),
+};
+
+const A_CONSTANT_ARRAY_OF_AN_UNKNOWN_SYMBOL: Table = Table {
+    what: "a constant array of an unknown symbol",
+    rows: Rows::Told(
+        b"unknown symbol",
+        &[b"(assert ((as |const| (Array (_ BitVec 8) (_ BitVec 8))) nope))"],
+    ),
+};
+
+const A_CONSTANT_ARRAY_WITHOUT_A_MODEL: Table = Table {
+    what: "the value of a constant array where no model stands",
+    rows: Rows::Told(
+        b"no model stands",
+        &[b"(get-value (((as const (Array (_ BitVec 8) (_ BitVec 8))) x)))"],
     ),
 };
 
@@ -389,7 +413,10 @@ fn odd_commands_are_told_as_what_they_are(rt: HostRuntime) -> Result<(), Fail> {
             A_MALFORMED_HEAD,
             A_TERM_THAT_IS_LEFT_OUT,
             A_HEAD_THAT_IS_LEFT_OUT,
-            A_CONSTANT_ARRAY,
+            A_CONSTANT_ARRAY_ALONE,
+            A_CONSTANT_ARRAY_OF_WRONG_ARGUMENTS,
+            A_CONSTANT_ARRAY_OF_AN_UNKNOWN_SYMBOL,
+            A_CONSTANT_ARRAY_WITHOUT_A_MODEL,
             A_CONSTANT_ARRAY_OF_A_MALFORMED_TERM,
             A_SORT_THAT_IS_LEFT_OUT,
             A_NAME_THAT_IS_RESERVED,

@@ -1,7 +1,6 @@
 use Rattle.session_terms.proofs.Placing.{never_leads_back}
 use Rattle.session_terms.proofs.Planned.{bare_free}
-use Rattle.smt_session.proofs.Reaching.{images_below, with_bits_held, reached_is_closed, roots_reached, reached_have_bits}
-use Rattle.smt_session.proofs.Staying.{words_of}
+use Rattle.smt_session.proofs.Reaching.{images_below, with_bits_held, reached_is_closed, roots_reached}
 use Rattle.smt_session.proofs.reach.reach_by_images.Goals as goal
 
 pub reach-requires-clause-acyclic : goal.reach-requires-clause-acyclic
@@ -27,8 +26,3 @@ returns-clause-closed c =
 pub returns-clause-from : goal.returns-clause-from
 returns-clause-from c =
     roots_reached c.args.state.now.terms.nodes c.args.log.now c.requires.session.state.terms c.requires.session.stands c.args.from.now c.reach.new.reached (rw (c.terms-terms.ensures.terms, c.bits.ensures) at c.in_ok-reach.ensures)
-
-pub returns-clause-bits : goal.returns-clause-bits
-returns-clause-bits c =
-    reached_have_bits c.args.state.now.terms.nodes c.args.log.now c.requires.session.state.terms c.requires.session.stands c.args.from.now c.reach.new.reached (rw (c.terms-terms.ensures.terms, c.bits.ensures) at c.in_ok-reach.ensures)
-    (words_of c.args.state.now c.args.log.now.entries c.requires.session.theories c.requires.session.each) c.requires.bits

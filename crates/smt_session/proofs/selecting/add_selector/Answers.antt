@@ -11,7 +11,7 @@ push-requires-clause-valid c =
 
 pub returns-clause-grows : goal.returns-clause-grows
 returns-clause-grows c =
-    grows_one c.args.state.now c.args.log.now c.push.new.self (step.Selector c.args.assertion.now.assertion c.args.assertion.now.term) c.in_ok-push.field-0 (c.requires.asserted.known, λ off. tt, refl) (λ q. let f : ⊥ = cc in f) (λ t q. let f : ⊥ = cc in f)
+    grows_one c.args.state.now c.args.log.now c.push.new.self (step.Selector c.args.assertion.now.assertion c.args.assertion.now.term) c.in_ok-push.field-0 (c.requires.asserted.known, refl) (λ q. let f : ⊥ = cc in f) (λ t q. let f : ⊥ = cc in f)
     (pushed_over c.args.state.now c.terms.result.now c.args.log.now c.push.new.self (step.Selector c.args.assertion.now.assertion c.args.assertion.now.term) c.in_ok-push.field-0 c.terms.ensures.terms c.in_ok-push.ensures.pushed)
 
 pub returns-clause-selector : goal.returns-clause-selector

@@ -4,23 +4,22 @@ use Rattle.std.proofs.lemmas.Result.{err_from_is_err_and}
 use Rattle.script_state.specs.declared.answer.Answer.TheVariants as answer
 use Rattle.script_state.specs.States.{StateValue, concluded}
 use Rattle.accepted_proof.specs.Answers.{verdict_text}
-use Rattle.session_terms.specs.Placed.{IsInOrder}
 use Rattle.smt_session.specs.Sessions.{Responds, limits_of, response}
-use Rattle.smt_session.proofs.Arrayless.{watches_fit}
-use Rattle.smt_session.proofs.Responding.{check_responds, check_cut, check_keeps}
+use Rattle.smt_session.specs.Parts.{IsKept}
+use Rattle.smt_session.specs.Tabled.{IsSortedRecord}
+use Rattle.smt_session.proofs.Keeping.{kept_concluded, sorted_checked}
+use Rattle.smt_session.proofs.Responding.{check_responds, check_cut}
 use Rattle.smt_session.proofs.session.answer_check.Goals as goal
 
-pub run_check-requires-clause-fits : goal.run_check-requires-clause-fits
-run_check-requires-clause-fits g c κs within = watches_fit c.args.state.now c.requires.session.state c.requires.session.theories (rw c.terms.ensures.terms at c.len-count.ensures.terms)
+pub returns-clause-kept : goal.returns-clause-kept
+returns-clause-kept g c =
+    subst (λ (x : StateValue). IsKept x c.run_check.new.workspace) (sym c.conclude.ensures) (kept_concluded c.run_check.new.state c.run_check.new.workspace c.verdict_of-verdict.result c.in_ok-shown.ensures.kept)
 
-pub returns-clause-session : goal.returns-clause-session
-returns-clause-session g c =
-    check_keeps (limits_of c.args.settings) c.args.state.now c.run_check.new.state c.conclude.new.self c.args.workspace.now.log c.run_check.new.workspace.log c.in_ok-shown.shown c.requires.session c.in_ok-shown.ensures.checked
-    (c.conclude.ensures ∙ ap (concluded c.run_check.new.state) c.verdict_of-verdict.ensures)
-
-pub returns-clause-order : goal.returns-clause-order
-returns-clause-order g c =
-    subst (λ (x : StateValue). IsInOrder x.terms.nodes c.run_check.new.workspace.log.bits) (sym c.conclude.ensures) c.in_ok-shown.ensures.order
+pub returns-clause-sorted : goal.returns-clause-sorted
+returns-clause-sorted g c =
+    subst (λ (x : StateValue). IsSortedRecord x.symbols.signatures c.put.new.self) (sym c.conclude.ensures)
+    (subst (IsSortedRecord c.run_check.new.state.symbols.signatures) (sym c.put.ensures)
+    (sorted_checked (limits_of c.args.settings) c.args.state.now c.run_check.new.state c.args.workspace.now.log c.run_check.new.workspace.log c.in_ok-shown.shown c.in_ok-shown.ensures.checked))
 
 pub returns-clause-response : goal.returns-clause-response
 returns-clause-response g c =

@@ -4,6 +4,7 @@ use Rattle.std.proofs.KnownBytes.{Appends-nil}
 use Rattle.std.proofs.lemmas.Result.{IfOk-weaker, IfErr-weaker, err_from_is_err_and}
 use Rattle.proof_text.specs.declared.record.Record.{Record}
 use Rattle.smt_session.specs.Sessions.{Responds, limits_of}
+use Rattle.smt_session.specs.Tabled.{IsSortedRecord}
 use Rattle.smt_session.proofs.Responding.{checks_nothing, of_check, cut_of_check}
 use Rattle.smt_session.proofs.session.respond.Goals as goal
 
@@ -16,6 +17,12 @@ returns-then-is_check-clause-response g c =
 
 pub response_without_check-requires-clause-unchecked : goal.response_without_check-requires-clause-unchecked
 response_without_check-requires-clause-unchecked g c = c.if-is_check.ensures
+
+pub returns-clause-kept : goal.returns-clause-kept
+returns-clause-kept g c = record { session = c.requires.kept.session; order = c.requires.kept.order; read = c.requires.kept.read; resting = c.requires.kept.resting }
+
+pub returns-clause-sorted : goal.returns-clause-sorted
+returns-clause-sorted g c = subst (IsSortedRecord c.args.state.now.symbols.signatures) (sym c.in_ok-response.ensures.same) c.requires.sorted
 
 pub returns-clause-response : goal.returns-clause-response
 returns-clause-response g c =

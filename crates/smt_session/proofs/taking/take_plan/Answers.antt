@@ -1,7 +1,7 @@
-use Rattle.std.proofs.Common.{[], refl, sym, ◌∙◌, append-nil, arith}
+use Rattle.std.proofs.Common.{[], refl, sym, append-nil, arith}
 use Rattle.std.specs.Prelude.{drop}
 use Rattle.smt_session.specs.Planning.{grown_by}
-use Rattle.smt_session.proofs.Leading.{session_led, theories_led}
+use Rattle.smt_session.proofs.Leading.{session_led}
 use Rattle.smt_session.proofs.PlanSteps.{made_parts, over_adds, over_all, over_next, over_none}
 use Rattle.smt_session.proofs.Reasons.{seen_none}
 use Rattle.smt_session.proofs.taking.take_plan.Goals as goal
@@ -20,12 +20,6 @@ pub take_step-requires-clause-session : goal.take_step-requires-clause-session
 take_step-requires-clause-session c =
     session_led c.steps.state c.take_nodes.new.state c.steps.log c.take_nodes.new.log
     (session_led c.args.state.now c.steps.state c.args.log.now c.steps.log c.requires.session c.steps.invariant.taken.taken.leads) c.in_ok-take_nodes.ensures.adds.leads
-
-pub take_step-requires-clause-read : goal.take_step-requires-clause-read
-take_step-requires-clause-read c =
-    theories_led c.steps.state c.take_nodes.new.state c.steps.log c.take_nodes.new.log c.in_ok-take_nodes.ensures.adds.leads
-    ∙ theories_led c.args.state.now c.steps.state c.args.log.now c.steps.log c.steps.invariant.taken.taken.leads
-    ∙ c.requires.read
 
 pub steps-preserved : goal.steps-preserved
 steps-preserved c =

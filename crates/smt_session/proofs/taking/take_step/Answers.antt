@@ -1,5 +1,3 @@
-use Rattle.std.proofs.Common.{sym, subst}
-use Rattle.smt_session.specs.Planning.{IsForPlanned}
 use Rattle.smt_session.proofs.PlanSteps.{array_over, step_over}
 use Rattle.smt_session.proofs.taking.take_step.Goals as goal
 
@@ -10,4 +8,4 @@ returns-then-is_for_array c =
 pub returns-in-Ok : goal.returns-in-Ok
 returns-in-Ok c =
     step_over c.args.state.now c.terms-terms.result.now c.args.log.now c.try_put.new.self c.args.planned.now c.step_for.result c.in-Ok.field-0 c.terms-terms.ensures.terms c.requires.session.stands c.requires.held
-    (subst (λ b. IsForPlanned b c.terms-terms.result.now.nodes c.args.planned.now c.step_for.result) (sym c.requires.read) c.step_for.ensures) (rw c.if-is_for_array.false at c.is_for_array.ensures) c.in-Ok.ensures
+    c.step_for.ensures (rw c.if-is_for_array.false at c.is_for_array.ensures) c.in-Ok.ensures
