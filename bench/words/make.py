@@ -21,14 +21,14 @@ FAMILIES = {"identities": identities, "hashes": hashes, "products": products, "p
 
 def scripts(seed, families=FAMILIES):
     """All scripts of these families, in order; a family has its own source, so that another leaves it as it is."""
-    for family in families:
-        yield from FAMILIES[family].scripts(random.Random("%s %d" % (family, seed)))
+    for family, made_by in families.items():
+        yield from made_by.scripts(random.Random("%s %d" % (family, seed)))
 
 
-def main():
+def main(families=FAMILIES):
     folder = pathlib.Path(sys.argv[1])
     folder.mkdir(parents=True, exist_ok=True)
-    for made in scripts(int(sys.argv[2]) if len(sys.argv) > 2 else 1):
+    for made in scripts(int(sys.argv[2]) if len(sys.argv) > 2 else 1, families):
         comment = "; %s\n" % " ".join(made.verdicts)
         (folder / ("%s-%s.smt2" % (made.family, made.name))).write_text(comment + made.text)
 

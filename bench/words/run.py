@@ -28,6 +28,8 @@ from measuring import run  # noqa: E402
 PROGRAM = HERE.parents[1] / "crates/smt_tool/out/smt_tool"
 OTHERS = {"z3": ["z3"], "cvc5": ["cvc5", "--incremental"]}
 VERDICTS = ("sat", "unsat", "unknown")
+# what `time` ends with where the system stopped the run
+KILLED = 128 + 9
 
 # Processor seconds, megabytes at most, and what is wrong (None where nothing is).
 Measured = collections.namedtuple("Measured", "seconds megabytes fault")
@@ -39,7 +41,7 @@ def measured(command, limit, folder, wanted):
     """One run, whose lines have to be those that are wanted."""
     text, status, seconds, megabytes = run(command, limit, folder)
     # the system stops a run a little before its seconds are told to be so many
-    if seconds >= 0.95 * limit:
+    if seconds >= 0.95 * limit or status == KILLED:
         return Measured(limit, megabytes, "limit")
     lines = text.split("\n")[:-1]
     if status != 0 or lines != wanted:
@@ -55,14 +57,14 @@ def least(one, other):
 
 
 class Bench:
-    def __init__(self, options, folder):
+    def __init__(self, options, folder, others=OTHERS):
         self.folder, self.options = folder, options
         self.proof = folder / "proof"
         budget = ["--budget", str(options.budget)] if options.budget else []
         self.solve = lambda script: [options.program, "solve", str(self.proof), script, *budget]
         self.solvers = {"smt_tool": self.solve}
-        for name, command in OTHERS.items():
-            if shutil.which(command[0]):
+        for name, command in others.items():
+            if shutil.which(name):
                 self.solvers[name] = lambda script, command=command: [*command, script]
 
     def row(self, made):
@@ -137,7 +139,7 @@ def table(bench, family, others):
     print("\n## %s\n" % family)
     heads(others)
     rows = []
-    for made in make.scripts(bench.options.seed, [family]):
+    for made in make.scripts(bench.options.seed, {family: make.FAMILIES[family]}):
         if bench.options.only in made.name:
             rows.append(bench.row(made))
             printed(line_of(rows[-1], others))
@@ -154,17 +156,17 @@ def machine(solvers):
     memory = os.sysconf("SC_PAGE_SIZE") * os.sysconf("SC_PHYS_PAGES") / 2 ** 30
     print("%d processors (%s), %.0f GB of memory, %s; load %.1f at the begin" % (len(model), model[0], memory, platform.system(), os.getloadavg()[0]))
     for name in solvers:
-        if name in OTHERS:
+        if name != "smt_tool":
             told = subprocess.run([name, "--version"], capture_output=True, text=True).stdout.split("\n")[0]
             print("%s: %s" % (name, told))
 
 
-def read_options():
-    parser = argparse.ArgumentParser(description=__doc__.split("\n")[0])
+def read_options(text=__doc__, families=make.FAMILIES, limit=60, times=3):
+    parser = argparse.ArgumentParser(description=text.split("\n")[0])
     parser.add_argument("program", nargs="?", default=str(PROGRAM))
-    parser.add_argument("--families", default=",".join(make.FAMILIES))
+    parser.add_argument("--families", default=",".join(families))
     parser.add_argument("--only", default="", help="scripts whose name has this text")
-    for name, default in ("seed", 1), ("limit", 60), ("times", 3), ("budget", 1000000000):
+    for name, default in ("seed", 1), ("limit", limit), ("times", times), ("budget", 1000000000):
         parser.add_argument("--" + name, type=int, default=default)
     return parser.parse_args()
 

@@ -12,7 +12,7 @@ def declared(names, width):
     return "".join("(declare-const %s (_ BitVec %d))\n" % (name, width) for name in names)
 
 
-def checked(family, name, lines, verdict):
+def checked(family, name, lines, verdict, logic="QF_BV"):
     """A script of one check, whose verdict is known."""
-    text = "(set-logic QF_BV)\n(set-info :status %s)\n%s(check-sat)\n" % (verdict, "".join(lines))
+    text = "(set-logic %s)\n(set-info :status %s)\n%s(check-sat)\n" % (logic, verdict, "".join(lines))
     return Script(family, name, text, [verdict])

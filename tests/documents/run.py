@@ -205,16 +205,16 @@ WORKED_BASES = [("store_that_is_read_back", ["unsat"]), ("complement_twice_is_le
 
 
 def worked_proofs():
-    """The name, script, proof and verdicts of each proof that is gone through, and whether its script has theories."""
+    """The name, script, proof and verdicts of each proof that is gone through."""
     for example, row in WORKED:
         asked = [line for line in (ROOT / "examples" / example).read_text().splitlines() if not line.startswith(";")]
         held = rows_of_answers.sections(ROOT / "tests/rows" / row)
         script = held["script"] if held["script"].splitlines() == asked else None
-        yield example, script, held["proof"], held["answers"].splitlines(), False
+        yield example, script, held["proof"], held["answers"].splitlines()
     bases = {base[0]: base for base in lemmas.bases((lemmas.TABLE / "stdin").read_text())}
     for name, verdicts in WORKED_BASES:
         _, script, proof, _ = bases[name]
-        yield name, lemmas.text_of(script), lemmas.text_of(proof), verdicts, True
+        yield name, lemmas.text_of(script), lemmas.text_of(proof), verdicts
 
 
 def check_worked_proofs(text):
@@ -222,11 +222,11 @@ def check_worked_proofs(text):
     worked = list(worked_proofs())
     if len(parts) != len(worked):
         yield "there are %d worked proofs" % len(parts)
-    for part, (name, held_script, held_proof, wanted, theories) in zip(parts, worked):
+    for part, (name, held_script, held_proof, wanted) in zip(parts, worked):
         script, proof = (re.sub(r"^    ", "", block, flags=re.M) for block in re.findall(r"(?:^    .*\n)+", part, re.M))
         if script != held_script or proof != held_proof:
             yield "the script or the proof is not that of " + name
-        verdicts, log = reference.replay(script, proof, theories)
+        verdicts, log = reference.replay(script, proof)
         if verdicts != wanted:
             yield "the replayer tells other verdicts of " + name
         for pos, k, clause in re.findall(r"(\d+)\.(\d+) \{([^}]*)\}", part):

@@ -43,7 +43,7 @@ class Proof:
 
     def __init__(self, first=()):
         self.lines = ["smt_proof 1 cubes 0 budget 100000"]
-        script = reference.Script("\n".join(SCRIPT), theories=True)
+        script = reference.Script("\n".join(SCRIPT))
         next(iter(script.checks()))
         self.log = reference.Log(script)
         for line in first:

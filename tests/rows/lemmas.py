@@ -55,7 +55,7 @@ def text_of(lines):
 
 def told(script, proof):
     try:
-        return "accepted %d" % len(reference.check(text_of(script), text_of(proof), theories=True))
+        return "accepted %d" % len(reference.check(text_of(script), text_of(proof)))
     except reference.BadLine as bad:
         return "refused line %d rule %s" % (bad.line, bad.rule)
 

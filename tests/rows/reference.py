@@ -1,11 +1,11 @@
 #!/usr/bin/env python3
 """A slow second reader of proof files, written apart from the program.
 
-usage: reference.py SCRIPT PROOF [theories]
+usage: reference.py SCRIPT PROOF
 
-Reads a script over Bools and words (declare-const, declare-fun, assert, push, pop, reset, check-sat, check-sat-assuming, exit,
-with all operators of Core and of words, `let` and `:named`), with the third word over functions and arrays too, and the
-proof file that was written for it, in either format, and replays every line by the rules of the format. Prints the verdict of each
+Reads a script (declare-const, declare-fun, assert, push, pop, reset, check-sat, check-sat-assuming, exit, with all operators of
+Core, of words and of arrays, constant arrays, functions with arguments, `let` and `:named`), and the proof file that was written for it, in either
+format, and replays every line by the rules of the format. Prints the verdict of each
 record and `accepted N`, or `refused line L: why`. It shares no code with the solver or its checker. terms.py reads the
 script, operators.py has the sorts and values of terms, circuits.py the gates of each operator, rules.py the rules of rewriting,
 accesses.py the lemmas on functions and arrays, diaries.py the diaries of searches.
@@ -384,11 +384,11 @@ def one_check(log, limits, lines):
         judged(lines, rule, lambda: step(log, kind, words))
 
 
-def replay(script_text, proof, theories=False):
+def replay(script_text, proof):
     """The verdicts of a proof's records and the log behind them, where it is accepted."""
     lines = Lines(proof)
     version, *limits = judged(lines, "header", lambda: limits_of(lines.take()))
-    script = Script(script_text, theories)
+    script = Script(script_text)
     log, verdicts = Log(script, version), []
     for _ in script.checks():
         verdicts.append(one_check(log, limits, lines))
@@ -397,15 +397,15 @@ def replay(script_text, proof, theories=False):
     return verdicts, log
 
 
-def check(script_text, proof, theories=False):
+def check(script_text, proof):
     """The verdicts of a proof's records, where it is accepted."""
-    return replay(script_text, proof, theories)[0]
+    return replay(script_text, proof)[0]
 
 
 def main():
     script, proof = (open(p, encoding="latin-1", newline="").read() for p in sys.argv[1:3])
     try:
-        verdicts = check(script, proof, sys.argv[3:] == ["theories"])
+        verdicts = check(script, proof)
     except Refused as why:
         print("refused", why)
         return 1

@@ -1,9 +1,8 @@
 """Scripts as the replayer reads them: tokens, commands, the term list and the values of terms.
 
-Read are `declare-const` and `declare-fun` of Bools and words, `assert`, levels, `check-sat` and `check-sat-assuming`, with all
-operators of Core and of words, `let`, and the names that `:named` gives. Where functions and arrays are asked for, functions
-with arguments, array sorts, `select` and `store` are read too. Any other chunk, and any with a fault, leaves everything as it
-was.
+Read are `declare-const` and `declare-fun`, `assert`, levels, `check-sat` and `check-sat-assuming`, with all operators of Core, of
+words and of arrays, constant arrays, functions with arguments, `let`, and the names that `:named` gives. Any other chunk, and any with a fault,
+leaves everything as it was.
 """
 import functools
 import itertools
@@ -151,8 +150,8 @@ def levels_meant(count):
 class Script:
     """The commands, one at a time. What has a fault or is not read is skipped, as the session does."""
 
-    def __init__(self, text, theories=False):
-        self.text, self.theories = text, theories
+    def __init__(self, text):
+        self.text = text
         # of each declaration the sorts of its arguments and its own
         self.terms, self.names, self.signatures, self.asserted = Terms(), {}, [], []
         self.live, self.levels = [], []
@@ -211,7 +210,6 @@ class Script:
     def declare(self, name, args, sort):
         self.need_new(name)
         taken, given = [self.sort(a) for a in args], self.sort(sort)
-        need(self.theories or not args, "a function with arguments")
         need(not any(map(is_array, taken)) and not (args and is_array(given)), "a function of arrays")
         self.names[name] = len(self.signatures)
         self.signatures.append((taken, given))
@@ -222,7 +220,7 @@ class Script:
                 return BOOL
             case ["_", "BitVec", width]:
                 return width_of(width)
-            case ["Array", index, element] if self.theories:
+            case ["Array", index, element]:
                 parts = [self.sort(index), self.sort(element)]
                 need(not any(p == BOOL or is_array(p) for p in parts), "an array of no words")
                 return Indexed(*parts)
@@ -247,6 +245,8 @@ class Script:
                 return self.annotated(self.term(inner), list(e[2:]))
             case ["_", str(name), width] if name.startswith("bv"):
                 return self.word(width_of(width), number(name[2:]))
+            case [["as", "const", sort], element]:
+                return self.constant_array(self.sort(sort), self.term(element))
             case [["_", str(name), *numbers], _, *_]:
                 return self.indexed(name, [number(i) for i in numbers], [self.term(a) for a in e[1:]])
             case [str(name), _, *_]:
@@ -291,6 +291,10 @@ class Script:
             elif attributes and not is_keyword(attributes[0]):
                 attributes.pop(0)
         return t
+
+    def constant_array(self, sort, t):
+        need(is_array(sort) and self.terms.sorts[t] == sort.element, "a constant array of another sort")
+        return self.terms.apply("const", (sort.index,), (t,))
 
     def word(self, n, x):
         need(x < 1 << n, "literal too wide")

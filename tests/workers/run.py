@@ -4,7 +4,7 @@
 usage: run.py [PROGRAM] [COUNT] [SEED]    (default: the program that `rt run` leaves in crates/smt_tool/out, 100, 1)
 
 The scripts are those of tests/rows that are solved, so many random ones of tests/random/words.py, and a quarter as many random
-sessions of tests/random/sessions.py. Each is solved by 1, 2, 3 and 8 workers, with 0 to 4 variables that split each check. The
+sessions of tests/random/sessions.py, and of tests/random/arrays.py. Each is solved by 1, 2, 3 and 8 workers, with 0 to 4 variables that split each check. The
 verdicts must be those of one worker without a split, and with the same verdicts the status; where the random script has a budget,
 either verdict may be `unknown`.
 The program's own `check` must accept each proof file with these verdicts. A run that takes more than TIME seconds is a fault.
@@ -19,6 +19,7 @@ HERE = pathlib.Path(__file__).resolve().parent
 ROOT = HERE.parents[1]
 PROGRAM = ROOT / "crates/smt_tool/out/smt_tool"
 sys.path[:0] = [str(ROOT / "tests/rows"), str(ROOT / "tests/random")]
+import arrays  # noqa: E402
 import run as rows  # noqa: E402
 import sessions  # noqa: E402
 import words  # noqa: E402
@@ -45,6 +46,10 @@ def at_random(source, count):
     for k in range(count // 4):
         session = sessions.Session(source)
         yield "session %d" % k, ("\n".join(session.lines) + "\n").encode(), session.limits[:2]
+    for k in range(count // 4):
+        session = arrays.Session(source)
+        budget = session.limits[:2] if session.limits[:1] == ["--budget"] else []
+        yield "session over arrays %d" % k, ("\n".join(session.lines) + "\n").encode(), budget
 
 
 def solved(program, script, folder, options):
