@@ -35,7 +35,8 @@ pub fn accepted_proofs_are_right()
 /// What stands beside answers is right, also where a run ended early.
 pub fn answers_beside_proofs_are_right()
     ensures { (limits : Limits) (script answers proof : List ℕ)
-        (beside : StandsBeside limits script answers proof) → AreRight (start_of true) beside.turns }
+        (beside : StandsBeside limits script answers proof)
+        → AreRight (start_of true) beside.turns }
 {}
 
 /// The commands of a script are read in one way: the turns of two accepted proofs begin on the same lines and say the same.
