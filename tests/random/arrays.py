@@ -424,14 +424,12 @@ def fault_of_z3(session, told):
 
 def wrong(program, source, folder):
     session = Session(source)
-    script, proof = folder / "script", folder / "proof"
-    script.write_text("\n".join(session.lines) + "\n")
-    ran = subprocess.run([program, "solve", str(proof), str(script), *session.limits], capture_output=True, text=True, timeout=300)
+    script, proof, ran = words.solved(program, session, folder)
     try:
         found = fault_of_run(program, session, ran, script, proof)
     except (StopIteration, LookupError, ValueError):
         found = "status %d, and other answers or models than were asked for: %r" % (ran.returncode, ran.stdout)
-    return found and "%s\n%s\n%s" % (found, " ".join(session.limits), script.read_text())
+    return words.report(found, session)
 
 
 def fault_of_run(program, session, ran, script, proof):

@@ -62,9 +62,7 @@ class Session:
 
 def wrong(program, source, folder):
     session = Session(source)
-    script, proof = folder / "script", folder / "proof"
-    script.write_text("\n".join(session.lines) + "\n")
-    ran = subprocess.run([program, "solve", str(proof), str(script), *session.limits], capture_output=True, text=True, timeout=300)
+    script, proof, ran = words.solved(program, session, folder)
     verdicts = ran.stdout.split("\n")[:-1]
     found = session.fault(verdicts, words.models_of(proof))
     if not found and not words.accepted(script.read_text(), proof, verdicts):
@@ -72,7 +70,7 @@ def wrong(program, source, folder):
     told = subprocess.run([program, "check", str(proof), str(script)], capture_output=True, text=True, timeout=300).stdout
     if not found and told.split("\n") != verdicts + ["accepted %d" % len(verdicts), ""]:
         found = "check told %r" % told
-    return found and "%s\n%s\n%s" % (found, " ".join(session.limits), script.read_text())
+    return words.report(found, session)
 
 
 if __name__ == "__main__":

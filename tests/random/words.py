@@ -298,6 +298,19 @@ class Case:
                 or self.wrong_answer(answers[2], answers[3], self.asserted + self.assumed, models[1], self.wrong_assumptions))
 
 
+def solved(program, session, folder):
+    """The script of a session in the folder, the proof file beside it, and the run that solves it within its limits."""
+    script, proof = folder / "script", folder / "proof"
+    script.write_text("\n".join(session.lines) + "\n")
+    words = [program, "solve", str(proof), str(script), *session.limits]
+    return script, proof, subprocess.run(words, capture_output=True, text=True, timeout=300)
+
+
+def report(found, session):
+    """What was found of a session, if anything, with its limits and its script behind it."""
+    return found and "%s\n%s\n%s\n" % (found, " ".join(session.limits), "\n".join(session.lines))
+
+
 def wrong(program, source, folder):
     case = Case(source)
     script = "\n".join(case.lines()) + "\n"
