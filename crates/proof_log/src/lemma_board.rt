@@ -2,8 +2,7 @@
 //!
 //! A search that adds lemmas on functions and arrays names equalities of terms by variables. Such a board gives a pair of
 //! terms its variable where it has none, puts the clauses of lemmas, and shows which pairs have one. The steps that others
-//! put on the same log may be of these kinds too. No search uses such a board yet; where one does, these calls become
-//! calls of every board.
+//! put on the same log may be of these kinds too. A search of words alone needs no such board.
 
 ghost use Rattle.std.specs.Prelude.{◌≡◌, IfOk, Some};
 ghost use Rattle.proof_log.specs.declared.entry.Entry.TheVariants as step;
