@@ -122,16 +122,16 @@ fn reads_give_what_was_not_got_and_cross_pieces(rt: HostRuntime) -> Result<(), F
     let Ok(events) = hist.read(&rt, alloc, &mut late) else {
         panic!(rt; "memory")
     };
-    assert!(rt; done && events.len() == 600 && events.get(600) == None);
+    assert!(rt; done && events.len() == 600 && events.get(600) == None && events.parts() == 3);
     assert!(rt; all_note(&events, 0, 300, 0) && all_note(&events, 300, 600, 1));
     let Ok(events) = hist.read(&rt, alloc, &mut early) else {
         panic!(rt; "memory")
     };
-    assert!(rt; events.len() == 300 && all_note(&events, 0, 300, 1));
+    assert!(rt; events.len() == 300 && all_note(&events, 0, 300, 1) && events.parts() == 2);
     let Ok(events) = hist.read(&rt, alloc, &mut early) else {
         panic!(rt; "memory")
     };
-    assert!(rt; events.is_empty());
+    assert!(rt; events.is_empty() && events.parts() == 0);
     late.facts();
     assert!(rt; hist.law().jobs == 1);
     drop(hist.close(&rt, pass));

@@ -1,5 +1,5 @@
 //! Entries that were read.
-ghost use Rattle.std.specs.Prelude.{◌≡◌, ◌==◌, ◌≤◌, length, drop, slice_get, option_copied, IfOk};
+ghost use Rattle.std.specs.Prelude.{◌≡◌, ◌+◌, ◌*◌, ◌==◌, ◌≤◌, length, drop, slice_get, option_copied, IfOk};
 ghost use Rattle.shared_history.specs.Filed.{joined, AreWhole};
 
 use crate::entries::{Entries, PIECE};
@@ -17,13 +17,13 @@ pub struct Pieces<E> {
 }
 
 impl<E> Model for Pieces<E> {
-    ghost use Rattle.std.specs.Prelude.{◌≤◌, List, length, drop};
+    ghost use Rattle.std.specs.Prelude.{◌<◌, ◌≤◌, List, length, drop};
 
     ghost Value = { List E };
 
     ghost view = { λ p. drop p.skip p.entries.items };
 
-    ghost invariant = { λ p. p.skip ≤ length p.entries.items };
+    ghost invariant = { λ p. (p.skip < 256) × (p.skip ≤ length p.entries.items) };
 }
 
 impl<E: Drop> Pieces<E> {
@@ -45,6 +45,21 @@ impl<E: Drop> Pieces<E> {
         ensures { result ≡ (length self.now == 0) }
     {
         self.len() == 0
+    }
+
+    /// Of how many pieces they come. Each but the first and the last gives 256 of them, and these two at least one. It takes no
+    /// memory.
+    pub fn parts(&self) -> usize
+        ensures none { length self.now ≡ 0 → result ≡ 0 }
+        ensures enough { length self.now ≤ result * 256 }
+        ensures no_more { result * 256 ≤ length self.now + 510 }
+    {
+        let count = self.entries.len();
+        if count == self.skip {
+            0
+        } else {
+            (count - 1) / PIECE + 1
+        }
     }
 
     /// The entry at this place, or `None` past the end.
