@@ -1,6 +1,9 @@
 -- Declared constants, and their values where a declaration is given one.
 use Rattle.std.proofs.Common.{◌≡◌, ℕ, ◌<◌, Bool, true, false, List, [], ◌∷◌, length, map, Option, Some, Ok, refl, sym, ap, ◌∙◌, subst}
-use Rattle.std.specs.Prelude.{◌==◌, if◌then◌else◌, IsSome}
+use Rattle.std.specs.Prelude.{◌==◌, cond, IsSome}
+use Rattle.std.specs.BTreeMap.{BTreeMap, get}
+use Rattle.std.specs.Ordering.{nat_cmp, is_eq}
+use Rattle.std.specs.Cmp.{unsigned_tied}
 use Rattle.std.proofs.lemmas.Bool.{eqb-true, eq-eqb}
 use Rattle.cnf_base.specs.Literals.{Literal}
 use Rattle.cnf_base.proofs.Options.{same_found}
@@ -17,11 +20,11 @@ use Rattle.smt_terms.specs.Bits.{bits_in}
 use Rattle.smt_terms.proofs.Typing.{constant_sort_ok, value_is}
 use Rattle.bit_blast.specs.Meanings.{AreBitsOf}
 use Rattle.smt_values.specs.declared.value.Value.{Value}
-use Rattle.smt_values.specs.Held.{meaning, set_for, constant_of, interpretation_of}
+use Rattle.smt_values.specs.Held.{meaning, constant_of}
 use Rattle.proof_log.specs.Logs.{constant_width}
 use Rattle.proof_log.specs.Stored.{LogValue, Stands}
 use Rattle.proof_log.proofs.Settled.{stands_settled}
-use Rattle.word_models.specs.Models.{HasItsBits, KeepsRead}
+use Rattle.word_models.specs.Models.{interpretation_of, HasItsBits, KeepsRead}
 use Rattle.word_models.proofs.Rows.{read_same}
 
 -- ---- the term of a declared constant
@@ -76,14 +79,14 @@ same_term v t u d s r terms t_in u_in e f =
 -- ---- one declaration more has a value
 
 -- the value is set for the declaration, and for the others what was
-abbrev pub IsSetFor : ℕ → Value → List (Option Value) → List (Option Value) → Type 0
-IsSetFor d x old new = (e : ℕ) → set_for new e ≡ (if e == d then Some x else set_for old e)
+abbrev pub IsSetFor : ℕ → Value → BTreeMap ℕ Value → BTreeMap ℕ Value → Type 0
+IsSetFor d x old new = (e : ℕ) → get nat_cmp new e ≡ cond (is_eq (nat_cmp d e)) (Some x) (get nat_cmp old e)
 
-set_here : (d : ℕ) (x : Value) (old new : List (Option Value)) → IsSetFor d x old new → set_for new d ≡ Some x
-set_here d x old new h = h d ∙ ap (λ b. if b then Some x else set_for old d) (eq-eqb d d refl)
+set_here : (d : ℕ) (x : Value) (old new : BTreeMap ℕ Value) → IsSetFor d x old new → get nat_cmp new d ≡ Some x
+set_here d x old new h = h d ∙ ap (λ b. cond b (Some x) (get nat_cmp old d)) (unsigned_tied d d ∙ eq-eqb d d refl)
 
 module _ (v : TermsValue) (log : LogValue) (f : ℕ → Bool) (terms : AreTerms v) (stands : Stands v.nodes log) (t d : ℕ) (s : Sort) (own : (node_at v.nodes t).op ≡ Constant d s) (within : t < length v.nodes)
-    (row : List Literal) (has : bits_in log.bits t ≡ Some row) (x : Value) (are : AreBitsOf f s row (meaning x)) (old new : List (Option Value)) (set : IsSetFor d x old new) where
+    (row : List Literal) (has : bits_in log.bits t ≡ Some row) (x : Value) (are : AreBitsOf f s row (meaning x)) (old new : BTreeMap ℕ Value) (set : IsSetFor d x old new) where
   -- the term of this constant has its bits
   pub set_has : HasItsBits (interpretation_of new) v.nodes log f t
   set_has other e =
@@ -95,17 +98,17 @@ module _ (v : TermsValue) (log : LogValue) (f : ℕ → Bool) (terms : AreTerms 
 
   -- so have the terms of other constants what they had
   others_have : (u e : ℕ) (r : Sort) → (node_at v.nodes u).op ≡ Constant e r → HasItsBits (interpretation_of old) v.nodes log f u → HasItsBits (interpretation_of new) v.nodes log f u
-  others_have u e r is h other q = go (e == d) refl
+  others_have u e r is h other q = go (d == e) refl
     where
       inside : u < length v.nodes
       inside = ((stands_settled v.nodes log terms.list stands).bits u other q).0
 
-      go : (b : Bool) → (e == d) ≡ b → AreBitsOf f (sort_of v.nodes u) other (value (interpretation_of new) v.nodes u)
+      go : (b : Bool) → (d == e) ≡ b → AreBitsOf f (sort_of v.nodes u) other (value (interpretation_of new) v.nodes u)
       go true p =
-          let same : t ≡ u = same_term v t u d s r terms within inside own (is ∙ ap (λ k. Constant k r) (eqb-true e d p)) in
+          let same : t ≡ u = same_term v t u d s r terms within inside own (is ∙ ap (λ k. Constant k r) (sym (eqb-true d e p))) in
           (subst (HasItsBits (interpretation_of new) v.nodes log f) same set_has) other q
       go false p =
-          let kept : set_for new e ≡ set_for old e = set e ∙ ap (λ b. if b then Some x else set_for old e) p in
+          let kept : get nat_cmp new e ≡ get nat_cmp old e = set e ∙ ap (λ b. cond b (Some x) (get nat_cmp old e)) (unsigned_tied d e ∙ p) in
           let reads : value (interpretation_of old) v.nodes u ≡ value (interpretation_of new) v.nodes u =
           constant_value (interpretation_of old) v.nodes u e r terms.list inside is ∙ ap (λ o. read_at r (constant_of o)) (sym kept) ∙ sym (constant_value (interpretation_of new) v.nodes u e r terms.list inside is) in
           subst (AreBitsOf f (sort_of v.nodes u) other) reads (h other q)

@@ -1,6 +1,7 @@
 -- What the step of a leaf at a position tells of its term.
 use Rattle.std.proofs.Common.{◌≡◌, ℕ, zero, suc, ◌<◌, Bool, List, length, Option, Some, refl, sym, ap, ◌∙◌, subst}
 use Rattle.std.specs.Prelude.{IsSome, is_some}
+use Rattle.std.specs.BTreeMap.{BTreeMap}
 use Rattle.cnf_base.specs.Literals.{Literal}
 use Rattle.cnf_base.proofs.Options.{same_found}
 use Rattle.smt_terms.specs.declared.sort.Sort.{Sort}
@@ -13,7 +14,7 @@ use Rattle.smt_terms.specs.Bits.{bits_in}
 use Rattle.smt_terms.proofs.Widths.{sort_bounded}
 use Rattle.bit_blast.specs.Meanings.{AreBitsOf}
 use Rattle.smt_values.specs.declared.value.Value.{Value}
-use Rattle.smt_values.specs.Held.{meaning, interpretation_of}
+use Rattle.smt_values.specs.Held.{meaning}
 use Rattle.proof_log.specs.declared.entry.Entry.{Entry}
 use Rattle.proof_log.specs.declared.entry.Entry.TheVariants as step
 use Rattle.proof_log.specs.Logs.{plain_width, constant_width, entry_at}
@@ -22,7 +23,7 @@ use Rattle.proof_log.proofs.Settled.{stands_settled}
 use Rattle.proof_log.proofs.Standing.{stands_over}
 use Rattle.reached_steps.proofs.Steps.{leaf_step}
 use Rattle.smt_terms.specs.Values.{Interpretation}
-use Rattle.word_models.specs.Models.{HasItsBits, IsReadLeaf, KeepsRead}
+use Rattle.word_models.specs.Models.{interpretation_of, HasItsBits, IsReadLeaf, KeepsRead}
 use Rattle.word_models.proofs.Rows.{IsAsWide}
 use Rattle.word_models.proofs.Constants.{constant_term, IsSetFor, set_has, set_keeps}
 
@@ -61,7 +62,7 @@ has_width v (sort.Array n m) row x h = absurd h
 -- The leaf of a declared constant with these bits is read where the constant gets the value that they have, and what was read before
 -- stays so.
 module _ (v : TermsValue) (log : LogValue) (f : ℕ → Bool) (at t d : ℕ) (s : Sort) (terms : AreTerms v) (stands : Stands v.nodes log) (there : entry_at log.entries at ≡ Some (step.Leaf t)) (own : (node_at v.nodes t).op ≡ Constant d s)
-    (row : List Literal) (has : bits_in log.bits t ≡ Some row) (x : Value) (are : AreBitsOf f s row (meaning x)) (old new : List (Option Value)) (set : IsSetFor d x old new) where
+    (row : List Literal) (has : bits_in log.bits t ≡ Some row) (x : Value) (are : AreBitsOf f s row (meaning x)) (old new : BTreeMap ℕ Value) (set : IsSetFor d x old new) where
   within : t < length v.nodes
   within = (leaf_there v.nodes log at t terms.list stands there).0
 

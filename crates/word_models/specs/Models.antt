@@ -1,17 +1,25 @@
 -- When the values of declared constants are those of their bits.
 use Rattle.std.specs.Prelude.{◌≡◌, ℕ, Bool, List, Some, None, IsSome, Contains}
+use Rattle.std.specs.BTreeMap.{BTreeMap, get}
+use Rattle.std.specs.Ordering.{nat_cmp}
 use Rattle.cnf_base.specs.Literals.{Literal}
 use Rattle.smt_terms.specs.declared.node.Node.{Node}
 use Rattle.smt_terms.specs.Nodes.{node_at}
 use Rattle.smt_terms.specs.Terms.{sort_of}
 use Rattle.smt_terms.specs.Bits.{bits_in}
 use Rattle.smt_terms.specs.Values.{Interpretation, value}
+use Rattle.smt_values.specs.declared.value.Value.{Value}
+use Rattle.smt_values.specs.Held.{constant_of, function_of}
 use Rattle.bit_blast.specs.Meanings.{AreBitsOf}
 use Rattle.proof_log.specs.declared.entry.Entry.{Entry}
 use Rattle.proof_log.specs.declared.entry.Entry.TheVariants as step
 use Rattle.proof_log.specs.Logs.{constant_width, entry_at}
 use Rattle.proof_log.specs.Stored.{LogValue}
 use Rattle.reached_steps.specs.Opening.{AreOpeningSteps}
+
+-- the interpretation in which the map's values are set for declarations
+abbrev pub interpretation_of : BTreeMap ℕ Value → Interpretation
+interpretation_of set = record { constants = λ d. constant_of (get nat_cmp set d); functions = λ d. function_of (get nat_cmp set d) }
 
 -- the step at the position gave bits to a leaf that is no declared Bool or word
 abbrev pub IsOtherLeaf : List Node → List Entry → ℕ → Type 0

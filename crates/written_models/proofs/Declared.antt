@@ -17,8 +17,7 @@ use Rattle.smt_terms.specs.Terms.{op_rank, sort_of, declaration_of, constant_sig
 use Rattle.smt_terms.specs.Values.{Interpretation, is_true, read_at, value}
 use Rattle.smt_values.specs.declared.value.Value.{Value}
 use Rattle.smt_values.specs.declared.value.Value.TheVariants as held
-use Rattle.smt_values.specs.Held as set
-use Rattle.smt_values.specs.Held.{meaning, function, constant_of, function_of, set_for}
+use Rattle.smt_values.specs.Held.{meaning, function, constant_of, function_of}
 use Rattle.smt_build.specs.declared.symbols.LiveName.{LiveName}
 use Rattle.smt_build.specs.Scoped.{is_live, names_live, is_over}
 use Rattle.script_state.specs.States.{StateValue, IsState, IsTaken, assumptions}
@@ -27,7 +26,7 @@ use Rattle.proof_text.specs.declared.record.Record.TheVariants.{Sat}
 use Rattle.accepted_proof.specs.Models.{IsModel, IsOfSignature, IsWrittenModel, value_for, interpretation_of}
 use Rattle.written_models.specs.Alike.{AreAlike}
 use Rattle.written_models.specs.Reading.{IsDeclarable, IsReading}
-use Rattle.written_models.specs.Written.{IsDeclaredReading, AreReadings}
+use Rattle.written_models.specs.Written.{interpretation_by, IsDeclaredReading, AreReadings}
 use Rattle.written_models.proofs.Likeness.{IsLike}
 use Rattle.written_models.proofs.LikeTerms.{alike_values}
 use Rattle.written_models.proofs.Reading.{kind_read, read_again}
@@ -43,15 +42,15 @@ made_declarable s d g state made =
     let h : IsTaken s.symbols.theories (get_or s.symbols.signatures d g) = state.constants d g lt in
     subst IsDeclarable own (record { value = h.value; args = h.args; plain = h.plain })
 
-items_more : (signatures : List Signature) (found : List (Option Value)) (live : List LiveName) (items : List (ℕ × Value)) (l : LiveName) (x : Value) → AreReadings signatures found live items → IsDeclaredReading signatures found (l.declaration, x)
+items_more : (signatures : List Signature) (found : ℕ → Option Value) (live : List LiveName) (items : List (ℕ × Value)) (l : LiveName) (x : Value) → AreReadings signatures found live items → IsDeclaredReading signatures found (l.declaration, x)
     → AreReadings signatures found (live ++ l ∷ []) (items ++ (l.declaration, x) ∷ [])
 items_more signatures found live items l x h k = record {
   listed = map_push (λ (p : ℕ × Value). p.0) items (l.declaration, x) ∙ ap (λ r. r ++ l.declaration ∷ []) h.listed ∙ sym (map_push (λ (y : LiveName). y.declaration) live l);
   each = each_append (IsDeclaredReading signatures found) items ((l.declaration, x) ∷ []) h.each (k, tt);
 }
 
-pub items_next : (signatures : List Signature) (found : List (Option Value)) (whole live : List LiveName) (items : List (ℕ × Value)) (k : ℕ) (l : LiveName) (g : Signature) (x : Value) → whole ≡ live → k < length whole → l ≡ get_or whole k l
-    → slice_get signatures l.declaration ≡ Some g → IsReading g (set_for found l.declaration) x → AreReadings signatures found (take k live) items → AreReadings signatures found (take (k + 1) live) (items ++ (l.declaration, x) ∷ [])
+pub items_next : (signatures : List Signature) (found : ℕ → Option Value) (whole live : List LiveName) (items : List (ℕ × Value)) (k : ℕ) (l : LiveName) (g : Signature) (x : Value) → whole ≡ live → k < length whole → l ≡ get_or whole k l
+    → slice_get signatures l.declaration ≡ Some g → IsReading g (found l.declaration) x → AreReadings signatures found (take k live) items → AreReadings signatures found (take (k + 1) live) (items ++ (l.declaration, x) ∷ [])
 items_next signatures found whole live items k l g x same lt at declared is h =
     let within : k < length live = subst (λ ls. k < length ls) same lt in
     let item : l ≡ get_or live k l = subst (λ ls. l ≡ get_or ls k l) same at in
@@ -89,36 +88,36 @@ some_arguments d g ss s e none = bad ss (subst (λ as'. op_rank (Apply d (record
 
 -- ---- the model
 
-module _ (s : StateValue) (found : List (Option Value)) (values : List (ℕ × Value)) (state : IsState s) (items : AreReadings s.symbols.signatures found s.symbols.live values) where
+module _ (s : StateValue) (found : ℕ → Option Value) (values : List (ℕ × Value)) (state : IsState s) (items : AreReadings s.symbols.signatures found s.symbols.live values) where
   abbrev M : Interpretation
-  M = set.interpretation_of found
+  M = interpretation_by found
 
   abbrev N : Interpretation
   N = interpretation_of values
 
   -- a live declaration has a value, which is what is set for it, read at this signature
-  reading : (d : ℕ) (g : Signature) → is_live s.symbols.live d ≡ true → slice_get s.symbols.signatures d ≡ Some g → (x : Value) × (value_for values d ≡ Some x) × IsReading g (set_for found d) x
+  reading : (d : ℕ) (g : Signature) → is_live s.symbols.live d ≡ true → slice_get s.symbols.signatures d ≡ Some g → (x : Value) × (value_for values d ≡ Some x) × IsReading g (found d) x
   reading d g live declared =
       let name = live_at s.symbols.live d live in
       let r = value_found (IsDeclaredReading s.symbols.signatures found) values d name.0 items.each (ap (λ xs. slice_get xs name.0) items.listed ∙ name.1) in
       let same : Some r.2.signature ≡ Some g = sym r.2.declared ∙ declared in
       let own : r.2.signature ≡ g = cc in
       let x = r.0 in
-      (r.0, r.1, subst (λ h. IsReading h (set_for found d) x) own r.2.is)
+      (r.0, r.1, subst (λ h. IsReading h (found d) x) own r.2.is)
 
   constant_like : (d : ℕ) (q : Sort) → is_live s.symbols.live d ≡ true → slice_get s.symbols.signatures d ≡ Some (constant_signature q) → IsLike M N (Constant d q)
   constant_like d q live declared =
       let r = reading d (constant_signature q) live declared in
       let x = r.0 in
       let reads : read_at q (constant_of (value_for values d)) ≡ meaning r.0 = ap (λ o. read_at q (constant_of o)) r.1 ∙ kind_read q x r.2.own in
-      subst (AreAlike q (read_at q (constant_of (set_for found d)))) (sym reads) (r.2.constant refl)
+      subst (AreAlike q (read_at q (constant_of (found d)))) (sym reads) (r.2.constant refl)
 
   function_like : (d : ℕ) (g : Signature) → (g.args ≡ [] → ⊥) → is_plain g.value ≡ true → is_live s.symbols.live d ≡ true → slice_get s.symbols.signatures d ≡ Some g → IsLike M N (Apply d g)
   function_like d g some plain live declared vs sorted =
       let r = reading d g live declared in
       let x = r.0 in
-      let own : read_at g.value (function_of (set_for found d) vs) ≡ function r.0 vs = r.2.function some vs sorted in
-      sym (read_again g.value (function_of (set_for found d) vs) plain) ∙ ap (read_at g.value) own ∙ sym (ap (λ o. read_at g.value (function_of o vs)) r.1)
+      let own : read_at g.value (function_of (found d) vs) ≡ function r.0 vs = r.2.function some vs sorted in
+      sym (read_again g.value (function_of (found d) vs) plain) ∙ ap (read_at g.value) own ∙ sym (ap (λ o. read_at g.value (function_of o vs)) r.1)
 
   -- what terms over the live declarations name is alike
   like_by : (op : Op) (ss : List Sort) (q : Sort) → op_rank op ss ≡ Ok q → ((d : ℕ) → declaration_of op ≡ Some d → slice_get s.symbols.signatures d ≡ Some (signature_of op)) → names_live s.symbols.live (declaration_of op) ≡ true → IsLike M N op

@@ -10,10 +10,12 @@
 mod arrays;
 pub mod laws;
 mod scalars;
+pub mod set_values;
 mod tables;
 #[cfg(test)]
 mod tests;
 mod values;
 mod written;
 
+pub use set_values::SetValues;
 pub use written::written_model;

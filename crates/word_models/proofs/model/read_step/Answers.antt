@@ -36,11 +36,11 @@ returns-clause-read c =
     let there = sym c.entry.ensures ∙ ap option_copied c.in-Some-Leaf.is ∙ ap Some c.in-Some-Leaf.field-0-is in
     let row = subst (λ b. bits_in b c.in-Some-Leaf.term ≡ Some c.unwrap-row.result.now) c.bits.ensures (sym c.of.ensures ∙ ap option_copied c.unwrap-row.ensures) in
     now_read c.args.terms.now c.args.log.now (valuation_of c.args.search.now) c.args.at c.in-Some-Leaf.term c.in-Constant.declaration c.in-Constant.sort c.requires.terms c.requires.stands there
-    (ap (λ (n : Node). n.op) (sym c.node.ensures.node) ∙ c.in-Constant.is) c.unwrap-row.result.now row c.in-Some.value c.in-Some.ensures c.args.found.now c.set.new.self c.in_ok-set.ensures.ok
+    (ap (λ (n : Node). n.op) (sym c.node.ensures.node) ∙ c.in-Constant.is) c.unwrap-row.result.now row c.in-Some.value c.in-Some.ensures c.args.found.now c.insert.new.self c.in_ok-insert.ensures.updates.0
 
 pub returns-clause-kept : goal.returns-clause-kept
 returns-clause-kept c done =
     let there = sym c.entry.ensures ∙ ap option_copied c.in-Some-Leaf.is ∙ ap Some c.in-Some-Leaf.field-0-is in
     let row = subst (λ b. bits_in b c.in-Some-Leaf.term ≡ Some c.unwrap-row.result.now) c.bits.ensures (sym c.of.ensures ∙ ap option_copied c.unwrap-row.ensures) in
     still_read c.args.terms.now c.args.log.now (valuation_of c.args.search.now) c.args.at c.in-Some-Leaf.term c.in-Constant.declaration c.in-Constant.sort c.requires.terms c.requires.stands there
-    (ap (λ (n : Node). n.op) (sym c.node.ensures.node) ∙ c.in-Constant.is) c.unwrap-row.result.now row c.in-Some.value c.in-Some.ensures c.args.found.now c.set.new.self c.in_ok-set.ensures.ok
+    (ap (λ (n : Node). n.op) (sym c.node.ensures.node) ∙ c.in-Constant.is) c.unwrap-row.result.now row c.in-Some.value c.in-Some.ensures c.args.found.now c.insert.new.self c.in_ok-insert.ensures.updates.0

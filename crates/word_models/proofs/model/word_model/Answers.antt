@@ -1,9 +1,8 @@
 use Rattle.std.proofs.Common.{get_or, subst}
 use Rattle.std.specs.Prelude.{Bool, MatchBool}
 use Rattle.std.proofs.lemmas.List.Elements.{All-nil}
-use Rattle.smt_values.specs.Held.{interpretation_of}
 use Rattle.cube_search.specs.Running.{valuation_of}
-use Rattle.word_models.specs.Models.{IsOtherLeaf, IsReadLeaf}
+use Rattle.word_models.specs.Models.{interpretation_of, IsOtherLeaf, IsReadLeaf}
 use Rattle.word_models.proofs.Found.{reads_more, all_read, no_other, have_bits}
 use Rattle.word_models.proofs.model.word_model.Goals as goal
 

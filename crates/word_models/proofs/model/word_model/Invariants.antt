@@ -1,8 +1,7 @@
 use Rattle.std.proofs.Common.{take}
 use Rattle.std.specs.Prelude.{All}
-use Rattle.smt_values.specs.Held.{interpretation_of}
 use Rattle.cube_search.specs.Running.{valuation_of}
-use Rattle.word_models.specs.Models.{IsReadLeaf}
+use Rattle.word_models.specs.Models.{interpretation_of, IsReadLeaf}
 use Rattle.word_models.proofs.model.word_model.Given as goal
 
 abbrev pub invariant-positions : goal.invariant-positions
