@@ -3,7 +3,7 @@
 
 usage: run.py [PROGRAM]    (default: the program that `rt run` leaves in crates/smt_tool/out)
 
-For each script of `examples/` and of the rows it first runs `solve` undisturbed. Then it runs it again under less and less memory
+For each script of `examples/`, of this folder, which has arrays and functions, and of the rows it first runs `solve` undisturbed. Then it runs it again under less and less memory
 (a limit on the address space), under limits up to a gigabyte, on a stack of 256 kilobytes, under limits of the size of a file, with a
 proof or answers that cannot be written (`/dev/full`), and with a script that cannot be read (a folder). Each time:
 
@@ -37,9 +37,11 @@ import tempfile
 import threading
 import time
 
-ROOT = pathlib.Path(__file__).resolve().parents[2]
+HERE = pathlib.Path(__file__).resolve().parent
+ROOT = HERE.parents[1]
 sys.path.insert(0, str(ROOT / "tests/hostile"))
 import made  # noqa: E402
+import theories  # noqa: E402
 
 VERDICTS = (b"sat", b"unsat", b"unknown")
 MEGABYTE = 1 << 20
@@ -49,9 +51,10 @@ CAUSES = {0: b"", 1: b"", 4: UNWRITTEN, 5: b"smt_tool: memory is wanting\n", -si
 
 
 def scripts():
-    """The scripts of the examples, of the rows that solve, and three that take some hundred megabytes."""
-    found = [path.read_bytes() for path in sorted((ROOT / "examples").glob("*.smt2"))]
+    """The scripts of the examples, of this folder, of the rows that solve, and some that take up to some hundred megabytes."""
+    found = [path.read_bytes() for folder in (ROOT / "examples", HERE) for path in sorted(folder.glob("*.smt2"))]
     found += [make(size)[0] for make, size in ((made.deep_sums, 8_000), (made.named_chain, 10_000), (made.wide_disjunction, 5_000))]
+    found += [make(size)[0] for make, size in ((theories.many_applications, 100), (theories.store_chain, 1_000), (theories.constant_arrays, 100))]
     for path in sorted((ROOT / "tests" / "rows").glob("*.row")):
         parts = re.split(rb"^== (.*)\n", path.read_bytes(), flags=re.M)
         held = dict(zip(parts[1::2], parts[2::2]))
@@ -132,7 +135,7 @@ def disturbed(program, script, folder, least):
     more = list(limited_runs(program, proof, script, full))
     faults.extend(more)
     faults.extend(refused(program, proof, script, folder, full))
-    return [f for f in faults if f], runs + len(more) + 4, wanted
+    return [f for f in faults if f], runs + len(more) + 5, wanted
 
 
 def limited_runs(program, proof, script, full):
@@ -153,6 +156,9 @@ def refused(program, proof, script, folder, full):
         got = run(program, ["solve", proof], script, out=nowhere)
     cannot = (4, b"", b"smt_tool: the answers cannot be written\n")
     yield None if got == (cannot if full[1] else full) else f"{got} where no answer can be written"
+    accepted = verdicts(run(program, ["check", proof], script)[1])
+    first = verdicts(full[1])[:1] if full[1].startswith(VERDICTS) else []
+    yield None if accepted[: len(first)] == first else f"the proof has {accepted} where the first answer cannot be written"
     for words, status, cause in (
         (["solve", "/dev/full"], 4, b"the proof cannot be written"),
         (["solve", proof, str(folder)], 3, b"the script cannot be read"),
@@ -207,6 +213,21 @@ def long_script():
     return made.text(lines)
 
 
+def long_script_of_theories():
+    """The same with pigeons that are values of a function, or elements of an array."""
+    lines = ["(declare-fun f ((_ BitVec 4)) (_ BitVec 4))", "(declare-const a (Array (_ BitVec 4) (_ BitVec 4)))"]
+    for holes in (4, 6, 5, 6, 4, 7):
+        for head in ("f", "select a"):
+            pigeons = [f"({head} #x{k:x})" for k in range(holes + 1)]
+            bounds = [f"(assert (bvult {pigeon} #x{holes:x}))" for pigeon in pigeons]
+            lines += ["(push 1)", f"(assert (distinct {' '.join(pigeons)}))", *bounds, "(check-sat)", "(pop 1)"]
+    return made.text(lines)
+
+
+# The long scripts, with the options of `solve`.
+LONG = ((long_script, []), (long_script_of_theories, []), (long_script_of_theories, ["--cubes", "2", "--workers", "2"]))
+
+
 def ended(program, words, script, answers, ending):
     """The status, the answers and what standard error has of a run, with which something is done after so many whole answers."""
     with tempfile.TemporaryFile() as source, tempfile.TemporaryFile() as errors:
@@ -220,7 +241,7 @@ def ended(program, words, script, answers, ending):
         return status, said + rest, errors.read()
 
 
-def signals_sent(program, script, folder, whole, chance):
+def signals_sent(program, options, script, folder, whole, chance):
     """The faults of runs that a signal ends, and their number."""
     proof, faults, runs = str(folder / "signalled"), [], 0
     count = len(verdicts(whole[1]))
@@ -233,7 +254,7 @@ def signals_sent(program, script, folder, whole, chance):
                 process.send_signal(kind)
                 return process.stdout.read()
 
-            status, said, told = ended(program, ["solve", proof], script, answers, ending)
+            status, said, told = ended(program, ["solve", proof, *options], script, answers, ending)
             if status != -kind and (status, said, told) != whole:
                 faults.append(f"status {status} and {told!r} after signal {kind}")
             faults.append(fault_of_answers(program, proof, script, whole[1], said))
@@ -251,20 +272,21 @@ def fault_of_answers(program, proof, script, whole, said):
     return None
 
 
-def readers_gone(program, script, folder, whole):
+def readers_gone(program, options, script, folder, whole):
     """The faults of runs whose answers, or whose proof, nobody reads any more, and their number."""
     proof, pipe, faults, runs = str(folder / "unread"), str(folder / "pipe"), [], 0
+    pathlib.Path(pipe).unlink(missing_ok=True)
     os.mkfifo(pipe)
     for ignored in (False, True):
         for answers in range(len(verdicts(whole[1]))):
-            status, said, told = gone_after(program, ["solve", proof], script, answers, ignored)
+            status, said, told = gone_after(program, ["solve", proof, *options], script, answers, ignored)
             if (status, told) != (4, b"smt_tool: the answers cannot be written\n"):
                 faults.append(f"status {status} and {told!r} where nobody reads the answers")
             faults.append(fault_of_answers(program, proof, script, whole[1], said))
             runs += 1
         reader = threading.Thread(target=lambda: open(pipe, "rb").close())
         reader.start()
-        status, said, told = gone_after(program, ["solve", pipe], script, None, ignored)
+        status, said, told = gone_after(program, ["solve", pipe, *options], script, None, ignored)
         reader.join()
         if (status, told) != (4, UNWRITTEN) or not whole[1].startswith(said) or said == whole[1]:
             faults.append(f"status {status}, {said!r} and {told!r} where nobody reads the proof")
@@ -288,11 +310,14 @@ def gone_after(program, words, script, answers, ignored):
 
 def ended_runs(program, folder):
     """The faults of runs that are ended from outside, and their number."""
-    script = long_script()
-    whole = run(program, ["solve", str(folder / "undisturbed")], script)
-    faults, runs = signals_sent(program, script, folder, whole, random.Random(1))
-    more, others = readers_gone(program, script, folder, whole)
-    return faults + more, runs + others
+    all_faults, runs = [], 0
+    for make, options in LONG:
+        script = make()
+        whole = run(program, ["solve", str(folder / "undisturbed"), *options], script)
+        faults, sent = signals_sent(program, options, script, folder, whole, random.Random(1))
+        more, gone = readers_gone(program, options, script, folder, whole)
+        all_faults, runs = all_faults + faults + more, runs + sent + gone
+    return all_faults, runs
 
 
 def not_taken(program):

@@ -4,7 +4,7 @@
 usage: run.py [NAME ..] [--program FILE] [--times N] [--factor F] [--sizes S ..]   (default: the program that `rt run` leaves in
 crates/smt_tool/out)
 
-For each family of made.py, at its size and at F times that (4 when nothing else is said): the processor seconds of `solve` and of
+For each family of made.py and of theories.py, at its size and at F times that (4 when nothing else is said): the processor seconds of `solve` and of
 `check`, the least of N runs (3), without those of an empty script; the exponent with which each grew; the megabytes of the larger
 run. It looks at the verdicts and has `check` accept the proof. For each family of forged.py it runs `check` alone, and looks at its
 answers. An exponent of more than 0.3 above what the family's meaning forces, where the larger run takes more than a fifth of a second,
@@ -21,9 +21,11 @@ sys.path.insert(0, str(ROOT / "bench"))
 import forged
 import made
 import measuring
+import theories
 
 SECONDS = 600
 VERDICTS = ("sat", "unsat", "unknown")
+SCRIPTS = {**made.FAMILIES, **theories.FAMILIES}
 # Times below this one say nothing about growth.
 TELLS = 0.2
 MOST = 0.3
@@ -71,7 +73,7 @@ class Runs:
         """What a family costs at a size."""
         if name in forged.FAMILIES:
             return self.judged(*forged.FAMILIES[name].make(size))
-        family = made.FAMILIES[name]
+        family = SCRIPTS[name]
         script, wanted = family.make(size)
         return self.measured(script, family.options(size), wanted)
 
@@ -118,7 +120,7 @@ def main():
     parser.add_argument("--sizes", type=int, nargs="*", default=[])
     parser.add_argument("names", nargs="*")
     words = parser.parse_args()
-    families = {name: family for name, family in {**made.FAMILIES, **forged.FAMILIES}.items() if not words.names or name in words.names}
+    families = {name: family for name, family in {**SCRIPTS, **forged.FAMILIES}.items() if not words.names or name in words.names}
     with tempfile.TemporaryDirectory() as folder:
         runs = Runs(str(pathlib.Path(words.program).resolve()), pathlib.Path(folder), words.times)
         if words.sizes:

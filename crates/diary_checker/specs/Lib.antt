@@ -1,3 +1,4 @@
 pub mod Tables
 pub mod Uses
+pub mod Starts
 pub mod Readers

@@ -3,15 +3,16 @@ use Rattle.std.specs.Prelude.{◌≡◌, ℕ, ◌↔◌, Bool, true, false, List
 use Rattle.cnf_base.specs.declared.clause.ClauseId.{ClauseId}
 use Rattle.proof_log.specs.declared.diary.DiaryLine.{DiaryLine}
 use Rattle.proof_log.specs.declared.diary.DiaryLine.TheVariants.{Take, Put, Drop}
-use Rattle.proof_log.specs.Logs.{state_of}
+use Rattle.proof_log.specs.Logs.{entry_at, state_of}
 use Rattle.proof_log.specs.Stored.{LogValue}
-use Rattle.proof_log.specs.Diaries.{Subject, DiaryState, look_of, IsLine, line_after, AreLines, lines_after, EndsInPut}
+use Rattle.proof_log.specs.Diaries.{Subject, DiaryState, look_of, is_chain, IsLine, line_after, AreLines, lines_after, EndsInPut}
 use Rattle.proof_text.specs.Deletions.{blank_without}
 use Rattle.diary_checker.specs.Tables.{Stamps, IsSetOf, bit_in}
 use Rattle.diary_checker.specs.Uses.{AreFiled}
+use Rattle.diary_checker.specs.Starts.{IsBroughtTo}
 
 -- the given literals, a bit for each position, the counts of chains held, of puts and of drops that are left, whether the
--- last line was a put, and the clauses by one of their literals
+-- last line was a put, the clauses by one of their literals, the position of the start, and which positions were brought since
 pub record ReaderValue : Type 0 where
   pub given : Stamps
   pub held : List Bool
@@ -20,6 +21,8 @@ pub record ReaderValue : Type 0 where
   pub drops : ℕ
   pub ended : Bool
   pub filed : List (List ClauseId)
+  pub from : ℕ
+  pub brought : List ℕ
 
 abbrev pub state_in : ReaderValue → DiaryState
 state_in r = record { held = bit_in r.held; chains = r.chains; puts = r.puts; drops = r.drops }
@@ -40,8 +43,16 @@ pub record HasRead (deleted : ℕ → Bool) (g : Subject) (lines : List DiaryLin
   pub stand : AreLines g (blank_without deleted g) lines
   pub state : state_in r ≡ lines_after g (blank_without deleted g) lines
   pub ended : (r.ended ≡ true) ↔ EndsInPut lines
+  pub from : r.from ≡ g.from
+  pub back : IsBroughtTo (blank_without deleted g).held (bit_in r.held) r.brought
 
 -- ---- one line
+
+-- the start stays the same, and is found again as before, whichever positions it has that are no chain's
+pub record KeepsStart (g : Subject) (old new : ReaderValue) : Type 0 where
+  pub from : new.from ≡ old.from
+  pub back : (start : ℕ → Bool) → ((p : ℕ) → is_chain (entry_at g.log p) ≡ true → start p ≡ false) →
+      IsBroughtTo start (bit_in old.held) old.brought → IsBroughtTo start (bit_in new.held) new.brought
 
 abbrev pub is_put : DiaryLine → Bool
 is_put (Take p) = false
@@ -53,6 +64,7 @@ pub record IsTaken (g : Subject) (old new : ReaderValue) (l : DiaryLine) : Type 
   pub set_up : IsSetUp g new
   pub state : state_in new ≡ line_after g (state_in old) l
   pub ended : new.ended ≡ is_put l
+  pub start : KeepsStart g old new
 
 pub record IsRefused (g : Subject) (old new : ReaderValue) (l : DiaryLine) : Type 0 where
   pub invalid : ¬ (IsLine g (state_in old) l)
@@ -67,3 +79,4 @@ pub record IsUndecided (g : Subject) (old new : ReaderValue) : Type 0 where
   pub set_up : IsSetUp g new
   pub state : state_in new ≡ state_in old
   pub ended : new.ended ≡ old.ended
+  pub start : KeepsStart g old new

@@ -1,12 +1,14 @@
 //! What is held, with its clauses filed.
 
-ghost use Rattle.std.specs.Prelude.{◌≡◌, ◌≢◌, ◌≤◌, ◌⊎◌, ◌&&◌, ◌||◌, ◌+◌, not, ltb, true, false, ℕ, List, Option, Some, Contains, OnOk, OnErr, length};
+ghost use Rattle.std.specs.Prelude.{◌≡◌, ◌≢◌, ◌≤◌, ◌⊎◌, ◌&&◌, ◌||◌, ◌+◌, not, ltb, true, false, Bool, ℕ, List, Option, Some, Contains, OnOk, OnErr, length};
 ghost use Rattle.cnf_base.specs.Literals.{Literal};
 ghost use Rattle.cnf_base.specs.declared.clause.ClauseId.{ClauseId};
 ghost use Rattle.proof_log.specs.Logs.{clause_at, entry_at};
 ghost use Rattle.proof_log.specs.Diaries.{is_chain, with_held};
 ghost use Rattle.diary_checker.specs.Tables.{bit_in, filed_under, IsFiled, IsShortest};
+ghost use Rattle.proof_text.specs.Deletions.{is_deleted};
 ghost use Rattle.diary_checker.specs.Uses.{AreFiled, MayBeUnder};
+ghost use Rattle.diary_checker.specs.Starts.{IsBroughtTo};
 
 use crate::positions::Positions;
 use crate::watches::Watches;
@@ -94,6 +96,31 @@ pub(crate) fn hold(
     held.set(at, true)
 }
 
+// Holds a position for a diary's own line, and notes it where it was not held.
+pub(crate) fn bring(
+    held: &mut Positions,
+    watches: &mut Watches,
+    brought: &mut Vec<Pos>,
+    log: &Log,
+    at: Pos,
+) -> Result<(), AllocError>
+    ensures held { OnOk result ((p : ℕ)
+        → bit_in held.new p ≡ with_held (bit_in held.old) at true p) }
+    ensures filed { OnOk result (AreFiled (clause_at log.now.clauses) (bit_in held.old) watches.old
+        → AreFiled (clause_at log.now.clauses) (bit_in held.new) watches.new) }
+    ensures kept { (k : Option Literal) (i : ClauseId) → Contains (filed_under watches.old k) i
+        → Contains (filed_under watches.new k) i }
+    ensures err { OnErr result ((p : ℕ) → bit_in held.new p ≡ bit_in held.old p) }
+    ensures back { (start : ℕ → Bool) → IsBroughtTo start (bit_in held.old) brought.old.items
+        → IsBroughtTo start (bit_in held.new) brought.new.items }
+{
+    if held.has(at) {
+        return Ok(());
+    }
+    brought.push(at)?;
+    hold(held, watches, log, at)
+}
+
 // Takes a position out of the lists in which its clause may be filed.
 pub(crate) fn unfile(watches: &mut Watches, at: Pos, clause: &[Lit])
     ensures kept { (k : Option Literal) (i : ClauseId) → i.pos ≢ at
@@ -105,6 +132,65 @@ pub(crate) fn unfile(watches: &mut Watches, at: Pos, clause: &[Lit])
     for l in clause {
         watches.remove(Some(*l), at);
     }
+}
+
+// Takes a position out of the lists in which its clauses may be filed.
+fn unfile_all(watches: &mut Watches, log: &Log, at: Pos)
+    ensures { (k : Option Literal) (i : ClauseId) → i.pos ≢ at
+        → Contains (filed_under watches.old k) i → Contains (filed_under watches.new k) i }
+{
+    for part in 0..u32::MAX {
+        let Some(clause) = log.clause(ClauseId { pos: at, part }) else {
+            return;
+        };
+        unfile(watches, at, clause.literals());
+    }
+}
+
+// Gives up a position that a diary brought.
+fn take_back(
+    held: &mut Positions,
+    watches: &mut Watches,
+    log: &Log,
+    at: Pos,
+) -> Result<(), AllocError>
+    ensures held { OnOk result ((p : ℕ)
+        → bit_in held.new p ≡ with_held (bit_in held.old) at false p) }
+    ensures filed { OnOk result (AreFiled (clause_at log.now.clauses) (bit_in held.old) watches.old
+        → AreFiled (clause_at log.now.clauses) (bit_in held.new) watches.new) }
+{
+    unfile_all(watches, log, at);
+    held.set(at, false)
+}
+
+// Gives up all positions that a diary brought.
+pub(crate) fn take_all_back(
+    held: &mut Positions,
+    watches: &mut Watches,
+    log: &Log,
+    brought: &[Pos],
+) -> Result<(), AllocError>
+    ensures held { OnOk result ((start : ℕ → Bool)
+        → IsBroughtTo start (bit_in held.old) brought.now
+        → (p : ℕ) → bit_in held.new p ≡ start p) }
+    ensures filed { OnOk result (AreFiled (clause_at log.now.clauses) (bit_in held.old) watches.old
+        → AreFiled (clause_at log.now.clauses) (bit_in held.new) watches.new) }
+{
+    for at in brought {
+        take_back(held, watches, log, *at)?;
+    }
+    Ok(())
+}
+
+// Leaves out these places.
+pub(crate) fn leave_out(held: &mut Positions, places: &[u64]) -> Result<(), AllocError>
+    ensures { OnOk result ((p : ℕ)
+        → bit_in held.new p ≡ (bit_in held.old p && not (is_deleted places.now p))) }
+{
+    for place in places {
+        held.set(*place, false)?;
+    }
+    Ok(())
 }
 
 // Whether a position is deleted or a chain's.
@@ -137,21 +223,26 @@ fn hold_plain(
     hold(held, watches, log, at)
 }
 
-// Holds all positions before one that are neither deleted nor a chain's.
-pub(crate) fn hold_start(
+// Holds all positions from one on and before another that are neither deleted nor a chain's, where those before the first are.
+pub(crate) fn hold_from(
     held: &mut Positions,
     watches: &mut Watches,
     log: &Log,
     deleted: &Positions,
+    first: Pos,
     from: Pos,
 ) -> Result<(), AllocError>
-    requires none { (p : ℕ) → bit_in held.old p ≡ false }
+    requires order { first ≤ from }
+    requires before { (p : ℕ) → bit_in held.old p
+        ≡ (ltb p first
+        && not (bit_in deleted.now p || is_chain (entry_at log.now.entries p))) }
+    requires filed { AreFiled (clause_at log.now.clauses) (bit_in held.old) watches.old }
     ensures held { OnOk result ((p : ℕ) → bit_in held.new p
         ≡ (ltb p from && not (bit_in deleted.now p || is_chain (entry_at log.now.entries p)))) }
     ensures filed { OnOk result
         (AreFiled (clause_at log.now.clauses) (bit_in held.new) watches.new) }
 {
-    for at in 0..from {
+    for at in first..from {
         hold_plain(held, watches, log, deleted, at)?;
     }
     Ok(())

@@ -1,6 +1,6 @@
 //! The reader of a diary.
 
-ghost use Rattle.std.specs.Prelude.{◌≡◌, ◌≢◌, ◌+◌, ◌++◌, ◌∷◌, [], suc, ℕ, Bool, List, Option, Some, IfOk, IfSome, MatchBool, MatchOption, MatchResult};
+ghost use Rattle.std.specs.Prelude.{◌≡◌, ◌≢◌, ◌+◌, ◌++◌, ◌∷◌, [], suc, length, ℕ, Bool, List, Option, Some, IfOk, IfSome, MatchBool, MatchOption, MatchResult};
 ghost use Rattle.cnf_base.specs.Literals.{Literal};
 ghost use Rattle.cnf_base.specs.declared.clause.ClauseId.{ClauseId};
 ghost use Rattle.proof_log.specs.declared.entry.Entry.TheVariants as step;
@@ -8,14 +8,16 @@ ghost use Rattle.proof_log.specs.declared.diary.DiaryLine.{DiaryLine};
 ghost use Rattle.proof_log.specs.declared.diary.DiaryLine.TheVariants as row;
 ghost use Rattle.proof_log.specs.Logs.{entry_at};
 ghost use Rattle.proof_log.specs.Diaries.{Subject, lines_after, count_new, allowed, IsLine};
-ghost use Rattle.proof_text.specs.Deletions.{blank_without, IsSpentFrom};
+ghost use Rattle.proof_text.specs.Deletions.{blank_without, is_deleted, IsSpentFrom};
 ghost use Rattle.diary_checker.specs.Tables.{bit_in};
+ghost use Rattle.diary_checker.specs.Starts.{IsStart};
 ghost use Rattle.diary_checker.specs.Readers.{IsAbout, IsSetUp, HasRead, IsDecided, IsUndecided};
 
 use crate::conditions::insert;
-use crate::filing::{hold, hold_start, is_chain_at, unfile};
+use crate::filing::{bring, is_chain_at, take_all_back, unfile};
 use crate::goodness::{Scratch, is_good_put};
 use crate::positions::Positions;
+use crate::start::DiaryStart;
 use crate::table::LiteralNumbers;
 use crate::watches::Watches;
 use cnf_base::{Clause, Lit, Pos};
@@ -36,6 +38,9 @@ pub struct DiaryReader {
     drops: u64,
     ended: bool,
     scratch: Scratch,
+    from: Pos,
+    /// The positions that were not held at the start and came since.
+    brought: Vec<Pos>,
 }
 
 impl Model for DiaryReader {
@@ -52,26 +57,38 @@ impl Model for DiaryReader {
           drops = r.drops;
           ended = r.ended;
           filed = r.watches;
+          from = r.from;
+          brought = r.brought.items;
         } };
 }
 
 impl DiaryReader {
-    /// The reader of a diary over this log that starts at a position, where these positions were deleted, for a search that
-    /// takes the given literals as true. It has read no line.
+    /// The reader of a diary over this log that starts at a position, where these places were deleted, for a search that
+    /// takes the given literals as true. It has read no line. What an earlier diary of the log held at its start serves it.
     pub fn new(
         alloc: Global,
         log: &Log,
+        start: DiaryStart,
         deleted: &Positions,
+        places: &[u64],
         given: &[Lit],
         from: Pos,
     ) -> Result<DiaryReader, AllocError>
+        requires start { IsStart places.now log.now start }
+        requires places { (p : ℕ) → bit_in deleted.now p ≡ is_deleted places.now p }
         ensures { IfOk result (λ r. (g : Subject) → IsAbout g log.now → g.given ≡ given.now
             → g.from ≡ from → HasRead (bit_in deleted.now) g [] r) }
     {
-        let mut held = Positions::new(alloc);
-        let mut watches = Watches::new(alloc);
-        hold_start(&mut held, &mut watches, log, deleted, from)?;
-        let mut literals = LiteralNumbers::new(alloc);
+        let start = start.moved(log, deleted, places, from)?;
+        let DiaryStart {
+            held,
+            watches,
+            from: _,
+            known: _,
+            given: literals,
+            scratch,
+        } = start;
+        let mut literals = literals;
         insert(&mut literals, given)?;
         Ok(DiaryReader {
             given: literals,
@@ -81,7 +98,43 @@ impl DiaryReader {
             puts: 0,
             drops: 0,
             ended: false,
-            scratch: Scratch::new(alloc),
+            scratch,
+            from,
+            brought: Vec::new(alloc),
+        })
+    }
+
+    /// What was held at the start, for the next diary. The log and the number of deleted places are those of this one.
+    pub fn end(self, log: &Log, known: usize) -> Result<DiaryStart, AllocError>
+        ensures { IfOk result (λ s. (places : List ℕ) (g : Subject) (lines : List DiaryLine)
+            → IsAbout g log.now → known ≡ length places
+            → HasRead (is_deleted places) g lines self → IsStart places log.now s) }
+    {
+        let DiaryReader {
+            given,
+            held,
+            watches,
+            chains: _,
+            puts: _,
+            drops: _,
+            ended: _,
+            scratch,
+            from,
+            brought,
+        } = self;
+        let mut held = held;
+        let mut watches = watches;
+        if from > log.len() {
+            return Ok(DiaryStart::new(watches.alloc()));
+        }
+        take_all_back(&mut held, &mut watches, log, brought.as_slice())?;
+        Ok(DiaryStart {
+            held,
+            watches,
+            from,
+            known,
+            given,
+            scratch,
         })
     }
 
@@ -133,7 +186,13 @@ impl DiaryReader {
         let Some(chains) = counted(self.chains, is_chain_at(log, at), self.held.has(at)) else {
             return Err(AllocError);
         };
-        hold(&mut self.held, &mut self.watches, log, at)?;
+        bring(
+            &mut self.held,
+            &mut self.watches,
+            &mut self.brought,
+            log,
+            at,
+        )?;
         self.chains = chains;
         self.drops = 0;
         self.ended = false;
@@ -165,7 +224,13 @@ impl DiaryReader {
         let Some(puts) = self.puts.checked_add(1) else {
             return Err(AllocError);
         };
-        hold(&mut self.held, &mut self.watches, log, at)?;
+        bring(
+            &mut self.held,
+            &mut self.watches,
+            &mut self.brought,
+            log,
+            at,
+        )?;
         self.chains = chains;
         self.puts = puts;
         self.drops = droppable(puts, chains);

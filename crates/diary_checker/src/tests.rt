@@ -4,8 +4,8 @@ ghost use Rattle.std.specs.Prelude.{IfOk};
 ghost use Rattle.proof_log.specs.Stored.{Stands};
 ghost use Rattle.proof_log.specs.Faults.{IsDeclared};
 
-use crate::DiaryReader;
 use crate::positions::Positions;
+use crate::{DiaryReader, DiaryStart};
 use cnf_base::{Clause, ClauseId, Lit, Pos};
 use proof_log::Log;
 use proof_log::diary::DiaryLine;
@@ -109,7 +109,15 @@ fn first_other_of(
     lines: &[(DiaryLine, bool)],
 ) -> Result<(Option<usize>, bool), AllocError> {
     let deleted = Positions::new(alloc);
-    let mut reader = DiaryReader::new(alloc, log, &deleted, &[given], from)?;
+    let mut reader = DiaryReader::new(
+        alloc,
+        log,
+        DiaryStart::new(alloc),
+        &deleted,
+        &[],
+        &[given],
+        from,
+    )?;
     let other = first_other(&mut reader, log, lines);
     let spent = reader.is_spent(0);
     drop(reader);

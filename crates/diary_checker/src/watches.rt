@@ -80,6 +80,11 @@ impl Watches {
         }
     }
 
+    /// The allocator of the lists.
+    pub(crate) fn alloc(&self) -> Global {
+        self.alloc
+    }
+
     /// The clauses that are filed under a literal, or under none.
     pub(crate) fn under(&self, key: Option<Lit>) -> &[ClauseId]
         ensures { result.now ≡ filed_under self.now key }

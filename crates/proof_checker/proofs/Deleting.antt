@@ -1,6 +1,6 @@
 -- Places that are deleted, and lines that name one.
-use Rattle.std.proofs.Common.{◌≡◌, ℕ, zero, suc, ◌+◌, ◌<◌, ◌≤◌, Bool, true, false, List, [], ◌∷◌, ◌++◌, length, map, get_or, take, drop, refl, sym, ap, ap₂, ◌∙◌, subst, inl, inr, arith, ⊎_elim, append_assoc, append-nil, Result, Ok, Err, IfOk}
-use Rattle.std.specs.Prelude.{◌⊎◌, ◌||◌, ◌==◌, if◌then◌else◌, Some}
+use Rattle.std.proofs.Common.{◌≡◌, ℕ, ◌+◌, ◌<◌, Bool, true, false, List, [], ◌∷◌, ◌++◌, length, map, get_or, take, drop, refl, sym, ap, ap₂, ◌∙◌, subst, inl, inr, ⊎_elim, append_assoc, append-nil, Result, Ok, Err, IfOk}
+use Rattle.std.specs.Prelude.{◌||◌, ◌==◌, if◌then◌else◌, Some}
 use Rattle.std.specs.List.{list_any}
 use Rattle.std.specs.declared.alloc.AllocError.{AllocError}
 use Rattle.std.proofs.lemmas.Bool.{cases_eq, eq-eqb, ne_eqb, false≢true}
@@ -21,7 +21,6 @@ use Rattle.proof_log.specs.Stored.{LogValue}
 use Rattle.proof_log.specs.Diaries.{with_held}
 use Rattle.proof_text.specs.declared.line.Line.{Line}
 use Rattle.proof_text.specs.declared.line.Line.TheVariants as line
-use Rattle.proof_text.specs.declared.record.Record.TheVariants as shown
 use Rattle.proof_text.specs.Deletions.{AreDeletable, cites, is_deletable, is_deleted}
 use Rattle.proof_text.specs.Entries.{entry_line, head_of, lemma_line, written_hint, written_literal}
 use Rattle.accepted_proof.specs.declared.refusal.RuleName.TheVariants as rule

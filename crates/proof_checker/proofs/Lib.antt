@@ -17,3 +17,4 @@ pub mod WrittenTables
 pub mod Noting
 pub mod Heading
 mod Deleting
+mod Starting

@@ -12,6 +12,7 @@ use crate::due::Due;
 use crate::kept::KeptInterp;
 use accepted_proof::refusal::{Refusal, RuleName};
 use check_cubes::Limits;
+use diary_checker::DiaryStart;
 use proof_log::Log;
 use proof_text::line::{Format, Line};
 use proof_text::reader::LineFault;
@@ -42,6 +43,8 @@ pub struct Checker {
     pub(crate) reached: Reached,
     /// The same for its values.
     pub(crate) kept: KeptInterp,
+    /// What diaries hold at their start, kept from one to the next.
+    pub(crate) start: DiaryStart,
 }
 
 impl Model for Checker {
@@ -49,6 +52,7 @@ impl Model for Checker {
     ghost use Rattle.proof_checker.specs.Checkers.{CheckerValue, owed_of, IsOpen, IsNoted, AreKept};
     ghost use Rattle.accepted_proof.specs.Searching.{AreLimits};
     ghost use Rattle.proof_log.specs.Stored.{Stands};
+    ghost use Rattle.diary_checker.specs.Starts.{IsStart};
 
     ghost Value = { CheckerValue };
 
@@ -70,7 +74,8 @@ impl Model for Checker {
         × IsOpen c.due c.state.value.symbols.live c.values.items
         × IsNoted (limits_of c.limits) c.state.value c.log.value.entries c.deleted c.due
         × AreLimits (limits_of c.limits)
-        × AreKept c.due c.state.value.symbols.signatures c.values.items };
+        × AreKept c.due c.state.value.symbols.signatures c.values.items
+        × IsStart c.deleted c.log.value c.start };
 }
 
 impl Checker {

@@ -63,6 +63,13 @@ impl Deleted {
         &self.bits
     }
 
+    /// These places, in the order in which they were deleted.
+    pub fn places(&self) -> &[u64]
+        ensures { result.now ≡ self.now }
+    {
+        self.places.as_slice()
+    }
+
     /// One place more is deleted.
     fn push(&mut self, place: u64) -> Result<(), AllocError>
         ensures ok { OnOk result (self.new ≡ self.old ++ place ∷ []) }

@@ -8,7 +8,8 @@ ghost use Rattle.script_state.specs.States.{StateValue};
 ghost use Rattle.accepted_proof.specs.Searching.{Limits, subject_of, given_literals};
 ghost use Rattle.accepted_proof.specs.Judged.{noted, Opens, MovesBy};
 ghost use Rattle.proof_checker.specs.declared.due.Due.TheVariants.{Noted};
-ghost use Rattle.proof_checker.specs.Checkers.{GoesTo, HasLine, IsNoLine, IsNoted, IsOwedLines, MaySearch, NotesBy, ReadTo, given_in, judged_so};
+ghost use Rattle.diary_checker.specs.Starts.{IsStart};
+ghost use Rattle.proof_checker.specs.Checkers.{closed_with, GoesTo, HasLine, IsNoLine, IsNoted, IsOwedLines, MaySearch, NotesBy, ReadTo, given_in, judged_so};
 
 use crate::checker::Checker;
 use crate::deletions::{Deleted, names_deleted};
@@ -16,23 +17,26 @@ use crate::due::{Due, Noting};
 use accepted_proof::refusal::RuleName;
 use check_cubes::search;
 use cnf_base::{Lit, Pos};
-use diary_checker::DiaryReader;
+use diary_checker::{DiaryReader, DiaryStart};
 use proof_log::Log;
 use proof_log::diary::{DiaryLine, DiaryLines};
 use proof_text::line::Line;
 use script_state::answer::Verdict;
 use std::alloc::{AllocError, Global};
+use std::mem;
 
-/// A diary without a line, of which one is next and so many are left behind it.
+/// A diary without a line, of which one is next and so many are left behind it. What an earlier one held at its start serves it.
 fn open(
     alloc: Global,
     log: &Log,
+    kept: DiaryStart,
     deleted: &Deleted,
     given: &[Lit],
     cube: u64,
     start: Pos,
     left: u64,
 ) -> Result<Noting, AllocError>
+    requires { IsStart deleted.now log.now kept }
     ensures parts { IfOk result (λ n. (n.cube ≡ cube) × (n.start ≡ start) × (n.left ≡ left)
         × (n.lines ≡ [])) }
     ensures noted { IfOk result (λ n. (limits : Limits) (s : StateValue)
@@ -40,7 +44,15 @@ fn open(
         → given.now ≡ given_literals limits s s.terms.nodes log.now.entries cube
         → IsNoted limits s log.now.entries deleted.now (Noted n)) }
 {
-    let reader = DiaryReader::new(alloc, log, deleted.bits(), given, start)?;
+    let reader = DiaryReader::new(
+        alloc,
+        log,
+        kept,
+        deleted.bits(),
+        deleted.places(),
+        given,
+        start,
+    )?;
     let lines = DiaryLines::none(alloc);
     Ok(Noting {
         cube,
@@ -97,6 +109,16 @@ fn is_spent(noting: &Noting, budget: u64) -> bool
         noting.now.lines → ⊥) }
 {
     noting.reader.is_spent(budget)
+}
+
+/// What the diary held at its start, for the next one.
+fn end(log: &Log, deleted: &Deleted, noting: Noting) -> Result<DiaryStart, AllocError>
+    ensures { IfOk result (λ kept. (limits : Limits) (s : StateValue)
+        → Stands s.terms.nodes log.now
+        → IsNoted limits s log.now.entries deleted.now (Noted noting)
+        → IsStart deleted.now log.now kept) }
+{
+    noting.reader.end(log, deleted.places().len())
 }
 
 impl Checker {
@@ -160,9 +182,11 @@ impl Checker {
         };
         match given {
             Some(given) => {
+                let kept = mem::replace(&mut checker.start, DiaryStart::new(alloc));
                 match open(
                     alloc,
                     &checker.log,
+                    kept,
                     &checker.deleted,
                     given.as_slice(),
                     cube,
@@ -193,10 +217,25 @@ impl Checker {
             return Ok(self.owe_lines(noting));
         }
         if is_spent(&noting, self.limits.budget) {
-            self.close(Verdict::Unknown)
+            self.close_diary(noting)
         } else {
             Ok(self.refuse(RuleName::Diary))
         }
+    }
+
+    // The check ends with a diary whose lines have spent the budget; what it held at its start is kept.
+    fn close_diary(self, noting: Noting) -> Result<Checker, AllocError>
+        requires more { self.judging.line + 1 < 2 ^ 64 }
+        requires noted { IsNoted self.judging.limits self.judging.state self.judging.log
+            self.judging.deleted (Noted noting) }
+        ensures { IfOk result (λ c. c ≡ closed_with self Verdict.Unknown) }
+    {
+        let mut checker = self;
+        let Ok(kept) = end(&checker.log, &checker.deleted, noting) else {
+            return Err(checker.release());
+        };
+        checker.start = kept;
+        checker.close(Verdict::Unknown)
     }
 
     // One line more of a diary.

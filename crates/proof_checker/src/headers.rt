@@ -13,6 +13,7 @@ use crate::due::Due;
 use crate::kept::KeptInterp;
 use accepted_proof::refusal::{Refusal, RuleName};
 use check_cubes::Limits;
+use diary_checker::DiaryStart;
 use proof_log::Log;
 use proof_text::line::{Format, Line};
 use proof_text::reader::LineFault;
@@ -89,6 +90,7 @@ impl Checker {
             verdicts: Vec::new(alloc),
             reached: Reached::new(alloc),
             kept: KeptInterp::new(alloc),
+            start: DiaryStart::new(alloc),
         }))
     }
 }

@@ -14,6 +14,7 @@ use crate::refutations::is_refutation;
 use crate::steps::take_step;
 use accepted_proof::refusal::RuleName;
 use cnf_base::Pos;
+use diary_checker::DiaryStart;
 use proof_text::line::{Format, Line};
 use script_state::answer::Verdict;
 use std::alloc::{AllocError, Global};
@@ -81,6 +82,8 @@ impl Checker {
         let mut checker = self;
         checker.due = Due::Steps;
         let Ok(done) = delete(alloc, &checker.log, &mut checker.deleted, places) else {
+            // Which places are deleted now is not told, so what was held over them is let go.
+            checker.start = DiaryStart::new(alloc);
             return Err(checker.release());
         };
         if done {

@@ -1,4 +1,4 @@
-use Rattle.std.proofs.Common.{sym, ◌∙◌}
+use Rattle.std.proofs.Common.{◌∙◌}
 use Rattle.proof_checker.proofs.Deleting.{no_cited}
 use Rattle.proof_checker.proofs.Lining.{tried_in}
 use Rattle.proof_checker.proofs.steps.take_step.Goals as goal

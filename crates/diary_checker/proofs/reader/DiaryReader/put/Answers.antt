@@ -1,7 +1,7 @@
 use Rattle.std.proofs.Common.{◌≡◌, ◌+◌, refl, sym, subst, arith}
 use Rattle.proof_log.specs.declared.diary.DiaryLine.TheVariants.{Put}
 use Rattle.diary_checker.specs.Readers.{IsSetUp}
-use Rattle.diary_checker.proofs.Reading.{put_taken, put_not_good, at_old, look_is, filed_here, wanting, undecided_same, undecided_held}
+use Rattle.diary_checker.proofs.Reading.{put_taken, put_not_good, at_old, keeps_start, look_is, filed_here, wanting, undecided_same, undecided_held}
 use Rattle.diary_checker.proofs.reader.DiaryReader.put.Goals as goal
 
 pub returns-then-not-branch : goal.returns-then-not-branch
@@ -23,7 +23,7 @@ returns c = λ g about set_up.
     let puts : c.in-Some-checked_add-2.puts ≡ c.self.inside.puts + 1 = omega (arith, c.in-Some-checked_add-2.ensures) in
     let drops = rw (chains, puts) at c.droppable-self-inside.ensures in
     at_old g _ _ _ (Put c.args.at) c.self.view_is
-    (put_taken g c.args.log.now c.args.at _ _ about set_up' refl c.in-Some.clause.now c.in-Some.hints.now c.in-Some.ensures good c.in_ok-hold.ensures.held c.in_ok-hold.ensures.filed chains puts drops refl)
+    (put_taken g c.args.log.now c.args.at _ _ about set_up' refl c.in-Some.clause.now c.in-Some.hints.now c.in-Some.ensures good c.in_ok-bring.ensures.held c.in_ok-bring.ensures.filed chains puts drops refl (keeps_start g _ _ refl c.bring.ensures.back))
 
 pub returns-in_err-is_good_put : goal.returns-in_err-is_good_put
 returns-in_err-is_good_put c = λ g about set_up.
@@ -35,7 +35,7 @@ returns-in_default-checked_add c = λ g about set_up. undecided_same g _ _ c.sel
 pub returns-in_default-checked_add-2 : goal.returns-in_default-checked_add-2
 returns-in_default-checked_add-2 c = λ g about set_up. undecided_same g _ _ c.self.view_is set_up
 
-pub returns-in_err-hold : goal.returns-in_err-hold
-returns-in_err-hold c = λ g about set_up.
-    wanting _ _ c.from_residual-in_err-hold.result c.from_residual-in_err-hold.ensures.1
-    (undecided_held g _ _ _ c.self.view_is set_up refl c.in_err-hold.ensures.err c.hold.ensures.kept refl refl refl refl)
+pub returns-in_err-bring : goal.returns-in_err-bring
+returns-in_err-bring c = λ g about set_up.
+    wanting _ _ c.from_residual-in_err-bring.result c.from_residual-in_err-bring.ensures.1
+    (undecided_held g _ _ _ c.self.view_is set_up refl c.in_err-bring.ensures.err c.bring.ensures.kept refl refl refl refl (keeps_start g _ _ refl c.bring.ensures.back))

@@ -15,6 +15,7 @@ invariant_of-checker-2 c =
       c.due_by.ensures.noted (limits_of before.limits) new before.log.value.entries before.deleted,
       c.checker.invariant.3,
       c.due_by.ensures.kept new.symbols.signatures before.values.items,
+      c.checker.invariant.5,
     )
 
 pub returns : goal.returns

@@ -1,9 +1,8 @@
 use Rattle.std.proofs.Common.{◌≡◌, ◌+◌, inr, sym, ap, subst, ◌∙◌, arith}
 use Rattle.accepted_proof.specs.Judged.{noted, refused}
 use Rattle.accepted_proof.specs.declared.refusal.RuleName.TheVariants as rule
-use Rattle.proof_checker.specs.declared.due.Due.TheVariants.{Noted}
 use Rattle.check_cubes.specs.Searches.{limits_of}
-use Rattle.proof_checker.specs.Checkers.{CheckerValue, IsNoted, given_in, judged_so}
+use Rattle.proof_checker.specs.Checkers.{CheckerValue, given_in, judged_so}
 use Rattle.proof_checker.proofs.Noting.{not_opened, opened}
 use Rattle.proof_checker.proofs.checker.Checker.open_diary.Goals as goal
 
@@ -12,8 +11,7 @@ owe_lines-requires-clause-noted c =
     let before = c.checker.inside in
     let found = rw c.in-Some.is at c.in-Ok.ensures.search in
     let same = ap (λ (x : CheckerValue). given_in x.judging c.args.cube) (sym (c.checker.view_is ∙ c.searched.ensures.same)) in
-    subst (λ (x : CheckerValue). IsNoted x.judging.limits x.judging.state x.judging.log x.judging.deleted (Noted c.in-Ok-open.noting)) c.checker.view_is
-    ((rw c.deref.ensures at c.in-Ok-open.ensures.noted) (limits_of before.limits) before.state.value c.checker.invariant.0 (c.as_slice.ensures.value ∙ found.1 ∙ same))
+    (rw c.deref.ensures at c.in-Ok-open.ensures.noted) (limits_of before.limits) before.state.value c.checker.invariant.0 (c.as_slice.ensures.value ∙ found.1 ∙ same)
 
 pub returns-in-Ok-open : goal.returns-in-Ok-open
 returns-in-Ok-open c =
@@ -24,7 +22,7 @@ returns-in-Ok-open c =
     let left = parts.2 in
     let more : n.left + 1 ≡ c.args.count = omega (arith, some, left) in
     opened c.args.self c.owe_lines.result c.args.cube c.args.start c.args.count n found.0 more parts.0 parts.1 parts.3
-    (subst (λ (x : CheckerValue). c.owe_lines.result ≡ judged_so x (noted x.judging n.cube n.start n.left n.lines)) c.searched.ensures.same c.owe_lines.ensures)
+    (subst (λ (x : CheckerValue). c.owe_lines.result ≡ judged_so x (noted x.judging n.cube n.start n.left n.lines)) (c.checker.view_is ∙ c.searched.ensures.same) c.owe_lines.ensures)
 
 pub returns : goal.returns
 returns c =

@@ -10,4 +10,5 @@ invariant_of-checker c = (
   subst (λ (x : CheckerValue). IsNoted x.judging.limits x.judging.state x.judging.log x.judging.deleted (Noted c.args.noting)) (sym c.checker.view_is) c.requires.noted,
   c.checker.invariant.3,
   tt,
+  c.checker.invariant.5,
 )
