@@ -9,7 +9,6 @@ pub mod Settling
 pub mod Once
 pub mod Following
 mod Parting
-pub mod Plain
 pub mod Remaining
 pub mod Completing
 pub mod Beginning

@@ -9,8 +9,9 @@ use Rattle.script_state.specs.States.{StateValue, start_of}
 use Rattle.script_state.specs.Steps.{ends}
 use Rattle.accepted_proof.specs.Searching.{Limits, AreLimits}
 use Rattle.proof_text.specs.declared.line.Format.{Format}
-use Rattle.accepted_proof.specs.Turns.{Turn, Part, AreTurns, AreParts, turn_of}
-use Rattle.accepted_proof.specs.Answers.{answers_of, is_refused, proof_of, written_of}
+use Rattle.proof_text.specs.declared.line.Format.TheVariants.{Two}
+use Rattle.accepted_proof.specs.Turns.{Turn, Part, AreParts, turn_of}
+use Rattle.accepted_proof.specs.Answers.{answers_of, is_refused, written_of}
 
 -- each chunk is the command of a turn
 abbrev pub AreRead : List Chunk → List Turn → Type 0
@@ -77,39 +78,39 @@ abbrev pub AcceptedSoFar : Limits → List ℕ → List ℕ → List Turn → Ty
 AcceptedSoFar limits script proof turns = AcceptedSoFarFrom (start_of true) limits script proof turns
 
 -- a front of the answer to the next command of the script, which is not the whole answer
-pub record IsBegun (limits : Limits) (script : List ℕ) (chunks : List Chunk) (turns : List Turn) (begun : List ℕ) : Type 0 where
+pub record IsBegun (limits : Limits) (script : List ℕ) (chunks : List Chunk) (parts : List Part) (begun : List ℕ) : Type 0 where
   pub next : Chunk
-  pub turn : Turn
+  pub part : Part
   pub rest : List ℕ
   pub front : IsFront script (chunks ++ next ∷ [])
-  pub read : AreRead (chunks ++ next ∷ []) (turns ++ turn ∷ [])
-  pub last : EndLast (turns ++ turn ∷ [])
-  pub run : AreTurns limits (start_of true) [] (turns ++ turn ∷ [])
-  pub texts : answers_of (turns ++ turn ∷ []) ≡ answers_of turns ++ begun ++ rest
+  pub read : AreRead (chunks ++ next ∷ []) (map turn_of (parts ++ part ∷ []))
+  pub last : EndLast (map turn_of (parts ++ part ∷ []))
+  pub run : AreParts Two limits (start_of true) [] [] (parts ++ part ∷ [])
+  pub texts : answers_of (map turn_of (parts ++ part ∷ [])) ≡ answers_of (map turn_of parts) ++ begun ++ rest
   pub unfinished : 0 < length rest
 
--- The answers that were written whole are those of the first commands of the script, and the proof is accepted to the last
--- of their checks.
+-- The answers that were written whole are those of the first commands of the script, and the proof, which is of the second
+-- format, is accepted to the last of their checks.
 pub record StandsBeside (limits : Limits) (script answers proof : List ℕ) : Type 0 where
   pub allowed : AreLimits limits
   pub chunks : List Chunk
-  pub turns : List Turn
+  pub parts : List Part
   pub more : List ℕ
   pub begun : List ℕ
   pub front : IsFront script chunks
-  pub read : AreRead chunks turns
-  pub last : EndLast turns
-  pub run : AreTurns limits (start_of true) [] turns
-  pub lines : proof ≡ proof_of limits turns ++ more
-  pub texts : answers ≡ answers_of turns ++ begun
-  pub unfinished : (begun ≡ []) ⊎ IsBegun limits script chunks turns begun
+  pub read : AreRead chunks (map turn_of parts)
+  pub last : EndLast (map turn_of parts)
+  pub run : AreParts Two limits (start_of true) [] [] parts
+  pub lines : proof ≡ written_of Two limits parts ++ more
+  pub texts : answers ≡ answers_of (map turn_of parts) ++ begun
+  pub unfinished : (begun ≡ []) ⊎ IsBegun limits script chunks parts begun
 
--- the answers are those to the whole script, and the proof is accepted, and of the first format
-pub record IsWhole (limits : Limits) (script answers proof : List ℕ) (turns : List Turn) : Type 0 where
-  pub accepted : Accepted limits script proof turns
-  pub run : AreTurns limits (start_of true) [] turns
-  pub lines : proof ≡ proof_of limits turns
-  pub texts : answers ≡ answers_of turns
+-- the answers are those to the whole script, and the proof is accepted, and has these parts
+pub record IsWhole (limits : Limits) (script answers proof : List ℕ) (parts : List Part) : Type 0 where
+  pub accepted : Accepted limits script proof (map turn_of parts)
+  pub run : AreParts Two limits (start_of true) [] [] parts
+  pub lines : proof ≡ written_of Two limits parts
+  pub texts : answers ≡ answers_of (map turn_of parts)
 
 -- whether an error is among the answers
 abbrev pub has_error : List Turn → Bool

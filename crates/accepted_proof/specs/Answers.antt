@@ -28,7 +28,6 @@ use Rattle.smt_terms.specs.Values.{Value as MeaningValue, VBool, VWord, VArray, 
 use Rattle.proof_log.specs.declared.entry.Entry.{Entry}
 use Rattle.proof_log.specs.Logs.{LogState, state_of}
 use Rattle.proof_text.specs.declared.line.Format.{Format}
-use Rattle.proof_text.specs.declared.line.Format.TheVariants.{One}
 use Rattle.proof_text.specs.declared.line.Line.TheVariants as line
 use Rattle.proof_text.specs.declared.record.Record.{Record}
 use Rattle.proof_text.specs.declared.record.Record.TheVariants.{Sat}
@@ -38,7 +37,7 @@ use Rattle.proof_text.specs.Records.{binary, written_scalar}
 use Rattle.accepted_proof.specs.Models.{value_for, interpretation_of}
 use Rattle.accepted_proof.specs.Searching.{Limits}
 use Rattle.accepted_proof.specs.Cores.{core_names, blamed_assumptions, refuting_clause}
-use Rattle.accepted_proof.specs.Turns.{Turn, Part, verdict_of, state_after, turn_lines, part_lines}
+use Rattle.accepted_proof.specs.Turns.{Turn, Part, verdict_of, state_after, part_lines}
 
 -- ---- answers (SMT-LIB 2.6, section 4.1.1)
 
@@ -217,14 +216,6 @@ is_refused t = is_error t.answer
 abbrev pub header_of : Format → Limits → List ℕ
 header_of format limits = line_text (line.Header format limits.cubes limits.budget)
 
--- the first line of a proof of the first format
-abbrev pub header_text : Limits → List ℕ
-header_text limits = header_of One limits
-
 -- the header, and the lines of the parts
 abbrev pub written_of : Format → Limits → List Part → List ℕ
 written_of format limits parts = header_of format limits ++ flat_map line_text (flat_map part_lines parts)
-
--- the same of turns in the first format
-abbrev pub proof_of : Limits → List Turn → List ℕ
-proof_of limits turns = header_text limits ++ flat_map line_text (flat_map turn_lines turns)

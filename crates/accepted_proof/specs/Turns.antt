@@ -1,6 +1,6 @@
--- A command with its answer (SMT-LIB 2.6, sections 4.1.1 and 4.2), and for a check the steps and the record that stand in
--- the proof. A step adds what later ones may name; chains are those of LRAT (Cruz-Filipe, Heule, Hunt, Kaufmann and
--- Schneider-Kamp 2017). A proof of the second format may delete places between the steps.
+-- A command with its answer (SMT-LIB 2.6, sections 4.1.1 and 4.2), and for a check its steps and its record. A step adds
+-- what later ones may name; chains are those of LRAT (Cruz-Filipe, Heule, Hunt, Kaufmann and Schneider-Kamp 2017). What
+-- stands of these in a proof is a part: one of the second format may delete places between the steps.
 use Rattle.std.specs.Prelude.{◌≡◌, ◌⊎◌, ℕ, Bool, false, List, [], ◌∷◌, ◌++◌, slice_get, Contains, Option, Some, None, IsSome, option_to_list}
 use Rattle.std.specs.List.{flat_map, AllByRecursion}
 use Rattle.cnf_base.specs.Literals.{Literal, negated}
@@ -108,29 +108,16 @@ pub record Turn : Type 0 where
   pub steps : List Entry
   pub shown : Option Record
 
-abbrev pub step_lines : List Entry → List Line
-step_lines steps = flat_map (λ e. option_to_list (entry_line e)) steps
-
-abbrev pub shown_lines : Option Record → List Line
-shown_lines None = []
-shown_lines (Some r) = record_lines r
-
--- the lines of a check: its steps, then its record
-abbrev pub turn_lines : Turn → List Line
-turn_lines t = step_lines t.steps ++ shown_lines t.shown
-
 -- a check has steps and a record, and no other command has
 abbrev pub HasProof : Limits → Answer → StateValue → List Entry → List Entry → Option Record → Type 0
 HasProof limits Check s log steps None = ⊥
 HasProof limits Check s log steps (Some r) = AreStepsOf s log steps × IsShown limits s (with_steps s steps).terms.nodes (log ++ steps) r
 HasProof limits _ s log steps shown = (steps ≡ []) × (shown ≡ None)
 
--- The turn may follow in this state, with this log, within these limits. Each of its lines can be read: a step may be valid
--- whose numbers are too large for a line, such as a rotation by 2^64, and no check takes it.
+-- the turn may follow in this state, with this log, within these limits
 pub record IsTurn (limits : Limits) (s : StateValue) (log : List Entry) (t : Turn) : Type 0 where
   pub answer : t.answer ≡ (step s t.says).0
   pub proof : HasProof limits t.answer (step s t.says).1 log t.steps t.shown
-  pub readable : AllByRecursion IsLine (turn_lines t)
 
 -- a check that has a record stands with its verdict
 abbrev pub concluded_by : StateValue → Option Record → StateValue
@@ -146,7 +133,7 @@ abbrev pub AreTurns : Limits → StateValue → List Entry → List Turn → Typ
 AreTurns limits s log [] = Unit {0}
 AreTurns limits s log (t ∷ ts) = IsTurn limits s log t × AreTurns limits (state_after s t) (log ++ t.steps) ts
 
--- ---- deletions
+-- ---- parts
 
 -- what stands in a proof before the record of a check: a step, or the deletion of places
 pub data Item : Type 0 where
@@ -161,6 +148,10 @@ steps_in (Delete places ∷ items) = steps_in items
 abbrev pub item_lines : Item → List Line
 item_lines (Step e) = option_to_list (entry_line e)
 item_lines (Delete places) = line.Delete places ∷ []
+
+abbrev pub shown_lines : Option Record → List Line
+shown_lines None = []
+shown_lines (Some r) = record_lines r
 
 -- the places that are deleted behind the items
 abbrev pub deleted_behind : List ℕ → List Item → List ℕ
@@ -196,7 +187,8 @@ HasPart format limits Check s log deleted items (Some r) =
     AreStepsOf s log (steps_in items) × AreKept format deleted log items × IsShownWithout (deleted_behind deleted items) limits s (with_steps s (steps_in items)).terms.nodes (log ++ steps_in items) r
 HasPart format limits _ s log deleted items shown = (items ≡ []) × (shown ≡ None)
 
--- the turn may follow in this state, with this log, where these places were deleted before, and each of its lines can be read
+-- The turn may follow in this state, with this log, where these places were deleted before. Each of its lines can be read: a
+-- step may be valid whose numbers are too large for a line, such as a rotation by 2^64, and no check takes it.
 pub record IsPart (format : Format) (limits : Limits) (s : StateValue) (log : List Entry) (deleted : List ℕ) (p : Part) : Type 0 where
   pub answer : p.answer ≡ (step s p.says).0
   pub proof : HasPart format limits p.answer (step s p.says).1 log deleted p.items p.shown

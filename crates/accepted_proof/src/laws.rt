@@ -1,12 +1,12 @@
 //! What follows from the definitions alone.
 
-ghost use Rattle.std.specs.Prelude.{◌≡◌, ℕ, Bool, List, [], None, true};
+ghost use Rattle.std.specs.Prelude.{◌≡◌, ℕ, Bool, List, [], map, None, true};
 ghost use Rattle.script_state.specs.States.{start_of};
 ghost use Rattle.smt_terms.specs.declared.node.Node.{Node};
 ghost use Rattle.proof_log.specs.declared.entry.Entry.{Entry};
 ghost use Rattle.proof_log.specs.Logs.{state_of, IsLog};
 ghost use Rattle.accepted_proof.specs.Searching.{Limits, Rise, split_variables};
-ghost use Rattle.accepted_proof.specs.Turns.{Turn, AreTurns};
+ghost use Rattle.accepted_proof.specs.Turns.{Turn, AreTurns, turn_of};
 ghost use Rattle.accepted_proof.specs.Right.{AreRight, ArePrinted};
 ghost use Rattle.accepted_proof.specs.Accepted.{Accepted, AcceptedFrom, StandsBeside, readings_of};
 
@@ -36,7 +36,7 @@ pub fn accepted_proofs_are_right()
 pub fn answers_beside_proofs_are_right()
     ensures { (limits : Limits) (script answers proof : List ℕ)
         (beside : StandsBeside limits script answers proof)
-        → AreRight (start_of true) beside.turns }
+        → AreRight (start_of true) (map turn_of beside.parts) }
 {}
 
 /// The commands of a script are read in one way: the turns of two accepted proofs begin on the same lines and say the same.

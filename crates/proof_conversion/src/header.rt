@@ -71,7 +71,7 @@ pub(crate) fn read_header(reader: &mut ProofReader) -> Result<Option<Numbers>, A
 }
 
 /// Appends the header of the second format.
-pub(crate) fn push_header(numbers: Numbers, out: &mut Text) -> Result<(), AllocError>
+pub fn push_header(numbers: Numbers, out: &mut Text) -> Result<(), AllocError>
     ensures { OnOk result (out.new ≡ out.old ++ header_of Two numbers) }
 {
     out.push_slice(b"smt_proof 2 cubes ")?;
