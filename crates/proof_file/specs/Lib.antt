@@ -1,0 +1,10 @@
+pub mod Places
+pub mod Needed
+pub mod Stale
+pub mod Indexed
+pub mod Noting
+pub mod Trimmed
+pub mod Equalities
+pub mod Held
+pub mod Finding
+pub mod Files
