@@ -7,39 +7,43 @@ use Rattle.std.proofs.KnownBytes.{Appends-nil}
 use Rattle.smt_text.specs.declared.chunk.Chunk.{Chunk}
 use Rattle.proof_text.specs.Lines.{line_text}
 use Rattle.script_state.specs.Steps.{ends}
-use Rattle.accepted_proof.specs.Turns.{turn_lines}
+use Rattle.accepted_proof.specs.Turns.{part_lines}
 use Rattle.accepted_proof.specs.Answers.{turn_text, is_refused}
 use Rattle.smt_session.specs.declared.response.Response.{Response}
 use Rattle.smt_session.specs.declared.response.Stop.{Stop}
 use Rattle.smt_session.specs.declared.response.Stop.TheVariants.{Failed, NoMemory}
+use Rattle.proof_file.specs.Held.{file_in}
 use Rattle.smt_session.specs.Sessions.{SessionValue, IsAnswered, CutsTurn, Leaves}
 use Rattle.smt_check.specs.Runs.{AddsTo}
 use Rattle.smt_run.specs.declared.answering.Answered.{Answered}
-use Rattle.smt_run.specs.Adding.{Moment, moment_of, answers_at, Follow, streams, lines_of, Advances, BreaksAt}
+use Rattle.smt_run.specs.Adding.{Filed, Moment, moment_of, answers_at, Follow, streams, lines_of, Advances, BreaksAt}
 use Rattle.smt_run.proofs.Turning.{Follow-none, or_false}
 
 module _ (chunk : Chunk) (old new : SessionValue) (r : Response) (p p' : Option (List ℕ)) (w : IsAnswered chunk old new r p p') where
-  turn_follows : Follow (moment_of old) (chunk ∷ []) (w.turn ∷ [])
-  turn_follows = record { read = (w.line, w.reads, tt); last = (λ e. refl, tt); run = (w.stands, tt) }
+  abbrev one : Filed
+  one = record { turn = w.turn; part = w.part; file = file_in new.file }
 
-  one_text : answers_at (moment_of old) (w.turn ∷ []) ≡ r.text
+  turn_follows : Follow (moment_of old) (chunk ∷ []) (one ∷ [])
+  turn_follows = record { read = (w.line, w.reads, tt); last = (λ e. refl, tt); run = (w.stands, tt); filed = (w.trims, tt); taken = (w.taken, tt) }
+
+  one_text : answers_at (moment_of old) (one ∷ []) ≡ r.text
   one_text = append-nil (turn_text old.state old.log.entries old.shown w.turn) ∙ sym w.text
 
-  one_proof : lines_of (w.turn ∷ []) ≡ flat_map line_text (turn_lines w.turn)
-  one_proof = ap (flat_map line_text) (append-nil (turn_lines w.turn))
+  one_proof : lines_of (one ∷ []) ≡ flat_map line_text (part_lines w.part)
+  one_proof = ap (flat_map line_text) (append-nil (part_lines w.part))
 
   pub turn_advances : (so_far answered : Answered) (a a' : Option (List ℕ)) → so_far.session ≡ old → answered.session ≡ new → answered.refused ≡ (so_far.refused || r.error) → answered.ended ≡ r.ends → Appends a a' r.text
       → Advances (moment_of so_far.session) so_far.refused answered (streams a p) (streams a' p') (chunk ∷ [])
   turn_advances so_far answered a a' e f b g t =
       rw (e, f) (record {
-        turns = w.turn ∷ [];
+        done = one ∷ [];
         adds = record {
           follow = turn_follows;
-          answers = subst (Appends a a') (sym (append-nil (answers_at (moment_of old) (w.turn ∷ [])) ∙ one_text)) t;
-          proof = subst (Appends p p') (sym (append-nil (lines_of (w.turn ∷ [])) ∙ one_proof)) w.lines;
+          answers = subst (Appends a a') (sym (append-nil (answers_at (moment_of old) (one ∷ [])) ∙ one_text)) t;
+          proof = subst (Appends p p') (sym (append-nil (lines_of (one ∷ [])) ∙ one_proof)) w.lines;
           thorough = (w.thorough, tt);
         };
-        after_is = (λ i. record { state = w.state i; log = w.log i; shown = w.shown i; limits = w.limits i });
+        after_is = (λ i. record { state = w.state i; log = w.log i; file = file_in new.file; shown = w.shown i; limits = w.limits i });
         refused_is = b ∙ ap (λ x. so_far.refused || x) (w.error ∙ or_false (is_refused w.turn));
         ended_is = g ∙ w.ends ∙ or_false (ends w.turn.says);
       })
@@ -51,18 +55,18 @@ module _ (chunk : Chunk) (old new : SessionValue) (r : Response) (p p' : Option 
         next = chunk ∷ [];
         next_is = inr refl;
         breaks = record {
-          turns = [];
+          done = [];
           begun = take n r.text;
-          more = flat_map line_text (turn_lines w.turn);
+          more = flat_map line_text (part_lines w.part);
           adds = record { follow = Follow-none (moment_of old); answers = t; proof = w.lines; thorough = tt };
           going = refl;
-          coming = w.turn ∷ [];
+          coming = one ∷ [];
           rest = drop n r.text;
           left = [];
           follow = turn_follows;
           answer = one_text ∙ sym (take-append-drop n r.text);
-          lines = one_proof ∙ sym (append-nil (flat_map line_text (turn_lines w.turn)));
-          unfinished = inr (record { turn = w.turn; one = refl; unfinished = inr (refl, omega (arith, h, length-drop n r.text)) });
+          lines = one_proof ∙ sym (append-nil (flat_map line_text (part_lines w.part)));
+          unfinished = inr (record { command = one; one = refl; unfinished = inr (refl, omega (arith, h, length-drop n r.text)) });
         };
       })
 
@@ -79,7 +83,7 @@ silent_breaks m chunks a p p' h = record {
   next = [];
   next_is = inl refl;
   breaks = record {
-    turns = [];
+    done = [];
     begun = [];
     more = [];
     adds = record { follow = Follow-none m; answers = Appends-nil a; proof = h; thorough = tt };
@@ -94,29 +98,31 @@ silent_breaks m chunks a p p' h = record {
   };
 }
 
--- a command of whose lines a front was written
+-- a command of whose part a front was written
 pub cut_breaks : (old : SessionValue) (chunk : Chunk) (a p p' : Option (List ℕ)) → CutsTurn chunk old p p' → BreaksAt (moment_of old) (streams a p) (streams a p') (chunk ∷ [])
-cut_breaks old chunk a p p' w = record {
-  next = chunk ∷ [];
-  next_is = inr refl;
-  breaks = record {
-    turns = [];
-    begun = [];
-    more = w.lines.front;
-    adds = record { follow = Follow-none (moment_of old); answers = Appends-nil a; proof = w.lines.added; thorough = tt };
-    going = refl;
-    coming = w.turn ∷ [];
-    rest = answers_at (moment_of old) (w.turn ∷ []);
-    left = w.lines.left;
-    follow = record { read = (w.line, w.reads, tt); last = (λ e. refl, tt); run = (w.stands, tt) };
-    answer = refl;
-    lines = ap (flat_map line_text) (append-nil (turn_lines w.turn)) ∙ w.lines.parts;
-    unfinished = inr (record { turn = w.turn; one = refl; unfinished = inl (refl, w.lines.unfinished) });
-  };
-}
+cut_breaks old chunk a p p' w =
+    let one : Filed = record { turn = w.turn; part = w.part; file = w.file } in
+    record {
+      next = chunk ∷ [];
+      next_is = inr refl;
+      breaks = record {
+        done = [];
+        begun = [];
+        more = w.lines.front;
+        adds = record { follow = Follow-none (moment_of old); answers = Appends-nil a; proof = w.lines.added; thorough = tt };
+        going = refl;
+        coming = one ∷ [];
+        rest = answers_at (moment_of old) (one ∷ []);
+        left = w.lines.left;
+        follow = record { read = (w.line, w.reads, tt); last = (λ e. refl, tt); run = (w.stands, tt); filed = (w.trims, tt); taken = (w.taken, tt) };
+        answer = refl;
+        lines = ap (flat_map line_text) (append-nil (part_lines w.part)) ∙ w.lines.parts;
+        unfinished = inr (record { command = one; one = refl; unfinished = inl (refl, w.lines.unfinished) });
+      };
+    }
 
 pub cut_adds : (old : SessionValue) (chunk : Chunk) (p p' : Option (List ℕ)) → CutsTurn chunk old p p' → AddsTo p p'
 cut_adds old chunk p p' w = (w.lines.front, w.lines.added)
 
 pub answer_adds : (chunk : Chunk) (old new : SessionValue) (r : Response) (p p' : Option (List ℕ)) → IsAnswered chunk old new r p p' → AddsTo p p'
-answer_adds chunk old new r p p' w = (flat_map line_text (turn_lines w.turn), w.lines)
+answer_adds chunk old new r p p' w = (flat_map line_text (part_lines w.part), w.lines)

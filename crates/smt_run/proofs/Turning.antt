@@ -1,8 +1,9 @@
 -- Turns after turns.
-use Rattle.std.proofs.Common.{◌≡◌, ℕ, Bool, true, false, List, [], ◌∷◌, ◌++◌, Option, Some, None, refl, sym, ap, ◌∙◌, subst, append_assoc, append-nil, inl, ⊎_elim}
+use Rattle.std.proofs.Common.{◌≡◌, ℕ, Bool, true, false, List, [], ◌∷◌, ◌++◌, map, Option, Some, None, refl, sym, ap, ◌∙◌, subst, append_assoc, append-nil, inl, ⊎_elim}
 use Rattle.std.specs.Prelude.{◌||◌, Result, Ok, Err, IfOk, IfErr, option_to_list}
 use Rattle.std.specs.List.{flat_map}
 use Rattle.std.proofs.lemmas.Grind.{flat_map-append}
+use Rattle.std.proofs.lemmas.List.{map-append}
 use Rattle.std.proofs.lemmas.List.Folds.{list_any-append}
 use Rattle.std.specs.Io.KnownBytes.{Appends}
 use Rattle.std.proofs.KnownBytes.{Appends-nil, Appends-trans}
@@ -13,31 +14,46 @@ use Rattle.smt_text.specs.Script.{Begins}
 use Rattle.smt_text.proofs.Cuts.{Begins-push, Begins-append}
 use Rattle.proof_text.specs.Lines.{line_text}
 use Rattle.script_state.specs.Steps.{ends}
-use Rattle.accepted_proof.specs.Turns.{Turn, AreTurns, turn_lines}
+use Rattle.accepted_proof.specs.Turns.{Turn, AreTurns, part_lines}
 use Rattle.accepted_proof.specs.Answers.{turn_text, is_refused}
 use Rattle.accepted_proof.specs.Accepted.{AreRead, EndLast, has_ended, has_error}
 use Rattle.smt_check.specs.declared.status.Status.{Status}
+use Rattle.trimmed_proofs.specs.Laws.{HaveTakenFirst}
 use Rattle.smt_session.specs.Thorough.{AreThorough}
 use Rattle.smt_run.specs.declared.answering.Answered.{Answered}
-use Rattle.smt_run.specs.Adding.{Moment, moment_of, behind, after, answers_at, Follow, Streams, lines_of, Adds, Advances, Breaks, BreaksAt, AdvancesWithin, BreaksWithin, AddsLast, with_piece}
+use Rattle.smt_run.specs.Adding.{AreFiled, Filed, Moment, moment_of, behind, after, answers_at, Follow, Streams, lines_of, parts_in, turns_in, Adds, Advances, Breaks, BreaksAt, AdvancesWithin, BreaksWithin, AddsLast, with_piece}
 
-pub after-append : (m : Moment) (ts us : List Turn) → after m (ts ++ us) ≡ after (after m ts) us
-after-append m [] us = refl
-after-append m (t ∷ ts) us = after-append (behind m t) ts us
+pub after-append : (m : Moment) (ds es : List Filed) → after m (ds ++ es) ≡ after (after m ds) es
+after-append m [] es = refl
+after-append m (d ∷ ds) es = after-append (behind m d) ds es
 
-read-append : (cs ds : List Chunk) (ts us : List Turn) → AreRead cs ts → AreRead ds us → AreRead (cs ++ ds) (ts ++ us)
-read-append [] ds [] us p q = q
-read-append [] ds (t ∷ ts) us p q = absurd p
-read-append (c ∷ cs) ds [] us p q = absurd p
-read-append (c ∷ cs) ds (t ∷ ts) us p q = (p.0, p.1, read-append cs ds ts us p.2 q)
+pub turns-append : (ds es : List Filed) → turns_in (ds ++ es) ≡ turns_in ds ++ turns_in es
+turns-append ds es = map-append (λ (d : Filed). d.turn) ds es
 
-run-append : (m : Moment) (ts us : List Turn) → AreTurns m.limits m.state m.log ts → AreTurns (after m ts).limits (after m ts).state (after m ts).log us → AreTurns m.limits m.state m.log (ts ++ us)
-run-append m [] us p q = q
-run-append m (t ∷ ts) us p q = (p.0, run-append (behind m t) ts us p.1 q)
+pub parts-append : (ds es : List Filed) → parts_in (ds ++ es) ≡ parts_in ds ++ parts_in es
+parts-append ds es = map-append (λ (d : Filed). d.part) ds es
 
-thorough-append : (m : Moment) (ts us : List Turn) → AreThorough m.limits m.state m.log ts → AreThorough (after m ts).limits (after m ts).state (after m ts).log us → AreThorough m.limits m.state m.log (ts ++ us)
-thorough-append m [] us p q = q
-thorough-append m (t ∷ ts) us p q = (p.0, thorough-append (behind m t) ts us p.1 q)
+read-append : (cs bs : List Chunk) (ts us : List Turn) → AreRead cs ts → AreRead bs us → AreRead (cs ++ bs) (ts ++ us)
+read-append [] bs [] us p q = q
+read-append [] bs (t ∷ ts) us p q = absurd p
+read-append (c ∷ cs) bs [] us p q = absurd p
+read-append (c ∷ cs) bs (t ∷ ts) us p q = (p.0, p.1, read-append cs bs ts us p.2 q)
+
+run-append : (m : Moment) (ds es : List Filed) → AreTurns m.limits m.state m.log (turns_in ds) → AreTurns (after m ds).limits (after m ds).state (after m ds).log (turns_in es) → AreTurns m.limits m.state m.log (turns_in (ds ++ es))
+run-append m [] es p q = q
+run-append m (d ∷ ds) es p q = (p.0, run-append (behind m d) ds es p.1 q)
+
+filed-append : (m : Moment) (ds es : List Filed) → AreFiled m ds → AreFiled (after m ds) es → AreFiled m (ds ++ es)
+filed-append m [] es p q = q
+filed-append m (d ∷ ds) es p q = (p.0, filed-append (behind m d) ds es p.1 q)
+
+taken-append : (m : Moment) (ds es : List Filed) → HaveTakenFirst m.log (turns_in ds) → HaveTakenFirst (after m ds).log (turns_in es) → HaveTakenFirst m.log (turns_in (ds ++ es))
+taken-append m [] es p q = q
+taken-append m (d ∷ ds) es p q = (p.0, taken-append (behind m d) ds es p.1 q)
+
+thorough-append : (m : Moment) (ds es : List Filed) → AreThorough m.limits m.state m.log (turns_in ds) → AreThorough (after m ds).limits (after m ds).state (after m ds).log (turns_in es) → AreThorough m.limits m.state m.log (turns_in (ds ++ es))
+thorough-append m [] es p q = q
+thorough-append m (d ∷ ds) es p q = (p.0, thorough-append (behind m d) ds es p.1 q)
 
 last-append : (ts us : List Turn) → has_ended ts ≡ false → EndLast ts → EndLast us → EndLast (ts ++ us)
 last-append [] us g p q = q
@@ -46,27 +62,36 @@ last-append (t ∷ ts) us g p q =
     (λ e. let f : ⊥ = cc (e, parts.0) in absurd f, last-append ts us parts.1 p.1 q)
 
 -- what ends none of the first turns ends none of all, if it ends none of the others
-pub ended-append : (ts us : List Turn) → has_ended ts ≡ false → has_ended us ≡ has_ended (ts ++ us)
-ended-append ts us g = sym (list_any-append (λ (t : Turn). ends t.says) ts us ∙ ap (λ b. b || has_ended us) g)
+pub ended-append : (ds es : List Filed) → has_ended (turns_in ds) ≡ false → has_ended (turns_in es) ≡ has_ended (turns_in (ds ++ es))
+ended-append ds es g =
+    sym (ap has_ended (turns-append ds es) ∙ list_any-append (λ (t : Turn). ends t.says) (turns_in ds) (turns_in es) ∙ ap (λ b. b || has_ended (turns_in es)) g)
+
+pub refused-append : (ds es : List Filed) → has_error (turns_in (ds ++ es)) ≡ (has_error (turns_in ds) || has_error (turns_in es))
+refused-append ds es = ap has_error (turns-append ds es) ∙ list_any-append is_refused (turns_in ds) (turns_in es)
 
 pub Follow-none : (m : Moment) → Follow m [] []
-Follow-none m = record { read = tt; last = tt; run = tt }
+Follow-none m = record { read = tt; last = tt; run = tt; filed = tt; taken = tt }
 
-pub Follow-append : (m : Moment) (cs ds : List Chunk) (ts us : List Turn) → has_ended ts ≡ false → Follow m cs ts → Follow (after m ts) ds us → Follow m (cs ++ ds) (ts ++ us)
-Follow-append m cs ds ts us g p q = record {
-  read = read-append cs ds ts us p.read q.read;
-  last = last-append ts us g p.last q.last;
-  run = run-append m ts us p.run q.run;
+pub Follow-append : (m : Moment) (cs bs : List Chunk) (ds es : List Filed) → has_ended (turns_in ds) ≡ false → Follow m cs ds → Follow (after m ds) bs es → Follow m (cs ++ bs) (ds ++ es)
+Follow-append m cs bs ds es g p q = record {
+  read = subst (AreRead (cs ++ bs)) (sym (turns-append ds es)) (read-append cs bs (turns_in ds) (turns_in es) p.read q.read);
+  last = subst EndLast (sym (turns-append ds es)) (last-append (turns_in ds) (turns_in es) g p.last q.last);
+  run = run-append m ds es p.run q.run;
+  filed = filed-append m ds es p.filed q.filed;
+  taken = taken-append m ds es p.taken q.taken;
 }
 
-pub answers-append : (m : Moment) (ts us : List Turn) → answers_at m (ts ++ us) ≡ answers_at m ts ++ answers_at (after m ts) us
-answers-append m [] us = refl
-answers-append m (t ∷ ts) us =
-    ap (λ l. turn_text m.state m.log m.shown t ++ l) (answers-append (behind m t) ts us)
-    ∙ sym (append_assoc (turn_text m.state m.log m.shown t) (answers_at (behind m t) ts) (answers_at (after (behind m t) ts) us))
+pub answers-append : (m : Moment) (ds es : List Filed) → answers_at m (ds ++ es) ≡ answers_at m ds ++ answers_at (after m ds) es
+answers-append m [] es = refl
+answers-append m (d ∷ ds) es =
+    ap (λ l. turn_text m.state m.log m.shown d.turn ++ l) (answers-append (behind m d) ds es)
+    ∙ sym (append_assoc (turn_text m.state m.log m.shown d.turn) (answers_at (behind m d) ds) (answers_at (after (behind m d) ds) es))
 
-lines-append : (ts us : List Turn) → lines_of (ts ++ us) ≡ lines_of ts ++ lines_of us
-lines-append ts us = ap (flat_map line_text) (flat_map-append turn_lines ts us) ∙ flat_map-append line_text (flat_map turn_lines ts) (flat_map turn_lines us)
+lines-append : (ds es : List Filed) → lines_of (ds ++ es) ≡ lines_of ds ++ lines_of es
+lines-append ds es =
+    ap (λ ps. flat_map line_text (flat_map part_lines ps)) (parts-append ds es)
+    ∙ ap (flat_map line_text) (flat_map-append part_lines (parts_in ds) (parts_in es))
+    ∙ flat_map-append line_text (flat_map part_lines (parts_in ds)) (flat_map part_lines (parts_in es))
 
 -- ---- what is added
 
@@ -77,16 +102,16 @@ Adds-none m s = record { follow = Follow-none m; answers = Appends-nil s.answers
 joined : (xs ys zs begun : List ℕ) → zs ≡ xs ++ ys → (xs ++ []) ++ (ys ++ begun) ≡ zs ++ begun
 joined xs ys zs begun e = rw (append-nil xs, e) (sym (append_assoc xs ys begun))
 
-pub Adds-trans : (m : Moment) (a b c : Streams) (cs ds : List Chunk) (ts us : List Turn) (begun more : List ℕ) → has_ended ts ≡ false → Adds m a b cs ts [] [] → Adds (after m ts) b c ds us begun more → Adds m a c (cs ++ ds) (ts ++ us) begun more
-Adds-trans m a b c cs ds ts us begun more g p q = record {
-  follow = Follow-append m cs ds ts us g p.follow q.follow;
+pub Adds-trans : (m : Moment) (a b c : Streams) (cs bs : List Chunk) (ds es : List Filed) (begun more : List ℕ) → has_ended (turns_in ds) ≡ false → Adds m a b cs ds [] [] → Adds (after m ds) b c bs es begun more → Adds m a c (cs ++ bs) (ds ++ es) begun more
+Adds-trans m a b c cs bs ds es begun more g p q = record {
+  follow = Follow-append m cs bs ds es g p.follow q.follow;
   answers =
-      subst (Appends a.answers c.answers) (joined (answers_at m ts) (answers_at (after m ts) us) (answers_at m (ts ++ us)) begun (answers-append m ts us))
+      subst (Appends a.answers c.answers) (joined (answers_at m ds) (answers_at (after m ds) es) (answers_at m (ds ++ es)) begun (answers-append m ds es))
       (Appends-trans a.answers b.answers c.answers _ _ p.answers q.answers);
   proof =
-      subst (Appends a.proof c.proof) (joined (lines_of ts) (lines_of us) (lines_of (ts ++ us)) more (lines-append ts us))
+      subst (Appends a.proof c.proof) (joined (lines_of ds) (lines_of es) (lines_of (ds ++ es)) more (lines-append ds es))
       (Appends-trans a.proof b.proof c.proof _ _ p.proof q.proof);
-  thorough = thorough-append m ts us p.thorough q.thorough;
+  thorough = thorough-append m ds es p.thorough q.thorough;
 }
 
 -- ---- advances
@@ -96,7 +121,7 @@ or_false true = refl
 or_false false = refl
 
 pub Advances-none : (m : Moment) (r : Bool) (new : Answered) (s : Streams) → moment_of new.session ≡ m → new.refused ≡ r → new.ended ≡ false → Advances m r new s s []
-Advances-none m r new s e f g = record { turns = []; adds = Adds-none m s; after_is = e; refused_is = f ∙ or_false r; ended_is = g }
+Advances-none m r new s e f g = record { done = []; adds = Adds-none m s; after_is = e; refused_is = f ∙ or_false r; ended_is = g }
 
 or_assoc : (a b c : Bool) → ((a || b) || c) ≡ (a || (b || c))
 or_assoc true b c = refl
@@ -104,15 +129,15 @@ or_assoc false b c = refl
 
 pub Advances-trans : (m : Moment) (r : Bool) (mid new : Answered) (a b c : Streams) (cs ds : List Chunk) → mid.ended ≡ false → Advances m r mid a b cs → Advances (moment_of mid.session) mid.refused new b c ds → Advances m r new a c (cs ++ ds)
 Advances-trans m r mid new a b c cs ds g p q = record {
-  turns = p.turns ++ q.turns;
-  adds = Adds-trans m a b c cs ds p.turns q.turns [] [] (sym p.ended_is ∙ g) p.adds (rw p.after_is at q.adds);
-  after_is = q.after_is ∙ ap (λ x. after x q.turns) p.after_is ∙ sym (after-append m p.turns q.turns);
+  done = p.done ++ q.done;
+  adds = Adds-trans m a b c cs ds p.done q.done [] [] (sym p.ended_is ∙ g) p.adds (rw p.after_is at q.adds);
+  after_is = q.after_is ∙ ap (λ x. after x q.done) p.after_is ∙ sym (after-append m p.done q.done);
   refused_is =
       q.refused_is
-      ∙ ap (λ x. x || has_error q.turns) p.refused_is
-      ∙ or_assoc r (has_error p.turns) (has_error q.turns)
-      ∙ ap (λ x. r || x) (sym (list_any-append is_refused p.turns q.turns));
-  ended_is = q.ended_is ∙ ended-append p.turns q.turns (sym p.ended_is ∙ g);
+      ∙ ap (λ x. x || has_error (turns_in q.done)) p.refused_is
+      ∙ or_assoc r (has_error (turns_in p.done)) (has_error (turns_in q.done))
+      ∙ ap (λ x. r || x) (sym (refused-append p.done q.done));
+  ended_is = q.ended_is ∙ ended-append p.done q.done (sym p.ended_is ∙ g);
 }
 
 -- ---- breaks
@@ -120,7 +145,7 @@ Advances-trans m r mid new a b c cs ds g p q = record {
 -- a stop at once
 pub Breaks-none : (m : Moment) (s : Streams) → Breaks m s s [] []
 Breaks-none m s = record {
-  turns = [];
+  done = [];
   begun = [];
   more = [];
   adds = Adds-none m s;
@@ -137,18 +162,18 @@ Breaks-none m s = record {
 -- a stop behind an advance
 pub Advances-breaks : (m : Moment) (r : Bool) (mid : Answered) (a b c : Streams) (cs ds next : List Chunk) → mid.ended ≡ false → Advances m r mid a b cs → Breaks (moment_of mid.session) b c ds next → Breaks m a c (cs ++ ds) next
 Advances-breaks m r mid a b c cs ds next g p q =
-    let k : Breaks (after m p.turns) b c ds next = rw p.after_is at q in
+    let k : Breaks (after m p.done) b c ds next = rw p.after_is at q in
     record {
-      turns = p.turns ++ k.turns;
+      done = p.done ++ k.done;
       begun = k.begun;
       more = k.more;
-      adds = Adds-trans m a b c cs ds p.turns k.turns k.begun k.more (sym p.ended_is ∙ g) p.adds k.adds;
-      going = sym (ended-append p.turns k.turns (sym p.ended_is ∙ g)) ∙ k.going;
+      adds = Adds-trans m a b c cs ds p.done k.done k.begun k.more (sym p.ended_is ∙ g) p.adds k.adds;
+      going = sym (ended-append p.done k.done (sym p.ended_is ∙ g)) ∙ k.going;
       coming = k.coming;
       rest = k.rest;
       left = k.left;
-      follow = rw (after-append m p.turns k.turns) k.follow;
-      answer = rw (after-append m p.turns k.turns) k.answer;
+      follow = rw (after-append m p.done k.done) k.follow;
+      answer = rw (after-append m p.done k.done) k.answer;
       lines = k.lines;
       unfinished = k.unfinished;
     }
@@ -217,4 +242,4 @@ fed_breaks f h piece m s t (Err e) k l p = subst (λ (y : Held). BreaksWithin y 
 
 -- the end of the script closes nothing
 pub last_none : (m : Moment) (b : Bool) (s : Streams) (o : Option Chunk) → o ≡ None → AddsLast m b s s (option_to_list o) b
-last_none m b s o e = rw e (record { turns = []; adds = Adds-none m s; refused_is = or_false b })
+last_none m b s o e = rw e (record { done = []; adds = Adds-none m s; refused_is = or_false b })

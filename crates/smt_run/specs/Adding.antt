@@ -1,5 +1,5 @@
 -- What a run adds to the answers and to the proof, one turn after another.
-use Rattle.std.specs.Prelude.{◌≡◌, ◌⊎◌, ℕ, ◌<◌, Bool, true, false, ◌||◌, List, [], ◌∷◌, ◌++◌, length, Option, Some, None}
+use Rattle.std.specs.Prelude.{◌≡◌, ◌⊎◌, ℕ, ◌<◌, Bool, true, false, ◌||◌, List, [], ◌∷◌, ◌++◌, length, map, Option, Some, None}
 use Rattle.std.specs.List.{flat_map}
 use Rattle.std.specs.Io.KnownBytes.{Appends}
 use Rattle.smt_text.specs.declared.chunk.Chunk.{Chunk}
@@ -10,9 +10,13 @@ use Rattle.proof_log.specs.declared.entry.Entry.{Entry}
 use Rattle.proof_text.specs.declared.record.Record.{Record}
 use Rattle.proof_text.specs.Lines.{line_text}
 use Rattle.accepted_proof.specs.Searching.{Limits}
-use Rattle.accepted_proof.specs.Turns.{Turn, AreTurns, state_after, turn_lines}
+use Rattle.accepted_proof.specs.Turns.{Part, Turn, AreTurns, part_lines, state_after}
 use Rattle.accepted_proof.specs.Answers.{answers_from, last_shown}
 use Rattle.accepted_proof.specs.Accepted.{AreRead, AreAll, EndLast, IsFront, has_ended, has_error}
+use Rattle.proof_file.specs.Places.{FileValue, no_file}
+use Rattle.proof_file.specs.Held.{file_in}
+use Rattle.proof_file.specs.Trimmed.{IsTrimmed}
+use Rattle.trimmed_proofs.specs.Laws.{HaveTakenFirst}
 use Rattle.smt_session.specs.Sessions.{SessionValue}
 use Rattle.smt_session.specs.Thorough.{AreThorough}
 use Rattle.smt_check.specs.declared.status.Status.{Status}
@@ -21,38 +25,59 @@ use Rattle.smt_run.specs.declared.answering.Answered.{Answered}
 
 -- ---- turns
 
--- the state, the log, and the record of the last check at one moment of a session, and the limits of its checks
+-- the state, the log, the proof file, and the record of the last check at one moment of a session, and the limits of its checks
 pub record Moment : Type 0 where
   pub state : StateValue
   pub log : List Entry
+  pub file : FileValue
   pub shown : Option Record
   pub limits : Limits
 
 abbrev pub moment_of : SessionValue → Moment
-moment_of s = record { state = s.state; log = s.log.entries; shown = s.shown; limits = s.limits }
+moment_of s = record { state = s.state; log = s.log.entries; file = file_in s.file; shown = s.shown; limits = s.limits }
 
 -- before the first command
 abbrev pub opening : Limits → Moment
-opening limits = record { state = start_of true; log = []; shown = None; limits = limits }
+opening limits = record { state = start_of true; log = []; file = no_file; shown = None; limits = limits }
+
+-- a turn, the part that is written for it, and the file behind that
+pub record Filed : Type 0 where
+  pub turn : Turn
+  pub part : Part
+  pub file : FileValue
+
+abbrev pub turns_in : List Filed → List Turn
+turns_in done = map (λ (d : Filed). d.turn) done
+
+abbrev pub parts_in : List Filed → List Part
+parts_in done = map (λ (d : Filed). d.part) done
 
 -- after a turn
-abbrev pub behind : Moment → Turn → Moment
-behind m t = record { state = state_after m.state t; log = m.log ++ t.steps; shown = last_shown m.shown t.shown; limits = m.limits }
+abbrev pub behind : Moment → Filed → Moment
+behind m d = record { state = state_after m.state d.turn; log = m.log ++ d.turn.steps; file = d.file; shown = last_shown m.shown d.turn.shown; limits = m.limits }
 
 -- after the turns
-abbrev pub after : Moment → List Turn → Moment
+abbrev pub after : Moment → List Filed → Moment
 after m [] = m
-after m (t ∷ ts) = after (behind m t) ts
+after m (d ∷ ds) = after (behind m d) ds
+
+-- each part is what the file gets for its turn
+abbrev pub AreFiled : Moment → List Filed → Type 0
+AreFiled m [] = Unit {0}
+AreFiled m (d ∷ ds) = IsTrimmed m.state m.log m.file d.file d.turn d.part × AreFiled (behind m d) ds
 
 -- the texts of the turns that follow
-abbrev pub answers_at : Moment → List Turn → List ℕ
-answers_at m turns = answers_from m.state m.log m.shown turns
+abbrev pub answers_at : Moment → List Filed → List ℕ
+answers_at m done = answers_from m.state m.log m.shown (turns_in done)
 
--- the chunks are the commands of these turns, which may follow one after the other, and only the last ends the run
-pub record Follow (m : Moment) (chunks : List Chunk) (turns : List Turn) : Type 0 where
-  pub read : AreRead chunks turns
-  pub last : EndLast turns
-  pub run : AreTurns m.limits m.state m.log turns
+-- The chunks are the commands of these turns, which may follow one after the other, and only the last ends the run. Their parts are
+-- what the file gets for them.
+pub record Follow (m : Moment) (chunks : List Chunk) (done : List Filed) : Type 0 where
+  pub read : AreRead chunks (turns_in done)
+  pub last : EndLast (turns_in done)
+  pub run : AreTurns m.limits m.state m.log (turns_in done)
+  pub filed : AreFiled m done
+  pub taken : HaveTakenFirst m.log (turns_in done)
 
 -- ---- what is added
 
@@ -64,48 +89,48 @@ pub record Streams : Type 0 where
 abbrev pub streams : Option (List ℕ) → Option (List ℕ) → Streams
 streams a p = record { answers = a; proof = p }
 
--- the lines of the turns
-abbrev pub lines_of : List Turn → List ℕ
-lines_of turns = flat_map line_text (flat_map turn_lines turns)
+-- the lines of the parts
+abbrev pub lines_of : List Filed → List ℕ
+lines_of done = flat_map line_text (flat_map part_lines (parts_in done))
 
--- the answers and the lines of the turns are added, and behind them begun and more; no check made a term, and all cubes of one
--- that is not known were searched
-pub record Adds (m : Moment) (from to : Streams) (chunks : List Chunk) (turns : List Turn) (begun more : List ℕ) : Type 0 where
-  pub follow : Follow m chunks turns
-  pub answers : Appends from.answers to.answers (answers_at m turns ++ begun)
-  pub proof : Appends from.proof to.proof (lines_of turns ++ more)
-  pub thorough : AreThorough m.limits m.state m.log turns
+-- the answers to the turns and the lines of their parts are added, and behind them begun and more; no check made a term, and all
+-- cubes of one that is not known were searched
+pub record Adds (m : Moment) (from to : Streams) (chunks : List Chunk) (done : List Filed) (begun more : List ℕ) : Type 0 where
+  pub follow : Follow m chunks done
+  pub answers : Appends from.answers to.answers (answers_at m done ++ begun)
+  pub proof : Appends from.proof to.proof (lines_of done ++ more)
+  pub thorough : AreThorough m.limits m.state m.log (turns_in done)
 
 -- the chunks are answered whole
 pub record Advances (m : Moment) (refused : Bool) (new : Answered) (from to : Streams) (chunks : List Chunk) : Type 0 where
-  pub turns : List Turn
-  pub adds : Adds m from to chunks turns [] []
-  pub after_is : moment_of new.session ≡ after m turns
-  pub refused_is : new.refused ≡ (refused || has_error turns)
-  pub ended_is : new.ended ≡ has_ended turns
+  pub done : List Filed
+  pub adds : Adds m from to chunks done [] []
+  pub after_is : moment_of new.session ≡ after m done
+  pub refused_is : new.refused ≡ (refused || has_error (turns_in done))
+  pub ended_is : new.ended ≡ has_ended (turns_in done)
 
 -- nothing was written of what comes next
 abbrev pub IsNothing : List ℕ → List ℕ → Type 0
 IsNothing begun more = (begun ≡ []) × (more ≡ [])
 
 -- Of what comes next one command was begun: a front of its lines was written, or all of them and a front of its answer.
-pub record IsBegunOf (coming : List Turn) (begun rest more left : List ℕ) : Type 0 where
-  pub turn : Turn
-  pub one : coming ≡ turn ∷ []
+pub record IsBegunOf (coming : List Filed) (begun rest more left : List ℕ) : Type 0 where
+  pub command : Filed
+  pub one : coming ≡ command ∷ []
   pub unfinished : ((begun ≡ []) × (0 < length left)) ⊎ ((left ≡ []) × (0 < length rest))
 
 -- The chunks are answered whole and do not end the run, and behind them stands what was begun of what comes next.
 pub record Breaks (m : Moment) (from to : Streams) (chunks next : List Chunk) : Type 0 where
-  pub turns : List Turn
+  pub done : List Filed
   pub begun : List ℕ
   pub more : List ℕ
-  pub adds : Adds m from to chunks turns begun more
-  pub going : has_ended turns ≡ false
-  pub coming : List Turn
+  pub adds : Adds m from to chunks done begun more
+  pub going : has_ended (turns_in done) ≡ false
+  pub coming : List Filed
   pub rest : List ℕ
   pub left : List ℕ
-  pub follow : Follow (after m turns) next coming
-  pub answer : answers_at (after m turns) coming ≡ begun ++ rest
+  pub follow : Follow (after m done) next coming
+  pub answer : answers_at (after m done) coming ≡ begun ++ rest
   pub lines : lines_of coming ≡ more ++ left
   pub unfinished : IsNothing begun more ⊎ IsBegunOf coming begun rest more left
 
@@ -139,19 +164,19 @@ pub record BreaksWithin (held : Held) (m : Moment) (from to : Streams) : Type 0 
 
 -- the chunks that the end of the script closes are answered
 pub record AddsLast (m : Moment) (refused : Bool) (from to : Streams) (chunks : List Chunk) (now : Bool) : Type 0 where
-  pub turns : List Turn
-  pub adds : Adds m from to chunks turns [] []
-  pub refused_is : now ≡ (refused || has_error turns)
+  pub done : List Filed
+  pub adds : Adds m from to chunks done [] []
+  pub refused_is : now ≡ (refused || has_error (turns_in done))
 
 -- ---- within a script
 
 -- the whole script is answered, or what stands up to the command that ends the run
 pub record AnswersAll (limits : Limits) (text : List ℕ) (from to : Streams) (refused : Bool) : Type 0 where
   pub chunks : List Chunk
-  pub turns : List Turn
-  pub cut : AreAll text chunks turns
-  pub adds : Adds (opening limits) from to chunks turns [] []
-  pub refused_is : refused ≡ has_error turns
+  pub done : List Filed
+  pub cut : AreAll text chunks (turns_in done)
+  pub adds : Adds (opening limits) from to chunks done [] []
+  pub refused_is : refused ≡ has_error (turns_in done)
 
 -- a front of the script is answered
 pub record AnswersFront (limits : Limits) (text : List ℕ) (from to : Streams) : Type 0 where
@@ -173,6 +198,6 @@ pub record AnswersRead (limits : Limits) (status : Status) (left : Option (List 
   pub chunks : List Chunk
   pub whole : Begins (record { line = 1; bytes = read }) chunks held
   pub no_more : first_chunk held ≡ None
-  pub turns : List Turn
-  pub adds : Adds (opening limits) from to chunks turns [] []
-  pub going : has_ended turns ≡ false
+  pub done : List Filed
+  pub adds : Adds (opening limits) from to chunks done [] []
+  pub going : has_ended (turns_in done) ≡ false

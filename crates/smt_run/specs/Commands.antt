@@ -6,7 +6,8 @@ use Rattle.smt_check.specs.Runs.{AddsTo, ReadsBytes, ReadsWithin, IsLater, HasCa
 use Rattle.smt_check.specs.Checks.{ReadsForStatus, HasCheckCause, ToldOf, IsEndOfCheck, IsFrontOfCheck, IsRightlyAccepted}
 use Rattle.accepted_proof.specs.Searching.{Limits}
 use Rattle.accepted_proof.specs.Turns.{Turn}
-use Rattle.accepted_proof.specs.Answers.{header_text}
+use Rattle.proof_text.specs.declared.line.Format.TheVariants.{Two}
+use Rattle.accepted_proof.specs.Answers.{header_of}
 use Rattle.accepted_proof.specs.Accepted.{Accepted}
 use Rattle.smt_run.specs.Solving.{BeginsWith, FailsToRead}
 use Rattle.smt_run.specs.Beside.{Told, IsBeside, IsAllAnswered, IsPrefix, IsAnsweredToRead, IsReadOut, IsShort, IsWithoutFault}
@@ -60,7 +61,8 @@ pub record Solves (limits : Limits) (status : Status) (old new : Files) : Type 0
   -- each `sat` has a model, and where there is an `unsat` there is none. An `unknown` stands beside the diary of one of its
   -- cubes, on which the budget was spent, and its other cubes were searched too. No check made a term. What is printed is right
   -- too: a model and values are those of the record of the check that stands; the assertions of a core with all that have no
-  -- name and the assumptions of that check have no model; assumptions that cannot hold have none with all live assertions.
+  -- name and the assumptions of that check have no model; assumptions that cannot hold have none with all live assertions. Of
+  -- the lemmas and chains that a check found the proof has those that its record needs, and it deletes what no later check can use.
   pub beside : Adds old new (IsBeside limits)
   -- At the end all is answered, the proof is accepted, a check of both accepts it, and the status tells whether an error is
   -- among the answers.
@@ -76,8 +78,8 @@ pub record Solves (limits : Limits) (status : Status) (old new : Files) : Type 0
   pub at_end : IsEnd status → IsReadOut old.script.bytes new.script.bytes
   pub within : status ≢ TooLong → ReadsWithin old.script.bytes new.script.bytes
   pub too_long : status ≡ TooLong → ReadsBytes (input_limit + 1) old.script.bytes new.script.bytes
-  -- The proof begins with its header, which has the limits.
-  pub header : status ≢ WriteFault → status ≢ NoMemory → BeginsWith (header_text limits) old.proof.bytes new.proof.bytes
+  -- The proof begins with the header of the second format, which has the limits.
+  pub header : status ≢ WriteFault → status ≢ NoMemory → BeginsWith (header_of Two limits) old.proof.bytes new.proof.bytes
   -- A fault is told only where a count rose.
   pub cause : HasCause (counts_of old) (counts_of new) status
 

@@ -3,7 +3,8 @@
 ghost use Rattle.std.specs.Prelude.{◌≡◌, ◌≢◌, ◌+◌, ◌++◌, ◌⊎◌, ◌≤◌, ℕ, List, IfErr, IfOk, OnOk, length, map};
 ghost use Rattle.std.specs.Io.KnownBytes.{Appends};
 ghost use Rattle.accepted_proof.specs.Searching.{Limits};
-ghost use Rattle.accepted_proof.specs.Answers.{header_text};
+ghost use Rattle.proof_text.specs.declared.line.Format.TheVariants.{Two};
+ghost use Rattle.accepted_proof.specs.Answers.{header_of};
 ghost use Rattle.smt_session.specs.Sessions.{AreSettings, limits_of};
 ghost use Rattle.smt_run.specs.Words.{IsToSolve, IsToSolveWithin, IsToCheck, IsToRefute, IsToSearch, IsToConvert, AreTaken};
 ghost use Rattle.smt_check.specs.Runs.{AddsTo, ReadsBytes, ReadsWithin, IsLater, HasCause, counts, input_limit};
@@ -22,10 +23,10 @@ use crate::refuting::check_refutation;
 use crate::scripts::answer_script;
 use crate::searching::search_clauses;
 use crate::words::{Command, Unplanned};
-use accepted_proof::{answers_are_right, what_is_printed_is_right};
+use accepted_proof::{accepted_proofs_are_right, answers_are_right, what_is_printed_is_right};
 use cube_workers::Gate;
 use proof_checker::{accepted_proofs_pass, texts_are_judged_one_way, what_is_accepted_is_right};
-use proof_text::header::write_header;
+use proof_conversion::header::{Numbers, push_header};
 use smt_check::checking::check;
 use smt_check::status::Status;
 use smt_desk::stream::{Sink, Source, write_whole};
@@ -34,22 +35,27 @@ use smt_text::text::Text;
 use std::alloc::{AllocError, Global};
 use std::sync::Wait;
 use std::thread::Threads;
+use trimmed_proofs::trimmed_proofs_are_accepted;
 
 /// Writes the first line of a proof, which has the limits of its checks.
 fn open_proof<Q: Sink>(alloc: Global, settings: &Settings, proof: &mut Q) -> Result<(), Status>
     ensures ok { OnOk result
         (Appends (Q.written proof.old) (Q.written proof.new)
-        (header_text (limits_of settings.now))) }
+        (header_of Two (limits_of settings.now))) }
     ensures added { (bytes : List ℕ) × (rest : List ℕ)
         × Appends (Q.written proof.old) (Q.written proof.new) bytes
-        × (header_text (limits_of settings.now) ≡ bytes ++ rest) }
+        × (header_of Two (limits_of settings.now) ≡ bytes ++ rest) }
     ensures later { IsLater (counts 0 0 (Q.faults proof.old)) (counts 0 0 (Q.faults proof.new)) }
     ensures stopped { IfErr result StopsWriting }
     ensures cause { IfErr result
         (HasCause (counts 0 0 (Q.faults proof.old)) (counts 0 0 (Q.faults proof.new))) }
 {
     let mut text = Text::new(alloc);
-    write_header(settings.cubes, settings.budget, &mut text)?;
+    let numbers = Numbers {
+        cubes: settings.cubes as u64,
+        budget: settings.budget as u64,
+    };
+    push_header(numbers, &mut text)?;
     match write_whole(proof, text.as_slice()) {
         Ok(()) => Ok(()),
         Err(_) => Err(Status::WriteFault),
@@ -97,7 +103,7 @@ fn solve<R: Threads + Wait + Sync, S: Source, W: Sink, Q: Sink, G: Gate + Sync>(
     ensures answers { AddsTo (W.written answers.old) (W.written answers.new) }
     ensures proof { AddsTo (Q.written proof.old) (Q.written proof.new) }
     ensures header { result ≢ Status.WriteFault → result ≢ Status.NoMemory
-        → BeginsWith (header_text (limits_of settings)) (Q.written proof.old)
+        → BeginsWith (header_of Two (limits_of settings)) (Q.written proof.old)
         (Q.written proof.new) }
     ensures later { IsLater
         (counts (S.faults script.old) (W.faults answers.old) (Q.faults proof.old))
@@ -108,6 +114,8 @@ fn solve<R: Threads + Wait + Sync, S: Source, W: Sink, Q: Sink, G: Gate + Sync>(
 {
     answers_are_right();
     what_is_printed_is_right();
+    trimmed_proofs_are_accepted();
+    accepted_proofs_are_right();
     accepted_proofs_pass();
     match open_proof(alloc, &settings, proof) {
         Ok(()) => {}
@@ -169,7 +177,7 @@ fn check_proof<S: Source, P: Source, W: Sink>(
 }
 
 /// Does what the words ask for. `solve` answers the script on `answers`, each check by as many workers and within the limits that
-/// the words give, and writes its proof to `proof_out`, each check's lines and record before its answer. `check` reads the script and the proof
+/// the words give, and writes its proof to `proof_out`, in the second format, what each check's record needs before its answer. `check` reads the script and the proof
 /// `proof_in`, and tells on `answers` the verdict of each record as soon as it is accepted, and then what is judged of them.
 /// `lrat` reads clauses in place of a script and then the refutation `proof_in`, and tells what is judged of them. `cnf` reads
 /// clauses in place of a script and searches them, writes a refutation to `proof_out`, and tells what it found. `convert` reads

@@ -25,6 +25,7 @@ use Rattle.accepted_proof.proofs.Following.{same_symbols}
 use Rattle.opening_positions.specs.Reading.{ReadSteps, IsRead}
 use Rattle.opening_positions.proofs.Kept.{more_keep_read}
 use Rattle.session_terms.specs.Placed.{IsInOrder}
+use Rattle.proof_file.specs.Files.{KeptFile, IsFileOf}
 use Rattle.smt_session.specs.declared.workspace.Workspace.{Workspace}
 use Rattle.smt_session.specs.Parts.{IsKept}
 use Rattle.smt_session.specs.Tabled.{IsSortedRecord}
@@ -88,6 +89,18 @@ module _ (s mid last final : StateValue) (old new : Workspace) (a : Answer) (r :
 
   pub kept_settled : final ≡ (if asked then forgotten last n else last) → IsKept last new → IsKept final new
   kept_settled e h = kept_by (asks_values a) refl (e ∙ ap (λ b. if b then forgotten last n else last) told) h
+
+  filed_by : (f g : KeptFile) → IsFileOf s.terms.nodes old.log.entries f → (asks_values a ≡ true → g ≡ f) → (b : Bool) → asks_values a ≡ b → final ≡ (if b then forgotten last n else last) → IsFileOf last.terms.nodes new.log.entries g → IsFileOf final.terms.nodes new.log.entries g
+  filed_by f g file same true q e h =
+      subst (λ (x : StateValue). IsFileOf x.terms.nodes new.log.entries g) (sym (e ∙ forgotten_is s mid last final a r asked n kept.session.state does told count (λ k. (still k).0) q))
+      (subst (λ (l : LogValue). IsFileOf s.terms.nodes l.entries g) (sym (still q).1) (subst (IsFileOf s.terms.nodes old.log.entries) (sym (same q)) file))
+  filed_by f g file same false q e h = subst (λ (x : StateValue). IsFileOf x.terms.nodes new.log.entries g) (sym e) h
+
+-- the file stays one of the log
+pub filed_settled : (s mid last final : StateValue) (old new : Workspace) (f g : KeptFile) (a : Answer) (r : Reading) (asked : Bool) (n : ℕ) → IsKept s old → IsFileOf s.terms.nodes old.log.entries f → ◌≡◌ {A = Step} (step s r) (a, mid) → asked ≡ asks_values a → n ≡ length s.terms.nodes
+    → (asks_values a ≡ true → (last ≡ mid) × (new.log ≡ old.log) × (new.steps ≡ old.steps)) → (asks_values a ≡ true → g ≡ f) → final ≡ (if asked then forgotten last n else last) → IsFileOf last.terms.nodes new.log.entries g → IsFileOf final.terms.nodes new.log.entries g
+filed_settled s mid last final old new f g a r asked n kept file does told count still same e h =
+    filed_by s mid last final old new a r asked n kept does told count still f g file same (asks_values a) refl (e ∙ ap (λ b. if b then forgotten last n else last) told) h
 
 -- ---- the record of the last check
 

@@ -17,9 +17,8 @@ pub mod Reaching
 pub mod Adding
 pub mod Concluding
 pub mod Going
-pub mod Printing
 pub mod Ending
-pub mod LineByLine
+pub mod Filing
 pub mod Showing
 pub mod Responding
 pub mod Listing

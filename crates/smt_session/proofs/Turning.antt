@@ -16,7 +16,8 @@ use Rattle.proof_log.proofs.Standing.{stands_over, some_literal}
 use Rattle.proof_log.proofs.Staying.{state_from-append, steps_parts}
 use Rattle.cube_tree.specs.Closing.{Closes}
 use Rattle.accepted_proof.specs.Turns.{AreStepsOf, with_step, with_steps, IsAgainstOne, IsRefutation}
-use Rattle.smt_session.specs.Growing.{AreStepsFor, AreLined, Grows, AreGiven}
+use Rattle.proof_file.specs.Files.{AreLined}
+use Rattle.smt_session.specs.Growing.{AreStepsFor, Grows, AreGiven}
 use Rattle.smt_session.proofs.Staying.{selector_of, selector_stays, bit_stays}
 use Rattle.smt_session.proofs.Giving.{bit_of}
 

@@ -22,10 +22,6 @@ IsStepFor s e = IsOfScript s e × IsSome (entry_line e)
 abbrev pub AreStepsFor : StateValue → List Entry → Type 0
 AreStepsFor s = AllByRecursion (IsStepFor s)
 
--- each step has a line
-abbrev pub AreLined : List Entry → Type 0
-AreLined = AllByRecursion (λ e. IsSome (entry_line e))
-
 -- the step gives no term bits
 abbrev pub GivesNoBits : Entry → Type 0
 GivesNoBits e = (t : ℕ) → IsForTerm t e → ⊥

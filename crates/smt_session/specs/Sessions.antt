@@ -1,5 +1,5 @@
 -- What contracts see of a session.
-use Rattle.std.specs.Prelude.{◌≡◌, ℕ, ◌<◌, ◌≤◌, Bool, true, false, List, [], ◌++◌, length, All, Option, Some}
+use Rattle.std.specs.Prelude.{◌≡◌, ℕ, suc, ◌<◌, ◌≤◌, Bool, true, false, List, [], ◌++◌, length, All, Option, Some}
 use Rattle.std.specs.List.{flat_map, AllByRecursion}
 use Rattle.std.specs.Io.KnownBytes.{Appends}
 use Rattle.smt_text.specs.declared.chunk.Chunk.{Chunk}
@@ -12,10 +12,15 @@ use Rattle.script_state.specs.Steps.{ends, step}
 use Rattle.proof_log.specs.declared.entry.Entry.{Entry}
 use Rattle.proof_log.specs.Stored.{LogValue, Stands}
 use Rattle.proof_text.specs.declared.record.Record.{Record}
+use Rattle.proof_text.specs.declared.line.Line.{Line}
 use Rattle.proof_text.specs.Lines.{line_text, IsLine}
 use Rattle.accepted_proof.specs.Searching.{Limits, AreLimits}
-use Rattle.accepted_proof.specs.Turns.{Turn, IsTurn, IsShown, HasProof, with_steps, concluded_by, state_after, shown_lines, step_lines, turn_lines}
+use Rattle.accepted_proof.specs.Turns.{Item, Part, Turn, IsTurn, IsShown, HasProof, with_steps, concluded_by, state_after, item_lines, part_lines, shown_lines}
 use Rattle.accepted_proof.specs.Answers.{answer_text, is_error, is_refused, last_shown, turn_text}
+use Rattle.proof_file.specs.Equalities.{HasTakenFirst}
+use Rattle.proof_file.specs.Places.{FileValue}
+use Rattle.proof_file.specs.Held.{PlacesValue, file_in}
+use Rattle.proof_file.specs.Trimmed.{IsTrimmed, IsTrimmedTo}
 use Rattle.smt_session.specs.declared.response.Response.{Response}
 use Rattle.smt_session.specs.declared.response.Stop.{Stop}
 use Rattle.smt_session.specs.declared.response.Stop.TheVariants.{Failed, NoMemory}
@@ -33,10 +38,12 @@ pub record AreSettings (s : Settings) : Type 0 where
   pub some : 0 < s.workers
   pub few : s.workers ≤ 64
 
--- the state of the commands, the log of the checks, the record of the last check, and the limits of every check
+-- the state of the commands, the log of the checks, where its steps stand in the proof file, the record of the last check, and the
+-- limits of every check
 pub record SessionValue : Type 0 where
   pub state : StateValue
   pub log : LogValue
+  pub file : PlacesValue
   pub shown : Option Record
   pub limits : Limits
 
@@ -78,9 +85,19 @@ pub record IsChecked (limits : Limits) (s s' : StateValue) (old new : LogValue) 
   pub shown : IsShown limits s s'.terms.nodes new.entries r
   pub thorough : IsThorough limits s old.entries leads.added (Some r)
 
+-- What the file gets for these steps of a check and its record, which began with this log in this state: each of the lines can be
+-- read. Nothing is there for what is no check.
+pub record IsFiled (s : StateValue) (log steps : List Entry) (shown : Option Record) (old new : FileValue) (lines : List Line) : Type 0 where
+  pub items : List Item
+  pub placed : Option Record
+  pub trims : IsTrimmedTo s.terms.nodes s.scopes.live log steps shown old new items placed
+  pub taken : HasTakenFirst (suc (length log)) (log ++ steps) shown
+  pub lines_are : lines ≡ flat_map item_lines items ++ shown_lines placed
+  pub readable : AllByRecursion IsLine lines
+
 -- How what the state says of a command is answered within these limits, which begins on this line, where the last check
--- before has a record; and what the state, before terms are forgotten, the log and the record of the last check are then.
-pub record Responds (limits : Limits) (line : ℕ) (answer : Answer) (s s' : StateValue) (old new : LogValue) (last now : Option Record) (r : Response) (written written' : Option (List ℕ)) : Type 0 where
+-- before has a record; and what the state, before terms are forgotten, the log, the file and the record of the last check are then.
+pub record Responds (limits : Limits) (line : ℕ) (answer : Answer) (s s' : StateValue) (old new : LogValue) (file file' : FileValue) (last now : Option Record) (r : Response) (written written' : Option (List ℕ)) : Type 0 where
   pub steps : List Entry
   pub shown : Option Record
   pub proof : HasProof limits answer s old.entries steps shown
@@ -88,15 +105,16 @@ pub record Responds (limits : Limits) (line : ℕ) (answer : Answer) (s s' : Sta
   pub state : s' ≡ concluded_by (with_steps s steps) shown
   pub log : new.entries ≡ old.entries ++ steps
   pub kept : now ≡ last_shown last shown
-  pub lines : Appends written written' (flat_map line_text (step_lines steps ++ shown_lines shown))
-  pub readable : AllByRecursion IsLine (step_lines steps ++ shown_lines shown)
+  pub lines : List Line
+  pub filed : IsFiled s old.entries steps shown file file' lines
+  pub added : Appends written written' (flat_map line_text lines)
   pub text : r.text ≡ answer_text line answer s old.entries last shown
   pub error : r.error ≡ is_error answer
   pub ends : r.ends ≡ is_end answer
 
--- The command is applied, and what is answered and written is that of a turn which may follow within the limits, which stay,
--- so that each line that is written can be read. No step makes a term that no use of a rule needs, and a spent cube does not stop
--- the later ones.
+-- The command is applied, and what is answered is that of a turn which may follow within the limits, which stay; what is written is
+-- the part that the file gets for it, each line of which can be read. No step makes a term that no use of a rule needs, and a spent
+-- cube does not stop the later ones.
 pub record IsAnswered (chunk : Chunk) (old new : SessionValue) (r : Response) (written written' : Option (List ℕ)) : Type 0 where
   pub turn : Turn
   pub line : turn.line ≡ chunk.line
@@ -107,7 +125,10 @@ pub record IsAnswered (chunk : Chunk) (old new : SessionValue) (r : Response) (w
   pub log : new.log.entries ≡ old.log.entries ++ turn.steps
   pub shown : new.shown ≡ last_shown old.shown turn.shown
   pub limits : new.limits ≡ old.limits
-  pub lines : Appends written written' (flat_map line_text (turn_lines turn))
+  pub part : Part
+  pub trims : IsTrimmed old.state old.log.entries (file_in old.file) (file_in new.file) turn part
+  pub taken : HasTakenFirst (suc (length old.log.entries)) (old.log.entries ++ turn.steps) turn.shown
+  pub lines : Appends written written' (flat_map line_text (part_lines part))
   pub text : r.text ≡ turn_text old.state old.log.entries old.shown turn
   pub error : r.error ≡ is_refused turn
   pub ends : r.ends ≡ ends turn.says
@@ -122,21 +143,27 @@ pub record WritesFront (text : List ℕ) (written written' : Option (List ℕ)) 
   pub unfinished : 0 < length left
   pub added : Appends written written' front
 
--- a front of the lines of a check was written, whose steps and record may stand here
-pub record CutsCheck (limits : Limits) (answer : Answer) (s : StateValue) (log : List Entry) (written written' : Option (List ℕ)) : Type 0 where
+-- a front was written of what the file gets for a check, whose steps and record may stand here
+pub record CutsCheck (limits : Limits) (answer : Answer) (s : StateValue) (log : List Entry) (file : FileValue) (written written' : Option (List ℕ)) : Type 0 where
   pub steps : List Entry
   pub shown : Option Record
   pub proof : HasProof limits answer s log steps shown
-  pub readable : AllByRecursion IsLine (step_lines steps ++ shown_lines shown)
-  pub lines : WritesFront (flat_map line_text (step_lines steps ++ shown_lines shown)) written written'
+  pub file' : FileValue
+  pub lines : List Line
+  pub filed : IsFiled s log steps shown file file' lines
+  pub front : WritesFront (flat_map line_text lines) written written'
 
--- a front of the lines of a turn was written, which may follow within the limits
+-- a front was written of the part that the file gets for a turn, which may follow within the limits
 pub record CutsTurn (chunk : Chunk) (old : SessionValue) (written written' : Option (List ℕ)) : Type 0 where
   pub turn : Turn
   pub line : turn.line ≡ chunk.line
   pub reads : ReadsAs chunk turn.says
   pub stands : IsTurn old.limits old.state old.log.entries turn
-  pub lines : WritesFront (flat_map line_text (turn_lines turn)) written written'
+  pub file : FileValue
+  pub part : Part
+  pub trims : IsTrimmed old.state old.log.entries (file_in old.file) file turn part
+  pub taken : HasTakenFirst (suc (length old.log.entries)) (old.log.entries ++ turn.steps) turn.shown
+  pub lines : WritesFront (flat_map line_text (part_lines part)) written written'
 
 -- what a stop leaves in the proof: a front of the lines, where a write failed, and nothing where memory is wanting
 abbrev pub Leaves : Stop → Type 0 → Option (List ℕ) → Option (List ℕ) → Type 0

@@ -1,12 +1,10 @@
 // A check: its steps, its verdict, and its record.
 
-ghost use Rattle.std.specs.Prelude.{◌≡◌, ◌++◌, ◌-◌, ◌<◌, IfOk, OnOk, drop, length};
-ghost use Rattle.std.specs.List.{flat_map, AllByRecursion};
-ghost use Rattle.proof_text.specs.Lines.{line_text, IsLine};
-ghost use Rattle.proof_text.specs.Records.{AreWritten, HaveDigits, record_lines};
+ghost use Rattle.std.specs.Prelude.{◌≡◌, suc, [], IfOk, OnOk, Some, drop, length};
 ghost use Rattle.script_state.specs.States.{WatchesFit};
-ghost use Rattle.accepted_proof.specs.Turns.{verdict_of, step_lines};
-ghost use Rattle.smt_session.specs.Growing.{AreLined};
+ghost use Rattle.accepted_proof.specs.Turns.{verdict_of};
+ghost use Rattle.proof_file.specs.Equalities.{HasTakenFirst};
+ghost use Rattle.proof_file.specs.Files.{IsFileOf, IsWrittenPart, file_of};
 ghost use Rattle.smt_session.specs.Parts.{IsKept};
 ghost use Rattle.smt_session.specs.Sessions.{IsChecked, AreSettings, limits_of};
 
@@ -14,11 +12,10 @@ use crate::finding::conclude;
 use crate::preparing::{Prepared, prepare};
 use crate::settings::Settings;
 use crate::workspace::Workspace;
-use cnf_base::Pos;
 use cube_workers::Gate;
-use proof_log::Log;
-use proof_text::entry::write_entry;
-use proof_text::record::{Record, write_record};
+use proof_file::equalities::has_taken_first;
+use proof_file::{ProofFile, more_terms_keep_files};
+use proof_text::record::Record;
 use script_state::answer::Verdict;
 use script_state::state::State;
 use smt_text::text::Text;
@@ -67,71 +64,51 @@ fn check<R: Threads + Wait + Sync, G: Gate + Sync>(
     )
 }
 
-/// Appends the lines of the steps from a position on.
-fn write_steps(log: &Log, from: Pos, out: &mut Text) -> Result<(), AllocError>
-    requires lined { AreLined log.now.entries }
-    requires from { 0 < from }
-    ensures text { OnOk result
-        (out.new ≡ out.old ++ flat_map line_text (step_lines (drop (from - 1) log.now.entries))) }
-    ensures readable { OnOk result
-        (AllByRecursion IsLine (step_lines (drop (from - 1) log.now.entries))) }
-{
-    'steps: for at in from..log.len() {
-        match log.entry(at) {
-            Some(entry) => write_entry(entry, out)?,
-            None => unreachable!(),
-        }
-    }
-    Ok(())
-}
-
-/// The lines of the steps from a position on, and of a record.
-fn lines(alloc: Global, log: &Log, from: Pos, shown: &Record) -> Result<Text, AllocError>
-    requires lined { AreLined log.now.entries }
-    requires from { 0 < from }
-    requires written { AreWritten shown.now }
-    requires digits { HaveDigits shown.now }
-    ensures text { IfOk result
-        (λ t. t ≡ flat_map line_text (step_lines (drop (from - 1) log.now.entries))
-        ++ flat_map line_text (record_lines shown.now)) }
-    ensures readable { IfOk result
-        (λ _. AllByRecursion IsLine (step_lines (drop (from - 1) log.now.entries)
-        ++ record_lines shown.now)) }
-{
-    let mut out = Text::new(alloc);
-    write_steps(log, from, &mut out)?;
-    write_record(shown, &mut out)?;
-    Ok(out)
-}
-
-/// Checks the live assertions under the assumptions within the limits: the record of the check, and its lines. There is room for
-/// the terms that watch its arrays.
+/// Checks the live assertions under the assumptions within the limits: the record of the check, and what the proof file gets for it.
+/// There is room for the terms that watch its arrays.
 pub(crate) fn run_check<R: Threads + Wait + Sync, G: Gate + Sync>(
     rt: &R,
     alloc: Global,
     state: &mut State,
     workspace: &mut Workspace,
+    file: &mut ProofFile,
     settings: Settings,
     gate: &G,
 ) -> Result<(Record, Text), AllocError>
     requires kept { IsKept state.old workspace.old }
+    requires file { IsFileOf state.old.terms.nodes workspace.old.log.entries file.old }
     requires fits { WatchesFit state.old }
     requires settings { AreSettings settings }
     ensures kept { OnOk result (IsKept state.new workspace.new) }
+    ensures file { OnOk result
+        (IsFileOf state.new.terms.nodes workspace.new.log.entries file.new) }
     ensures checked { IfOk result
         (λ r. IsChecked (limits_of settings) state.old state.new workspace.old.log workspace.new.log
         r.0) }
-    ensures text { IfOk result
-        (λ r. r.1 ≡ flat_map line_text
-        (step_lines (drop (length workspace.old.log.entries) workspace.new.log.entries))
-        ++ flat_map line_text (record_lines r.0)) }
-    ensures readable { IfOk result
-        (λ r. AllByRecursion IsLine
-        (step_lines (drop (length workspace.old.log.entries) workspace.new.log.entries)
-        ++ record_lines r.0)) }
+    ensures part { IfOk result
+        (λ r. IsWrittenPart state.old.terms.nodes state.old.scopes.live workspace.old.log.entries
+        (drop (length workspace.old.log.entries) workspace.new.log.entries) r.0
+        (file_of file.old) (file_of file.new) [] r.1) }
+    ensures taken { IfOk result
+        (λ r. HasTakenFirst (suc (length workspace.old.log.entries)) workspace.new.log.entries
+        (Some r.0)) }
 {
+    more_terms_keep_files();
     let from = workspace.log.len();
     let shown = check(rt, alloc, state, workspace, settings, gate)?;
-    let text = lines(alloc, &workspace.log, from, &shown)?;
+    // No search writes another diary.
+    if !has_taken_first(&workspace.log, from, &shown) {
+        return Err(AllocError);
+    }
+    let mut text = Text::new(alloc);
+    file.write_part(
+        alloc,
+        state.terms(),
+        &workspace.log,
+        from,
+        state.live(),
+        &shown,
+        &mut text,
+    )?;
     Ok((shown, text))
 }

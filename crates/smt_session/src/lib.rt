@@ -1,8 +1,8 @@
-//! A session: the commands of a script in order, each with its response, and the proof lines of each check.
+//! A session: the commands of a script in order, each with its response, and what the proof file gets for each check.
 //!
 //! A check makes the terms that watch its arrays, simplifies what these, its live assertions and its assumptions reach by the
-//! rules of rewriting, and encodes what that needs; one worker or several search its cubes by bits alone, and the lines of its
-//! steps and its record are written to the proof before it is answered. Where each cube is closed, the clauses that close them are
+//! rules of rewriting, and encodes what that needs; one worker or several search its cubes by bits alone, and what the proof file
+//! needs for its record is written before it is answered. Where each cube is closed, the clauses that close them are
 //! joined to a refutation; where the budget was spent on one and no other gave a model, the answer is `unknown`, with the diary of
 //! the lowest such cube as record. Values of the bits are a model where no function and no array is reached; else the search that
 //! found them goes on with lemmas. The searches of the workers are kept from check to check, and go over to what the next one
@@ -11,7 +11,7 @@
 //! The terms whose values are asked for are forgotten once they are printed. The contract of [`session::Session::command`]
 //! says what each command leaves and answers, which bytes the proof got, and whether the run ends. The crate stands on
 //! `script_state` for what a command does, on `reached_images` for what terms become, on `proof_log` for the steps, on
-//! `proof_text` for their lines, on `check_cubes`, `cube_tree`, `cube_workers` and `theory_cubes` for the verdict, on
+//! `proof_file` for what of them is written, on `check_cubes`, `cube_tree`, `cube_workers` and `theory_cubes` for the verdict, on
 //! `word_models` and `written_models` for models, and on `smt_eval` for values.
 #![tactic(auto)]
 

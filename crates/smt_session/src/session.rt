@@ -7,6 +7,9 @@ ghost use Rattle.proof_text.specs.declared.record.Record.{Record as RecordValue}
 ghost use Rattle.script_state.specs.States.{start_of, IsState, WatchesFit};
 ghost use Rattle.script_state.specs.Steps.{forgotten};
 ghost use Rattle.accepted_proof.specs.Searching.{Limits};
+ghost use Rattle.proof_file.specs.Files.{IsFileOf, file_of};
+ghost use Rattle.proof_file.specs.Places.{FileValue, no_file};
+ghost use Rattle.proof_file.specs.Held.{file_in};
 ghost use Rattle.smt_session.specs.Sessions.{AreHeld, IsAnswered, IsSession, AreSettings, Responds, asks_values, limits_of};
 ghost use Rattle.smt_session.specs.Sessions.{CutsCheck, CutsTurn, Leaves, WritesFront};
 ghost use Rattle.smt_session.specs.Parts.{AreParts, IsKept, seen_of};
@@ -22,6 +25,7 @@ use crate::values::values_text;
 use crate::workspace::Workspace;
 use cube_workers::Gate;
 use opening_positions::TheorySteps;
+use proof_file::{ProofFile, more_terms_keep_files};
 use proof_log::Log;
 use reached_images::Plan;
 use script_state::answer::Answer;
@@ -35,11 +39,13 @@ use std::sync::Wait;
 use std::thread::Threads;
 use term_reach::Reached;
 
-/// The state of a script's commands, the log of its checks, the record of the last one, and how each is searched.
+/// The state of a script's commands, the log of its checks, what of it stands in the proof file, the record of the last check, and how
+/// each is searched.
 #[derive(Drop)]
 struct Parts {
     state: State,
     workspace: Workspace,
+    file: ProofFile,
     last: Last,
     settings: Settings,
 }
@@ -61,7 +67,7 @@ impl Model for Session {
     ghost invariant = { λ s. AreParts s.parts.value };
 }
 
-/// Writes the lines of a check. The error is that the proof could not be written; then a front of them stands there.
+/// Writes what the proof file gets for a check. The error is that the proof could not be written; then a front of them stands there.
 fn write_lines<Q: Sink>(text: &Text, proof: &mut Q) -> Result<(), Stop>
     ensures ok { OnOk result (Appends (Q.written proof.old) (Q.written proof.new) text.now) }
     ensures cut { IfErr result (λ stop. (stop ≡ Stop.Failed)
@@ -75,33 +81,38 @@ fn write_lines<Q: Sink>(text: &Text, proof: &mut Q) -> Result<(), Stop>
     }
 }
 
-/// Checks the live assertions under the assumptions, and answers once the lines of the check are written.
+/// Checks the live assertions under the assumptions, and answers once what the proof file gets is written.
 fn answer_check<R: Threads + Wait + Sync, Q: Sink, G: Gate + Sync>(
     rt: &R,
     alloc: Global,
     line: u64,
     state: &mut State,
     workspace: &mut Workspace,
+    file: &mut ProofFile,
     last: &mut Last,
     settings: Settings,
     proof: &mut Q,
     gate: &G,
 ) -> Result<Response, Stop>
     requires kept { IsKept state.old workspace.old }
+    requires file { IsFileOf state.old.terms.nodes workspace.old.log.entries file.old }
     requires fits { WatchesFit state.old }
     requires settings { AreSettings settings }
     ensures kept { OnOk result (IsKept state.new workspace.new) }
+    ensures file { OnOk result
+        (IsFileOf state.new.terms.nodes workspace.new.log.entries file.new) }
     ensures sorted { OnOk result (IsSortedRecord state.new.symbols.signatures last.new) }
     ensures response { IfOk result (λ r. Responds (limits_of settings) line Answer.Check
-        state.old state.new workspace.old.log workspace.new.log last.old last.new r
-        (Q.written proof.old) (Q.written proof.new)) }
+        state.old state.new workspace.old.log workspace.new.log
+        (file_of file.old) (file_of file.new) last.old last.new r (Q.written proof.old) (Q.written proof.new)) }
     ensures cut { IfErr result (λ stop. Leaves stop
         (CutsCheck (limits_of settings) Answer.Check state.old workspace.old.log.entries
-        (Q.written proof.old) (Q.written proof.new)) (Q.written proof.old) (Q.written proof.new)) }
+        (file_of file.old) (Q.written proof.old) (Q.written proof.new))
+        (Q.written proof.old) (Q.written proof.new)) }
     ensures failed { result ≡ Err Stop.Failed → Rose (Q.faults proof.old) (Q.faults proof.new) }
     ensures later { Q.faults proof.old ≤ Q.faults proof.new }
 {
-    let (shown, text) = run_check(rt, alloc, state, workspace, settings, gate)?;
+    let (shown, text) = run_check(rt, alloc, state, workspace, file, settings, gate)?;
     let verdict = verdict_of(&shown);
     let response = Response::verdict(alloc, verdict)?;
     last.put(shown);
@@ -148,9 +159,10 @@ fn response_without_check(
     requires held { AreHeld state.now answer }
     requires sorted { IsSortedRecord state.now.symbols.signatures last.old }
     requires unchecked { answer ≢ Answer.Check }
-    ensures response { IfOk result (λ r. (limits : Limits) (written : Option (List ℕ))
-        → Responds limits line answer state.now state.now log.now log.now last.old last.old r
-        written written) }
+    ensures response { IfOk result
+        (λ r. (limits : Limits) (file : FileValue) (written : Option (List ℕ))
+        → Responds limits line answer state.now state.now log.now log.now file file
+        last.old last.old r written written) }
     ensures same { last.new ≡ last.old }
 {
     let text = match answer {
@@ -175,34 +187,40 @@ fn respond<R: Threads + Wait + Sync, Q: Sink, G: Gate + Sync>(
     answer: Answer,
     state: &mut State,
     workspace: &mut Workspace,
+    file: &mut ProofFile,
     last: &mut Last,
     settings: Settings,
     proof: &mut Q,
     gate: &G,
 ) -> Result<Response, Stop>
     requires kept { IsKept state.old workspace.old }
+    requires file { IsFileOf state.old.terms.nodes workspace.old.log.entries file.old }
     requires held { AreHeld state.old answer }
     requires fits { answer ≡ Answer.Check → WatchesFit state.old }
     requires sorted { IsSortedRecord state.old.symbols.signatures last.old }
     requires settings { AreSettings settings }
     ensures kept { OnOk result (IsKept state.new workspace.new) }
+    ensures file { OnOk result
+        (IsFileOf state.new.terms.nodes workspace.new.log.entries file.new) }
     ensures sorted { OnOk result (IsSortedRecord state.new.symbols.signatures last.new) }
     ensures still { asks_values answer ≡ true
         → OnOk result ((state.new ≡ state.old) × (workspace.new.log ≡ workspace.old.log)
         × (workspace.new.steps ≡ workspace.old.steps)) }
+    ensures filed { asks_values answer ≡ true → OnOk result (file.new ≡ file.old) }
     ensures response { IfOk result (λ r. Responds (limits_of settings) line answer
-        state.old state.new workspace.old.log workspace.new.log last.old last.new r
-        (Q.written proof.old) (Q.written proof.new)) }
+        state.old state.new workspace.old.log workspace.new.log
+        (file_of file.old) (file_of file.new) last.old last.new r (Q.written proof.old) (Q.written proof.new)) }
     ensures cut { IfErr result (λ stop. Leaves stop
         (CutsCheck (limits_of settings) answer state.old workspace.old.log.entries
-        (Q.written proof.old) (Q.written proof.new)) (Q.written proof.old) (Q.written proof.new)) }
+        (file_of file.old) (Q.written proof.old) (Q.written proof.new))
+        (Q.written proof.old) (Q.written proof.new)) }
     ensures failed { result ≡ Err Stop.Failed → Rose (Q.faults proof.old) (Q.faults proof.new) }
     ensures later { Q.faults proof.old ≤ Q.faults proof.new }
 {
     if is_check(&answer) {
         drop(answer);
         return answer_check(
-            rt, alloc, line, state, workspace, last, settings, proof, gate,
+            rt, alloc, line, state, workspace, file, last, settings, proof, gate,
         );
     }
     let response = response_without_check(
@@ -238,6 +256,7 @@ impl Parts {
         ensures failed { result ≡ Err Stop.Failed → Rose (Q.faults proof.old) (Q.faults proof.new) }
         ensures later { Q.faults proof.old ≤ Q.faults proof.new }
     {
+        more_terms_keep_files();
         if self.state.assertions_made() == u32::MAX {
             return Err(Stop::NoMemory);
         }
@@ -253,6 +272,7 @@ impl Parts {
             answer,
             &mut self.state,
             &mut self.workspace,
+            &mut self.file,
             &mut self.last,
             self.settings,
             proof,
@@ -269,11 +289,12 @@ impl Session {
     pub fn new(alloc: Global, settings: Settings) -> Result<Session, AllocError>
         requires { AreSettings settings }
         ensures fresh { IfOk result (λ s. (s.state ≡ start_of true) × (s.log.entries ≡ [])
-            × (s.shown ≡ None)) }
+            × (s.shown ≡ None) × (file_in s.file ≡ no_file)) }
         ensures limits { IfOk result (λ s. s.limits ≡ limits_of settings) }
     {
         let log = Log::new(alloc)?;
         let steps = TheorySteps::new(alloc)?;
+        let file = ProofFile::new(alloc);
         let parts = Parts {
             state: State::with_theories(alloc),
             workspace: Workspace {
@@ -283,6 +304,7 @@ impl Session {
                 reached: Reached::new(alloc),
                 plan: Plan::new(alloc),
             },
+            file,
             last: Last::new(),
             settings,
         };

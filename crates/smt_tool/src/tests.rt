@@ -15,11 +15,11 @@ const FIRST: &[u8] =
 // Terms: x, y, x + y, #x0f, the first equality, #xf0, the conjunction, the negation, the second equality, #x1f, the third. The
 // negation is that of a literal, so it becomes #xf0, term 5, and the second equality becomes that of the conjunction with it, term 11.
 const FIRST_CHECK: &[u8] =
-    b"smt_proof 1 cubes 0 budget 100000\nf 0\nf 1\ne 2\ne 3\ne 4\ne 5\ne 6\nr 39 7 5\nt = 6 5\ne 11\nr 40 8 11\ne 9\ne 10\ns 0\ns 1\ns 2\nsat 2\nv 0 #b11110000\nv 1 #b00011111\n";
+    b"smt_proof 2 cubes 0 budget 100000\nf 0\nf 1\ne 2\ne 3\ne 4\ne 5\ne 6\nr 39 7 5\nt = 6 5\ne 11\nr 40 8 11\ne 9\ne 10\ns 0\ns 1\ns 2\nsat 2\nv 0 #b11110000\nv 1 #b00011111\n";
 
 // Behind it the lines of the second check begin: the last equality, and its assertion.
 const SECOND_CHECK: &[u8] =
-    b"smt_proof 1 cubes 0 budget 100000\nf 0\nf 1\ne 2\ne 3\ne 4\ne 5\ne 6\nr 39 7 5\nt = 6 5\ne 11\nr 40 8 11\ne 9\ne 10\ns 0\ns 1\ns 2\nsat 2\nv 0 #b11110000\nv 1 #b00011111\ne 12\ns 3\n";
+    b"smt_proof 2 cubes 0 budget 100000\nf 0\nf 1\ne 2\ne 3\ne 4\ne 5\ne 6\nr 39 7 5\nt = 6 5\ne 11\nr 40 8 11\ne 9\ne 10\ns 0\ns 1\ns 2\nsat 2\nv 0 #b11110000\nv 1 #b00011111\ne 12\ns 3\n";
 
 /// Which calls fail: of the script, of the answers, of the proof.
 type Failing<'a> = [&'a [u64]; 3];
@@ -97,7 +97,7 @@ const RUNS: [Run; 6] = [
         failing: [&[], &[], &[]],
         status: Status::Refused,
         answers: b"(error \"line 2: not supported\")\nsat\n",
-        proof: Written::Whole(b"smt_proof 1 cubes 0 budget 100000\nsat 0\n"),
+        proof: Written::Whole(b"smt_proof 2 cubes 0 budget 100000\nsat 0\n"),
     },
     Run {
         what: "an empty script",
@@ -106,7 +106,7 @@ const RUNS: [Run; 6] = [
         failing: [&[], &[], &[]],
         status: Status::Done,
         answers: b"",
-        proof: Written::Whole(b"smt_proof 1 cubes 0 budget 100000\n"),
+        proof: Written::Whole(b"smt_proof 2 cubes 0 budget 100000\n"),
     },
     Run {
         what: "a read that fails leaves what was answered",
@@ -115,7 +115,7 @@ const RUNS: [Run; 6] = [
         failing: [&[1], &[], &[]],
         status: Status::ReadFault,
         answers: b"sat\n",
-        proof: Written::Whole(b"smt_proof 1 cubes 0 budget 100000\nsat 0\n"),
+        proof: Written::Whole(b"smt_proof 2 cubes 0 budget 100000\nsat 0\n"),
     },
     Run {
         what: "a proof that fails at once",

@@ -18,4 +18,4 @@ returns-in_ok-answer-in-Some-clause-turns g c =
     subst
     (λ o. AddsLast (moment_of c.args.so_far.session) c.args.so_far.refused (streams (g.W.Sink.written c.args.answers.now) (g.Q.Sink.written c.args.proof.now)) (streams (g.W.Sink.written c.answer.new.answers) (g.Q.Sink.written c.answer.new.proof)) (option_to_list o) c.end.result)
     (sym c.in-Some.is ∙ c.in-Ok.ensures.ok)
-    (record { turns = turn.turns; adds = turn.adds; refused_is = c.end.ensures ∙ turn.refused_is })
+    (record { done = turn.done; adds = turn.adds; refused_is = c.end.ensures ∙ turn.refused_is })

@@ -1,6 +1,7 @@
 use Rattle.std.proofs.Common.{◌≡◌, [], refl, inl, inr, arith}
 use Rattle.std.proofs.KnownBytes.{Appends-nil}
-use Rattle.accepted_proof.specs.Answers.{header_text}
+use Rattle.proof_text.specs.declared.line.Format.TheVariants.{Two}
+use Rattle.accepted_proof.specs.Answers.{header_of}
 use Rattle.smt_session.specs.Sessions.{limits_of}
 use Rattle.smt_check.proofs.Parts.{adds_none, later_same}
 use Rattle.smt_check.proofs.Reported.{told_nothing}
@@ -316,7 +317,7 @@ pub returns-in-Err-NoMemory-clause-solves : goal.returns-in-Err-NoMemory-clause-
 returns-in-Err-NoMemory-clause-solves g c = λ limits _. (
   refl,
   record {
-    beside = told_silent _ _ _ _ [] _ (Appends-nil (g.Q.Sink.written c.args.proof_out.now)) (unbegun_beside limits [] (header_text limits) refl);
+    beside = told_silent _ _ _ _ [] _ (Appends-nil (g.Q.Sink.written c.args.proof_out.now)) (unbegun_beside limits [] (header_of Two limits) refl);
     whole = λ e. memory_end _ e;
     prefix = told_silent _ _ _ _ [] _ (Appends-nil (g.Q.Sink.written c.args.proof_out.now)) (λ text. unbegun_prefix limits text []);
     answered = λ k. absurd (memory_reads k);

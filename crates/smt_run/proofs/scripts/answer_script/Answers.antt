@@ -31,7 +31,7 @@ pieces-init g c =
       chunks = [];
       begins = framed.0;
       ends = λ going. framed.1;
-      advances = Advances-none _ _ _ _ (λ i. record { state = fresh.0 i; log = fresh.1 i; shown = fresh.2 i; limits = c.in_ok-session.ensures.limits i }) refl refl;
+      advances = Advances-none _ _ _ _ (λ i. record { state = fresh.0 i; log = fresh.1 i; file = fresh.3 i; shown = fresh.2 i; limits = c.in_ok-session.ensures.limits i }) refl refl;
     }
 
 pub returns-in_err-session-clause-turns : goal.returns-in_err-session-clause-turns

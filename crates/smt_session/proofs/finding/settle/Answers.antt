@@ -1,13 +1,13 @@
-use Rattle.std.proofs.Common.{Option, sym, ap, ◌∙◌, subst}
+use Rattle.std.proofs.Common.{ℕ, Option, sym, ap, ◌∙◌, subst}
 use Rattle.std.specs.Prelude.{IfSome}
 use Rattle.cube_search.specs.Ends.{IsModel}
 use Rattle.cube_search.specs.Running.{valuation_of}
 use Rattle.cube_workers.specs.declared.kept.KeptSearch.{KeptSearch}
 use Rattle.proof_log.specs.Logs.{state_of}
 use Rattle.smt_terms.specs.Terms.{TermsValue}
-use Rattle.smt_values.specs.Held.{interpretation_of}
-use Rattle.smt_values.specs.declared.interp.Interp.{Interp}
-use Rattle.word_models.specs.Models.{HaveTheirBits}
+use Rattle.smt_values.specs.declared.value.Value.{Value}
+use Rattle.std.specs.BTreeMap.{BTreeMap}
+use Rattle.word_models.specs.Models.{interpretation_of, HaveTheirBits}
 use Rattle.smt_session.proofs.Modeling.{is_word_model, true_there}
 use Rattle.smt_session.proofs.Resting.{values_there}
 use Rattle.smt_session.proofs.finding.settle.Goals as goal
@@ -29,6 +29,6 @@ written_model-requires c =
     let m = interpretation_of c.in-Some.model in
     let same = values_there xs c.args.by c.index.result.now c.requires.by ∙ ap (λ (k : KeptSearch). valuation_of k.search) (sym c.index.ensures) in
     let model : IsModel (state_of s.terms.nodes log.entries).clauses positions given v = subst (IsModel (state_of s.terms.nodes log.entries).clauses positions given) same c.requires.model in
-    let read = subst (λ (o : Option Interp). IfSome o (λ i. HaveTheirBits (interpretation_of i) c.terms.result.now.nodes log v positions)) c.in-Some.is c.in_ok-model.ensures.values in
+    let read = subst (λ (o : Option (BTreeMap ℕ Value)). IfSome o (λ i. HaveTheirBits (interpretation_of i) c.terms.result.now.nodes log v positions)) c.in-Some.is c.in_ok-model.ensures.values in
     let bits : HaveTheirBits m s.terms.nodes log v positions = subst (λ (t : TermsValue). HaveTheirBits m t.nodes log v positions) c.terms.ensures.terms read in
     is_word_model c.requires.ready.0 s log positions given m v c.requires.kept.session c.requires.ready.1 c.requires.given model bits

@@ -11,6 +11,7 @@ invariant_of-result c = record {
     read = search (rules, c.in_ok-steps.ensures c.in_ok-parts.parts.value.state.terms.nodes c.in_ok-log.log.entries);
     resting = search (rules, none_rest c.in_ok-log.log [] refl);
   };
+  file = search (rules, c.new-file.ensures.file c.in_ok-parts.parts.value.state.terms.nodes);
   settings = search rules;
   sorted = search rules;
 }
