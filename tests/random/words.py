@@ -22,6 +22,7 @@ HERE = pathlib.Path(__file__).resolve().parent
 PROGRAM = HERE.parents[1] / "crates/smt_tool/out/smt_tool"
 sys.path.insert(0, str(HERE.parent / "rows"))
 import reference
+import trimmed
 
 
 def signed(n, x):
@@ -216,8 +217,9 @@ def models_of(proof):
 
 
 def accepted(script, proof, verdicts):
-    """Whether the replayer accepts the proof file, with these verdicts; it says why where it does not."""
+    """Whether the replayer accepts the proof file, with these verdicts, and its records need all of it; it says why where it does not."""
     try:
+        trimmed.judge(script, proof.read_text())
         return reference.check(script, proof.read_text()) == verdicts
     except reference.Refused as why:
         print(why)

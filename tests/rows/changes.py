@@ -31,7 +31,8 @@ CHANGES = [
     # the second format, and what is deleted
     (1, 1, "smt_proof 2 cubes 0 budget 0", "accepted"),
     (1, 1, "smt_proof 3 cubes 0 budget 0", "header"),
-    (15, 0, "d 13", "no deletion"),
+    (1, 16, FORMAT_2.replace("smt_proof 2", "smt_proof 1") + "|c 2 -8 -9 0 9.0 10.0 3.2 5.2|d 13", "no deletion"),
+    (15, 0, "d 13", "a deleted entry"),
     (1, 16, FORMAT_2 + "|c 2 -8 -9 0 9.0 10.0 3.2 5.2|d 13|unknown 0 13 1|+ 13", "a deleted entry"),
     (1, 16, FORMAT_2 + "|c 2 -8 -9 0 9.0 10.0 3.2 5.2|d 13|c 2 -8 -9 0 9.0 10.0 3.2 5.2|unknown 0 13 1|+ 14", "accepted"),
     (1, 16, FORMAT_2 + "|c 2 -8 -9 0 9.0 10.0 3.2 5.2|d 13|unknown 0 13 2|= 13|+ 13", "a deleted entry"),

@@ -1,6 +1,6 @@
 #!/usr/bin/env python3
-"""Solves every script of the examples and of the rows, converts each proof of the first format to the second, and looks at what
-was written.
+"""Solves every script of the examples and of the rows, takes the deletions out of each proof, so that it is of the first format, converts it
+to the second, and looks at what was written.
 
 usage: converted.py [PROGRAM]    (default: the program that `rt run` leaves in crates/smt_tool/out)
 
@@ -81,12 +81,19 @@ def fault(program, script, proof, out):
     return None
 
 
+def first_format(proof):
+    """The proof without its deletions. Its steps stand at their places, so each line says what it said."""
+    header, *lines = proof.split(b"\n")
+    return b"\n".join([header.replace(b"smt_proof 2 ", b"smt_proof 1 "), *(line for line in lines if not line.startswith(b"d "))])
+
+
 def proofs(program, folder):
     """A name, a script, and a file with a proof of the first format."""
     proof = folder / "proof"
     for name, script, limits in checked.scripts():
         subprocess.run([program, "solve", proof, *limits], input=script, capture_output=True, timeout=120)
-        if proof.read_bytes().startswith(b"smt_proof 1 "):
+        if proof.read_bytes().startswith(b"smt_proof "):
+            proof.write_bytes(first_format(proof.read_bytes()))
             yield name, script, proof
     for path in sorted(run.HERE.glob("*.row")):
         row = run.sections(path)
