@@ -36,16 +36,16 @@ def fault(program, script, proof, limits):
     return None
 
 
-def judged(program):
-    """Gives each script's name, and what was found wrong with it."""
-    for name, script, limits in scripts():
-        with tempfile.TemporaryDirectory() as folder:
-            yield name, fault(program, script, pathlib.Path(folder) / "proof", limits)
+def tell(fault, chosen):
+    """Tells what is wrong with each of these scripts, where the program of the command line solves it."""
+    program = sys.argv[1] if len(sys.argv) > 1 else run.PROGRAM
+    with tempfile.TemporaryDirectory() as folder:
+        proof = pathlib.Path(folder) / "proof"
+        return run.tell("scripts", ((name, fault(program, script, proof, limits)) for name, script, limits in chosen))
 
 
 def main():
-    program = sys.argv[1] if len(sys.argv) > 1 else run.PROGRAM
-    return run.tell("scripts", judged(program))
+    return tell(fault, scripts())
 
 
 if __name__ == "__main__":

@@ -7,10 +7,8 @@ A part of a proof of the second format begins with one deletion of the chains th
 there are none; then come the steps that make terms and variables, then lemmas and chains, each of which the record of the part needs, and
 then the record. What a record needs is said here apart from the program; the lines themselves are replayed by reference.py.
 """
-import pathlib
 import subprocess
 import sys
-import tempfile
 
 import checked
 import reference
@@ -78,18 +76,10 @@ def fault(program, script, proof, limits):
     return None
 
 
-def judged(program):
+def main():
     replayed = {path.stem for path in run.HERE.glob("*.row") if "no replay" not in run.sections(path)}
     examples = {path.stem for path in (run.HERE.parents[1] / "examples").glob("*.smt2")}
-    for name, script, limits in checked.scripts():
-        if name in replayed | examples:
-            with tempfile.TemporaryDirectory() as folder:
-                yield name, fault(program, script, pathlib.Path(folder) / "proof", limits)
-
-
-def main():
-    program = sys.argv[1] if len(sys.argv) > 1 else run.PROGRAM
-    return run.tell("scripts", judged(program))
+    return checked.tell(fault, (one for one in checked.scripts() if one[0] in replayed | examples))
 
 
 if __name__ == "__main__":
