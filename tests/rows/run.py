@@ -5,7 +5,7 @@ usage: run.py [PROGRAM]    (default: the program that `rt run` leaves in crates/
 
 A row is a file NAME.row with the sections `== words`, `== script`, `== answers`, `== status` and, where the proof file
 is fixed to the byte, `== proof`, or `== puts`, how many lines of it put a clause in a diary, or `== later lemmas`, how many
-lines behind its first record are lemmas on functions and arrays. The word PROOF stands for a new file, which has the text of
+lines behind its first record are lemmas on functions and arrays, or `== later chains`, how many of them are chains. The word PROOF stands for a new file, which has the text of
 `== given` where the row has that section, the word SCRIPT for a file that has the script, which standard input has not then, and the word OUT for a file
 that is not there before: it has the text of `== out` afterwards, and without that section it was not made. A section's text ends
 before the next line that begins with `==`; a last line `\\` takes away the line feed before it. Whatever a `solve` wrote
@@ -51,17 +51,19 @@ def faults(program, row, folder):
         yield "out: %r" % made
     if "puts" in row and (written or "").count("\n+ ") != int(row["puts"]):
         yield "proof: %r" % written
-    if "later lemmas" in row and later_lemmas(written or "") != int(row["later lemmas"]):
-        yield "proof: %r" % written
+    for kind, letter in (("later lemmas", "l"), ("later chains", "c")):
+        if kind in row and later(written or "", letter) != int(row[kind]):
+            yield "proof: %r" % written
     if words[:1] == ["solve"] and int(row["status"]) in (0, 1) and "no replay" not in row:
         yield from replayed(script, proof, row, folder)
 
 
-def later_lemmas(proof):
-    """How many lemmas stand behind the first record."""
+def later(proof, letter):
+    """How many lines of this letter stand behind the first record; -1 where there is no record."""
     lines = iter(proof.split("\n"))
-    any(line.startswith(("sat ", "unsat ", "unknown ")) for line in lines)
-    return sum(line.startswith("l ") for line in lines)
+    if not any(line.startswith(("sat ", "unsat ", "unknown ")) for line in lines):
+        return -1
+    return sum(line.startswith(letter + " ") for line in lines)
 
 
 def replayed(script, proof, row, folder):
