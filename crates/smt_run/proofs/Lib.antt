@@ -3,9 +3,7 @@ pub mod Turning
 pub mod OneTurn
 pub mod Telling
 pub mod Ends
-pub mod OneValue
-pub mod Faultless
-pub mod WordsTaken
+pub mod Asked
 pub mod Cutting
 pub mod Refuted
 pub mod Searched

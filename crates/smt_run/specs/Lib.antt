@@ -1,4 +1,4 @@
-pub mod Words
+pub mod Asking
 pub mod Solving
 pub mod Adding
 pub mod Beside

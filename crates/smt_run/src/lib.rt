@@ -1,6 +1,6 @@
-//! What the program does: the words that it takes, and what it does for them over any source and any sinks.
+//! What the program does for the words that it takes, over any source and any sinks.
 //!
-//! [`command_line::plan`] reads the words by `clap`, and [`running::run`] does what they ask for. The contract of `run` says
+//! [`running::run`] does what the words ask for. The contract of `run` says
 //! that whatever was answered stands beside an accepted proof and is right: each `sat` has a written model, where there is an
 //! `unsat` there is none, an `unknown` has the diary of a cube on which the budget of the words was spent, and models,
 //! values, cores and assumptions that are printed are those of the check that stands. Of a check it says that what is told
@@ -8,16 +8,14 @@
 //! leaves no assignment that makes them all true. Of a search of clauses it says that values which are told make each of them
 //! true, and that where none do an accepted refutation was written. Of a conversion it says that what is written has the lines of the
 //! proof that was read, in the second format, or that the first bad line is told. It says when each status comes, how much of each input is read, and that a
-//! fault is told only where a count rose. The crate stands on `smt_session` for the answers and their proof, on `smt_check`
+//! fault is told only where a count rose. The crate stands on `tool_words` for the words, on `smt_session` for the answers and their proof, on `smt_check`
 //! for the check of a proof, on `dimacs_run` for that of a refutation and for the search of clauses, on `proof_conversion` for the conversion of a proof, on `proof_checker` and `accepted_proof` for the laws
 //! that join them, and on `smt_text` and `smt_desk`.
 #![tactic(auto)]
 
 mod answering;
-pub mod command_line;
 mod converting;
 mod refuting;
 pub mod running;
 mod scripts;
 mod searching;
-pub mod words;

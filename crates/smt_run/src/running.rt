@@ -6,7 +6,8 @@ ghost use Rattle.accepted_proof.specs.Searching.{Limits};
 ghost use Rattle.proof_text.specs.declared.line.Format.TheVariants.{Two};
 ghost use Rattle.accepted_proof.specs.Answers.{header_of};
 ghost use Rattle.smt_session.specs.Sessions.{AreSettings, limits_of};
-ghost use Rattle.smt_run.specs.Words.{IsToSolve, IsToSolveWithin, IsToCheck, IsToRefute, IsToSearch, IsToConvert, AreTaken};
+ghost use Rattle.tool_words.specs.Words.{IsToSolve, IsToCheck, IsToRefute, IsToSearch, IsToConvert, AreTaken};
+ghost use Rattle.smt_run.specs.Asking.{settings_of, IsToSolveWithin};
 ghost use Rattle.smt_check.specs.Runs.{AddsTo, ReadsBytes, ReadsWithin, IsLater, HasCause, counts, input_limit};
 ghost use Rattle.smt_run.specs.Solving.{BeginsWith, StopsWriting, FailsToRead};
 ghost use Rattle.smt_run.specs.Beside.{Told, IsBeside, IsAllAnswered, IsPrefix, IsAnsweredToRead, IsReadOut};
@@ -17,12 +18,10 @@ ghost use Rattle.smt_run.specs.Converting.{Converts};
 ghost use Rattle.smt_check.specs.Checks.{ReadsForStatus, HasCheckCause, ToldOf, IsEndOfCheck, IsFrontOfCheck, IsRightlyAccepted};
 
 use crate::answering::end_status;
-use crate::command_line::plan;
 use crate::converting::convert_proof;
 use crate::refuting::check_refutation;
 use crate::scripts::answer_script;
 use crate::searching::search_clauses;
-use crate::words::{Command, Unplanned};
 use accepted_proof::{accepted_proofs_are_right, answers_are_right, what_is_printed_is_right};
 use cube_workers::Gate;
 use proof_checker::{accepted_proofs_pass, texts_are_judged_one_way, what_is_accepted_is_right};
@@ -35,7 +34,20 @@ use smt_text::text::Text;
 use std::alloc::{AllocError, Global};
 use std::sync::Wait;
 use std::thread::Threads;
+use tool_words::command_line::plan;
+use tool_words::words::{Command, Options, Unplanned};
 use trimmed_proofs::trimmed_proofs_are_accepted;
+
+/// How a session searches where the words ask for this.
+fn settings_of(options: Options) -> Settings
+    ensures { result ≡ settings_of options }
+{
+    Settings {
+        workers: options.workers,
+        cubes: options.cubes,
+        budget: options.budget,
+    }
+}
 
 /// Writes the first line of a proof, which has the limits of its checks.
 fn open_proof<Q: Sink>(alloc: Global, settings: &Settings, proof: &mut Q) -> Result<(), Status>
@@ -272,7 +284,10 @@ pub fn run<R: Threads + Wait + Sync, S: Source, P: Source, W: Sink, Q: Sink, G: 
 {
     match plan(alloc, words) {
         Ok(plan) => match plan.command {
-            Command::Solve => solve(rt, alloc, plan.settings, script, answers, proof_out, gate),
+            Command::Solve => {
+                let settings = settings_of(plan.options);
+                solve(rt, alloc, settings, script, answers, proof_out, gate)
+            }
             Command::Check => check_proof(alloc, script, proof_in, answers),
             Command::Lrat => check_refutation(alloc, script, proof_in, answers),
             Command::Cnf => search_clauses(alloc, script, answers, proof_out),

@@ -58,9 +58,7 @@ use smt_check::reading::INPUT_LIMIT;
 use smt_check::status::Status;
 use smt_desk::files::{FileSink, FileSource, StandardInput, StandardOutput};
 use smt_desk::stream::Source;
-use smt_run::command_line::plan;
 use smt_run::running::run;
-use smt_run::words::Unplanned;
 use std::alloc::AllocGlobal;
 use std::io::ErrorKind;
 use std::process::ExitCode;
@@ -68,6 +66,8 @@ use std::rt::{Env, Files};
 use std::sync::Wait;
 use std::thread::Threads;
 use std::{env, fs};
+use tool_words::command_line::plan;
+use tool_words::words::Unplanned;
 
 // What is told where the words are not taken.
 const USAGE: &str =

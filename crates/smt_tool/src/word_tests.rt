@@ -1,9 +1,8 @@
 //! Words that are planned, and words that are refused.
 
-use smt_run::command_line::plan;
-use smt_run::words::{Command, Plan, Unplanned};
-use smt_session::settings::Settings;
 use std::alloc::Global;
+use tool_words::command_line::plan;
+use tool_words::words::{Command, Options, Plan, Unplanned};
 
 // Whether the words ask for this command with these files.
 fn asks(
@@ -23,12 +22,12 @@ fn asks(
 fn asks_within(alloc: Global, words: &[&str], numbers: [u32; 3]) -> bool {
     match plan(alloc, words) {
         Ok(plan) => {
-            let settings = Settings {
+            let options = Options {
                 workers: numbers[0],
                 cubes: numbers[1],
                 budget: numbers[2],
             };
-            plan.command == Command::Solve && plan.proof == "p" && plan.settings == settings
+            plan.command == Command::Solve && plan.proof == "p" && plan.options == options
         }
         Err(_) => false,
     }
@@ -58,8 +57,8 @@ fn are_planned(alloc: Global) -> bool {
             plan.command == Command::Solve
                 && plan.proof == "PROOF"
                 && plan.script == Some("SCRIPT")
-                && plan.settings.workers == 4
-                && (plan.settings.cubes, plan.settings.budget) == (2, 3)
+                && plan.options.workers == 4
+                && (plan.options.cubes, plan.options.budget) == (2, 3)
         }
         Err(_) => false,
     }

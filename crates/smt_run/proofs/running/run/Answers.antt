@@ -11,14 +11,15 @@ use Rattle.smt_run.specs.Converting.{IsLeft}
 use Rattle.smt_run.proofs.Written.{within_none}
 use Rattle.smt_run.proofs.Telling.{told_silent, unbegun_beside, unbegun_prefix}
 use Rattle.smt_run.proofs.Ends.{answered_unless, judged_unless, memory_usage, memory_done, memory_refused, memory_end, memory_long, memory_reads}
-use Rattle.smt_run.proofs.Faultless.{faultless_asks}
+use Rattle.tool_words.proofs.Faultless.{faultless_asks}
 use Rattle.dimacs_run.proofs.Told.{front_none}
-use Rattle.smt_run.proofs.WordsTaken.{asks_solve, asks_check, asks_refute, asks_search, asks_convert, one_command, solve_or_refute, check_or_refute, solve_or_search, check_or_search, refute_or_search, solve_or_convert, check_or_convert, refute_or_convert, search_or_convert, same_limits}
+use Rattle.tool_words.proofs.WordsTaken.{asks_solve, asks_check, asks_refute, asks_search, asks_convert, one_command, solve_or_refute, check_or_refute, solve_or_search, check_or_search, refute_or_search, solve_or_convert, check_or_convert, refute_or_convert, search_or_convert}
+use Rattle.smt_run.proofs.Asked.{options_allowed, same_limits}
 use Rattle.smt_run.proofs.Searched.{search_unbegun}
 use Rattle.smt_run.proofs.running.run.Goals as goal
 
 pub solve-requires-clause-settings : goal.solve-requires-clause-settings
-solve-requires-clause-settings g c κs within = c.in-Ok.ensures.settings
+solve-requires-clause-settings g c κs within = options_allowed _ _ c.settings_of.ensures c.in-Ok.ensures.options
 
 -- ---- a script was answered
 
@@ -36,8 +37,8 @@ returns-in-Solve-clause-asked g c = λ t. faultless_asks _ t
 
 pub returns-in-Solve-clause-solves : goal.returns-in-Solve-clause-solves
 returns-in-Solve-clause-solves g c = λ limits w.
-    let same : limits_of c.in-Ok.plan.settings ≡ limits = same_limits _ _ _ _ _ _ limits c.in-Solve.is c.in-Ok.ensures.asked w in
-    let does : Solves (limits_of c.in-Ok.plan.settings) c.solve.result
+    let same : limits_of c.in-Solve.settings ≡ limits = same_limits _ _ _ _ _ _ _ limits c.settings_of.ensures c.in-Ok.ensures.asked w in
+    let does : Solves (limits_of c.in-Solve.settings) c.solve.result
     (files (stream (g.S.Source.left c.args.script.now) (g.S.Source.faults c.args.script.now)) (stream (g.W.Sink.written c.args.answers.now) (g.W.Sink.faults c.args.answers.now)) (stream (g.Q.Sink.written c.args.proof_out.now) (g.Q.Sink.faults c.args.proof_out.now)))
     (files (stream (g.S.Source.left c.solve.new.script) (g.S.Source.faults c.solve.new.script)) (stream (g.W.Sink.written c.solve.new.answers) (g.W.Sink.faults c.solve.new.answers)) (stream (g.Q.Sink.written c.solve.new.proof) (g.Q.Sink.faults c.solve.new.proof)))
     = record {
@@ -87,7 +88,7 @@ pub returns-in-Check-clause-asked : goal.returns-in-Check-clause-asked
 returns-in-Check-clause-asked g c = λ t. faultless_asks _ t
 
 pub returns-in-Check-clause-solves : goal.returns-in-Check-clause-solves
-returns-in-Check-clause-solves g c = λ limits s. absurd (one_command _ (s.settings, s.asks) (asks_check _ _ _ _ _ _ c.in-Check.is c.in-Ok.ensures.asked))
+returns-in-Check-clause-solves g c = λ limits s. absurd (one_command _ (s.options, s.asks) (asks_check _ _ _ _ _ _ c.in-Check.is c.in-Ok.ensures.asked))
 
 pub returns-in-Check-clause-checks : goal.returns-in-Check-clause-checks
 returns-in-Check-clause-checks g c = λ _. (
@@ -137,7 +138,7 @@ pub returns-in-Lrat-clause-asked : goal.returns-in-Lrat-clause-asked
 returns-in-Lrat-clause-asked g c = λ t. faultless_asks _ t
 
 pub returns-in-Lrat-clause-solves : goal.returns-in-Lrat-clause-solves
-returns-in-Lrat-clause-solves g c = λ limits s. absurd (solve_or_refute _ (s.settings, s.asks) (asks_refute _ _ _ _ _ _ c.in-Lrat.is c.in-Ok.ensures.asked))
+returns-in-Lrat-clause-solves g c = λ limits s. absurd (solve_or_refute _ (s.options, s.asks) (asks_refute _ _ _ _ _ _ c.in-Lrat.is c.in-Ok.ensures.asked))
 
 pub returns-in-Lrat-clause-checks : goal.returns-in-Lrat-clause-checks
 returns-in-Lrat-clause-checks g c = λ k. absurd (check_or_refute _ k (asks_refute _ _ _ _ _ _ c.in-Lrat.is c.in-Ok.ensures.asked))
@@ -186,7 +187,7 @@ pub returns-in-Cnf-clause-asked : goal.returns-in-Cnf-clause-asked
 returns-in-Cnf-clause-asked g c = λ t. faultless_asks _ t
 
 pub returns-in-Cnf-clause-solves : goal.returns-in-Cnf-clause-solves
-returns-in-Cnf-clause-solves g c = λ limits s. absurd (solve_or_search _ (s.settings, s.asks) (asks_search _ _ _ _ _ _ c.in-Cnf.is c.in-Ok.ensures.asked))
+returns-in-Cnf-clause-solves g c = λ limits s. absurd (solve_or_search _ (s.options, s.asks) (asks_search _ _ _ _ _ _ c.in-Cnf.is c.in-Ok.ensures.asked))
 
 pub returns-in-Cnf-clause-checks : goal.returns-in-Cnf-clause-checks
 returns-in-Cnf-clause-checks g c = λ k. absurd (check_or_search _ k (asks_search _ _ _ _ _ _ c.in-Cnf.is c.in-Ok.ensures.asked))
@@ -230,7 +231,7 @@ pub returns-in-Convert-clause-asked : goal.returns-in-Convert-clause-asked
 returns-in-Convert-clause-asked g c = λ t. faultless_asks _ t
 
 pub returns-in-Convert-clause-solves : goal.returns-in-Convert-clause-solves
-returns-in-Convert-clause-solves g c = λ limits s. absurd (solve_or_convert _ (s.settings, s.asks) (asks_convert _ _ _ _ _ _ c.in-Convert.is c.in-Ok.ensures.asked))
+returns-in-Convert-clause-solves g c = λ limits s. absurd (solve_or_convert _ (s.options, s.asks) (asks_convert _ _ _ _ _ _ c.in-Convert.is c.in-Ok.ensures.asked))
 
 pub returns-in-Convert-clause-checks : goal.returns-in-Convert-clause-checks
 returns-in-Convert-clause-checks g c = λ k. absurd (check_or_convert _ k (asks_convert _ _ _ _ _ _ c.in-Convert.is c.in-Ok.ensures.asked))

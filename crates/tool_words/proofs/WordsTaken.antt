@@ -11,13 +11,11 @@ use Rattle.clap.proofs.OnLiterals.{clap_on_literals}
 use Rattle.clap.proofs.WalkLemmas.{first_value-rows}
 use Rattle.clap.specs.declared.parser.matches.ArgMatches.{ArgMatches}
 use Rattle.clap.specs.declared.parser.matches.ArgMatches.TheViews.{out-ArgMatches}
-use Rattle.smt_run.specs.declared.words.Command.{Command}
-use Rattle.smt_run.specs.declared.words.Command.TheVariants.{Solve, Check, Lrat, Cnf, Convert}
-use Rattle.smt_run.proofs.Faultless.{faultless_asks, numbers_found}
-use Rattle.accepted_proof.specs.Searching.{Limits}
-use Rattle.smt_session.specs.declared.settings.Settings.{Settings}
-use Rattle.smt_session.specs.Sessions.{AreSettings, limits_of}
-use Rattle.smt_run.specs.Words.{program, Names, name_of, Asks, AsksFor, IsToSolve, IsToSolveWithin, IsToCheck, IsToRefute, IsToSearch, IsToConvert, AreTaken, settings_in, number_or, IsWithin, AreWithin}
+use Rattle.tool_words.specs.declared.words.Command.{Command}
+use Rattle.tool_words.specs.declared.words.Command.TheVariants.{Solve, Check, Lrat, Cnf, Convert}
+use Rattle.tool_words.proofs.Faultless.{faultless_asks, numbers_found}
+use Rattle.tool_words.specs.declared.words.Options.{Options}
+use Rattle.tool_words.specs.Words.{program, Names, AreOptions, name_of, Asks, AsksFor, IsToSolve, IsToCheck, IsToRefute, IsToSearch, IsToConvert, AreTaken, options_in, number_or, IsWithin, AreWithin}
 
 -- a name and rows
 abbrev Entry : Type 0
@@ -52,20 +50,20 @@ or_else : (o : Option (Bor Text)) (b : Bor Text) (found : Option Text) → optio
 or_else None b found e = ap (λ (x : Option Text). unwrap_or x b.now) (sym e)
 or_else (Some a) b found e = ap (λ (x : Option Text). unwrap_or x b.now) (sym e)
 
-pub names_in : (m files : ArgMatches) (name : Text) (proof out : Bor Text) (command : Command) (o s : Option (Bor Text)) (settings : Settings) → subcommand_rows_of m ≡ Some (name, rows_of (found_of files)) → name ≡ name_of command → Some proof.now ≡ first_value (found_of files) (codes "PROOF") → option_map (λ x. x.now) o ≡ first_value (found_of files) (codes "OUT") → out ≡ unwrap_or o proof → option_map (λ x. x.now) s ≡ first_value (found_of files) (codes "SCRIPT") → settings ≡ settings_in (rows_of (found_of files))
-    → Names (subcommand_rows_of m) (name_of command) proof.now out.now (option_map (λ x. x.now) s) settings
-names_in m files name proof out command o s settings e n p r u q l = record {
+pub names_in : (m files : ArgMatches) (name : Text) (proof out : Bor Text) (command : Command) (o s : Option (Bor Text)) (options : Options) → subcommand_rows_of m ≡ Some (name, rows_of (found_of files)) → name ≡ name_of command → Some proof.now ≡ first_value (found_of files) (codes "PROOF") → option_map (λ x. x.now) o ≡ first_value (found_of files) (codes "OUT") → out ≡ unwrap_or o proof → option_map (λ x. x.now) s ≡ first_value (found_of files) (codes "SCRIPT") → options ≡ options_in (rows_of (found_of files))
+    → Names (subcommand_rows_of m) (name_of command) proof.now out.now (option_map (λ x. x.now) s) options
+names_in m files name proof out command o s options e n p r u q l = record {
   rows = rows_of (found_of files);
   command = e ∙ ap (λ t. Some (t, rows_of (found_of files))) n;
   proof_is = sym (first_value-rows (found_of files) (codes "PROOF")) ∙ sym p;
   out_is = or_else o proof (first_of (codes "OUT") (rows_of (found_of files))) (r ∙ first_value-rows (found_of files) (codes "OUT")) ∙ ap (λ (x : Bor Text). x.now) (sym u);
   script_is = sym (first_value-rows (found_of files) (codes "SCRIPT")) ∙ sym q;
-  settings_are = sym l;
+  options_are = sym l;
 }
 
 -- where there is no proof file
-pub no_names : (m files : ArgMatches) (name t proof out : Text) (script : Option Text) (settings : Settings) → subcommand_rows_of m ≡ Some (name, rows_of (found_of files)) → None ≡ first_value (found_of files) (codes "PROOF") → Names (subcommand_rows_of m) t proof out script settings → ⊥
-no_names m files name t proof out script settings e p k =
+pub no_names : (m files : ArgMatches) (name t proof out : Text) (script : Option Text) (options : Options) → subcommand_rows_of m ≡ Some (name, rows_of (found_of files)) → None ≡ first_value (found_of files) (codes "PROOF") → Names (subcommand_rows_of m) t proof out script options → ⊥
+no_names m files name t proof out script options e p k =
     let same : rows_of (found_of files) ≡ k.rows = rows_same (subcommand_rows_of m) name t (rows_of (found_of files)) k.rows e k.command in
     let q : None ≡ Some proof = p ∙ first_value-rows (found_of files) (codes "PROOF") ∙ ap (first_of (codes "PROOF")) same ∙ k.proof_is in
     let z : ⊥ = cc in z
@@ -93,10 +91,10 @@ found_same : (app : App) (m : ArgMatches) (words : List Text) → app ≡ progra
 found_same app m words e h = (h (ap is_simple e ∙ simple)).1 ∙ ap (λ a. subcommand_of a words) e
 
 -- a parse of the program's command line finds what is asked for by words that are taken
-pub nothing_asked : (app : App) (m : ArgMatches) (words : List Text) → app ≡ program → HasMatchesOf app words m → ((command : Command) (proof out : Text) (script : Option Text) (settings : Settings) → Names (subcommand_rows_of m) (name_of command) proof out script settings → ⊥) → AreTaken words → ⊥
+pub nothing_asked : (app : App) (m : ArgMatches) (words : List Text) → app ≡ program → HasMatchesOf app words m → ((command : Command) (proof out : Text) (script : Option Text) (options : Options) → Names (subcommand_rows_of m) (name_of command) proof out script options → ⊥) → AreTaken words → ⊥
 nothing_asked app m words e h none k =
     let found : subcommand_rows_of m ≡ subcommand_of program words = found_same app m words e h in
-    let no_one : (command : Command) → ((s : Settings) × AsksFor command s words) → ⊥ = λ command s. none command s.1.0 s.1.1 s.1.2 s.0 (subst (λ o. Names o (name_of command) s.1.0 s.1.1 s.1.2 s.0) (sym found) s.1.3.names) in
+    let no_one : (command : Command) → ((s : Options) × AsksFor command s words) → ⊥ = λ command s. none command s.1.0 s.1.1 s.1.2 s.0 (subst (λ o. Names o (name_of command) s.1.0 s.1.1 s.1.2 s.0) (sym found) s.1.3.names) in
     ⊎_elim (no_one Solve) (⊎_elim (no_one Check) (⊎_elim (no_one Lrat) (⊎_elim (no_one Cnf) (no_one Convert)))) (faultless_asks words k)
 
 free : is_simple_and_free program ≡ true
@@ -109,9 +107,10 @@ numbers_asked app m words e h k name rows found =
     numbers_found words name rows (subst (λ a. fault_of a words ≡ []) e (k (ap is_simple_and_free e ∙ free))) (sym (found_same app m words e h) ∙ found)
 
 -- numbers in range are allowed
-pub settings_in_range : (rows : List Row) → AreWithin rows → AreSettings (settings_in rows)
-settings_in_range rows h = record {
-  limits = record { cubes = (within 0 10 0 (omega arith) (omega arith) _ h.cubes).1; budget = (within 0 1000000000 100000 (omega arith) (omega arith) _ h.budget).1 };
+pub options_in_range : (rows : List Row) → AreWithin rows → AreOptions (options_in rows)
+options_in_range rows h = record {
+  cubes = (within 0 10 0 (omega arith) (omega arith) _ h.cubes).1;
+  budget = (within 0 1000000000 100000 (omega arith) (omega arith) _ h.budget).1;
   some = (within 1 64 1 (omega arith) (omega arith) _ h.workers).0;
   few = (within 1 64 1 (omega arith) (omega arith) _ h.workers).1;
 }
@@ -120,8 +119,14 @@ settings_in_range rows h = record {
     within least most usual low high None h = (low, high)
     within least most usual low high (Some t) h = (h.2, h.3)
 
-pub names_settings : (found : Option (Text × List Row)) (name proof out : Text) (script : Option Text) (settings : Settings) → Names found name proof out script settings → ((n : Text) (rows : List Row) → found ≡ Some (n, rows) → AreWithin rows) → AreSettings settings
-names_settings found name proof out script settings k h = subst AreSettings k.settings_are (settings_in_range k.rows (h name k.rows k.command))
+pub names_options : (found : Option (Text × List Row)) (name proof out : Text) (script : Option Text) (options : Options) → Names found name proof out script options → ((n : Text) (rows : List Row) → found ≡ Some (n, rows) → AreWithin rows) → AreOptions options
+names_options found name proof out script options k h = subst AreOptions k.options_are (options_in_range k.rows (h name k.rows k.command))
+
+-- they are one row of numbers
+pub same_options : (a b : Command) (words : List Text) (proof proof' out out' : Text) (script script' : Option Text) (o p : Options) → Asks a words proof out script o → Asks b words proof' out' script' p → o ≡ p
+same_options a b words proof proof' out out' script script' o p h k =
+    let same : h.names.rows ≡ k.names.rows = ap rows_of_entry (sym h.names.command ∙ k.names.command) in
+    sym h.names.options_are ∙ ap options_in same ∙ k.names.options_are
 
 -- ---- one command
 
@@ -130,7 +135,7 @@ name_in None = []
 name_in (Some p) = p.0
 
 -- the words ask for one command
-same_name : (a b : Command) (i : ℕ) (words : List Text) → ((s : Settings) × AsksFor a s words) → ((s : Settings) × AsksFor b s words) → get_or (name_of a) i 0 ≡ get_or (name_of b) i 0
+same_name : (a b : Command) (i : ℕ) (words : List Text) → ((s : Options) × AsksFor a s words) → ((s : Options) × AsksFor b s words) → get_or (name_of a) i 0 ≡ get_or (name_of b) i 0
 same_name a b i words s k =
     let e : name_of a ≡ name_of b = sym (ap name_in s.1.3.names.command) ∙ ap name_in k.1.3.names.command in
     ap (λ (t : Text). get_or t i 0) e
@@ -165,42 +170,35 @@ refute_or_convert words s k = let f : 108 ≡ 99 = same_name Lrat Convert 0 word
 pub search_or_convert : (words : List Text) → IsToSearch words → IsToConvert words → ⊥
 search_or_convert words s k = let f : 110 ≡ 111 = same_name Cnf Convert 1 words s k in omega (arith, f)
 
-pub asks_solve : (k : Command) (words : List Text) (proof out : Text) (script : Option Text) (l : Settings) → k ≡ Solve → Asks k words proof out script l → IsToSolve words
+pub asks_solve : (k : Command) (words : List Text) (proof out : Text) (script : Option Text) (l : Options) → k ≡ Solve → Asks k words proof out script l → IsToSolve words
 asks_solve Solve words proof out script l e h = (l, (proof, out, script, h))
 asks_solve Check words proof out script l e h = let z : ⊥ = cc in absurd z
 asks_solve Lrat words proof out script l e h = let z : ⊥ = cc in absurd z
 asks_solve Cnf words proof out script l e h = let z : ⊥ = cc in absurd z
 asks_solve Convert words proof out script l e h = let z : ⊥ = cc in absurd z
 
--- the words give one pair of limits
-pub same_limits : (k : Command) (words : List Text) (proof out : Text) (script : Option Text) (s : Settings) (m : Limits) → k ≡ Solve → Asks k words proof out script s → IsToSolveWithin m words → limits_of s ≡ m
-same_limits k words proof out script s m e h w =
-    let names = w.asks.3.names in
-    let same : h.names.rows ≡ names.rows = ap rows_of_entry (sym h.names.command ∙ names.command) in
-    ap limits_of (sym h.names.settings_are ∙ ap settings_in same ∙ names.settings_are) ∙ w.within
-
-pub asks_check : (k : Command) (words : List Text) (proof out : Text) (script : Option Text) (l : Settings) → k ≡ Check → Asks k words proof out script l → IsToCheck words
+pub asks_check : (k : Command) (words : List Text) (proof out : Text) (script : Option Text) (l : Options) → k ≡ Check → Asks k words proof out script l → IsToCheck words
 asks_check Solve words proof out script l e h = let z : ⊥ = cc in absurd z
 asks_check Check words proof out script l e h = (l, (proof, out, script, h))
 asks_check Lrat words proof out script l e h = let z : ⊥ = cc in absurd z
 asks_check Cnf words proof out script l e h = let z : ⊥ = cc in absurd z
 asks_check Convert words proof out script l e h = let z : ⊥ = cc in absurd z
 
-pub asks_refute : (k : Command) (words : List Text) (proof out : Text) (script : Option Text) (l : Settings) → k ≡ Lrat → Asks k words proof out script l → IsToRefute words
+pub asks_refute : (k : Command) (words : List Text) (proof out : Text) (script : Option Text) (l : Options) → k ≡ Lrat → Asks k words proof out script l → IsToRefute words
 asks_refute Solve words proof out script l e h = let z : ⊥ = cc in absurd z
 asks_refute Check words proof out script l e h = let z : ⊥ = cc in absurd z
 asks_refute Lrat words proof out script l e h = (l, (proof, out, script, h))
 asks_refute Cnf words proof out script l e h = let z : ⊥ = cc in absurd z
 asks_refute Convert words proof out script l e h = let z : ⊥ = cc in absurd z
 
-pub asks_search : (k : Command) (words : List Text) (proof out : Text) (script : Option Text) (l : Settings) → k ≡ Cnf → Asks k words proof out script l → IsToSearch words
+pub asks_search : (k : Command) (words : List Text) (proof out : Text) (script : Option Text) (l : Options) → k ≡ Cnf → Asks k words proof out script l → IsToSearch words
 asks_search Solve words proof out script l e h = let z : ⊥ = cc in absurd z
 asks_search Check words proof out script l e h = let z : ⊥ = cc in absurd z
 asks_search Lrat words proof out script l e h = let z : ⊥ = cc in absurd z
 asks_search Cnf words proof out script l e h = (l, (proof, out, script, h))
 asks_search Convert words proof out script l e h = let z : ⊥ = cc in absurd z
 
-pub asks_convert : (k : Command) (words : List Text) (proof out : Text) (script : Option Text) (l : Settings) → k ≡ Convert → Asks k words proof out script l → IsToConvert words
+pub asks_convert : (k : Command) (words : List Text) (proof out : Text) (script : Option Text) (l : Options) → k ≡ Convert → Asks k words proof out script l → IsToConvert words
 asks_convert Solve words proof out script l e h = let z : ⊥ = cc in absurd z
 asks_convert Check words proof out script l e h = let z : ⊥ = cc in absurd z
 asks_convert Lrat words proof out script l e h = let z : ⊥ = cc in absurd z

@@ -1,6 +1,5 @@
 // What the program's words ask for.
 
-use smt_session::settings::Settings;
 use std::alloc::AllocError;
 
 /// What is to be done.
@@ -18,6 +17,27 @@ pub enum Command {
     Convert,
 }
 
+/// How many workers search, and within which limits.
+#[derive(Clone, Copy, Debug, PartialEq, Eq)]
+pub struct Options {
+    /// How many workers search the cubes of a check, from 1 to 64.
+    pub workers: u32,
+    /// How many variables split a check into cubes, from 0 to 10.
+    pub cubes: u32,
+    /// How many clauses the search of a cube may learn, from 0 to 1,000,000,000.
+    pub budget: u32,
+}
+
+impl Options {
+    /// One worker, one cube, a budget of 100000 clauses.
+    pub const USUAL: Options = Options {
+        workers: 1,
+        cubes: 0,
+        budget: 100000,
+    };
+}
+
+/// A command with its files and numbers.
 #[derive(Clone, Copy, Debug)]
 pub struct Plan<'a> {
     pub command: Command,
@@ -27,7 +47,7 @@ pub struct Plan<'a> {
     pub out: &'a str,
     /// The name of the file of the script, or of the clauses; without one that is read from standard input.
     pub script: Option<&'a str>,
-    pub settings: Settings,
+    pub options: Options,
 }
 
 /// Why there is no plan.
@@ -40,7 +60,7 @@ pub enum Unplanned {
 
 impl From<AllocError> for Unplanned {
     ghost use Rattle.std.specs.Prelude.{◌≡◌};
-    ghost use Rattle.smt_run.specs.declared.words.Unplanned.TheVariants.{NoMemory};
+    ghost use Rattle.tool_words.specs.declared.words.Unplanned.TheVariants.{NoMemory};
 
     ghost from_gives = { λ _ s. s ≡ NoMemory };
 

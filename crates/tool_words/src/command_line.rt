@@ -6,16 +6,14 @@ ghost use Rattle.clap.specs.Matches.{found_of};
 ghost use Rattle.clap.specs.Values.{kind_of};
 ghost use Rattle.clap.specs.Simple.{app_of, subcommand_rows_of, with_subcommand};
 ghost use Rattle.clap.specs.declared.builder.command.Command.TheViews.{out-Command as fields_of};
-ghost use Rattle.smt_session.specs.declared.settings.Settings.{Settings as Numbers};
-ghost use Rattle.smt_session.specs.Sessions.{AreSettings};
-ghost use Rattle.smt_run.specs.declared.words.Command.{Command as Kind};
-ghost use Rattle.smt_run.specs.Words.{app_named, solve_app, convert_app, bare_program, program, number_option, number_or, settings_in, IsWithin, AreWithin, Names, name_of, Asks, AreTaken};
+ghost use Rattle.tool_words.specs.declared.words.Command.{Command as Kind};
+ghost use Rattle.tool_words.specs.declared.words.Options.{Options as Numbers};
+ghost use Rattle.tool_words.specs.Words.{app_named, solve_app, convert_app, bare_program, program, number_option, number_or, options_in, AreOptions, IsWithin, AreWithin, Names, name_of, Asks, AreTaken};
 
-use crate::words::{Command, Plan, Unplanned};
+use crate::words::{Command, Options, Plan, Unplanned};
 use clap::builder::ValueParser;
 use clap::error::ErrorKind;
 use clap::{Arg, ArgMatches, Command as CommandLine, Error};
-use smt_session::settings::Settings;
 use std::alloc::{AllocError, Global};
 
 /// The most workers that may search a check.
@@ -129,14 +127,14 @@ fn number_or<'a>(found: &ArgMatches<'a>, option: &str, usual: u32) -> u32
 }
 
 /// The number of workers and the limits of their search that were given, or the usual ones.
-fn settings_of<'a>(found: &ArgMatches<'a>) -> Settings
+fn options_of<'a>(found: &ArgMatches<'a>) -> Options
     requires { AreWithin (rows_of (found_of found.now)) }
-    ensures { result ≡ settings_in (rows_of (found_of found.now)) }
+    ensures { result ≡ options_in (rows_of (found_of found.now)) }
 {
-    Settings {
-        workers: number_or(found, "workers", Settings::DEFAULT.workers),
-        cubes: number_or(found, "cubes", Settings::DEFAULT.cubes),
-        budget: number_or(found, "budget", Settings::DEFAULT.budget),
+    Options {
+        workers: number_or(found, "workers", Options::USUAL.workers),
+        cubes: number_or(found, "cubes", Options::USUAL.cubes),
+        budget: number_or(found, "budget", Options::USUAL.budget),
     }
 }
 
@@ -146,11 +144,11 @@ fn plan_of<'a>(found: &ArgMatches<'a>) -> Option<Plan<'a>>
         → AreWithin rows }
     ensures some { IfSome result
         (λ plan. Names (subcommand_rows_of found.now) (name_of plan.command) plan.proof.now
-        plan.out.now (option_map (λ s. s.now) plan.script) plan.settings) }
+        plan.out.now (option_map (λ s. s.now) plan.script) plan.options) }
     ensures none { result ≡ None
         → (command : Kind) (proof out : List ℕ) (script : Option (List ℕ))
-        (settings : Numbers)
-        → ¬ (Names (subcommand_rows_of found.now) (name_of command) proof out script settings) }
+        (options : Numbers)
+        → ¬ (Names (subcommand_rows_of found.now) (name_of command) proof out script options) }
 {
     let (name, inner) = found.subcommand()?;
     let command = command_named(name)?;
@@ -160,7 +158,7 @@ fn plan_of<'a>(found: &ArgMatches<'a>) -> Option<Plan<'a>>
         proof,
         out: inner.get_str("OUT").unwrap_or(proof),
         script: inner.get_str("SCRIPT"),
-        settings: settings_of(inner),
+        options: options_of(inner),
     })
 }
 
@@ -180,9 +178,9 @@ fn refusal(error: &Error) -> Unplanned
 pub fn plan<'a>(alloc: Global, words: &'a [&'a str]) -> Result<Plan<'a>, Unplanned>
     ensures asked { MatchResult result
         (λ plan. Asks plan.command (map (λ w. w.now) words.now) plan.proof.now plan.out.now
-        (option_map (λ s. s.now) plan.script) plan.settings)
+        (option_map (λ s. s.now) plan.script) plan.options)
         (λ e. e ≡ Unplanned.Usage → ¬ (AreTaken (map (λ w. w.now) words.now))) }
-    ensures settings { IfOk result (λ plan. AreSettings plan.settings) }
+    ensures options { IfOk result (λ plan. AreOptions plan.options) }
 {
     match command_line(alloc)?.try_get_matches_from(words) {
         Ok(found) => match plan_of(&found) {

@@ -9,11 +9,11 @@ use Rattle.clap.specs.Simple.{Shape, rows_at, built, built_leaf, inherited, fill
 use Rattle.clap.specs.Takes.{is_given}
 use Rattle.clap.specs.Faults.{fault_of, level_fault, check_fault, entered_fault}
 use Rattle.clap.proofs.OnLiterals.{clap_on_literals}
-use Rattle.smt_run.specs.declared.words.Command.{Command}
-use Rattle.smt_run.specs.declared.words.Command.TheVariants.{Solve, Check, Lrat, Cnf, Convert}
-use Rattle.smt_session.specs.declared.settings.Settings.{Settings}
-use Rattle.smt_run.proofs.OneValue.{ArePlain, AreFine, only_one, level_end, fine_after, value_given, number_of_option, no_option}
-use Rattle.smt_run.specs.Words.{proof_argument, script_argument, out_argument, number_option, app_named, solve_app, convert_app, program, name_of, settings_in, AreWithin, AsksFor}
+use Rattle.tool_words.specs.declared.words.Command.{Command}
+use Rattle.tool_words.specs.declared.words.Command.TheVariants.{Solve, Check, Lrat, Cnf, Convert}
+use Rattle.tool_words.specs.declared.words.Options.{Options}
+use Rattle.tool_words.proofs.OneValue.{ArePlain, AreFine, only_one, level_end, fine_after, value_given, number_of_option, no_option}
+use Rattle.tool_words.specs.Words.{proof_argument, script_argument, out_argument, number_option, app_named, solve_app, convert_app, program, name_of, options_in, AreWithin, AsksFor}
 
 -- ---- the command line as it is built
 
@@ -230,11 +230,11 @@ numbers_found words name rows e found = ⊎_elim (λ f. from _ f) (λ k. ⊎_eli
         subst AreWithin same f.numbers
 
 -- what is found asks for a command
-asked : (command : Command) (words : List Text) → fault_of program words ≡ [] → IsFound (subcommand_of program words) (name_of command) → (s : Settings) × AsksFor command s words
-asked command words e f = (settings_in f.rows, (f.proof, unwrap_or (first_of (codes "OUT") f.rows) f.proof, first_of (codes "SCRIPT") f.rows, record { taken = e; names = record { rows = f.rows; command = f.command; proof_is = f.proof_is; out_is = refl; script_is = refl; settings_are = refl } }))
+asked : (command : Command) (words : List Text) → fault_of program words ≡ [] → IsFound (subcommand_of program words) (name_of command) → (s : Options) × AsksFor command s words
+asked command words e f = (options_in f.rows, (f.proof, unwrap_or (first_of (codes "OUT") f.rows) f.proof, first_of (codes "SCRIPT") f.rows, record { taken = e; names = record { rows = f.rows; command = f.command; proof_is = f.proof_is; out_is = refl; script_is = refl; options_are = refl } }))
 
 -- words without a fault ask for one of the five
-pub faultless_asks : (words : List Text) → fault_of program words ≡ [] → ((s : Settings) × AsksFor Solve s words) ⊎ (((s : Settings) × AsksFor Check s words) ⊎ (((s : Settings) × AsksFor Lrat s words) ⊎ (((s : Settings) × AsksFor Cnf s words) ⊎ ((s : Settings) × AsksFor Convert s words))))
+pub faultless_asks : (words : List Text) → fault_of program words ≡ [] → ((s : Options) × AsksFor Solve s words) ⊎ (((s : Options) × AsksFor Check s words) ⊎ (((s : Options) × AsksFor Lrat s words) ⊎ (((s : Options) × AsksFor Cnf s words) ⊎ ((s : Options) × AsksFor Convert s words))))
 faultless_asks words e =
     ⊎_elim
     (λ f. inl (asked Solve words e f))

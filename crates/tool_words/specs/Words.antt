@@ -1,18 +1,16 @@
 -- The words that the program takes, those after its own name: as `clap` takes them for a program of five commands, each with
 -- the name of a proof file. Behind it the last has that of the file that a proof is written into, and each other perhaps that of a
 -- script, or of clauses. The first has three options too: how many workers search, and the limits of their search.
-use Rattle.std.specs.Prelude.{◌≡◌, ℕ, true, List, [], codes, Option, Some, None, unwrap_or}
+use Rattle.std.specs.Prelude.{◌≡◌, ◌≤◌, ℕ, true, List, [], codes, Option, Some, None, unwrap_or}
 use Rattle.std.specs.Str.Parse.{without_leading_plus, digits_value}
 use Rattle.clap.specs.Walk.{Text, Rule, Row, first_of, one_of}
 use Rattle.clap.specs.Simple.{App, on_top, new_rule, new_app, with_rule, with_subcommand, subcommand_of}
 use Rattle.clap.specs.Values.{IsUnsignedIn}
 use Rattle.clap.specs.Faults.{fault_of}
 use Rattle.clap.specs.declared.builder.value_parser.ValueParser.TheVariants.{Unsigned}
-use Rattle.accepted_proof.specs.Searching.{Limits}
-use Rattle.smt_session.specs.declared.settings.Settings.{Settings}
-use Rattle.smt_session.specs.Sessions.{limits_of}
-use Rattle.smt_run.specs.declared.words.Command.{Command}
-use Rattle.smt_run.specs.declared.words.Command.TheVariants.{Solve, Check, Lrat, Cnf, Convert}
+use Rattle.tool_words.specs.declared.words.Command.{Command}
+use Rattle.tool_words.specs.declared.words.Options.{Options}
+use Rattle.tool_words.specs.declared.words.Command.TheVariants.{Solve, Check, Lrat, Cnf, Convert}
 
 -- ---- the program's command line
 
@@ -67,12 +65,19 @@ number_or usual None = usual
 number_or usual (Some text) = digits_value 10 (without_leading_plus text)
 
 -- Where nothing is said one worker searches, a check is not split, and a search may put 100000 chains on it.
-abbrev pub settings_in : List Row → Settings
-settings_in rows = record {
+abbrev pub options_in : List Row → Options
+options_in rows = record {
   workers = number_or 1 (one_of (codes "workers") rows);
   cubes = number_or 0 (one_of (codes "cubes") rows);
   budget = number_or 100000 (one_of (codes "budget") rows);
 }
+
+-- they are in range: 1 to 64 workers, at most 10 variables, and at most 1000000000 chains
+pub record AreOptions (o : Options) : Type 0 where
+  pub some : 1 ≤ o.workers
+  pub few : o.workers ≤ 64
+  pub cubes : o.cubes ≤ 10
+  pub budget : o.budget ≤ 1000000000
 
 -- what is written after an option is a whole number, at least and at most so many
 abbrev pub IsWithin : ℕ → ℕ → Option Text → Type 0
@@ -88,13 +93,13 @@ pub record AreWithin (rows : List Row) : Type 0 where
 
 -- What was found of a command: its name, the name of a proof file, that of the file that a proof is written into, which is the same
 -- where no other is named, that of a script, if there is one, and its numbers.
-pub record Names (found : Option (Text × List Row)) (name proof out : Text) (script : Option Text) (settings : Settings) : Type 0 where
+pub record Names (found : Option (Text × List Row)) (name proof out : Text) (script : Option Text) (options : Options) : Type 0 where
   pub rows : List Row
   pub command : found ≡ Some (name, rows)
   pub proof_is : first_of (codes "PROOF") rows ≡ Some proof
   pub out_is : unwrap_or (first_of (codes "OUT") rows) proof ≡ out
   pub script_is : first_of (codes "SCRIPT") rows ≡ script
-  pub settings_are : settings_in rows ≡ settings
+  pub options_are : options_in rows ≡ options
 
 abbrev pub name_of : Command → Text
 name_of Solve = codes "solve"
@@ -108,30 +113,24 @@ abbrev pub AreTaken : List (List ℕ) → Type 0
 AreTaken words = fault_of program words ≡ []
 
 -- they are taken, and ask for this command with these files and numbers
-pub record Asks (command : Command) (words : List (List ℕ)) (proof out : Text) (script : Option Text) (settings : Settings) : Type 0 where
+pub record Asks (command : Command) (words : List (List ℕ)) (proof out : Text) (script : Option Text) (options : Options) : Type 0 where
   pub taken : AreTaken words
-  pub names : Names (subcommand_of program words) (name_of command) proof out script settings
+  pub names : Names (subcommand_of program words) (name_of command) proof out script options
 
-abbrev pub AsksFor : Command → Settings → List (List ℕ) → Type 0
-AsksFor command settings words = (proof : Text) × (out : Text) × (script : Option Text) × Asks command words proof out script settings
-
--- to answer a script within these limits, by any number of workers
-pub record IsToSolveWithin (limits : Limits) (words : List (List ℕ)) : Type 0 where
-  pub settings : Settings
-  pub within : limits_of settings ≡ limits
-  pub asks : AsksFor Solve settings words
+abbrev pub AsksFor : Command → Options → List (List ℕ) → Type 0
+AsksFor command options words = (proof : Text) × (out : Text) × (script : Option Text) × Asks command words proof out script options
 
 abbrev pub IsToSolve : List (List ℕ) → Type 0
-IsToSolve words = (settings : Settings) × AsksFor Solve settings words
+IsToSolve words = (options : Options) × AsksFor Solve options words
 
 abbrev pub IsToCheck : List (List ℕ) → Type 0
-IsToCheck words = (settings : Settings) × AsksFor Check settings words
+IsToCheck words = (options : Options) × AsksFor Check options words
 
 abbrev pub IsToRefute : List (List ℕ) → Type 0
-IsToRefute words = (settings : Settings) × AsksFor Lrat settings words
+IsToRefute words = (options : Options) × AsksFor Lrat options words
 
 abbrev pub IsToSearch : List (List ℕ) → Type 0
-IsToSearch words = (settings : Settings) × AsksFor Cnf settings words
+IsToSearch words = (options : Options) × AsksFor Cnf options words
 
 abbrev pub IsToConvert : List (List ℕ) → Type 0
-IsToConvert words = (settings : Settings) × AsksFor Convert settings words
+IsToConvert words = (options : Options) × AsksFor Convert options words

@@ -4,9 +4,9 @@ use Rattle.std.specs.Str.Parse.{ParsesUnsigned, ExplainsUnsignedError, HasUnsign
 use Rattle.clap.specs.Walk.{Text}
 use Rattle.clap.specs.Matches.{found_of, one_text}
 use Rattle.clap.proofs.WalkLemmas.{one_text-rows}
-use Rattle.smt_run.specs.Words.{number_or, IsWithin}
-use Rattle.smt_run.proofs.WordsTaken.{number_read}
-use Rattle.smt_run.proofs.command_line.number_or.Goals as goal
+use Rattle.tool_words.specs.Words.{number_or, IsWithin}
+use Rattle.tool_words.proofs.WordsTaken.{number_read}
+use Rattle.tool_words.proofs.command_line.number_or.Goals as goal
 
 pub returns : goal.returns
 returns c =

@@ -23,14 +23,17 @@ use Rattle.clap.specs.Walk.{first_of, one_of, row_text, at_row, more_values, wit
 use Rattle.clap.specs.Simple.{Shape, filled}
 use Rattle.clap.specs.Takes.{is_given}
 use Rattle.clap.specs.Faults.{level_fault, check_fault, walk_fault, turn_fault, word_fault, flag_word_fault, long_fault, option_fault, positional_fault, stray_fault, step_fault, settle_fault, use_fault, set_fault, action_fault, repeat_fault, values_fault, react_fault, defaults_fault}
-use Rattle.smt_run.specs.Words.{number_option, IsWithin}
-use Rattle.cnf_base.proofs.Lists.{each_append}
+use Rattle.tool_words.specs.Words.{number_option, IsWithin}
 
 -- ---- the first of several faults
 
 or_both : (a b : Kinds) → or_else a b ≡ [] → (a ≡ []) × (b ≡ [])
 or_both [] b e = (refl, e)
 or_both (k ∷ ks) b e = let q : ⊥ = cc in absurd q
+
+each_append : {A : Type 0} (P : A → Type 0) (xs ys : List A) → AllByRecursion P xs → AllByRecursion P ys → AllByRecursion P (xs ++ ys)
+each_append P [] ys h k = k
+each_append P (x ∷ xs) ys h k = (h.0, each_append P xs ys h.1 k)
 
 -- ---- rules that take one value, once
 

@@ -1,0 +1,3 @@
+pub mod OneValue
+pub mod Faultless
+pub mod WordsTaken
