@@ -1,9 +1,9 @@
 -- Answers are right where turns follow one after the other.
-use Rattle.std.proofs.Common.{◌≡◌, ℕ, Bool, true, List, [], ◌∷◌, ◌++◌, map, ap, sym, subst, append-nil, Option, Some, None}
+use Rattle.std.proofs.Common.{◌≡◌, ℕ, List, [], ◌∷◌, ◌++◌, map, ap, sym, subst, append-nil, Option, Some, None}
 use Rattle.script_state.specs.declared.answer.Answer.{Answer}
 use Rattle.script_state.specs.declared.answer.Answer.TheVariants.{Done, Refused, Check, Says, Model, Values, Core, Assumptions, Exit}
 use Rattle.script_state.specs.declared.answer.Asked.{Asked}
-use Rattle.script_state.specs.States.{StateValue, start_of}
+use Rattle.script_state.specs.States.{StateValue, no_state}
 use Rattle.script_state.specs.Steps.{step}
 use Rattle.proof_log.specs.declared.entry.Entry.{Entry}
 use Rattle.proof_text.specs.declared.line.Format.{Format}
@@ -13,7 +13,7 @@ use Rattle.accepted_proof.specs.Searching.{Limits}
 use Rattle.accepted_proof.specs.Models.{IsWrittenModel}
 use Rattle.accepted_proof.specs.Turns.{Turn, Item, Part, HasProof, HasPart, IsTurn, AreTurns, AreParts, AreStepsOf, IsRefutation, concluded_by, deleted_behind, state_after, steps_in, turn_of, with_steps}
 use Rattle.accepted_proof.specs.Right.{IsRight, AreRight}
-use Rattle.accepted_proof.proofs.Reaching.{IsReached, reached_by_command, reached_by_record, reached_by_steps, reached_start, reached_first}
+use Rattle.accepted_proof.proofs.Reaching.{IsReached, reached_by_command, reached_by_record, reached_by_steps, reached_first}
 use Rattle.accepted_proof.proofs.Refuting.{refuted}
 use Rattle.accepted_proof.proofs.Settling.{settled_by}
 
@@ -111,8 +111,8 @@ turns_are_right limits s log [] reached are = tt
 turns_are_right limits s log (t ∷ ts) reached are =
     (shows_right t.answer (step s t.says).1 log t.steps t.shown (reached_by_command s log t.says reached) (turn_shows limits s log t are.0), turns_are_right limits (state_after s t) (log ++ t.steps) ts (reached_by_turn limits s log t reached are.0) are.1)
 
-pub first_turns_are_right : (limits : Limits) (turns : List Turn) → AreTurns limits (start_of true) [] turns → AreRight (start_of true) turns
-first_turns_are_right limits turns are = turns_are_right limits (start_of true) [] turns reached_first are
+pub first_turns_are_right : (limits : Limits) (turns : List Turn) → AreTurns limits no_state [] turns → AreRight no_state turns
+first_turns_are_right limits turns are = turns_are_right limits no_state [] turns reached_first are
 
 parts_are_right : (format : Format) (limits : Limits) (s : StateValue) (log : List Entry) (deleted : List ℕ) (parts : List Part) → IsReached s log → AreParts format limits s log deleted parts → AreRight s (map turn_of parts)
 parts_are_right format limits s log deleted [] reached are = tt
@@ -121,5 +121,5 @@ parts_are_right format limits s log deleted (p ∷ ps) reached are =
     let shows = of_part format limits p.answer (step s p.says).1 log deleted p.items p.shown are.0.proof in
     (shows_right t.answer (step s t.says).1 log t.steps t.shown (reached_by_command s log t.says reached) shows, parts_are_right format limits (state_after s t) (log ++ t.steps) (deleted_behind deleted p.items) ps (reached_by s log t reached shows) are.1)
 
-pub start_parts_are_right : (theories : Bool) (format : Format) (limits : Limits) (parts : List Part) (turns : List Turn) → map turn_of parts ≡ turns → AreParts format limits (start_of theories) [] [] parts → AreRight (start_of theories) turns
-start_parts_are_right theories format limits parts turns e are = subst (AreRight (start_of theories)) e (parts_are_right format limits (start_of theories) [] [] parts (reached_start theories) are)
+pub start_parts_are_right : (format : Format) (limits : Limits) (parts : List Part) (turns : List Turn) → map turn_of parts ≡ turns → AreParts format limits no_state [] [] parts → AreRight no_state turns
+start_parts_are_right format limits parts turns e are = subst (AreRight no_state) e (parts_are_right format limits no_state [] [] parts reached_first are)

@@ -22,6 +22,5 @@ pub mod Standing
 -- Lemmas of the interpretation that values give.
 pub mod Valuing
 -- Lemmas of the values of constants.
-pub mod Constants
 -- A worked row of the definitions.
 mod Worked

@@ -60,7 +60,7 @@ use Rattle.proof_log.specs.declared.diary.DiaryLine.TheVariants as diary
 use Rattle.accepted_proof.specs.Searching.{Limits}
 use Rattle.accepted_proof.specs.Models.{IsOfKind, AreOfKinds, IsRowOf, IsTableOf, IsFunctionOf, IsOfArguments, IsOfSignature}
 use Rattle.accepted_proof.specs.Turns.{IsOfScript}
-use Rattle.accepted_proof.specs.Judged.{Owed, Nothing, Steps, Values, Noted, Over, Judging, stepped, Decides, StepsBy, Deletes, Goes, Opens, AtStep, AtValue, Notes, AtDiary, MovesBy, reach, judging_from, IsHeader, Judged, JudgedProofFrom}
+use Rattle.accepted_proof.specs.Judged.{Owed, Nothing, Steps, Values, Noted, Over, Judging, stepped, Decides, StepsBy, Deletes, Goes, Opens, AtStep, AtValue, Notes, AtDiary, MovesBy, reach, judging_from, IsHeader, Judged, JudgedProof}
 
 -- ---- steps
 
@@ -489,13 +489,13 @@ same_limits l f g limits bounds h k =
     (λ i. record { cubes = c i; budget = b i })
 
 -- so it is judged from one place on
-pub same_start : (start : StateValue) (l : Option Line) (f g : Format) (limits bounds : Limits) → IsHeader l f limits → IsHeader l g bounds → judging_from start f limits ≡ judging_from start g bounds
-same_start start l f g limits bounds h k = ap₂ (judging_from start) (same_format l f g limits bounds h k) (same_limits l f g limits bounds h k)
+pub same_start : (l : Option Line) (f g : Format) (limits bounds : Limits) → IsHeader l f limits → IsHeader l g bounds → judging_from f limits ≡ judging_from g bounds
+same_start l f g limits bounds h k = ap₂ judging_from (same_format l f g limits bounds h k) (same_limits l f g limits bounds h k)
 
 -- the same of whole proofs
-pub proof_judged_once : (start : StateValue) (cs : List Reading) (ls : List (Option Line)) (o p : Option Refusal) → JudgedProofFrom start cs ls o → JudgedProofFrom start cs ls p → o ≡ p
-proof_judged_once start cs [] o p a b = a ∙ sym b
-proof_judged_once start cs (l ∷ ls) o p (inl x) (inl y) = judged_once ls (judging_from start y.0 y.1) cs o p (subst (λ v. Judged v cs ls o) (same_start start l x.0 y.0 x.1 y.1 x.2 y.2) x.3) y.3
-proof_judged_once start cs (l ∷ ls) o p (inl x) (inr y) = absurd (y.0 x.0 x.1 x.2)
-proof_judged_once start cs (l ∷ ls) o p (inr x) (inl y) = absurd (x.0 y.0 y.1 y.2)
-proof_judged_once start cs (l ∷ ls) o p (inr x) (inr y) = x.1 ∙ sym y.1
+pub proof_judged_once : (cs : List Reading) (ls : List (Option Line)) (o p : Option Refusal) → JudgedProof cs ls o → JudgedProof cs ls p → o ≡ p
+proof_judged_once cs [] o p a b = a ∙ sym b
+proof_judged_once cs (l ∷ ls) o p (inl x) (inl y) = judged_once ls (judging_from y.0 y.1) cs o p (subst (λ v. Judged v cs ls o) (same_start l x.0 y.0 x.1 y.1 x.2 y.2) x.3) y.3
+proof_judged_once cs (l ∷ ls) o p (inl x) (inr y) = absurd (y.0 x.0 x.1 x.2)
+proof_judged_once cs (l ∷ ls) o p (inr x) (inl y) = absurd (x.0 y.0 y.1 y.2)
+proof_judged_once cs (l ∷ ls) o p (inr x) (inr y) = x.1 ∙ sym y.1

@@ -1,11 +1,11 @@
 -- States and logs that turns lead to.
-use Rattle.std.proofs.Common.{◌≡◌, ℕ, Bool, true, List, [], ◌∷◌, ◌++◌, refl, sym, ap, ◌∙◌, subst, ⊎_elim, arith, append_assoc, append-nil, Option, Some, None}
+use Rattle.std.proofs.Common.{◌≡◌, ℕ, List, [], ◌∷◌, ◌++◌, refl, sym, ap, ◌∙◌, subst, ⊎_elim, arith, append_assoc, append-nil, Option, Some, None}
 use Rattle.std.specs.Prelude.{Contains, slice_get}
 use Rattle.std.proofs.lemmas.List.Elements.{Contains-append_cases}
 use Rattle.script_state.specs.Readings.{Reading}
 use Rattle.smt_terms.specs.declared.node.Node.{Node}
 use Rattle.smt_terms.specs.Terms.{TermsValue, IsTermList}
-use Rattle.script_state.specs.States.{StateValue, IsState, start_of}
+use Rattle.script_state.specs.States.{StateValue, IsState, no_state}
 use Rattle.script_state.specs.Steps.{step}
 use Rattle.script_state.proofs.Asserting.{grown_state, standing_state}
 use Rattle.script_state.proofs.Keeping.{step_goes_on}
@@ -103,13 +103,9 @@ steps_stay s (e ∷ es) =
 
 -- ---- where a script begins
 
--- whether functions and arrays are read or not
-pub reached_start : (theories : Bool) → IsReached (start_of theories) []
-reached_start theories = record {
-  state = first_state theories;
+pub reached_first : IsReached no_state []
+reached_first = record {
+  state = first_state;
   steps = tt;
   selectors = λ a t c. let past = c.1 in absurd (omega (arith, past));
 }
-
-pub reached_first : IsReached (start_of true) []
-reached_first = reached_start true

@@ -1,5 +1,5 @@
 -- The record of the check that stands is a model, or a refutation, of what is live and what is assumed.
-use Rattle.std.proofs.Common.{◌≡◌, ℕ, true, List, [], ◌∷◌, ◌++◌, refl, sym, ap, ◌∙◌, subst, inl, inr, Option, Some, None, append-nil}
+use Rattle.std.proofs.Common.{◌≡◌, ℕ, List, [], ◌∷◌, ◌++◌, refl, sym, ap, ◌∙◌, subst, inl, inr, Option, Some, None, append-nil}
 use Rattle.std.specs.Prelude.{◌⊎◌, All}
 use Rattle.smt_terms.specs.Terms.{TermsValue}
 use Rattle.smt_terms.specs.Values.{Interpretation}
@@ -11,7 +11,7 @@ use Rattle.script_state.specs.declared.answer.Asked.{Asked}
 use Rattle.script_state.specs.declared.answer.Verdict.{Verdict}
 use Rattle.script_state.specs.declared.answer.Verdict.TheVariants as verdict
 use Rattle.script_state.specs.Readings.{Reading}
-use Rattle.script_state.specs.States.{StateValue, IsState, all_asked, start_of}
+use Rattle.script_state.specs.States.{StateValue, IsState, all_asked, no_state}
 use Rattle.script_state.specs.Steps.{Step, step, settled}
 use Rattle.script_state.proofs.Cases.{of_step}
 use Rattle.proof_log.specs.declared.entry.Entry.{Entry}
@@ -192,5 +192,5 @@ turns_printed limits (t ∷ ts) s log last reached h are = (
   turns_printed limits ts (state_after s t) (log ++ t.steps) (last_shown last t.shown) (reached_by_turn limits s log t reached are.0) (turn_stands limits s log last t reached h are.0) are.1,
 )
 
-pub first_turns_printed : (limits : Limits) (turns : List Turn) → AreTurns limits (start_of true) [] turns → ArePrinted (start_of true) [] None turns
-first_turns_printed limits turns are = turns_printed limits turns (start_of true) [] None reached_first tt are
+pub first_turns_printed : (limits : Limits) (turns : List Turn) → AreTurns limits no_state [] turns → ArePrinted no_state [] None turns
+first_turns_printed limits turns are = turns_printed limits turns no_state [] None reached_first tt are

@@ -4,8 +4,6 @@ use Rattle.std.specs.Prelude.{◌⊎◌, ◌==◌, if◌then◌else◌}
 use Rattle.std.specs.List.{AllByRecursion}
 use Rattle.std.proofs.lemmas.Bool.{eqb-true}
 use Rattle.std.proofs.lemmas.List.{at_drop_more}
-use Rattle.std.proofs.lemmas.List.Elements.{recursion_from_All}
-use Rattle.cnf_base.proofs.Lists.{each_slice_get}
 use Rattle.smt_terms.specs.declared.sort.Sort.{Sort}
 use Rattle.smt_terms.specs.declared.sort.Sort.TheVariants as sort
 use Rattle.smt_terms.specs.declared.sort.Signature.{Signature}
@@ -18,9 +16,7 @@ use Rattle.smt_values.specs.declared.value.Value.TheVariants as held
 use Rattle.smt_values.specs.Held.{set_for, constant_of, function_of, Suits}
 use Rattle.smt_values.specs.Held as set
 use Rattle.smt_eval.specs.Evaluated.{AreSuited, IsSuited}
-use Rattle.smt_terms.specs.Ranks as ranks
-use Rattle.script_state.specs.States.{StateValue, IsState, IsPlainConstant}
-use Rattle.script_state.proofs.Theories.{word_constants}
+use Rattle.script_state.specs.States.{StateValue, IsState}
 use Rattle.accepted_proof.specs.Models.{value_for, interpretation_of, IsOfSignature}
 
 -- ---- the interpretation
@@ -36,11 +32,6 @@ values_more values k n p old new lt e here before after d =
 -- the interpretations of the same values
 pub same_interpretation : (held : List (Option Value)) (values : List (ℕ × Value)) → ((d : ℕ) → set_for held d ≡ value_for values d) → set.interpretation_of held ≡ interpretation_of values
 same_interpretation held values h = λ i. record { constants = λ d. constant_of (h d i); functions = λ d. function_of (h d i) }
-
-suits_plain : (s : Sort) (v : Option Value) → ranks.is_plain s ≡ true → Suits s v
-suits_plain sort.Bool v e = tt
-suits_plain (sort.Word n) v e = tt
-suits_plain (sort.Array n m) v e = let f : ⊥ = cc in absurd f
 
 -- false, or a value that the declaration may have
 abbrev pub IsHeldFor : Value → Option Signature → Type 0
@@ -92,12 +83,6 @@ module _ (s : StateValue) (h : IsState s) (values : List (Option Value))
 pub are_suited : (s : StateValue) → IsState s → (values : List (Option Value)) → ((d : ℕ) (v : Value) → set_for values d ≡ Some v → IsHeldFor v (slice_get s.symbols.signatures d)) → AreSuited s.terms.nodes values
 are_suited s h values held_for =
     all_suited s h values (λ d r e. suits_set r (set_for values d) (λ v k. subst (IsHeldFor v) e (held_for d v k)))
-
--- only plain constants are declared where functions and arrays are not read
-pub word_suited : (s : StateValue) → IsState s → s.symbols.theories ≡ false → (values : List (Option Value)) → AreSuited s.terms.nodes values
-word_suited s h words values =
-    let constants = recursion_from_All IsPlainConstant s.symbols.signatures (word_constants s h words) in
-    all_suited s h values (λ d r e. suits_plain r (set_for values d) (each_slice_get IsPlainConstant s.symbols.signatures d (constant_signature r) constants e).sort)
 
 -- the value of a declaration is one of those that are listed
 pub value_among : (P : Value → ℕ → Type 0) (values : List (ℕ × Value)) (d : ℕ) (v : Value) → AllByRecursion (λ (p : ℕ × Value). P p.1 p.0) values → value_for values d ≡ Some v → P v d

@@ -5,7 +5,7 @@ use Rattle.smt_text.specs.declared.chunk.Chunk.{Chunk}
 use Rattle.smt_text.specs.Framing.{Held}
 use Rattle.smt_text.specs.Script.{AreChunks, Begins}
 use Rattle.script_state.specs.Readings.{Reading, ReadsAs}
-use Rattle.script_state.specs.States.{StateValue, start_of}
+use Rattle.script_state.specs.States.{no_state}
 use Rattle.script_state.specs.Steps.{ends}
 use Rattle.accepted_proof.specs.Searching.{Limits, AreLimits}
 use Rattle.proof_text.specs.declared.line.Format.{Format}
@@ -41,9 +41,9 @@ has_ended turns = list_any (λ (t : Turn). ends t.says) turns
 abbrev pub AreAll : List ℕ → List Chunk → List Turn → Type 0
 AreAll script chunks turns = AreChunks script chunks ⊎ ((has_ended turns ≡ true) × IsFront script chunks)
 
--- The proof is one of the script, whose commands are obeyed from this state on, in either format: its header, and for each check
--- the lines of valid steps, between which the second format may delete places, and of a record, and nothing more.
-pub record AcceptedFrom (start : StateValue) (limits : Limits) (script proof : List ℕ) (turns : List Turn) : Type 0 where
+-- The proof is one of the script in either format: its header, and for each check the lines of valid steps, between which the
+-- second format may delete places, and of a record, and nothing more.
+pub record Accepted (limits : Limits) (script proof : List ℕ) (turns : List Turn) : Type 0 where
   pub allowed : AreLimits limits
   pub chunks : List Chunk
   pub cut : AreAll script chunks turns
@@ -52,16 +52,11 @@ pub record AcceptedFrom (start : StateValue) (limits : Limits) (script proof : L
   pub format : Format
   pub parts : List Part
   pub turns_are : map turn_of parts ≡ turns
-  pub run : AreParts format limits start [] [] parts
+  pub run : AreParts format limits no_state [] [] parts
   pub lines : proof ≡ written_of format limits parts
 
--- the same of a script that begins where nothing is declared
-abbrev pub Accepted : Limits → List ℕ → List ℕ → List Turn → Type 0
-Accepted limits script proof turns = AcceptedFrom (start_of true) limits script proof turns
-
--- The proof begins with the accepted proof of the first commands of the script, which are obeyed from this state on, whatever
--- stands behind in either text.
-pub record AcceptedSoFarFrom (start : StateValue) (limits : Limits) (script proof : List ℕ) (turns : List Turn) : Type 0 where
+-- The proof begins with the accepted proof of the first commands of the script, whatever stands behind in either text.
+pub record AcceptedSoFar (limits : Limits) (script proof : List ℕ) (turns : List Turn) : Type 0 where
   pub allowed : AreLimits limits
   pub chunks : List Chunk
   pub rest : List ℕ
@@ -71,11 +66,8 @@ pub record AcceptedSoFarFrom (start : StateValue) (limits : Limits) (script proo
   pub format : Format
   pub parts : List Part
   pub turns_are : map turn_of parts ≡ turns
-  pub run : AreParts format limits start [] [] parts
+  pub run : AreParts format limits no_state [] [] parts
   pub lines : proof ≡ written_of format limits parts ++ rest
-
-abbrev pub AcceptedSoFar : Limits → List ℕ → List ℕ → List Turn → Type 0
-AcceptedSoFar limits script proof turns = AcceptedSoFarFrom (start_of true) limits script proof turns
 
 -- a front of the answer to the next command of the script, which is not the whole answer
 pub record IsBegun (limits : Limits) (script : List ℕ) (chunks : List Chunk) (parts : List Part) (begun : List ℕ) : Type 0 where
@@ -85,7 +77,7 @@ pub record IsBegun (limits : Limits) (script : List ℕ) (chunks : List Chunk) (
   pub front : IsFront script (chunks ++ next ∷ [])
   pub read : AreRead (chunks ++ next ∷ []) (map turn_of (parts ++ part ∷ []))
   pub last : EndLast (map turn_of (parts ++ part ∷ []))
-  pub run : AreParts Two limits (start_of true) [] [] (parts ++ part ∷ [])
+  pub run : AreParts Two limits no_state [] [] (parts ++ part ∷ [])
   pub texts : answers_of (map turn_of (parts ++ part ∷ [])) ≡ answers_of (map turn_of parts) ++ begun ++ rest
   pub unfinished : 0 < length rest
 
@@ -100,7 +92,7 @@ pub record StandsBeside (limits : Limits) (script answers proof : List ℕ) : Ty
   pub front : IsFront script chunks
   pub read : AreRead chunks (map turn_of parts)
   pub last : EndLast (map turn_of parts)
-  pub run : AreParts Two limits (start_of true) [] [] parts
+  pub run : AreParts Two limits no_state [] [] parts
   pub lines : proof ≡ written_of Two limits parts ++ more
   pub texts : answers ≡ answers_of (map turn_of parts) ++ begun
   pub unfinished : (begun ≡ []) ⊎ IsBegun limits script chunks parts begun
@@ -108,7 +100,7 @@ pub record StandsBeside (limits : Limits) (script answers proof : List ℕ) : Ty
 -- the answers are those to the whole script, and the proof is accepted, and has these parts
 pub record IsWhole (limits : Limits) (script answers proof : List ℕ) (parts : List Part) : Type 0 where
   pub accepted : Accepted limits script proof (map turn_of parts)
-  pub run : AreParts Two limits (start_of true) [] [] parts
+  pub run : AreParts Two limits no_state [] [] parts
   pub lines : proof ≡ written_of Two limits parts
   pub texts : answers ≡ answers_of (map turn_of parts)
 

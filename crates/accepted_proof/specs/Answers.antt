@@ -10,7 +10,7 @@ use Rattle.script_state.specs.declared.answer.Verdict.TheVariants as verdict
 use Rattle.script_state.specs.declared.error_text.ErrorText.{ErrorText}
 use Rattle.script_state.specs.ErrorTexts.{text_of}
 use Rattle.script_state.specs.declared.options.Options.{Options}
-use Rattle.script_state.specs.States.{StateValue, start_of}
+use Rattle.script_state.specs.States.{StateValue, no_state}
 use Rattle.script_state.specs.Steps.{step}
 use Rattle.smt_text.specs.Printing.{symbol_text}
 use Rattle.smt_terms.specs.declared.sort.Sort.{Sort}
@@ -200,7 +200,7 @@ answers_from s log last [] = []
 answers_from s log last (t ∷ ts) = turn_text s log last t ++ answers_from (state_after s t) (log ++ t.steps) (last_shown last t.shown) ts
 
 abbrev pub answers_of : List Turn → List ℕ
-answers_of turns = answers_from (start_of true) [] None turns
+answers_of turns = answers_from no_state [] None turns
 
 -- ---- errors
 

@@ -7,7 +7,7 @@ use Rattle.smt_values.specs.declared.value.Value.{Value}
 use Rattle.smt_build.specs.declared.symbols.LiveName.{LiveName}
 use Rattle.script_state.specs.declared.answer.Answer.{Answer}
 use Rattle.script_state.specs.declared.answer.Answer.TheVariants as answer
-use Rattle.script_state.specs.States.{StateValue, start_of, concluded}
+use Rattle.script_state.specs.States.{StateValue, no_state, concluded}
 use Rattle.script_state.specs.Readings.{Reading, ReadsAs}
 use Rattle.script_state.specs.Steps.{step, settled, ends}
 use Rattle.proof_log.specs.declared.entry.Entry.{Entry}
@@ -59,8 +59,8 @@ pub record Judging : Type 0 where
   pub line : ℕ
 
 -- behind the header, which is line 1, where the commands are obeyed from this state on
-abbrev pub judging_from : StateValue → Format → Limits → Judging
-judging_from start format limits = record { format = format; limits = limits; state = start; log = []; deleted = []; owed = Nothing; line = 2 }
+abbrev pub judging_from : Format → Limits → Judging
+judging_from format limits = record { format = format; limits = limits; state = no_state; log = []; deleted = []; owed = Nothing; line = 2 }
 
 -- ---- where it goes
 
@@ -243,13 +243,10 @@ pub record IsHeader (l : Option Line) (format : Format) (limits : Limits) : Type
 abbrev pub bad_header : Refusal
 bad_header = record { line = 1; rule = rule.Header }
 
--- what is judged of all lines of a proof, where these are the commands of the script, from this state on
-abbrev pub JudgedProofFrom : StateValue → List Reading → List (Option Line) → Option Refusal → Type 0
-JudgedProofFrom start cs [] o = o ≡ Some bad_header
-JudgedProofFrom start cs (l ∷ ls) o = ((format : Format) × (limits : Limits) × IsHeader l format limits × Judged (judging_from start format limits) cs ls o) ⊎ (((format : Format) (limits : Limits) → IsHeader l format limits → ⊥) × (o ≡ Some bad_header))
-
+-- what is judged of all lines of a proof, where these are the commands of the script
 abbrev pub JudgedProof : List Reading → List (Option Line) → Option Refusal → Type 0
-JudgedProof cs ls o = JudgedProofFrom (start_of true) cs ls o
+JudgedProof cs [] o = o ≡ Some bad_header
+JudgedProof cs (l ∷ ls) o = ((format : Format) × (limits : Limits) × IsHeader l format limits × Judged (judging_from format limits) cs ls o) ⊎ (((format : Format) (limits : Limits) → IsHeader l format limits → ⊥) × (o ≡ Some bad_header))
 
 -- each is a line that can be read, or none
 abbrev pub AreReadable : List (Option Line) → Type 0

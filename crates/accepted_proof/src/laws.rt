@@ -1,42 +1,42 @@
 //! What follows from the definitions alone.
 
-ghost use Rattle.std.specs.Prelude.{◌≡◌, ℕ, Bool, List, [], map, None, true};
-ghost use Rattle.script_state.specs.States.{start_of};
+ghost use Rattle.std.specs.Prelude.{◌≡◌, ℕ, List, [], map, None};
+ghost use Rattle.script_state.specs.States.{no_state};
 ghost use Rattle.smt_terms.specs.declared.node.Node.{Node};
 ghost use Rattle.proof_log.specs.declared.entry.Entry.{Entry};
 ghost use Rattle.proof_log.specs.Logs.{state_of, IsLog};
 ghost use Rattle.accepted_proof.specs.Searching.{Limits, Rise, split_variables};
 ghost use Rattle.accepted_proof.specs.Turns.{Turn, AreTurns, turn_of};
 ghost use Rattle.accepted_proof.specs.Right.{AreRight, ArePrinted};
-ghost use Rattle.accepted_proof.specs.Accepted.{Accepted, AcceptedFrom, StandsBeside, readings_of};
+ghost use Rattle.accepted_proof.specs.Accepted.{Accepted, StandsBeside, readings_of};
 
 /// Where turns follow one after the other, each `sat` stands beside a model of the assertions that are live there under the
 /// assumptions of the check, and where there is an `unsat` they have none.
 pub fn answers_are_right()
-    ensures { (limits : Limits) (turns : List Turn) → AreTurns limits (start_of true) [] turns
-        → AreRight (start_of true) turns }
+    ensures { (limits : Limits) (turns : List Turn) → AreTurns limits no_state [] turns
+        → AreRight no_state turns }
 {}
 
 /// Where turns follow one after the other, what is printed of the check that stands is right. A model and values are those
 /// of its record, under which all is true that is live and assumed then. The assertions of a core, with all that have no
 /// name and with the assumptions, have no model. The assumptions that are printed have none with all live assertions.
 pub fn what_is_printed_is_right()
-    ensures { (limits : Limits) (turns : List Turn) → AreTurns limits (start_of true) [] turns
-        → ArePrinted (start_of true) [] None turns }
+    ensures { (limits : Limits) (turns : List Turn) → AreTurns limits no_state [] turns
+        → ArePrinted no_state [] None turns }
 {}
 
-/// What an accepted proof shows is right, whoever wrote it, and whether functions and arrays are read or not.
+/// What an accepted proof shows is right, whoever wrote it.
 pub fn accepted_proofs_are_right()
-    ensures { (theories : Bool) (limits : Limits) (script proof : List ℕ) (turns : List Turn)
-        → AcceptedFrom (start_of theories) limits script proof turns
-        → AreRight (start_of theories) turns }
+    ensures { (limits : Limits) (script proof : List ℕ) (turns : List Turn)
+        → Accepted limits script proof turns
+        → AreRight no_state turns }
 {}
 
 /// What stands beside answers is right, also where a run ended early.
 pub fn answers_beside_proofs_are_right()
     ensures { (limits : Limits) (script answers proof : List ℕ)
         (beside : StandsBeside limits script answers proof)
-        → AreRight (start_of true) (map turn_of beside.parts) }
+        → AreRight no_state (map turn_of beside.parts) }
 {}
 
 /// The commands of a script are read in one way: the turns of two accepted proofs begin on the same lines and say the same.

@@ -2,7 +2,7 @@
 use Rattle.std.proofs.Common.{◌≡◌, ℕ, zero, suc, ◌+◌, ◌<◌, List, [], ◌∷◌, ◌++◌, length, Some, None, refl, sym, ap, ap₂, subst, ◌∙◌, arith, ⊎_elim}
 use Rattle.std.specs.List.{flat_map, AllByRecursion}
 use Rattle.cnf_base.proofs.Lists.{each_append, each_front, each_behind}
-use Rattle.script_state.specs.States.{StateValue}
+use Rattle.script_state.specs.States.{StateValue, no_state}
 use Rattle.proof_log.specs.declared.entry.Entry.{Entry}
 use Rattle.proof_text.specs.declared.line.Format.{Format}
 use Rattle.proof_text.specs.declared.line.Format.TheVariants.{One, Two}
@@ -21,7 +21,7 @@ use Rattle.proof_conversion.proofs.Firsts.{same_first, same_behind}
 use Rattle.proof_conversion.proofs.Headings.{header_line}
 use Rattle.accepted_proof.specs.Searching.{Limits, AreLimits}
 use Rattle.accepted_proof.specs.Turns.{Part, Turn, AreParts, deleted_behind, part_lines, state_after, steps_in, turn_of}
-use Rattle.accepted_proof.specs.Accepted.{AcceptedFrom}
+use Rattle.accepted_proof.specs.Accepted.{Accepted}
 use Rattle.converted_proofs.proofs.Texts.{front_lines, knows_once, knows_split, same_lines, some_text}
 use Rattle.converted_proofs.proofs.Parting.{AreConverted, parts_converted}
 use Rattle.converted_proofs.proofs.Placed.{owes_known, parts_owe}
@@ -53,25 +53,25 @@ within : (limits : Limits) → AreLimits limits → AreWithin (numbers_of limits
 within limits h = record { cubes = h.cubes; budget = h.budget }
 
 -- an accepted proof with a header of the first format is one of the first format, and what stands behind the header are its lines
-record IsOfFirst (start : StateValue) (limits : Limits) (parts : List Part) (n : Numbers) (rest : List ℕ) : Type 0 where
-  run : AreParts One limits start [] [] parts
+record IsOfFirst (limits : Limits) (parts : List Part) (n : Numbers) (rest : List ℕ) : Type 0 where
+  run : AreParts One limits no_state [] [] parts
   each : AllByRecursion IsLine (flat_map part_lines parts)
   cubes : n.cubes ≡ limits.cubes
   budget : n.budget ≡ limits.budget
   rest_is : rest ≡ flat_map line_text (flat_map part_lines parts)
 
-is_of_first : (start : StateValue) (limits : Limits) (script proof rest : List ℕ) (turns : List Turn) (n : Numbers) → (a : AcceptedFrom start limits script proof turns) → AreWithin n → proof ≡ header_of One n ++ rest → IsOfFirst start limits a.parts n rest
-is_of_first start limits script proof rest turns n a w e =
+is_of_first : (limits : Limits) (script proof rest : List ℕ) (turns : List Turn) (n : Numbers) → (a : Accepted limits script proof turns) → AreWithin n → proof ≡ header_of One n ++ rest → IsOfFirst limits a.parts n rest
+is_of_first limits script proof rest turns n a w e =
     let behind = flat_map line_text (flat_map part_lines a.parts) in
     let both : line_text (Header a.format limits.cubes limits.budget) ++ behind ≡ line_text (Header One n.cubes n.budget) ++ rest = sym a.lines ∙ e in
     let same : Header a.format limits.cubes limits.budget ≡ Header One n.cubes n.budget = same_first (Header a.format limits.cubes limits.budget) (Header One n.cubes n.budget) behind rest (header_line a.format (numbers_of limits) (within limits a.allowed)) (header_line One n w) both in
     let format : a.format ≡ One = cc in
     let cubes : n.cubes ≡ limits.cubes = cc in
     let budget : n.budget ≡ limits.budget = cc in
-    let run : AreParts One limits start [] [] a.parts = subst (λ (f : Format). AreParts f limits start [] [] a.parts) format a.run in
+    let run : AreParts One limits no_state [] [] a.parts = subst (λ (f : Format). AreParts f limits no_state [] [] a.parts) format a.run in
     record {
       run = run;
-      each = readable_parts One limits a.parts start [] [] run;
+      each = readable_parts One limits a.parts no_state [] [] run;
       cubes = cubes;
       budget = budget;
       rest_is = sym (same_behind (Header a.format limits.cubes limits.budget) (Header One n.cubes n.budget) behind rest same both);
@@ -79,8 +79,8 @@ is_of_first start limits script proof rest turns n a w e =
 
 -- ---- it stays accepted
 
-pub stays_accepted : (start : StateValue) (limits : Limits) (script proof out : List ℕ) (records : ℕ) (turns : List Turn) → AcceptedFrom start limits script proof turns → IsConverted proof out records → AcceptedFrom start limits script out turns
-stays_accepted start limits script proof out records turns a c = record {
+pub stays_accepted : (limits : Limits) (script proof out : List ℕ) (records : ℕ) (turns : List Turn) → Accepted limits script proof turns → IsConverted proof out records → Accepted limits script out turns
+stays_accepted limits script proof out records turns a c = record {
   allowed = a.allowed;
   chunks = a.chunks;
   cut = a.cut;
@@ -96,15 +96,15 @@ stays_accepted start limits script proof out records turns a c = record {
       ∙ ap (λ (x : List Line). line_text (Header Two limits.cubes limits.budget) ++ flat_map line_text x) (ap (with_deletions (due_in c.known) 0) v.ended ∙ sym v.lines);
 }
   where
-    f : IsOfFirst start limits a.parts c.numbers c.rest
-    f = is_of_first start limits script proof c.rest turns c.numbers a c.within c.header
+    f : IsOfFirst limits a.parts c.numbers c.rest
+    f = is_of_first limits script proof c.rest turns c.numbers a c.within c.header
 
     lines_are : c.lines ≡ flat_map part_lines a.parts
     lines_are = same_lines c.lines (flat_map part_lines a.parts) c.read.each f.each (sym c.read.text_is ∙ f.rest_is)
 
-    v : AreConverted limits start [] [] a.parts nothing_known c.known
+    v : AreConverted limits no_state [] [] a.parts nothing_known c.known
     v =
-        parts_converted limits c.known (λ n lt. subst (λ (x : ℕ). AllByRecursion IsLine (deletion (due_in c.known x))) (let z : 0 + n ≡ n = omega arith in z) (readable_deletions (due_in c.known) 0 c.known.parts c.readable n lt)) a.parts start [] [] nothing_known 0 f.run (subst (λ (x : List Line). Knows nothing_known x c.known) lines_are c.read.knows)
+        parts_converted limits c.known (λ n lt. subst (λ (x : ℕ). AllByRecursion IsLine (deletion (due_in c.known x))) (let z : 0 + n ≡ n = omega arith in z) (readable_deletions (due_in c.known) 0 c.known.parts c.readable n lt)) a.parts no_state [] [] nothing_known 0 f.run (subst (λ (x : List Line). Knows nothing_known x c.known) lines_are c.read.knows)
         (record { lines = refl; same = refl; most = tt }) refl refl tt (omega arith)
 
 -- ---- it is not refused
@@ -123,15 +123,15 @@ no_break k end (l ∷ ls) rest rule w o h e b =
         let z : Some w.0 ≡ None = sym w.1 ∙ ap (λ (x : Line). owed_behind k.owed (kind_of x)) same ∙ y.misplaced in
         let q : ⊥ = cc in q
 
-pub never_refused : (start : StateValue) (limits : Limits) (script proof rest : List ℕ) (turns : List Turn) (fault : Fault) → AcceptedFrom start limits script proof turns → HasHeader proof rest → IsUnconverted proof fault → ⊥
-never_refused start limits script proof rest turns fault a has bad = ⊎_elim (λ x. x.0 rest has) (λ x. first_bad x.0 x.1 x.2) bad
+pub never_refused : (limits : Limits) (script proof rest : List ℕ) (turns : List Turn) (fault : Fault) → Accepted limits script proof turns → HasHeader proof rest → IsUnconverted proof fault → ⊥
+never_refused limits script proof rest turns fault a has bad = ⊎_elim (λ x. x.0 rest has) (λ x. first_bad x.0 x.1 x.2) bad
   where
     first_bad : (other : List ℕ) → HasHeader proof other → IsFirstBad other fault → ⊥
     first_bad other h b =
-        let f = is_of_first start limits script proof other turns h.numbers a h.within h.begins in
+        let f = is_of_first limits script proof other turns h.numbers a h.within h.begins in
         let all = flat_map part_lines a.parts in
         let front = front_lines b.lines all b.rest b.each f.each (sym b.text_is ∙ f.rest_is) in
-        let known = owes_known nothing_known all owed.Nothing (parts_owe limits a.parts start [] f.run) in
+        let known = owes_known nothing_known all owed.Nothing (parts_owe limits a.parts no_state [] f.run) in
         let split = knows_split nothing_known b.lines front.more known.0 (subst (λ (x : List Line). Knows nothing_known x known.0) front.all_is known.1) in
         let same : split.mid ≡ b.known = knows_once nothing_known b.lines split.mid b.known split.first b.knows in
         let each : AllByRecursion IsLine front.more = each_behind IsLine b.lines front.more (subst (AllByRecursion IsLine) front.all_is f.each) in

@@ -1,7 +1,6 @@
 -- What is accepted of fronts of two texts stays so in the whole.
 use Rattle.std.proofs.Common.{◌≡◌, ℕ, Bool, true, false, List, [], ◌∷◌, ◌++◌, Option, None, refl, sym, ap, ◌∙◌, subst, inl, inr, append_assoc}
 use Rattle.script_state.specs.declared.answer.Verdict.{Verdict}
-use Rattle.script_state.specs.States.{StateValue, start_of}
 use Rattle.script_state.specs.Steps.{ends}
 use Rattle.script_state.proofs.Deciding.{ends_by_exit}
 use Rattle.smt_text.proofs.Cuts.{AreCut-one}
@@ -13,7 +12,7 @@ use Rattle.accepted_proof.specs.Judged.{Owed, Judging, judging_from, commanded, 
 use Rattle.accepted_proof.proofs.Following.{reach_here, reach_past, reach_last}
 use Rattle.accepted_proof.proofs.Once.{moved_once, same_start}
 use Rattle.proof_checker.specs.Checkers.{Says}
-use Rattle.proof_checker.specs.Checked.{shown_at, Tells, TellsProofFrom, IsJudgedOver, IsJudged, IsAcceptedSoFarOver, IsAcceptedSoFar}
+use Rattle.proof_checker.specs.Checked.{shown_at, Tells, TellsProof, IsJudged, IsAcceptedSoFar}
 use Rattle.proof_checker.proofs.Splits.{lines_one}
 use Rattle.proof_checker.proofs.Verdicts.{IsOver, at_refused, over_told}
 use Rattle.proof_checker.proofs.Passing.{none_some, readings}
@@ -73,21 +72,18 @@ told_first : (ls later : List (Option Line)) → ToldFirst ls later
 told_first [] later j cs more vs us o a b = (us, ap (λ x. x ++ us) (sym a.0))
 told_first (l ∷ ls) later j cs more vs us o a b = first_by l ls later (told_first ls later) j cs more vs us o (is_idle (reach j cs).0.owed) refl a b
 
-proof_told_first : (start : StateValue) (ls later : List (Option Line)) (cs more : List Says) (vs us : List Verdict) (o : Option Refusal) → TellsProofFrom start cs ls vs None → TellsProofFrom start (cs ++ more) (ls ++ later) us o → Begin vs us
-proof_told_first start [] later cs more vs us o a b = absurd (none_some bad_header a.1)
-proof_told_first start (l ∷ ls) later cs more vs us o (inl a) (inl b) =
-    let same = same_start start l a.0 b.0 a.1 b.1 a.2 b.2 in
-    told_first ls later (judging_from start b.0 b.1) cs more vs us o (subst (λ x. Tells x cs ls vs None) same a.3) b.3
-proof_told_first start (l ∷ ls) later cs more vs us o (inl a) (inr b) = absurd (b.0 a.0 a.1 a.2)
-proof_told_first start (l ∷ ls) later cs more vs us o (inr a) b = absurd (none_some bad_header a.2)
+proof_told_first : (ls later : List (Option Line)) (cs more : List Says) (vs us : List Verdict) (o : Option Refusal) → TellsProof cs ls vs None → TellsProof (cs ++ more) (ls ++ later) us o → Begin vs us
+proof_told_first [] later cs more vs us o a b = absurd (none_some bad_header a.1)
+proof_told_first (l ∷ ls) later cs more vs us o (inl a) (inl b) =
+    let same = same_start l a.0 b.0 a.1 b.1 a.2 b.2 in
+    told_first ls later (judging_from b.0 b.1) cs more vs us o (subst (λ x. Tells x cs ls vs None) same a.3) b.3
+proof_told_first (l ∷ ls) later cs more vs us o (inl a) (inr b) = absurd (b.0 a.0 a.1 a.2)
+proof_told_first (l ∷ ls) later cs more vs us o (inr a) b = absurd (none_some bad_header a.2)
 
-pub fronts_stay_over : (start : StateValue) (script proof : List ℕ) (vs us : List Verdict) (o : Option Refusal) → IsAcceptedSoFarOver start script proof vs → IsJudgedOver start script proof us o → (rest : List Verdict) × (us ≡ vs ++ rest)
-fronts_stay_over start script proof vs us o a b =
+pub fronts_stay : (script proof : List ℕ) (vs us : List Verdict) (o : Option Refusal) → IsAcceptedSoFar script proof vs → IsJudged script proof us o → (rest : List Verdict) × (us ≡ vs ++ rest)
+fronts_stay script proof vs us o a b =
     let cuts = AreCut-one (record { line = 1; bytes = script }) (a.chunks ++ a.behind) (b.chunks ++ b.behind) a.cut b.cut in
     let lines = lines_one proof (a.lines ++ a.later) b.lines a.split b.split in
     let all = readings a.chunks b.chunks a.behind b.behind a.says b.says cuts a.read b.read in
-    let t : TellsProofFrom start (a.says ++ all.rest) b.lines us o = subst (λ x. TellsProofFrom start x b.lines us o) (sym all.same) (b.told all.other all.too) in
-    proof_told_first start a.lines a.later a.says all.rest vs us o a.told (subst (λ x. TellsProofFrom start (a.says ++ all.rest) x us o) (sym lines) t)
-
-pub fronts_stay : (script proof : List ℕ) (vs us : List Verdict) (o : Option Refusal) → IsAcceptedSoFar script proof vs → IsJudged script proof us o → (rest : List Verdict) × (us ≡ vs ++ rest)
-fronts_stay script proof vs us o a b = fronts_stay_over (start_of true) script proof vs us o a b
+    let t : TellsProof (a.says ++ all.rest) b.lines us o = subst (λ x. TellsProof x b.lines us o) (sym all.same) (b.told all.other all.too) in
+    proof_told_first a.lines a.later a.says all.rest vs us o a.told (subst (λ x. TellsProof (a.says ++ all.rest) x us o) (sym lines) t)

@@ -9,7 +9,6 @@ use Rattle.smt_text.specs.Script.{AreCut}
 use Rattle.smt_text.proofs.Cuts.{AreCut-one}
 use Rattle.script_state.specs.declared.answer.Verdict.{Verdict}
 use Rattle.script_state.specs.Readings.{ReadsAs}
-use Rattle.script_state.specs.States.{start_of}
 use Rattle.script_state.specs.Steps.{ends}
 use Rattle.proof_text.specs.declared.line.Format.{Format}
 use Rattle.proof_text.specs.declared.line.Line.{Line}
@@ -17,7 +16,7 @@ use Rattle.accepted_proof.specs.declared.refusal.Refusal.{Refusal}
 use Rattle.accepted_proof.specs.Searching.{Limits}
 use Rattle.accepted_proof.specs.Judged.{Judging, judging_from, commanded, is_idle, ending, Moves, IsHeader, bad_header, ReadEach}
 use Rattle.accepted_proof.proofs.Following.{reach_here}
-use Rattle.proof_checker.specs.Checkers.{Says, CheckerValue, records_over, judged_so, GoesTo, answer_by, at_end}
+use Rattle.proof_checker.specs.Checkers.{Says, CheckerValue, no_records, judged_so, GoesTo, answer_by, at_end}
 use Rattle.proof_checker.specs.Checked.{shown_at, AreLines, Tells, IsTold, IsToldSoFar}
 use Rattle.proof_checker.specs.Checkings.{MayCome, to_be_done, told_from, IsJudgedFrom, IsAcceptedFrom, AreToCome, Keeps, verdicts_by, Concludes, AddsVerdicts, GoesOn, held_by, IsSameScript, IsSameProof, TakesLine, TakesChunk, IsProofAtEnd, IsScriptAtEnd, IsLeft, HasNoCommand, IsAtLine, Stops, Advances}
 use Rattle.proof_checker.specs.declared.inputs.Inputs.{Inputs}
@@ -115,9 +114,9 @@ reached_alone i c (inr (inr e)) s chunks behind says t k r =
     let b = none_behind chunks behind (no_chunks i s (chunks ++ behind) e t k) in
     subst (λ x. IsReached c.judging (to_be_done i.run_ended x)) (sym (no_readings chunks says b.0 r)) (none_reached c.judging i.run_ended)
 
--- what is judged where functions and arrays are read, or are not, and where the run ended, or did not
-abbrev ToldBy : Bool → Bool → Held → List ℕ → Option CheckerValue → List Verdict → Option Refusal → Type 0
-ToldBy theories ended script proof c vs o = IsTold (told_from theories ended c) ended script proof vs o
+-- what is judged where the run ended, or did not
+abbrev ToldBy : Bool → Held → List ℕ → Option CheckerValue → List Verdict → Option Refusal → Type 0
+ToldBy ended script proof c vs o = IsTold (told_from ended c) ended script proof vs o
 
 -- ---- a line
 
@@ -126,8 +125,8 @@ module _ (old new : Inputs) (l : Option Line) (same : IsSameScript old new) (tak
   cut_back s cs k = subst (λ (x : Held). AreCut (and_more x s) cs) same.framer k
 
   -- the run ended or did not, as before
-  told_back : (c : Option CheckerValue) (cs : List Says) (ls : List (Option Line)) (vs : List Verdict) (o : Option Refusal) → told_from new.theories new.run_ended c cs ls vs o → told_from old.theories old.run_ended c cs ls vs o
-  told_back c cs ls vs o h = subst (λ a. told_from a old.run_ended c cs ls vs o) same.theories (subst (λ b. told_from new.theories b c cs ls vs o) same.run h)
+  told_back : (c : Option CheckerValue) (cs : List Says) (ls : List (Option Line)) (vs : List Verdict) (o : Option Refusal) → told_from new.run_ended c cs ls vs o → told_from old.run_ended c cs ls vs o
+  told_back c cs ls vs o h = subst (λ b. told_from b c cs ls vs o) same.run h
 
   whole_back : (behind : List Chunk) (says : List Says) (o : Option Refusal) → (o ≡ None → (behind ≡ []) ⊎ ((new.run_ended || list_any ends says) ≡ true)) → o ≡ None → (behind ≡ []) ⊎ ((old.run_ended || list_any ends says) ≡ true)
   whole_back behind says o h = subst (λ b. o ≡ None → (behind ≡ []) ⊎ ((b || list_any ends says) ≡ true)) same.run h
@@ -139,11 +138,11 @@ module _ (old new : Inputs) (l : Option Line) (same : IsSameScript old new) (tak
   no_more k ki = subst (λ (x : Inputs). held_by x ≤ held_by old) (sym ki) (omega (arith, fewer))
 
   -- the header
-  pub begun : (c : CheckerValue) (format : Format) (limits : Limits) → IsHeader l format limits → c ≡ records_over (start_of new.theories) format limits → (k : Checking) → k.inputs ≡ new → k.checker ≡ Some c → Advances old None (step.On k)
-  begun c format limits head made k ki kc = let e : c ≡ records_over (start_of old.theories) format limits = made ∙ ap (λ a. records_over (start_of a) format limits) same.theories in (
+  pub begun : (c : CheckerValue) (format : Format) (limits : Limits) → IsHeader l format limits → c ≡ no_records format limits → (k : Checking) → k.inputs ≡ new → k.checker ≡ Some c → Advances old None (step.On k)
+  begun c format limits head e k ki kc = (
     record {
       judged = λ s p vs o t h'.
-          let h : IsJudgedFrom new (Some (records_over (start_of old.theories) format limits)) s p vs o = subst (λ (x : CheckerValue). IsJudgedFrom new (Some x) s p vs o) e (subst (λ (x : Option CheckerValue). IsJudgedFrom new x s p vs o) kc (subst (λ (x : Inputs). IsJudgedFrom x k.checker s p vs o) ki h')) in
+          let h : IsJudgedFrom new (Some (no_records format limits)) s p vs o = subst (λ (x : CheckerValue). IsJudgedFrom new (Some x) s p vs o) e (subst (λ (x : Option CheckerValue). IsJudgedFrom new x s p vs o) kc (subst (λ (x : Inputs). IsJudgedFrom x k.checker s p vs o) ki h')) in
           record {
             chunks = h.chunks;
             behind = h.behind;
@@ -152,12 +151,12 @@ module _ (old new : Inputs) (l : Option Line) (same : IsSameScript old new) (tak
             cut = cut_back s (h.chunks ++ h.behind) h.cut;
             read = h.read;
             split = takes.lines p h.lines t.proof h.split;
-            told = λ rest n. let q = told_back (Some (records_over (start_of old.theories) format limits)) (h.says ++ rest) h.lines vs o (h.told rest n) in inl (format, limits, head, subst (λ x. Tells (judging_from (start_of old.theories) format limits) (to_be_done old.run_ended (h.says ++ rest)) h.lines x o) (sym q.1) q.2);
+            told = λ rest n. let q = told_back (Some (no_records format limits)) (h.says ++ rest) h.lines vs o (h.told rest n) in inl (format, limits, head, subst (λ x. Tells (judging_from format limits) (to_be_done old.run_ended (h.says ++ rest)) h.lines x o) (sym q.1) q.2);
             whole = whole_back h.behind h.says o h.whole;
           };
       accepted = λ s p vs t h'.
-          let h : IsAcceptedFrom new (Some (records_over (start_of old.theories) format limits)) s p vs = subst (λ (x : CheckerValue). IsAcceptedFrom new (Some x) s p vs) e (subst (λ (x : Option CheckerValue). IsAcceptedFrom new x s p vs) kc (subst (λ (x : Inputs). IsAcceptedFrom x k.checker s p vs) ki h')) in
-          let q = told_back (Some (records_over (start_of old.theories) format limits)) h.says h.lines vs None h.told in
+          let h : IsAcceptedFrom new (Some (no_records format limits)) s p vs = subst (λ (x : CheckerValue). IsAcceptedFrom new (Some x) s p vs) e (subst (λ (x : Option CheckerValue). IsAcceptedFrom new x s p vs) kc (subst (λ (x : Inputs). IsAcceptedFrom x k.checker s p vs) ki h')) in
+          let q = told_back (Some (no_records format limits)) h.says h.lines vs None h.told in
           record {
             chunks = h.chunks;
             behind = h.behind;
@@ -167,7 +166,7 @@ module _ (old new : Inputs) (l : Option Line) (same : IsSameScript old new) (tak
             cut = cut_back s (h.chunks ++ h.behind) h.cut;
             read = h.read;
             split = takes.lines p (h.lines ++ h.later) t.proof h.split;
-            told = inl (format, limits, head, subst (λ x. Tells (judging_from (start_of old.theories) format limits) (to_be_done old.run_ended h.says) h.lines x None) (sym q.1) q.2);
+            told = inl (format, limits, head, subst (λ x. Tells (judging_from format limits) (to_be_done old.run_ended h.says) h.lines x None) (sym q.1) q.2);
           };
       script = ap (λ (x : Inputs). x.script_ended) ki ∙ same.script;
       proof = ap (λ (x : Inputs). x.proof_ended) ki ∙ same.proof;
@@ -365,7 +364,7 @@ module _ (old : Inputs) (end : IsProofAtEnd old) where
 
 -- the same inputs, where a command ended the run, or did not
 abbrev pub run_by : Inputs → Bool → Inputs
-run_by i ended = record { theories = i.theories; framer = i.framer; script_ended = i.script_ended; run_ended = ended; reader = i.reader; proof_ended = i.proof_ended }
+run_by i ended = record { framer = i.framer; script_ended = i.script_ended; run_ended = ended; reader = i.reader; proof_ended = i.proof_ended }
 
 module _ (old new : Inputs) (same : IsSameProof old new) where
   pub command_done : (chunk : Chunk) → (old.run_ended ≡ false) × TakesChunk old new chunk → (c d : CheckerValue) (says : Says) (ended : Bool) → is_idle c.judging.owed ≡ true → ReadsAs chunk says → d ≡ judged_so c (commanded c.judging says) → ended ≡ ends says → (k : Checking) → k.inputs ≡ run_by new ended → k.checker ≡ Some d → Advances old (Some c) (step.On k)
@@ -408,11 +407,11 @@ module _ (old new : Inputs) (same : IsSameProof old new) where
   )
     where
       -- the run did not end before
-      before : false ≡ old.run_ended → (s p : List ℕ) (vs : List Verdict) (o : Option Refusal) → ToldBy old.theories false (and_more old.framer s) (old.reader.bytes ++ p) (Some c) vs o → IsJudgedFrom old (Some c) s p vs o
-      before on s p vs o h = subst (λ b. ToldBy old.theories b (and_more old.framer s) (old.reader.bytes ++ p) (Some c) vs o) on h
+      before : false ≡ old.run_ended → (s p : List ℕ) (vs : List Verdict) (o : Option Refusal) → ToldBy false (and_more old.framer s) (old.reader.bytes ++ p) (Some c) vs o → IsJudgedFrom old (Some c) s p vs o
+      before on s p vs o h = subst (λ b. ToldBy b (and_more old.framer s) (old.reader.bytes ++ p) (Some c) vs o) on h
 
-      accepted_before : false ≡ old.run_ended → (s p : List ℕ) (vs : List Verdict) → IsToldSoFar (told_from old.theories false (Some c)) (and_more old.framer s) (old.reader.bytes ++ p) vs → IsAcceptedFrom old (Some c) s p vs
-      accepted_before on s p vs h = subst (λ b. IsToldSoFar (told_from old.theories b (Some c)) (and_more old.framer s) (old.reader.bytes ++ p) vs) on h
+      accepted_before : false ≡ old.run_ended → (s p : List ℕ) (vs : List Verdict) → IsToldSoFar (told_from false (Some c)) (and_more old.framer s) (old.reader.bytes ++ p) vs → IsAcceptedFrom old (Some c) s p vs
+      accepted_before on s p vs h = subst (λ b. IsToldSoFar (told_from b (Some c)) (and_more old.framer s) (old.reader.bytes ++ p) vs) on h
 
   -- at the end of the script
   module _ (was : IsScriptAtEnd old) (is : IsScriptAtEnd new) (le : length new.framer.bytes ≤ length old.framer.bytes) (c : CheckerValue) where
@@ -428,7 +427,7 @@ module _ (old new : Inputs) (same : IsSameProof old new) where
           cut = subst (λ x. AreCut (and_more old.framer s) x) (sym none) (subst (λ (x : Held). AreCut x []) (sym (more_none old.framer s (t.script was.ended))) was.cut);
           read = h.read;
           split = subst (λ x. AreLines (x.bytes ++ p) h.lines) same.reader h.split;
-          told = λ rest n. subst (λ b. told_from old.theories b (Some c) (h.says ++ rest) h.lines vs o) same.run (h.told rest n);
+          told = λ rest n. subst (λ b. told_from b (Some c) (h.says ++ rest) h.lines vs o) same.run (h.told rest n);
           whole = subst (λ b. o ≡ None → (h.behind ≡ []) ⊎ ((b || list_any ends h.says) ≡ true)) same.run h.whole;
         }
 
@@ -445,7 +444,7 @@ module _ (old new : Inputs) (same : IsSameProof old new) where
           cut = subst (λ x. AreCut (and_more old.framer s) x) (sym none) (subst (λ (x : Held). AreCut x []) (sym (more_none old.framer s (t.script was.ended))) was.cut);
           read = h.read;
           split = subst (λ x. AreLines (x.bytes ++ p) (h.lines ++ h.later)) same.reader h.split;
-          told = subst (λ b. told_from old.theories b (Some c) h.says h.lines vs None) same.run h.told;
+          told = subst (λ b. told_from b (Some c) h.says h.lines vs None) same.run h.told;
         }
 
     few : held_by new ≤ held_by old
@@ -474,17 +473,17 @@ module _ (old new : Inputs) (same : IsSameProof old new) where
 
 -- ---- nothing was taken
 
-same_inputs : (old new : Inputs) → new.theories ≡ old.theories → new.framer ≡ old.framer → new.reader ≡ old.reader → new.script_ended ≡ old.script_ended → new.run_ended ≡ old.run_ended → new.proof_ended ≡ old.proof_ended → new ≡ old
-same_inputs old new t a b c r d = λ i. record { theories = t i; framer = a i; script_ended = c i; run_ended = r i; reader = b i; proof_ended = d i }
+same_inputs : (old new : Inputs) → new.framer ≡ old.framer → new.reader ≡ old.reader → new.script_ended ≡ old.script_ended → new.run_ended ≡ old.run_ended → new.proof_ended ≡ old.proof_ended → new ≡ old
+same_inputs old new a b c r d = λ i. record { framer = a i; script_ended = c i; run_ended = r i; reader = b i; proof_ended = d i }
 
 pub proof_asked : (old new : Inputs) → IsSameScript old new → (old.proof_ended ≡ false) × (new.reader ≡ old.reader) → (c : Option CheckerValue) (k : Checking) → k.inputs ≡ new → k.checker ≡ c → Keeps old c k × AddsVerdicts c k.checker [] × (k.inputs.proof_ended ≡ false)
 proof_asked old new same h c k e f =
-    let i = same_inputs old new same.theories same.framer h.1 same.script same.run same.proof in
+    let i = same_inputs old new same.framer h.1 same.script same.run same.proof in
     (keeps_none old c k (e ∙ i) f, adds_none c k.checker (ap verdicts_by f), ap (λ (x : Inputs). x.proof_ended) (e ∙ i) ∙ h.0)
 
 pub script_asked : (old new : Inputs) → IsSameProof old new → (old.script_ended ≡ false) × (new.framer ≡ old.framer) → (c : Option CheckerValue) (k : Checking) → k.inputs ≡ new → k.checker ≡ c → Keeps old c k × AddsVerdicts c k.checker [] × (k.inputs.script_ended ≡ false)
 script_asked old new same h c k e f =
-    let i = same_inputs old new same.theories h.1 same.reader same.script same.run same.proof in
+    let i = same_inputs old new h.1 same.reader same.script same.run same.proof in
     (keeps_none old c k (e ∙ i) f, adds_none c k.checker (ap verdicts_by f), ap (λ (x : Inputs). x.script_ended) (e ∙ i) ∙ h.0)
 
 -- ---- no command follows
@@ -498,7 +497,7 @@ module _ (old new : Inputs) (same : IsSameProof old new) where
   no_command (inr e) = inr e.1
 
   line_back : (c : CheckerValue) → NoChunk old new → (r : Step) → Advances new (Some c) r → Advances old (Some c) r
-  line_back c (inl e) r h = subst (λ (x : Inputs). Advances x (Some c) r) (same_inputs old new same.theories e.1 same.reader same.script same.run same.proof) h
+  line_back c (inl e) r h = subst (λ (x : Inputs). Advances x (Some c) r) (same_inputs old new e.1 same.reader same.script same.run same.proof) h
   line_back c (inr e) r h = advances_back old new same e.0 e.1 e.2 c r h
 
   pub result_back : {E : Type 0} → NoChunk old new → (c : CheckerValue) (r : Result Step E) → IfOk r (λ x. Advances new (Some c) x) → IfOk r (λ x. Advances old (Some c) x)

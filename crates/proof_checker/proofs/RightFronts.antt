@@ -1,23 +1,23 @@
 -- What is accepted of fronts of two texts is right.
-use Rattle.std.proofs.Common.{◌≡◌, ℕ, Bool, true, List, [], ◌∷◌, ◌++◌, map, Option, Some, None, refl, sym, ap, ◌∙◌, subst, inl, inr, append_assoc}
+use Rattle.std.proofs.Common.{◌≡◌, ℕ, List, [], ◌∷◌, ◌++◌, map, Option, Some, None, refl, sym, ap, ◌∙◌, subst, inl, inr, append_assoc}
 use Rattle.std.specs.Prelude.{IfSome}
 use Rattle.std.specs.List.{flat_map}
 use Rattle.cnf_base.proofs.Lists.{each_front}
 use Rattle.script_state.specs.declared.answer.Verdict.{Verdict}
-use Rattle.script_state.specs.States.{start_of}
+use Rattle.script_state.specs.States.{no_state}
 use Rattle.proof_text.specs.declared.line.Line.{Line}
 use Rattle.proof_text.specs.declared.line.Line.TheVariants as line
 use Rattle.proof_text.specs.Lines.{line_text, IsLine}
 use Rattle.accepted_proof.specs.Searching.{Limits}
 use Rattle.accepted_proof.specs.Turns.{Turn, part_lines, turn_of}
 use Rattle.accepted_proof.specs.Answers.{written_of}
-use Rattle.accepted_proof.specs.Accepted.{AcceptedSoFarFrom, AcceptedSoFar}
+use Rattle.accepted_proof.specs.Accepted.{AcceptedSoFar}
 use Rattle.accepted_proof.specs.Right.{AreRight}
 use Rattle.accepted_proof.specs.Judged.{judging_from, AreReadable}
 use Rattle.accepted_proof.proofs.Answering.{start_parts_are_right}
 use Rattle.accepted_proof.proofs.Beginning.{judged_begins}
 use Rattle.accepted_proof.proofs.Fronts.{front_fewer}
-use Rattle.proof_checker.specs.Checked.{AreLines, IsAcceptedSoFarOver, IsAcceptedSoFar, verdicts_of}
+use Rattle.proof_checker.specs.Checked.{AreLines, IsAcceptedSoFar, verdicts_of}
 use Rattle.proof_checker.proofs.Passing.{header_told, lines_readable}
 use Rattle.proof_checker.proofs.Verdicts.{judged_of, proof_verdicts, line_verdict, of_parts}
 
@@ -38,20 +38,19 @@ begins_with_lines (l ∷ ls) later text (inr h) = absurd (line_there l h.1)
     line_there : (l : Line) → ◌≡◌ {A = Option Line} (Some l) None → ⊥
     line_there l e = cc
 
-pub fronts_right_over : (theories : Bool) (script proof : List ℕ) (vs : List Verdict) → IsAcceptedSoFarOver (start_of theories) script proof vs
-    → (limits : Limits) × (turns : List Turn) × AcceptedSoFarFrom (start_of theories) limits script proof turns × AreRight (start_of theories) turns × (vs ≡ verdicts_of turns)
-fronts_right_over theories script proof vs h =
-    let start = start_of theories in
-    let m = header_told start h.lines h.says vs h.told in
+pub fronts_right : (script proof : List ℕ) (vs : List Verdict) → IsAcceptedSoFar script proof vs
+    → (limits : Limits) × (turns : List Turn) × AcceptedSoFar limits script proof turns × AreRight no_state turns × (vs ≡ verdicts_of turns)
+fronts_right script proof vs h =
+    let m = header_told h.lines h.says vs h.told in
     let readable : AreReadable m.rest = (subst AreReadable m.header (each_front (λ l. IfSome l IsLine) h.lines h.later (lines_readable (h.lines ++ h.later) proof h.split))).1 in
-    let t = judged_begins theories m.format m.limits script h.chunks h.says m.rest m.allowed (front_fewer script h.chunks h.behind (inr h.cut)) h.read readable (judged_of m.rest (judging_from start m.format m.limits) h.says vs None m.told) in
+    let t = judged_begins m.format m.limits script h.chunks h.says m.rest m.allowed (front_fewer script h.chunks h.behind (inr h.cut)) h.read readable (judged_of m.rest (judging_from m.format m.limits) h.says vs None m.told) in
     let header : Line = line.Header m.format m.limits.cubes m.limits.budget in
     let turns = map turn_of t.0 in
     let lines : h.lines ≡ map (λ l. Some l) (header ∷ flat_map part_lines t.0) = m.header ∙ ap (λ ls. Some header ∷ ls) t.1 in
     let text = begins_with_lines (header ∷ flat_map part_lines t.0) h.later proof (subst (λ ls. AreLines proof (ls ++ h.later)) lines h.split) in
     let front = t.2 in
     let whole = written_of front.format m.limits front.parts in
-    let begun : AcceptedSoFarFrom start m.limits script proof turns = record {
+    let begun : AcceptedSoFar m.limits script proof turns = record {
       allowed = front.allowed;
       chunks = front.chunks;
       rest = front.rest ++ text.0;
@@ -64,7 +63,4 @@ fronts_right_over theories script proof vs h =
       run = front.run;
       lines = text.1 ∙ ap (λ x. x ++ text.0) front.lines ∙ append_assoc whole front.rest text.0;
     } in
-    (m.limits, turns, begun, start_parts_are_right theories begun.format m.limits begun.parts turns begun.turns_are begun.run, proof_verdicts start m.format m.limits m.rest h.says vs m.told ∙ ap (flat_map line_verdict) t.1 ∙ of_parts t.0)
-
-pub fronts_right : (script proof : List ℕ) (vs : List Verdict) → IsAcceptedSoFar script proof vs → (limits : Limits) × (turns : List Turn) × AcceptedSoFar limits script proof turns × AreRight (start_of true) turns × (vs ≡ verdicts_of turns)
-fronts_right script proof vs h = fronts_right_over true script proof vs h
+    (m.limits, turns, begun, start_parts_are_right begun.format m.limits begun.parts turns begun.turns_are begun.run, proof_verdicts m.format m.limits m.rest h.says vs m.told ∙ ap (flat_map line_verdict) t.1 ∙ of_parts t.0)

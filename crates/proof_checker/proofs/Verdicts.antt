@@ -13,7 +13,6 @@ use Rattle.script_state.specs.declared.answer.Verdict.TheVariants as verdict
 use Rattle.script_state.specs.Steps.{step, ends}
 use Rattle.theory_terms.specs.declared.lemma.Lemma.{Lemma}
 use Rattle.theory_terms.specs.declared.lemma.Lemma.TheVariants as lemma
-use Rattle.script_state.specs.States.{StateValue}
 use Rattle.proof_log.specs.declared.entry.Entry.{Entry}
 use Rattle.proof_log.specs.declared.entry.Entry.TheVariants as entry
 use Rattle.proof_text.specs.declared.line.Format.{Format}
@@ -36,7 +35,7 @@ use Rattle.accepted_proof.specs.Searching.{Limits}
 use Rattle.proof_log.specs.declared.diary.DiaryLine.{DiaryLine}
 use Rattle.proof_log.specs.declared.diary.DiaryLine.TheVariants as diary
 use Rattle.proof_checker.specs.Checkers.{Says}
-use Rattle.proof_checker.specs.Checked.{shown_at, Tells, TellsProofFrom, verdicts_of}
+use Rattle.proof_checker.specs.Checked.{shown_at, Tells, TellsProof, verdicts_of}
 use Rattle.proof_checker.proofs.Telling.{tells_over, ending_none}
 
 -- ---- what is told is judged
@@ -57,14 +56,14 @@ one_telling (l ∷ ls) j cs vs us o q a b =
     let m = one_telling ls b.0 (reach j cs).1 a.1 b.1 o q (subst (λ k. Tells k (reach j cs).1 ls a.1 o) e a.4) b.4 in
     (a.3 ∙ ap (λ k. shown_at k ++ a.1) e ∙ ap (λ x. shown_at b.0 ++ x) m.0 ∙ sym b.3, m.1)
 
-pub one_proof_telling : (start : StateValue) (ls : List (Option Line)) (cs : List Says) (vs us : List Verdict) (o q : Option Refusal) → TellsProofFrom start cs ls vs o → TellsProofFrom start cs ls us q → (vs ≡ us) × (o ≡ q)
-one_proof_telling start [] cs vs us o q a b = (a.0 ∙ sym b.0, a.1 ∙ sym b.1)
-one_proof_telling start (l ∷ ls) cs vs us o q (inl a) (inl b) =
-    let same = same_start start l a.0 b.0 a.1 b.1 a.2 b.2 in
-    one_telling ls (judged.judging_from start b.0 b.1) cs vs us o q (subst (λ x. Tells x cs ls vs o) same a.3) b.3
-one_proof_telling start (l ∷ ls) cs vs us o q (inl a) (inr b) = absurd (b.0 a.0 a.1 a.2)
-one_proof_telling start (l ∷ ls) cs vs us o q (inr a) (inl b) = absurd (a.0 b.0 b.1 b.2)
-one_proof_telling start (l ∷ ls) cs vs us o q (inr a) (inr b) = (a.1 ∙ sym b.1, a.2 ∙ sym b.2)
+pub one_proof_telling : (ls : List (Option Line)) (cs : List Says) (vs us : List Verdict) (o q : Option Refusal) → TellsProof cs ls vs o → TellsProof cs ls us q → (vs ≡ us) × (o ≡ q)
+one_proof_telling [] cs vs us o q a b = (a.0 ∙ sym b.0, a.1 ∙ sym b.1)
+one_proof_telling (l ∷ ls) cs vs us o q (inl a) (inl b) =
+    let same = same_start l a.0 b.0 a.1 b.1 a.2 b.2 in
+    one_telling ls (judged.judging_from b.0 b.1) cs vs us o q (subst (λ x. Tells x cs ls vs o) same a.3) b.3
+one_proof_telling (l ∷ ls) cs vs us o q (inl a) (inr b) = absurd (b.0 a.0 a.1 a.2)
+one_proof_telling (l ∷ ls) cs vs us o q (inr a) (inl b) = absurd (a.0 b.0 b.1 b.2)
+one_proof_telling (l ∷ ls) cs vs us o q (inr a) (inr b) = (a.1 ∙ sym b.1, a.2 ∙ sym b.2)
 
 -- ---- the verdicts of lines
 
@@ -235,8 +234,8 @@ told_verdicts (l ∷ ls) j cs vs h =
       | inr o ↦ absurd (over_told ls k (reach j cs).1 h.1 None o.0 o.1 h.4 refl)
     ]
 
-pub proof_verdicts : (start : StateValue) (format : Format) (limits : Limits) (ls : List (Option Line)) (cs : List Says) (vs : List Verdict) → Tells (judged.judging_from start format limits) cs ls vs None → vs ≡ flat_map line_verdict ls
-proof_verdicts start format limits ls cs vs h = told_verdicts ls (judged.judging_from start format limits) cs vs h ∙ ap (λ x. x ++ flat_map line_verdict ls) (reach_owing cs (judged.judging_from start format limits))
+pub proof_verdicts : (format : Format) (limits : Limits) (ls : List (Option Line)) (cs : List Says) (vs : List Verdict) → Tells (judged.judging_from format limits) cs ls vs None → vs ≡ flat_map line_verdict ls
+proof_verdicts format limits ls cs vs h = told_verdicts ls (judged.judging_from format limits) cs vs h ∙ ap (λ x. x ++ flat_map line_verdict ls) (reach_owing cs (judged.judging_from format limits))
 
 -- ---- the lines of turns
 

@@ -6,7 +6,6 @@ use Rattle.smt_text.specs.declared.chunk.Chunk.{Chunk}
 use Rattle.smt_text.specs.Framing.{Held}
 use Rattle.smt_text.specs.Script.{AreCut}
 use Rattle.script_state.specs.declared.answer.Verdict.{Verdict}
-use Rattle.script_state.specs.States.{StateValue, start_of}
 use Rattle.script_state.specs.Steps.{ends}
 use Rattle.proof_text.specs.declared.line.Format.{Format}
 use Rattle.proof_text.specs.declared.line.Line.{Line}
@@ -53,10 +52,10 @@ abbrev pub Tells : Judging → List Says → List (Option Line) → List Verdict
 Tells j cs [] vs o = (vs ≡ []) × (o ≡ ending (reach j cs).0.owed (reach j cs).0.line)
 Tells j cs (l ∷ ls) vs o = (k : Judging) × (rest : List Verdict) × Moves (reach j cs).0 l k × (vs ≡ shown_at k ++ rest) × Tells k (reach j cs).1 ls rest o
 
--- the same of all lines of a proof, as `JudgedProofFrom` says, where the commands are obeyed from this state on
-abbrev pub TellsProofFrom : StateValue → List Says → List (Option Line) → List Verdict → Option Refusal → Type 0
-TellsProofFrom start cs [] vs o = (vs ≡ []) × (o ≡ Some bad_header)
-TellsProofFrom start cs (l ∷ ls) vs o = ((format : Format) × (limits : Limits) × IsHeader l format limits × Tells (judging_from start format limits) cs ls vs o) ⊎ (((format : Format) (limits : Limits) → IsHeader l format limits → ⊥) × (vs ≡ []) × (o ≡ Some bad_header))
+-- the same of all lines of a proof, as `JudgedProof` says
+abbrev pub TellsProof : List Says → List (Option Line) → List Verdict → Option Refusal → Type 0
+TellsProof cs [] vs o = (vs ≡ []) × (o ≡ Some bad_header)
+TellsProof cs (l ∷ ls) vs o = ((format : Format) × (limits : Limits) × IsHeader l format limits × Tells (judging_from format limits) cs ls vs o) ⊎ (((format : Format) (limits : Limits) → IsHeader l format limits → ⊥) × (vs ≡ []) × (o ≡ Some bad_header))
 
 -- ---- texts
 
@@ -73,21 +72,13 @@ pub record IsTold (Told : List Says → List (Option Line) → List Verdict → 
   pub told : (rest : List Says) → length rest ≡ length behind → Told (says ++ rest) lines verdicts refusal
   pub whole : refusal ≡ None → (behind ≡ []) ⊎ ((ended || list_any ends says) ≡ true)
 
--- What is judged of the proof of a script, whose commands are obeyed from this state on: the verdicts of the records that are
--- accepted, and the first bad line, if there is one.
-abbrev pub IsJudgedOver : StateValue → List ℕ → List ℕ → List Verdict → Option Refusal → Type 0
-IsJudgedOver start script proof verdicts refusal = IsTold (TellsProofFrom start) false (record { line = 1; bytes = script }) proof verdicts refusal
+-- What is judged of the proof of a script: the verdicts of the records that are accepted, and the first bad line, if there is one.
+abbrev pub IsJudged : List ℕ → List ℕ → List Verdict → Option Refusal → Type 0
+IsJudged script proof verdicts refusal = IsTold TellsProof false (record { line = 1; bytes = script }) proof verdicts refusal
 
 -- the proof is one of the script, and its records show these verdicts
-abbrev pub IsAcceptedOver : StateValue → List ℕ → List ℕ → List Verdict → Type 0
-IsAcceptedOver start script proof verdicts = IsJudgedOver start script proof verdicts None
-
--- the same of a script that begins where nothing is declared
-abbrev pub IsJudged : List ℕ → List ℕ → List Verdict → Option Refusal → Type 0
-IsJudged script proof verdicts refusal = IsJudgedOver (start_of true) script proof verdicts refusal
-
 abbrev pub IsAccepted : List ℕ → List ℕ → List Verdict → Type 0
-IsAccepted script proof verdicts = IsAcceptedOver (start_of true) script proof verdicts
+IsAccepted script proof verdicts = IsJudged script proof verdicts None
 
 -- The first commands of the script read so, and the first lines of the proof are these. With those commands alone these lines
 -- are accepted, and this is told of them, whatever stands behind in either text.
@@ -102,13 +93,9 @@ pub record IsToldSoFar (Told : List Says → List (Option Line) → List Verdict
   pub split : AreLines proof (lines ++ later)
   pub told : Told says lines verdicts None
 
--- a front of the proof is one of a front of the script, whose commands are obeyed from this state on, and its records show
--- these verdicts
-abbrev pub IsAcceptedSoFarOver : StateValue → List ℕ → List ℕ → List Verdict → Type 0
-IsAcceptedSoFarOver start script proof verdicts = IsToldSoFar (TellsProofFrom start) (record { line = 1; bytes = script }) proof verdicts
-
+-- a front of the proof is one of a front of the script, and its records show these verdicts
 abbrev pub IsAcceptedSoFar : List ℕ → List ℕ → List Verdict → Type 0
-IsAcceptedSoFar script proof verdicts = IsAcceptedSoFarOver (start_of true) script proof verdicts
+IsAcceptedSoFar script proof verdicts = IsToldSoFar TellsProof (record { line = 1; bytes = script }) proof verdicts
 
 -- the first bad line and its rule, and the verdicts of the records before it
 abbrev pub IsRefused : List ℕ → List ℕ → List Verdict → Refusal → Type 0

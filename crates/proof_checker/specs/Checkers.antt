@@ -10,7 +10,7 @@ use Rattle.scope_selectors.specs.declared.live.Live.{Live}
 use Rattle.script_state.specs.declared.answer.Asked.{Asked}
 use Rattle.script_state.specs.declared.answer.Verdict.{Verdict}
 use Rattle.script_state.specs.Readings.{Reading}
-use Rattle.script_state.specs.States.{StateValue, no_state, concluded}
+use Rattle.script_state.specs.States.{StateValue, concluded}
 use Rattle.proof_log.specs.Logs.{state_of}
 use Rattle.proof_log.specs.Faults.{IsValid, terms_after}
 use Rattle.proof_log.specs.Stored.{LogValue, Stands, selector_in}
@@ -84,12 +84,9 @@ answer_by (judged.Values next left values) = Ok tt
 answer_by (judged.Noted cube start left lines) = Ok tt
 answer_by (judged.Over r) = Err r
 
--- nothing is judged yet, and the commands are obeyed from this state on
-abbrev pub records_over : StateValue → Format → searching.Limits → CheckerValue
-records_over start format limits = record { judging = judging_from start format limits; verdicts = [] }
-
+-- nothing is judged yet
 abbrev pub no_records : Format → searching.Limits → CheckerValue
-no_records format limits = records_over no_state format limits
+no_records format limits = record { judging = judging_from format limits; verdicts = [] }
 
 -- it is judged otherwise, with the same verdicts
 abbrev pub judged_so : CheckerValue → Judging → CheckerValue

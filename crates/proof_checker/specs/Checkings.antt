@@ -4,12 +4,11 @@ use Rattle.smt_text.specs.declared.chunk.Chunk.{Chunk}
 use Rattle.smt_text.specs.Framing.{and_more}
 use Rattle.smt_text.specs.Script.{AreCut}
 use Rattle.script_state.specs.declared.answer.Verdict.{Verdict}
-use Rattle.script_state.specs.States.{start_of}
 use Rattle.proof_text.specs.declared.line.Line.{Line}
 use Rattle.accepted_proof.specs.declared.refusal.Refusal.{Refusal}
 use Rattle.accepted_proof.specs.Judged.{is_idle}
 use Rattle.proof_checker.specs.Checkers.{Says, CheckerValue, IsRead, line_in}
-use Rattle.proof_checker.specs.Checked.{AreLines, Tells, TellsProofFrom, IsTold, IsToldSoFar, shown_at}
+use Rattle.proof_checker.specs.Checked.{AreLines, Tells, TellsProof, IsTold, IsToldSoFar, shown_at}
 use Rattle.proof_checker.specs.declared.inputs.Inputs.{Inputs}
 use Rattle.proof_checker.specs.declared.inputs.NextLine.{NextLine}
 use Rattle.proof_checker.specs.declared.inputs.NextLine.TheVariants as line
@@ -32,22 +31,21 @@ MayCome ended bytes = ended ≡ true → bytes ≡ []
 abbrev pub to_be_done : Bool → List Says → List Says
 to_be_done ended cs = if ended then [] else cs
 
--- What is told of the lines behind those that were judged; the verdicts are those of the whole. Before the first line it
--- matters whether functions and arrays are read.
-abbrev pub told_from : Bool → Bool → Option CheckerValue → List Says → List (Option Line) → List Verdict → Option Refusal → Type 0
-told_from theories ended None cs ls vs o = TellsProofFrom (start_of theories) (to_be_done ended cs) ls vs o
-told_from theories ended (Some c) cs ls vs o = (rest : List Verdict) × (vs ≡ c.verdicts ++ rest) × Tells c.judging (to_be_done ended cs) ls rest o
+-- what is told of the lines behind those that were judged; the verdicts are those of the whole
+abbrev pub told_from : Bool → Option CheckerValue → List Says → List (Option Line) → List Verdict → Option Refusal → Type 0
+told_from ended None cs ls vs o = TellsProof (to_be_done ended cs) ls vs o
+told_from ended (Some c) cs ls vs o = (rest : List Verdict) × (vs ≡ c.verdicts ++ rest) × Tells c.judging (to_be_done ended cs) ls rest o
 
 -- what is judged, where these bytes of the script and of the proof are still to come
 abbrev pub IsJudgedFrom : Inputs → Option CheckerValue → List ℕ → List ℕ → List Verdict → Option Refusal → Type 0
-IsJudgedFrom i c script proof vs o = IsTold (told_from i.theories i.run_ended c) i.run_ended (and_more i.framer script) (i.reader.bytes ++ proof) vs o
+IsJudgedFrom i c script proof vs o = IsTold (told_from i.run_ended c) i.run_ended (and_more i.framer script) (i.reader.bytes ++ proof) vs o
 
 abbrev pub Judges : Checking → List ℕ → List ℕ → List Verdict → Option Refusal → Type 0
 Judges c script proof vs o = IsJudgedFrom c.inputs c.checker script proof vs o
 
 -- a front of what is still to come is accepted, with these verdicts of the whole
 abbrev pub IsAcceptedFrom : Inputs → Option CheckerValue → List ℕ → List ℕ → List Verdict → Type 0
-IsAcceptedFrom i c script proof vs = IsToldSoFar (told_from i.theories i.run_ended c) (and_more i.framer script) (i.reader.bytes ++ proof) vs
+IsAcceptedFrom i c script proof vs = IsToldSoFar (told_from i.run_ended c) (and_more i.framer script) (i.reader.bytes ++ proof) vs
 
 abbrev pub Accepts : Checking → List ℕ → List ℕ → List Verdict → Type 0
 Accepts c script proof vs = IsAcceptedFrom c.inputs c.checker script proof vs
@@ -95,7 +93,6 @@ IsShowing old before c = (script proof : List ℕ) → AreToCome old script proo
 
 -- all but the proof's text is the same
 pub record IsSameScript (old new : Inputs) : Type 0 where
-  pub theories : new.theories ≡ old.theories
   pub framer : new.framer ≡ old.framer
   pub script : new.script_ended ≡ old.script_ended
   pub run : new.run_ended ≡ old.run_ended
@@ -103,7 +100,6 @@ pub record IsSameScript (old new : Inputs) : Type 0 where
 
 -- all but the script's text is the same
 pub record IsSameProof (old new : Inputs) : Type 0 where
-  pub theories : new.theories ≡ old.theories
   pub reader : new.reader ≡ old.reader
   pub script : new.script_ended ≡ old.script_ended
   pub run : new.run_ended ≡ old.run_ended

@@ -2,9 +2,8 @@
 
 ghost use Rattle.std.specs.Prelude.{◌≡◌, ◌++◌, [], ℕ, List, Option, Some, None, OnOk, OnErr, IfOk, false, true, length};
 ghost use Rattle.script_state.specs.declared.answer.Verdict.{Verdict};
-ghost use Rattle.script_state.specs.States.{start_of};
 ghost use Rattle.accepted_proof.specs.declared.refusal.Refusal.{Refusal};
-ghost use Rattle.proof_checker.specs.Checked.{IsJudged, IsJudgedOver, IsAcceptedSoFar, IsAcceptedSoFarOver};
+ghost use Rattle.proof_checker.specs.Checked.{IsJudged, IsAcceptedSoFar};
 ghost use Rattle.accepted_proof.specs.Judged.{is_idle, bad_header};
 ghost use Rattle.proof_checker.specs.Checkings.{Judges, Accepts, AreEnded, IsFed, verdicts_by, IsAtLine, Stops, Advances, GoesOn};
 
@@ -13,7 +12,6 @@ use crate::inputs::{Inputs, NextChunk, NextLine};
 use accepted_proof::refusal::{Refusal, RuleName};
 use proof_text::reader::ProofReader;
 use script_state::answer::Verdict;
-use script_state::state::State;
 use smt_text::framer::Framer;
 use std::alloc::{AllocError, Global};
 
@@ -77,17 +75,6 @@ fn without_header() -> Judgement
     }
 }
 
-/// The state from which the commands of a script are obeyed.
-fn starting(alloc: Global, theories: bool) -> State
-    ensures { result ≡ start_of theories }
-{
-    if theories {
-        State::with_theories(alloc)
-    } else {
-        State::new(alloc)
-    }
-}
-
 /// The first line of a proof is judged.
 fn begin(alloc: Global, mut inputs: Inputs) -> Result<Step, AllocError>
     ensures { IfOk result (λ r. Advances inputs None r) }
@@ -103,8 +90,7 @@ fn begin(alloc: Global, mut inputs: Inputs) -> Result<Step, AllocError>
             return Ok(Step::Stop(Progress::Proof(checking)));
         }
     };
-    let state = starting(alloc, inputs.theories);
-    match Checker::over(alloc, &first, state)? {
+    match Checker::new(alloc, &first)? {
         Ok(checker) => Ok(Step::On(Checking {
             inputs,
             checker: Some(checker),
@@ -192,19 +178,17 @@ fn do_command(alloc: Global, mut inputs: Inputs, checker: Checker) -> Result<Ste
 }
 
 impl Checking {
-    /// Nothing was fed yet; whether functions with arguments and arrays are read in the script.
-    fn unfed(alloc: Global, theories: bool) -> Checking
+    /// Nothing was fed yet.
+    pub fn new(alloc: Global) -> Checking
         ensures judged { (script proof : List ℕ) (vs : List Verdict) (o : Option Refusal)
-            → Judges result script proof vs o → IsJudgedOver (start_of theories) script proof vs o }
+            → Judges result script proof vs o → IsJudged script proof vs o }
         ensures accepted { (script proof : List ℕ) (vs : List Verdict)
-            → Accepts result script proof vs
-            → IsAcceptedSoFarOver (start_of theories) script proof vs }
+            → Accepts result script proof vs → IsAcceptedSoFar script proof vs }
         ensures verdicts { verdicts_by result.checker ≡ [] }
         ensures ended { AreEnded result false false }
     {
         Checking {
             inputs: Inputs {
-                theories,
                 framer: Framer::new(alloc),
                 script_ended: false,
                 run_ended: false,
@@ -213,31 +197,6 @@ impl Checking {
             },
             checker: None,
         }
-    }
-
-    /// Nothing was fed yet.
-    pub fn new(alloc: Global) -> Checking
-        ensures judged { (script proof : List ℕ) (vs : List Verdict) (o : Option Refusal)
-            → Judges result script proof vs o → IsJudgedOver (start_of false) script proof vs o }
-        ensures accepted { (script proof : List ℕ) (vs : List Verdict)
-            → Accepts result script proof vs
-            → IsAcceptedSoFarOver (start_of false) script proof vs }
-        ensures verdicts { verdicts_by result.checker ≡ [] }
-        ensures ended { AreEnded result false false }
-    {
-        Checking::unfed(alloc, false)
-    }
-
-    /// Nothing was fed yet, and functions with arguments and arrays are read in the script.
-    pub fn with_theories(alloc: Global) -> Checking
-        ensures judged { (script proof : List ℕ) (vs : List Verdict) (o : Option Refusal)
-            → Judges result script proof vs o → IsJudged script proof vs o }
-        ensures accepted { (script proof : List ℕ) (vs : List Verdict)
-            → Accepts result script proof vs → IsAcceptedSoFar script proof vs }
-        ensures verdicts { verdicts_by result.checker ≡ [] }
-        ensures ended { AreEnded result false false }
-    {
-        Checking::unfed(alloc, true)
     }
 
     /// Takes the next piece of the script. Want of memory is also the answer where its lines could not be counted; then all is as

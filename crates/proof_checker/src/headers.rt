@@ -5,7 +5,7 @@ ghost use Rattle.accepted_proof.specs.Searching as searching;
 ghost use Rattle.proof_text.specs.declared.line.Format.{Format as Version};
 ghost use Rattle.accepted_proof.specs.Judged.{IsHeader, bad_header};
 ghost use Rattle.check_cubes.specs.Searches.{limits_of};
-ghost use Rattle.proof_checker.specs.Checkers.{line_in, no_records, records_over};
+ghost use Rattle.proof_checker.specs.Checkers.{line_in, no_records};
 
 use crate::checker::Checker;
 use crate::deletions::Deleted;
@@ -55,28 +55,13 @@ impl Checker {
             (λ f. ((format : Version) (limits : searching.Limits)
             → IsHeader (line_in first.now) format limits → ⊥) × (f ≡ bad_header))) }
     {
-        Checker::over(alloc, first, State::new(alloc))
-    }
-
-    /// The same for a script whose commands are obeyed from a state on.
-    pub fn over(
-        alloc: Global,
-        first: &Result<Line, LineFault>,
-        state: State,
-    ) -> Result<Result<Checker, Refusal>, AllocError>
-        ensures { IfOk result (λ r. MatchResult r
-            (λ c. (format : Version) × (limits : searching.Limits)
-            × IsHeader (line_in first.now) format limits × (c ≡ records_over state format limits))
-            (λ f. ((format : Version) (limits : searching.Limits)
-            → IsHeader (line_in first.now) format limits → ⊥) × (f ≡ bad_header))) }
-    {
         let Some((format, limits)) = header_parts(first) else {
             return Ok(Err(Refusal {
                 line: 1,
                 rule: RuleName::Header,
             }));
         };
-        let state = Box::new(alloc, state)?;
+        let state = Box::new(alloc, State::new(alloc))?;
         let log = Box::new(alloc, Log::new(alloc)?)?;
         Ok(Ok(Checker {
             format,

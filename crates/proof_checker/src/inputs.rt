@@ -9,11 +9,9 @@ use smt_text::chunk::Chunk;
 use smt_text::framer::Framer;
 use std::alloc::{AllocError, Global};
 
-/// What is held of both texts, how the script is read, and whether more of them may come.
+/// What is held of both texts, and whether more of them may come.
 #[derive(Drop)]
 pub(crate) struct Inputs {
-    /// Functions with arguments and arrays are read.
-    pub(crate) theories: bool,
     pub(crate) framer: Framer,
     pub(crate) script_ended: bool,
     /// A command ended the run, and no more of the script is read.

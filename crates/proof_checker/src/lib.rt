@@ -31,6 +31,5 @@ mod written;
 
 pub use check_laws::{
     accepted_fronts_are_right, accepted_fronts_stay, accepted_proofs_pass,
-    accepted_proofs_pass_over, texts_are_judged_one_way, what_is_accepted_is_right,
-    what_is_accepted_over_is_right,
+    texts_are_judged_one_way, what_is_accepted_is_right,
 };

@@ -8,7 +8,6 @@ use std::test::Fail;
 /// The chain of the first check is deleted, and written again for the second, at position 4.
 const WRITTEN_AGAIN: Proof = Proof {
     script: b"(assert false) (check-sat) (check-sat)",
-    theories: false,
     lines: &[
         b"smt_proof 2 cubes 0 budget 100000\n",
         b"e 0\n",
@@ -65,7 +64,6 @@ fn deletions_are_judged(rt: HostRuntime) -> Result<(), Fail> {
 const NOTED_AGAIN: Proof = Proof {
     script: b"(declare-const p Bool) (declare-const q Bool) (assert (or p q)) (assert (or p (not q)))
         (assert (or (not p) q)) (assert (or (not p) (not q))) (check-sat)",
-    theories: false,
     lines: &[
         b"smt_proof 2 cubes 0 budget 0\n",
         b"f 0\nf 1\ne 2\ne 3\ne 4\ne 5\ne 6\ne 7\ns 0\ns 1\ns 2\ns 3\n",

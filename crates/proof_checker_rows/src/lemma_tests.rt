@@ -8,10 +8,9 @@ use std::alloc::{AllocError, AllocGlobal, Global};
 use std::process::Abort;
 use std::test::Fail;
 
-/// A script, whether it may have functions and arrays, and the lines of a proof of it.
+/// A script, and the lines of a proof of it.
 pub(crate) struct Proof {
     pub script: &'static [u8],
-    pub theories: bool,
     pub lines: &'static [&'static [u8]],
 }
 
@@ -26,11 +25,7 @@ fn is_judged(
     by: &[u8],
     wanted: Option<Refusal>,
 ) -> Result<bool, AllocError> {
-    let mut checking = if proof.theories {
-        Checking::with_theories(alloc)
-    } else {
-        Checking::new(alloc)
-    };
+    let mut checking = Checking::new(alloc);
     checking.feed_script(proof.script)?;
     checking.end_script();
     for (number, line) in proof.lines.iter().enumerate() {
@@ -70,7 +65,6 @@ pub(crate) fn walk(
 const STORED: Proof = Proof {
     script: b"(declare-const a (Array (_ BitVec 1) (_ BitVec 1))) (declare-const i (_ BitVec 1))
         (assert (= (select (store a i #b0) i) #b1)) (check-sat)",
-    theories: true,
     lines: &[
         b"smt_proof 1 cubes 0 budget 100000\n",
         b"e 2\n",
@@ -119,7 +113,6 @@ fn accesses_of_one_array_are_judged(rt: HostRuntime) -> Result<(), Fail> {
 const CONGRUENT: Proof = Proof {
     script: b"(declare-fun f ((_ BitVec 1)) (_ BitVec 1)) (declare-const x (_ BitVec 1))
         (assert (= x #b1)) (assert (= (f x) #b0)) (assert (= (f #b1) #b1)) (check-sat)",
-    theories: true,
     lines: &[
         b"smt_proof 1 cubes 0 budget 100000\n",
         b"f 0\n",
@@ -171,7 +164,6 @@ fn applications_to_equal_arguments_are_judged(rt: HostRuntime) -> Result<(), Fai
 /// and 4 its equality with x, and the lines make 5, the constant array of x, 6, its select at #b1, and 7, a word of two bits.
 const FILLED: Proof = Proof {
     script: b"(declare-const x (_ BitVec 1)) (assert (= x #b1)) (assert (= x #b0)) (check-sat)",
-    theories: false,
     lines: &[
         b"smt_proof 1 cubes 0 budget 100000\n",
         b"f 0\n",

@@ -9,7 +9,6 @@ use std::test::Fail;
 /// and 4 (not 3), and the lines make 5, (= 0 0), and 6, true.
 const COMPLEMENT: Proof = Proof {
     script: b"(declare-const x (_ BitVec 8)) (assert (distinct (bvnot (bvnot x)) x)) (check-sat)",
-    theories: false,
     lines: &[
         b"smt_proof 1 cubes 0 budget 100000\n",
         b"f 0\n",

@@ -11,7 +11,7 @@ fn judged(
     script: &[u8],
     proof: &[u8],
 ) -> Result<Option<(usize, Option<Refusal>)>, AllocError> {
-    let mut checking = Checking::with_theories(alloc);
+    let mut checking = Checking::new(alloc);
     checking.feed_script(script)?;
     checking.end_script();
     checking.feed_proof(proof)?;

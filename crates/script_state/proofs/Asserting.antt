@@ -26,11 +26,9 @@ use Rattle.script_state.specs.declared.answer.Asked.{Asked}
 use Rattle.script_state.specs.declared.answer.Verdict.{Verdict}
 use Rattle.script_state.specs.declared.options.Options.{Options}
 use Rattle.script_state.specs.declared.error_text.ErrorText.{ErrorText}
-use Rattle.script_state.specs.declared.error_text.ErrorText.TheVariants.{NotSupported, WrongArguments}
-use Rattle.script_state.specs.Plain.{is_decided}
+use Rattle.script_state.specs.declared.error_text.ErrorText.TheVariants.{WrongArguments}
 use Rattle.script_state.specs.States.{StateValue, all_asked, assumptions, IsAssumption, IsState, IsLevel, AreLevels}
 use Rattle.script_state.specs.Steps.{objection}
-use Rattle.script_state.proofs.Marking.{decided_longer}
 use Rattle.script_state.proofs.Declared.{declared_kept}
 use Rattle.script_state.proofs.Defined.{sort_defined, names_push}
 use Rattle.script_state.proofs.Closing.{closed_longer, closed_more}
@@ -44,21 +42,14 @@ stands_as v o = record { symbols = v.symbols; terms = v.terms; scopes = v.scopes
 
 -- what may be assumed in a state
 abbrev pub AreAssumed : StateValue → Option (List Asked) → Type 0
-AreAssumed v a = All (λ (b : Asked). IsAssumption v.terms.nodes v.symbols.live b × (is_decided v.symbols.theories v.terms.nodes b.term ≡ true)) (all_asked a)
+AreAssumed v a = All (IsAssumption v.terms.nodes v.symbols.live) (all_asked a)
 
 -- nothing is assumed
 pub none_assumed : (nodes : List Node) (live : List LiveName) → All (IsAssumption nodes live) []
 none_assumed nodes live = All-nil (IsAssumption nodes live)
 
-pub none_decided : (theories : Bool) (nodes : List Node) → All (λ (a : Asked). is_decided theories nodes a.term ≡ true) []
-none_decided theories nodes = All-nil (λ (a : Asked). is_decided theories nodes a.term ≡ true)
-
 pub none_asked : (v : StateValue) → AreAssumed v None
-none_asked v = All-nil (λ (b : Asked). IsAssumption v.terms.nodes v.symbols.live b × (is_decided v.symbols.theories v.terms.nodes b.term ≡ true))
-
--- what is assumed may be
-pub are_assumed : (v : StateValue) → IsState v → AreAssumed v v.assumed
-are_assumed v is k d lt = (is.assumed k d lt, is.asked k d lt)
+none_asked v = none_assumed v.terms.nodes v.symbols.live
 
 -- a state with other options, another check that stands, and other assumptions
 abbrev opted : StateValue → Options → Option Verdict → Option (List Asked) → StateValue
@@ -81,16 +72,14 @@ opted_state v o s a is are = record {
   sorts = is.sorts;
   held = is.held;
   truths = is.truths;
-  plain = is.plain;
-  asked = λ k d lt. (are k d lt).1;
   closed = is.closed;
   levels = levels_same v o s a is.levels;
-  assumed = λ k d lt. (are k d lt).0;
+  assumed = are;
 }
 
 -- whatever check stands
 pub standing_state : (v : StateValue) (o : Option Verdict) → IsState v → IsState (stands_as v o)
-standing_state v o is = opted_state v v.options o v.assumed is (are_assumed v is)
+standing_state v o is = opted_state v v.options o v.assumed is is.assumed
 
 -- where no check stands, and nothing is assumed
 pub fallen_state : (v : StateValue) → IsState v → IsState (opted v v.options None None)
@@ -107,11 +96,9 @@ declared_state v w n es d e is =
       constants = kept.constants is.constants;
       declared = kept.declared is.declared;
       bodies = rw kept.definitions is.bodies;
-      sorts = rw (kept.sorts, kept.theories) is.sorts;
+      sorts = rw kept.sorts is.sorts;
       held = is.held;
       truths = is.truths;
-      plain = rw kept.theories is.plain;
-      asked = none_decided w.theories v.terms.nodes;
       closed = rw (kept.definitions, kept.names) (closed_more v.symbols.live v.terms.nodes v.symbols.definitions v.scopes.live (kept.last ∷ []) is.closed);
       levels = levels_extend v _ (record {
         behind = [];
@@ -143,11 +130,9 @@ named_state v w n es e is =
       constants = is.constants;
       declared = is.declared;
       bodies = is.bodies;
-      sorts = names_push v.symbols.theories v.symbols.sorts one.0 one.1 is.sorts one.2;
+      sorts = names_push v.symbols.sorts one.0 one.1 is.sorts one.2;
       held = is.held;
       truths = is.truths;
-      plain = is.plain;
-      asked = none_decided v.symbols.theories v.terms.nodes;
       closed = is.closed;
       levels = levels_extend v _ (record {
         behind = [];
@@ -178,12 +163,6 @@ module _ (v : StateValue) (w : TermsValue) (grows : Grows v.symbols.signatures v
   still_true : All (λ (a : Live). sort_of w.nodes a.term ≡ sort.Bool) v.scopes.live
   still_true k d lt = rw grows.nodes (sort_longer v.terms.nodes grows.behind (get_or v.scopes.live k d).term (is.held k d lt) ∙ is.truths k d lt)
 
-  still_plain : All (λ (a : Live). is_decided v.symbols.theories w.nodes a.term ≡ true) v.scopes.live
-  still_plain k d lt = rw grows.nodes (decided_longer v.symbols.theories v.terms.nodes grows.behind (get_or v.scopes.live k d).term (is.held k d lt) (is.plain k d lt))
-
-  still_asked : All (λ (a : Asked). is_decided v.symbols.theories w.nodes a.term ≡ true) (assumptions v)
-  still_asked k d lt = rw grows.nodes (decided_longer v.symbols.theories v.terms.nodes grows.behind (get_or (assumptions v) k d).term (is.assumed k d lt).held (is.asked k d lt))
-
   still_assumed : All (IsAssumption w.nodes v.symbols.live) (assumptions v)
   still_assumed k d lt =
       let a = is.assumed k d lt in
@@ -204,8 +183,6 @@ module _ (v : StateValue) (w : TermsValue) (grows : Grows v.symbols.signatures v
     sorts = is.sorts;
     held = still_held;
     truths = still_true;
-    plain = still_plain;
-    asked = still_asked;
     closed = rw grows.nodes (closed_longer v.symbols.live v.terms.nodes v.symbols.definitions v.scopes.live grows.behind is.bodies is.held is.closed);
     levels = levels_extend v _ (record {
       behind = grows.behind;
@@ -225,22 +202,20 @@ module _ (v : StateValue) (w : TermsValue) (grows : Grows v.symbols.signatures v
     assumed = still_assumed;
   }
 
--- a term against which nothing stands is of sort Bool, and a check can decide it
-pub asserted_plain : (theories : Bool) (nodes : List Node) (t : ℕ) → objection theories nodes t ≡ None → (same_sort (sort_of nodes t) sort.Bool ≡ true) × (is_decided theories nodes t ≡ true)
-asserted_plain theories nodes t = go (same_sort (sort_of nodes t) sort.Bool) (is_decided theories nodes t) where
-  go : (b c : Bool) → ◌≡◌ {A = Option ErrorText} (if b then (if c then None else Some NotSupported) else Some WrongArguments) None → (b ≡ true) × (c ≡ true)
-  go true true e = (refl, refl)
-  go true false e = absurd (let z : ⊥ = cc in z)
-  go false c e = absurd (let z : ⊥ = cc in z)
+-- a term against which nothing stands is of sort Bool
+pub asserted_truth : (nodes : List Node) (t : ℕ) → objection nodes t ≡ None → same_sort (sort_of nodes t) sort.Bool ≡ true
+asserted_truth nodes t = go (same_sort (sort_of nodes t) sort.Bool) where
+  go : (b : Bool) → ◌≡◌ {A = Option ErrorText} (if b then None else Some WrongArguments) None → b ≡ true
+  go true e = refl
+  go false e = absurd (let z : ⊥ = cc in z)
 
 -- one assertion more, of a term over live declarations against which nothing stands, with names that are given within it
 abbrev pub with_more : SymbolsValue → Meanings Definition → SymbolsValue
-with_more v more = record { live = v.live; signatures = v.signatures; definitions = v.definitions ++ more; sorts = v.sorts; levels = v.levels; theories = v.theories }
+with_more v more = record { live = v.live; signatures = v.signatures; definitions = v.definitions ++ more; sorts = v.sorts; levels = v.levels }
 
-pub asserted_state : (v : StateValue) (more : Meanings Definition) (t : ℕ) (name : Option (List ℕ)) (scopes : ScopesValue) → IsState v → AreBodies (length v.terms.nodes) (v.symbols.definitions ++ more) → AreOver v.symbols.live v.terms.nodes (v.symbols.definitions ++ more) → t < length v.terms.nodes → is_over v.symbols.live v.terms.nodes t ≡ true → objection v.symbols.theories v.terms.nodes t ≡ None → scopes ≡ asserted v.scopes t name → IsState (record { symbols = with_more v.symbols more; terms = v.terms; scopes = scopes; options = v.options; standing = None; assumed = None })
+pub asserted_state : (v : StateValue) (more : Meanings Definition) (t : ℕ) (name : Option (List ℕ)) (scopes : ScopesValue) → IsState v → AreBodies (length v.terms.nodes) (v.symbols.definitions ++ more) → AreOver v.symbols.live v.terms.nodes (v.symbols.definitions ++ more) → t < length v.terms.nodes → is_over v.symbols.live v.terms.nodes t ≡ true → objection v.terms.nodes t ≡ None → scopes ≡ asserted v.scopes t name → IsState (record { symbols = with_more v.symbols more; terms = v.terms; scopes = scopes; options = v.options; standing = None; assumed = None })
 asserted_state v more t name scopes is bodies over lt here none e =
     let new : Live = record { assertion = v.scopes.made; term = t; name = name; level = v.scopes.levels } in
-    let parts = asserted_plain v.symbols.theories v.terms.nodes t none in
     rw e (record {
       terms = is.terms;
       scopes = one_more v.scopes t name is.scopes;
@@ -250,9 +225,7 @@ asserted_state v more t name scopes is bodies over lt here none e =
       bodies = bodies;
       sorts = is.sorts;
       held = All-push (λ (a : Live). a.term < length v.terms.nodes) v.scopes.live new is.held lt;
-      truths = All-push (λ (a : Live). sort_of v.terms.nodes a.term ≡ sort.Bool) v.scopes.live new is.truths (sort_same _ _ parts.0);
-      plain = All-push (λ (a : Live). is_decided v.symbols.theories v.terms.nodes a.term ≡ true) v.scopes.live new is.plain parts.1;
-      asked = none_decided v.symbols.theories v.terms.nodes;
+      truths = All-push (λ (a : Live). sort_of v.terms.nodes a.term ≡ sort.Bool) v.scopes.live new is.truths (sort_same _ _ (asserted_truth v.terms.nodes t none));
       closed = record { bodies = over; terms = All-push (λ (a : Live). is_over v.symbols.live v.terms.nodes a.term ≡ true) v.scopes.live new is.closed.terms here };
       levels = levels_extend v _ (record {
         behind = [];
@@ -284,8 +257,6 @@ defined_state v w x f is lt over = record {
   sorts = is.sorts;
   held = is.held;
   truths = is.truths;
-  plain = is.plain;
-  asked = none_decided v.symbols.theories w.nodes;
   closed = record { bodies = over; terms = is.closed.terms };
   levels = levels_extend (with_terms v w) _ (record {
     behind = [];

@@ -11,12 +11,11 @@ use Rattle.script_state.specs.declared.answer.Asked.{Asked}
 use Rattle.script_state.specs.declared.asked.AskError.{AskError}
 use Rattle.script_state.specs.declared.asked.AskError.TheVariants.{NoMemory, Refused}
 use Rattle.script_state.specs.declared.error_text.ErrorText.TheVariants.{TooManyTerms}
-use Rattle.script_state.specs.Plain.{is_decided}
 use Rattle.script_state.specs.States.{StateValue, roots_of, watches_fit, IsState}
 use Rattle.script_state.specs.Steps.{Asking, objection, asking, watching, assuming_by}
 use Rattle.script_state.specs.Asking.{AreOf, Asks}
 use Rattle.script_state.proofs.Keeping.{assumed_goes_on}
-use Rattle.script_state.proofs.Roots.{all_held, all_decided}
+use Rattle.script_state.proofs.Roots.{all_held}
 
 module _ (live : List Live) where
   abbrev if_fit : Bool → List Asked × TermsValue → Asking
@@ -42,12 +41,9 @@ module _ (live : List Live) where
   watching_ok (Err f) q e = let f : ⊥ = cc in absurd f
 
 -- what is asked for may be assumed with what is asserted
-module _ (s : StateValue) (is : IsState s) (symbols : SymbolsValue) (scopes : ScopesValue) (terms w : TermsValue) (of : AreOf s symbols scopes terms) (tokens : List Lexeme) (es : Sexps) (asked : List Asked) (e : asking (objection symbols.theories) symbols terms tokens [] es ≡ Ok (asked, w)) where
+module _ (s : StateValue) (is : IsState s) (symbols : SymbolsValue) (scopes : ScopesValue) (terms w : TermsValue) (of : AreOf s symbols scopes terms) (tokens : List Lexeme) (es : Sexps) (asked : List Asked) (e : asking objection symbols terms tokens [] es ≡ Ok (asked, w)) where
   assumed_state : IsState (assuming_by s (Ok (asked, w))).1
   assumed_state = (assumed_goes_on s is tokens es asked w (rw (of.same_symbols, of.same_terms) at e)).state
 
   pub assumed_held : All (λ t. t < length w.nodes) (roots_of scopes.live asked)
   assumed_held = rw of.same_scopes (all_held _ assumed_state)
-
-  pub assumed_decided : All (λ t. is_decided symbols.theories w.nodes t ≡ true) (roots_of scopes.live asked)
-  assumed_decided = rw (of.same_scopes, of.same_symbols) (all_decided _ assumed_state)

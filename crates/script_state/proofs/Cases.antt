@@ -29,7 +29,7 @@ use Rattle.script_state.specs.Options.{first_options, option_value, with_option}
 use Rattle.script_state.specs.Readings.{Reading}
 use Rattle.script_state.specs.Written.{listed}
 use Rattle.script_state.specs.States.{StateValue, roots_of, watches_fit}
-use Rattle.script_state.specs.Steps.{Step, refuse, names_logic, choosing, declaring, naming_sort, defining, objection, asserting_unless, asserting, Asking, asking, watching, assuming_by, assuming, assuming_listed, to_check, checking, saying, unsupported, is_true_value, setting, setting_option, option_text, telling_option, telling_reason, telling, telling_info, echoing, levels_meant, pushing_by, pushing, popping_by, popping, resetting, modelling_by, modelling, value_objection, valuing_by, valuing_asked, valuing, valuing_listed, refuting_by, refuting, refuting_assumed_by, refuting_assumed, obey, obey_read, step, is_exit, ends_read, ends}
+use Rattle.script_state.specs.Steps.{Step, refuse, names_logic, choosing, declaring, naming_sort, defining, objection, asserting_unless, asserting, Asking, asking, watching, assuming_by, assuming, assuming_listed, to_check, checking, saying, unsupported, is_true_value, setting, setting_option, option_text, telling_option, telling_reason, telling, telling_info, echoing, levels_meant, pushing_by, pushing, popping_by, popping, resetting, modelling_by, modelling, no_objection, valuing_by, valuing_asked, valuing, valuing_listed, refuting_by, refuting, refuting_assumed_by, refuting_assumed, obey, obey_read, step, is_exit, ends_read, ends}
 
 module _ (s : StateValue) (P : Step → Type 0) where
   -- it holds of a refusal, of a command that changes nothing, and of each change
@@ -40,15 +40,15 @@ module _ (s : StateValue) (P : Step → Type 0) where
     pub declared : (n : CommandName) (es : Sexps) (d : ℕ) (w : SymbolsValue) → declare s.symbols n es ≡ Ok (d, w) → P (declaring s (Ok (d, w)))
     pub named : (n : CommandName) (es : Sexps) (w : SymbolsValue) → define_sort s.symbols n es ≡ Ok w → P (naming_sort s (Ok w))
     pub defined : (n : CommandName) (es : Sexps) (w : SymbolsValue) (terms : TermsValue) → define s.symbols s.terms n es ≡ Ok (w, terms) → P (defining s (Ok (w, terms)))
-    pub asserted : (name : Option (List ℕ)) (x : Sexp) (t : ℕ) (v : SymbolsValue) (w : TermsValue) → assertion s.symbols s.terms x ≡ Ok (t, v, w) → objection s.symbols.theories w.nodes t ≡ None → P (asserting_unless None s name t v w)
-    pub assumed : (tokens : List Lexeme) (es : Sexps) (asked : List Asked) (w : TermsValue) → asking (objection s.symbols.theories) s.symbols s.terms tokens [] es ≡ Ok (asked, w) → watches_fit w (roots_of s.scopes.live asked) ≡ true → P (assuming_by s (Ok (asked, w)))
+    pub asserted : (name : Option (List ℕ)) (x : Sexp) (t : ℕ) (v : SymbolsValue) (w : TermsValue) → assertion s.symbols s.terms x ≡ Ok (t, v, w) → objection w.nodes t ≡ None → P (asserting_unless None s name t v w)
+    pub assumed : (tokens : List Lexeme) (es : Sexps) (asked : List Asked) (w : TermsValue) → asking objection s.symbols s.terms tokens [] es ≡ Ok (asked, w) → watches_fit w (roots_of s.scopes.live asked) ≡ true → P (assuming_by s (Ok (asked, w)))
     pub said : (x : List ℕ) → P (saying s x)
     pub set : (o : Options) → P (setting s (Some o))
     pub begun : (n : ℕ) (v : ScopesValue) → scopes_pushed s.scopes n ≡ Ok v → P (pushing_by s n (Ok v))
     pub ended : (n : ℕ) (v : ScopesValue) → scopes_popped s.scopes n ≡ Ok v → P (popping_by s n (Ok v))
     pub emptied : (o : Options) → P (resetting s o)
     pub modelled : s.standing ≡ Some Sat → s.options.produce_models ≡ true → P (Model, s)
-    pub valued : (tokens : List Lexeme) (es : Sexps) (asked : List Asked) (w : TermsValue) → asking (value_objection s.symbols.theories) s.symbols s.terms tokens [] es ≡ Ok (asked, w) → s.standing ≡ Some Sat → s.options.produce_models ≡ true → P (valuing_by s asked w (Some Sat))
+    pub valued : (tokens : List Lexeme) (es : Sexps) (asked : List Asked) (w : TermsValue) → asking no_objection s.symbols s.terms tokens [] es ≡ Ok (asked, w) → s.standing ≡ Some Sat → s.options.produce_models ≡ true → P (valuing_by s asked w (Some Sat))
     pub refuted : s.standing ≡ Some Unsat → s.options.produce_unsat_cores ≡ true → P (Core, s)
     pub refuted_assumed : (asked : List Asked) → s.standing ≡ Some Unsat → s.assumed ≡ Some asked → s.options.produce_unsat_assumptions ≡ true → P (Assumptions, s)
 
@@ -78,9 +78,9 @@ module _ (s : StateValue) (P : Step → Type 0) where
       go (Ok d) e = h.defined n es d.0 d.1 e
       go (Err f) e = h.refused (build_error f)
 
-    by_objection : (name : Option (List ℕ)) (x : Sexp) (t : ℕ) (v : SymbolsValue) (w : TermsValue) → assertion s.symbols s.terms x ≡ Ok (t, v, w) → P (asserting_unless (objection s.symbols.theories w.nodes t) s name t v w)
-    by_objection name x t v w e = go (objection s.symbols.theories w.nodes t) refl where
-      go : (o : Option ErrorText) → objection s.symbols.theories w.nodes t ≡ o → P (asserting_unless o s name t v w)
+    by_objection : (name : Option (List ℕ)) (x : Sexp) (t : ℕ) (v : SymbolsValue) (w : TermsValue) → assertion s.symbols s.terms x ≡ Ok (t, v, w) → P (asserting_unless (objection w.nodes t) s name t v w)
+    by_objection name x t v w e = go (objection w.nodes t) refl where
+      go : (o : Option ErrorText) → objection w.nodes t ≡ o → P (asserting_unless o s name t v w)
       go None k = h.asserted name x t v w e k
       go (Some f) k = h.refused f
 
@@ -96,15 +96,15 @@ module _ (s : StateValue) (P : Step → Type 0) where
       go true e = h.checked e
       go false e = h.refused TooManyTerms
 
-    by_watching : (tokens : List Lexeme) (es : Sexps) (r : List Asked × TermsValue) → asking (objection s.symbols.theories) s.symbols s.terms tokens [] es ≡ Ok r → P (assuming_by s (watching s.scopes.live (Ok r)))
+    by_watching : (tokens : List Lexeme) (es : Sexps) (r : List Asked × TermsValue) → asking objection s.symbols s.terms tokens [] es ≡ Ok r → P (assuming_by s (watching s.scopes.live (Ok r)))
     by_watching tokens es r e = go (watches_fit r.1 (roots_of s.scopes.live r.0)) refl where
       go : (b : Bool) → watches_fit r.1 (roots_of s.scopes.live r.0) ≡ b → P (assuming_by s (if b then Ok r else Err TooManyTerms))
       go true k = h.assumed tokens es r.0 r.1 e k
       go false k = h.refused TooManyTerms
 
     by_assuming : (tokens : List Lexeme) (es : Sexps) → P (assuming s tokens es)
-    by_assuming tokens es = go (asking (objection s.symbols.theories) s.symbols s.terms tokens [] es) refl where
-      go : (r : Asking) → asking (objection s.symbols.theories) s.symbols s.terms tokens [] es ≡ r → P (assuming_by s (watching s.scopes.live r))
+    by_assuming tokens es = go (asking objection s.symbols s.terms tokens [] es) refl where
+      go : (r : Asking) → asking objection s.symbols s.terms tokens [] es ≡ r → P (assuming_by s (watching s.scopes.live r))
       go (Ok r) e = by_watching tokens es r e
       go (Err f) e = h.refused f
 
@@ -174,15 +174,15 @@ module _ (s : StateValue) (P : Step → Type 0) where
     by_assuming_listed tokens (atom k x) = h.refused NotSupported
 
     by_valuing : (tokens : List Lexeme) (es : Sexps) → P (valuing s tokens es)
-    by_valuing tokens es = go (asking (value_objection s.symbols.theories) s.symbols s.terms tokens [] es) refl where
-      by_option : (asked : List Asked) (w : TermsValue) → asking (value_objection s.symbols.theories) s.symbols s.terms tokens [] es ≡ Ok (asked, w) → (b : Bool) (o : Option Verdict) → s.options.produce_models ≡ b → s.standing ≡ o → P (if b then valuing_by s asked w o else refuse s OptionOff)
+    by_valuing tokens es = go (asking no_objection s.symbols s.terms tokens [] es) refl where
+      by_option : (asked : List Asked) (w : TermsValue) → asking no_objection s.symbols s.terms tokens [] es ≡ Ok (asked, w) → (b : Bool) (o : Option Verdict) → s.options.produce_models ≡ b → s.standing ≡ o → P (if b then valuing_by s asked w o else refuse s OptionOff)
       by_option asked w e true None p q = h.refused NoModel
       by_option asked w e true (Some Sat) p q = h.valued tokens es asked w e q p
       by_option asked w e true (Some Unsat) p q = h.refused NoModel
       by_option asked w e true (Some Unknown) p q = h.refused NoModel
       by_option asked w e false o p q = h.refused OptionOff
 
-      go : (r : Asking) → asking (value_objection s.symbols.theories) s.symbols s.terms tokens [] es ≡ r → P (valuing_asked s r)
+      go : (r : Asking) → asking no_objection s.symbols s.terms tokens [] es ≡ r → P (valuing_asked s r)
       go (Ok r) e = by_option r.0 r.1 e s.options.produce_models s.standing refl refl
       go (Err f) e = h.refused f
 

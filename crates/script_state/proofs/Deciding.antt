@@ -24,7 +24,7 @@ use Rattle.script_state.specs.declared.answer.Verdict.TheVariants.{Sat, Unsat}
 use Rattle.script_state.specs.declared.error_text.ErrorText.{ErrorText}
 use Rattle.script_state.specs.Readings.{Spelled, Reading, ReadsBy, ReadsAs, IsNoList}
 use Rattle.script_state.specs.States.{StateValue, WatchesFit, IsState}
-use Rattle.script_state.specs.Steps.{Step, value_objection, asking, valuing_by, obey, obey_read, step, forgotten, IsAskedValues, is_exit, ends_read, ends}
+use Rattle.script_state.specs.Steps.{Step, no_objection, asking, valuing_by, obey, obey_read, step, forgotten, IsAskedValues, is_exit, ends_read, ends}
 use Rattle.script_state.proofs.Cases.{of_step}
 use Rattle.script_state.proofs.Judging.{valued_is}
 use Rattle.script_state.proofs.Leveling.{pushed_is, popped_is}
@@ -93,7 +93,7 @@ abbrev Known : StateValue → Reading → StateValue → Answer → Type 0
 Known s r new (Refused e) = new ≡ s
 Known s r new Check = WatchesFit new
 Known s r new Model = (s.standing ≡ Some Sat) × (s.options.produce_models ≡ true)
-Known s r new (Values asked) = (s.standing ≡ Some Sat) × (s.options.produce_models ≡ true) × ((tokens : List Lexeme) × (es : Sexps) × (w : TermsValue) × (asking (value_objection s.symbols.theories) s.symbols s.terms tokens [] es ≡ Ok (asked, w)) × (new ≡ (valuing_by s asked w (Some Sat)).1))
+Known s r new (Values asked) = (s.standing ≡ Some Sat) × (s.options.produce_models ≡ true) × ((tokens : List Lexeme) × (es : Sexps) × (w : TermsValue) × (asking no_objection s.symbols s.terms tokens [] es ≡ Ok (asked, w)) × (new ≡ (valuing_by s asked w (Some Sat)).1))
 Known s r new Core = (s.standing ≡ Some Unsat) × (s.options.produce_unsat_cores ≡ true) × (new ≡ s)
 Known s r new Assumptions = (s.standing ≡ Some Unsat) × ((asked : List Asked) × (s.assumed ≡ Some asked)) × (s.options.produce_unsat_assumptions ≡ true) × (new ≡ s)
 Known s r new Exit = ends r ≡ true

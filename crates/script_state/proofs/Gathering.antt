@@ -1,5 +1,5 @@
 -- Terms that a command asks for, as they are read one after the other.
-use Rattle.std.proofs.Common.{◌≡◌, ℕ, ◌+◌, ◌-◌, ◌<◌, ◌≤◌, get_or, List, [], ◌∷◌, ◌++◌, length, take, drop, refl, sym, ap, subst, ◌∙◌, arith, Bool, Option, Result, Ok, Err}
+use Rattle.std.proofs.Common.{◌≡◌, ℕ, ◌+◌, ◌-◌, ◌<◌, ◌≤◌, get_or, List, [], ◌∷◌, ◌++◌, length, take, drop, refl, sym, ap, subst, ◌∙◌, arith, Option, Result, Ok, Err}
 use Rattle.std.proofs.lemmas.List.{drop_min}
 use Rattle.std.specs.Prelude.{min}
 use Rattle.std.proofs.lemmas.List.{length-take, length-drop, take_min, take-map, drop-map, drop_all, drop_more}
@@ -21,7 +21,6 @@ use Rattle.script_state.specs.declared.asked.Purpose.{Purpose}
 use Rattle.script_state.specs.declared.asked.AskError.{AskError}
 use Rattle.script_state.specs.declared.asked.AskError.TheVariants.{NoMemory, Refused}
 use Rattle.script_state.specs.declared.error_text.ErrorText.{ErrorText}
-use Rattle.script_state.specs.Plain.{HavePlain}
 use Rattle.script_state.specs.Written.{token_count, tokens_text, written, behind}
 use Rattle.script_state.specs.Steps.{Asking, asking_built, asking}
 use Rattle.script_state.specs.Asking.{object_to, AsksOne, Asks}
@@ -86,44 +85,42 @@ module _ (object : List Node → ℕ → Option ErrorText) (symbols : SymbolsVal
     go (more e es) stand = (e, stand.0)
 
 -- what the loop over the spans keeps
-pub record Gathered (purpose : Purpose) (symbols : SymbolsValue) (tokens : List Lexeme) (first : TermsValue) (spans : List Span) (all : List Token) (terms : TermsValue) (rest : List Span) (left : List Token) (found : List Asked) (kept : List Bool) : Type 0 where
-  pub on : AsksOn (object_to symbols.theories purpose) symbols (signs_of tokens) first spans (lexemes_of all) terms rest (lexemes_of left) found
+pub record Gathered (purpose : Purpose) (symbols : SymbolsValue) (tokens : List Lexeme) (first : TermsValue) (spans : List Span) (all : List Token) (terms : TermsValue) (rest : List Span) (left : List Token) (found : List Asked) : Type 0 where
+  pub on : AsksOn (object_to purpose) symbols (signs_of tokens) first spans (lexemes_of all) terms rest (lexemes_of left) found
   pub grows : Grows symbols.signatures first terms
-  pub marks : HavePlain terms.nodes kept
 
 module _ (purpose : Purpose) (symbols : SymbolsValue) (tokens : List Lexeme) (first : TermsValue) (spans : List Span) (all : List Token) where
-  module _ (terms : TermsValue) (left : List Token) (found : List Asked) (kept : List Bool) (i : ℕ) (d : Span) (lt : i < length spans) (so_far : Gathered purpose symbols tokens first spans all terms (drop i spans) left found kept) where
+  module _ (terms : TermsValue) (left : List Token) (found : List Asked) (i : ℕ) (d : Span) (lt : i < length spans) (so_far : Gathered purpose symbols tokens first spans all terms (drop i spans) left found) where
     abbrev On : List Span → Type 0
-    On rest = AsksOn (object_to symbols.theories purpose) symbols (signs_of tokens) first spans (lexemes_of all) terms rest (lexemes_of left) found
+    On rest = AsksOn (object_to purpose) symbols (signs_of tokens) first spans (lexemes_of all) terms rest (lexemes_of left) found
 
     on : On (get_or spans i d ∷ drop (i + 1) spans)
     on = subst On (drop_more spans i d lt) so_far.on
 
     -- something stands at the next span
     pub gathered_stands : (es : Sexps) × AllStand (signs_of tokens) spans es → (e : Sexp) × Stands (signs_of tokens) (get_or spans i d) e
-    gathered_stands some = next_stands (object_to symbols.theories purpose) symbols (signs_of tokens) first spans (lexemes_of all) terms (get_or spans i d) (drop (i + 1) spans) (lexemes_of left) found some on
+    gathered_stands some = next_stands (object_to purpose) symbols (signs_of tokens) first spans (lexemes_of all) terms (get_or spans i d) (drop (i + 1) spans) (lexemes_of left) found some on
 
-    module _ (new : TermsValue) (r : Result ℕ AskError) (one : (e : Sexp) → Stands (signs_of tokens) (get_or spans i d) e → (found : List Asked) (text : List ℕ) → AsksOne (asking_built (object_to symbols.theories purpose) found text (term_of symbols terms e)) found text r new) where
+    module _ (new : TermsValue) (r : Result ℕ AskError) (one : (e : Sexp) → Stands (signs_of tokens) (get_or spans i d) e → (found : List Asked) (text : List ℕ) → AsksOne (asking_built (object_to purpose) found text (term_of symbols terms e)) found text r new) where
       -- a term that cannot be had
-      pub gathered_fault : (x : AskError) → r ≡ Err x → (es : Sexps) → AllStand (signs_of tokens) spans es → Asks (asking (object_to symbols.theories purpose) symbols first (lexemes_of all) [] es) (Err x) new
-      gathered_fault x err = asks_fault (object_to symbols.theories purpose) symbols (signs_of tokens) first spans (lexemes_of all) terms new (get_or spans i d) (drop (i + 1) spans) left found r one x err on
+      pub gathered_fault : (x : AskError) → r ≡ Err x → (es : Sexps) → AllStand (signs_of tokens) spans es → Asks (asking (object_to purpose) symbols first (lexemes_of all) [] es) (Err x) new
+      gathered_fault x err = asks_fault (object_to purpose) symbols (signs_of tokens) first spans (lexemes_of all) terms new (get_or spans i d) (drop (i + 1) spans) left found r one x err on
 
       -- a term more
-      pub gathered_more : (t count : ℕ) (text : List ℕ) (after : List Bool) → r ≡ Ok t → count ≡ min ((get_or spans i d).end - (get_or spans i d).start) (length left) → text ≡ tokens_text (lexemes_of (take count left)) → Grows symbols.signatures terms new → HavePlain new.nodes after → Gathered purpose symbols tokens first spans all new (drop (i + 1) spans) (drop count left) (found ++ record { term = t; text = text } ∷ []) after
-      gathered_more t count text after ok c w grows marks = record {
-        on = asks_more (object_to symbols.theories purpose) symbols (signs_of tokens) first spans (lexemes_of all) terms new (get_or spans i d) (drop (i + 1) spans) left found r one t count text ok c w on;
+      pub gathered_more : (t count : ℕ) (text : List ℕ) → r ≡ Ok t → count ≡ min ((get_or spans i d).end - (get_or spans i d).start) (length left) → text ≡ tokens_text (lexemes_of (take count left)) → Grows symbols.signatures terms new → Gathered purpose symbols tokens first spans all new (drop (i + 1) spans) (drop count left) (found ++ record { term = t; text = text } ∷ [])
+      gathered_more t count text ok c w grows = record {
+        on = asks_more (object_to purpose) symbols (signs_of tokens) first spans (lexemes_of all) terms new (get_or spans i d) (drop (i + 1) spans) left found r one t count text ok c w on;
         grows = grows_both symbols.signatures first terms new so_far.grows grows;
-        marks = marks;
       }
 
   -- no span is left
-  pub gathered_all : (terms : TermsValue) (left : List Token) (found : List Asked) (kept : List Bool) (i : ℕ) → length spans ≤ i → Gathered purpose symbols tokens first spans all terms (drop i spans) left found kept → (es : Sexps) → AllStand (signs_of tokens) spans es → asking (object_to symbols.theories purpose) symbols first (lexemes_of all) [] es ≡ Ok (found, terms)
-  gathered_all terms left found kept i le so_far =
-      let P : List Span → Type 0 = λ rest. AsksOn (object_to symbols.theories purpose) symbols (signs_of tokens) first spans (lexemes_of all) terms rest (lexemes_of left) found in
-      asks_done (object_to symbols.theories purpose) symbols (signs_of tokens) first spans (lexemes_of all) terms (lexemes_of left) found (subst P (drop_all i spans le) so_far.on)
+  pub gathered_all : (terms : TermsValue) (left : List Token) (found : List Asked) (i : ℕ) → length spans ≤ i → Gathered purpose symbols tokens first spans all terms (drop i spans) left found → (es : Sexps) → AllStand (signs_of tokens) spans es → asking (object_to purpose) symbols first (lexemes_of all) [] es ≡ Ok (found, terms)
+  gathered_all terms left found i le so_far =
+      let P : List Span → Type 0 = λ rest. AsksOn (object_to purpose) symbols (signs_of tokens) first spans (lexemes_of all) terms rest (lexemes_of left) found in
+      asks_done (object_to purpose) symbols (signs_of tokens) first spans (lexemes_of all) terms (lexemes_of left) found (subst P (drop_all i spans le) so_far.on)
 
-  pub gathered_bodies : (terms : TermsValue) (rest : List Span) (left : List Token) (found : List Asked) (kept : List Bool) → AreBodies (length first.nodes) symbols.definitions → Gathered purpose symbols tokens first spans all terms rest left found kept → AreBodies (length terms.nodes) symbols.definitions
-  gathered_bodies terms rest left found kept bodies so_far = bodies_longer _ _ symbols.definitions (longer symbols.signatures first terms so_far.grows) bodies
+  pub gathered_bodies : (terms : TermsValue) (rest : List Span) (left : List Token) (found : List Asked) → AreBodies (length first.nodes) symbols.definitions → Gathered purpose symbols tokens first spans all terms rest left found → AreBodies (length terms.nodes) symbols.definitions
+  gathered_bodies terms rest left found bodies so_far = bodies_longer _ _ symbols.definitions (longer symbols.signatures first terms so_far.grows) bodies
 
 -- as much as is left is as much as stands behind a place
 pub left_length : (items : List Token) (place n : ℕ) → min n (length items - place) ≡ min n (length (drop place items))

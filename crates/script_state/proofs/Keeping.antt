@@ -20,13 +20,13 @@ use Rattle.script_state.specs.declared.answer.Asked.{Asked}
 use Rattle.script_state.specs.declared.answer.Verdict.TheVariants.{Sat}
 use Rattle.script_state.specs.Readings.{Reading}
 use Rattle.script_state.specs.States.{StateValue, RestValue, with_terms, IsState, Fit}
-use Rattle.script_state.specs.Steps.{Step, declaring, naming_sort, defining, objection, asserting_unless, asking, assuming_by, value_objection, valuing_by, pushing_by, popping_by, step}
+use Rattle.script_state.specs.Steps.{Step, declaring, naming_sort, defining, objection, asserting_unless, asking, assuming_by, no_objection, valuing_by, pushing_by, popping_by, step}
 use Rattle.script_state.proofs.Declared.{declared_kept}
 use Rattle.cnf_base.proofs.Lists.{slice_get-longer}
 use Rattle.script_state.proofs.Defined.{sort_defined}
 use Rattle.script_state.proofs.Marking.{plain_grows}
 use Rattle.script_state.proofs.Leveling.{pushed_is, popped_is, popped_signatures, begun_state, ended_state, emptied_state}
-use Rattle.script_state.proofs.Asserting.{are_assumed, opted_state, fallen_state, declared_state, named_state, defined_state, grown_state, asserted_state}
+use Rattle.script_state.proofs.Asserting.{opted_state, fallen_state, declared_state, named_state, defined_state, grown_state, asserted_state}
 use Rattle.script_state.proofs.Naming.{assertion_is}
 use Rattle.script_state.proofs.Judging.{assumed_is, valued_is}
 use Rattle.script_state.proofs.Cases.{of_step}
@@ -80,7 +80,7 @@ module _ (s : StateValue) (is : IsState s) where
         keeps = record { behind = one.terms.grows.behind; nodes = one.terms.grows.nodes; signatures = λ d r h. h; assertions = λ a u h. h };
       })
 
-  pub asserted_goes_on : (name : Option (List ℕ)) (x : Sexp) (t : ℕ) (v : SymbolsValue) (w : TermsValue) → assertion s.symbols s.terms x ≡ Ok (t, v, w) → objection s.symbols.theories w.nodes t ≡ None → Goes (asserting_unless None s name t v w)
+  pub asserted_goes_on : (name : Option (List ℕ)) (x : Sexp) (t : ℕ) (v : SymbolsValue) (w : TermsValue) → assertion s.symbols s.terms x ≡ Ok (t, v, w) → objection w.nodes t ≡ None → Goes (asserting_unless None s name t v w)
   asserted_goes_on name x t v w e plain =
       let one = assertion_is s.symbols v s.terms w x t is.terms is.bodies is.closed.bodies e in
       let grown = grown_state s w one.on.grows is (one.on.list is.terms) in
@@ -94,7 +94,7 @@ module _ (s : StateValue) (is : IsState s) where
   abbrev with_asked : TermsValue → StateValue
   with_asked w = record { symbols = s.symbols; terms = w; scopes = s.scopes; options = s.options; standing = s.standing; assumed = s.assumed }
 
-  pub assumed_goes_on : (tokens : List Lexeme) (es : Sexps) (asked : List Asked) (w : TermsValue) → asking (objection s.symbols.theories) s.symbols s.terms tokens [] es ≡ Ok (asked, w) → Goes (assuming_by s (Ok (asked, w)))
+  pub assumed_goes_on : (tokens : List Lexeme) (es : Sexps) (asked : List Asked) (w : TermsValue) → asking objection s.symbols s.terms tokens [] es ≡ Ok (asked, w) → Goes (assuming_by s (Ok (asked, w)))
   assumed_goes_on tokens es asked w e =
       let on = assumed_is s.symbols s.terms w tokens es asked is.terms is.bodies is.closed.bodies e in
       record {
@@ -102,7 +102,7 @@ module _ (s : StateValue) (is : IsState s) where
         keeps = record { behind = on.0.grows.behind; nodes = on.0.grows.nodes; signatures = λ d r e. e; assertions = λ a t e. e };
       }
 
-  pub valued_goes_on : (tokens : List Lexeme) (es : Sexps) (asked : List Asked) (w : TermsValue) → asking (value_objection s.symbols.theories) s.symbols s.terms tokens [] es ≡ Ok (asked, w) → Goes (valuing_by s asked w (Some Sat))
+  pub valued_goes_on : (tokens : List Lexeme) (es : Sexps) (asked : List Asked) (w : TermsValue) → asking no_objection s.symbols s.terms tokens [] es ≡ Ok (asked, w) → Goes (valuing_by s asked w (Some Sat))
   valued_goes_on tokens es asked w e =
       let on = valued_is s.symbols s.terms w tokens es asked is.terms is.bodies is.closed.bodies e in
       record {
@@ -139,7 +139,7 @@ module _ (s : StateValue) (is : IsState s) where
     asserted = asserted_goes_on;
     assumed = λ tokens es asked w e fit. assumed_goes_on tokens es asked w e;
     said = λ x. record { state = is; keeps = same };
-    set = λ o. goes_same _ (opted_state s o s.standing s.assumed is (are_assumed s is)) refl refl refl;
+    set = λ o. goes_same _ (opted_state s o s.standing s.assumed is is.assumed) refl refl refl;
     begun = by_pushing;
     ended = by_popping;
     emptied = λ o. goes_same _ (emptied_state s o is) refl refl refl;

@@ -16,14 +16,13 @@ use Rattle.scope_selectors.specs.Scopes.{ScopesValue, AreScopes, most_levels, ou
 use Rattle.scope_selectors.proofs.Keeping.{fewer_levels}
 use Rattle.smt_build.specs.declared.symbols.LiveName.{LiveName}
 use Rattle.smt_build.specs.declared.symbols.Level.{Level}
-use Rattle.smt_build.specs.Names.{SymbolsValue, Meanings, symbols_over, emptied, popped_to, popped as symbols_popped}
+use Rattle.smt_build.specs.Names.{SymbolsValue, Meanings, no_symbols, emptied, popped_to, popped as symbols_popped}
 use Rattle.smt_build.proofs.Uses.{bodies_take}
 use Rattle.script_state.specs.declared.answer.Verdict.{Verdict}
 use Rattle.script_state.specs.declared.options.Options.{Options}
 use Rattle.script_state.specs.Options.{first_options}
-use Rattle.script_state.specs.Plain.{is_decided}
-use Rattle.script_state.specs.States.{StateValue, AreLive, IsTaken, IsTakenName, IsState, start_of}
-use Rattle.script_state.proofs.Asserting.{none_assumed, none_decided, none_asked, opted_state}
+use Rattle.script_state.specs.States.{StateValue, AreLive, IsTaken, IsTakenName, IsState, no_state}
+use Rattle.script_state.proofs.Asserting.{none_assumed, none_asked, opted_state}
 use Rattle.script_state.proofs.Closing.{closed_none}
 use Rattle.script_state.proofs.Standing.{within_all, begun, ended, levels_begun, levels_ended}
 
@@ -91,8 +90,6 @@ begun_state v n w is o s e =
       sorts = is.sorts;
       held = is.held;
       truths = is.truths;
-      plain = is.plain;
-      asked = none_decided v.symbols.theories v.terms.nodes;
       closed = is.closed;
       levels = levels_begun v n is o s;
       assumed = none_assumed v.terms.nodes v.symbols.live;
@@ -100,10 +97,10 @@ begun_state v n w is o s e =
 
 -- ---- end
 
-names_take : (theories : Bool) (k : ℕ) (ms : Meanings Sort) → AllByRecursion (IsTakenName theories) ms → AllByRecursion (IsTakenName theories) (take k ms)
-names_take theories zero ms h = tt
-names_take theories (suc k) [] h = tt
-names_take theories (suc k) (m ∷ ms) h = (h.0, names_take theories k ms h.1)
+names_take : (k : ℕ) (ms : Meanings Sort) → AllByRecursion IsTakenName ms → AllByRecursion IsTakenName (take k ms)
+names_take zero ms h = tt
+names_take (suc k) [] h = tt
+names_take (suc k) (m ∷ ms) h = (h.0, names_take k ms h.1)
 
 live_take : (v : SymbolsValue) (n : ℕ) (w : SymbolsValue) → AreLive v → n ≤ length v.live → w.live ≡ take n v.live → w.signatures ≡ v.signatures → AreLive w
 live_take v n w are le live signatures = record {
@@ -125,11 +122,9 @@ to_level v k l is o s le here =
       constants = is.constants;
       declared = is.declared;
       bodies = bodies_take (length v.terms.nodes) l.definitions v.symbols.definitions is.bodies;
-      sorts = names_take v.symbols.theories l.sorts v.symbols.sorts is.sorts;
+      sorts = names_take l.sorts v.symbols.sorts is.sorts;
       held = All-filter (λ (a : Live). nat_le a.level k) (λ (a : Live). a.term < length v.terms.nodes) v.scopes.live is.held;
       truths = All-filter (λ (a : Live). nat_le a.level k) (λ (a : Live). sort_of v.terms.nodes a.term ≡ sort.Bool) v.scopes.live is.truths;
-      plain = All-filter (λ (a : Live). nat_le a.level k) (λ (a : Live). is_decided v.symbols.theories v.terms.nodes a.term ≡ true) v.scopes.live is.plain;
-      asked = none_decided v.symbols.theories v.terms.nodes;
       closed = level.closed;
       levels = levels_ended v k l is here o s;
       assumed = none_assumed v.terms.nodes (take l.names v.symbols.live);
@@ -187,8 +182,6 @@ emptied_state v o is = record {
   sorts = tt;
   held = All-nil (λ (a : Live). a.term < length v.terms.nodes);
   truths = All-nil (λ (a : Live). sort_of v.terms.nodes a.term ≡ sort.Bool);
-  plain = All-nil (λ (a : Live). is_decided v.symbols.theories v.terms.nodes a.term ≡ true);
-  asked = none_decided v.symbols.theories v.terms.nodes;
   closed = closed_none v.terms.nodes;
   levels = record { count = refl; rising = λ i j d lt within. absurd (omega (arith, within)); each = λ k l e. absurd (omega (arith, slice_get_within [] k l e)) };
   assumed = none_assumed v.terms.nodes [];
@@ -197,11 +190,11 @@ emptied_state v o is = record {
 -- ---- the first state
 
 -- with room for so many terms
-abbrev start_within : Bool → ℕ → StateValue
-start_within theories limit = record { symbols = symbols_over theories; terms = no_terms limit; scopes = no_scopes; options = first_options; standing = None; assumed = None }
+abbrev start_within : ℕ → StateValue
+start_within limit = record { symbols = no_symbols; terms = no_terms limit; scopes = no_scopes; options = first_options; standing = None; assumed = None }
 
-pub first_state_within : (theories : Bool) (limit : ℕ) → IsState (start_within theories limit)
-first_state_within theories limit = record {
+pub first_state_within : (limit : ℕ) → IsState (start_within limit)
+first_state_within limit = record {
   terms = λ t lt. absurd (omega (arith, lt));
   scopes = record {
     numbered = λ i j d lt within. absurd (omega (arith, within));
@@ -213,14 +206,12 @@ first_state_within theories limit = record {
     within = omega arith;
   };
   live = record { rising = λ i j d lt within. absurd (omega (arith, within)); made = All-nil (λ (l : LiveName). l.declaration < 0) };
-  constants = All-nil (IsTaken theories);
+  constants = All-nil IsTaken;
   declared = record { each = λ t d e. absurd (none_declared t d e) };
   bodies = tt;
   sorts = tt;
   held = All-nil (λ (a : Live). a.term < 0);
   truths = All-nil (λ (a : Live). sort_of [] a.term ≡ sort.Bool);
-  plain = All-nil (λ (a : Live). is_decided theories [] a.term ≡ true);
-  asked = none_decided theories [];
   closed = closed_none [];
   levels = record { count = refl; rising = λ i j d lt within. absurd (omega (arith, within)); each = λ k l e. absurd (omega (arith, slice_get_within [] k l e)) };
   assumed = none_assumed [] [];
@@ -228,5 +219,5 @@ first_state_within theories limit = record {
   none_declared : (t d : ℕ) → declaration_of (node_at [] t).op ≡ Some d → ⊥
   none_declared t d e = cc
 
-pub first_state : (theories : Bool) → IsState (start_of theories)
-first_state theories = first_state_within theories (2 ^ 24)
+pub first_state : IsState no_state
+first_state = first_state_within (2 ^ 24)

@@ -20,6 +20,5 @@ pub mod Telling
 pub mod Applying
 pub mod Deciding
 pub mod Words
-pub mod Theories
 pub mod Watching
 pub mod Assuming

@@ -1,6 +1,6 @@
 -- Which terms are plain stays so as terms are made and forgotten, and follows from the arguments.
 use Rattle.std.proofs.Common.{◌≡◌, ℕ, ◌+◌, ◌<◌, ◌≤◌, Bool, true, false, ◌&&◌, List, [], ◌∷◌, ◌++◌, length, take, drop, get_or, refl, sym, ap, ◌∙◌, arith, ⊎_elim, length-append}
-use Rattle.std.specs.Prelude.{◌||◌, slice_index_or}
+use Rattle.std.specs.Prelude.{slice_index_or}
 use Rattle.std.specs.List.{list_all, AllByRecursion}
 use Rattle.std.proofs.lemmas.Bool.{cases_lt}
 use Rattle.std.proofs.lemmas.List.{get_or_append_left, get_or-take, length-take, take-append-drop, take_all}
@@ -12,14 +12,10 @@ use Rattle.smt_terms.specs.Nodes.{node_at}
 use Rattle.smt_terms.specs.Terms.{TermsValue, IsTerm, IsTermList}
 use Rattle.smt_terms.proofs.Recursion.{same_map, at_term_is, at_term_longer}
 use Rattle.smt_build.specs.Building.{Grows}
-use Rattle.script_state.specs.Plain.{is_plain_op, is_plain, is_decided, HavePlain}
+use Rattle.script_state.specs.Plain.{is_plain_op, is_plain, HavePlain}
 
 pub plain_longer : (nodes more : List Node) (t : ℕ) → t < length nodes → is_plain (nodes ++ more) t ≡ is_plain nodes t
 plain_longer nodes more t lt = at_term_longer false (λ u op args. is_plain_op op && list_all (λ b. b) args) nodes more t lt
-
--- what can be decided can be among more terms
-pub decided_longer : (theories : Bool) (nodes more : List Node) (t : ℕ) → t < length nodes → is_decided theories nodes t ≡ true → is_decided theories (nodes ++ more) t ≡ true
-decided_longer theories nodes more t lt h = ap (λ b. theories || b) (plain_longer nodes more t lt) ∙ h
 
 -- a term is plain where its operator is and each argument
 pub plain_is : (nodes : List Node) (t : ℕ) → IsTerm nodes t → is_plain nodes t ≡ (is_plain_op (node_at nodes t).op && list_all (is_plain nodes) (node_at nodes t).args)

@@ -59,8 +59,8 @@ module _ (v w : SymbolsValue) (terms new : TermsValue) (e : Sexp) (t : ℕ) wher
   pub names_back : (back : SymbolsValue) (count : ℕ) → assertion v terms e ≡ Ok (t, w, new) → count ≡ length v.definitions → back ≡ with_definitions w count → back ≡ v
   names_back back count is c f =
       let adds = adds_assertion is in
-      f ∙ rw (c, adds.same) (λ i. record { live = v.live; signatures = v.signatures; definitions = take-append_seam v.definitions adds.more i; sorts = v.sorts; levels = v.levels; theories = v.theories })
+      f ∙ rw (c, adds.same) (λ i. record { live = v.live; signatures = v.signatures; definitions = take-append_seam v.definitions adds.more i; sorts = v.sorts; levels = v.levels })
 
 -- an assertion that something stands against is refused, and leaves the state
-pub asserting_refused : (s new : StateValue) (name : Option (List ℕ)) (e : Sexp) (t : ℕ) (v : SymbolsValue) (w : TermsValue) (x : ErrorText) → assertion s.symbols s.terms e ≡ Ok (t, v, w) → objection s.symbols.theories w.nodes t ≡ Some x → new ≡ s → ◌≡◌ {A = Step} (asserting s name (assertion s.symbols s.terms e)) (Refused x, new)
+pub asserting_refused : (s new : StateValue) (name : Option (List ℕ)) (e : Sexp) (t : ℕ) (v : SymbolsValue) (w : TermsValue) (x : ErrorText) → assertion s.symbols s.terms e ≡ Ok (t, v, w) → objection w.nodes t ≡ Some x → new ≡ s → ◌≡◌ {A = Step} (asserting s name (assertion s.symbols s.terms e)) (Refused x, new)
 asserting_refused s new name e t v w x is o same = rw (is, o, same) refl

@@ -7,7 +7,6 @@ use Rattle.scope_selectors.specs.declared.live.Live.{Live}
 use Rattle.smt_build.specs.Scoped.{is_over}
 use Rattle.smt_build.proofs.Scoped.{over_has_no_witness}
 use Rattle.script_state.specs.declared.answer.Asked.{Asked}
-use Rattle.script_state.specs.Plain.{is_decided}
 use Rattle.script_state.specs.States.{StateValue, IsState, IsAssumption, assumptions, roots_of, roots}
 use Rattle.cnf_base.proofs.Lists.{each_append, each_map}
 
@@ -31,10 +30,6 @@ module _ (s : StateValue) (is : IsState s) where
   all_held =
       all_roots (λ t. t < length s.terms.nodes) s.scopes.live (assumptions s) is.held
       (All-weaker (IsAssumption s.terms.nodes s.symbols.live) (λ (a : Asked). a.term < length s.terms.nodes) (λ a h. h.held) (assumptions s) is.assumed)
-
-  -- a check can decide them
-  pub all_decided : All (λ t. is_decided s.symbols.theories s.terms.nodes t ≡ true) (roots s)
-  all_decided = all_roots (λ t. is_decided s.symbols.theories s.terms.nodes t ≡ true) s.scopes.live (assumptions s) is.plain is.asked
 
   -- no witness stands in them
   pub all_scripted : All (λ t. has_no_witness s.terms.nodes t ≡ true) (roots s)

@@ -159,7 +159,7 @@ module _ (v : StateValue) (n : ℕ) (is : IsState v) (o : Options) (s : Option V
 -- what a level began with
 abbrev pub ended : StateValue → ℕ → Level → Options → Option Verdict → StateValue
 ended v k l o s = record {
-  symbols = record { live = take l.names v.symbols.live; signatures = v.symbols.signatures; definitions = take l.definitions v.symbols.definitions; sorts = take l.sorts v.symbols.sorts; levels = take k v.symbols.levels; theories = v.symbols.theories };
+  symbols = record { live = take l.names v.symbols.live; signatures = v.symbols.signatures; definitions = take l.definitions v.symbols.definitions; sorts = take l.sorts v.symbols.sorts; levels = take k v.symbols.levels };
   terms = v.terms;
   scopes = record { levels = k; live = made_within k v.scopes.live; made = v.scopes.made; terms = v.scopes.terms };
   options = o;

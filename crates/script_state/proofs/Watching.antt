@@ -1,6 +1,6 @@
 -- What a check makes before all else can be made where all its terms are plain: these reach no array.
 use Rattle.std.proofs.Common.{◌≡◌, ℕ, zero, suc, ◌+◌, ◌-◌, ◌*◌, ◌<◌, ◌≤◌, Bool, true, false, List, [], ◌∷◌, length, map, refl, sym, ap, ◌∙◌, subst, arith, Some, Result, Ok}
-use Rattle.std.specs.Prelude.{All, Contains, ◌||◌, slice_index_or}
+use Rattle.std.specs.Prelude.{All, Contains, slice_index_or}
 use Rattle.std.specs.List.{list_all, AllByRecursion}
 use Rattle.std.proofs.lemmas.Bool.{and_parts, le-leb, lt-leb}
 use Rattle.std.proofs.lemmas.List.Elements.{All-contains, All-from_recursion}
@@ -22,7 +22,7 @@ use Rattle.term_reach.specs.Reach.{arguments, IsReached, IsClosed}
 use Rattle.term_reach.proofs.Ways.{reached_closed, arguments_below}
 use Rattle.array_watches.specs.Needed.{watched}
 use Rattle.array_watches.proofs.Arrayless.{words_need_no_watches}
-use Rattle.script_state.specs.Plain.{is_plain_operator, is_plain_op, is_plain, is_decided, HavePlain}
+use Rattle.script_state.specs.Plain.{is_plain_operator, is_plain_op, is_plain, HavePlain}
 use Rattle.script_state.specs.States.{watches_fit}
 use Rattle.script_state.proofs.Marking.{plain_is}
 
@@ -192,10 +192,6 @@ module _ (terms : TermsValue) (roots : List ℕ) (are : AreTerms terms) (held : 
       let lt = All-contains (λ a. a < length terms.nodes) roots t held c in
       let mark = All-contains (λ a. slice_index_or marks a false ≡ true) roots t (All-from_recursion (λ a. slice_index_or marks a false ≡ true) roots (each_is (λ a. slice_index_or marks a false) roots all)) c in
       sym (have.each t (omega (arith, lt, count))) ∙ mark)
-
-  -- where functions and arrays are not read
-  pub words_fit : (theories : Bool) → theories ≡ false → All (λ t. is_decided theories terms.nodes t ≡ true) roots → watches_fit terms roots ≡ true
-  words_fit theories off decided = plain_fit (λ t c. subst (λ b. (b || is_plain terms.nodes t) ≡ true) off (All-contains (λ a. is_decided theories terms.nodes a ≡ true) roots t decided c))
 
 pub counted_fit : (terms : TermsValue) (roots : List ℕ) → length (watched terms.nodes roots) ≤ terms.limit → true ≡ watches_fit terms roots
 counted_fit terms roots le = sym (le-leb (length (watched terms.nodes roots)) terms.limit le)

@@ -1,5 +1,5 @@
 -- How terms that a command asks for are answered.
-use Rattle.std.specs.Prelude.{◌≡◌, ℕ, Bool, List, [], ◌∷◌, ◌++◌, Option, Result, Ok, Err}
+use Rattle.std.specs.Prelude.{◌≡◌, ℕ, List, [], ◌∷◌, ◌++◌, Option, Result, Ok, Err}
 use Rattle.smt_terms.specs.declared.node.Node.{Node}
 use Rattle.smt_terms.specs.Terms.{TermsValue}
 use Rattle.scope_selectors.specs.Scopes.{ScopesValue}
@@ -11,12 +11,12 @@ use Rattle.script_state.specs.declared.asked.AskError.{AskError}
 use Rattle.script_state.specs.declared.asked.AskError.TheVariants.{NoMemory, Refused}
 use Rattle.script_state.specs.declared.error_text.ErrorText.{ErrorText}
 use Rattle.script_state.specs.States.{StateValue}
-use Rattle.script_state.specs.Steps.{Asking, objection, value_objection}
+use Rattle.script_state.specs.Steps.{Asking, objection, no_objection}
 
 -- why a term cannot be asked for
-abbrev pub object_to : Bool → Purpose → List Node → ℕ → Option ErrorText
-object_to theories Assume = objection theories
-object_to theories Evaluate = value_objection theories
+abbrev pub object_to : Purpose → List Node → ℕ → Option ErrorText
+object_to Assume = objection
+object_to Evaluate = no_objection
 
 -- these are the state's
 pub record AreOf (s : StateValue) (symbols : SymbolsValue) (scopes : ScopesValue) (terms : TermsValue) : Type 0 where

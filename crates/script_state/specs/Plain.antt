@@ -1,6 +1,6 @@
--- Terms that a check can decide: declared Bools and words, and the operators of the theories Core and FixedSizeBitVectors
--- over them (SMT-LIB 2.6).
-use Rattle.std.specs.Prelude.{◌≡◌, ℕ, ◌<◌, ◌≤◌, Bool, true, false, ◌&&◌, ◌||◌, List, length, slice_index_or}
+-- Terms of declared Bools and words, and of the operators of the theories Core and FixedSizeBitVectors over them (SMT-LIB
+-- 2.6). They reach no array, so that a check makes no term for them before all else.
+use Rattle.std.specs.Prelude.{◌≡◌, ℕ, ◌<◌, ◌≤◌, Bool, true, false, ◌&&◌, List, length, slice_index_or}
 use Rattle.std.specs.List.{list_all}
 use Rattle.smt_terms.specs.declared.operator.Operator.{Operator}
 use Rattle.smt_terms.specs.declared.operator.Operator.TheVariants as plain
@@ -34,10 +34,6 @@ is_plain_op (Param k s) = false
 -- the operator of the term is plain, and so are its arguments
 abbrev pub is_plain : List Node → ℕ → Bool
 is_plain nodes t = at_term false (λ u op args. is_plain_op op && list_all (λ b. b) args) nodes t
-
--- a check can decide the term: it is plain, or functions and arrays are read
-abbrev pub is_decided : Bool → List Node → ℕ → Bool
-is_decided theories nodes t = theories || is_plain nodes t
 
 -- ---- how it is kept
 

@@ -1,5 +1,5 @@
 -- The state of a session (SMT-LIB 2.6, section 4.1).
-use Rattle.std.specs.Prelude.{◌≡◌, ℕ, ◌<◌, ◌≤◌, ◌^◌, ◌++◌, Bool, true, false, ◌||◌, List, [], length, map, nat_le, slice_get, take, All, AllPairs, Option, Some, None}
+use Rattle.std.specs.Prelude.{◌≡◌, ℕ, ◌<◌, ◌≤◌, ◌^◌, ◌++◌, Bool, true, List, [], length, map, nat_le, slice_get, take, All, AllPairs, Option, Some, None}
 use Rattle.std.specs.List.{AllByRecursion}
 use Rattle.smt_terms.specs.declared.sort.Sort.{Sort}
 use Rattle.smt_terms.specs.declared.sort.Sort.TheVariants as sort
@@ -11,7 +11,7 @@ use Rattle.scope_selectors.specs.Scopes.{ScopesValue, AreScopes, no_scopes, made
 use Rattle.smt_build.specs.declared.definition.Definition.{Definition}
 use Rattle.smt_build.specs.declared.symbols.LiveName.{LiveName}
 use Rattle.smt_build.specs.declared.symbols.Level.{Level}
-use Rattle.smt_build.specs.Names.{SymbolsValue, Meanings, AreDeclared, AreBodies, symbols_over}
+use Rattle.smt_build.specs.Names.{SymbolsValue, Meanings, AreDeclared, AreBodies, no_symbols}
 use Rattle.smt_build.specs.Scoped.{is_over, AreOver}
 use Rattle.script_state.specs.declared.answer.Asked.{Asked}
 use Rattle.script_state.specs.declared.answer.Verdict.{Verdict}
@@ -19,7 +19,7 @@ use Rattle.script_state.specs.declared.options.Options.{Options}
 use Rattle.script_state.specs.Options.{first_options}
 use Rattle.smt_terms.specs.Ranks as ranks
 use Rattle.array_watches.specs.Needed.{watched}
-use Rattle.script_state.specs.Plain.{is_decided, HavePlain}
+use Rattle.script_state.specs.Plain.{HavePlain}
 
 -- the names and declarations with their levels, the terms, the live assertions with their levels, the options, the verdict
 -- of the check that stands, and what that check assumes, or the one that is begun; there is no such list where it was asked
@@ -85,31 +85,19 @@ pub record AreLevels (v : StateValue) : Type 0 where
   pub rising : AllPairs IsBehind v.symbols.levels
   pub each : (k : ℕ) (l : Level) → slice_get v.symbols.levels k ≡ Some l → IsLevel v k l
 
--- the signature of a constant that is a Bool, or a word of 1 to 128 bits
-pub record IsPlainConstant (s : Signature) : Type 0 where
-  pub constant : s.args ≡ []
-  pub sort : ranks.is_plain s.value ≡ true
-  pub widths : IsSort s.value
+-- a name of a sort stands for one whose widths are in range
+abbrev pub IsTakenName : List ℕ × Sort → Type 0
+IsTakenName m = IsSort m.1
 
--- a sort of Bools or of words of 1 to 128 bits; and of arrays of these, where they are read
-abbrev pub IsTakenSort : Bool → Sort → Type 0
-IsTakenSort theories s = ((theories || ranks.is_plain s) ≡ true) × IsSort s
-
--- a name of a sort stands for such a sort
-abbrev pub IsTakenName : Bool → List ℕ × Sort → Type 0
-IsTakenName theories m = IsTakenSort theories m.1
-
--- the signature of a constant of such a sort; and of a function over Bools and words, where these are read
-pub record IsTaken (theories : Bool) (s : Signature) : Type 0 where
-  pub words : theories ≡ false → IsPlainConstant s
+-- the signature of a constant, or of a function over Bools and words; the widths are in range
+pub record IsTaken (s : Signature) : Type 0 where
   pub value : IsSort s.value
   pub args : All (λ (a : Sort). (ranks.is_plain a ≡ true) × IsSort a) s.args
   pub plain : (s.args ≡ [] → ⊥) → ranks.is_plain s.value ≡ true
 
--- a term that a check can decide, over the live declarations
-pub record IsAsked (theories : Bool) (nodes : List Node) (live : List LiveName) (a : Asked) : Type 0 where
+-- a term over the live declarations
+pub record IsAsked (nodes : List Node) (live : List LiveName) (a : Asked) : Type 0 where
   pub held : a.term < length nodes
-  pub plain : is_decided theories nodes a.term ≡ true
   pub closed : is_over live nodes a.term ≡ true
 
 -- a term of sort Bool over the live declarations
@@ -118,32 +106,26 @@ pub record IsAssumption (nodes : List Node) (live : List LiveName) (a : Asked) :
   pub truth : sort_of nodes a.term ≡ sort.Bool
   pub closed : is_over live nodes a.term ≡ true
 
--- The terms are a list of well-sorted terms and name declarations as they were made, which are of constants, and of functions
--- where these are read; the bodies of definitions are terms; each live assertion is a term of sort Bool that a check can
--- decide, and so is each assumption. What is live names live declarations alone, and so it will where levels are popped.
+-- The terms are a list of well-sorted terms and name declarations as they were made, which are of constants and of functions;
+-- the bodies of definitions are terms; each live assertion is a term of sort Bool, and so is each assumption. What is live
+-- names live declarations alone, and so it will where levels are popped.
 pub record IsState (v : StateValue) : Type 0 where
   pub terms : IsTermList v.terms.nodes
   pub scopes : AreScopes v.scopes
   pub live : AreLive v.symbols
-  pub constants : All (IsTaken v.symbols.theories) v.symbols.signatures
+  pub constants : All IsTaken v.symbols.signatures
   pub declared : AreDeclared v.symbols.signatures v.terms.nodes
   pub bodies : AreBodies (length v.terms.nodes) v.symbols.definitions
-  pub sorts : AllByRecursion (IsTakenName v.symbols.theories) v.symbols.sorts
+  pub sorts : AllByRecursion IsTakenName v.symbols.sorts
   pub held : All (λ (a : Live). a.term < length v.terms.nodes) v.scopes.live
   pub truths : All (λ (a : Live). sort_of v.terms.nodes a.term ≡ sort.Bool) v.scopes.live
-  pub plain : All (λ (a : Live). is_decided v.symbols.theories v.terms.nodes a.term ≡ true) v.scopes.live
-  pub asked : All (λ (a : Asked). is_decided v.symbols.theories v.terms.nodes a.term ≡ true) (assumptions v)
   pub closed : IsClosed v.terms.nodes v.symbols.live v.symbols.definitions v.scopes.live
   pub levels : AreLevels v
   pub assumed : All (IsAssumption v.terms.nodes v.symbols.live) (assumptions v)
 
 -- nothing declared, no terms, nothing asserted, the first options, and no check that stands
-abbrev pub start_of : Bool → StateValue
-start_of theories = record { symbols = symbols_over theories; terms = no_terms (2 ^ 24); scopes = no_scopes; options = first_options; standing = None; assumed = None }
-
--- where functions with arguments and arrays are not read
 abbrev pub no_state : StateValue
-no_state = start_of false
+no_state = record { symbols = no_symbols; terms = no_terms (2 ^ 24); scopes = no_scopes; options = first_options; standing = None; assumed = None }
 
 -- a check with this verdict stands
 abbrev pub concluded : StateValue → Verdict → StateValue

@@ -38,7 +38,6 @@ use Rattle.script_state.specs.declared.error_text.ErrorText.{ErrorText}
 use Rattle.script_state.specs.declared.error_text.ErrorText.TheVariants.{WrongArguments, NotSupported, TooManyTerms, UnknownLogic, LevelOutOfRange, NoModel, NoRefutation, OptionOff, NoUnknownAnswer}
 use Rattle.script_state.specs.ErrorTexts.{syntax_error, build_error}
 use Rattle.script_state.specs.Options.{first_options, option_value, with_option}
-use Rattle.script_state.specs.Plain.{is_decided}
 use Rattle.script_state.specs.States.{StateValue, IsAsked, roots_of, watches_fit}
 use Rattle.script_state.specs.Readings.{Reading, ReadsAs}
 use Rattle.script_state.specs.Written.{written, behind, listed}
@@ -79,9 +78,9 @@ abbrev pub defining : StateValue → FunctionDefinition → Step
 defining s (Ok d) = (Done, record { symbols = d.0; terms = d.1; scopes = s.scopes; options = s.options; standing = None; assumed = None })
 defining s (Err f) = refuse s (build_error f)
 
--- why a term cannot be asserted: it is no Bool, or no check can decide it
-abbrev pub objection : Bool → List Node → ℕ → Option ErrorText
-objection theories nodes t = if same_sort (sort_of nodes t) sort.Bool then (if is_decided theories nodes t then None else Some NotSupported) else Some WrongArguments
+-- why a term cannot be asserted: it is no Bool
+abbrev pub objection : List Node → ℕ → Option ErrorText
+objection nodes t = if same_sort (sort_of nodes t) sort.Bool then None else Some WrongArguments
 
 -- the term is asserted in the innermost level, under its name if it has one, and no check stands, unless it cannot be asserted
 abbrev pub asserting_unless : Option ErrorText → StateValue → Option (List ℕ) → ℕ → SymbolsValue → TermsValue → Step
@@ -89,7 +88,7 @@ asserting_unless None s name t symbols terms = (Done, record { symbols = symbols
 asserting_unless (Some e) s name t symbols terms = refuse s e
 
 abbrev pub asserting : StateValue → Option (List ℕ) → Assertion → Step
-asserting s name (Ok a) = asserting_unless (objection s.symbols.theories a.2.nodes a.0) s name a.0 a.1 a.2
+asserting s name (Ok a) = asserting_unless (objection a.2.nodes a.0) s name a.0 a.1 a.2
 asserting s name (Err f) = refuse s (build_error f)
 
 -- ---- terms that a command asks for
@@ -123,7 +122,7 @@ assuming_by s (Ok r) = (Check, record { symbols = s.symbols; terms = r.1; scopes
 assuming_by s (Err e) = refuse s e
 
 abbrev pub assuming : StateValue → List Lexeme → Sexps → Step
-assuming s tokens es = assuming_by s (watching s.scopes.live (asking (objection s.symbols.theories) s.symbols s.terms tokens [] es))
+assuming s tokens es = assuming_by s (watching s.scopes.live (asking objection s.symbols s.terms tokens [] es))
 
 -- the form of the command lets lists alone be
 abbrev pub assuming_listed : StateValue → List Lexeme → Sexp → Step
@@ -230,9 +229,9 @@ modelling_by s _ = refuse s NoModel
 abbrev pub modelling : StateValue → Step
 modelling s = if s.options.produce_models then modelling_by s s.standing else refuse s OptionOff
 
--- why a term has no value that can be told: a check could not decide it
-abbrev pub value_objection : Bool → List Node → ℕ → Option ErrorText
-value_objection theories nodes t = if is_decided theories nodes t then None else Some NotSupported
+-- each term has a value that can be told
+abbrev pub no_objection : List Node → ℕ → Option ErrorText
+no_objection nodes t = None
 
 abbrev pub valuing_by : StateValue → List Asked → TermsValue → Option Verdict → Step
 valuing_by s asked terms (Some verdict.Sat) = (Values asked, record { symbols = s.symbols; terms = terms; scopes = s.scopes; options = s.options; standing = s.standing; assumed = s.assumed })
@@ -244,7 +243,7 @@ valuing_asked s (Ok r) = if s.options.produce_models then valuing_by s r.0 r.1 s
 valuing_asked s (Err e) = refuse s e
 
 abbrev pub valuing : StateValue → List Lexeme → Sexps → Step
-valuing s tokens es = valuing_asked s (asking (value_objection s.symbols.theories) s.symbols s.terms tokens [] es)
+valuing s tokens es = valuing_asked s (asking no_objection s.symbols s.terms tokens [] es)
 
 abbrev pub valuing_listed : StateValue → List Lexeme → Sexp → Step
 valuing_listed s tokens (group es) = valuing s tokens es
@@ -318,13 +317,13 @@ abbrev pub forgotten : StateValue → ℕ → StateValue
 forgotten s n = record { symbols = s.symbols; terms = cut_at s.terms n; scopes = s.scopes; options = s.options; standing = s.standing; assumed = s.assumed }
 
 -- Where the terms are forgotten that the values are asked of, the state is as before. The check that stands found a model,
--- and it can decide the terms, which are over the live declarations.
+-- and the terms are over the live declarations.
 pub record IsAskedValues (old new : StateValue) (asked : List Asked) : Type 0 where
   pub back : forgotten new (length old.terms.nodes) ≡ old
   pub limit : new.terms.limit ≡ old.terms.limit
   pub standing : old.standing ≡ Some verdict.Sat
   pub option : old.options.produce_models ≡ true
-  pub each : All (IsAsked old.symbols.theories new.terms.nodes old.symbols.live) asked
+  pub each : All (IsAsked new.terms.nodes old.symbols.live) asked
 
 -- ---- the end of a run
 

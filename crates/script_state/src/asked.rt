@@ -1,6 +1,6 @@
 //! Terms that a command asks for (SMT-LIB 2.6, sections 4.2.5 and 4.2.7).
 
-ghost use Rattle.std.specs.Prelude.{◌≡◌, ◌<◌, ◌≤◌, ℕ, List, [], IfOk, length, drop};
+ghost use Rattle.std.specs.Prelude.{◌≡◌, ◌<◌, ◌≤◌, ℕ, List, [], length, drop};
 ghost use Rattle.smt_text.specs.Lexicon.{lexemes_of};
 ghost use Rattle.smt_syntax.specs.Sexps.{Sexp, Sexps, group, signs_of};
 ghost use Rattle.smt_syntax.specs.Spans.{Stands, AllStand};
@@ -16,7 +16,7 @@ ghost use Rattle.script_state.specs.Asking.{object_to, AreOf, AsksOne, Asks};
 
 use crate::answer::{Asked, AskedTerms};
 use crate::error_text::{ErrorText, build_error};
-use crate::plain::{objection, value_objection};
+use crate::objecting::objection;
 use crate::watches::watches_fit;
 use crate::written::text_of;
 use scope_selectors::scopes::Scopes;
@@ -27,7 +27,7 @@ use smt_syntax::span::Span;
 use smt_terms::node::TermId;
 use smt_terms::terms::Terms;
 use smt_text::token::{Token, Tokens};
-use std::alloc::{AllocError, Global};
+use std::alloc::Global;
 use term_reach::Reached;
 
 /// What terms are asked for.
@@ -47,21 +47,13 @@ pub(crate) enum AskError {
 }
 
 /// Why a term cannot be asked for, `None` exactly where it can.
-fn object(
-    theories: bool,
-    terms: &Terms,
-    marks: &mut Vec<bool>,
-    term: TermId,
-    purpose: Purpose,
-) -> Result<Option<ErrorText>, AllocError>
-    requires held { term < length terms.now.nodes }
-    requires marks { HavePlain terms.now.nodes marks.old.items }
-    ensures objection { IfOk result (λ o. o ≡ object_to theories purpose terms.now.nodes term) }
-    ensures marks { HavePlain terms.now.nodes marks.new.items }
+fn object(terms: &Terms, term: TermId, purpose: Purpose) -> Option<ErrorText>
+    requires { term < length terms.now.nodes }
+    ensures { result ≡ object_to purpose terms.now.nodes term }
 {
     match purpose {
-        Purpose::Assume => objection(theories, terms, marks, term),
-        Purpose::Evaluate => value_objection(theories, terms, marks, term),
+        Purpose::Assume => objection(terms, term),
+        Purpose::Evaluate => None,
     }
 }
 
@@ -71,31 +63,27 @@ fn ask_one(
     symbols: &Symbols,
     terms: &mut Terms,
     reached: &mut Reached,
-    marks: &mut Vec<bool>,
     tokens: &Tokens<'_>,
     span: Span,
     purpose: Purpose,
 ) -> Result<TermId, AskError>
     requires declared { AreDeclared symbols.now.signatures terms.old.nodes }
     requires bodies { AreBodies (length terms.old.nodes) symbols.now.definitions }
-    requires marks { HavePlain terms.old.nodes marks.old.items }
     requires stands { (e : Sexp) × Stands (signs_of tokens.now) span e }
     ensures asks { (e : Sexp) → Stands (signs_of tokens.now) span e
         → (found : List Asked) (text : List ℕ)
-        → AsksOne (asking_built (object_to symbols.now.theories purpose) found text
+        → AsksOne (asking_built (object_to purpose) found text
         (term_of symbols.now terms.old e)) found text result terms.new }
     ensures grows { Grows symbols.now.signatures terms.old terms.new }
-    ensures marks { HavePlain terms.new.nodes marks.new.items }
 {
     let term = match symbols.elaborate(alloc, terms, reached, tokens, span) {
         Ok(term) => term,
         Err(BuildError::NoMemory) => return Err(AskError::NoMemory),
         Err(BuildError::Fault(fault)) => return Err(AskError::Refused(build_error(fault))),
     };
-    match object(symbols.reads_theories(), terms, marks, term, purpose) {
-        Ok(None) => Ok(term),
-        Ok(Some(error)) => Err(AskError::Refused(error)),
-        Err(_) => Err(AskError::NoMemory),
+    match object(terms, term, purpose) {
+        None => Ok(term),
+        Some(error) => Err(AskError::Refused(error)),
     }
 }
 
@@ -105,7 +93,6 @@ fn ask_all(
     symbols: &Symbols,
     terms: &mut Terms,
     reached: &mut Reached,
-    marks: &mut Vec<bool>,
     tokens: &Tokens<'_>,
     spans: &[Span],
     items: &[Token<'_>],
@@ -114,20 +101,18 @@ fn ask_all(
 ) -> Result<AskedTerms, AskError>
     requires declared { AreDeclared symbols.now.signatures terms.old.nodes }
     requires bodies { AreBodies (length terms.old.nodes) symbols.now.definitions }
-    requires marks { HavePlain terms.old.nodes marks.old.items }
     requires stand { (es : Sexps) × AllStand (signs_of tokens.now) spans.now es }
     requires first { first ≤ length items.now }
     ensures asks { (es : Sexps) → AllStand (signs_of tokens.now) spans.now es
-        → Asks (asking (object_to symbols.now.theories purpose) symbols.now terms.old
+        → Asks (asking (object_to purpose) symbols.now terms.old
         (lexemes_of (drop first items.now)) [] es) result terms.new }
     ensures grows { Grows symbols.now.signatures terms.old terms.new }
-    ensures marks { HavePlain terms.new.nodes marks.new.items }
 {
     let mut asked = Vec::new(alloc);
     let mut place = first;
     for span in spans {
         let term = match ask_one(
-            alloc, symbols, terms, reached, marks, tokens, *span, purpose,
+            alloc, symbols, terms, reached, tokens, *span, purpose,
         ) {
             Ok(term) => term,
             Err(error) => return Err(error),
@@ -153,20 +138,17 @@ pub(crate) fn ask(
     symbols: &Symbols,
     terms: &mut Terms,
     reached: &mut Reached,
-    marks: &mut Vec<bool>,
     tokens: &Tokens<'_>,
     list: Span,
     purpose: Purpose,
 ) -> Result<AskedTerms, AskError>
     requires declared { AreDeclared symbols.now.signatures terms.old.nodes }
     requires bodies { AreBodies (length terms.old.nodes) symbols.now.definitions }
-    requires marks { HavePlain terms.old.nodes marks.old.items }
     requires stands { (es : Sexps) × Stands (signs_of tokens.now) list (group es) }
     ensures asks { (es : Sexps) → Stands (signs_of tokens.now) list (group es)
-        → Asks (asking (object_to symbols.now.theories purpose) symbols.now terms.old
+        → Asks (asking (object_to purpose) symbols.now terms.old
         (listed tokens.now) [] es) result terms.new }
     ensures grows { Grows symbols.now.signatures terms.old terms.new }
-    ensures marks { HavePlain terms.new.nodes marks.new.items }
 {
     let items = tokens.as_slice();
     let inside = Span {
@@ -183,7 +165,6 @@ pub(crate) fn ask(
         symbols,
         terms,
         reached,
-        marks,
         tokens,
         spans.as_slice(),
         items,
@@ -209,7 +190,7 @@ pub(crate) fn assume(
     requires marks { HavePlain terms.old.nodes marks.old.items }
     requires stand { (es : Sexps) × Stands (signs_of tokens.now) list (group es) }
     ensures asks { (es : Sexps) → Stands (signs_of tokens.now) list (group es)
-        → Asks (watching scopes.now.live (asking (objection symbols.now.theories) symbols.now
+        → Asks (watching scopes.now.live (asking objection symbols.now
         terms.old (listed tokens.now) [] es)) result terms.new }
     ensures grows { Grows symbols.now.signatures terms.old terms.new }
     ensures marks { HavePlain terms.new.nodes marks.new.items }
@@ -219,7 +200,6 @@ pub(crate) fn assume(
         symbols,
         terms,
         reached,
-        marks,
         tokens,
         list,
         Purpose::Assume,
@@ -229,7 +209,6 @@ pub(crate) fn assume(
     };
     match watches_fit(
         alloc,
-        symbols.reads_theories(),
         terms,
         reached,
         marks,

@@ -14,7 +14,8 @@ ghost use Rattle.script_state.specs.Steps.{declaring, naming_sort, defining, ass
 use crate::answer::Answer;
 use crate::asked::{AskError, assume};
 use crate::error_text::{ErrorText, build_error};
-use crate::plain::{cut, objection};
+use crate::objecting::objection;
+use crate::plain::cut;
 use crate::state::State;
 use crate::watches::watches_fit;
 use crate::word::word_at;
@@ -127,7 +128,6 @@ impl State {
     {
         let len = self.terms.len();
         let count = self.symbols.definition_count();
-        let theories = self.symbols.reads_theories();
         let name = name_at(alloc, tokens, span)?;
         let term = match self
             .symbols
@@ -137,17 +137,12 @@ impl State {
             Err(BuildError::NoMemory) => return Err(AllocError),
             Err(BuildError::Fault(fault)) => return Ok(Answer::Refused(build_error(fault))),
         };
-        match objection(theories, &self.terms, &mut self.plain, term) {
-            Ok(None) => {}
-            Ok(Some(error)) => {
+        match objection(&self.terms, term) {
+            None => {}
+            Some(error) => {
                 self.symbols.cut_definitions(count);
                 cut(&mut self.terms, &mut self.plain, len);
                 return Ok(Answer::Refused(error));
-            }
-            Err(error) => {
-                self.symbols.cut_definitions(count);
-                cut(&mut self.terms, &mut self.plain, len);
-                return Err(error);
             }
         }
         match self.scopes.assert(term, name) {
@@ -168,10 +163,8 @@ impl State {
     pub(crate) fn check(&mut self, alloc: Global) -> Result<Answer, AllocError>
         ensures { Answers (checking self.old) result self.old self.new }
     {
-        let theories = self.symbols.reads_theories();
         let fit = watches_fit(
             alloc,
-            theories,
             &mut self.terms,
             &mut self.reached,
             &mut self.plain,

@@ -59,7 +59,6 @@ impl State {
             &self.symbols,
             &mut self.terms,
             &mut self.reached,
-            &mut self.plain,
             tokens,
             list,
             Purpose::Evaluate,

@@ -34,11 +34,6 @@ pub fn steps_keep_states()
     ensures { (s : StateValue) (r : Reading) → IsState s → IsState (step s r).1 }
 {}
 
-/// No step changes whether functions with arguments and arrays are read.
-pub fn steps_keep_theories()
-    ensures { (s : StateValue) (r : Reading) → (step s r).1.symbols.theories ≡ s.symbols.theories }
-{}
-
 /// What fits terms fits more terms too.
 pub fn more_terms_fit()
     ensures { (old new : TermsValue) (r : RestValue) → Grows r.symbols.signatures old new
@@ -68,7 +63,7 @@ pub fn a_model_stands_after_sat()
 {}
 
 /// Values are to be printed only where a check that found a model stands, and the option is on; where the terms are
-/// forgotten that they are asked of, the state is as before. These are plain, and name live declarations alone.
+/// forgotten that they are asked of, the state is as before. These name live declarations alone.
 pub fn values_forget_to_the_old_state()
     ensures { (s : StateValue) (r : Reading) (asked : List Asked) → IsState s
         → (step s r).0 ≡ Values asked → IsAskedValues s (step s r).1 asked }

@@ -1,15 +1,12 @@
 //! Which terms are plain, kept for the first terms.
 
-ghost use Rattle.std.specs.Prelude.{◌≡◌, ◌<◌, ◌≤◌, ◌&&◌, false, OnOk, IfOk, length, slice_index_or};
+ghost use Rattle.std.specs.Prelude.{◌≡◌, ◌≤◌, ◌&&◌, false, OnOk, length, slice_index_or};
 ghost use Rattle.std.specs.List.{list_all, AllByRecursion};
 ghost use Rattle.smt_terms.specs.Terms.{AreTerms, cut_at};
 ghost use Rattle.script_state.specs.Plain.{is_plain_operator, is_plain_op, is_plain, HavePlain};
-ghost use Rattle.script_state.specs.Steps.{objection, value_objection};
 
-use crate::error_text::ErrorText;
 use smt_terms::node::{Node, Op, TermId};
 use smt_terms::operator::Operator;
-use smt_terms::sort::Sort;
 use smt_terms::terms::Terms;
 use std::alloc::AllocError;
 
@@ -87,46 +84,6 @@ pub(crate) fn extend(marks: &mut Vec<bool>, terms: &Terms) -> Result<(), AllocEr
         marks.push(plain)?;
     }
     Ok(())
-}
-
-/// Why a term's value cannot be told, `None` exactly where it can.
-pub(crate) fn value_objection(
-    theories: bool,
-    terms: &Terms,
-    marks: &mut Vec<bool>,
-    term: TermId,
-) -> Result<Option<ErrorText>, AllocError>
-    requires held { term < length terms.now.nodes }
-    requires marks { HavePlain terms.now.nodes marks.old.items }
-    ensures objection { IfOk result (λ o. o ≡ value_objection theories terms.now.nodes term) }
-    ensures marks { HavePlain terms.now.nodes marks.new.items }
-{
-    if theories {
-        return Ok(None);
-    }
-    extend(marks, terms)?;
-    if is_marked(marks, term) {
-        return Ok(None);
-    }
-    Ok(Some(ErrorText::NotSupported))
-}
-
-/// Why a term cannot be asserted, `None` exactly where it can.
-pub(crate) fn objection(
-    theories: bool,
-    terms: &Terms,
-    marks: &mut Vec<bool>,
-    term: TermId,
-) -> Result<Option<ErrorText>, AllocError>
-    requires held { term < length terms.now.nodes }
-    requires marks { HavePlain terms.now.nodes marks.old.items }
-    ensures objection { IfOk result (λ o. o ≡ objection theories terms.now.nodes term) }
-    ensures marks { HavePlain terms.now.nodes marks.new.items }
-{
-    if terms.sort(term) != Sort::Bool {
-        return Ok(Some(ErrorText::WrongArguments));
-    }
-    value_objection(theories, terms, marks, term)
 }
 
 /// Forgets the terms from this number on.

@@ -1,8 +1,8 @@
 //! The state of a session, and its steps.
 
-ghost use Rattle.std.specs.Prelude.{◌≡◌, true, ◌+◌, ◌<◌, ◌^◌, All, IfOk, length, slice_get};
+ghost use Rattle.std.specs.Prelude.{◌≡◌, ◌+◌, ◌<◌, ◌^◌, All, IfOk, length, slice_get};
 ghost use Rattle.std.specs.Option.{option_copied};
-ghost use Rattle.script_state.specs.States.{assumptions, roots, no_state, start_of, concluded, with_terms, IsState, Fit};
+ghost use Rattle.script_state.specs.States.{assumptions, roots, no_state, concluded, with_terms, IsState, Fit};
 ghost use Rattle.script_state.specs.Steps.{forgotten, Applies};
 
 use crate::answer::{Answer, Asked, AskedTerms, Verdict};
@@ -99,22 +99,6 @@ impl State {
     {
         State {
             symbols: Symbols::new(alloc),
-            terms: Terms::new(alloc),
-            scopes: Scopes::new(alloc),
-            options: Options::first(),
-            standing: None,
-            assumed: None,
-            plain: Vec::new(alloc),
-            reached: Reached::new(alloc),
-        }
-    }
-
-    /// The same, where functions with arguments and arrays are read.
-    pub fn with_theories(alloc: Global) -> State
-        ensures { result ≡ start_of true }
-    {
-        State {
-            symbols: Symbols::with_theories(alloc),
             terms: Terms::new(alloc),
             scopes: Scopes::new(alloc),
             options: Options::first(),

@@ -1,9 +1,9 @@
 //! Whether the terms that a check makes before all else can be made.
 
-ghost use Rattle.std.specs.Prelude.{◌≡◌, ◌<◌, true, All, IfOk, length};
+ghost use Rattle.std.specs.Prelude.{◌≡◌, ◌<◌, All, IfOk, length};
 ghost use Rattle.scope_selectors.specs.declared.live.Live.{Live};
 ghost use Rattle.script_state.specs.declared.answer.Asked.{Asked};
-ghost use Rattle.script_state.specs.Plain.{is_decided, HavePlain};
+ghost use Rattle.script_state.specs.Plain.{HavePlain};
 ghost use Rattle.script_state.specs.States.{roots_of, watches_fit};
 
 use crate::answer::Asked;
@@ -61,11 +61,9 @@ fn roots_fit(
     }
 }
 
-/// Whether what a check of these assertions and assumptions makes before all else can be made. Where functions and arrays
-/// are not read there is nothing to make.
+/// Whether what a check of these assertions and assumptions makes before all else can be made.
 pub(crate) fn watches_fit(
     alloc: Global,
-    theories: bool,
     terms: &mut Terms,
     reached: &mut Reached,
     marks: &mut Vec<bool>,
@@ -73,17 +71,11 @@ pub(crate) fn watches_fit(
     assumed: &[Asked],
 ) -> Result<bool, AllocError>
     requires held { All (λ t. t < length terms.old.nodes) (roots_of live.now assumed.now) }
-    requires decided { All (λ t. is_decided theories terms.old.nodes t ≡ true)
-        (roots_of live.now assumed.now) }
     requires marks { HavePlain terms.old.nodes marks.old.items }
     ensures fit { IfOk result (λ b. b ≡ watches_fit terms.old (roots_of live.now assumed.now)) }
     ensures kept { terms.new ≡ terms.old }
     ensures marks { HavePlain terms.new.nodes marks.new.items }
 {
-    let _count = terms.len();
-    if !theories {
-        return Ok(true);
-    }
     let roots = roots_of(alloc, live, assumed)?;
     roots_fit(alloc, terms, reached, marks, roots.as_slice())
 }

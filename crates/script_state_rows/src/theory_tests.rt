@@ -1,6 +1,6 @@
-//! Functions and arrays, where these are read.
+//! Functions and arrays.
 
-use crate::worked::{Seen, Step, Told, walk, walk_theories, walk_within};
+use crate::worked::{Seen, Step, Told, walk, walk_within};
 use script_state::answer::Verdict;
 use script_state::error_text::ErrorText;
 use std::test::Fail;
@@ -13,7 +13,7 @@ const B: &[u8] = b"(declare-const b (Array (_ BitVec 1) (_ BitVec 1)))";
 
 #[test]
 fn functions_and_arrays_are_asserted_and_asked(rt: HostRuntime) -> Result<(), Fail> {
-    walk_theories(
+    walk(
         &rt,
         &[
             Step::Command(F, Told::Done),
@@ -42,7 +42,7 @@ fn functions_and_arrays_are_asserted_and_asked(rt: HostRuntime) -> Result<(), Fa
 
 #[test]
 fn constant_arrays_are_defined_and_asked(rt: HostRuntime) -> Result<(), Fail> {
-    walk_theories(
+    walk(
         &rt,
         &[
             Step::Command(A, Told::Done),
@@ -91,22 +91,6 @@ fn constant_arrays_are_defined_and_asked(rt: HostRuntime) -> Result<(), Fail> {
                     (8, b"(select ((as const S) #b0) #b1)"),
                 ]),
             ),
-        ],
-    )
-}
-
-#[test]
-fn functions_and_arrays_are_not_supported_else(rt: HostRuntime) -> Result<(), Fail> {
-    walk(
-        &rt,
-        &[
-            Step::Command(F, Told::Refused(ErrorText::NotSupported)),
-            Step::Command(A, Told::Refused(ErrorText::NotSupported)),
-            Step::Command(
-                b"(assert ((as const (Array (_ BitVec 1) (_ BitVec 1))) #b0))",
-                Told::Refused(ErrorText::NotSupported),
-            ),
-            Step::See(Seen::Counts(0, 0, 0)),
         ],
     )
 }

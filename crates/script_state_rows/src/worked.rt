@@ -249,15 +249,15 @@ pub(crate) fn walk(rt: &(impl Abort + AllocGlobal), steps: &[Step]) -> Result<()
     walk_from(rt, State::new(rt.alloc()), steps)
 }
 
-/// Nothing is declared and nothing asserted, functions and arrays are read, and there is room for so many terms.
+/// Nothing is declared and nothing asserted, and there is room for so many terms.
 fn state_within(alloc: Global, limit: u32) -> State
     requires { limit ≤ 2 ^ 24 }
 {
-    let (_, rest) = State::with_theories(alloc).into_parts();
+    let (_, rest) = State::new(alloc).into_parts();
     State::from_parts(Terms::with_limit(alloc, limit), rest)
 }
 
-/// A session that begins with room for so many terms, where functions and arrays are read, does each of the steps.
+/// A session that begins with room for so many terms does each of the steps.
 pub(crate) fn walk_within(
     rt: &(impl Abort + AllocGlobal),
     limit: u32,
@@ -266,9 +266,4 @@ pub(crate) fn walk_within(
     requires { limit ≤ 2 ^ 24 }
 {
     walk_from(rt, state_within(rt.alloc(), limit), steps)
-}
-
-/// The same, where functions and arrays are read.
-pub(crate) fn walk_theories(rt: &(impl Abort + AllocGlobal), steps: &[Step]) -> Result<(), Fail> {
-    walk_from(rt, State::with_theories(rt.alloc()), steps)
 }

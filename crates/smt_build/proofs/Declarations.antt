@@ -96,18 +96,13 @@ word_arguments v [] (group es) s l e = absurd (let z : ⊥ = cc in z)
 word_arguments v (t ∷ []) (group es) s l e = absurd (not_end (spellings es) open_paren close_paren (sign_in t) [] (sym e))
 word_arguments v (t ∷ u ∷ ts) (group es) s l e = absurd (omega (arith, l))
 
--- arguments where functions are not read, and where they are
-pub unread_arguments : (v : SymbolsValue) (ts : List Token) (a s : Sexp) → (length ts ≡ 2 → ⊥) → v.theories ≡ false → signs_in ts ≡ spelling a → signature_in v a s ≡ Err NotSupported
-unread_arguments v ts (atom k x) s l off e = refl
-unread_arguments v ts (group none) s l off e = absurd (l (sym (length-signs ts) ∙ ap length e))
-unread_arguments v ts (group (more x es)) s l off e = rw off refl
-
-pub read_arguments : (v : SymbolsValue) (ts : List Token) (a s : Sexp) → (length ts ≡ 2 → ⊥) → 2 ≤ length ts → v.theories ≡ true → signs_in ts ≡ spelling a → signature_in v a s ≡ of_function v (parts_of a) s
-read_arguments v [] (atom k x) s l h on e = absurd (omega (arith, h))
-read_arguments v (t ∷ []) (atom k x) s l h on e = absurd (omega (arith, h))
-read_arguments v (t ∷ u ∷ ts) (atom k x) s l h on e = absurd (let z : ⊥ = cc in z)
-read_arguments v ts (group none) s l h on e = absurd (l (sym (length-signs ts) ∙ ap length e))
-read_arguments v ts (group (more x es)) s l h on e = rw on refl
+-- a list of arguments
+pub read_arguments : (v : SymbolsValue) (ts : List Token) (a s : Sexp) → (length ts ≡ 2 → ⊥) → 2 ≤ length ts → signs_in ts ≡ spelling a → signature_in v a s ≡ of_function v (parts_of a) s
+read_arguments v [] (atom k x) s l h e = absurd (omega (arith, h))
+read_arguments v (t ∷ []) (atom k x) s l h e = absurd (omega (arith, h))
+read_arguments v (t ∷ u ∷ ts) (atom k x) s l h e = absurd (let z : ⊥ = cc in z)
+read_arguments v ts (group none) s l h e = absurd (l (sym (length-signs ts) ∙ ap length e))
+read_arguments v ts (group (more x es)) s l h e = refl
 
 -- one argument more
 pub argument_more : (v : SymbolsValue) (args new : List Sort) (s : Sort) (e : Sexp) → Ok s ≡ plain_in v e → new ≡ args ++ s ∷ [] → next_argument v args e ≡ Ok new

@@ -28,15 +28,15 @@ given_more v now new names i d h e f = f ∙ rw e (sym (names_push v (map pair_o
 
 pub record Adds (v w : SymbolsValue) : Type 0 where
   pub more : Meanings Definition
-  pub same : w ≡ record { live = v.live; signatures = v.signatures; definitions = v.definitions ++ more; sorts = v.sorts; levels = v.levels; theories = v.theories }
+  pub same : w ≡ record { live = v.live; signatures = v.signatures; definitions = v.definitions ++ more; sorts = v.sorts; levels = v.levels }
 
 adds_none : (v : SymbolsValue) → Adds v v
-adds_none v = record { more = []; same = λ i. record { live = v.live; signatures = v.signatures; definitions = sym (append-nil v.definitions) i; sorts = v.sorts; levels = v.levels; theories = v.theories } }
+adds_none v = record { more = []; same = λ i. record { live = v.live; signatures = v.signatures; definitions = sym (append-nil v.definitions) i; sorts = v.sorts; levels = v.levels } }
 
 adds_both : (u v w : SymbolsValue) → Adds u v → Adds v w → Adds u w
 adds_both u v w p q = record {
   more = p.more ++ q.more;
-  same = q.same ∙ rw p.same (λ i. record { live = u.live; signatures = u.signatures; definitions = append_assoc u.definitions p.more q.more i; sorts = u.sorts; levels = u.levels; theories = u.theories });
+  same = q.same ∙ rw p.same (λ i. record { live = u.live; signatures = u.signatures; definitions = append_assoc u.definitions p.more q.more i; sorts = u.sorts; levels = u.levels });
 }
 
 adds_name : (v : SymbolsValue) (b : List ℕ × ℕ) → Adds v (with_name v b)
@@ -50,7 +50,7 @@ adds_names v [] = adds_none v
 adds_names v (b ∷ bs) = adds_both v (with_name v b) (with_names (with_name v b) bs) (adds_name v b) (adds_names (with_name v b) bs)
 
 pub given_cut : (v now new : SymbolsValue) (bs : Bound) (count : ℕ) → count ≡ length v.definitions → now ≡ with_names v bs → new ≡ with_definitions now count → new ≡ v
-given_cut v now new bs count c e f = f ∙ rw (c, e ∙ (adds_names v bs).same) (λ i. record { live = v.live; signatures = v.signatures; definitions = take-append_seam v.definitions (adds_names v bs).more i; sorts = v.sorts; levels = v.levels; theories = v.theories })
+given_cut v now new bs count c e f = f ∙ rw (c, e ∙ (adds_names v bs).same) (λ i. record { live = v.live; signatures = v.signatures; definitions = take-append_seam v.definitions (adds_names v bs).more i; sorts = v.sorts; levels = v.levels })
 
 pub given_signatures : (v new : SymbolsValue) (bs : Bound) → new ≡ with_names v bs → new.signatures ≡ v.signatures
 given_signatures v new bs e = ap (λ s. s.signatures) (e ∙ (adds_names v bs).same)

@@ -7,11 +7,11 @@ use Rattle.smt_terms.specs.declared.node.Op.TheVariants.{Plain}
 use Rattle.smt_terms.specs.Terms.{TermsValue}
 use Rattle.smt_terms.specs.Evaluations.{is_witness}
 use Rattle.smt_build.specs.declared.fault.BuildFault.{BuildFault}
-use Rattle.smt_build.specs.declared.fault.BuildFault.TheVariants.{WrongSort, Width, NotSupported}
+use Rattle.smt_build.specs.declared.fault.BuildFault.TheVariants.{WrongSort, Width}
 use Rattle.smt_build.specs.declared.operators.Arity.{Arity}
 use Rattle.smt_build.specs.declared.operators.Arity.TheVariants.{Ranked, LeftAssociative, RightAssociative, Chainable, Pairwise, Joining}
 use Rattle.smt_build.specs.declared.operators.Named.{Named}
-use Rattle.smt_build.specs.declared.operators.Named.TheVariants.{Applies, Indexed, OfArrays}
+use Rattle.smt_build.specs.declared.operators.Named.TheVariants.{Applies, Indexed}
 use Rattle.smt_build.specs.Names.{SymbolsValue}
 use Rattle.smt_build.specs.Building.{Built}
 use Rattle.smt_build.specs.Grouping.{each, of_one, of_two, left, right, Chain, next_equal, chain, chained, Listed, apart, apart_from, all_apart, all_true, joins_within, by_arity, are_taken, grouped, operation}
@@ -22,7 +22,6 @@ use Rattle.smt_build.proofs.KeptTerms.{IsKept, IsNoWitness, go_none}
 abbrev pub names_witness : Named → Bool
 names_witness (Applies o arity) = is_witness (Plain o)
 names_witness (Indexed k) = false
-names_witness (OfArrays o) = is_witness (Plain o)
 
 module _ (symbols : SymbolsValue) (Has : TermsValue → ℕ → Type 0) (kept : IsKept symbols Has) where
   abbrev Longer : TermsValue → TermsValue → Type 0
@@ -137,7 +136,6 @@ module _ (symbols : SymbolsValue) (Has : TermsValue → ℕ → Type 0) (kept : 
   keeps_operation o Pairwise terms args other h = keeps_grouped o Pairwise terms args other h
   keeps_operation o Joining terms args other h = keeps_grouped o Joining terms args other h
 
-  pub keeps_applied : (terms : TermsValue) (named : Named) (args : List ℕ) → names_witness named ≡ false → AllHave terms args → Keeps terms (applied symbols terms named args)
-  keeps_applied terms (OfArrays o) args other h = kept_terms.keeps_if symbols Has terms symbols.theories NotSupported _ (keeps_operation o Ranked terms args other h)
+  pub keeps_applied : (terms : TermsValue) (named : Named) (args : List ℕ) → names_witness named ≡ false → AllHave terms args → Keeps terms (applied terms named args)
   keeps_applied terms (Indexed k) args other h = tt
   keeps_applied terms (Applies o arity) args other h = keeps_operation o arity terms args other h

@@ -19,7 +19,7 @@ use Rattle.smt_build.specs.declared.fault.BuildFault.TheVariants.{UnknownSymbol,
 use Rattle.smt_build.specs.declared.operators.Family.{Family}
 use Rattle.smt_build.specs.declared.operators.Family.TheVariants as family
 use Rattle.smt_build.specs.declared.operators.Named.{Named}
-use Rattle.smt_build.specs.declared.operators.Named.TheVariants.{Applies, Indexed, OfArrays}
+use Rattle.smt_build.specs.declared.operators.Named.TheVariants.{Applies, Indexed}
 use Rattle.smt_build.specs.declared.symbols.LiveName.{LiveName}
 use Rattle.smt_build.specs.declared.definition.Definition.{Definition}
 use Rattle.smt_build.specs.Literals.{bit_value, hexadecimal_value, value_in, width_of_numeral, number_of}
@@ -189,7 +189,6 @@ module _ (symbols : SymbolsValue) (Has : TermsValue → ℕ → Type 0) (kept : 
   keeps_indexed : (terms : TermsValue) (f : List ℕ) (is : Indices) (named : Option Named) (args : List ℕ) → AllHave terms args → Keeps terms (indexed_application symbols terms f is named args)
   keeps_indexed terms f is (Some (Indexed k)) args h = keeps_indexed_by terms (with_indices k is (first_width terms args)) args (indices_stand k is (first_width terms args)) h
   keeps_indexed terms f is (Some (Applies o arity)) args h = tt
-  keeps_indexed terms f is (Some (OfArrays o)) args h = tt
   keeps_indexed terms f is None args h = tt
 
   keeps_constant_array : (terms : TermsValue) (s : Sort) (args : List ℕ) → AllHave terms args → Keeps terms (constant_array terms s args)

@@ -27,17 +27,17 @@ numbers_cut live more es new k h m n = record { same = rw (m, n) (sym (take-map 
 pub meanings_cut : {A : Type 0} (es new : List (Vec ℕ Global × A)) (k : ℕ) → new ≡ take k es → map entry_of new ≡ take k (map entry_of es)
 meanings_cut es new k e = ap (map entry_of) e ∙ sym (take-map entry_of k es)
 
-pub pops : (w v : SymbolsValue) (live : List LiveName) (definitions : Meanings Definition) (sorts : Meanings Sort) (levels : List Level) (n len : ℕ) (l : Level) → w ≡ v → len ≡ length w.levels - n → Some l ≡ slice_get w.levels len → live ≡ take l.names w.live → definitions ≡ take l.definitions w.definitions → sorts ≡ take l.sorts w.sorts → levels ≡ take len w.levels → ◌≡◌ {A = SymbolsValue} (record { live = live; signatures = w.signatures; definitions = definitions; sorts = sorts; levels = levels; theories = w.theories }) (popped v n)
+pub pops : (w v : SymbolsValue) (live : List LiveName) (definitions : Meanings Definition) (sorts : Meanings Sort) (levels : List Level) (n len : ℕ) (l : Level) → w ≡ v → len ≡ length w.levels - n → Some l ≡ slice_get w.levels len → live ≡ take l.names w.live → definitions ≡ take l.definitions w.definitions → sorts ≡ take l.sorts w.sorts → levels ≡ take len w.levels → ◌≡◌ {A = SymbolsValue} (record { live = live; signatures = w.signatures; definitions = definitions; sorts = sorts; levels = levels }) (popped v n)
 pops w v live definitions sorts levels n len l e k s a b c d = (rw (a, b, c, d, ← k, ← s) refl) ∙ ap (λ u. popped u n) e
 
 pub pops_none : (w v : SymbolsValue) (n len : ℕ) → w ≡ v → len ≡ length w.levels - n → None ≡ slice_get w.levels len → v ≡ popped v n
 pops_none w v n len e l s = sym e ∙ (rw (← l, ← s) refl) ∙ ap (λ u. popped u n) e
 
-pub defined : (w v : SymbolsValue) (definitions : Meanings Definition) (x : List ℕ) (f : Definition) → w ≡ v → definitions ≡ w.definitions ++ (x, f) ∷ [] → ◌≡◌ {A = SymbolsValue} (record { live = w.live; signatures = w.signatures; definitions = definitions; sorts = w.sorts; levels = w.levels; theories = w.theories }) (with_definition v x f)
+pub defined : (w v : SymbolsValue) (definitions : Meanings Definition) (x : List ℕ) (f : Definition) → w ≡ v → definitions ≡ w.definitions ++ (x, f) ∷ [] → ◌≡◌ {A = SymbolsValue} (record { live = w.live; signatures = w.signatures; definitions = definitions; sorts = w.sorts; levels = w.levels }) (with_definition v x f)
 defined w v definitions x f e h = rw h (ap (λ u. with_definition u x f) e)
 
-pub sort_defined : (w v : SymbolsValue) (sorts : Meanings Sort) (x : List ℕ) (s : Sort) → w ≡ v → sorts ≡ w.sorts ++ (x, s) ∷ [] → ◌≡◌ {A = SymbolsValue} (record { live = w.live; signatures = w.signatures; definitions = w.definitions; sorts = sorts; levels = w.levels; theories = w.theories }) (with_sort v x s)
+pub sort_defined : (w v : SymbolsValue) (sorts : Meanings Sort) (x : List ℕ) (s : Sort) → w ≡ v → sorts ≡ w.sorts ++ (x, s) ∷ [] → ◌≡◌ {A = SymbolsValue} (record { live = w.live; signatures = w.signatures; definitions = w.definitions; sorts = sorts; levels = w.levels }) (with_sort v x s)
 sort_defined w v sorts x s e h = rw h (ap (λ u. with_sort u x s) e)
 
-pub definitions_cut : (w v : SymbolsValue) (definitions : Meanings Definition) (n : ℕ) → w ≡ v → definitions ≡ take n w.definitions → ◌≡◌ {A = SymbolsValue} (record { live = w.live; signatures = w.signatures; definitions = definitions; sorts = w.sorts; levels = w.levels; theories = w.theories }) (with_definitions v n)
+pub definitions_cut : (w v : SymbolsValue) (definitions : Meanings Definition) (n : ℕ) → w ≡ v → definitions ≡ take n w.definitions → ◌≡◌ {A = SymbolsValue} (record { live = w.live; signatures = w.signatures; definitions = definitions; sorts = w.sorts; levels = w.levels }) (with_definitions v n)
 definitions_cut w v definitions n e h = rw h (ap (λ u. with_definitions u n) e)

@@ -31,4 +31,3 @@ pub mod Assertions
 pub mod Scoped
 pub mod ScopedCommands
 pub mod ScopedValues
-pub mod Theories

@@ -1,6 +1,6 @@
 -- The walk of the reader of terms over a sort gives the sort that is meant.
 use Rattle.std.proofs.Common.{◌≡◌, Bool, true, false, refl, ap, sym, Result, Ok, Err}
-use Rattle.std.specs.Prelude.{◌&&◌, if◌then◌else◌}
+use Rattle.std.specs.Prelude.{if◌then◌else◌}
 use Rattle.smt_text.specs.declared.token.TokenKind.TheVariants as kind
 use Rattle.smt_syntax.specs.Sexps.{Sexp, Sexps, atom, group, none, more}
 use Rattle.smt_syntax.specs.Shapes.{is_const}
@@ -13,7 +13,7 @@ use Rattle.smt_build.specs.declared.reader.Want.TheVariants as want
 use Rattle.smt_build.specs.Names.{SymbolsValue}
 use Rattle.smt_build.specs.Sorts.{word_listed, part_sort, array_sort, begins_array, behind_head, sort_in}
 use Rattle.smt_build.specs.Indices.{Head, everywhere}
-use Rattle.smt_build.specs.Heads.{where_read, constant_in}
+use Rattle.smt_build.specs.Heads.{constant_in}
 use Rattle.smt_build.specs.SortParts.{SortPart, word, listed, SortParts, no_part, more_parts, with_part, sort_of_part, is_array_word, sort_of_words, sort_of_parts}
 use Rattle.smt_build.specs.TermReader.{Part, head, const_word, sort_part, Open, as_started, const_read, sort_list, State, at_word, opens, context, takes, closes, term_reader}
 
@@ -64,7 +64,7 @@ module _ (symbols : SymbolsValue) where
 
   -- another number of parts
   not_three : (whole : Bool) (es : Sexps) → array_sort symbols.sorts (behind_head (group es)) ≡ Err NotSupported → word_listed es ≡ Err NotSupported → listed (Err NotSupported) ≡ part_in whole (group es)
-  not_three true es h k = ap listed (sym (either (symbols.theories && begins_array (group es)) _ _ _ h k))
+  not_three true es h k = ap listed (sym (either (begins_array (group es)) _ _ _ h k))
   not_three false es h k = ap listed (sym k)
 
   list_means : (whole : Bool) (es : Sexps) → listed (sort_of_parts symbols whole (parts_in no_part es)) ≡ part_in whole (group es)
@@ -76,11 +76,8 @@ module _ (symbols : SymbolsValue) where
   list_means whole (more a (more b (more c (more d es)))) = rw (too_many es) (not_three whole (more a (more b (more c (more d es)))) refl (no_words a b c d es).3)
 
   -- what is read of a whole sort is the sort
-  whole_means : (e : Sexp) → where_read symbols (sort_of_part symbols.sorts (part_in true e)) ≡ where_read symbols (sort_in symbols e)
-  whole_means (atom k x) = ap (where_read symbols) (go symbols.theories) where
-    go : (b : Bool) → part_sort symbols.sorts (atom k x) ≡ (if b && false then array_sort symbols.sorts none else part_sort symbols.sorts (atom k x))
-    go true = refl
-    go false = refl
+  whole_means : (e : Sexp) → sort_of_part symbols.sorts (part_in true e) ≡ sort_in symbols e
+  whole_means (atom k x) = refl
   whole_means (group es) = refl
 
   -- ---- the walk
@@ -107,9 +104,9 @@ module _ (symbols : SymbolsValue) where
     const_if b s = if b then Ok (const_word, s) else Err NotSupported
 
     -- what stands behind `const`
-    walk-constant : (s : State) (e : Sexp) → closed (walks (term_reader symbols may_name) const_read s (more e none)) ≡ as_head s (where_read symbols (sort_in symbols e) >>= λ r. Ok (everywhere r))
+    walk-constant : (s : State) (e : Sexp) → closed (walks (term_reader symbols may_name) const_read s (more e none)) ≡ as_head s (sort_in symbols e >>= λ r. Ok (everywhere r))
     unfolding walk walks at_word opens context takes closes
-    walk-constant s e = rw (walk-sort true s e, whole_means e) (sym (bind_assoc (where_read symbols (sort_in symbols e)) _ _))
+    walk-constant s e = rw (walk-sort true s e, whole_means e) (sym (bind_assoc (sort_in symbols e) _ _))
 
     pub walk-as : (s : State) (es : Sexps) → closed (walks (term_reader symbols may_name) as_started s es) ≡ as_head s (constant_in symbols es)
     unfolding walk walks at_word opens context takes closes
@@ -120,7 +117,7 @@ module _ (symbols : SymbolsValue) where
       go true = refl
       go false = refl
     walk-as s (more (atom k c) (more e none)) = go (is_const k c) where
-      go : (b : Bool) → closed (const_if b s >>= λ v. takes as_started v.0 v.1 >>= λ q. walks (term_reader symbols may_name) q.0 q.1 (more e none)) ≡ as_head s (if b then where_read symbols (sort_in symbols e) >>= (λ r. Ok (everywhere r)) else Err NotSupported)
+      go : (b : Bool) → closed (const_if b s >>= λ v. takes as_started v.0 v.1 >>= λ q. walks (term_reader symbols may_name) q.0 q.1 (more e none)) ≡ as_head s (if b then sort_in symbols e >>= (λ r. Ok (everywhere r)) else Err NotSupported)
       go true = walk-constant s e
       go false = refl
     walk-as s (more (atom k c) (more e (more u es))) = go (is_const k c) u where

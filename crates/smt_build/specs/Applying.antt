@@ -9,9 +9,8 @@ use Rattle.smt_terms.specs.declared.node.Op.TheVariants.{ConstantArray}
 use Rattle.smt_terms.specs.Nodes.{node_of}
 use Rattle.smt_terms.specs.Terms.{TermsValue}
 use Rattle.smt_build.specs.declared.fault.BuildFault.TheVariants.{WrongSort, NotSupported}
-use Rattle.smt_build.specs.declared.operators.Arity.TheVariants.{Ranked}
 use Rattle.smt_build.specs.declared.operators.Named.{Named}
-use Rattle.smt_build.specs.declared.operators.Named.TheVariants.{Applies, Indexed, OfArrays}
+use Rattle.smt_build.specs.declared.operators.Named.TheVariants.{Applies, Indexed}
 use Rattle.smt_build.specs.Operators.{operator_named}
 use Rattle.smt_build.specs.declared.definition.Definition.{Definition}
 use Rattle.smt_build.specs.Names.{SymbolsValue, declaration_of, meaning_in}
@@ -21,13 +20,12 @@ use Rattle.smt_build.specs.Grouping.{operation}
 use Rattle.smt_build.specs.Indices.{Head, plain, indexed, everywhere, word_of, known, indexed_application}
 
 -- the term of an operator's name and its arguments
-abbrev pub applied : SymbolsValue → TermsValue → Named → List ℕ → Built
-applied symbols terms (OfArrays o) args = if symbols.theories then operation o Ranked terms args else Err NotSupported
-applied symbols terms (Indexed k) args = Err WrongSort
-applied symbols terms (Applies o arity) args = operation o arity terms args
+abbrev pub applied : TermsValue → Named → List ℕ → Built
+applied terms (Indexed k) args = Err WrongSort
+applied terms (Applies o arity) args = operation o arity terms args
 
 abbrev pub symbol_by : SymbolsValue → TermsValue → Option Named → Option Definition → Option ℕ → Built
-symbol_by symbols terms (Some named) f d = applied symbols terms named []
+symbol_by symbols terms (Some named) f d = applied terms named []
 symbol_by symbols terms None (Some f) d = used terms f []
 symbol_by symbols terms None None d = declared symbols terms d
 
@@ -43,7 +41,7 @@ word_term symbols terms kind.Hexadecimal (a ∷ b ∷ digits) = hexadecimal term
 word_term symbols terms _ x = Err NotSupported
 
 abbrev pub application_by : SymbolsValue → TermsValue → Option Named → Option Definition → Option ℕ → List ℕ → Built
-application_by symbols terms (Some named) f d args = applied symbols terms named args
+application_by symbols terms (Some named) f d args = applied terms named args
 application_by symbols terms None (Some f) d args = used terms f args
 application_by symbols terms None None d args = called symbols terms d args
 

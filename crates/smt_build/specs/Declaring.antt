@@ -57,7 +57,7 @@ of_function v es s = over_parts (next_argument v) [] es >>= λ args. plain_in v 
 
 abbrev pub signature_in : SymbolsValue → Sexp → Sexp → Result Signature BuildFault
 signature_in v (group none) s = of_constant (sort_in v s)
-signature_in v (group (more e es)) s = if v.theories then of_function v (more e es) s else Err NotSupported
+signature_in v (group (more e es)) s = of_function v (more e es) s
 signature_in v (atom k x) s = Err NotSupported
 
 -- ---- commands

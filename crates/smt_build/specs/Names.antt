@@ -1,6 +1,6 @@
 -- The declarations that were made, the definitions, and the names that are live (SMT-LIB 2.6, sections 4.1.4 and 4.2.3).
 -- Functions and sorts have name spaces of their own.
-use Rattle.std.specs.Prelude.{◌≡◌, ℕ, ◌-◌, ◌<◌, Bool, false, ◌||◌, is_some, List, [], ◌∷◌, ◌++◌, length, map, replicate, take, slice_get, Option, Some, None, if◌then◌else◌, Vec}
+use Rattle.std.specs.Prelude.{◌≡◌, ℕ, ◌-◌, ◌<◌, Bool, ◌||◌, is_some, List, [], ◌∷◌, ◌++◌, length, map, replicate, take, slice_get, Option, Some, None, if◌then◌else◌, Vec}
 use Rattle.std.specs.declared.alloc.Global.{Global}
 use Rattle.std.specs.Str.{bytes_eq}
 use Rattle.smt_terms.specs.declared.sort.Sort.{Sort}
@@ -18,22 +18,17 @@ abbrev pub Meanings : Type 0 → Type 0
 Meanings A = List (List ℕ × A)
 
 -- the live names in the order of their declarations, the signatures of all declarations ever made by their numbers, the
--- live definitions of functions and of sorts, how many names and definitions each level began with, and whether functions
--- with arguments and arrays are read
+-- live definitions of functions and of sorts, and how many names and definitions each level began with
 pub record SymbolsValue : Type 0 where
   pub live : List LiveName
   pub signatures : List Signature
   pub definitions : Meanings Definition
   pub sorts : Meanings Sort
   pub levels : List Level
-  pub theories : Bool
 
 -- nothing declared and nothing defined
-abbrev pub symbols_over : Bool → SymbolsValue
-symbols_over theories = record { live = []; signatures = []; definitions = []; sorts = []; levels = []; theories = theories }
-
 abbrev pub no_symbols : SymbolsValue
-no_symbols = symbols_over false
+no_symbols = record { live = []; signatures = []; definitions = []; sorts = []; levels = [] }
 
 -- the number of the declaration that a name is live for
 abbrev pub declaration_of : List LiveName → List ℕ → Option ℕ
@@ -51,19 +46,19 @@ is_taken v name = is_some (declaration_of v.live name) || is_some (meaning_in v.
 
 -- one declaration more, under a name that is then live
 abbrev pub with_declaration : SymbolsValue → List ℕ → Signature → SymbolsValue
-with_declaration v x s = record { live = v.live ++ record { name = x; declaration = length v.signatures } ∷ []; signatures = v.signatures ++ s ∷ []; definitions = v.definitions; sorts = v.sorts; levels = v.levels; theories = v.theories }
+with_declaration v x s = record { live = v.live ++ record { name = x; declaration = length v.signatures } ∷ []; signatures = v.signatures ++ s ∷ []; definitions = v.definitions; sorts = v.sorts; levels = v.levels }
 
 -- one definition more
 abbrev pub with_definition : SymbolsValue → List ℕ → Definition → SymbolsValue
-with_definition v x f = record { live = v.live; signatures = v.signatures; definitions = v.definitions ++ (x, f) ∷ []; sorts = v.sorts; levels = v.levels; theories = v.theories }
+with_definition v x f = record { live = v.live; signatures = v.signatures; definitions = v.definitions ++ (x, f) ∷ []; sorts = v.sorts; levels = v.levels }
 
 -- the first so many definitions
 abbrev pub with_definitions : SymbolsValue → ℕ → SymbolsValue
-with_definitions v n = record { live = v.live; signatures = v.signatures; definitions = take n v.definitions; sorts = v.sorts; levels = v.levels; theories = v.theories }
+with_definitions v n = record { live = v.live; signatures = v.signatures; definitions = take n v.definitions; sorts = v.sorts; levels = v.levels }
 
 -- one sort's name more
 abbrev pub with_sort : SymbolsValue → List ℕ → Sort → SymbolsValue
-with_sort v x s = record { live = v.live; signatures = v.signatures; definitions = v.definitions; sorts = v.sorts ++ (x, s) ∷ []; levels = v.levels; theories = v.theories }
+with_sort v x s = record { live = v.live; signatures = v.signatures; definitions = v.definitions; sorts = v.sorts ++ (x, s) ∷ []; levels = v.levels }
 
 -- a level that begins with what is live
 abbrev pub level_of : SymbolsValue → Level
@@ -71,11 +66,11 @@ level_of v = record { names = length v.live; definitions = length v.definitions;
 
 -- so many levels more, which begin with what is live
 abbrev pub pushed : SymbolsValue → ℕ → SymbolsValue
-pushed v n = record { live = v.live; signatures = v.signatures; definitions = v.definitions; sorts = v.sorts; levels = v.levels ++ replicate n (level_of v); theories = v.theories }
+pushed v n = record { live = v.live; signatures = v.signatures; definitions = v.definitions; sorts = v.sorts; levels = v.levels ++ replicate n (level_of v) }
 
 abbrev pub popped_to : SymbolsValue → ℕ → Option Level → SymbolsValue
 popped_to v levels None = v
-popped_to v levels (Some l) = record { live = take l.names v.live; signatures = v.signatures; definitions = take l.definitions v.definitions; sorts = take l.sorts v.sorts; levels = take levels v.levels; theories = v.theories }
+popped_to v levels (Some l) = record { live = take l.names v.live; signatures = v.signatures; definitions = take l.definitions v.definitions; sorts = take l.sorts v.sorts; levels = take levels v.levels }
 
 -- so many levels fewer, with what the first of them began with
 abbrev pub popped : SymbolsValue → ℕ → SymbolsValue
@@ -83,7 +78,7 @@ popped v n = popped_to v (length v.levels - n) (slice_get v.levels (length v.lev
 
 -- no levels and no names; the declarations stay counted
 abbrev pub emptied : SymbolsValue → SymbolsValue
-emptied v = record { live = []; signatures = v.signatures; definitions = []; sorts = []; levels = []; theories = v.theories }
+emptied v = record { live = []; signatures = v.signatures; definitions = []; sorts = []; levels = [] }
 
 -- each declaration that a term names was made, with the signature that the term gives it
 pub record AreDeclared (signatures : List Signature) (nodes : List Node) : Type 0 where

@@ -6,7 +6,7 @@ use Rattle.smt_terms.specs.declared.operator.Operator.TheVariants.{True, False, 
 use Rattle.smt_build.specs.declared.operators.Arity.TheVariants.{Ranked, LeftAssociative, RightAssociative, Chainable, Pairwise, Joining}
 use Rattle.smt_build.specs.declared.operators.Family.TheVariants as family
 use Rattle.smt_build.specs.declared.operators.Named.{Named}
-use Rattle.smt_build.specs.declared.operators.Named.TheVariants.{Applies, Indexed, OfArrays}
+use Rattle.smt_build.specs.declared.operators.Named.TheVariants.{Applies, Indexed}
 
 -- the operators of Core, FixedSizeBitVectors and ArraysEx, a line for each name
 abbrev pub operators : List (List ℕ × Named)
@@ -56,8 +56,8 @@ operators =
     ∷ (codes "rotate_left", Indexed family.RotateLeft)
     ∷ (codes "rotate_right", Indexed family.RotateRight)
     ∷ (codes "repeat", Indexed family.Repeat)
-    ∷ (codes "select", OfArrays Select)
-    ∷ (codes "store", OfArrays Store)
+    ∷ (codes "select", Applies Select Ranked)
+    ∷ (codes "store", Applies Store Ranked)
     ∷ []
 
 abbrev pub look_up : List (List ℕ × Named) → List ℕ → Option Named

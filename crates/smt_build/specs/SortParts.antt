@@ -43,7 +43,7 @@ abbrev pub sort_of_words : SortPart → SortPart → SortPart → Result Sort Bu
 sort_of_words (word i l) (word j b) (word k n) = indexed_sort i j b k n
 sort_of_words _ _ _ = Err NotSupported
 
--- the sort of a list; one of arrays is known where these are read, and where it is the whole sort
+-- the sort of a list; one of arrays is known where it is the whole sort
 abbrev pub sort_of_parts : SymbolsValue → Bool → SortParts → Result Sort BuildFault
-sort_of_parts symbols whole (three_parts p q r) = if whole && (symbols.theories && is_array_word p) then array_by (sort_of_part symbols.sorts q) (sort_of_part symbols.sorts r) else sort_of_words p q r
+sort_of_parts symbols whole (three_parts p q r) = if whole && is_array_word p then array_by (sort_of_part symbols.sorts q) (sort_of_part symbols.sorts r) else sort_of_words p q r
 sort_of_parts symbols whole _ = Err NotSupported

@@ -1,5 +1,5 @@
 -- The sort that an S-expression means (SMT-LIB 2.6, section 3.5, and the theories FixedSizeBitVectors and ArraysEx).
-use Rattle.std.specs.Prelude.{ℕ, Bool, false, ◌&&◌, List, codes, Option, Some, None, Result, Ok, Err, if◌then◌else◌}
+use Rattle.std.specs.Prelude.{ℕ, Bool, false, List, codes, Option, Some, None, Result, Ok, Err, if◌then◌else◌}
 use Rattle.std.specs.Str.{bytes_eq}
 use Rattle.smt_text.specs.declared.token.TokenKind.{TokenKind}
 use Rattle.smt_text.specs.declared.token.TokenKind.TheVariants as kind
@@ -71,6 +71,6 @@ abbrev pub behind_head : Sexp → Sexps
 behind_head (group (more e es)) = es
 behind_head _ = none
 
--- the sort of an S-expression; that of arrays is known where they are read
+-- the sort of an S-expression
 abbrev pub sort_in : SymbolsValue → Sexp → Result Sort BuildFault
-sort_in v e = if v.theories && begins_array e then array_sort v.sorts (behind_head e) else part_sort v.sorts e
+sort_in v e = if begins_array e then array_sort v.sorts (behind_head e) else part_sort v.sorts e

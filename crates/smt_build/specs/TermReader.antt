@@ -12,7 +12,6 @@ use Rattle.smt_build.specs.declared.reader.Want.TheVariants as want
 use Rattle.smt_build.specs.declared.scope.Scope.{Scope}
 use Rattle.smt_build.specs.Names.{SymbolsValue}
 use Rattle.smt_build.specs.Indices.{Indices, one, with_index, Head, plain, indexed, everywhere}
-use Rattle.smt_build.specs.Heads.{where_read}
 use Rattle.smt_build.specs.SortParts.{SortPart, word, listed, SortParts, no_part, with_part, sort_of_part, sort_of_parts}
 use Rattle.smt_build.specs.Binding.{Bound, new_variable, Progress, Read, word_in, application_in, indexed_in_scope, naming, is_label}
 
@@ -160,7 +159,7 @@ module _ (symbols : SymbolsValue) where
   closes (binding_done x t) s = Ok (binding x t, s)
   closes (annotated t) s = Ok (term t, s)
   closes unread s = Ok (passed, s)
-  closes (const_sorted p) s = where_read symbols (sort_of_part symbols.sorts p) >>= λ r. Ok (head (everywhere r), s)
+  closes (const_sorted p) s = sort_of_part symbols.sorts p >>= λ r. Ok (head (everywhere r), s)
   closes (sort_list whole ps) s = Ok (sort_part (listed (sort_of_parts symbols whole ps)), s)
   closes _ s = Err NotSupported
 

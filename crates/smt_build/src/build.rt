@@ -16,7 +16,7 @@ use crate::grouping::operation;
 use crate::indices::{Head, Indices, indexed_application, known, word_of};
 use crate::literal::{binary_number, hexadecimal_number};
 use crate::making::made;
-use crate::operators::{Arity, Named, operator_named};
+use crate::operators::{Named, operator_named};
 use crate::symbols::Symbols;
 use smt_syntax::words::is_word_name;
 use smt_terms::list::Arguments;
@@ -167,21 +167,14 @@ fn called(
 /// The term of an operator's name and its arguments.
 fn applied(
     alloc: Global,
-    symbols: &Symbols,
     terms: &mut Terms,
     named: Named,
     args: Vec<TermId>,
 ) -> Result<TermId, BuildError>
-    ensures means { Means (applied symbols.now terms.old named args.items) result terms.new }
+    ensures means { Means (applied terms.old named args.items) result terms.new }
     ensures grows { (signatures : List SignatureValue) → Grows signatures terms.old terms.new }
 {
     match named {
-        Named::OfArrays(operator) => {
-            if !symbols.reads_theories() {
-                return Err(BuildError::Fault(BuildFault::NotSupported));
-            }
-            operation(alloc, terms, operator, Arity::Ranked, args)
-        }
         Named::Indexed(_) => Err(BuildError::Fault(BuildFault::WrongSort)),
         Named::Applies(operator, arity) => operation(alloc, terms, operator, arity, args),
     }
@@ -201,7 +194,7 @@ fn symbol_term(
     ensures grows { Grows symbols.now.signatures terms.old terms.new }
 {
     if let Some(named) = operator_named(name) {
-        return applied(alloc, symbols, terms, named, Vec::new(alloc));
+        return applied(alloc, terms, named, Vec::new(alloc));
     }
     match symbols.definition(name) {
         Some(definition) => used(alloc, terms, reached, definition, &[]),
@@ -248,7 +241,7 @@ fn plain_application(
     ensures grows { Grows symbols.now.signatures terms.old terms.new }
 {
     if let Some(named) = operator_named(name) {
-        return applied(alloc, symbols, terms, named, args);
+        return applied(alloc, terms, named, args);
     }
     match symbols.definition(name) {
         Some(definition) => used(alloc, terms, reached, definition, args.as_slice()),

@@ -168,7 +168,7 @@ fn signature_in(
         let sort = sort_of(alloc, symbols, value)?;
         return Ok(of_constant(alloc, sort));
     }
-    if arguments.len() < 2 || !symbols.reads_theories() {
+    if arguments.len() < 2 {
         return Ok(Err(BuildFault::NotSupported));
     }
     of_function(alloc, symbols, arguments, value)

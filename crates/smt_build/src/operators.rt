@@ -42,8 +42,6 @@ pub enum Named {
     Applies(Operator, Arity),
     /// An operator with indices.
     Indexed(Family),
-    /// An operator of arrays, which is applied where these are read.
-    OfArrays(Operator),
 }
 
 /// The names of the operators of Core, FixedSizeBitVectors and ArraysEx.
@@ -120,8 +118,8 @@ const OPERATORS: [(&[u8], Named); 47] = [
     (b"rotate_left", Named::Indexed(Family::RotateLeft)),
     (b"rotate_right", Named::Indexed(Family::RotateRight)),
     (b"repeat", Named::Indexed(Family::Repeat)),
-    (b"select", Named::OfArrays(Operator::Select)),
-    (b"store", Named::OfArrays(Operator::Store)),
+    (b"select", Named::Applies(Operator::Select, Arity::Ranked)),
+    (b"store", Named::Applies(Operator::Store, Arity::Ranked)),
 ];
 
 /// The reserved words.

@@ -13,7 +13,7 @@ use crate::binding::{
 use crate::fault::{BuildError, BuildFault};
 use crate::indices::{Head, Indices, with_index};
 use crate::scope::Scope;
-use crate::sort_parts::{SortPart, SortParts, constant_sort, sort_of_parts, with_part};
+use crate::sort_parts::{SortPart, SortParts, sort_of_part, sort_of_parts, with_part};
 use crate::symbols::Symbols;
 use smt_terms::node::TermId;
 use smt_terms::terms::Terms;
@@ -247,7 +247,7 @@ pub fn closes<'a>(
         Open::BindingDone(name, term) => Ok(Part::Binding(name, term)),
         Open::Annotated(term) => Ok(Part::Term(term)),
         Open::Unread => Ok(Part::Passed),
-        Open::ConstSorted(part) => match constant_sort(symbols, part) {
+        Open::ConstSorted(part) => match sort_of_part(symbols, part) {
             Ok(sort) => Ok(Part::Head(Head::Everywhere(sort))),
             Err(fault) => Err(BuildError::Fault(fault)),
         },

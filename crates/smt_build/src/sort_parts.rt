@@ -1,7 +1,6 @@
 // The parts of a sort within a term, as the reader meets them.
 
 ghost use Rattle.std.specs.Prelude.{◌≡◌};
-ghost use Rattle.smt_build.specs.Heads.{where_read};
 ghost use Rattle.smt_build.specs.SortParts.{with_part, sort_of_part, is_array_word, sort_of_words, sort_of_parts};
 ghost use Rattle.smt_build.specs.Views.{sort_part_of, sort_parts_of};
 
@@ -42,7 +41,7 @@ pub fn with_part<'a>(parts: SortParts<'a>, part: SortPart<'a>) -> SortParts<'a>
 }
 
 /// The sort that a part means by itself.
-fn sort_of_part(symbols: &Symbols, part: SortPart<'_>) -> Result<Sort, BuildFault>
+pub fn sort_of_part(symbols: &Symbols, part: SortPart<'_>) -> Result<Sort, BuildFault>
     ensures { result ≡ sort_of_part symbols.now.sorts (sort_part_of part.entry) }
 {
     match part {
@@ -90,21 +89,10 @@ pub fn sort_of_parts(
     let SortParts::Three(head, second, third) = parts else {
         return Err(BuildFault::NotSupported);
     };
-    if whole && symbols.reads_theories() && is_array_word(head) {
+    if whole && is_array_word(head) {
         let index = sort_of_part(symbols, second);
         let element = sort_of_part(symbols, third);
         return array_by(index, element);
     }
     sort_of_words(head, second, third)
-}
-
-/// The sort of a constant array, which is known where arrays are read.
-pub fn constant_sort(symbols: &Symbols, part: SortPart<'_>) -> Result<Sort, BuildFault>
-    ensures { result
-        ≡ where_read symbols.now (sort_of_part symbols.now.sorts (sort_part_of part.entry)) }
-{
-    if !symbols.reads_theories() {
-        return Err(BuildFault::NotSupported);
-    }
-    sort_of_part(symbols, part)
 }

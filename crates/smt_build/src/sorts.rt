@@ -150,7 +150,7 @@ pub fn sort_of(
     ensures { IfOk result (λ r. (s : Sexp) → signs_in tokens.now ≡ spelling s
         → r ≡ sort_in symbols.now s) }
 {
-    if symbols.reads_theories() && begins_array(tokens) {
+    if begins_array(tokens) {
         return array_sort(alloc, symbols, tokens);
     }
     Ok(part_sort(symbols, tokens))

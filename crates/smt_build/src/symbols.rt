@@ -1,7 +1,7 @@
 // The declarations, the definitions, and the names that are live.
 
-ghost use Rattle.std.specs.Prelude.{◌≡◌, ◌≤◌, ◌++◌, true, None, OnOk, OnErr, IfOk, length, replicate, slice_get, option_copied};
-ghost use Rattle.smt_build.specs.Names.{no_symbols, symbols_over, declaration_of, meaning_in, is_taken, with_declaration, with_definition, with_definitions, with_sort, pushed, popped, emptied};
+ghost use Rattle.std.specs.Prelude.{◌≡◌, ◌≤◌, ◌++◌, None, OnOk, OnErr, IfOk, length, replicate, slice_get, option_copied};
+ghost use Rattle.smt_build.specs.Names.{no_symbols, declaration_of, meaning_in, is_taken, with_declaration, with_definition, with_definitions, with_sort, pushed, popped, emptied};
 
 use crate::definition::Definition;
 use indexmap::IndexMap;
@@ -34,7 +34,6 @@ pub struct Symbols {
     definitions: IndexMap<Vec<u8>, Definition>,
     sorts: IndexMap<Vec<u8>, Sort>,
     levels: Vec<Level>,
-    theories: bool,
 }
 
 impl Model for Symbols {
@@ -50,7 +49,6 @@ impl Model for Symbols {
           definitions = map entry_of s.definitions.entries;
           sorts = map entry_of s.sorts.entries;
           levels = s.levels.items;
-          theories = s.theories;
         } };
 
     ghost invariant = { λ s. AreNumbers s.live.items s.numbers.entries };
@@ -87,30 +85,7 @@ impl Symbols {
             definitions: IndexMap::new(alloc),
             sorts: IndexMap::new(alloc),
             levels: Vec::new(alloc),
-            theories: false,
         }
-    }
-
-    /// The same, where functions with arguments and arrays are read.
-    pub fn with_theories(alloc: Global) -> Symbols
-        ensures { result ≡ symbols_over true }
-    {
-        Symbols {
-            live: Vec::new(alloc),
-            numbers: IndexMap::new(alloc),
-            signatures: Vec::new(alloc),
-            definitions: IndexMap::new(alloc),
-            sorts: IndexMap::new(alloc),
-            levels: Vec::new(alloc),
-            theories: true,
-        }
-    }
-
-    /// Whether functions with arguments and arrays are read.
-    pub fn reads_theories(&self) -> bool
-        ensures { result ≡ self.now.theories }
-    {
-        self.theories
     }
 
     /// The live names in the order of their declarations.

@@ -204,14 +204,6 @@ const FULL: [(&[u8], BuildFault); 2] = [
     ),
 ];
 
-/// Where arrays are not read, each of these is not supported.
-const ELSE: [&[u8]; 4] = [
-    b"(assert ((as const (Array (_ BitVec 1) (_ BitVec 2))) #b01))",
-    b"(assert ((as const Int) nope))",
-    b"(assert ((as const (Array (_ BitVec 0) Int)) i))",
-    b"(assert ((as const (Array (_ BitVec 1) (_ BitVec 2)))))",
-];
-
 /// What a term gives where so many may be held.
 fn give(
     rt: &(impl Abort + AllocGlobal),
@@ -249,25 +241,9 @@ fn give_all(rt: &(impl Abort + AllocGlobal), symbols: &mut Symbols) -> Result<()
 }
 
 #[test]
-fn constant_arrays_are_read_where_told(rt: HostRuntime) -> Result<(), Fail> {
-    let mut symbols = Symbols::with_theories(rt.alloc());
-    let ended = give_all(&rt, &mut symbols);
-    drop(symbols);
-    ended
-}
-
-/// Refuses constant arrays, whatever stands in them.
-fn refuse_all(rt: &(impl Abort + AllocGlobal), symbols: &mut Symbols) -> Result<(), Fail> {
-    for text in &ELSE {
-        give(rt, symbols, 100, text, Err(BuildFault::NotSupported))?;
-    }
-    Ok(())
-}
-
-#[test]
-fn constant_arrays_are_refused_else(rt: HostRuntime) -> Result<(), Fail> {
+fn constant_arrays_are_read(rt: HostRuntime) -> Result<(), Fail> {
     let mut symbols = Symbols::new(rt.alloc());
-    let ended = refuse_all(&rt, &mut symbols);
+    let ended = give_all(&rt, &mut symbols);
     drop(symbols);
     ended
 }

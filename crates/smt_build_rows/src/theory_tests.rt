@@ -1,4 +1,4 @@
-//! Worked functions and arrays, where these are read, with ample memory.
+//! Worked functions and arrays, with ample memory.
 
 ghost use Rattle.smt_build.specs.Names.{AreDeclared};
 
@@ -105,7 +105,7 @@ fn refuse_all(rt: &(impl Abort + AllocGlobal), symbols: &mut Symbols) -> Result<
 
 #[test]
 fn a_refused_declaration_tells_its_first_fault(rt: HostRuntime) -> Result<(), Fail> {
-    let mut symbols = Symbols::with_theories(rt.alloc());
+    let mut symbols = Symbols::new(rt.alloc());
     let ended = refuse_all(&rt, &mut symbols);
     drop(symbols);
     ended
@@ -138,33 +138,9 @@ fn give_all(rt: &(impl Abort + AllocGlobal), symbols: &mut Symbols) -> Result<()
 }
 
 #[test]
-fn functions_and_arrays_are_read_where_told(rt: HostRuntime) -> Result<(), Fail> {
-    let mut symbols = Symbols::with_theories(rt.alloc());
-    let ended = give_all(&rt, &mut symbols);
-    drop(symbols);
-    ended
-}
-
-/// Refuses functions with arguments, arrays, and their operators.
-fn refuse_theories(rt: &(impl Abort + AllocGlobal), symbols: &mut Symbols) -> Result<(), Fail> {
-    assert!(rt; declared(rt, symbols, I)? == Ok(0));
-    for (text, _) in &DECLARED {
-        assert!(rt;
-            declared(rt, symbols, text)? == Err(BuildError::Fault(BuildFault::NotSupported))
-        );
-    }
-    give(
-        rt,
-        symbols,
-        b"(assert (select i i))",
-        Err(BuildFault::NotSupported),
-    )
-}
-
-#[test]
-fn functions_and_arrays_are_refused_else(rt: HostRuntime) -> Result<(), Fail> {
+fn functions_and_arrays_are_read(rt: HostRuntime) -> Result<(), Fail> {
     let mut symbols = Symbols::new(rt.alloc());
-    let ended = refuse_theories(&rt, &mut symbols);
+    let ended = give_all(&rt, &mut symbols);
     drop(symbols);
     ended
 }

@@ -3,7 +3,7 @@ use Rattle.std.specs.Prelude.{◌≡◌, ◌⊎◌, ℕ, ◌+◌, ◌<◌, ◌�
 use Rattle.std.specs.List.{flat_map}
 use Rattle.std.specs.Io.KnownBytes.{Consumes, IsAtEnd}
 use Rattle.script_state.specs.declared.answer.Verdict.{Verdict}
-use Rattle.script_state.specs.States.{start_of}
+use Rattle.script_state.specs.States.{no_state}
 use Rattle.accepted_proof.specs.declared.refusal.Refusal.{Refusal}
 use Rattle.accepted_proof.specs.Searching.{Limits}
 use Rattle.accepted_proof.specs.Turns.{Turn}
@@ -104,7 +104,7 @@ pub record IsRightlyAccepted (text lines answered : List ℕ) : Type 0 where
   pub limits : Limits
   pub turns : List Turn
   pub accepted : Accepted limits text lines turns
-  pub right : AreRight (start_of true) turns
+  pub right : AreRight no_state turns
   pub report : answered ≡ report_text (verdicts_of turns) None
 
 -- a front of what is told of the two texts
@@ -132,7 +132,7 @@ pub record AreRightVerdicts (text lines : List ℕ) (verdicts : List Verdict) : 
   pub limits : Limits
   pub turns : List Turn
   pub accepted : AcceptedSoFar limits text lines turns
-  pub right : AreRight (start_of true) turns
+  pub right : AreRight no_state turns
   pub verdicts_are : verdicts ≡ verdicts_of turns
 
 -- a front of a report is told, and its verdicts are right, where there are any

@@ -121,7 +121,7 @@ fn check_texts<S: Source, P: Source, W: Sink>(
         (HasCheckCause (counts (S.faults script.old) (W.faults answers.old) (P.faults proof.old))
         (counts (S.faults script.new) (W.faults answers.new) (P.faults proof.new))) }
 {
-    let mut checking = Checking::with_theories(alloc);
+    let mut checking = Checking::new(alloc);
     let mut script_left = INPUT_LIMIT;
     let mut proof_left = INPUT_LIMIT;
     'texts: loop {

@@ -2,7 +2,7 @@
 use Rattle.std.proofs.Common.{◌≡◌, ◌≢◌, ℕ, ◌+◌, List, length, Option, Some, None, refl, sym, ap, ◌∙◌, inl, inr, ⊎_elim, arith, length-append}
 use Rattle.std.specs.Prelude.{◌⊎◌, Bool, true, false, if◌then◌else◌}
 use Rattle.script_state.specs.declared.answer.Verdict.{Verdict}
-use Rattle.script_state.specs.States.{start_of}
+use Rattle.script_state.specs.States.{no_state}
 use Rattle.accepted_proof.specs.declared.refusal.Refusal.{Refusal}
 use Rattle.accepted_proof.specs.Searching.{Limits}
 use Rattle.accepted_proof.specs.Turns.{Turn}
@@ -20,7 +20,7 @@ use Rattle.smt_run.specs.Commands.{IsNoProof}
 
 -- what is accepted is right
 abbrev pub AcceptedLaw : Type 0
-AcceptedLaw = (script proof : List ℕ) (vs : List Verdict) → IsAccepted script proof vs → (limits : Limits) × (turns : List Turn) × Accepted limits script proof turns × AreRight (start_of true) turns × (vs ≡ verdicts_of turns)
+AcceptedLaw = (script proof : List ℕ) (vs : List Verdict) → IsAccepted script proof vs → (limits : Limits) × (turns : List Turn) × Accepted limits script proof turns × AreRight no_state turns × (vs ≡ verdicts_of turns)
 
 right_end : (text lines answered : List ℕ) (t : Status) → AcceptedLaw → t ≡ Done → IsEndOfCheck t text lines answered → IsRightlyAccepted text lines answered
 right_end text lines answered t law e k = go k.refusal k.judged k.report (sym e ∙ k.status_is)

@@ -8,7 +8,7 @@ use Rattle.smt_text.specs.Framing.{Held, first_chunk, last_chunk}
 use Rattle.smt_text.specs.Script.{Begins, AreChunks}
 use Rattle.smt_text.proofs.Cuts.{Begins-append}
 use Rattle.script_state.specs.Readings.{Reading, ReadsAs}
-use Rattle.script_state.specs.States.{start_of}
+use Rattle.script_state.specs.States.{no_state}
 use Rattle.script_state.specs.Steps.{ends}
 use Rattle.accepted_proof.specs.Searching.{Limits, AreLimits}
 use Rattle.proof_text.specs.declared.line.Format.TheVariants.{Two}
@@ -16,7 +16,7 @@ use Rattle.proof_text.specs.Lines.{line_text}
 use Rattle.accepted_proof.specs.Turns.{Part, Turn, AreParts, AreTurns, part_lines, turn_of}
 use Rattle.accepted_proof.specs.Right.{AreRight, ArePrinted}
 use Rattle.accepted_proof.specs.Answers.{answers_of, header_of, written_of}
-use Rattle.accepted_proof.specs.Accepted.{AreRead, AreAll, Accepted, AcceptedFrom, EndLast, IsFront, IsBegun, has_ended, has_error, readings_of}
+use Rattle.accepted_proof.specs.Accepted.{AreRead, AreAll, Accepted, EndLast, IsFront, IsBegun, has_ended, has_error, readings_of}
 use Rattle.proof_file.specs.Places.{no_file}
 use Rattle.proof_file.specs.Trimmed.{AreTrimmed}
 use Rattle.trimmed_proofs.specs.Laws.{HaveTakenFirst, TellsOf, TrimmedLaw}
@@ -35,21 +35,21 @@ use Rattle.smt_run.proofs.Turning.{Follow-append, answers-append, parts-append, 
 -- What holds of turns that follow one another and of the parts that are trimmed of them, and of accepted proofs: a check accepts
 -- them, and what they show is right.
 pub record Laws (limits : Limits) : Type 0 where
-  pub right : (turns : List Turn) → AreTurns limits (start_of true) [] turns → AreRight (start_of true) turns
-  pub printed : (turns : List Turn) → AreTurns limits (start_of true) [] turns → ArePrinted (start_of true) [] None turns
-  pub tells : (turns : List Turn) (parts : List Part) → AreTurns limits (start_of true) [] turns → HaveTakenFirst [] turns → AreTrimmed (start_of true) [] no_file turns parts → TellsOf limits turns parts
+  pub right : (turns : List Turn) → AreTurns limits no_state [] turns → AreRight no_state turns
+  pub printed : (turns : List Turn) → AreTurns limits no_state [] turns → ArePrinted no_state [] None turns
+  pub tells : (turns : List Turn) (parts : List Part) → AreTurns limits no_state [] turns → HaveTakenFirst [] turns → AreTrimmed no_state [] no_file turns parts → TellsOf limits turns parts
   pub pass : (script proof : List ℕ) (turns : List Turn) → Accepted limits script proof turns → IsAccepted script proof (verdicts_of turns)
-  pub shown : (script proof : List ℕ) (turns : List Turn) → Accepted limits script proof turns → AreRight (start_of true) turns
+  pub shown : (script proof : List ℕ) (turns : List Turn) → Accepted limits script proof turns → AreRight no_state turns
 
-pub laws_of : (limits : Limits) → ((l : Limits) (turns : List Turn) → AreTurns l (start_of true) [] turns → AreRight (start_of true) turns) → ((l : Limits) (turns : List Turn) → AreTurns l (start_of true) [] turns → ArePrinted (start_of true) [] None turns)
+pub laws_of : (limits : Limits) → ((l : Limits) (turns : List Turn) → AreTurns l no_state [] turns → AreRight no_state turns) → ((l : Limits) (turns : List Turn) → AreTurns l no_state [] turns → ArePrinted no_state [] None turns)
     → TrimmedLaw → ((l : Limits) (script proof : List ℕ) (turns : List Turn) → Accepted l script proof turns → IsAccepted script proof (verdicts_of turns))
-    → ((theories : Bool) (l : Limits) (script proof : List ℕ) (turns : List Turn) → AcceptedFrom (start_of theories) l script proof turns → AreRight (start_of theories) turns) → Laws limits
+    → ((l : Limits) (script proof : List ℕ) (turns : List Turn) → Accepted l script proof turns → AreRight no_state turns) → Laws limits
 laws_of limits right printed trimmed pass shown = record {
   right = right limits;
   printed = printed limits;
   tells = trimmed limits;
   pass = pass limits;
-  shown = shown true limits;
+  shown = shown limits;
 }
 
 -- ---- parts
@@ -83,7 +83,7 @@ module _ (limits : Limits) (laws : Laws limits) (allowed : AreLimits limits) (ch
   commands_last : EndLast (map turn_of (parts_in done))
   commands_last = last_parts (opening limits) done h.filed h.last
 
-  searched : AreThorough limits (start_of true) [] (turns_in done) → AreSearchedFor limits (turns_in done) (parts_in done)
+  searched : AreThorough limits no_state [] (turns_in done) → AreSearchedFor limits (turns_in done) (parts_in done)
   searched thorough = record {
     run = h.run;
     trims = trimmed_of (opening limits) done h.filed;
@@ -119,7 +119,7 @@ module _ (limits : Limits) (laws : Laws limits) (allowed : AreLimits limits) (ch
         checked = laws.pass k.0 (written_of Two limits (parts_in done)) (map turn_of (parts_in done)) (accepted k.0 (inl k.3));
       }
 
-  right_parts : (text : List ℕ) → IsFront text chunks → AreRight (start_of true) (map turn_of (parts_in done))
+  right_parts : (text : List ℕ) → IsFront text chunks → AreRight no_state (map turn_of (parts_in done))
   right_parts text front =
       let k = front_parts text chunks front in
       laws.shown k.0 (written_of Two limits (parts_in done)) (map turn_of (parts_in done)) (accepted k.0 (inl k.3))
@@ -268,7 +268,7 @@ module _ (limits : Limits) where
           front = s.1;
           read = subst (λ ps. AreRead (chunks ++ s.0 ∷ []) (map turn_of ps)) (last_part done k.command) (commands_read limits laws allowed cs ds s.2);
           last = subst (λ ps. EndLast (map turn_of ps)) (last_part done k.command) (commands_last limits laws allowed cs ds s.2);
-          run = subst (λ ps. AreParts Two limits (start_of true) [] [] ps) (last_part done k.command) (tells limits laws allowed cs ds s.2).run;
+          run = subst (λ ps. AreParts Two limits no_state [] [] ps) (last_part done k.command) (tells limits laws allowed cs ds s.2).run;
           texts = more_texts s.0 k.command s.2 (subst (λ us. answers_of (turns_in (done ++ us)) ≡ answers_of (turns_in done) ++ begun ++ rest) k.one e);
           unfinished = q.1;
         }))
@@ -287,7 +287,7 @@ module _ (limits : Limits) where
           front = s.1;
           read = subst (λ ps. AreRead (chunks ++ s.0 ∷ []) (map turn_of ps)) (last_part done k.command) (commands_read limits laws allowed cs ds s.2);
           last = subst (λ ps. EndLast (map turn_of ps)) (last_part done k.command) (commands_last limits laws allowed cs ds s.2);
-          run = subst (λ ps. AreParts Two limits (start_of true) [] [] ps) (last_part done k.command) (tells limits laws allowed cs ds s.2).run;
+          run = subst (λ ps. AreParts Two limits no_state [] [] ps) (last_part done k.command) (tells limits laws allowed cs ds s.2).run;
           left = left;
           lines = sym (ap (flat_map line_text) (append-nil (part_lines k.command.part))) ∙ sym (ap lines_of k.one) ∙ e;
           cut =

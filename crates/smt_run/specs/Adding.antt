@@ -1,11 +1,11 @@
 -- What a run adds to the answers and to the proof, one turn after another.
-use Rattle.std.specs.Prelude.{◌≡◌, ◌⊎◌, ℕ, ◌<◌, Bool, true, false, ◌||◌, List, [], ◌∷◌, ◌++◌, length, map, Option, Some, None}
+use Rattle.std.specs.Prelude.{◌≡◌, ◌⊎◌, ℕ, ◌<◌, Bool, false, ◌||◌, List, [], ◌∷◌, ◌++◌, length, map, Option, Some, None}
 use Rattle.std.specs.List.{flat_map}
 use Rattle.std.specs.Io.KnownBytes.{Appends}
 use Rattle.smt_text.specs.declared.chunk.Chunk.{Chunk}
 use Rattle.smt_text.specs.Framing.{Held, first_chunk}
 use Rattle.smt_text.specs.Script.{Begins}
-use Rattle.script_state.specs.States.{StateValue, start_of}
+use Rattle.script_state.specs.States.{StateValue, no_state}
 use Rattle.proof_log.specs.declared.entry.Entry.{Entry}
 use Rattle.proof_text.specs.declared.record.Record.{Record}
 use Rattle.proof_text.specs.Lines.{line_text}
@@ -38,7 +38,7 @@ moment_of s = record { state = s.state; log = s.log.entries; file = file_in s.fi
 
 -- before the first command
 abbrev pub opening : Limits → Moment
-opening limits = record { state = start_of true; log = []; file = no_file; shown = None; limits = limits }
+opening limits = record { state = no_state; log = []; file = no_file; shown = None; limits = limits }
 
 -- a turn, the part that is written for it, and the file behind that
 pub record Filed : Type 0 where

@@ -6,7 +6,7 @@ use Rattle.smt_desk.specs.Faults.{Rose}
 use Rattle.smt_text.specs.declared.chunk.Chunk.{Chunk}
 use Rattle.smt_text.specs.Framing.{Held, first_chunk}
 use Rattle.smt_text.specs.Script.{Begins, AreChunks}
-use Rattle.script_state.specs.States.{start_of}
+use Rattle.script_state.specs.States.{no_state}
 use Rattle.accepted_proof.specs.Searching.{Limits}
 use Rattle.proof_text.specs.declared.line.Format.TheVariants.{Two}
 use Rattle.proof_text.specs.Lines.{line_text}
@@ -42,12 +42,12 @@ pub record IsUnbegun (limits : Limits) (answered proved : List ℕ) : Type 0 whe
 -- term, and an `unknown` stands beside the diary of a cube on which the budget was spent, and its other cubes were searched too. What
 -- is printed of the check that stands is right: models, values, cores, and assumptions that cannot hold.
 pub record AreSearchedFor (limits : Limits) (turns : List Turn) (parts : List Part) : Type 0 where
-  pub run : AreTurns limits (start_of true) [] turns
-  pub trims : AreTrimmed (start_of true) [] no_file turns parts
+  pub run : AreTurns limits no_state [] turns
+  pub trims : AreTrimmed no_state [] no_file turns parts
   pub tells : TellsOf limits turns parts
-  pub thorough : AreThorough limits (start_of true) [] turns
-  pub right : AreRight (start_of true) turns
-  pub printed : ArePrinted (start_of true) [] None turns
+  pub thorough : AreThorough limits no_state [] turns
+  pub right : AreRight no_state turns
+  pub printed : ArePrinted no_state [] None turns
 
 -- The script cut behind these chunks, and the proof cut behind these parts, are accepted by a check.
 pub record IsAcceptedCut (limits : Limits) (text : List ℕ) (chunks : List Chunk) (parts : List Part) : Type 0 where
@@ -65,7 +65,7 @@ pub record IsBegunBehind (limits : Limits) (text : List ℕ) (chunks : List Chun
   pub front : IsFront text (chunks ++ next ∷ [])
   pub read : AreRead (chunks ++ next ∷ []) (map turn_of (parts ++ part ∷ []))
   pub last : EndLast (map turn_of (parts ++ part ∷ []))
-  pub run : AreParts Two limits (start_of true) [] [] (parts ++ part ∷ [])
+  pub run : AreParts Two limits no_state [] [] (parts ++ part ∷ [])
   pub left : List ℕ
   pub lines : flat_map line_text (part_lines part) ≡ more ++ left
   pub cut : ((begun ≡ []) × (0 < length left))
@@ -80,7 +80,7 @@ pub record IsBesideProof (limits : Limits) (text answered proved : List ℕ) : T
   pub checked : IsAcceptedCut limits text beside.chunks beside.parts
   pub behind : ((beside.begun ≡ []) × (beside.more ≡ []))
       ⊎ IsBegunBehind limits text beside.chunks beside.parts beside.begun beside.more
-  pub right : AreRight (start_of true) (map turn_of beside.parts)
+  pub right : AreRight no_state (map turn_of beside.parts)
   pub turns : List Turn
   pub searched : AreSearchedFor limits turns beside.parts
 
@@ -93,7 +93,7 @@ pub record IsAllAnswered (limits : Limits) (status : Status) (text answered prov
   pub parts : List Part
   pub whole : IsWhole limits text answered proved parts
   pub checked : IsAccepted text proved (verdicts_of (map turn_of parts))
-  pub right : AreRight (start_of true) (map turn_of parts)
+  pub right : AreRight no_state (map turn_of parts)
   pub turns : List Turn
   pub searched : AreSearchedFor limits turns parts
   pub status_is : status ≡ (if has_error (map turn_of parts) then Refused else Done)
@@ -106,7 +106,7 @@ pub record IsPrefix (limits : Limits) (text answered : List ℕ) : Type 0 where
   pub front : IsFront text chunks
   pub read : AreRead chunks turns
   pub last : EndLast turns
-  pub run : AreTurns limits (start_of true) [] turns
+  pub run : AreTurns limits no_state [] turns
   pub answers : answers_of turns ≡ answered ++ rest
 
 -- Where a read of the script failed, or it is too long, each command that is whole in what was read before is answered, and
@@ -126,7 +126,7 @@ pub record IsAnsweredToRead (limits : Limits) (status : Status) (left : Option (
   pub parts : List Part
   pub commands : AreRead chunks (map turn_of parts)
   pub going : has_ended (map turn_of parts) ≡ false
-  pub run : AreParts Two limits (start_of true) [] [] parts
+  pub run : AreParts Two limits no_state [] [] parts
   pub turns : List Turn
   pub searched : AreSearchedFor limits turns parts
   pub answers : answered ≡ answers_of (map turn_of parts)

@@ -4,7 +4,7 @@ ghost use Rattle.std.specs.Prelude.{◌≡◌, ◌≢◌, ◌≤◌, ℕ, List, 
 ghost use Rattle.std.specs.Io.KnownBytes.{Appends};
 ghost use Rattle.smt_desk.specs.Faults.{Rose};
 ghost use Rattle.proof_text.specs.declared.record.Record.{Record as RecordValue};
-ghost use Rattle.script_state.specs.States.{start_of, IsState, WatchesFit};
+ghost use Rattle.script_state.specs.States.{no_state, IsState, WatchesFit};
 ghost use Rattle.script_state.specs.Steps.{forgotten};
 ghost use Rattle.accepted_proof.specs.Searching.{Limits};
 ghost use Rattle.proof_file.specs.Files.{IsFileOf, file_of};
@@ -288,7 +288,7 @@ impl Session {
     /// memory.
     pub fn new(alloc: Global, settings: Settings) -> Result<Session, AllocError>
         requires { AreSettings settings }
-        ensures fresh { IfOk result (λ s. (s.state ≡ start_of true) × (s.log.entries ≡ [])
+        ensures fresh { IfOk result (λ s. (s.state ≡ no_state) × (s.log.entries ≡ [])
             × (s.shown ≡ None) × (file_in s.file ≡ no_file)) }
         ensures limits { IfOk result (λ s. s.limits ≡ limits_of settings) }
     {
@@ -296,7 +296,7 @@ impl Session {
         let steps = TheorySteps::new(alloc)?;
         let file = ProofFile::new(alloc);
         let parts = Parts {
-            state: State::with_theories(alloc),
+            state: State::new(alloc),
             workspace: Workspace {
                 log,
                 steps,

@@ -1,7 +1,7 @@
 -- What a state without terms has beside them fits whatever limit terms have.
-use Rattle.std.proofs.Common.{◌≡◌, ℕ, true, ◌^◌, ap, subst}
+use Rattle.std.proofs.Common.{◌≡◌, ℕ, ◌^◌, ap, subst}
 use Rattle.smt_terms.specs.Terms.{TermsValue, no_terms}
-use Rattle.script_state.specs.States.{StateValue, RestValue, with_terms, start_of, IsState, AreLevels, Fit}
+use Rattle.script_state.specs.States.{StateValue, RestValue, with_terms, no_state, IsState, AreLevels, Fit}
 
 levels_within : (n m : ℕ) (r : RestValue) → AreLevels (with_terms r (no_terms m)) → AreLevels (with_terms r (no_terms n))
 levels_within n m r is = record {
@@ -21,14 +21,12 @@ state_within n m r is = record {
   sorts = is.sorts;
   held = is.held;
   truths = is.truths;
-  plain = is.plain;
-  asked = is.asked;
   closed = is.closed;
   levels = levels_within n m r is.levels;
   assumed = is.assumed;
 }
 
-pub fits_within : (n : ℕ) (terms : TermsValue) (r : RestValue) → with_terms r terms ≡ start_of true → Fit terms r → Fit (no_terms n) r
+pub fits_within : (n : ℕ) (terms : TermsValue) (r : RestValue) → with_terms r terms ≡ no_state → Fit terms r → Fit (no_terms n) r
 fits_within n terms r e f =
     let g : Fit (no_terms (2 ^ 24)) r = subst (λ t. Fit t r) (ap (λ (s : StateValue). s.terms) e) f in
     record { state = state_within n (2 ^ 24) r g.state; marks = g.marks }

@@ -17,7 +17,7 @@ use std::test::Fail;
 fn state_within(alloc: Global, limit: u32) -> State
     requires { limit ≤ 2 ^ 24 }
 {
-    let (_, rest) = State::with_theories(alloc).into_parts();
+    let (_, rest) = State::new(alloc).into_parts();
     State::from_parts(Terms::with_limit(alloc, limit), rest)
 }
 

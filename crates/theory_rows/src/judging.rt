@@ -1,8 +1,7 @@
 // What is judged of a script and a proof.
 
-ghost use Rattle.std.specs.Prelude.{IfOk, true};
-ghost use Rattle.script_state.specs.States.{start_of};
-ghost use Rattle.proof_checker.specs.Checked.{IsJudgedOver};
+ghost use Rattle.std.specs.Prelude.{IfOk};
+ghost use Rattle.proof_checker.specs.Checked.{IsJudged};
 ghost use Rattle.proof_checker.specs.Checkings.{verdicts_by};
 ghost use Rattle.theory_rows.specs.Rows.{IsEndOfCheck};
 
@@ -11,12 +10,12 @@ use proof_checker::report::end_line;
 use smt_text::text::Text;
 use std::alloc::{AllocError, Global};
 
-/// The end of a check of both texts; functions with arguments and arrays are read in the script.
+/// The end of a check of both texts.
 fn judged(alloc: Global, script: &[u8], proof: &[u8]) -> Result<Judgement, AllocError>
     ensures { IfOk result
-        (λ j. IsJudgedOver (start_of true) script.now proof.now (verdicts_by j.checker) j.refusal) }
+        (λ j. IsJudged script.now proof.now (verdicts_by j.checker) j.refusal) }
 {
-    let mut checking = Checking::with_theories(alloc);
+    let mut checking = Checking::new(alloc);
     checking.feed_script(script)?;
     checking.end_script();
     checking.feed_proof(proof)?;

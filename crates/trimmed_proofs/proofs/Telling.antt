@@ -1,12 +1,12 @@
 -- The parts of a trimmed file are accepted, and tell of the turns.
-use Rattle.std.proofs.Common.{◌≡◌, ℕ, suc, Bool, true, List, [], ◌∷◌, ◌++◌, length, map, Option, Some, None, refl, sym, ap, ap₂, subst, ◌∙◌, arith, inl, inr, ⊎_elim, append-nil}
+use Rattle.std.proofs.Common.{◌≡◌, ℕ, suc, Bool, List, [], ◌∷◌, ◌++◌, length, map, Option, Some, None, refl, sym, ap, ap₂, subst, ◌∙◌, arith, inl, inr, ⊎_elim, append-nil}
 use Rattle.std.specs.Prelude.{◌⊎◌, ◌||◌, slice_get, option_map}
 use Rattle.std.specs.List.{AllByRecursion}
 use Rattle.script_state.specs.Readings.{Reading}
 use Rattle.script_state.specs.declared.answer.Answer.{Answer}
 use Rattle.script_state.specs.declared.answer.Answer.TheVariants.{Done, Refused, Check, Says, Model, Values, Core, Assumptions, Exit}
 use Rattle.script_state.specs.declared.answer.Verdict.{Verdict}
-use Rattle.script_state.specs.States.{StateValue, concluded, start_of}
+use Rattle.script_state.specs.States.{StateValue, concluded, no_state}
 use Rattle.script_state.specs.Steps.{ends, settled, step}
 use Rattle.proof_log.specs.declared.entry.Entry.{Entry}
 use Rattle.proof_log.specs.Logs.{entry_at, start, state_of}
@@ -207,7 +207,7 @@ all_told limits (t ∷ ts) (p ∷ ps) s log file deleted f last shown h alike ar
 
 -- ---- the law
 
-nothing_filed : IsPlacing (start_of true).terms.nodes [] [] [] no_file
+nothing_filed : IsPlacing no_state.terms.nodes [] [] [] no_file
 nothing_filed = record {
   count = refl;
   zero_is = refl;
@@ -222,10 +222,10 @@ nothing_filed = record {
   gone = λ q lt. refl;
 }
 
-nothing_beside : AreBeside (start_of true) [] [] [] no_file
+nothing_beside : AreBeside no_state [] [] [] no_file
 nothing_beside = record { log_reached = reached_first; file_reached = reached_first; made = refl; keeps = λ p le n. inl (let z : p ≡ 0 = omega (arith, le) in z); placing = nothing_filed }
 
-pub trimmed_accepted : (limits : Limits) (turns : List Turn) (parts : List Part) → AreTurns limits (start_of true) [] turns → HaveTakenFirst [] turns → AreTrimmed (start_of true) [] no_file turns parts → TellsOf limits turns parts
+pub trimmed_accepted : (limits : Limits) (turns : List Turn) (parts : List Part) → AreTurns limits no_state [] turns → HaveTakenFirst [] turns → AreTrimmed no_state [] no_file turns parts → TellsOf limits turns parts
 trimmed_accepted limits turns parts are first trimmed =
-    let told = all_told limits turns parts (start_of true) [] [] [] no_file None None nothing_beside (alike_none (state_of (start_of true).terms.nodes []) (state_of (start_of true).terms.nodes [])) are first trimmed in
+    let told = all_told limits turns parts no_state [] [] [] no_file None None nothing_beside (alike_none (state_of no_state.terms.nodes []) (state_of no_state.terms.nodes [])) are first trimmed in
     record { run = told.run; answers = told.answers; readings = told.readings; shown = told.shown_are; ended = told.ended; error = told.error }

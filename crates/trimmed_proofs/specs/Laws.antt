@@ -1,8 +1,8 @@
 -- What a trimmed proof file does to accepted turns.
-use Rattle.std.specs.Prelude.{◌≡◌, suc, true, List, [], ◌∷◌, ◌++◌, length, map, Option, option_map}
+use Rattle.std.specs.Prelude.{◌≡◌, suc, List, [], ◌∷◌, ◌++◌, length, map, Option, option_map}
 use Rattle.script_state.specs.declared.answer.Answer.{Answer}
 use Rattle.script_state.specs.declared.answer.Verdict.{Verdict}
-use Rattle.script_state.specs.States.{start_of}
+use Rattle.script_state.specs.States.{no_state}
 use Rattle.proof_log.specs.declared.entry.Entry.{Entry}
 use Rattle.proof_text.specs.declared.line.Format.TheVariants.{Two}
 use Rattle.accepted_proof.specs.Searching.{Limits}
@@ -24,7 +24,7 @@ shown_of turns = map (λ (t : Turn). (t.answer, option_map verdict_of t.shown)) 
 
 -- The parts are accepted in the second format, and tell of the turns: the same commands, answers and verdicts.
 pub record TellsOf (limits : Limits) (turns : List Turn) (parts : List Part) : Type 0 where
-  pub run : AreParts Two limits (start_of true) [] [] parts
+  pub run : AreParts Two limits no_state [] [] parts
   pub answers : answers_of (map turn_of parts) ≡ answers_of turns
   pub readings : readings_of (map turn_of parts) ≡ readings_of turns
   pub shown : shown_of (map turn_of parts) ≡ shown_of turns
@@ -33,4 +33,4 @@ pub record TellsOf (limits : Limits) (turns : List Turn) (parts : List Part) : T
 
 -- what a trimmed file has for turns that may follow is accepted, and tells of them
 abbrev pub TrimmedLaw : Type 0
-TrimmedLaw = (limits : Limits) (turns : List Turn) (parts : List Part) → AreTurns limits (start_of true) [] turns → HaveTakenFirst [] turns → AreTrimmed (start_of true) [] no_file turns parts → TellsOf limits turns parts
+TrimmedLaw = (limits : Limits) (turns : List Turn) (parts : List Part) → AreTurns limits no_state [] turns → HaveTakenFirst [] turns → AreTrimmed no_state [] no_file turns parts → TellsOf limits turns parts

@@ -39,7 +39,7 @@ made_declarable s d g state made =
     let lt = slice_get_within s.symbols.signatures d g made in
     let same : Some (get_or s.symbols.signatures d g) ≡ Some g = sym (slice_get-get_or s.symbols.signatures d g lt) ∙ made in
     let own : get_or s.symbols.signatures d g ≡ g = cc in
-    let h : IsTaken s.symbols.theories (get_or s.symbols.signatures d g) = state.constants d g lt in
+    let h : IsTaken (get_or s.symbols.signatures d g) = state.constants d g lt in
     subst IsDeclarable own (record { value = h.value; args = h.args; plain = h.plain })
 
 items_more : (signatures : List Signature) (found : ℕ → Option Value) (live : List LiveName) (items : List (ℕ × Value)) (l : LiveName) (x : Value) → AreReadings signatures found live items → IsDeclaredReading signatures found (l.declaration, x)

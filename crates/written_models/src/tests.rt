@@ -130,7 +130,7 @@ const CASES: [Case; 2] = [
 fn each_declaration_has_what_is_set_as_it_reads(rt: HostRuntime) -> Result<(), Fail> {
     let interp = found(rt.alloc())?;
     for case in &CASES {
-        let mut state = State::with_theories(rt.alloc());
+        let mut state = State::new(rt.alloc());
         let text = record_over(rt.alloc(), &mut state, case.declared, &interp);
         drop(state);
         assert!(rt; text?.as_slice() == case.record);

@@ -1,5 +1,4 @@
-use Rattle.std.proofs.Common.{refl, ap, ◌∙◌, None, Some}
-use Rattle.proof_checker.specs.Checkers.{records_over}
+use Rattle.std.proofs.Common.{refl, None, Some}
 use Rattle.proof_checker.proofs.Keeping.{headless, begun, unbegun}
 use Rattle.proof_checker.proofs.checking.begin.Goals as goal
 
@@ -10,7 +9,7 @@ pub returns-in-Ok : goal.returns-in-Ok
 returns-in-Ok c =
     let l = rw c.in-Line.is at c.in_ok-first.ensures.line in
     let h = rw c.in-Ok.is at c.in_ok-checker.ensures in
-    begun _ _ _ c.in_ok-first.ensures.same l.1 _ h.0 h.1 h.2 (h.3 ∙ ap (λ s. records_over s h.0 h.1) c.starting-state.ensures) _ refl refl
+    begun _ _ _ c.in_ok-first.ensures.same l.1 _ h.0 h.1 h.2 h.3 _ refl refl
 
 pub returns-in-Err : goal.returns-in-Err
 returns-in-Err c =

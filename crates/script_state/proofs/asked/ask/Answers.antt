@@ -9,5 +9,5 @@ ask_all-requires-clause-stand c = (c.requires.stands.0, parts_stand _ _ _ _ _ _ 
 
 pub returns-clause-asks : goal.returns-clause-asks
 returns-clause-asks c = λ es stands.
-    subst (λ ls. Asks (asking (object_to c.args.symbols.now.theories c.args.purpose) c.args.symbols.now c.args.terms.now ls [] es) c.ask_all.result c.ask_all.new.terms) (listed_is _ _ _ c.as_slice-items.ensures c.min-first.ensures)
+    subst (λ ls. Asks (asking (object_to c.args.purpose) c.args.symbols.now c.args.terms.now ls [] es) c.ask_all.result c.ask_all.new.terms) (listed_is _ _ _ c.as_slice-items.ensures c.min-first.ensures)
     (c.ask_all.ensures.asks es (parts_stand _ _ _ _ _ _ c.as_slice-items.ensures c.as_slice.ensures.value c.in-Ok.ensures.stand stands))

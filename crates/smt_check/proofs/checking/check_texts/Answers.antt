@@ -8,8 +8,8 @@ use Rattle.smt_check.proofs.checking.check_texts.Goals as goal
 pub texts-init : goal.texts-init
 texts-init g c = record {
   room = c.requires;
-  way = way_none _ _ _ c.with_theories-checking.ensures.judged c.with_theories-checking.ensures.accepted c.with_theories-checking.ensures.ended;
-  telling = telling_none _ _ _ _ c.with_theories-checking.ensures.verdicts;
+  way = way_none _ _ _ c.new-checking.ensures.judged c.new-checking.ensures.accepted c.new-checking.ensures.ended;
+  telling = telling_none _ _ _ _ c.new-checking.ensures.verdicts;
   later = later_same _;
 }
 

@@ -1,8 +1,7 @@
-use Rattle.std.proofs.Common.{true, inl, inr}
+use Rattle.std.proofs.Common.{inl, inr}
 use Rattle.smt_check.proofs.Parts.{adds_none, later_same}
 use Rattle.smt_run.proofs.Written.{within_none}
 use Rattle.smt_check.proofs.Reported.{told_nothing}
-use Rattle.script_state.specs.States.{start_of}
 use Rattle.smt_run.proofs.Ends.{memory_usage, memory_done, memory_refused, memory_end, right_told, refused_told}
 use Rattle.smt_run.proofs.running.check_proof.Goals as goal
 
@@ -38,7 +37,7 @@ returns g c = record {
   usage = c.check.ensures.usage;
   ended = c.check.ensures.ended;
   right = λ e. right_told (g.S.Source.left c.args.script.now) (g.P.Source.left c.args.proof.now) (g.W.Sink.written c.args.answers.now) (g.W.Sink.written c.check.new.answers) _ c.what_is_accepted_is_right.ensures e (c.check.ensures.ended (inl e));
-  refused = λ e. refused_told (g.S.Source.left c.args.script.now) (g.P.Source.left c.args.proof.now) (g.W.Sink.written c.args.answers.now) (g.W.Sink.written c.check.new.answers) _ c.accepted_proofs_pass.ensures (c.texts_are_judged_one_way.ensures (start_of true)) e (c.check.ensures.ended (inr e));
+  refused = λ e. refused_told (g.S.Source.left c.args.script.now) (g.P.Source.left c.args.proof.now) (g.W.Sink.written c.args.answers.now) (g.W.Sink.written c.check.new.answers) _ c.accepted_proofs_pass.ensures c.texts_are_judged_one_way.ensures e (c.check.ensures.ended (inr e));
   front = c.check.ensures.front;
   read = c.check.ensures.read;
   answers = c.check.ensures.answers;

@@ -4,8 +4,8 @@ use Rattle.theory_rows.proofs.judging.judged.Goals as goal
 pub records-init : goal.records-init
 records-init c = record {
   way =
-      way_fed c.args.script.now c.args.proof.now c.with_theories-checking.result c.feed_script.new.self c.end_script.new.self c.feed_proof.new.self c.end_proof.new.self
-      c.with_theories-checking.ensures.judged c.in_ok-feed_script.ensures.judged c.end_script.ensures.judged
+      way_fed c.args.script.now c.args.proof.now c.new-checking.result c.feed_script.new.self c.end_script.new.self c.feed_proof.new.self c.end_proof.new.self
+      c.new-checking.ensures.judged c.in_ok-feed_script.ensures.judged c.end_script.ensures.judged
       c.in_ok-feed_proof.ensures.judged c.end_proof.ensures.judged c.end_script.ensures.ended c.in_ok-feed_proof.ensures.ended c.end_proof.ensures.ended;
 }
 

@@ -1,11 +1,11 @@
 use Rattle.std.proofs.Common.{ap, sym, ◌∙◌, subst}
 use Rattle.script_state.specs.States.{StateValue}
 use Rattle.script_state.specs.Steps.{Step, setting, Answers}
-use Rattle.script_state.proofs.Asserting.{are_assumed, opted_state}
+use Rattle.script_state.proofs.Asserting.{opted_state}
 use Rattle.script_state.proofs.state.State.set_option.Goals as goal
 
 pub invariant_of-self : goal.invariant_of-self
-invariant_of-self c = (opted_state _ _ _ _ c.self.invariant.0 (are_assumed _ c.self.invariant.0), c.self.invariant.1)
+invariant_of-self c = (opted_state _ _ _ _ c.self.invariant.0 c.self.invariant.0.assumed, c.self.invariant.1)
 
 pub returns-in-None : goal.returns-in-None
 returns-in-None c = λ e es a b.

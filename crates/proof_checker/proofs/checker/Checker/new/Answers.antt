@@ -1,6 +1,6 @@
 use Rattle.std.proofs.Common.{sym, subst}
 use Rattle.proof_log.specs.Stored.{Stands}
-use Rattle.proof_checker.proofs.checker.Checker.over.Goals as goal
+use Rattle.proof_checker.proofs.checker.Checker.new.Goals as goal
 
 pub invariant_of-result : goal.invariant_of-result
 invariant_of-result c = (
@@ -9,5 +9,5 @@ invariant_of-result c = (
   tt,
   c.in-Some.ensures.allowed,
   tt,
-  c.new-8.ensures.start c.none.result c.in_ok-log.log.value,
+  c.new-9.ensures.start c.none.result c.in_ok-log.log.value,
 )

@@ -1,6 +1,0 @@
-use Rattle.script_state.specs.States.{start_of}
-use Rattle.proof_checker.proofs.Passing.{accepted_right}
-use Rattle.proof_checker.proofs.check_laws.what_is_accepted_over_is_right.Goals as goal
-
-pub returns : goal.returns
-returns c = λ theories script proof vs h. accepted_right (start_of theories) (c.judged_proofs_are_accepted.ensures theories) (c.accepted_proofs_are_right.ensures theories) script proof vs h
