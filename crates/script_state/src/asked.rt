@@ -111,9 +111,7 @@ fn ask_all(
     let mut asked = Vec::new(alloc);
     let mut place = first;
     for span in spans {
-        let term = match ask_one(
-            alloc, symbols, terms, reached, tokens, *span, purpose,
-        ) {
+        let term = match ask_one(alloc, symbols, terms, reached, tokens, *span, purpose) {
             Ok(term) => term,
             Err(error) => return Err(error),
         };
