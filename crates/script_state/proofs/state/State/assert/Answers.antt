@@ -25,11 +25,11 @@ invariant_of-self-in-Some c =
     let names = names_back _ _ _ _ _ _ _ _ (c.in-Ok.ensures.asserts c.requires.stands.0 c.requires.stands.1) c.definition_count-count.ensures c.cut_definitions.ensures in
     (rw (names, back) c.self.invariant.0, c.cut.ensures.marks)
 
-pub invariant_of-self-in-Err-assert : goal.invariant_of-self-in-Err-assert
-invariant_of-self-in-Err-assert c =
-    let back = cut_back _ _ _ _ _ c.in-Ok.ensures.grows c.len-len.ensures.length c.cut-in-Err-assert.ensures.terms in
-    let names = names_back _ _ _ _ _ _ _ _ (c.in-Ok.ensures.asserts c.requires.stands.0 c.requires.stands.1) c.definition_count-count.ensures c.cut_definitions-in-Err-assert.ensures in
-    (rw (names, back, c.in-Err-assert.ensures.err) c.self.invariant.0, c.cut-in-Err-assert.ensures.marks)
+pub invariant_of-self-in-Err : goal.invariant_of-self-in-Err
+invariant_of-self-in-Err c =
+    let back = cut_back _ _ _ _ _ c.in-Ok.ensures.grows c.len-len.ensures.length c.cut-in-Err.ensures.terms in
+    let names = names_back _ _ _ _ _ _ _ _ (c.in-Ok.ensures.asserts c.requires.stands.0 c.requires.stands.1) c.definition_count-count.ensures c.cut_definitions-in-Err.ensures in
+    (rw (names, back, c.in-Err.ensures.err) c.self.invariant.0, c.cut-in-Err.ensures.marks)
 
 pub returns-in-Some : goal.returns-in-Some
 returns-in-Some c = λ e stands.
@@ -40,14 +40,14 @@ returns-in-Some c = λ e stands.
     subst (λ (s : StateValue). ◌≡◌ {A = Step} (asserting s (name_of_assertion e) (assertion s.symbols s.terms e)) (Refused c.in-Some.error, new)) c.self.view_is
     (asserting_refused v new (name_of_assertion e) e _ _ _ _ (c.in-Ok.ensures.asserts e stands) (sym c.objection.ensures ∙ c.in-Some.is) (rw (names, back) refl))
 
-pub returns-in-Err-assert : goal.returns-in-Err-assert
-returns-in-Err-assert c = λ e stands.
-    let back = cut_back _ _ _ _ _ c.in-Ok.ensures.grows c.len-len.ensures.length c.cut-in-Err-assert.ensures.terms in
-    let names = names_back _ _ _ _ _ _ _ _ (c.in-Ok.ensures.asserts e stands) c.definition_count-count.ensures c.cut_definitions-in-Err-assert.ensures in
-    rw (names, back, c.in-Err-assert.ensures.err) c.self.view_is
+pub returns-in-Err : goal.returns-in-Err
+returns-in-Err c = λ e stands.
+    let back = cut_back _ _ _ _ _ c.in-Ok.ensures.grows c.len-len.ensures.length c.cut-in-Err.ensures.terms in
+    let names = names_back _ _ _ _ _ _ _ _ (c.in-Ok.ensures.asserts e stands) c.definition_count-count.ensures c.cut_definitions-in-Err.ensures in
+    rw (names, back, c.in-Err.ensures.err) c.self.view_is
 
 pub cut-requires-clause-marks : goal.cut-requires-clause-marks
 cut-requires-clause-marks c = plain_grows _ _ _ _ c.in-Ok.ensures.grows c.self.invariant.1
 
-pub cut-in-Err-assert-requires-clause-marks : goal.cut-in-Err-assert-requires-clause-marks
-cut-in-Err-assert-requires-clause-marks c = plain_grows _ _ _ _ c.in-Ok.ensures.grows c.self.invariant.1
+pub cut-in-Err-requires-clause-marks : goal.cut-in-Err-requires-clause-marks
+cut-in-Err-requires-clause-marks c = plain_grows _ _ _ _ c.in-Ok.ensures.grows c.self.invariant.1
