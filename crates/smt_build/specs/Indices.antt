@@ -12,7 +12,7 @@ use Rattle.smt_build.specs.declared.fault.BuildFault.TheVariants.{UnknownSymbol,
 use Rattle.smt_build.specs.declared.operators.Family.{Family}
 use Rattle.smt_build.specs.declared.operators.Family.TheVariants as family
 use Rattle.smt_build.specs.declared.operators.Named.{Named}
-use Rattle.smt_build.specs.declared.operators.Named.TheVariants.{Applies, Indexed, OfArrays}
+use Rattle.smt_build.specs.declared.operators.Named.TheVariants.{Applies, Indexed}
 use Rattle.smt_build.specs.Literals.{width_of_numeral, number_of, index_of, turn_of}
 use Rattle.smt_build.specs.Operators.{operator_named}
 use Rattle.smt_build.specs.Names.{SymbolsValue, is_taken}
@@ -90,5 +90,4 @@ indexed_by terms (Some op) args = made terms (node_of op args)
 abbrev pub indexed_application : SymbolsValue → TermsValue → List ℕ → Indices → Option Named → List ℕ → Built
 indexed_application symbols terms f is (Some (Indexed k)) args = indexed_by terms (with_indices k is (first_width terms args)) args
 indexed_application symbols terms f is (Some (Applies o arity)) args = Err WrongSort
-indexed_application symbols terms f is (Some (OfArrays o)) args = Err WrongSort
 indexed_application symbols terms f is None args = Err (known symbols f)
