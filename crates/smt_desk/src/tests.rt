@@ -1,5 +1,6 @@
 use crate::files::{FileSink, FileSource, StandardOutput};
 use crate::memory::{MemSink, MemSource};
+use crate::meter::{Meter, Over};
 use crate::stream::{Failed, Sink, Source, write_whole};
 use std::test::Fail;
 
@@ -79,4 +80,17 @@ fn a_missing_file_fails_at_its_first_use(rt: HostRuntime) {
 #[test]
 fn standard_output_takes_bytes(rt: HostRuntime) {
     assert_eq!(rt; write_whole(&mut StandardOutput::new(&rt), b""), Ok(()));
+}
+
+#[test]
+fn a_meter_counts_up_to_its_limit(rt: HostRuntime) {
+    let mut meter = Meter::new(3);
+    assert_eq!(rt; meter.take(2), Ok(()));
+    assert_eq!(rt; (meter.take(2), meter.left()), (Err(Over { held: 2 }), 1));
+    assert_eq!(rt; (meter.take(1), meter.left()), (Ok(()), 0));
+    assert_eq!(rt; meter.take(1), Err(Over { held: 3 }));
+    assert_eq!(rt;
+        (meter.take(0), meter.take(usize::MAX)),
+        (Ok(()), Err(Over { held: 3 }))
+    );
 }
