@@ -145,7 +145,7 @@ def check_clauses(text, sources):
 
 
 def check_options(text):
-    taken = re.findall(r'number_option\(alloc, "([a-z]+)"', (CRATES / "smt_run/src/command_line.rt").read_text())
+    taken = re.findall(r'number_option\(alloc, "([a-z]+)"', (CRATES / "tool_words/src/command_line.rt").read_text())
     for option in re.findall(r"--([a-z]+)", " ".join(codes(text))):
         if option not in taken + REFUSED:
             yield "the program has no option --%s" % option

@@ -8,8 +8,8 @@ is fixed to the byte, `== proof`, or `== puts`, how many lines of it put a claus
 lines behind its first record are lemmas on functions and arrays, or `== later chains`, how many of them are chains. The word PROOF stands for a new file, which has the text of
 `== given` where the row has that section, the word SCRIPT for a file that has the script, which standard input has not then, and the word OUT for a file
 that is not there before: it has the text of `== out` afterwards, and without that section it was not made. A section's text ends
-before the next line that begins with `==`; a last line `\\` takes away the line feed before it. Whatever a `solve` wrote
-is replayed by reference.py too, unless the row says `== no replay`.
+before the next line that begins with `==`; a last line `\\` takes away the line feed before it. Whatever a `solve` or
+a `drill` wrote is replayed by reference.py too, unless the row says `== no replay`.
 """
 import pathlib
 import re
@@ -54,8 +54,12 @@ def faults(program, row, folder):
     for kind, letter in (("later lemmas", "l"), ("later chains", "c")):
         if kind in row and later(written or "", letter) != int(row[kind]):
             yield "proof: %r" % written
-    if words[:1] == ["solve"] and int(row["status"]) in (0, 1) and "no replay" not in row:
-        yield from replayed(script, proof, row, folder)
+    if int(row["status"]) in (0, 1) and "no replay" not in row:
+        if words[:1] == ["solve"]:
+            verdicts = [a for a in row.get("answers", "").split("\n") if a in ("sat", "unsat", "unknown")]
+            yield from replayed(script, proof, verdicts, folder)
+        if words[:1] == ["drill"]:
+            yield from replayed(drawn(int(words[1]), int(words[2])), proof, ["sat", "unsat"] * int(words[2]), folder)
 
 
 def later(proof, letter):
@@ -66,11 +70,22 @@ def later(proof, letter):
     return sum(line.startswith(letter + " ") for line in lines)
 
 
-def replayed(script, proof, row, folder):
+def drawn(seed, size):
+    """The script that `drill` draws: each word is a number that is drawn, and its successor is another."""
+    lines = ["(set-logic QF_AUFBV)", "(declare-const a (Array (_ BitVec 16) (_ BitVec 32)))"]
+    for k in range(size):
+        seed = (seed * 6364136223846793005 + 1442695040888963407) % 2**64
+        word = "#x%08x" % (seed >> 32)
+        lines += ["(declare-const x%d (_ BitVec 32))" % k, "(assert (= (bvxor x%d %s) #x00000000))" % (k, word)]
+        lines += ["(assert (= (select a #x%04x) x%d))" % (k, k), "(check-sat)", "(push 1)"]
+        lines += ["(assert (= (bvadd x%d #x00000001) %s))" % (k, word), "(check-sat)", "(pop 1)"]
+    return "".join(line + "\n" for line in lines).encode()
+
+
+def replayed(script, proof, verdicts, folder):
     text = folder / "script"
     text.write_bytes(script)
     ran = subprocess.run([sys.executable, HERE / "reference.py", text, proof], capture_output=True, text=True)
-    verdicts = [a for a in row.get("answers", "").split("\n") if a in ("sat", "unsat", "unknown")]
     wanted = "".join(v + "\n" for v in verdicts) + "accepted %d\n" % len(verdicts)
     if ran.stdout != wanted:
         yield "replay: %s%s" % (ran.stdout, ran.stderr)

@@ -8,3 +8,4 @@ pub mod Cutting
 pub mod Refuted
 pub mod Searched
 pub mod Converted
+pub mod Drilled

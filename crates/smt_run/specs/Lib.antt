@@ -6,3 +6,4 @@ pub mod Commands
 pub mod Refuting
 pub mod Searching
 pub mod Converting
+pub mod Drilling

@@ -6,12 +6,14 @@ ghost use Rattle.accepted_proof.specs.Searching.{Limits};
 ghost use Rattle.proof_text.specs.declared.line.Format.TheVariants.{Two};
 ghost use Rattle.accepted_proof.specs.Answers.{header_of};
 ghost use Rattle.smt_session.specs.Sessions.{AreSettings, limits_of};
-ghost use Rattle.tool_words.specs.Words.{IsToSolve, IsToCheck, IsToRefute, IsToSearch, IsToConvert, AreTaken};
-ghost use Rattle.smt_run.specs.Asking.{settings_of, IsToSolveWithin};
+ghost use Rattle.tool_words.specs.declared.words.Command.{Command as Kind};
+ghost use Rattle.tool_words.specs.Words.{IsTo, AreTaken};
+ghost use Rattle.smt_run.specs.Asking.{settings_of, IsToSolveWithin, IsToDrillWithin};
+ghost use Rattle.smt_run.specs.Drilling.{Drills};
 ghost use Rattle.smt_check.specs.Runs.{AddsTo, ReadsBytes, ReadsWithin, IsLater, HasCause, counts, input_limit};
 ghost use Rattle.smt_run.specs.Solving.{BeginsWith, StopsWriting, FailsToRead};
 ghost use Rattle.smt_run.specs.Beside.{Told, IsBeside, IsAllAnswered, IsPrefix, IsAnsweredToRead, IsReadOut};
-ghost use Rattle.smt_run.specs.Commands.{files, stream, IsEnd, IsNoProof, Solves, Checks, AddsToFiles};
+ghost use Rattle.smt_run.specs.Commands.{Stream, files, stream, IsEnd, IsNoProof, Solves, Checks, AddsToFiles};
 ghost use Rattle.smt_run.specs.Refuting.{Refutes};
 ghost use Rattle.smt_run.specs.Searching.{Searches};
 ghost use Rattle.smt_run.specs.Converting.{Converts};
@@ -19,11 +21,15 @@ ghost use Rattle.smt_check.specs.Checks.{ReadsForStatus, HasCheckCause, ToldOf, 
 
 use crate::answering::end_status;
 use crate::converting::convert_proof;
+use crate::drilling::tell;
 use crate::refuting::check_refutation;
 use crate::scripts::answer_script;
 use crate::searching::search_clauses;
 use accepted_proof::{accepted_proofs_are_right, answers_are_right, what_is_printed_is_right};
 use cube_workers::Gate;
+use drill_script::given::Given;
+use drill_script::kept::Kept;
+use drill_script::script::drill_script;
 use proof_checker::{accepted_proofs_pass, texts_are_judged_one_way, what_is_accepted_is_right};
 use proof_conversion::header::{Numbers, push_header};
 use smt_check::checking::check;
@@ -35,7 +41,7 @@ use std::alloc::{AllocError, Global};
 use std::sync::Wait;
 use std::thread::Threads;
 use tool_words::command_line::plan;
-use tool_words::words::{Command, Options, Unplanned};
+use tool_words::words::{Command, Draw, Options, Unplanned};
 use trimmed_proofs::trimmed_proofs_are_accepted;
 
 /// How a session searches where the words ask for this.
@@ -152,6 +158,40 @@ fn solve<R: Threads + Wait + Sync, S: Source, W: Sink, Q: Sink, G: Gate + Sync>(
     }
 }
 
+/// Draws a script and answers it to its end, each check as the settings say, and tells the summary of the answers.
+fn drill<R: Threads + Wait + Sync, W: Sink, Q: Sink, G: Gate + Sync>(
+    rt: &R,
+    alloc: Global,
+    settings: Settings,
+    draw: Draw,
+    answers: &mut W,
+    proof: &mut Q,
+    gate: &G,
+) -> Status
+    requires settings { AreSettings settings }
+    requires size { draw.size ≤ 1000 }
+    ensures usage { result ≢ Status.Usage }
+    ensures drills { (script : Stream)
+        → Drills (limits_of settings) draw.seed draw.size result
+        (files script (stream (W.written answers.old) (W.faults answers.old))
+        (stream (Q.written proof.old) (Q.faults proof.old)))
+        (files script (stream (W.written answers.new) (W.faults answers.new))
+        (stream (Q.written proof.new) (Q.faults proof.new))) }
+    ensures answers { AddsTo (W.written answers.old) (W.written answers.new) }
+    ensures proof { AddsTo (Q.written proof.old) (Q.written proof.new) }
+    ensures later { IsLater (counts 0 (W.faults answers.old) (Q.faults proof.old))
+        (counts 0 (W.faults answers.new) (Q.faults proof.new)) }
+{
+    let text = match drill_script(alloc, draw.seed, draw.size) {
+        Ok(text) => text,
+        Err(_) => return Status::NoMemory,
+    };
+    let mut given = Given::new(text.as_slice());
+    let mut kept = Kept::new(alloc);
+    let solved = solve(rt, alloc, settings, &mut given, &mut kept, proof, gate);
+    tell(alloc, draw, solved, &kept, answers)
+}
+
 /// Checks a script and its proof, and tells what was found.
 fn check_proof<S: Source, P: Source, W: Sink>(
     alloc: Global,
@@ -194,6 +234,8 @@ fn check_proof<S: Source, P: Source, W: Sink>(
 /// `lrat` reads clauses in place of a script and then the refutation `proof_in`, and tells what is judged of them. `cnf` reads
 /// clauses in place of a script and searches them, writes a refutation to `proof_out`, and tells what it found. `convert` reads
 /// no script: it reads the proof `proof_in`, writes it in the second format to `proof_out`, and tells how many records it has.
+/// `drill` reads nothing: it answers the script that it draws as `solve` does, and tells how many checks had each verdict, and the
+/// last word.
 ///
 /// Several workers are threads, which wait for each other's turns, and pass the gate at points of their work. Each clause is
 /// promised of a call that returns, for any number of workers and however their turns fall.
@@ -214,12 +256,9 @@ pub fn run<R: Threads + Wait + Sync, S: Source, P: Source, W: Sink, Q: Sink, G: 
     ensures untouched { result ≡ Status.Usage → (script.new ≡ script.old)
         × (proof_in.new ≡ proof_in.old)
         × (answers.new ≡ answers.old) × (proof_out.new ≡ proof_out.old) }
-    // Words that are taken ask for one of the five commands.
+    // Words that are taken ask for one of the six commands.
     ensures asked { AreTaken (map (λ w. w.now) words.now)
-        → IsToSolve (map (λ w. w.now) words.now)
-        ⊎ (IsToCheck (map (λ w. w.now) words.now)
-        ⊎ (IsToRefute (map (λ w. w.now) words.now)
-        ⊎ (IsToSearch (map (λ w. w.now) words.now) ⊎ IsToConvert (map (λ w. w.now) words.now)))) }
+        → (command : Kind) × IsTo command (map (λ w. w.now) words.now) }
 
     // `solve` reads no proof, answers the script, and writes a proof that is accepted.
     ensures solves { (limits : Limits) → IsToSolveWithin limits (map (λ w. w.now) words.now)
@@ -232,7 +271,7 @@ pub fn run<R: Threads + Wait + Sync, S: Source, P: Source, W: Sink, Q: Sink, G: 
         (stream (W.written answers.new) (W.faults answers.new))
         (stream (Q.written proof_out.new) (Q.faults proof_out.new))) }
     // `check` writes no proof, and judges the script and the proof that it reads.
-    ensures checks { IsToCheck (map (λ w. w.now) words.now)
+    ensures checks { IsTo Kind.Check (map (λ w. w.now) words.now)
         → (proof_out.new ≡ proof_out.old)
         × Checks result
         (files (stream (S.left script.old) (S.faults script.old))
@@ -242,7 +281,7 @@ pub fn run<R: Threads + Wait + Sync, S: Source, P: Source, W: Sink, Q: Sink, G: 
         (stream (W.written answers.new) (W.faults answers.new))
         (stream (P.left proof_in.new) (P.faults proof_in.new))) }
     // `lrat` writes no proof, and judges the clauses and the refutation that it reads.
-    ensures refutes { IsToRefute (map (λ w. w.now) words.now)
+    ensures refutes { IsTo Kind.Lrat (map (λ w. w.now) words.now)
         → (proof_out.new ≡ proof_out.old)
         × Refutes result
         (files (stream (S.left script.old) (S.faults script.old))
@@ -252,7 +291,7 @@ pub fn run<R: Threads + Wait + Sync, S: Source, P: Source, W: Sink, Q: Sink, G: 
         (stream (W.written answers.new) (W.faults answers.new))
         (stream (P.left proof_in.new) (P.faults proof_in.new))) }
     // `cnf` reads no proof, searches the clauses that it reads, and writes a refutation.
-    ensures searches { IsToSearch (map (λ w. w.now) words.now)
+    ensures searches { IsTo Kind.Cnf (map (λ w. w.now) words.now)
         → (proof_in.new ≡ proof_in.old)
         × Searches result
         (files (stream (S.left script.old) (S.faults script.old))
@@ -262,13 +301,25 @@ pub fn run<R: Threads + Wait + Sync, S: Source, P: Source, W: Sink, Q: Sink, G: 
         (stream (W.written answers.new) (W.faults answers.new))
         (stream (Q.written proof_out.new) (Q.faults proof_out.new))) }
     // `convert` reads no script, and writes the proof that it reads in the second format.
-    ensures converts { IsToConvert (map (λ w. w.now) words.now)
+    ensures converts { IsTo Kind.Convert (map (λ w. w.now) words.now)
         → (script.new ≡ script.old)
         × Converts result
         (files (stream (P.left proof_in.old) (P.faults proof_in.old))
         (stream (W.written answers.old) (W.faults answers.old))
         (stream (Q.written proof_out.old) (Q.faults proof_out.old)))
         (files (stream (P.left proof_in.new) (P.faults proof_in.new))
+        (stream (W.written answers.new) (W.faults answers.new))
+        (stream (Q.written proof_out.new) (Q.faults proof_out.new))) }
+
+    // `drill` reads nothing, answers the script that it draws, writes a proof that is accepted, and tells the summary.
+    ensures drills { (limits : Limits) (seed size : ℕ)
+        → IsToDrillWithin limits seed size (map (λ w. w.now) words.now)
+        → ((script.new ≡ script.old) × (proof_in.new ≡ proof_in.old))
+        × Drills limits seed size result
+        (files (stream (S.left script.old) (S.faults script.old))
+        (stream (W.written answers.old) (W.faults answers.old))
+        (stream (Q.written proof_out.old) (Q.faults proof_out.old)))
+        (files (stream (S.left script.new) (S.faults script.new))
         (stream (W.written answers.new) (W.faults answers.new))
         (stream (Q.written proof_out.new) (Q.faults proof_out.new))) }
 
@@ -292,6 +343,10 @@ pub fn run<R: Threads + Wait + Sync, S: Source, P: Source, W: Sink, Q: Sink, G: 
             Command::Lrat => check_refutation(alloc, script, proof_in, answers),
             Command::Cnf => search_clauses(alloc, script, answers, proof_out),
             Command::Convert => convert_proof(alloc, proof_in, answers, proof_out),
+            Command::Drill => {
+                let settings = settings_of(plan.options);
+                drill(rt, alloc, settings, plan.draw, answers, proof_out, gate)
+            }
         },
         Err(Unplanned::Usage) => Status::Usage,
         Err(Unplanned::NoMemory) => Status::NoMemory,

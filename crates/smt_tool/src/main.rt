@@ -1,6 +1,6 @@
 //! Answers scripts of SMT-LIB 2.6 over truth values and words, writes the proof of each answer, and checks such proofs;
-//! searches clauses of DIMACS, writes a refutation of them by LRAT, and checks such refutations; and writes a proof of the first
-//! format in the second.
+//! searches clauses of DIMACS, writes a refutation of them by LRAT, and checks such refutations; writes a proof of the first
+//! format in the second; and draws scripts, answers them and sums up the answers.
 //!
 //! The program hands `run` of `smt_run`, which does what its words ask for, the script's file or standard input, standard output
 //! and the proof file, and ends with the number of its status. The tests of sessions, of runs and of checks stand here, each a
@@ -71,7 +71,7 @@ use tool_words::words::Unplanned;
 
 // What is told where the words are not taken.
 const USAGE: &str =
-    "usage: smt_tool solve PROOF [SCRIPT] [--workers 1..64] [--cubes 0..10] [--budget 0..1000000000] | check PROOF [SCRIPT] | lrat PROOF [CNF] | cnf PROOF [CNF] | convert PROOF OUT";
+    "usage: smt_tool solve PROOF [SCRIPT] [--workers 1..64] [--cubes 0..10] [--budget 0..1000000000] | check PROOF [SCRIPT] | lrat PROOF [CNF] | cnf PROOF [CNF] | convert PROOF OUT | drill SEED SIZE PROOF [--workers 1..64] [--cubes 0..10] [--budget 0..1000000000]";
 
 // The number of a status.
 fn exit_code(status: Status) -> ExitCode {

@@ -2,7 +2,7 @@
 
 use std::alloc::Global;
 use tool_words::command_line::plan;
-use tool_words::words::{Command, Options, Plan, Unplanned};
+use tool_words::words::{Command, Draw, Options, Plan, Unplanned};
 
 // Whether the words ask for this command with these files.
 fn asks(
@@ -28,6 +28,17 @@ fn asks_within(alloc: Global, words: &[&str], numbers: [u32; 3]) -> bool {
                 budget: numbers[2],
             };
             plan.command == Command::Solve && plan.proof == "p" && plan.options == options
+        }
+        Err(_) => false,
+    }
+}
+
+// Whether the words ask to draw this script, with this proof file.
+fn asks_to_draw(alloc: Global, words: &[&str], seed: u64, size: u32) -> bool {
+    match plan(alloc, words) {
+        Ok(plan) => {
+            let draw = Draw { seed, size };
+            plan.command == Command::Drill && plan.proof == "p" && plan.draw == draw
         }
         Err(_) => false,
     }
@@ -88,6 +99,15 @@ const CHECKED: [(&[&str], &str, Option<&str>); 3] = [
 const SEARCHED: [(&[&str], &str, Option<&str>); 2] = [
     (&["cnf", "p"], "p", None),
     (&["cnf", "p", "c"], "p", Some("c")),
+];
+
+/// Words that ask for `drill`, with its seed and its size.
+const DRAWN: [(&[&str], u64, u32); 5] = [
+    (&["drill", "0", "1", "p"], 0, 1),
+    (&["drill", "18446744073709551615", "1000", "p"], u64::MAX, 1000),
+    (&["drill", "--workers", "3", "7", "+2", "p", "--cubes=1"], 7, 2),
+    (&["drill", "007", "2", "--", "p"], 7, 2),
+    (&["drill", "7", "2", "--budget", "0", "p"], 7, 2),
 ];
 
 /// Words that are refused.
@@ -160,7 +180,19 @@ const LIMITED: [(&[&str], [u32; 3]); 20] = [
 ];
 
 /// Words that are refused for their numbers.
-const LIMITS_REFUSED: [&[&str]; 35] = [
+const LIMITS_REFUSED: [&[&str]; 46] = [
+    // no seed, no size, or one out of range
+    &["drill", "0", "0", "p"],
+    &["drill", "0", "1001", "p"],
+    &["drill", "18446744073709551616", "1", "p"],
+    &["drill", "-1", "1", "p"],
+    &["drill", "0", "4294967297", "p"],
+    &["drill", "x", "1", "p"],
+    &["drill", "", "1", "p"],
+    &["drill", "0", "p"],
+    &["drill", "0", "1"],
+    &["drill", "0", "1", "p", "s"],
+    &["drill", "0", "1", "p", "--seed", "1"],
     // out of range
     &["solve", "p", "--cubes", "11"],
     &["solve", "p", "--cubes=4294967296"],
@@ -229,6 +261,17 @@ fn first_unlimited(alloc: Global, rows: &[(&[&str], [u32; 3])]) -> Option<usize>
     None
 }
 
+/// The number of the first row of words that does not ask for its script.
+fn first_undrawn(alloc: Global, rows: &[(&[&str], u64, u32)]) -> Option<usize> {
+    for at in 0..rows.len() {
+        let (words, seed, size) = rows[at];
+        if !asks_to_draw(alloc, words, seed, size) {
+            return Some(at);
+        }
+    }
+    None
+}
+
 /// The number of the first row of words that is not refused.
 fn first_taken(alloc: Global, rows: &[&[&str]]) -> Option<usize> {
     for at in 0..rows.len() {
@@ -247,6 +290,7 @@ fn words_are_planned_or_refused(rt: HostRuntime) {
         ("solve", first_other(alloc, &SOLVED, Command::Solve)),
         ("check", first_other(alloc, &CHECKED, Command::Check)),
         ("cnf", first_other(alloc, &SEARCHED, Command::Cnf)),
+        ("drill", first_undrawn(alloc, &DRAWN)),
         ("refused", first_taken(alloc, &REFUSED)),
         ("limits", first_unlimited(alloc, &LIMITED)),
         ("refused limits", first_taken(alloc, &LIMITS_REFUSED)),

@@ -3,6 +3,7 @@
 use crate::check_tests::check;
 use crate::worked::{joined, solve};
 use cube_workers::PairGate;
+use drill_script::script::drill_script;
 use smt_check::status::Status;
 use smt_desk::memory::{MemSink, MemSource};
 use smt_run::running::run;
@@ -97,6 +98,38 @@ fn a_spent_cube_of_workers_is_accepted(rt: HostRuntime) -> Result<(), Fail> {
         let words = ["solve", "PROOF", "--budget", "0", "--workers", workers];
         let is_so = is_searched(&rt, &words, CLAUSES, b"unknown\n", b"1")?;
         assert!(rt; is_so, "{workers}");
+    }
+    Ok(())
+}
+
+/// Words that ask for two words drawn from 0, by so many workers.
+const DRILLED: [&[&str]; 4] = [
+    &["drill", "0", "2", "PROOF"],
+    &["drill", "0", "2", "PROOF", "--workers", "2"],
+    &["drill", "0", "2", "PROOF", "--workers", "3", "--cubes", "1"],
+    &["drill", "0", "2", "PROOF", "--workers", "4", "--cubes", "2"],
+];
+
+/// Whether two drawn words are answered as these words ask, and a check accepts the proof.
+fn is_drilled(
+    rt: &(impl Threads + Wait + Sync + AllocGlobal),
+    words: &[&str],
+) -> Result<bool, AllocError> {
+    let (status, told, proof) = solve(rt, words, b"(this script is not read");
+    let summary = b"checks 4\nsat 2\nunsat 2\nunknown 0\nlast #x1a08ee11\n";
+    if status != Status::Done || told.as_slice() != summary.as_slice() {
+        return Ok(false);
+    }
+    let script = drill_script(rt.alloc(), 0, 2)?;
+    let answers = b"sat\nunsat\nsat\nunsat\n";
+    is_accepted(rt, script.as_slice(), proof.as_slice(), answers, b"4")
+}
+
+#[test]
+fn a_drawn_script_is_answered_by_any_number_of_workers(rt: HostRuntime) -> Result<(), Fail> {
+    for (row, words) in DRILLED.iter().enumerate() {
+        let is_so = is_drilled(&rt, words)?;
+        assert!(rt; is_so, "row {row}");
     }
     Ok(())
 }

@@ -1,6 +1,7 @@
 -- Words without a fault ask for a command with its files, and the numbers that they give are in range.
-use Rattle.std.proofs.Common.{◌≡◌, Bool, true, false, List, [], ◌∷◌, Option, Some, None, refl, sym, ap, ◌∙◌, subst, inl, inr, ⊎_elim}
-use Rattle.std.specs.Prelude.{codes, ◌⊎◌, ◌||◌, is_some, not, if◌then◌else◌, option_map, unwrap_or}
+use Rattle.std.proofs.Common.{◌≡◌, Bool, true, false, List, [], ◌∷◌, Option, Some, None, refl, sym, ap, ◌∙◌, subst}
+use Rattle.std.specs.Prelude.{codes, ◌||◌, find, is_some, not, if◌then◌else◌, option_map, unwrap_or}
+use Rattle.std.specs.List.{AllByRecursion}
 use Rattle.std.specs.Option.{option_map_or}
 use Rattle.clap.specs.Kinds.{check_kinds}
 use Rattle.clap.specs.Walk.{Text, Rule, Row}
@@ -10,125 +11,120 @@ use Rattle.clap.specs.Takes.{is_given}
 use Rattle.clap.specs.Faults.{fault_of, level_fault, check_fault, entered_fault}
 use Rattle.clap.proofs.OnLiterals.{clap_on_literals}
 use Rattle.tool_words.specs.declared.words.Command.{Command}
-use Rattle.tool_words.specs.declared.words.Command.TheVariants.{Solve, Check, Lrat, Cnf, Convert}
-use Rattle.tool_words.specs.declared.words.Options.{Options}
-use Rattle.tool_words.proofs.OneValue.{ArePlain, AreFine, only_one, level_end, fine_after, value_given, number_of_option, no_option}
-use Rattle.tool_words.specs.Words.{proof_argument, script_argument, out_argument, number_option, app_named, solve_app, convert_app, program, name_of, options_in, AreWithin, AsksFor}
+use Rattle.tool_words.specs.declared.words.Command.TheVariants.{Solve, Check, Lrat, Cnf, Convert, Drill}
+use Rattle.tool_words.proofs.OneValue.{ArePlain, AreFine, TakesNumber, only_one, level_end, fine_after, value_given, number_of_rule, no_rule}
+use Rattle.tool_words.specs.Words.{proof_argument, script_argument, out_argument, seed_argument, size_argument, workers_option, cubes_option, budget_option, shape_for, program, name_of, options_in, draw_in, AreWithin, IsTo}
 
 -- ---- the command line as it is built
 
-abbrev first_file : Rule
-first_file = with_index 1 (filled proof_argument)
+abbrev proof_file : Rule
+proof_file = with_index 1 (filled proof_argument)
 
-abbrev second_file : Rule
-second_file = with_index 2 (filled script_argument)
+abbrev script_file : Rule
+script_file = with_index 2 (filled script_argument)
 
-abbrev other_file : Rule
-other_file = with_index 2 (filled out_argument)
+abbrev out_file : Rule
+out_file = with_index 2 (filled out_argument)
 
-abbrev workers_option : Rule
-workers_option = filled (number_option (codes "workers") 1 64)
+abbrev seed_number : Rule
+seed_number = with_index 1 (filled seed_argument)
 
-abbrev cubes_option : Rule
-cubes_option = filled (number_option (codes "cubes") 0 10)
+abbrev size_number : Rule
+size_number = with_index 2 (filled size_argument)
 
-abbrev budget_option : Rule
-budget_option = filled (number_option (codes "budget") 0 1000000000)
+abbrev drill_file : Rule
+drill_file = with_index 3 (filled proof_argument)
 
-abbrev files : List Rule
-files = first_file ∷ second_file ∷ []
+abbrev numbers : List Rule
+numbers = filled workers_option ∷ filled cubes_option ∷ filled budget_option ∷ []
 
-abbrev both_files : List Rule
-both_files = first_file ∷ other_file ∷ []
+abbrev two_files : List Rule
+two_files = proof_file ∷ script_file ∷ []
 
-abbrev with_numbers : List Rule
-with_numbers = first_file ∷ second_file ∷ workers_option ∷ cubes_option ∷ budget_option ∷ []
+-- the arguments of each command, once they are built
+abbrev built_rules : Command → List Rule
+built_rules Solve = proof_file ∷ script_file ∷ numbers
+built_rules Check = two_files
+built_rules Lrat = two_files
+built_rules Cnf = two_files
+built_rules Convert = proof_file ∷ out_file ∷ []
+built_rules Drill = seed_number ∷ size_number ∷ drill_file ∷ numbers
 
 abbrev above : Shape
 above = (built program).top
 
-abbrev solve_leaf : Shape
-solve_leaf = built_leaf (inherited above solve_app.top)
+abbrev leaf : Command → Shape
+leaf command = built_leaf (inherited above (shape_for command))
 
-abbrev check_leaf : Shape
-check_leaf = built_leaf (inherited above (app_named (codes "check")).top)
-
-abbrev lrat_leaf : Shape
-lrat_leaf = built_leaf (inherited above (app_named (codes "lrat")).top)
-
-abbrev cnf_leaf : Shape
-cnf_leaf = built_leaf (inherited above (app_named (codes "cnf")).top)
-
-abbrev convert_leaf : Shape
-convert_leaf = built_leaf (inherited above convert_app.top)
-
-subs_are : (built program).subs ≡ solve_leaf ∷ check_leaf ∷ lrat_leaf ∷ cnf_leaf ∷ convert_leaf ∷ []
+solve_plain : ArePlain (built_rules Solve)
 unfolding clap_on_literals
-subs_are = refl
+solve_plain = record { each = (record { known = refl; action = refl; takes = refl; one = only_one; defaults = refl }, (record { known = refl; action = refl; takes = refl; one = only_one; defaults = refl }, (record { known = refl; action = refl; takes = refl; one = only_one; defaults = refl }, (record { known = refl; action = refl; takes = refl; one = only_one; defaults = refl }, (record { known = refl; action = refl; takes = refl; one = only_one; defaults = refl }, tt))))); no_short = λ x. refl }
 
-solve_rules : solve_leaf.rules ≡ with_numbers
+files_plain : ArePlain (built_rules Check)
 unfolding clap_on_literals
-solve_rules = refl
+files_plain = record { each = (record { known = refl; action = refl; takes = refl; one = only_one; defaults = refl }, (record { known = refl; action = refl; takes = refl; one = only_one; defaults = refl }, tt)); no_short = λ x. refl }
 
-check_rules : check_leaf.rules ≡ files
+convert_plain : ArePlain (built_rules Convert)
 unfolding clap_on_literals
-check_rules = refl
+convert_plain = record { each = (record { known = refl; action = refl; takes = refl; one = only_one; defaults = refl }, (record { known = refl; action = refl; takes = refl; one = only_one; defaults = refl }, tt)); no_short = λ x. refl }
 
-lrat_rules : lrat_leaf.rules ≡ files
+drill_plain : ArePlain (built_rules Drill)
 unfolding clap_on_literals
-lrat_rules = refl
+drill_plain = record { each = (record { known = refl; action = refl; takes = refl; one = only_one; defaults = refl }, (record { known = refl; action = refl; takes = refl; one = only_one; defaults = refl }, (record { known = refl; action = refl; takes = refl; one = only_one; defaults = refl }, (record { known = refl; action = refl; takes = refl; one = only_one; defaults = refl }, (record { known = refl; action = refl; takes = refl; one = only_one; defaults = refl }, (record { known = refl; action = refl; takes = refl; one = only_one; defaults = refl }, tt)))))); no_short = λ x. refl }
 
-cnf_rules : cnf_leaf.rules ≡ files
-unfolding clap_on_literals
-cnf_rules = refl
+workers_taken : TakesNumber (filled workers_option) 1 64
+workers_taken = record { values = λ values. refl; reading = refl }
 
-convert_rules : convert_leaf.rules ≡ both_files
-unfolding clap_on_literals
-convert_rules = refl
+cubes_taken : TakesNumber (filled cubes_option) 0 10
+cubes_taken = record { values = λ values. refl; reading = refl }
 
-files_plain : ArePlain files
-unfolding clap_on_literals
-files_plain = record {
-  each = (record { known = refl; action = refl; takes = refl; one = only_one; defaults = refl }, (record { known = refl; action = refl; takes = refl; one = only_one; defaults = refl }, tt));
-  no_short = λ x. refl;
-}
+budget_taken : TakesNumber (filled budget_option) 0 1000000000
+budget_taken = record { values = λ values. refl; reading = refl }
 
-both_plain : ArePlain both_files
-unfolding clap_on_literals
-both_plain = record {
-  each = (record { known = refl; action = refl; takes = refl; one = only_one; defaults = refl }, (record { known = refl; action = refl; takes = refl; one = only_one; defaults = refl }, tt));
-  no_short = λ x. refl;
-}
+seed_taken : TakesNumber (seed_number) 0 18446744073709551615
+seed_taken = record { values = λ values. refl; reading = refl }
 
-numbers_plain : ArePlain with_numbers
-unfolding clap_on_literals
-numbers_plain = record {
-  each = (record { known = refl; action = refl; takes = refl; one = only_one; defaults = refl }, (record { known = refl; action = refl; takes = refl; one = only_one; defaults = refl }, (record { known = refl; action = refl; takes = refl; one = only_one; defaults = refl }, (record { known = refl; action = refl; takes = refl; one = only_one; defaults = refl }, (record { known = refl; action = refl; takes = refl; one = only_one; defaults = refl }, tt)))));
-  no_short = λ x. refl;
-}
+size_taken : TakesNumber (size_number) 1 1000
+size_taken = record { values = λ values. refl; reading = refl }
 
-numbers_of_solve : (rows : List Row) → AreFine with_numbers rows → AreWithin rows
+numbers_of_solve : (rows : List Row) → AreFine (built_rules Solve) rows → AreWithin rows
 unfolding clap_on_literals
 numbers_of_solve rows h = record {
-  workers = number_of_option with_numbers (codes "workers") 1 64 refl rows h;
-  cubes = number_of_option with_numbers (codes "cubes") 0 10 refl rows h;
-  budget = number_of_option with_numbers (codes "budget") 0 1000000000 refl rows h;
+  workers = number_of_rule (built_rules Solve) (codes "workers") (filled workers_option) 1 64 workers_taken refl rows h;
+  cubes = number_of_rule (built_rules Solve) (codes "cubes") (filled cubes_option) 0 10 cubes_taken refl rows h;
+  budget = number_of_rule (built_rules Solve) (codes "budget") (filled budget_option) 0 1000000000 budget_taken refl rows h;
+  seed = no_rule (built_rules Solve) (codes "SEED") 0 18446744073709551615 refl rows h;
+  size = no_rule (built_rules Solve) (codes "SIZE") 1 1000 refl rows h;
 }
 
-numbers_of_files : (rows : List Row) → AreFine files rows → AreWithin rows
+numbers_of_files : (rows : List Row) → AreFine (built_rules Check) rows → AreWithin rows
 unfolding clap_on_literals
 numbers_of_files rows h = record {
-  workers = no_option files (codes "workers") 1 64 refl rows h;
-  cubes = no_option files (codes "cubes") 0 10 refl rows h;
-  budget = no_option files (codes "budget") 0 1000000000 refl rows h;
+  workers = no_rule (built_rules Check) (codes "workers") 1 64 refl rows h;
+  cubes = no_rule (built_rules Check) (codes "cubes") 0 10 refl rows h;
+  budget = no_rule (built_rules Check) (codes "budget") 0 1000000000 refl rows h;
+  seed = no_rule (built_rules Check) (codes "SEED") 0 18446744073709551615 refl rows h;
+  size = no_rule (built_rules Check) (codes "SIZE") 1 1000 refl rows h;
 }
 
-numbers_of_both : (rows : List Row) → AreFine both_files rows → AreWithin rows
+numbers_of_convert : (rows : List Row) → AreFine (built_rules Convert) rows → AreWithin rows
 unfolding clap_on_literals
-numbers_of_both rows h = record {
-  workers = no_option both_files (codes "workers") 1 64 refl rows h;
-  cubes = no_option both_files (codes "cubes") 0 10 refl rows h;
-  budget = no_option both_files (codes "budget") 0 1000000000 refl rows h;
+numbers_of_convert rows h = record {
+  workers = no_rule (built_rules Convert) (codes "workers") 1 64 refl rows h;
+  cubes = no_rule (built_rules Convert) (codes "cubes") 0 10 refl rows h;
+  budget = no_rule (built_rules Convert) (codes "budget") 0 1000000000 refl rows h;
+  seed = no_rule (built_rules Convert) (codes "SEED") 0 18446744073709551615 refl rows h;
+  size = no_rule (built_rules Convert) (codes "SIZE") 1 1000 refl rows h;
+}
+
+numbers_of_drill : (rows : List Row) → AreFine (built_rules Drill) rows → AreWithin rows
+unfolding clap_on_literals
+numbers_of_drill rows h = record {
+  workers = number_of_rule (built_rules Drill) (codes "workers") (filled workers_option) 1 64 workers_taken refl rows h;
+  cubes = number_of_rule (built_rules Drill) (codes "cubes") (filled cubes_option) 0 10 cubes_taken refl rows h;
+  budget = number_of_rule (built_rules Drill) (codes "budget") (filled budget_option) 0 1000000000 budget_taken refl rows h;
+  seed = number_of_rule (built_rules Drill) (codes "SEED") (seed_number) 0 18446744073709551615 seed_taken refl rows h;
+  size = number_of_rule (built_rules Drill) (codes "SIZE") (size_number) 1 1000 size_taken refl rows h;
 }
 
 -- ---- the program
@@ -141,70 +137,92 @@ pub record IsFound (found : Option (Text × List Row)) (name : Text) : Type 0 wh
   pub numbers : AreWithin rows
 
 abbrev pub Found : Option (Text × List Row) → Type 0
-Found found = IsFound found (codes "solve") ⊎ (IsFound found (codes "check") ⊎ (IsFound found (codes "lrat") ⊎ (IsFound found (codes "cnf") ⊎ IsFound found (codes "convert"))))
+Found found = (command : Command) × IsFound found (name_of command)
 
-given_of : (b : Bool) → check_kinds false false (not b || false) ≡ [] → b ≡ true
-given_of true e = refl
-given_of false e = let q : ⊥ = cc in absurd q
+-- what has to be there is given
+one_given : (b : Bool) → check_kinds false false (not b || false) ≡ [] → b ≡ true
+one_given true e = refl
+one_given false e = let q : ⊥ = cc in absurd q
 
 first_given : (b c : Bool) → check_kinds false false (not b || (not c || false)) ≡ [] → b ≡ true
 first_given true c e = refl
 first_given false c e = let q : ⊥ = cc in absurd q
 
-solve_found : (words : List Text) → level_fault solve_leaf [] nothing_held words false [] ≡ [] → IsFound (Some (rows_at solve_leaf words)) (codes "solve")
-solve_found words e =
-    let ends = level_end solve_leaf [] words false [] e in
-    let rows = rows_after with_numbers [] words in
-    let fine : AreFine with_numbers rows = fine_after solve_leaf refl numbers_plain words ends in
-    let v = value_given with_numbers (codes "PROOF") rows fine (given_of (is_given (codes "PROOF") rows) ends.check) in
-    record { rows = rows; command = refl; proof = v.0; proof_is = v.1; numbers = numbers_of_solve rows fine }
+third_given : (a b c : Bool) → check_kinds false false (not a || (not b || (not c || false))) ≡ [] → c ≡ true
+third_given true true true e = refl
+third_given true true false e = let q : ⊥ = cc in absurd q
+third_given true false c e = let q : ⊥ = cc in absurd q
+third_given false b c e = let q : ⊥ = cc in absurd q
 
-check_found : (words : List Text) → level_fault check_leaf [] nothing_held words false [] ≡ [] → IsFound (Some (rows_at check_leaf words)) (codes "check")
-check_found words e =
-    let ends = level_end check_leaf [] words false [] e in
-    let rows = rows_after files [] words in
-    let fine : AreFine files rows = fine_after check_leaf refl files_plain words ends in
-    let v = value_given files (codes "PROOF") rows fine (given_of (is_given (codes "PROOF") rows) ends.check) in
-    record { rows = rows; command = refl; proof = v.0; proof_is = v.1; numbers = numbers_of_files rows fine }
+-- a command of plain arguments is found with its proof file, and its numbers are in range
+record IsGood (s : Shape) (name : Text) : Type 0 where
+  named : s.name ≡ name
+  once : s.args_override_self ≡ false
+  plain : ArePlain s.rules
+  numbers : (rows : List Row) → AreFine s.rules rows → AreWithin rows
+  proof : (rows : List Row) → check_fault s rows false ≡ [] → is_given (codes "PROOF") rows ≡ true
 
-lrat_found : (words : List Text) → level_fault lrat_leaf [] nothing_held words false [] ≡ [] → IsFound (Some (rows_at lrat_leaf words)) (codes "lrat")
-lrat_found words e =
-    let ends = level_end lrat_leaf [] words false [] e in
-    let rows = rows_after files [] words in
-    let fine : AreFine files rows = fine_after lrat_leaf refl files_plain words ends in
-    let v = value_given files (codes "PROOF") rows fine (given_of (is_given (codes "PROOF") rows) ends.check) in
-    record { rows = rows; command = refl; proof = v.0; proof_is = v.1; numbers = numbers_of_files rows fine }
+good_found : (s : Shape) (name : Text) → IsGood s name → (words : List Text) → level_fault s [] nothing_held words false [] ≡ [] → IsFound (Some (rows_at s words)) name
+good_found s name g words e =
+    let ends = level_end s [] words false [] e in
+    let rows = rows_after s.rules [] words in
+    let fine : AreFine s.rules rows = fine_after s g.once g.plain words ends in
+    let v = value_given s.rules (codes "PROOF") rows fine (g.proof rows ends.check) in
+    record { rows = rows; command = ap (λ n. Some (n, rows)) g.named; proof = v.0; proof_is = v.1; numbers = g.numbers rows fine }
 
-cnf_found : (words : List Text) → level_fault cnf_leaf [] nothing_held words false [] ≡ [] → IsFound (Some (rows_at cnf_leaf words)) (codes "cnf")
-cnf_found words e =
-    let ends = level_end cnf_leaf [] words false [] e in
-    let rows = rows_after files [] words in
-    let fine : AreFine files rows = fine_after cnf_leaf refl files_plain words ends in
-    let v = value_given files (codes "PROOF") rows fine (given_of (is_given (codes "PROOF") rows) ends.check) in
-    record { rows = rows; command = refl; proof = v.0; proof_is = v.1; numbers = numbers_of_files rows fine }
+solve_good : IsGood (leaf Solve) (name_of Solve)
+unfolding clap_on_literals
+solve_good = record { named = refl; once = refl; plain = solve_plain; numbers = numbers_of_solve; proof = λ rows e. one_given (is_given (codes "PROOF") rows) e }
 
-convert_found : (words : List Text) → level_fault convert_leaf [] nothing_held words false [] ≡ [] → IsFound (Some (rows_at convert_leaf words)) (codes "convert")
-convert_found words e =
-    let ends = level_end convert_leaf [] words false [] e in
-    let rows = rows_after both_files [] words in
-    let fine : AreFine both_files rows = fine_after convert_leaf refl both_plain words ends in
-    let v = value_given both_files (codes "PROOF") rows fine (first_given (is_given (codes "PROOF") rows) (is_given (codes "OUT") rows) ends.check) in
-    record { rows = rows; command = refl; proof = v.0; proof_is = v.1; numbers = numbers_of_both rows fine }
+check_good : IsGood (leaf Check) (name_of Check)
+unfolding clap_on_literals
+check_good = record { named = refl; once = refl; plain = files_plain; numbers = numbers_of_files; proof = λ rows e. one_given (is_given (codes "PROOF") rows) e }
 
-abbrev either : Bool → Bool → Bool → Bool → Bool → Option Shape
-either b c d e f = if b then Some solve_leaf else (if c then Some check_leaf else (if d then Some lrat_leaf else (if e then Some cnf_leaf else (if f then Some convert_leaf else None))))
+lrat_good : IsGood (leaf Lrat) (name_of Lrat)
+unfolding clap_on_literals
+lrat_good = record { named = refl; once = refl; plain = files_plain; numbers = numbers_of_files; proof = λ rows e. one_given (is_given (codes "PROOF") rows) e }
 
-one_found : (b c d e f : Bool) (words : List Text) → is_some (option_map (λ s. rows_at s words) (either b c d e f)) ≡ true → option_map_or (λ s. level_fault s [] nothing_held words false []) (either b c d e f) [] ≡ [] → Found (option_map (λ s. rows_at s words) (either b c d e f))
-one_found true c d e f words h k = inl (solve_found words k)
-one_found false true d e f words h k = inr (inl (check_found words k))
-one_found false false true e f words h k = inr (inr (inl (lrat_found words k)))
-one_found false false false true f words h k = inr (inr (inr (inl (cnf_found words k))))
-one_found false false false false true words h k = inr (inr (inr (inr (convert_found words k))))
-one_found false false false false false words h k = let q : ⊥ = cc in absurd q
+cnf_good : IsGood (leaf Cnf) (name_of Cnf)
+unfolding clap_on_literals
+cnf_good = record { named = refl; once = refl; plain = files_plain; numbers = numbers_of_files; proof = λ rows e. one_given (is_given (codes "PROOF") rows) e }
+
+convert_good : IsGood (leaf Convert) (name_of Convert)
+unfolding clap_on_literals
+convert_good = record { named = refl; once = refl; plain = convert_plain; numbers = numbers_of_convert; proof = λ rows e. first_given (is_given (codes "PROOF") rows) (is_given (codes "OUT") rows) e }
+
+drill_good : IsGood (leaf Drill) (name_of Drill)
+unfolding clap_on_literals
+drill_good = record { named = refl; once = refl; plain = drill_plain; numbers = numbers_of_drill; proof = λ rows e. third_given (is_given (codes "SEED") rows) (is_given (codes "SIZE") rows) (is_given (codes "PROOF") rows) e }
+
+-- where the command is found words are taken
+abbrev IsTakenAt : Shape → Type 0
+IsTakenAt s = (words : List Text) → level_fault s [] nothing_held words false [] ≡ [] → Found (Some (rows_at s words))
+
+taken_at : (command : Command) → IsGood (leaf command) (name_of command) → IsTakenAt (leaf command)
+taken_at command g words e = (command, good_found (leaf command) (name_of command) g words e)
+
+all_taken : AllByRecursion IsTakenAt (leaf Solve ∷ leaf Check ∷ leaf Lrat ∷ leaf Cnf ∷ leaf Convert ∷ leaf Drill ∷ [])
+all_taken = (taken_at Solve solve_good, (taken_at Check check_good, (taken_at Lrat lrat_good, (taken_at Cnf cnf_good, (taken_at Convert convert_good, (taken_at Drill drill_good, tt))))))
+
+subs_are : (built program).subs ≡ leaf Solve ∷ leaf Check ∷ leaf Lrat ∷ leaf Cnf ∷ leaf Convert ∷ leaf Drill ∷ []
+unfolding clap_on_literals
+subs_are = refl
+
+-- a command that is found is one of these
+found_taken : (p : Shape → Bool) (subs : List Shape) → AllByRecursion IsTakenAt subs → (words : List Text) → is_some (option_map (λ s. rows_at s words) (find p subs)) ≡ true → option_map_or (λ s. level_fault s [] nothing_held words false []) (find p subs) [] ≡ [] → Found (option_map (λ s. rows_at s words) (find p subs))
+found_taken p [] h words i e = let q : ⊥ = cc in absurd q
+found_taken p (s ∷ subs) h words i e = go (p s) (found_taken p subs h.1 words) i e
+  where
+    go : (b : Bool)
+        → (is_some (option_map (λ s. rows_at s words) (find p subs)) ≡ true → option_map_or (λ s. level_fault s [] nothing_held words false []) (find p subs) [] ≡ [] → Found (option_map (λ s. rows_at s words) (find p subs)))
+        → is_some (option_map (λ s. rows_at s words) (if b then Some s else find p subs)) ≡ true → option_map_or (λ s. level_fault s [] nothing_held words false []) (if b then Some s else find p subs) [] ≡ []
+        → Found (option_map (λ s. rows_at s words) (if b then Some s else find p subs))
+    go true rest i e = h.0 words e
+    go false rest i e = rest i e
 
 stop_found : (o : Option (Text × List Text)) → is_some (entered (built program) o) ≡ true → entered_fault (built program) o ≡ [] → Found (entered (built program) o)
 stop_found None h e = let q : ⊥ = cc in absurd q
-stop_found (Some p) h e = one_found (answers_to p.0 (label_of solve_leaf)) (answers_to p.0 (label_of check_leaf)) (answers_to p.0 (label_of lrat_leaf)) (answers_to p.0 (label_of cnf_leaf)) (answers_to p.0 (label_of convert_leaf)) p.1 h e
+stop_found (Some p) h e = found_taken (λ s. answers_to p.0 (label_of s)) (built program).subs (subst (AllByRecursion IsTakenAt) (sym subs_are) all_taken) p.1 h e
 
 wanted : (b : Bool) (rows : List Row) → check_fault above rows b ≡ [] → b ≡ true
 wanted true rows e = refl
@@ -222,21 +240,21 @@ rows_in (Some p) = p.1
 
 -- the words of a command that is found give numbers in range
 pub numbers_found : (words : List Text) (name : Text) (rows : List Row) → fault_of program words ≡ [] → subcommand_of program words ≡ Some (name, rows) → AreWithin rows
-numbers_found words name rows e found = ⊎_elim (λ f. from _ f) (λ k. ⊎_elim (λ f. from _ f) (λ m. ⊎_elim (λ f. from _ f) (λ n. ⊎_elim (λ f. from _ f) (λ f. from _ f) n) m) k) (faultless_found words e)
-  where
-    from : (n : Text) → IsFound (subcommand_of program words) n → AreWithin rows
-    from n f =
-        let same : f.rows ≡ rows = ap rows_in (sym f.command ∙ found) in
-        subst AreWithin same f.numbers
+numbers_found words name rows e found =
+    let f = faultless_found words e in
+    let same : f.1.rows ≡ rows = ap rows_in (sym f.1.command ∙ found) in
+    subst AreWithin same f.1.numbers
 
--- what is found asks for a command
-asked : (command : Command) (words : List Text) → fault_of program words ≡ [] → IsFound (subcommand_of program words) (name_of command) → (s : Options) × AsksFor command s words
-asked command words e f = (options_in f.rows, (f.proof, unwrap_or (first_of (codes "OUT") f.rows) f.proof, first_of (codes "SCRIPT") f.rows, record { taken = e; names = record { rows = f.rows; command = f.command; proof_is = f.proof_is; out_is = refl; script_is = refl; options_are = refl } }))
-
--- words without a fault ask for one of the five
-pub faultless_asks : (words : List Text) → fault_of program words ≡ [] → ((s : Options) × AsksFor Solve s words) ⊎ (((s : Options) × AsksFor Check s words) ⊎ (((s : Options) × AsksFor Lrat s words) ⊎ (((s : Options) × AsksFor Cnf s words) ⊎ ((s : Options) × AsksFor Convert s words))))
+-- words without a fault ask for one of the commands
+pub faultless_asks : (words : List Text) → fault_of program words ≡ [] → (command : Command) × IsTo command words
 faultless_asks words e =
-    ⊎_elim
-    (λ f. inl (asked Solve words e f))
-    (λ k. inr (⊎_elim (λ f. inl (asked Check words e f)) (λ m. inr (⊎_elim (λ f. inl (asked Lrat words e f)) (λ n. inr (⊎_elim (λ f. inl (asked Cnf words e f)) (λ f. inr (asked Convert words e f)) n)) m)) k))
-    (faultless_found words e)
+    let f = faultless_found words e in
+    let rows = f.1.rows in
+    (f.0, record {
+      proof = f.1.proof;
+      out = unwrap_or (first_of (codes "OUT") rows) f.1.proof;
+      script = first_of (codes "SCRIPT") rows;
+      options = options_in rows;
+      draw = draw_in rows;
+      asks = record { taken = e; names = record { rows = rows; command = f.1.command; proof_is = f.1.proof_is; out_is = refl; script_is = refl; options_are = refl; draw_is = refl } };
+    })

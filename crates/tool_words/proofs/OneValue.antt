@@ -20,10 +20,10 @@ use Rattle.clap.specs.ValueTests.{accepts}
 use Rattle.clap.proofs.ValueTestLemmas.{accepts-Accepts}
 use Rattle.clap.specs.Walk.{Text, Rule, Row, Held, Names, Walk, Waiting, Step, Outcome, idle, option, positional, next, trailing, subcommand, value, done, waits, plain, refused}
 use Rattle.clap.specs.Walk.{first_of, one_of, row_text, at_row, more_values, with_values, without, reading_by, action_of, with_default, settled, settled_rows, used, used_as, used_by_id, values_or_missing, has_row, plain_word, option_word, long_met, short_met, option_met, flag_met, has_long, default_rows, long_or_other, short_or_plain, after_flag, bundle, bundle_met, bundle_step, word_met, walked, walked_from, walk, walk_from, after_step, to_positional, arg_by_id, arg_by_index, arg_by_long, arg_by_short, is_pending, finished, nothing_held, rows_after, takes_several, takes_values, most_values}
-use Rattle.clap.specs.Simple.{Shape, filled}
+use Rattle.clap.specs.Simple.{Shape}
 use Rattle.clap.specs.Takes.{is_given}
 use Rattle.clap.specs.Faults.{level_fault, check_fault, walk_fault, turn_fault, word_fault, flag_word_fault, long_fault, option_fault, positional_fault, stray_fault, step_fault, settle_fault, use_fault, set_fault, action_fault, repeat_fault, values_fault, react_fault, defaults_fault}
-use Rattle.tool_words.specs.Words.{number_option, IsWithin}
+use Rattle.tool_words.specs.Words.{IsWithin}
 
 -- ---- the first of several faults
 
@@ -288,28 +288,33 @@ number_passes least most v vs e = accepts-Accepts false (Unsigned least most) v 
     go true e = refl
     go false e = let q : ⊥ = cc in absurd q
 
--- a row of a number's option
-number_in_row : (c : List Rule) (id : Text) (least most : ℕ) (r : Row) → IsFine c r → arg_by_id c r.id ≡ Some (filled (number_option id least most)) → IsWithin least most (row_text r)
-number_in_row c id least most r fine e =
-    let same : fine.rule ≡ filled (number_option id least most) = let i : Some fine.rule ≡ Some (filled (number_option id least most)) = sym fine.known ∙ e in cc in
-    go r.values r.reading fine.full (subst (λ (a : Rule). values_fault a r.values ≡ []) same fine.good) (fine.reading ∙ ap reading_by same)
+-- a rule of numbers, at least and at most so many
+pub record TakesNumber (a : Rule) (least most : ℕ) : Type 0 where
+  pub values : (values : List Text) → values_fault a values ≡ values_kinds false (Unsigned least most) values
+  pub reading : reading_by a ≡ AsWritten
+
+-- a row of such a rule
+number_in_row : (c : List Rule) (a : Rule) (least most : ℕ) → TakesNumber a least most → (r : Row) → IsFine c r → arg_by_id c r.id ≡ Some a → IsWithin least most (row_text r)
+number_in_row c a least most n r fine e =
+    let same : fine.rule ≡ a = let i : Some fine.rule ≡ Some a = sym fine.known ∙ e in cc in
+    go r.values r.reading fine.full (sym (n.values r.values) ∙ subst (λ (x : Rule). values_fault x r.values ≡ []) same fine.good) (fine.reading ∙ ap reading_by same ∙ n.reading)
   where
     go : (values : List Text) (how : Reading) → 0 < length values → values_kinds false (Unsigned least most) values ≡ [] → how ≡ AsWritten → IsWithin least most (option_map (read_as how) (slice_get values 0))
     go [] how lt e w = absurd (omega (arith, lt))
     go (v ∷ vs) how lt e w = subst (λ (x : Reading). IsWithin least most (Some (read_as x v))) (sym w) (number_passes least most v vs e)
 
-pub number_of_option : (c : List Rule) (id : Text) (least most : ℕ) → arg_by_id c id ≡ Some (filled (number_option id least most)) → (rows : List Row) → AreFine c rows → IsWithin least most (one_of id rows)
-number_of_option c id least most known [] h = tt
-number_of_option c id least most known (r ∷ rows) h = go (bytes_eq r.id id) refl (number_of_option c id least most known rows h.1)
+pub number_of_rule : (c : List Rule) (id : Text) (a : Rule) (least most : ℕ) → TakesNumber a least most → arg_by_id c id ≡ Some a → (rows : List Row) → AreFine c rows → IsWithin least most (one_of id rows)
+number_of_rule c id a least most n known [] h = tt
+number_of_rule c id a least most n known (r ∷ rows) h = go (bytes_eq r.id id) refl (number_of_rule c id a least most n known rows h.1)
   where
     go : (b : Bool) → bytes_eq r.id id ≡ b → IsWithin least most (one_of id rows) → IsWithin least most (option_and_then row_text (if b then Some r else find (λ (x : Row). bytes_eq x.id id) rows))
-    go true e rest = number_in_row c id least most r h.0 (ap (arg_by_id c) ((bytes_eq-Decides r.id id).0 e) ∙ known)
+    go true e rest = number_in_row c a least most n r h.0 (ap (arg_by_id c) ((bytes_eq-Decides r.id id).0 e) ∙ known)
     go false e rest = rest
 
--- a command without the option has no row of it
-pub no_option : (c : List Rule) (id : Text) (least most : ℕ) → arg_by_id c id ≡ None → (rows : List Row) → AreFine c rows → IsWithin least most (one_of id rows)
-no_option c id least most none [] h = tt
-no_option c id least most none (r ∷ rows) h = go (bytes_eq r.id id) refl (no_option c id least most none rows h.1)
+-- a command without the rule has no row of it
+pub no_rule : (c : List Rule) (id : Text) (least most : ℕ) → arg_by_id c id ≡ None → (rows : List Row) → AreFine c rows → IsWithin least most (one_of id rows)
+no_rule c id least most none [] h = tt
+no_rule c id least most none (r ∷ rows) h = go (bytes_eq r.id id) refl (no_rule c id least most none rows h.1)
   where
     go : (b : Bool) → bytes_eq r.id id ≡ b → IsWithin least most (one_of id rows) → IsWithin least most (option_and_then row_text (if b then Some r else find (λ (x : Row). bytes_eq x.id id) rows))
     go true e rest =

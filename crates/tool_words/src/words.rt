@@ -15,6 +15,8 @@ pub enum Command {
     Cnf,
     /// To read a proof of the first format, which stands in a file, and to write it in the second into another.
     Convert,
+    /// To answer a script that is drawn, to write its proof into a file, and to sum up the answers.
+    Drill,
 }
 
 /// How many workers search, and within which limits.
@@ -37,6 +39,15 @@ impl Options {
     };
 }
 
+/// Which script is drawn.
+#[derive(Clone, Copy, Debug, PartialEq, Eq)]
+pub struct Draw {
+    /// The number that it is drawn from.
+    pub seed: u64,
+    /// How many words it has, from 1 to 1000.
+    pub size: u32,
+}
+
 /// A command with its files and numbers.
 #[derive(Clone, Copy, Debug)]
 pub struct Plan<'a> {
@@ -48,6 +59,8 @@ pub struct Plan<'a> {
     /// The name of the file of the script, or of the clauses; without one that is read from standard input.
     pub script: Option<&'a str>,
     pub options: Options,
+    /// The script that is drawn: of seed 0 and size 0, but for `drill`.
+    pub draw: Draw,
 }
 
 /// Why there is no plan.
