@@ -23,10 +23,11 @@ use Rattle.cube_search.specs.declared.keeper.Keeper.{Keeper}
 use Rattle.cube_search.specs.declared.search.Search.{Search}
 use Rattle.cdcl_loop.specs.declared.engine.Engine.{Engine}
 use Rattle.cube_search.specs.Holding.{IsForeign, AreSeparate, IsTold, IsHolding, IsBrought, IsFilling, IsSorted, AreLeft}
-use Rattle.cube_search.specs.Keeping.{HasLine, IsKept, IsTaken, IsNotedMore, is_theory, state_in}
+use Rattle.cube_search.specs.Keeping.{HasLine, AreEqualitiesFirst, IsKept, IsTaken, IsNotedMore, is_theory, state_in}
 use Rattle.cube_search.specs.Running.{variables_in, given_in, IsSearch, IsSearchOf, IsAdding}
 use Rattle.cube_search.specs.Later.{MoreStepsKeepSearches, MoreStepsKeepDiaries}
 use Rattle.cube_search.proofs.Filling.{brought_kept, filling_more}
+use Rattle.cube_search.proofs.FirstTaken.{first_take}
 use Rattle.cube_search.proofs.Keeping.{held_here, held_still, line_still}
 use Rattle.cube_search.proofs.Later.{chain_entry, longer_search, longer_told, longer_kept, longer_below}
 use Rattle.cube_search.proofs.Moving.{search_moved, left_kept}
@@ -84,6 +85,7 @@ module _ (g : Subject) (k l : Keeper) (at : ℕ) (t : IsTaken k l at) (within : 
         (Contains-push_cases positions at p c);
     lines = λ p h. subst (λ (ls : List DiaryLine). HasLine ls p) (sym t.lines) (line_still k.lines.items (Take at) p h);
     later = λ p c. ⊎_elim (λ old. old) (λ q. let f : ⊥ = cc in absurd f) (Contains-push_cases k.lines.items (Take at) (Put p) (subst (λ (ls : List DiaryLine). Contains ls (Put p)) t.lines c));
+    first = λ h. subst (λ (ls : List DiaryLine). AreEqualitiesFirst g.log g.from ls) (sym t.lines) (first_take g.log g.from k.lines.items at h);
   }
 
 pub noted_same : (g : Subject) (k : Keeper) (positions : List ℕ) → IsNotedMore g k k positions positions
@@ -100,6 +102,7 @@ noted_same g k positions = record {
   lined = λ p c. inl c;
   lines = λ p h. h;
   later = λ p c. c;
+  first = λ h. h;
 }
 
 pub noted_then : (g : Subject) (k l m : Keeper) (ps qs rs : List ℕ) → ((p : ℕ) → Contains qs p → Contains rs p) → IsNotedMore g k l ps qs → IsNotedMore g l m qs rs → IsNotedMore g k m ps rs
@@ -116,6 +119,7 @@ noted_then g k l m ps qs rs more a b = record {
   lined = λ p c. ⊎_elim (λ x. ⊎_elim (λ y. inl y) (λ y. inr (b.lines p y)) (a.lined p x)) (λ x. inr x) (b.lined p c);
   lines = λ p h. b.lines p (a.lines p h);
   later = λ p c. a.later p (b.later p c);
+  first = λ h. b.first (a.first h);
 }
 
 -- ---- their clauses
@@ -321,6 +325,7 @@ module _ (nodes : List Node) (log : List Entry) (given : List Literal) (from see
     start = omega (arith, h.start, more.start);
     begun = omega (arith, h.begun, more.start);
     later = λ p c. omega (arith, more.start, h.later p (more.later p c));
+    first = more.first h.first;
   }
 
 -- ---- a log that equalities and lemmas were added to

@@ -20,6 +20,7 @@ use Rattle.cdcl_core.specs.Search.{clause_of, held_of}
 use Rattle.cube_search.specs.Holding.{IsForeign, AreSeparate, IsHolding, ArePlaced}
 use Rattle.cube_search.specs.Keeping.{IsKept, IsTaken, IsNoting, IsNotedAll, state_in}
 use Rattle.cube_search.specs.declared.keeper.Keeper.{Keeper}
+use Rattle.cube_search.proofs.FirstTaken.{first_none}
 use Rattle.cube_search.proofs.Keeping.{held_here, held_still}
 use Rattle.cube_search.proofs.Later.{chain_entry, chain_within}
 
@@ -104,6 +105,7 @@ begun g w variables opening taken k seen holding placed h start taken_held openi
   start = omega (arith, start, placed.from_seen);
   begun = omega (arith, start);
   later = λ p c. absurd (h.takes p c);
+  first = first_none g.log g.from k.lines.items h.takes;
 }
   where
     blank_held : (p : ℕ) → p < g.from → is_chain (entry_at g.log p) ≡ false → (blank g).held p ≡ true

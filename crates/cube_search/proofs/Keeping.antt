@@ -20,9 +20,10 @@ use Rattle.cdcl_core.proofs.Held.{held_kept}
 use Rattle.cdcl_loop.specs.Engines.{IsSameBut}
 use Rattle.cdcl_learn.specs.Puts as learnt
 use Rattle.cube_search.specs.Holding.{IsForeign}
-use Rattle.cube_search.specs.Keeping.{HasLine, IsKept, state_in}
+use Rattle.cube_search.specs.Keeping.{HasLine, AreEqualitiesFirst, IsKept, state_in}
 use Rattle.cube_search.specs.declared.keeper.Keeper.{Keeper}
 use Rattle.cube_search.proofs.Filling.{same_id}
+use Rattle.cube_search.proofs.FirstTaken.{first_take, first_drop, first_put}
 
 -- ---- what is held after a line
 
@@ -121,8 +122,8 @@ module _ (g : Subject) (w v : Watches) (variables : List ℕ) (k l : Keeper) (se
   lined_still : (line : DiaryLine) → l.lines.items ≡ k.lines.items ++ line ∷ [] → (p : ℕ) → l.start ≤ p → p < seen → is_chain (entry_at g.log p) ≡ true → HasLine l.lines.items p
   lined_still line e p le lt c = subst (λ ls. HasLine ls p) (sym e) (line_still k.lines.items line p (h.lined p (omega (arith, le, same)) lt c))
 
-  pub kept_put : l.lines.items ≡ k.lines.items ++ Put at ∷ [] → l.puts ≡ k.puts + 1 → l.chains ≡ k.chains + 1 → l.left ≡ allowed l.puts l.chains → IsLine g (state_in g k) (Put at) → k.start ≤ at → held_of v (record { pos = at; part = 0 }) ≡ Some clause → IsKept g v variables l seen
-  kept_put e puts chains left line start here =
+  pub kept_put : l.lines.items ≡ k.lines.items ++ Put at ∷ [] → l.puts ≡ k.puts + 1 → l.chains ≡ k.chains + 1 → l.left ≡ allowed l.puts l.chains → IsLine g (state_in g k) (Put at) → k.start ≤ at → ((q t u : ℕ) → g.from ≤ q → q < at → entry_at g.log q ≡ Some (step.Equal t u) → Contains k.lines.items (Take q)) → held_of v (record { pos = at; part = 0 }) ≡ Some clause → IsKept g v variables l seen
+  kept_put e puts chains left line start equalities here =
       let s = after (Put at) e in
       record {
         stand = stands (Put at) e line;
@@ -139,6 +140,7 @@ module _ (g : Subject) (w v : Watches) (variables : List ℕ) (k l : Keeper) (se
         start = omega (arith, same, h.start);
         begun = omega (arith, same, h.begun);
         later = λ p c. ⊎_elim (λ old. omega (arith, same, h.later p old)) (λ q. let r : at ≡ p = cc in omega (arith, r, start, same)) (Contains-push_cases k.lines.items (Put at) (Put p) (subst (λ ls. Contains ls (Put p)) e c));
+        first = subst (λ ls. AreEqualitiesFirst g.log g.from ls) (sym e) (first_put g.log g.from k.lines.items at equalities h.first);
       }
 
   pub kept_take : l.lines.items ≡ k.lines.items ++ Take at ∷ [] → l.puts ≡ k.puts → l.chains ≡ k.chains → l.left ≡ 0 → at ≤ length g.log → clause_of v (record { pos = at; part = 0 }) ≡ Some clause → (held_of v (record { pos = at; part = 0 }) ≡ Some clause) ⊎ IsForeign variables clause → IsKept g v variables l seen
@@ -156,6 +158,7 @@ module _ (g : Subject) (w v : Watches) (variables : List ℕ) (k l : Keeper) (se
         start = omega (arith, same, h.start);
         begun = omega (arith, same, h.begun);
         later = λ p c. ⊎_elim (λ old. omega (arith, same, h.later p old)) (λ q. let f : ⊥ = cc in absurd f) (Contains-push_cases k.lines.items (Take at) (Put p) (subst (λ ls. Contains ls (Put p)) e c));
+        first = subst (λ ls. AreEqualitiesFirst g.log g.from ls) (sym e) (first_take g.log g.from k.lines.items at h.first);
       }
 
   pub kept_drop : l.lines.items ≡ k.lines.items ++ Drop at ∷ [] → l.puts ≡ k.puts → l.chains ≡ k.chains - 1 → l.left ≡ k.left - 1 → 0 < k.left → ((id : ClauseId) (c : List Literal) → clause_of w id ≡ Some c → look_of g id ≡ Some c) → (c : List Literal) → clause_of w (record { pos = at; part = 0 }) ≡ Some c → clause_of v (record { pos = at; part = 0 }) ≡ None → IsKept g v variables l seen
@@ -173,6 +176,7 @@ module _ (g : Subject) (w v : Watches) (variables : List ℕ) (k l : Keeper) (se
         start = omega (arith, same, h.start);
         begun = omega (arith, same, h.begun);
         later = λ p x. ⊎_elim (λ old. omega (arith, same, h.later p old)) (λ q. let f : ⊥ = cc in absurd f) (Contains-push_cases k.lines.items (Drop at) (Put p) (subst (λ ls. Contains ls (Put p)) e x));
+        first = subst (λ ls. AreEqualitiesFirst g.log g.from ls) (sym e) (first_drop g.log g.from k.lines.items at h.first);
       }
 
 -- ---- hints that are used

@@ -21,9 +21,10 @@ use Rattle.cdcl_core.specs.declared.watches.Watches.{Watches}
 use Rattle.cdcl_core.specs.Search.{clause_of, held_of}
 use Rattle.cdcl_learn.specs.Puts.{StandsIn, IsAgainst}
 use Rattle.cube_search.specs.Holding.{AreAmong, IsTold}
-use Rattle.cube_search.specs.Keeping.{IsKept}
+use Rattle.cube_search.specs.Keeping.{AreEqualitiesFirst, IsKept}
 use Rattle.cube_search.specs.declared.keeper.Keeper.{Keeper}
 use Rattle.cube_search.specs.Running.{IsSearchOf}
+use Rattle.cube_search.proofs.FirstTaken.{put_within, first_longer}
 use Rattle.cube_search.proofs.Longer.{IsExtended, log_longer, entry_longer, longer_holds, clause_longer, diary_longer}
 use Rattle.cube_search.proofs.Told.{told_agrees}
 
@@ -113,6 +114,8 @@ kept_extended g g' w variables k seen p from within same h =
       start = omega (arith, h.start, p.from);
       begun = h.begun;
       later = h.later;
+      first = subst (λ from. AreEqualitiesFirst g'.log from k.lines.items) (sym p.from)
+          (first_longer g.log g'.log g.from k.lines.items (put_within g (blank g) k.lines.items h.stand) (entry_longer g.log g'.log p.more p.is) h.first);
     }
 
 pub longer_kept : (nodes : List Node) (log log' extra : List Entry) (given : List Literal) (from seen : ℕ) (w : Watches) (variables : List ℕ) (k : Keeper) → log' ≡ log ++ extra → from ≤ suc (length log) → seen ≤ suc (length log) → IsKept (record { nodes = nodes; log = log; given = given; from = from }) w variables k seen → IsKept (record { nodes = nodes; log = log'; given = given; from = from }) w variables k seen

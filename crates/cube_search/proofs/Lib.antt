@@ -2,6 +2,7 @@ pub mod Told
 pub mod Filling
 pub mod Leaving
 pub mod Longer
+pub mod FirstTaken
 pub mod Later
 pub mod Keeping
 pub mod Putting

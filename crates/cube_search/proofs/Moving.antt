@@ -60,6 +60,7 @@ kept_same g w v variables k seen same h = record {
   start = h.start;
   begun = h.begun;
   later = h.later;
+  first = h.first;
 }
 
 -- ---- a chain at a position

@@ -13,6 +13,8 @@ use Rattle.proof_log.specs.Logs.{entry_at}
 use Rattle.proof_log.specs.Diaries.{Subject, DiaryState, is_chain, blank, IsGoodPut, line_after, AreLines, lines_after, IsSpent}
 use Rattle.proof_log.proofs.Lines.{IsProlonged, diary_longer}
 use Rattle.cube_search.specs.Ends.{IsSpentDiary}
+use Rattle.cube_search.specs.Holding.{AreOwnHeld}
+use Rattle.cube_search.specs.Keeping.{IsInOrder}
 
 -- the same log and the same literals, from another position on
 abbrev pub started_at : Subject → ℕ → Subject
@@ -89,6 +91,20 @@ spent_from_start g knows told budget d one chains h = spent_from g d.start budge
   where
     here : (p : ℕ) → g.from ≤ p → p < d.start → is_chain (entry_at g.log p) ≡ true
     here p ge lt = let q = entry_here g.log p (omega (arith, one, ge)) (omega (arith, lt, h.within)) in ap is_chain q.1 ∙ chains p q.0 ge q.1
+
+-- a diary that starts at its own start, or before it at the search's own position, takes equalities first
+pub order_from : (g : Subject) (knows : ℕ → Type 0) (told : Sync) (budget : ℕ) (d : Diary) (start : ℕ) → g.from ≤ start → start ≤ d.start → IsSpentDiary g knows told budget d → IsInOrder g.log start d.lines
+order_from g knows told budget d start low high h = record {
+  later = λ p c. (let le = h.later p c in omega (arith, high, le));
+  first = λ before behind p q t u e le lt there. h.first before behind p q t u e (omega (arith, low, le)) lt there;
+}
+
+-- where from a position on there are chains alone, no other step is the search's own
+pub own_chains : (log : List Entry) (positions : List ℕ) (from : ℕ) → 0 < from → ((at : ℕ) (e : Entry) → from ≤ at → entry_at log at ≡ Some e → is_chain (Some e) ≡ true) → AreOwnHeld log positions from
+own_chains log positions from one chains = λ p ge le plain.
+    let q = entry_here log p (omega (arith, one, ge)) le in
+    let f : true ≡ false = sym (chains p q.0 ge q.1) ∙ sym (ap is_chain q.1) ∙ plain in
+    let x : ⊥ = cc in absurd x
 
 -- and it has where more was put on the log since
 pub spent_longer : (g g' : Subject) (budget : ℕ) (ls : List DiaryLine) → IsProlonged g g' → g.from ≤ suc (length g.log) → IsSpent g budget ls → IsSpent g' budget ls

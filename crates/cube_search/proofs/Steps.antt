@@ -1,7 +1,8 @@
 -- What a call leaves of a search.
-use Rattle.std.proofs.Common.{◌≡◌, ℕ, suc, ◌+◌, ◌-◌, ◌<◌, ◌≤◌, Bool, true, List, [], ◌∷◌, ◌++◌, length, Option, Some, None, Result, Ok, Err, refl, sym, ap, ◌∙◌, subst, inl, inr, ⊎_elim, arith}
-use Rattle.std.specs.Prelude.{◌⊎◌, Contains, IfOk, OnOk, MatchOption}
+use Rattle.std.proofs.Common.{◌≡◌, ℕ, suc, ◌+◌, ◌-◌, ◌<◌, ◌≤◌, Bool, true, false, not, List, [], ◌∷◌, ◌++◌, length, Option, Some, None, Result, Ok, Err, refl, sym, ap, ◌∙◌, subst, inl, inr, ⊎_elim, arith}
+use Rattle.std.specs.Prelude.{◌⊎◌, Contains, ltb, IfOk, OnOk, MatchOption}
 use Rattle.std.specs.declared.alloc.AllocError.{AllocError}
+use Rattle.std.proofs.lemmas.Bool.{ltb-true, and_parts, both_ways}
 use Rattle.std.proofs.lemmas.List.{length_push, take_at}
 use Rattle.std.proofs.lemmas.List.Elements.{Contains-push, Contains-push_cases}
 use Rattle.cnf_base.specs.Literals.{Literal}
@@ -21,22 +22,22 @@ use Rattle.proof_log.proofs.Lines.{spent}
 use Rattle.cdcl_core.specs.Levels.{IsTrueBy}
 use Rattle.cdcl_core.specs.declared.watches.Watches.{Watches}
 use Rattle.cdcl_core.specs.Search.{literals_of, level_of, clause_of, held_of}
+use Rattle.cdcl_core.proofs.Held.{held_kept}
 use Rattle.cdcl_learn.specs.Puts.{IsAgainst}
-use Rattle.cdcl_learn.proofs.Lists.{member_cases}
-use Rattle.cnf_base.proofs.Lists.{Contains-nil}
 use Rattle.cube_search.specs.declared.search.Search.{Search}
 use Rattle.proof_log.specs.declared.diary.Diary.{Diary}
-use Rattle.cube_search.specs.Holding.{AreAmong, IsForeign, IsTold, IsAdmitted}
+use Rattle.cube_search.specs.Holding.{AreAmong, IsForeign, IsTold, IsAdmitted, AreOwnHeld}
 use Rattle.cube_search.specs.declared.keeper.Keeper.{Keeper}
-use Rattle.cube_search.specs.Keeping.{HasLine, IsKept, IsTaken, state_in}
-use Rattle.cube_search.specs.Running.{variables_in, given_in, IsSearch, IsSearchOf, IsRunning, IsWriting, IsUpToDate, IsCaughtUp, HasLooked, IsSameRun, IsLearnt, IsKeptAt, subject_of}
+use Rattle.cube_search.specs.Keeping.{HasLine, AreEqualitiesFirst, IsKept, IsTaken, state_in}
+use Rattle.cube_search.specs.Running.{variables_in, given_in, IsSearch, IsSearchOf, IsRunning, IsWriting, IsReadyToPut, IsUpToDate, IsCaughtUp, HasLooked, IsSameRun, IsLearnt, IsKeptAt, subject_of}
 use Rattle.cube_search.specs.Ends.{IsClosing, IsEarlierPut, IsSpentDiary, IsEnd, IsModelEnd}
 use Rattle.cube_search.specs.declared.ends.End.{End}
 use Rattle.cube_search.specs.declared.ends.End.TheVariants.{Closed, Model, Spent, Stopped}
 use Rattle.cdcl_loop.specs.declared.engine.Engine.{Engine}
 use Rattle.cdcl_loop.specs.Engines.{IsEngine, IsOnCourse, IsSameStore, IsSameBut, IsSameTask}
 use Rattle.cdcl_loop.proofs.Courses.{true_later}
-use Rattle.cube_search.proofs.Keeping.{kept_put, kept_take, line_still}
+use Rattle.cube_search.proofs.FirstTaken.{put_chain, put_within, first_put, own_grown, equality_clause}
+use Rattle.cube_search.proofs.Keeping.{kept_put, kept_take, line_still, lined_held}
 use Rattle.cube_search.proofs.Putting.{good_put}
 use Rattle.cube_search.proofs.Later.{learnt_among, search_later, told_later, below_later, kept_later, chain_within, chain_entry}
 use Rattle.cube_search.proofs.Moving.{search_moved, kept_moved, search_same, search_held, search_stored, kept_same}
@@ -106,17 +107,33 @@ looked_still s t log told told' e f h = record {
 pub looked_before : (s : Search) (log log' : List Entry) (told : Sync) → Grows log log' → HasLooked s log' told → HasLooked s log told
 looked_before s log log' told grows h = record { before = let le = grown_length log log' grows in omega (arith, le, h.before); kept = h.kept }
 
-put_within : (g : Subject) (s : DiaryState) (ls : List DiaryLine) → AreLines g s ls → (p : ℕ) → Contains ls (Put p) → p ≤ length g.log
-put_within g s [] h p c = absurd (Contains-nil (Put p) c)
-put_within g s (Take q ∷ ls) h p c = ⊎_elim (λ e. let f : ⊥ = cc in absurd f) (λ k. put_within g (line_after g s (Take q)) ls h.1 p k) (member_cases (Take q) (Put p) ls c)
-put_within g s (Put q ∷ ls) h p c = ⊎_elim
-    (λ e. let same : q ≡ p = cc in let le = entry_within g.log q (step.Chain h.0.0 h.0.1) h.0.2 in omega (arith, same, le))
-    (λ k. put_within g (line_after g s (Put q)) ls h.1 p k)
-    (member_cases (Put q) (Put p) ls c)
-put_within g s (Drop q ∷ ls) h p c = ⊎_elim (λ e. let f : ⊥ = cc in absurd f) (λ k. put_within g (line_after g s (Drop q)) ls h.1 p k) (member_cases (Drop q) (Put p) ls c)
-
 earlier_put : (ls : List DiaryLine) (l : DiaryLine) (p : ℕ) → IsEarlierPut (ls ++ l ∷ []) p → Contains ls (Put p)
 earlier_put ls l p c = subst (λ (ks : List DiaryLine). Contains ks (Put p)) (take_at ls (l ∷ []) (length (ls ++ l ∷ []) - 1) (let n = length_push ls l in omega (arith, n))) c
+
+-- ---- equalities
+
+-- a search of the same positions holds all of its own steps that are no chains' too
+pub own_same : (s t : Search) (log : List Entry) → t.opening ≡ s.opening → t.from ≡ s.from → AreOwnHeld log s.opening.items s.from → AreOwnHeld log t.opening.items t.from
+own_same s t log opening from h =
+    subst (λ (ps : List ℕ). AreOwnHeld log ps t.from) (sym (ap (λ v. v.items) opening))
+    (subst (λ (n : ℕ). AreOwnHeld log s.opening.items n) (sym from) h)
+
+-- also where chains were added
+pub own_later : (s t : Search) (log log' : List Entry) → IsSameRun s t → Grows log log' → AreOwnHeld log s.opening.items s.from → AreOwnHeld log' t.opening.items t.from
+own_later s t log log' run g h = own_same s t log' run.opening run.from (own_grown log log' s.opening.items s.from g h)
+
+-- those among its own steps were taken
+pub equality_taken : (s : Search) (nodes : List Node) (log : List Entry) → IsRunning s nodes log → IsWriting s nodes log → AreOwnHeld log s.opening.items s.from → (q t u : ℕ) → s.from ≤ q → q ≤ length log → entry_at log q ≡ Some (step.Equal t u) → Contains s.diary.lines.items (Take q)
+equality_taken s nodes log run w own q t u ge le e =
+    let g = subject_of s nodes log in
+    let plain : is_chain (entry_at log q) ≡ false = ap is_chain e in
+    let c = equality_clause nodes log q t u run.1.listed run.1.stands e in
+    let held = run.1.holding.complete (record { pos = q; part = 0 }) c.0 (own q ge le plain) c.1 in
+    let there = w.held (record { pos = q; part = 0 }) c.0 (held_kept s.engine.watches (record { pos = q; part = 0 }) c.0 held) in
+    ⊎_elim
+    (λ b. (let lt = ltb-true q s.from (and_parts (ltb q s.from) (not (is_chain (entry_at log q))) b).0 in absurd (omega (arith, lt, ge))))
+    (λ l. ⊎_elim (λ k. k) (λ k. absurd (both_ways (is_chain (entry_at log q)) plain (put_chain g (blank g) s.diary.lines.items w.stand q k))) l)
+    (lined_held g (blank g) s.diary.lines.items q there)
 
 -- ---- a learnt clause that is kept
 
@@ -160,20 +177,27 @@ module _ (s t : Search) (nodes nodes' : List Node) (log log' : List Entry) (know
     subst (λ (l : List Literal). AreBelow (state_of nodes' log').next l) (sym (same_given s t same)) after.3,
   )
 
-  pub kept_writing : IsSameRun s t → IsKeptAt s t clause level at → IsWriting s nodes log → IsWriting t nodes' log'
-  kept_writing same k w =
+  equalities_taken : IsReadyToPut s nodes log → (q t u : ℕ) → s.from ≤ q → q < at → entry_at log' q ≡ Some (step.Equal t u) → Contains s.diary.lines.items (Take q)
+  equalities_taken h q t u ge lt e =
+      equality_taken s nodes' log' after (writing_later s nodes nodes' log log' known known' later run h.0)
+      (own_grown log log' s.opening.items s.from later.grows h.1) q t u ge
+      (entry_within log' q (step.Equal t u) e) e
+
+  pub kept_writing : IsSameRun s t → IsKeptAt s t clause level at → IsReadyToPut s nodes log → IsWriting t nodes' log'
+  kept_writing same k h =
+      let w = h.0 in
       kept_moved nodes' log' (given_in s) (given_in t) s.from t.from t.engine.watches t.engine.watches (variables_in s) (variables_in t) t.diary s.seen t.seen
       (same_given s t same) same.from refl same.listed k.seen
       (kept_put (subject_of s nodes' log') s.engine.watches t.engine.watches (variables_in s) s.diary t.diary s.seen at clause learnt.hints there k.others k.start
-      (writing_later s nodes nodes' log log' known known' later run w) k.lines k.puts k.chains k.left (learnt_line w) (omega (arith, w.begun, unseen)) k.held)
+      (writing_later s nodes nodes' log log' known known' later run w) k.lines k.puts k.chains k.left (learnt_line w) (omega (arith, w.begun, unseen)) (equalities_taken h) k.held)
 
   -- the last put
   pub spent_diary : (d : Diary) (budget : ℕ) (told : Sync) → IsCaughtUp told log → KnowsOneMore known at known' → s.diary.puts ≡ budget → d.start ≡ s.diary.start → d.lines ≡ s.diary.lines.items ++ Put at ∷ [] → IsUpToDate s nodes log known → IsSpentDiary (subject_of s nodes' log') known' told budget d
   spent_diary d budget told all more full start lines h =
-      let w = writing_later s nodes nodes' log log' known known' later run h.0 in
+      let w = writing_later s nodes nodes' log log' known known' later run h.0.0 in
       record {
         spent = subst (IsSpent (subject_of s nodes' log') budget) (sym lines)
-            (spent (subject_of s nodes' log') s.diary.lines.items at budget w.stand (learnt_line h.0) (w.puts ∙ full));
+            (spent (subject_of s nodes' log') s.diary.lines.items at budget w.stand (learnt_line h.0.0) (w.puts ∙ full));
         imported = λ p le k c. ⊎_elim
             (λ old. subst (λ (ls : List DiaryLine). HasLine ls p) (sym lines) (line_still s.diary.lines.items (Put at) p (h.1 p (omega (arith, le, start)) old (sym (ap is_chain (entry_stays log log' p later.grows (h.2 p old))) ∙ c))))
             (λ e. subst (λ (ls : List DiaryLine). HasLine ls p) (sym lines) (inr (subst (λ q. Contains (s.diary.lines.items ++ Put at ∷ []) (Put q)) (sym e) (Contains-push s.diary.lines.items (Put at)))))
@@ -186,8 +210,9 @@ module _ (s t : Search) (nodes nodes' : List Node) (log log' : List Entry) (know
             (Contains-push_cases s.diary.lines.items (Put at) (Put p) (subst (λ (ls : List DiaryLine). Contains ls (Put p)) lines c));
         looked = λ p c.
             let k = earlier_put s.diary.lines.items (Put at) p (subst (λ (ls : List DiaryLine). IsEarlierPut ls p) lines c) in
-            let le = put_within (subject_of s nodes log) (blank (subject_of s nodes log)) s.diary.lines.items h.0.stand p k in
+            let le = put_within (subject_of s nodes log) (blank (subject_of s nodes log)) s.diary.lines.items h.0.0.stand p k in
             omega (arith, all, le);
+        first = subst (λ (ls : List DiaryLine). AreEqualitiesFirst log' s.from ls) (sym lines) (first_put log' s.from s.diary.lines.items at (equalities_taken h.0) w.first);
       }
 
 -- ---- calls that end in another
@@ -284,6 +309,7 @@ kept_seen g w variables k seen n le lined h = record {
   start = h.start;
   begun = omega (arith, h.begun, le);
   later = h.later;
+  first = h.first;
 }
 
 pub run_then : (a b c : Search) → IsSameRun a b → IsSameRun b c → IsSameRun a c
@@ -344,7 +370,7 @@ module _ (s : Search) (n : Engine) (task : IsSameTask s.engine n) where
         (kept_same (subject_of s nodes log) s.engine.watches n.watches (variables_in s) s.diary s.seen store h)
 
     pub moved_upto : (known : ℕ → Type 0) → IsUpToDate s nodes log known → IsUpToDate (record s { engine = n }) nodes log known
-    moved_upto known h = (moved_writing h.0, h.1, h.2)
+    moved_upto known h = ((moved_writing h.0.0, h.0.1), h.1, h.2)
 
 -- the same watches hold the same clauses
 pub same_store : (w v : Watches) → v ≡ w → IsSameStore w v
@@ -370,13 +396,15 @@ module _ (s t u : Search) (n : Engine) (nodes nodes' : List Node) (log log' : Li
         moved_running u n task (same_store u.engine.watches n.watches watches) nodes' log' engine2 course2
         (kept_running s u nodes nodes' log log' known known' later clause level at run above learnt (learnt_same s t u e same) (learnt_kept s t u e clause level at kept) engine conflict_course)
 
-    pub conflict_writing : IsWriting s nodes log → IsWriting (record u { engine = n }) nodes' log'
-    conflict_writing w =
-        moved_writing u n task (same_store u.engine.watches n.watches watches) nodes' log'
-        (kept_writing s u nodes nodes' log log' known known' later clause level at run above learnt (learnt_same s t u e same) (learnt_kept s t u e clause level at kept) w)
-
     pub conflict_same : IsSameRun s (record u { engine = n })
     conflict_same = run_then s u (record u { engine = n }) (learnt_same s t u e same) (moved_same u n task)
+
+    pub conflict_writing : IsReadyToPut s nodes log → IsReadyToPut (record u { engine = n }) nodes' log'
+    conflict_writing h = (
+      moved_writing u n task (same_store u.engine.watches n.watches watches) nodes' log'
+          (kept_writing s u nodes nodes' log log' known known' later clause level at run above learnt (learnt_same s t u e same) (learnt_kept s t u e clause level at kept) h),
+      own_later s (record u { engine = n }) log log' conflict_same later.grows h.1,
+    )
 
 pub end_from : (s : Search) (n : Engine) (new : Search) (task : IsSameTask s.engine n) (nodes nodes' : List Node) (log log' : List Entry) (known known' : ℕ → Type 0) (found : Bool) (told : Sync) (v : ℕ → Bool) (cube budget : ℕ) (r : Result (Option End) AllocError) → (IsUpToDate s nodes log known → IsUpToDate (record s { engine = n }) nodes log known) → IfOk r (λ o. MatchOption o (IsUpToDate (record s { engine = n }) nodes log known → IsUpToDate new nodes' log' known') (IsEnd (IsUpToDate (record s { engine = n }) nodes log known) (subject_of (record s { engine = n }) nodes' log') known' found told s.opening.items v cube budget)) → IfOk r (λ o. MatchOption o (IsUpToDate s nodes log known → IsUpToDate new nodes' log' known') (IsEnd (IsUpToDate s nodes log known) (subject_of s nodes' log') known' found told s.opening.items v cube budget))
 end_from s n new task nodes nodes' log log' known known' found told v cube budget (Err x) w h = tt

@@ -12,7 +12,7 @@ use Rattle.proof_log.specs.Diaries.{Subject, IsSpent}
 use Rattle.cdcl_learn.specs.Puts.{IsAgainst}
 use Rattle.cube_search.specs.declared.ends.End.{End}
 use Rattle.cube_search.specs.declared.ends.End.TheVariants.{Closed, Model, Spent, Stopped}
-use Rattle.cube_search.specs.Keeping.{AreImported}
+use Rattle.cube_search.specs.Keeping.{AreImported, AreEqualitiesFirst}
 
 -- every clause of these positions is true, and each given literal
 pub record IsModel (rows : List (List (List Literal))) (positions : List ℕ) (given : List Literal) (v : ℕ → Bool) : Type 0 where
@@ -28,7 +28,8 @@ abbrev pub IsEarlierPut : List DiaryLine → ℕ → Type 0
 IsEarlierPut lines p = Contains (take (length lines - 1) lines) (Put p)
 
 -- The diary has spent the budget, its puts are from its start on, and from there each chain that is known has a line. It starts
--- where the search's own chains begin or later. Of each of its puts but the last the board told.
+-- where the search's own chains begin or later. Of each of its puts but the last the board told. Each equality among the search's own
+-- steps was taken before what is put behind it.
 pub record IsSpentDiary (g : Subject) (knows : ℕ → Type 0) (told : Sync) (budget : ℕ) (d : Diary) : Type 0 where
   pub spent : IsSpent g budget d.lines
   pub imported : AreImported d.lines g.log knows d.start
@@ -36,6 +37,7 @@ pub record IsSpentDiary (g : Subject) (knows : ℕ → Type 0) (told : Sync) (bu
   pub within : d.start ≤ suc (length g.log)
   pub later : (p : ℕ) → Contains d.lines (Put p) → d.start ≤ p
   pub looked : (p : ℕ) → IsEarlierPut d.lines p → p < told.upto
+  pub first : AreEqualitiesFirst g.log g.from d.lines
 
 -- What an end says of a board after it, of which the search holds these positions from the opening, and of the value of each variable
 -- under the search's true literals. That of a diary it says where the condition holds. A search is stopped only where the board told

@@ -54,6 +54,14 @@ AreSeparate rows log positions from =
     (id : ClauseId) (c : List Literal) → id.pos < from → is_chain (entry_at log id.pos) ≡ false → clause_at rows id ≡ Some c →
     Contains positions id.pos ⊎ ((l : Literal) × Contains c l × (Occurs rows positions l.variable → ⊥))
 
+-- each step from this position on that is no chain's is one of these positions
+abbrev pub AreOwnHeld : List Entry → List ℕ → ℕ → Type 0
+AreOwnHeld log positions from = (p : ℕ) → from ≤ p → p ≤ length log → is_chain (entry_at log p) ≡ false → Contains positions p
+
+-- A search that holds these positions needs no other but chains: none before its own, and of its own it holds all that are no chains'.
+abbrev pub NeedNoOther : List (List (List Literal)) → List Entry → List ℕ → ℕ → Type 0
+NeedNoOther rows log positions from = AreSeparate rows log positions from × AreOwnHeld log positions from
+
 -- What is kept are clauses of the log. Those that are held are of the opening positions and of some that were taken, and have only
 -- these variables; of the opening positions every clause is held, and each of the variables stands in one; and of what was taken,
 -- a clause that is kept and not held has another variable.

@@ -19,6 +19,16 @@ use Rattle.cube_search.specs.Holding.{IsForeign, IsHolding, ArePlaced}
 abbrev pub HasLine : List DiaryLine → ℕ → Type 0
 HasLine lines p = Contains lines (Take p) ⊎ Contains lines (Put p)
 
+-- each equality that stands from this position on and before a put was taken in a line before that put
+abbrev pub AreEqualitiesFirst : List Entry → ℕ → List DiaryLine → Type 0
+AreEqualitiesFirst log from lines =
+    (before behind : List DiaryLine) (p q t u : ℕ) → lines ≡ before ++ Put p ∷ behind → from ≤ q → q < p → entry_at log q ≡ Some (step.Equal t u) → Contains before (Take q)
+
+-- the puts are from this position on, and the equalities that stand from there on come first
+pub record IsInOrder (log : List Entry) (start : ℕ) (lines : List DiaryLine) : Type 0 where
+  pub later : (p : ℕ) → Contains lines (Put p) → start ≤ p
+  pub first : AreEqualitiesFirst log start lines
+
 -- the state after the lines so far
 abbrev pub state_in : Subject → Keeper → DiaryState
 state_in g k = lines_after g (blank g) k.lines.items
@@ -28,8 +38,8 @@ abbrev pub AreChainsKept : Subject → Lookup → Keeper → Type 0
 AreChainsKept g look k = (p : ℕ) → (state_in g k).held p ≡ true → is_chain (entry_at g.log p) ≡ true → (c : List Literal) × (look (record { pos = p; part = 0 }) ≡ Some c)
 
 -- The lines stand; the numbers are theirs, or less; what the search keeps is held by them, and what is held by them is what the search
--- holds, and clauses with a variable that it does not have, of which it keeps the chains'; and from the start on each chain that was seen
--- has a line.
+-- holds, and clauses with a variable that it does not have, of which it keeps the chains'; from the start on each chain that was seen has
+-- a line; and the search's own equalities were taken before what is put behind them.
 pub record IsKept (g : Subject) (w : Watches) (variables : List ℕ) (k : Keeper) (seen : ℕ) : Type 0 where
   pub stand : AreLines g (blank g) k.lines.items
   pub puts : (state_in g k).puts ≡ k.puts
@@ -42,6 +52,7 @@ pub record IsKept (g : Subject) (w : Watches) (variables : List ℕ) (k : Keeper
   pub start : g.from ≤ k.start
   pub begun : k.start ≤ seen
   pub later : (p : ℕ) → Contains k.lines.items (Put p) → k.start ≤ p
+  pub first : AreEqualitiesFirst g.log g.from k.lines.items
 
 -- from the start on each chain that is known has a line
 abbrev pub AreImported : List DiaryLine → List Entry → (ℕ → Type 0) → ℕ → Type 0
@@ -116,3 +127,4 @@ pub record IsNotedMore (g : Subject) (old new : Keeper) (positions positions' : 
   pub lined : (p : ℕ) → Contains positions' p → Contains positions p ⊎ HasLine new.lines.items p
   pub lines : (p : ℕ) → HasLine old.lines.items p → HasLine new.lines.items p
   pub later : (p : ℕ) → Contains new.lines.items (Put p) → Contains old.lines.items (Put p)
+  pub first : AreEqualitiesFirst g.log g.from old.lines.items → AreEqualitiesFirst g.log g.from new.lines.items

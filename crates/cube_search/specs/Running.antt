@@ -19,7 +19,7 @@ use Rattle.cdcl_learn.specs.Puts.{IsGoodPut, IsUnitAfter, StandsIn}
 use Rattle.cdcl_loop.specs.Engines.{IsEngine, IsOnCourse, IsSameBut}
 use Rattle.cdcl_loop.specs.Values.{valuation}
 use Rattle.cube_search.specs.declared.search.Search.{Search}
-use Rattle.cube_search.specs.Holding.{IsLonger, IsTold, IsHolding, IsFilling, ArePlaced, AreStored}
+use Rattle.cube_search.specs.Holding.{IsLonger, IsTold, IsHolding, IsFilling, ArePlaced, AreStored, AreOwnHeld}
 use Rattle.cube_search.specs.Keeping.{IsKept, IsNotedMore, is_theory, AreImported}
 
 -- what is held of a log over its terms
@@ -76,9 +76,13 @@ subject_of s nodes log = record { nodes = nodes; log = log; given = given_in s; 
 abbrev pub IsWriting : Search → List Node → List Entry → Type 0
 IsWriting s nodes log = IsKept (subject_of s nodes log) s.engine.watches (variables_in s) s.diary s.seen
 
--- and each chain that is known, which was seen, has a line in it
+-- and of the search's own steps all that are no chains' are held, equalities among them, so that a clause may be put
+abbrev pub IsReadyToPut : Search → List Node → List Entry → Type 0
+IsReadyToPut s nodes log = IsWriting s nodes log × AreOwnHeld log s.opening.items s.from
+
+-- and each chain that is known, which was seen, has a line in the diary
 abbrev pub IsUpToDate : Search → List Node → List Entry → (ℕ → Type 0) → Type 0
-IsUpToDate s nodes log knows = IsWriting s nodes log × AreImported s.diary.lines.items log knows s.diary.start × ((p : ℕ) → knows p → p ≤ length log)
+IsUpToDate s nodes log knows = IsReadyToPut s nodes log × AreImported s.diary.lines.items log knows s.diary.start × ((p : ℕ) → knows p → p ≤ length log)
 
 -- the board told all that it has seen
 abbrev pub IsCaughtUp : Sync → List Entry → Type 0

@@ -13,7 +13,7 @@ ghost use Rattle.proof_log.specs.Boards.{IsLater};
 ghost use Rattle.proof_log.specs.Diaries.{is_chain};
 ghost use Rattle.cube_search.specs.Holding.{AreSeparate, IsAdmitted, AreLeft};
 ghost use Rattle.cube_search.specs.Keeping.{HasLine, IsTaken, NotesTaken, NotesAdded};
-ghost use Rattle.cube_search.specs.Running.{variables_in, given_in, IsSearch, IsRunning, IsWriting, IsUpToDate, IsCaughtUp, IsSameRun};
+ghost use Rattle.cube_search.specs.Running.{variables_in, given_in, IsSearch, IsRunning, IsWriting, IsReadyToPut, IsUpToDate, IsCaughtUp, IsSameRun};
 
 use crate::bring::are_listed;
 use crate::keeper::Keeper;
@@ -152,7 +152,7 @@ impl Search {
         ensures news { IfOk result
             (λ found. MatchBool found ((B.found board.new ≡ true)
             × ((B.told board.new).found ≡ true))
-            (IsWriting self.old (B.nodes board.old) (B.log board.old)
+            (IsReadyToPut self.old (B.nodes board.old) (B.log board.old)
             → IsUpToDate self.new (B.nodes board.new) (B.log board.new) (B.knows board.new))) }
     {
         let news = board.sync()?;

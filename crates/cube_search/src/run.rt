@@ -5,8 +5,8 @@ ghost use Rattle.cnf_base.specs.Assignments.{AreBelow};
 ghost use Rattle.proof_log.specs.Logs.{state_of};
 ghost use Rattle.proof_log.specs.Boards.{IsLater};
 ghost use Rattle.cdcl_core.specs.Search.{IsConflict};
-ghost use Rattle.cube_search.specs.Holding.{AreSeparate};
-ghost use Rattle.cube_search.specs.Running.{given_in, IsSearch, IsRunning, IsWriting, IsUpToDate, IsCaughtUp, HasLooked, IsSameRun, subject_of, valuation_of};
+ghost use Rattle.cube_search.specs.Holding.{NeedNoOther};
+ghost use Rattle.cube_search.specs.Running.{given_in, IsSearch, IsRunning, IsWriting, IsReadyToPut, IsUpToDate, IsCaughtUp, HasLooked, IsSameRun, subject_of, valuation_of};
 ghost use Rattle.cube_search.specs.Ends.{IsEnd, IsModelEnd};
 
 use crate::ends::End;
@@ -115,12 +115,12 @@ impl Search {
         ensures running { OnOk result (IsRunning self.new (B.nodes board.new) (B.log board.new)) }
         ensures looked { OnOk result (HasLooked self.new (B.log board.old) (B.told board.new)) }
         ensures end { IfOk result
-            (IsEnd (IsWriting self.old (B.nodes board.old) (B.log board.old))
+            (IsEnd (IsReadyToPut self.old (B.nodes board.old) (B.log board.old))
             (subject_of self.old (B.nodes board.new) (B.log board.new)) (B.knows board.new)
             (B.found board.new) (B.told board.new) self.old.opening.items
             (valuation_of self.new) cube budget) }
         ensures model { IfOk result (λ e. IsModelEnd e
-            → IsWriting self.old (B.nodes board.old) (B.log board.old)
+            → IsReadyToPut self.old (B.nodes board.old) (B.log board.old)
             → IsWriting self.new (B.nodes board.new) (B.log board.new)) }
     {
         if self.take_news(board)? {
@@ -152,7 +152,7 @@ impl Search {
         ensures from { self.new.from ≡ self.old.from }
         ensures looked { OnOk result (HasLooked self.new (B.log board.old) (B.told board.new)) }
         ensures end { IfOk result
-            (IsEnd (AreSeparate (state_of (B.nodes board.old) (B.log board.old)).clauses
+            (IsEnd (NeedNoOther (state_of (B.nodes board.old) (B.log board.old)).clauses
             (B.log board.old) self.old.opening.items self.old.from)
             (record {
               nodes = B.nodes board.new;
@@ -164,7 +164,7 @@ impl Search {
             (valuation_of self.new) cube budget) }
         ensures given { OnOk result (given_in self.new ≡ given.now) }
         ensures model { IfOk result (λ e. IsModelEnd e
-            → AreSeparate (state_of (B.nodes board.old) (B.log board.old)).clauses
+            → NeedNoOther (state_of (B.nodes board.old) (B.log board.old)).clauses
             (B.log board.old) self.old.opening.items self.old.from
             → IsWriting self.new (B.nodes board.new) (B.log board.new)) }
     {
@@ -191,13 +191,13 @@ impl Search {
         ensures from { self.new.from ≡ self.old.from }
         ensures looked { OnOk result (HasLooked self.new (B.log board.old) (B.told board.new)) }
         ensures end { IfOk result
-            (IsEnd (IsWriting self.old (B.nodes board.old) (B.log board.old))
+            (IsEnd (IsReadyToPut self.old (B.nodes board.old) (B.log board.old))
             (subject_of self.old (B.nodes board.new) (B.log board.new)) (B.knows board.new)
             (B.found board.new) (B.told board.new) self.old.opening.items
             (valuation_of self.new) cube budget) }
         ensures given { OnOk result (given_in self.new ≡ given.now) }
         ensures model { IfOk result (λ e. IsModelEnd e
-            → IsWriting self.old (B.nodes board.old) (B.log board.old)
+            → IsReadyToPut self.old (B.nodes board.old) (B.log board.old)
             → IsWriting self.new (B.nodes board.new) (B.log board.new)) }
     {
         self.begin_again(given)?;

@@ -16,7 +16,7 @@ use Rattle.cube_search.specs.declared.ends.End.{End}
 use Rattle.cube_search.specs.declared.ends.End.TheVariants as end
 use Rattle.cube_search.specs.Running.{IsSearch}
 use Rattle.cube_search.specs.Ends.{IsEnd, IsSpentDiary}
-use Rattle.cube_search.proofs.Spent.{spent_from_start}
+use Rattle.cube_search.proofs.Spent.{spent_from_start, order_from}
 use Rattle.cube_workers.specs.Searched.{Problem, subject_in, IsProblem, IsSearching, IsEndOf, IsModelOf, AreTried, problem_of, problem}
 use Rattle.cube_workers.proofs.Cubes.{against_given, problem_stays}
 
@@ -40,6 +40,7 @@ end_of p log condition knows told v cube (end.Spent d) h holds lt q =
         start = diary.start;
         within = diary.within;
         spent = subst (λ n. IsSpent (subject_in p log n d.start) p.budget d.lines) (sym q.0) (spent_from_start (subject_in p log cube p.from) knows told p.budget d h.begun h.chains diary);
+        order = order_from (subject_in p log cube p.from) knows told p.budget d d.start diary.start (omega arith) diary;
       },
     )
 end_of p log condition knows told v cube end.Stopped h holds lt q = let g = q.0 in let f : ⊥ = cc in absurd f

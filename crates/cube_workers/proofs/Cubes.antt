@@ -14,7 +14,7 @@ use Rattle.proof_log.specs.declared.entry.Entry.{Entry}
 use Rattle.proof_log.specs.declared.diary.Diary.{Diary}
 use Rattle.proof_log.specs.Logs.{clause_at, entry_at, state_of, IsLog}
 use Rattle.proof_log.specs.Boards.{Grows, IsOfSearch}
-use Rattle.proof_log.specs.Diaries.{is_chain}
+use Rattle.proof_log.specs.Diaries.{is_chain, blank}
 use Rattle.proof_log.proofs.Growth.{grown_holds, grown_length, clause_stays, clause_place, entry_stays}
 use Rattle.proof_log.proofs.Lines.{diary_longer}
 use Rattle.cube_tree.specs.Cubes.{cube_of}
@@ -23,7 +23,9 @@ use Rattle.proof_log.proofs.Standing.{stands_over}
 use Rattle.hint_chain.specs.Chains.{Lookup}
 use Rattle.cube_tree.specs.Closing.{IsClosing, Closes, AreClosing, HaveClauses, first_of}
 use Rattle.cube_tree.proofs.Resolving.{members}
-use Rattle.cube_search.specs.Holding.{AreSeparate, Occurs}
+use Rattle.cube_search.specs.Holding.{AreSeparate, NeedNoOther, Occurs}
+use Rattle.cube_search.proofs.FirstTaken.{order_longer}
+use Rattle.cube_search.proofs.Spent.{own_chains}
 use Rattle.cube_workers.specs.Searched.{Problem, look_in, given_in, subject_in, IsProblem, IsSpentCube, IsClosed, IsSearchedCube, IsLowestSpent, AreTried}
 
 -- ---- a log that grew by chains
@@ -39,6 +41,10 @@ grown_chain log log' zero e g le q = absurd (omega (arith, le))
 grown_chain log log' (suc k) e g le q = chain_behind log g.more k e g.of_search (omega (arith, le)) (ap (λ l. slice_get l k) (sym g.is) ∙ q)
 
 -- ---- the problem
+
+-- a search of its positions needs no other
+pub no_other : (p : Problem) (log : List Entry) → IsProblem p log → NeedNoOther (state_of p.nodes log).clauses log p.positions p.from
+no_other p log h = (h.separate, own_chains log p.positions p.from h.begun h.chains)
 
 module _ (p : Problem) (log log' : List Entry) (grows : Grows log log') where
   look_stays : (id : ClauseId) (c : List Literal) → look_in p log id ≡ Some c → look_in p log' id ≡ Some c
@@ -60,6 +66,7 @@ module _ (p : Problem) (log log' : List Entry) (grows : Grows log log') where
         start = h.start;
         within = omega (arith, h.within, longer);
         spent = record { stand = all.0; puts = ap (λ s. s.puts) all.1 ∙ h.spent.puts; last = h.spent.last };
+        order = order_longer (subject_in p log d.cube d.start) (blank (subject_in p log d.cube d.start)) log' d.start d.lines h.spent.stand (λ q le. entry_stays log log' q grows le) h.order;
       }
 
   searched_stays : (n : ℕ) → IsSearchedCube p log n → IsSearchedCube p log' n

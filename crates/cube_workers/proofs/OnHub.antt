@@ -13,10 +13,10 @@ use Rattle.cube_tree.specs.Cubes.{cube_of}
 use Rattle.cube_search.specs.declared.ends.End.{End}
 use Rattle.cube_search.specs.declared.ends.End.TheVariants as end
 use Rattle.cube_search.specs.declared.search.Search.{Search}
-use Rattle.cube_search.specs.Holding.{AreSeparate}
+use Rattle.cube_search.specs.Holding.{NeedNoOther}
 use Rattle.cube_search.specs.Running.{IsSearch, variables_in}
 use Rattle.cube_search.specs.Ends.{IsEnd, IsSpentDiary}
-use Rattle.cube_search.proofs.Spent.{spent_from_start}
+use Rattle.cube_search.proofs.Spent.{spent_from_start, order_from}
 use Rattle.cube_search.proofs.Later.{search_later, told_later}
 use Rattle.hub_board.specs.Boards.{BoardValue, IsBoard, view_in, Knows, footing_of, IsMoved}
 use Rattle.hub_board.specs.Cubes.{IsOn}
@@ -24,7 +24,7 @@ use Rattle.hub_board.proofs.Seen.{board_log, opening_grows}
 use Rattle.cube_workers.specs.declared.check.Check.{Check}
 use Rattle.cube_workers.specs.Searched.{Problem, subject_in, IsProblem}
 use Rattle.cube_workers.specs.Workers.{problem_in, IsOpenFor, IsAbout, IsCubeEnd}
-use Rattle.cube_workers.proofs.Cubes.{against_given, problem_stays, given_below_next}
+use Rattle.cube_workers.proofs.Cubes.{against_given, no_other, problem_stays, given_below_next}
 
 -- the problem over what the board has seen
 pub problem_now : (b : BoardValue) (k : Check) → IsBoard b → IsOpenFor b.hist.law k → IsProblem (problem_in b.hist.law k) (view_in b).log
@@ -54,24 +54,25 @@ end_of p b condition told v cube (end.Spent d) h holds lt q =
         start = diary.start;
         within = diary.within;
         spent = subst (λ n. IsSpent (subject_in p (view_in b).log n d.start) p.budget d.lines) (sym q.0) (spent_from_start (subject_in p (view_in b).log cube p.from) (Knows b) told p.budget d h.begun h.chains diary);
+        order = order_from (subject_in p (view_in b).log cube p.from) (Knows b) told p.budget d d.start diary.start (omega arith) diary;
       },
     )
 end_of p b condition told v cube end.Stopped h holds lt q = q.0
 
 pub cube_ended : (b b' : BoardValue) (k : Check) (opening : List ℕ) (from cube : ℕ) (given : List Literal) (told : Sync) (v : ℕ → Bool) (e : End) → IsBoard b → IsBoard b' → IsMoved (footing_of b) b' → IsOpenFor b.hist.law k
     → opening ≡ k.positions.now → from ≡ suc (length b.hist.law.log.entries) → given ≡ cube_of k.tree.now cube ++ k.assumed.now → cube < 2 ^ length k.tree.now
-    → IsEnd (AreSeparate (state_of b.hist.law.nodes (view_in b).log).clauses (view_in b).log opening from) (record { nodes = b'.hist.law.nodes; log = (view_in b').log; given = given; from = from }) (Knows b') (view_in b').found told opening v cube k.settings.budget e
+    → IsEnd (NeedNoOther (state_of b.hist.law.nodes (view_in b).log).clauses (view_in b).log opening from) (record { nodes = b'.hist.law.nodes; log = (view_in b').log; given = given; from = from }) (Knows b') (view_in b').found told opening v cube k.settings.budget e
     → IsCubeEnd (problem_in b.hist.law k) b' v cube e
 cube_ended b b' k opening from cube given told v e h h' moved open_for same from_is given_is lt q =
     let p = problem_in b.hist.law k in
     let now : IsProblem p (view_in b').log =
     subst (λ s. IsProblem (problem_in s.law k) (view_in b').log) moved.hist
     (problem_now b' k h' (subst (λ s. IsOpenFor s.law k) (sym moved.hist) open_for)) in
-    end_of p b' (AreSeparate (state_of b.hist.law.nodes (view_in b).log).clauses (view_in b).log p.positions p.from) told v cube e now (problem_now b k h open_for).separate lt
-    (subst (λ (n : List Node). IsEnd (AreSeparate (state_of b.hist.law.nodes (view_in b).log).clauses (view_in b).log p.positions p.from) (record { nodes = n; log = (view_in b').log; given = cube_of k.tree.now cube ++ k.assumed.now; from = p.from }) (Knows b') (view_in b').found told p.positions v cube k.settings.budget e) (ap (λ s. s.law.nodes) moved.hist)
-    (subst (λ g. IsEnd (AreSeparate (state_of b.hist.law.nodes (view_in b).log).clauses (view_in b).log p.positions p.from) (record { nodes = b'.hist.law.nodes; log = (view_in b').log; given = g; from = p.from }) (Knows b') (view_in b').found told p.positions v cube k.settings.budget e) given_is
-    (subst (λ j. IsEnd (AreSeparate (state_of b.hist.law.nodes (view_in b).log).clauses (view_in b).log p.positions j) (record { nodes = b'.hist.law.nodes; log = (view_in b').log; given = given; from = j }) (Knows b') (view_in b').found told p.positions v cube k.settings.budget e) from_is
-    (subst (λ l. IsEnd (AreSeparate (state_of b.hist.law.nodes (view_in b).log).clauses (view_in b).log l from) (record { nodes = b'.hist.law.nodes; log = (view_in b').log; given = given; from = from }) (Knows b') (view_in b').found told l v cube k.settings.budget e) same q))))
+    end_of p b' (NeedNoOther (state_of b.hist.law.nodes (view_in b).log).clauses (view_in b).log p.positions p.from) told v cube e now (no_other p (view_in b).log (problem_now b k h open_for)) lt
+    (subst (λ (n : List Node). IsEnd (NeedNoOther (state_of b.hist.law.nodes (view_in b).log).clauses (view_in b).log p.positions p.from) (record { nodes = n; log = (view_in b').log; given = cube_of k.tree.now cube ++ k.assumed.now; from = p.from }) (Knows b') (view_in b').found told p.positions v cube k.settings.budget e) (ap (λ s. s.law.nodes) moved.hist)
+    (subst (λ g. IsEnd (NeedNoOther (state_of b.hist.law.nodes (view_in b).log).clauses (view_in b).log p.positions p.from) (record { nodes = b'.hist.law.nodes; log = (view_in b').log; given = g; from = p.from }) (Knows b') (view_in b').found told p.positions v cube k.settings.budget e) given_is
+    (subst (λ j. IsEnd (NeedNoOther (state_of b.hist.law.nodes (view_in b).log).clauses (view_in b).log p.positions j) (record { nodes = b'.hist.law.nodes; log = (view_in b').log; given = given; from = j }) (Knows b') (view_in b').found told p.positions v cube k.settings.budget e) from_is
+    (subst (λ l. IsEnd (NeedNoOther (state_of b.hist.law.nodes (view_in b).log).clauses (view_in b).log l from) (record { nodes = b'.hist.law.nodes; log = (view_in b').log; given = given; from = from }) (Knows b') (view_in b').found told l v cube k.settings.budget e) same q))))
 
 -- a search goes on over a log that grew
 still_search : (s : Search) (nodes : List Node) (log log' : List Entry) → Grows log log' → IsLog nodes log' → IsSearch s nodes log → IsSearch s nodes log'

@@ -13,6 +13,7 @@ use Rattle.proof_log.specs.Diaries.{Subject, IsSpent, is_chain}
 use Rattle.cube_tree.specs.Cubes.{cube_of}
 use Rattle.cube_tree.specs.Closing.{Closes, AreClosing}
 use Rattle.cube_search.specs.Holding.{AreSeparate}
+use Rattle.cube_search.specs.Keeping.{IsInOrder}
 use Rattle.cube_search.specs.Running.{IsSearch, IsResting}
 use Rattle.cube_search.specs.Ends.{IsModel}
 use Rattle.cube_search.specs.declared.search.Search.{Search}
@@ -68,12 +69,14 @@ pub record IsSearching (s : Search) (board : LogBoardValue) (variables : List �
   pub search : IsSearch s board.terms.nodes board.log.entries
   pub problem : IsProblem (problem_of s board variables assumed budget) board.log.entries
 
--- the search of a cube put one chain more than the budget allows
+-- The search of a cube put one chain more than the budget allows. From the start of its diary on equalities are taken before what is put
+-- behind them.
 pub record IsSpentCube (p : Problem) (log : List Entry) (d : Diary) : Type 0 where
   pub cube : d.cube < 2 ^ length p.variables
   pub start : p.from ≤ d.start
   pub within : d.start ≤ suc (length log)
   pub spent : IsSpent (subject_in p log d.cube d.start) p.budget d.lines
+  pub order : IsInOrder log d.start d.lines
 
 -- the cube is closed by a clause of opposites of its literals and of what is assumed
 abbrev pub IsClosed : Problem → List Entry → ℕ → Type 0

@@ -10,4 +10,3 @@ mod Lining
 mod Parts
 mod Earlier
 mod Files
-mod TakenFirst

@@ -1,5 +1,5 @@
 -- A search holds an equality before it puts what rests on it, and puts steps of its own alone.
-use Rattle.std.specs.Prelude.{◌≡◌, ℕ, ◌≤◌, ◌<◌, Bool, true, false, List, [], ◌∷◌, ◌++◌, Contains, Option, Some, None}
+use Rattle.std.specs.Prelude.{◌≡◌, ℕ, ◌≤◌, ◌<◌, List, [], ◌∷◌, ◌++◌, Contains, Option, Some, None}
 use Rattle.proof_log.specs.declared.entry.Entry.{Entry}
 use Rattle.proof_log.specs.declared.entry.Entry.TheVariants as step
 use Rattle.proof_log.specs.declared.diary.DiaryLine.{DiaryLine}
@@ -7,11 +7,6 @@ use Rattle.proof_log.specs.declared.diary.DiaryLine.TheVariants.{Take, Put, Drop
 use Rattle.proof_log.specs.Logs.{entry_at}
 use Rattle.proof_text.specs.declared.record.Record.{Record}
 use Rattle.proof_text.specs.declared.record.Record.TheVariants.{Sat, Unsat, Unknown}
-
--- the step is an equality
-abbrev pub is_equality : Option Entry → Bool
-is_equality (Some (step.Equal t u)) = true
-is_equality _ = false
 
 -- each equality that stands from the start on and before this position was taken in these lines
 abbrev pub AreEqualitiesTaken : List Entry → ℕ → ℕ → List DiaryLine → Type 0

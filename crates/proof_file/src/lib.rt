@@ -1,7 +1,6 @@
 //! Proof files that have what their records need.
 #![tactic(auto)]
 
-pub mod equalities;
 mod file;
 mod laws;
 mod needed;

@@ -1,5 +1,5 @@
 -- What the steps before the search and the search come to together.
-use Rattle.std.proofs.Common.{◌≡◌, ℕ, ◌<◌, ◌^◌, List, length, Some, sym, subst, inl, inr, ⊎_elim}
+use Rattle.std.proofs.Common.{◌≡◌, ℕ, suc, ◌<◌, ◌^◌, List, length, length-append, Some, sym, ap, subst, inl, inr, ⊎_elim, arith}
 use Rattle.std.specs.Prelude.{All, Contains}
 use Rattle.cnf_base.specs.Literals.{negated}
 use Rattle.smt_terms.specs.declared.node.Node.{Node}
@@ -17,6 +17,7 @@ use Rattle.smt_session.specs.Planning.{Prepares}
 use Rattle.smt_session.specs.Thorough.{IsClosedCube, HasSpent, AreSearched, AreSimplified, AreWanted}
 use Rattle.smt_session.specs.Sessions.{IsSession, IsChecked, IsConcluded}
 use Rattle.smt_session.proofs.Leading.{prepares_more, state_with}
+use Rattle.smt_session.proofs.TakenFirst.{taken_before}
 
 -- ---- the cubes
 
@@ -75,4 +76,5 @@ module _ (limits : Limits) (s t : StateValue) (old mid new : LogValue) (r : Reco
           subst (λ es. AreSearched limits s (with_steps s leads.added).terms.nodes es (Some r)) leads.entries
           (subst (λ (x : StateValue). AreSearched limits s x.terms.nodes new.entries (Some r)) leads.state cubes);
     };
+    taken = taken_before (suc (length old.entries)) (suc (length mid.entries)) new.entries r (omega (arith, ap length prepares.leads.entries, length-append old.entries prepares.leads.added)) concluded.taken;
   }

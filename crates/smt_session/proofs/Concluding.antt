@@ -1,5 +1,5 @@
 -- What the search of its cubes shows of a check.
-use Rattle.std.proofs.Common.{◌≡◌, ℕ, suc, ◌<◌, ◌≤◌, ◌^◌, Bool, false, List, [], ◌∷◌, ◌++◌, length, map, flat_map, Option, Some, refl, sym, ap, ◌∙◌, subst, inl, inr, ⊎_elim, append_assoc, arith}
+use Rattle.std.proofs.Common.{◌≡◌, ℕ, suc, ◌<◌, ◌≤◌, ◌^◌, Bool, false, List, [], ◌∷◌, ◌++◌, length, map, flat_map, Option, Some, refl, sym, ap, ◌∙◌, subst, inl, inr, ⊎_elim, append_assoc, length-append, arith}
 use Rattle.std.specs.Prelude.{◌⊎◌, All, Contains, option_to_list}
 use Rattle.std.specs.List.{AllByRecursion}
 use Rattle.std.proofs.lemmas.List.Elements.{All-cons, All-from_recursion, All-nil, All-weaker, Contains-append_left, Contains-append_right}
@@ -45,6 +45,7 @@ use Rattle.smt_session.specs.Sessions.{IsSession, IsConcluded}
 use Rattle.smt_session.proofs.Adding.{added_behind, grows_by_adds, variables_stay}
 use Rattle.smt_session.proofs.Giving.{given_below, given_stays}
 use Rattle.smt_session.proofs.Staying.{grows_more}
+use Rattle.smt_session.proofs.TakenFirst.{taken_in_order, taken_before}
 use Rattle.smt_session.proofs.Turning.{refutation}
 
 -- ---- what is searched
@@ -233,7 +234,7 @@ module _ (limits : Limits) (s : StateValue) (old new : LogValue) (positions vari
   }
 
   pub spent_checked : (d : Diary) → IsLowestSpent (problem s.terms.nodes old.entries positions variables given limits.budget) new.entries (2 ^ length variables) d → IsConcluded limits s old new (Unknown d)
-  spent_checked d h = record { grows = grows_by_adds s old new adds after; shown = unknown d h.own; cubes = others_searched d h }
+  spent_checked d h = record { grows = grows_by_adds s old new adds after; shown = unknown d h.own; cubes = others_searched d h; taken = (h.own.start, taken_in_order new.entries d.start d.lines h.own.order) }
 
 -- ---- what a check comes to
 
@@ -241,10 +242,10 @@ pub closed_checked : (limits : Limits) (s : StateValue) (old new : LogValue) (gi
     → Closes (clause_at (state_of s.terms.nodes new.entries).clauses) given [] at → IsConcluded limits s old new (Unsat at)
 closed_checked limits s old new given at before after adds are h =
     let grows = grows_by_adds s old new adds after in
-    record { grows = grows; shown = refutation s old new given at before grows are h; cubes = tt }
+    record { grows = grows; shown = refutation s old new given at before grows are h; cubes = tt; taken = tt }
 
 pub model_checked : (limits : Limits) (s : StateValue) (old new : LogValue) (values : List (ℕ × Value)) → Stands s.terms.nodes new → Adds old.entries new.entries → AreWritten (Sat values) × IsWrittenModel s values → IsConcluded limits s old new (Sat values)
-model_checked limits s old new values after adds shown = record { grows = grows_by_adds s old new adds after; shown = shown; cubes = tt }
+model_checked limits s old new values after adds shown = record { grows = grows_by_adds s old new adds after; shown = shown; cubes = tt; taken = tt }
 
 -- by bits alone
 module _ (limits : Limits) (s : StateValue) (terms : TermsValue) (old new : LogValue) (positions variables : List ℕ) (given : List Literal) (budget : ℕ) (v : ℕ → Bool) (f : Outcome)
@@ -272,7 +273,7 @@ module _ (limits : Limits) (s : StateValue) (terms : TermsValue) (old new : LogV
 module _ (nodes : List Node) (log log' : List Entry) (live positions variables : List ℕ) (given : List Literal) (budget : ℕ) where
   -- a diary that starts where the search did
   as_spent : (d : Diary) → theory.IsSpentCube (theory_problem nodes log live positions variables given budget) log' d → IsSpentCube (problem nodes log positions variables given budget) log' d
-  as_spent d h = record { cube = h.cube; start = (let e = h.start in omega (arith, e)); within = h.within; spent = h.spent }
+  as_spent d h = record { cube = h.cube; start = (let e = h.start in omega (arith, e)); within = h.within; spent = h.spent; order = h.order }
 
   as_lowest : (count : ℕ) (d : Diary) → theory.IsLowestSpent (theory_problem nodes log live positions variables given budget) log' count d → IsLowestSpent (problem nodes log positions variables given budget) log' count d
   as_lowest count d h = record {
@@ -307,7 +308,12 @@ module _ (limits : Limits) (s : StateValue) (terms : TermsValue) (old new : LogV
 
 -- what a further search comes to is what the check comes to
 pub concluded_then : (limits : Limits) (s : StateValue) (old mid new : LogValue) (r : Record) → Grows s old mid → IsConcluded limits s mid new r → IsConcluded limits s old new r
-concluded_then limits s old mid new r g h = record { grows = grows_more s old mid new g h.grows; shown = h.shown; cubes = h.cubes }
+concluded_then limits s old mid new r g h = record {
+  grows = grows_more s old mid new g h.grows;
+  shown = h.shown;
+  cubes = h.cubes;
+  taken = taken_before (suc (length old.entries)) (suc (length mid.entries)) new.entries r (omega (arith, ap length g.entries, length-append old.entries g.added)) h.taken;
+}
 
 -- what holds over the terms of a state and the terms of its check holds over others that are the same
 pub over_roots : (P : List Node → List ℕ → Type 0) (s : StateValue) (terms : TermsValue) (live : List ℕ) → terms ≡ s.terms → live ≡ roots s → P s.terms.nodes (roots s) → P terms.nodes live

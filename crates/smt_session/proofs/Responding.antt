@@ -101,8 +101,7 @@ module _ (limits : Limits) (s s' : StateValue) (old new : LogValue) (shown : Rec
       let nodes : IsShown limits s (with_steps s checked.leads.added).terms.nodes new.entries shown = subst (λ (q : StateValue). IsShown limits s q.terms.nodes new.entries shown) checked.leads.state checked.shown in
       (checked.leads.steps, subst (λ es. IsShown limits s (with_steps s checked.leads.added).terms.nodes es shown) checked.leads.entries nodes)
 
-  module _ (file file' : FileValue) (text : List ℕ) (part : IsWrittenPart s.terms.nodes s.scopes.live old.entries (drop (length old.entries) new.entries) shown file file' [] text)
-      (taken : HasTakenFirst (suc (length old.entries)) new.entries (Some shown)) where
+  module _ (file file' : FileValue) (text : List ℕ) (part : IsWrittenPart s.terms.nodes s.scopes.live old.entries (drop (length old.entries) new.entries) shown file file' [] text) where
     abbrev part_lines_of : List Line
     part_lines_of = flat_map item_lines part.items ++ shown_lines (Some part.placed)
 
@@ -112,7 +111,7 @@ module _ (limits : Limits) (s s' : StateValue) (old new : LogValue) (shown : Rec
       items = part.items;
       placed = Some part.placed;
       trims = subst (λ (es : List Entry). IsTrimmedCheck s.terms.nodes s.scopes.live old.entries es shown file file' part.items (Some part.placed)) added_is part.trimmed;
-      taken = subst (λ (es : List Entry). HasTakenFirst (suc (length old.entries)) es (Some shown)) checked.leads.entries taken;
+      taken = subst (λ (es : List Entry). HasTakenFirst (suc (length old.entries)) es (Some shown)) checked.leads.entries checked.taken;
       lines_are = refl;
       readable = part.readable;
     }
@@ -120,10 +119,9 @@ module _ (limits : Limits) (s s' : StateValue) (old new : LogValue) (shown : Rec
 pub check_responds : (limits : Limits) (line : ℕ) (s s' new_state : StateValue) (old new : LogValue) (file file' : FileValue) (shown : Record) (text : List ℕ) (r : Response) (w x : Option (List ℕ)) (last : Option Record)
     → IsChecked limits s s' old new shown
     → IsWrittenPart s.terms.nodes s.scopes.live old.entries (drop (length old.entries) new.entries) shown file file' [] text
-    → HasTakenFirst (suc (length old.entries)) new.entries (Some shown)
     → Appends w x text → r ≡ response (verdict_text (verdict_of shown)) false false → new_state ≡ concluded s' (verdict_of shown)
     → Responds limits line Check s new_state old new file file' last (Some shown) r w x
-check_responds limits line s s' new_state old new file file' shown text r w x last checked part taken appended answered stands = record {
+check_responds limits line s s' new_state old new file file' shown text r w x last checked part appended answered stands = record {
   steps = checked.leads.added;
   shown = Some shown;
   thorough = checked.thorough;
@@ -132,7 +130,7 @@ check_responds limits line s s' new_state old new file file' shown text r w x la
   log = checked.leads.entries;
   kept = refl;
   lines = flat_map item_lines part.items ++ shown_lines (Some part.placed);
-  filed = check_filed limits s s' old new shown checked file file' text part taken;
+  filed = check_filed limits s s' old new shown checked file file' text part;
   added = subst (Appends w x) part.text appended;
   text = ap (λ q. q.text) answered;
   error = ap (λ q. q.error) answered;
@@ -142,15 +140,14 @@ check_responds limits line s s' new_state old new file file' shown text r w x la
 -- where a write failed, a front of what the file gets stands
 pub check_cut : (limits : Limits) (s s' : StateValue) (old new : LogValue) (file file' : FileValue) (shown : Record) (text : List ℕ) (w x : Option (List ℕ)) → IsChecked limits s s' old new shown
     → IsWrittenPart s.terms.nodes s.scopes.live old.entries (drop (length old.entries) new.entries) shown file file' [] text
-    → HasTakenFirst (suc (length old.entries)) new.entries (Some shown)
     → WritesFront text w x → CutsCheck limits Check s old.entries file w x
-check_cut limits s s' old new file file' shown text w x checked part taken written = record {
+check_cut limits s s' old new file file' shown text w x checked part written = record {
   steps = checked.leads.added;
   shown = Some shown;
   proof = check_proof limits s s' old new shown checked;
   file' = file';
   lines = flat_map item_lines part.items ++ shown_lines (Some part.placed);
-  filed = check_filed limits s s' old new shown checked file file' text part taken;
+  filed = check_filed limits s s' old new shown checked file file' text part;
   front = subst (λ t. WritesFront t w x) part.text written;
 }
 

@@ -72,18 +72,21 @@ abbrev pub AreHeld : StateValue → Answer → Type 0
 AreHeld s (Values asked) = All (λ (a : Asked). a.term < length s.terms.nodes) asked
 AreHeld s _ = Unit {0}
 
--- the log grew by the steps of a search, which the record may end within these limits, and all cubes were searched
+-- The log grew by the steps of a search, which the record may end within these limits, and all cubes were searched. What is put in a
+-- diary comes behind the equalities that stand before it.
 pub record IsConcluded (limits : Limits) (s : StateValue) (old new : LogValue) (r : Record) : Type 0 where
   pub grows : Grows s old new
   pub shown : IsShown limits s s.terms.nodes new.entries r
   pub cubes : AreSearched limits s s.terms.nodes new.entries (Some r)
+  pub taken : HasTakenFirst (suc (length old.entries)) new.entries (Some r)
 
 -- The steps of a check lead from the one state to the other, and the record may end it within these limits. It was as thorough
--- as checks are.
+-- as checks are. What is put in a diary comes behind the equalities that stand before it.
 pub record IsChecked (limits : Limits) (s s' : StateValue) (old new : LogValue) (r : Record) : Type 0 where
   pub leads : LeadsTo s old s' new
   pub shown : IsShown limits s s'.terms.nodes new.entries r
   pub thorough : IsThorough limits s old.entries leads.added (Some r)
+  pub taken : HasTakenFirst (suc (length old.entries)) new.entries (Some r)
 
 -- What the file gets for these steps of a check and its record, which began with this log in this state: each of the lines can be
 -- read. Nothing is there for what is no check.

@@ -1,9 +1,8 @@
 // A check: its steps, its verdict, and its record.
 
-ghost use Rattle.std.specs.Prelude.{◌≡◌, suc, [], IfOk, OnOk, Some, drop, length};
+ghost use Rattle.std.specs.Prelude.{◌≡◌, [], IfOk, OnOk, drop, length};
 ghost use Rattle.script_state.specs.States.{WatchesFit};
 ghost use Rattle.accepted_proof.specs.Turns.{verdict_of};
-ghost use Rattle.proof_file.specs.Equalities.{HasTakenFirst};
 ghost use Rattle.proof_file.specs.Files.{IsFileOf, IsWrittenPart, file_of};
 ghost use Rattle.smt_session.specs.Parts.{IsKept};
 ghost use Rattle.smt_session.specs.Sessions.{IsChecked, AreSettings, limits_of};
@@ -13,7 +12,6 @@ use crate::preparing::{Prepared, prepare};
 use crate::settings::Settings;
 use crate::workspace::Workspace;
 use cube_workers::Gate;
-use proof_file::equalities::has_taken_first;
 use proof_file::{ProofFile, more_terms_keep_files};
 use proof_text::record::Record;
 use script_state::answer::Verdict;
@@ -89,17 +87,10 @@ pub(crate) fn run_check<R: Threads + Wait + Sync, G: Gate + Sync>(
         (λ r. IsWrittenPart state.old.terms.nodes state.old.scopes.live workspace.old.log.entries
         (drop (length workspace.old.log.entries) workspace.new.log.entries) r.0
         (file_of file.old) (file_of file.new) [] r.1) }
-    ensures taken { IfOk result
-        (λ r. HasTakenFirst (suc (length workspace.old.log.entries)) workspace.new.log.entries
-        (Some r.0)) }
 {
     more_terms_keep_files();
     let from = workspace.log.len();
     let shown = check(rt, alloc, state, workspace, settings, gate)?;
-    // No search writes another diary.
-    if !has_taken_first(&workspace.log, from, &shown) {
-        return Err(AllocError);
-    }
     let mut text = Text::new(alloc);
     file.write_part(
         alloc,

@@ -18,6 +18,7 @@ use Rattle.cube_search.specs.declared.search.Search.{Search}
 use Rattle.cube_search.specs.Holding.{IsLonger}
 use Rattle.cube_search.specs.Ends.{IsSpentDiary}
 use Rattle.cube_search.proofs.Longer.{log_longer, longer_holds}
+use Rattle.cube_search.proofs.Spent.{order_from}
 use Rattle.cube_search.proofs.Told.{longer_has, longer_then}
 use Rattle.theory_search.specs.declared.ends.End.{End}
 use Rattle.theory_search.specs.declared.ends.End.TheVariants as end
@@ -78,6 +79,7 @@ module _ (p : Problem) (log : List Entry) (condition : Type 0) (holds : conditio
           start = refl;
           within = within;
           spent = subst (λ n. IsSpent (subject_in p log n p.from) p.budget d.lines) (sym q.0) diary.spent;
+          order = order_from (subject_in p log cube p.from) knows told p.budget d p.from (omega arith) diary.start diary;
         },
       )
 

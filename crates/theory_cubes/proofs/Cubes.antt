@@ -14,6 +14,7 @@ use Rattle.hint_chain.specs.Chains.{Lookup}
 use Rattle.proof_log.specs.declared.entry.Entry.{Entry}
 use Rattle.proof_log.specs.declared.diary.Diary.{Diary}
 use Rattle.proof_log.specs.Logs.{clause_at, state_of}
+use Rattle.proof_log.specs.Diaries.{blank}
 use Rattle.proof_log.specs.LemmaBoards.{Adds}
 use Rattle.proof_log.specs.Stored.{LogValue, Stands}
 use Rattle.proof_log.proofs.Growth.{clause_place}
@@ -21,7 +22,8 @@ use Rattle.proof_log.proofs.Standing.{stands_over}
 use Rattle.cube_tree.specs.Cubes.{cube_of}
 use Rattle.cube_tree.specs.Closing.{IsClosing, Closes, AreClosing, HaveClauses, first_of}
 use Rattle.cube_tree.proofs.Resolving.{members}
-use Rattle.cube_search.proofs.Longer.{clause_longer, diary_longer, log_longer}
+use Rattle.cube_search.proofs.FirstTaken.{order_longer}
+use Rattle.cube_search.proofs.Longer.{clause_longer, diary_longer, log_longer, entry_longer}
 use Rattle.theory_cubes.specs.Searched.{Problem, look_in, given_in, subject_in, IsSpentCube, IsClosed, IsSearchedCube, IsLowestSpent, AreTried}
 
 -- ---- a log that grew
@@ -46,6 +48,7 @@ module _ (p : Problem) (log log' : List Entry) (adds : Adds log log') where
         start = h.start;
         within = omega (arith, h.within, longer);
         spent = record { stand = all.0; puts = ap (λ s. s.puts) all.1 ∙ h.spent.puts; last = h.spent.last };
+        order = order_longer (subject_in p log d.cube d.start) (blank (subject_in p log d.cube d.start)) log' d.start d.lines h.spent.stand (entry_longer log log' adds.more adds.is) h.order;
       }
 
   searched_stays : (n : ℕ) → IsSearchedCube p log n → IsSearchedCube p log' n

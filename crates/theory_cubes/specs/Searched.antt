@@ -16,6 +16,7 @@ use Rattle.proof_log.specs.Diaries.{Subject, IsSpent, is_chain}
 use Rattle.cube_tree.specs.Cubes.{cube_of}
 use Rattle.cube_tree.specs.Closing.{Closes, AreClosing}
 use Rattle.cube_search.specs.Holding.{IsLonger, Occurs}
+use Rattle.cube_search.specs.Keeping.{IsInOrder}
 use Rattle.cube_search.specs.Running.{IsSearch, IsResting}
 use Rattle.cube_search.specs.declared.search.Search.{Search}
 use Rattle.theory_search.specs.declared.theory.Theory.{Theory}
@@ -83,12 +84,14 @@ AreApart nodes log live positions =
 
 -- ---- what is found
 
--- The search of a cube put one chain more than the budget allows. Its diary begins where the searches' own steps do.
+-- The search of a cube put one chain more than the budget allows. Its diary begins where the searches' own steps do, and takes the
+-- equalities among these before what is put behind them.
 pub record IsSpentCube (p : Problem) (log : List Entry) (d : Diary) : Type 0 where
   pub cube : d.cube < 2 ^ length p.variables
   pub start : d.start ≡ p.from
   pub within : d.start ≤ suc (length log)
   pub spent : IsSpent (subject_in p log d.cube d.start) p.budget d.lines
+  pub order : IsInOrder log d.start d.lines
 
 -- the cube is closed by a clause of opposites of its literals and of what is assumed
 abbrev pub IsClosed : Problem → List Entry → ℕ → Type 0

@@ -10,7 +10,7 @@ use Rattle.proof_log.specs.Logs.{clause_at, entry_at, state_of}
 use Rattle.proof_log.specs.LemmaBoards.{Adds}
 use Rattle.proof_log.specs.Diaries.{is_chain}
 use Rattle.proof_log.proofs.Growth.{clause_place}
-use Rattle.cube_search.specs.Holding.{AreSeparate, IsLonger, Occurs}
+use Rattle.cube_search.specs.Holding.{AreSeparate, NeedNoOther, IsLonger, Occurs}
 use Rattle.theory_search.specs.Theories.{AreKnown, IsApart}
 use Rattle.theory_search.proofs.Grown.{clause_before, clause_after, entry_same, longer_log}
 use Rattle.cube_search.proofs.Told.{longer_has}
@@ -26,6 +26,9 @@ module _ (nodes : List Node) (log : List Entry) (variables : List ℕ) (next : �
 
   pub apart_separate : AreSeparate (state_of nodes log).clauses log opening from
   apart_separate id c lt plain e = ⊎_elim (λ k. inl k) (λ w. inr (w.0, w.1, foreign w.0.variable w.2 w.3)) (h.apart id c lt plain e)
+
+  pub apart_alone : NeedNoOther (state_of nodes log).clauses log opening from
+  apart_alone = (apart_separate, h.own)
 
   pub apart_all : AreSeparate (state_of nodes log).clauses log opening (suc (length log))
   apart_all id c lt plain e =

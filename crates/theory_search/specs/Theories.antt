@@ -16,7 +16,7 @@ use Rattle.proof_log.specs.Logs.{clause_at, entry_at, state_of}
 use Rattle.proof_log.specs.Places.{GivesBits}
 use Rattle.proof_log.specs.Boards.{AreBitsIn, AreImagesIn}
 use Rattle.proof_log.specs.Diaries.{is_chain}
-use Rattle.cube_search.specs.Holding.{AreAmong, Occurs, IsLonger}
+use Rattle.cube_search.specs.Holding.{AreAmong, Occurs, IsLonger, AreOwnHeld}
 use Rattle.cube_search.specs.Running.{IsSearch}
 use Rattle.cube_search.specs.declared.search.Search.{Search}
 use Rattle.access_tables.specs.Leading.{leads}
@@ -110,7 +110,7 @@ pub record IsApart (nodes : List Node) (log : List Entry) (variables : List ℕ)
   pub apart : (id : ClauseId) (c : List Literal) → id.pos < from → is_chain (entry_at log id.pos) ≡ false → clause_at (state_of nodes log).clauses id ≡ Some c
       → Contains opening id.pos ⊎ ((l : Literal) × Contains c l × (Contains variables l.variable → ⊥) × (l.variable < next))
   pub known : (id : ClauseId) (c : List Literal) → Contains opening id.pos → clause_at (state_of nodes log).clauses id ≡ Some c → AreKnown variables next c
-  pub own : (p : ℕ) → from ≤ p → p ≤ length log → is_chain (entry_at log p) ≡ false → Contains opening p
+  pub own : AreOwnHeld log opening from
 
 -- of a search and what is kept for its walks
 abbrev pub IsTheoryApart : List Node → List Entry → Theory → Search → Type 0

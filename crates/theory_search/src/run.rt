@@ -6,7 +6,7 @@ ghost use Rattle.theory_terms.specs.declared.lemma.Lemma.{Lemma};
 ghost use Rattle.proof_log.specs.declared.entry.Entry.{Entry};
 ghost use Rattle.proof_log.specs.Logs.{state_of};
 ghost use Rattle.proof_log.specs.LemmaBoards.{IsLaterByMore};
-ghost use Rattle.cube_search.specs.Running.{given_in, subject_of, valuation_of, IsSearch, IsWriting, HasLooked};
+ghost use Rattle.cube_search.specs.Running.{given_in, subject_of, valuation_of, IsSearch, IsWriting, IsReadyToPut, HasLooked};
 ghost use Rattle.cube_search.specs.Ends as ends;
 ghost use Rattle.theory_search.specs.Theories.{IsReady, IsTheory, IsTheoryApart, GoesOn};
 ghost use Rattle.theory_search.specs.Ends.{IsEnd};
@@ -196,7 +196,7 @@ impl Theory {
             HasLooked search.new (B.log board.old) (B.told board.new))) }
         ensures end { IfOk result
             (λ o. MatchOption o (Unit {0})
-            (IsEnd (IsWriting search.old (B.nodes board.old) (B.log board.old))
+            (IsEnd (IsReadyToPut search.old (B.nodes board.old) (B.log board.old))
             (subject_of search.new (B.nodes board.new) (B.log board.new)) (B.knows board.new)
             (B.found board.new) (B.told board.new) self.old.live.items search.new.opening.items
             (valuation_of search.new) cube budget)) }

@@ -5,7 +5,7 @@ use Rattle.proof_log.specs.Logs.{state_of}
 use Rattle.cube_tree.specs.Cubes.{cube_of}
 use Rattle.cube_search.specs.Running.{valuation_of}
 use Rattle.cube_workers.specs.Searched.{IsEndOf, problem_of}
-use Rattle.cube_workers.proofs.Cubes.{given_below_next}
+use Rattle.cube_workers.proofs.Cubes.{given_below_next, no_other}
 use Rattle.cube_workers.proofs.CubeEnds.{still_searching, later_problem, ended}
 use Rattle.cube_workers.proofs.alone.search_cube.Goals as goal
 
@@ -29,5 +29,5 @@ returns-clause-end c =
     let problem = later_problem c.args.search.now c.run.new.self c.args.board.now c.run.new.board _ _ c.args.tree.now c.args.assumed.now c.args.budget c.run.ensures.later c.run.ensures.opening c.run.ensures.from c.requires.searching.problem in
     IfOk-weaker c.run.result _ (IsEndOf (problem_of c.run.new.self c.run.new.board c.args.tree.now c.args.assumed.now c.args.budget) c.run.new.board.log.entries (valuation_of c.run.new.self) c.args.cube)
     (λ e. ended c.args.search.now c.run.new.self c.args.board.now c.run.new.board _ _ c.args.tree.now c.args.assumed.now c.args.budget c.run.ensures.later c.run.ensures.opening c.run.ensures.from
-    _ _ _ (valuation_of c.run.new.self) c.args.cube c.as_slice.result.now e literals problem c.requires.searching.problem.separate c.requires.cube)
+    _ _ _ (valuation_of c.run.new.self) c.args.cube c.as_slice.result.now e literals problem (no_other _ _ c.requires.searching.problem) c.requires.cube)
     c.run.ensures.end

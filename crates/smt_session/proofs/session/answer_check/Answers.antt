@@ -33,7 +33,7 @@ returns-clause-response g c =
     (sym c.put.ensures)
     (check_responds (limits_of c.args.settings) c.args.line c.args.state.now c.run_check.new.state c.conclude.new.self c.args.workspace.now.log c.run_check.new.workspace.log (file_of c.args.file.now) (file_of c.run_check.new.file) c.in_ok-shown.shown c.in_ok-shown.text c.in_ok-response.response
     (g.Q.Sink.written c.args.proof.now) (g.Q.Sink.written c.write_lines.new.proof) c.args.last.now
-    c.in_ok-shown.ensures.checked c.in_ok-shown.ensures.part c.in_ok-shown.ensures.taken c.in_ok-write_lines.ensures.ok
+    c.in_ok-shown.ensures.checked c.in_ok-shown.ensures.part c.in_ok-write_lines.ensures.ok
     (c.in_ok-response.ensures ∙ ap (λ v. response (verdict_text v) false false) c.verdict_of-verdict.ensures)
     (c.conclude.ensures ∙ ap (concluded c.run_check.new.state) c.verdict_of-verdict.ensures))
 
@@ -54,4 +54,4 @@ returns-in_err-write_lines-clause-cut g c =
     rw (p.1, p.2, cut.0)
     (check_cut (limits_of c.args.settings) c.args.state.now c.run_check.new.state c.args.workspace.now.log c.run_check.new.workspace.log (file_of c.args.file.now) (file_of c.run_check.new.file) c.in_ok-shown.shown c.in_ok-shown.text
     (g.Q.Sink.written c.args.proof.now) (g.Q.Sink.written c.write_lines.new.proof)
-    c.in_ok-shown.ensures.checked c.in_ok-shown.ensures.part c.in_ok-shown.ensures.taken cut.1)
+    c.in_ok-shown.ensures.checked c.in_ok-shown.ensures.part cut.1)

@@ -54,4 +54,4 @@ returns-in-Some-clause-end g c =
     (MatchOption-at_some _ _ c.in-Some.end c.in-Some.is c.in_ok-end.ensures.end)
 
 pub returns-in-Some-clause-model : goal.returns-in-Some-clause-model
-returns-in-Some-clause-model g c = λ is w. (MatchOption-at_some _ _ c.in-Some.end c.in-Some.is c.in_ok-end.ensures.model is (c.steps.invariant.upto w)).0
+returns-in-Some-clause-model g c = λ is w. (MatchOption-at_some _ _ c.in-Some.end c.in-Some.is c.in_ok-end.ensures.model is (c.steps.invariant.upto w)).0.0

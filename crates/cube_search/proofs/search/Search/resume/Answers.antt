@@ -1,6 +1,6 @@
 use Rattle.std.proofs.Common.{◌∙◌, sym, ap}
 use Rattle.cube_search.specs.Running.{subject_of, valuation_of}
-use Rattle.cube_search.proofs.Steps.{same_given, told_still, on_end, on_any, ended, model_where}
+use Rattle.cube_search.proofs.Steps.{own_same, same_given, told_still, on_end, on_any, ended, model_where}
 use Rattle.cube_search.proofs.search.Search.resume.Goals as goal
 
 pub go_to_end-requires : goal.go_to_end-requires
@@ -28,7 +28,7 @@ returns-clause-given g c = on_any c.go_to_end.result _ (same_given c.begin_again
 pub returns-clause-end : goal.returns-clause-end
 returns-clause-end g c =
     ended c.go_to_end.result _ _ (subject_of c.begin_again.new.self (g.B.Board.nodes c.go_to_end.new.board) (g.B.Board.log c.go_to_end.new.board)) c.args.self.now.engine.given.items c.args.self.now.from (g.B.Board.knows c.go_to_end.new.board) (g.B.Board.found c.go_to_end.new.board) (g.B.Board.told c.go_to_end.new.board) c.begin_again.new.self.opening.items c.args.self.now.opening.items (valuation_of c.go_to_end.new.self) c.args.cube c.args.budget
-    (λ w. c.in_ok-begin_again.ensures.writing (g.B.Board.nodes c.args.board.now) (g.B.Board.log c.args.board.now) c.requires.same w) (c.in_ok-begin_again.ensures.given ∙ sym c.requires.same) c.begin_again.ensures.from (ap (λ v. v.items) c.begin_again.ensures.opening) c.go_to_end.ensures.end
+    (λ h. (c.in_ok-begin_again.ensures.writing (g.B.Board.nodes c.args.board.now) (g.B.Board.log c.args.board.now) c.requires.same h.0, own_same c.args.self.now c.begin_again.new.self (g.B.Board.log c.args.board.now) c.begin_again.ensures.opening c.begin_again.ensures.from h.1)) (c.in_ok-begin_again.ensures.given ∙ sym c.requires.same) c.begin_again.ensures.from (ap (λ v. v.items) c.begin_again.ensures.opening) c.go_to_end.ensures.end
 
 pub returns-clause-model : goal.returns-clause-model
-returns-clause-model g c = model_where c.go_to_end.result _ _ _ (λ w. c.in_ok-begin_again.ensures.writing (g.B.Board.nodes c.args.board.now) (g.B.Board.log c.args.board.now) c.requires.same w) c.go_to_end.ensures.model
+returns-clause-model g c = model_where c.go_to_end.result _ _ _ (λ h. (c.in_ok-begin_again.ensures.writing (g.B.Board.nodes c.args.board.now) (g.B.Board.log c.args.board.now) c.requires.same h.0, own_same c.args.self.now c.begin_again.new.self (g.B.Board.log c.args.board.now) c.begin_again.ensures.opening c.begin_again.ensures.from h.1)) c.go_to_end.ensures.model

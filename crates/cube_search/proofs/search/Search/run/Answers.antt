@@ -1,6 +1,6 @@
 use Rattle.std.proofs.Common.{◌∙◌, ap}
 use Rattle.cube_search.specs.Running.{subject_of, valuation_of}
-use Rattle.cube_search.proofs.Steps.{same_given, told_still, on_end, on_any, ended, model_where}
+use Rattle.cube_search.proofs.Steps.{own_same, same_given, told_still, on_end, on_any, ended, model_where}
 use Rattle.cube_search.proofs.search.Search.run.Goals as goal
 
 pub go_to_end-requires : goal.go_to_end-requires
@@ -28,7 +28,7 @@ returns-clause-given g c = on_any c.go_to_end.result _ (same_given c.begin.new.s
 pub returns-clause-end : goal.returns-clause-end
 returns-clause-end g c =
     ended c.go_to_end.result _ _ (subject_of c.begin.new.self (g.B.Board.nodes c.go_to_end.new.board) (g.B.Board.log c.go_to_end.new.board)) c.args.given.now c.args.self.now.from (g.B.Board.knows c.go_to_end.new.board) (g.B.Board.found c.go_to_end.new.board) (g.B.Board.told c.go_to_end.new.board) c.begin.new.self.opening.items c.args.self.now.opening.items (valuation_of c.go_to_end.new.self) c.args.cube c.args.budget
-    (λ separate. c.in_ok-begin.ensures.writing (g.B.Board.nodes c.args.board.now) (g.B.Board.log c.args.board.now) c.requires.search separate) c.in_ok-begin.ensures.given c.begin.ensures.from (ap (λ v. v.items) c.begin.ensures.opening) c.go_to_end.ensures.end
+    (λ h. (c.in_ok-begin.ensures.writing (g.B.Board.nodes c.args.board.now) (g.B.Board.log c.args.board.now) c.requires.search h.0, own_same c.args.self.now c.begin.new.self (g.B.Board.log c.args.board.now) c.begin.ensures.opening c.begin.ensures.from h.1)) c.in_ok-begin.ensures.given c.begin.ensures.from (ap (λ v. v.items) c.begin.ensures.opening) c.go_to_end.ensures.end
 
 pub returns-clause-model : goal.returns-clause-model
-returns-clause-model g c = model_where c.go_to_end.result _ _ _ (λ separate. c.in_ok-begin.ensures.writing (g.B.Board.nodes c.args.board.now) (g.B.Board.log c.args.board.now) c.requires.search separate) c.go_to_end.ensures.model
+returns-clause-model g c = model_where c.go_to_end.result _ _ _ (λ h. (c.in_ok-begin.ensures.writing (g.B.Board.nodes c.args.board.now) (g.B.Board.log c.args.board.now) c.requires.search h.0, own_same c.args.self.now c.begin.new.self (g.B.Board.log c.args.board.now) c.begin.ensures.opening c.begin.ensures.from h.1)) c.go_to_end.ensures.model

@@ -2,7 +2,7 @@ use Rattle.std.proofs.Common.{◌≡◌, ◌++◌, ◌∷◌, [], None, refl, sy
 use Rattle.proof_log.specs.declared.board.Sync.{Sync}
 use Rattle.proof_log.specs.declared.diary.DiaryLine.TheVariants.{Put}
 use Rattle.std.proofs.lemmas.Bool.{MatchBool-at_false}
-use Rattle.proof_log.proofs.Growth.{later_then}
+use Rattle.proof_log.proofs.Growth.{grows_same, later_then}
 use Rattle.proof_log.specs.declared.entry.Entry.TheVariants as step
 use Rattle.cdcl_core.specs.Search.{literals_of, level_of, clause_of}
 use Rattle.cdcl_loop.specs.declared.engine.Engine.{Engine}
@@ -11,7 +11,7 @@ use Rattle.cube_search.specs.Running.{variables_in}
 use Rattle.cdcl_loop.proofs.Courses.{decides_given}
 use Rattle.cdcl_loop.proofs.Trails.{levels_below}
 use Rattle.cube_search.proofs.Later.{put_is_fresh}
-use Rattle.cube_search.proofs.Steps.{running_later, looked_now, looked_still, looked_before, spent_diary, learnt_running, conflict_course, conflict_running, conflict_writing}
+use Rattle.cube_search.proofs.Steps.{running_later, looked_now, looked_still, looked_before, spent_diary, learnt_running, conflict_course, conflict_running, conflict_writing, own_later}
 use Rattle.cube_search.proofs.search.Search.settle.Goals as goal
 
 pub close-requires-clause-given : goal.close-requires-clause-given
@@ -83,7 +83,10 @@ pub returns-clause-later : goal.returns-clause-later
 returns-clause-later g c = later_then (g.B.Board.nodes c.args.board.now) (g.B.Board.nodes c.learn.new.board) (g.B.Board.nodes c.take_news.new.board) (g.B.Board.log c.args.board.now) (g.B.Board.log c.learn.new.board) (g.B.Board.log c.take_news.new.board) (g.B.Board.knows c.args.board.now) (g.B.Board.knows c.learn.new.board) (g.B.Board.knows c.take_news.new.board) c.in_ok-clause.ensures.later c.take_news.ensures.later
 
 pub returns-clause-end : goal.returns-clause-end
-returns-clause-end g c = λ h. MatchBool-at_false _ _ c.if-branch.false c.in_ok-take_news.ensures.news (c.in_ok-clean.ensures.writing (conflict_writing c.args.self.now c.learn.new.self c.keep.new.self c.restart.new.self (g.B.Board.nodes c.args.board.now) (g.B.Board.nodes c.learn.new.board) (g.B.Board.log c.args.board.now) (g.B.Board.log c.learn.new.board) (g.B.Board.knows c.args.board.now) (g.B.Board.knows c.learn.new.board) c.in_ok-clause.ensures.later c.in_ok-clause.clause c.in_ok-clause.level c.in_ok-clause.at c.requires.running (omega (arith, c.requires.running.2.0.lower)) c.in_ok-clause.ensures.learnt c.in_ok-clause.ensures.same c.in_ok-keep.ensures.run c.in_ok-keep.ensures.kept c.in_ok-keep.ensures.engine c.in_ok-keep.ensures.course (ap (λ (x : Engine). x.watches) c.restart.ensures.same) c.restart.ensures.task h.0))
+returns-clause-end g c = λ h.
+    let ready = conflict_writing c.args.self.now c.learn.new.self c.keep.new.self c.restart.new.self (g.B.Board.nodes c.args.board.now) (g.B.Board.nodes c.learn.new.board) (g.B.Board.log c.args.board.now) (g.B.Board.log c.learn.new.board) (g.B.Board.knows c.args.board.now) (g.B.Board.knows c.learn.new.board) c.in_ok-clause.ensures.later c.in_ok-clause.clause c.in_ok-clause.level c.in_ok-clause.at c.requires.running (omega (arith, c.requires.running.2.0.lower)) c.in_ok-clause.ensures.learnt c.in_ok-clause.ensures.same c.in_ok-keep.ensures.run c.in_ok-keep.ensures.kept c.in_ok-keep.ensures.engine c.in_ok-keep.ensures.course (ap (λ (x : Engine). x.watches) c.restart.ensures.same) c.restart.ensures.task h.0 in
+    MatchBool-at_false _ _ c.if-branch.false c.in_ok-take_news.ensures.news
+    (c.in_ok-clean.ensures.writing ready.0, own_later (record c.keep.new.self { engine = c.restart.new.self }) c.clean.new.self (g.B.Board.log c.learn.new.board) (g.B.Board.log c.learn.new.board) c.in_ok-clean.ensures.run (grows_same (g.B.Board.log c.learn.new.board)) ready.1)
 
 pub returns-then-level-base-clause-model : goal.returns-then-level-base-clause-model
 returns-then-level-base-clause-model g c = λ is. absurd is

@@ -5,7 +5,7 @@ use Rattle.proof_log.specs.Logs.{entry_at}
 use Rattle.proof_log.specs.Diaries.{is_chain}
 use Rattle.cube_search.specs.Keeping.{HasLine}
 use Rattle.cube_search.specs.Running.{variables_in, subject_of}
-use Rattle.cube_search.proofs.Steps.{running_later, writing_later, kept_seen, run_then}
+use Rattle.cube_search.proofs.Steps.{running_later, writing_later, kept_seen, own_later, run_then}
 use Rattle.cube_search.proofs.search.Search.take_news.Goals as goal
 
 pub returns-then-news-clause-running : goal.returns-then-news-clause-running
@@ -46,9 +46,12 @@ news-preserved g c = record {
 pub returns-clause-news : goal.returns-clause-news
 returns-clause-news g c = λ w.
     let s = c.news.self in
-    let lined : (p : ℕ) → s.diary.start ≤ p → p < c.in_ok-news.news.upto → is_chain (entry_at (g.B.Board.log c.sync.new.self) p) ≡ true → HasLine s.diary.lines.items p = λ p le lt chain. c.news.invariant.lined w p le (omega (arith, lt, c.news-test.false)) chain in (
-      kept_seen (subject_of s (g.B.Board.nodes c.sync.new.self) (g.B.Board.log c.sync.new.self)) s.engine.watches (variables_in s) s.diary s.seen c.in_ok-news.news.upto
-          (omega (arith, c.news.invariant.running.1.placed.within, c.in_ok-news.ensures.upto)) lined (c.news.invariant.writing w),
+    let lined : (p : ℕ) → s.diary.start ≤ p → p < c.in_ok-news.news.upto → is_chain (entry_at (g.B.Board.log c.sync.new.self) p) ≡ true → HasLine s.diary.lines.items p = λ p le lt chain. c.news.invariant.lined w.0 p le (omega (arith, lt, c.news-test.false)) chain in (
+      (
+        kept_seen (subject_of s (g.B.Board.nodes c.sync.new.self) (g.B.Board.log c.sync.new.self)) s.engine.watches (variables_in s) s.diary s.seen c.in_ok-news.news.upto
+            (omega (arith, c.news.invariant.running.1.placed.within, c.in_ok-news.ensures.upto)) lined (c.news.invariant.writing w.0),
+        own_later c.args.self.now s (g.B.Board.log c.args.board.now) (g.B.Board.log c.sync.new.self) c.news.invariant.run c.in_ok-news.ensures.later.grows w.1,
+      ),
       (λ p le k chain. lined p le (c.in_ok-news.ensures.only p k) chain),
       (λ p k. let lt = c.in_ok-news.ensures.only p k in omega (arith, lt, c.in_ok-news.ensures.upto)),
     )

@@ -1,7 +1,7 @@
 use Rattle.std.proofs.Common.{sym, ◌∙◌, subst}
 use Rattle.cube_search.specs.declared.search.Search.{Search}
 use Rattle.theory_search.specs.Ends.{IsEnd}
-use Rattle.cube_search.specs.Running.{given_in, subject_of, valuation_of, IsWriting, HasLooked}
+use Rattle.cube_search.specs.Running.{given_in, subject_of, valuation_of, IsReadyToPut, HasLooked}
 use Rattle.theory_search.proofs.Going.{goes_by_chains, goes_then, model_of, end_here, became, on_none, on_some, on_both}
 use Rattle.theory_search.proofs.Grown.{longer_by_chains, more_then}
 use Rattle.theory_search.proofs.theory.Theory.go_on.Goals as goal
@@ -14,8 +14,8 @@ settle-requires-clause-theory g c = (goes_by_chains (g.B.Board.nodes c.args.boar
 
 pub settle-requires-clause-model : goal.settle-requires-clause-model
 settle-requires-clause-model g c = λ is.
-    model_of (IsWriting c.args.search.now (g.B.Board.nodes c.args.board.now) (g.B.Board.log c.args.board.now)) (subject_of c.resume.new.self (g.B.Board.nodes c.resume.new.board) (g.B.Board.log c.resume.new.board)) (g.B.Board.knows c.resume.new.board) (g.B.Board.found c.resume.new.board) (g.B.Board.told c.resume.new.board) c.resume.new.self.opening.items (valuation_of c.resume.new.self) c.args.cube c.args.budget c.in_ok-end.end is
-    (end_here _ (IsWriting c.args.search.now (g.B.Board.nodes c.args.board.now) (g.B.Board.log c.args.board.now)) c.args.search.now c.resume.new.self (g.B.Board.nodes c.resume.new.board) (g.B.Board.log c.resume.new.board) (g.B.Board.knows c.resume.new.board) (g.B.Board.found c.resume.new.board) (g.B.Board.told c.resume.new.board) (valuation_of c.resume.new.self) (given_in c.args.search.now) c.args.cube c.args.budget c.in_ok-end.end (λ h. h) (c.in_ok-end.ensures.given ∙ sym c.requires.same) c.resume.ensures.from c.resume.ensures.opening c.in_ok-end.ensures.end)
+    model_of (IsReadyToPut c.args.search.now (g.B.Board.nodes c.args.board.now) (g.B.Board.log c.args.board.now)) (subject_of c.resume.new.self (g.B.Board.nodes c.resume.new.board) (g.B.Board.log c.resume.new.board)) (g.B.Board.knows c.resume.new.board) (g.B.Board.found c.resume.new.board) (g.B.Board.told c.resume.new.board) c.resume.new.self.opening.items (valuation_of c.resume.new.self) c.args.cube c.args.budget c.in_ok-end.end is
+    (end_here _ (IsReadyToPut c.args.search.now (g.B.Board.nodes c.args.board.now) (g.B.Board.log c.args.board.now)) c.args.search.now c.resume.new.self (g.B.Board.nodes c.resume.new.board) (g.B.Board.log c.resume.new.board) (g.B.Board.knows c.resume.new.board) (g.B.Board.found c.resume.new.board) (g.B.Board.told c.resume.new.board) (valuation_of c.resume.new.self) (given_in c.args.search.now) c.args.cube c.args.budget c.in_ok-end.end (λ h. h) (c.in_ok-end.ensures.given ∙ sym c.requires.same) c.resume.ensures.from c.resume.ensures.opening c.in_ok-end.ensures.end)
 
 pub returns-in_err-ended-clause-later : goal.returns-in_err-ended-clause-later
 returns-in_err-ended-clause-later g c = (more_then (g.B.Board.nodes c.args.board.now) (g.B.Board.nodes c.resume.new.board) (g.B.Board.nodes c.settle.new.board) (g.B.Board.log c.args.board.now) (g.B.Board.log c.resume.new.board) (g.B.Board.log c.settle.new.board) (g.B.Board.knows c.args.board.now) (g.B.Board.knows c.resume.new.board) (g.B.Board.knows c.settle.new.board) (longer_by_chains (g.B.Board.nodes c.args.board.now) (g.B.Board.nodes c.resume.new.board) (g.B.Board.log c.args.board.now) (g.B.Board.log c.resume.new.board) (g.B.Board.knows c.args.board.now) (g.B.Board.knows c.resume.new.board) c.resume.ensures.later) c.settle.ensures.later)
@@ -28,7 +28,7 @@ returns-clause-kept g c =
     goes_then (g.B.Board.nodes c.args.board.now) (g.B.Board.nodes c.resume.new.board) (g.B.Board.nodes c.settle.new.board) (g.B.Board.log c.args.board.now) (g.B.Board.log c.resume.new.board) (g.B.Board.log c.settle.new.board) c.args.self.now c.args.self.now c.settle.new.self c.args.search.now c.resume.new.self c.settle.new.search (goes_by_chains (g.B.Board.nodes c.args.board.now) (g.B.Board.nodes c.resume.new.board) (g.B.Board.log c.args.board.now) (g.B.Board.log c.resume.new.board) (g.B.Board.knows c.args.board.now) (g.B.Board.knows c.resume.new.board) c.resume.ensures.later c.args.self.now c.args.search.now c.resume.new.self c.requires.search c.in_ok-end.ensures.search c.resume.ensures.opening c.resume.ensures.from c.requires.theory) c.in_ok-ended.ensures.kept
 
 pub returns-clause-writing : goal.returns-clause-writing
-returns-clause-writing g c = on_none c.in_ok-ended.ended _ _ (λ f h w. f.1 ((goes_by_chains (g.B.Board.nodes c.args.board.now) (g.B.Board.nodes c.resume.new.board) (g.B.Board.log c.args.board.now) (g.B.Board.log c.resume.new.board) (g.B.Board.knows c.args.board.now) (g.B.Board.knows c.resume.new.board) c.resume.ensures.later c.args.self.now c.args.search.now c.resume.new.self c.requires.search c.in_ok-end.ensures.search c.resume.ensures.opening c.resume.ensures.from c.requires.theory).apart h) (c.in_ok-end.ensures.model f.0 w)) c.in_ok-ended.ensures.none
+returns-clause-writing g c = on_none c.in_ok-ended.ended _ _ (λ f h w. f.1 ((goes_by_chains (g.B.Board.nodes c.args.board.now) (g.B.Board.nodes c.resume.new.board) (g.B.Board.log c.args.board.now) (g.B.Board.log c.resume.new.board) (g.B.Board.knows c.args.board.now) (g.B.Board.knows c.resume.new.board) c.resume.ensures.later c.args.self.now c.args.search.now c.resume.new.self c.requires.search c.in_ok-end.ensures.search c.resume.ensures.opening c.resume.ensures.from c.requires.theory).apart h) (c.in_ok-end.ensures.model f.0 (w, h.own))) c.in_ok-ended.ensures.none
 
 pub returns-clause-looked : goal.returns-clause-looked
 returns-clause-looked g c = on_some c.in_ok-ended.ended _ _
@@ -38,7 +38,7 @@ returns-clause-looked g c = on_some c.in_ok-ended.ended _ _
 pub returns-clause-end : goal.returns-clause-end
 returns-clause-end g c = on_both c.in_ok-ended.ended _ _ _
     (λ e f k.
-    subst (λ b. IsEnd (IsWriting c.args.search.now (g.B.Board.nodes c.args.board.now) (g.B.Board.log c.args.board.now)) (subject_of c.settle.new.search (g.B.Board.nodes b) (g.B.Board.log b)) (g.B.Board.knows b) (g.B.Board.found b) (g.B.Board.told b) c.args.self.now.live.items c.settle.new.search.opening.items (valuation_of c.settle.new.search) c.args.cube c.args.budget e) (sym f.0)
-    (subst (λ (s : Search). IsEnd (IsWriting c.args.search.now (g.B.Board.nodes c.args.board.now) (g.B.Board.log c.args.board.now)) (subject_of s (g.B.Board.nodes c.resume.new.board) (g.B.Board.log c.resume.new.board)) (g.B.Board.knows c.resume.new.board) (g.B.Board.found c.resume.new.board) (g.B.Board.told c.resume.new.board) c.args.self.now.live.items s.opening.items (valuation_of s) c.args.cube c.args.budget e) (sym f.1)
-    (became (IsWriting c.args.search.now (g.B.Board.nodes c.args.board.now) (g.B.Board.log c.args.board.now)) (subject_of c.resume.new.self (g.B.Board.nodes c.resume.new.board) (g.B.Board.log c.resume.new.board)) (g.B.Board.knows c.resume.new.board) (g.B.Board.found c.resume.new.board) (g.B.Board.told c.resume.new.board) c.args.self.now.live.items c.resume.new.self.opening.items (valuation_of c.resume.new.self) c.args.cube c.args.budget c.in_ok-end.end e k (end_here _ (IsWriting c.args.search.now (g.B.Board.nodes c.args.board.now) (g.B.Board.log c.args.board.now)) c.args.search.now c.resume.new.self (g.B.Board.nodes c.resume.new.board) (g.B.Board.log c.resume.new.board) (g.B.Board.knows c.resume.new.board) (g.B.Board.found c.resume.new.board) (g.B.Board.told c.resume.new.board) (valuation_of c.resume.new.self) (given_in c.args.search.now) c.args.cube c.args.budget c.in_ok-end.end (λ h. h) (c.in_ok-end.ensures.given ∙ sym c.requires.same) c.resume.ensures.from c.resume.ensures.opening c.in_ok-end.ensures.end))))
+    subst (λ b. IsEnd (IsReadyToPut c.args.search.now (g.B.Board.nodes c.args.board.now) (g.B.Board.log c.args.board.now)) (subject_of c.settle.new.search (g.B.Board.nodes b) (g.B.Board.log b)) (g.B.Board.knows b) (g.B.Board.found b) (g.B.Board.told b) c.args.self.now.live.items c.settle.new.search.opening.items (valuation_of c.settle.new.search) c.args.cube c.args.budget e) (sym f.0)
+    (subst (λ (s : Search). IsEnd (IsReadyToPut c.args.search.now (g.B.Board.nodes c.args.board.now) (g.B.Board.log c.args.board.now)) (subject_of s (g.B.Board.nodes c.resume.new.board) (g.B.Board.log c.resume.new.board)) (g.B.Board.knows c.resume.new.board) (g.B.Board.found c.resume.new.board) (g.B.Board.told c.resume.new.board) c.args.self.now.live.items s.opening.items (valuation_of s) c.args.cube c.args.budget e) (sym f.1)
+    (became (IsReadyToPut c.args.search.now (g.B.Board.nodes c.args.board.now) (g.B.Board.log c.args.board.now)) (subject_of c.resume.new.self (g.B.Board.nodes c.resume.new.board) (g.B.Board.log c.resume.new.board)) (g.B.Board.knows c.resume.new.board) (g.B.Board.found c.resume.new.board) (g.B.Board.told c.resume.new.board) c.args.self.now.live.items c.resume.new.self.opening.items (valuation_of c.resume.new.self) c.args.cube c.args.budget c.in_ok-end.end e k (end_here _ (IsReadyToPut c.args.search.now (g.B.Board.nodes c.args.board.now) (g.B.Board.log c.args.board.now)) c.args.search.now c.resume.new.self (g.B.Board.nodes c.resume.new.board) (g.B.Board.log c.resume.new.board) (g.B.Board.knows c.resume.new.board) (g.B.Board.found c.resume.new.board) (g.B.Board.told c.resume.new.board) (valuation_of c.resume.new.self) (given_in c.args.search.now) c.args.cube c.args.budget c.in_ok-end.end (λ h. h) (c.in_ok-end.ensures.given ∙ sym c.requires.same) c.resume.ensures.from c.resume.ensures.opening c.in_ok-end.ensures.end))))
     c.in_ok-ended.ensures.still c.in_ok-ended.ensures.end

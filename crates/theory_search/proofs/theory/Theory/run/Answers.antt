@@ -1,7 +1,7 @@
 use Rattle.std.proofs.Common.{◌∙◌}
 use Rattle.std.proofs.lemmas.Option.{MatchOption-at_some}
 use Rattle.cdcl_loop.proofs.Assuming.{none_of}
-use Rattle.cube_search.specs.Running.{IsWriting}
+use Rattle.cube_search.specs.Running.{IsReadyToPut}
 use Rattle.cube_search.proofs.Adding.{below_more}
 use Rattle.theory_search.specs.Theories.{IsTheoryApart}
 use Rattle.theory_search.proofs.Going.{goes_then, run_ended, looked_first}
@@ -25,8 +25,8 @@ returns-in-Some-2-clause-looked g c = looked_first c.go_on.new.search (g.B.Board
 
 pub returns-in-Some-2-clause-end : goal.returns-in-Some-2-clause-end
 returns-in-Some-2-clause-end g c =
-    run_ended (IsWriting c.rounds.search (g.B.Board.nodes c.rounds.board) (g.B.Board.log c.rounds.board)) (IsTheoryApart (g.B.Board.nodes c.args.board.now) (g.B.Board.log c.args.board.now) c.args.self.now c.args.search.now) c.args.search.now c.go_on.new.search (g.B.Board.nodes c.go_on.new.board) (g.B.Board.log c.go_on.new.board) (g.B.Board.knows c.go_on.new.board) (g.B.Board.found c.go_on.new.board) (g.B.Board.told c.go_on.new.board) c.rounds.self.live c.args.self.now.live c.args.given.now c.args.cube c.args.budget c.in-Some-2.end
-    c.rounds.invariant.writing c.rounds.invariant.live c.in_ok-end.ensures.given (c.in_ok-end.ensures.kept.from ∙ c.rounds.invariant.kept.from)
+    run_ended (IsReadyToPut c.rounds.search (g.B.Board.nodes c.rounds.board) (g.B.Board.log c.rounds.board)) (IsTheoryApart (g.B.Board.nodes c.args.board.now) (g.B.Board.log c.args.board.now) c.args.self.now c.args.search.now) c.args.search.now c.go_on.new.search (g.B.Board.nodes c.go_on.new.board) (g.B.Board.log c.go_on.new.board) (g.B.Board.knows c.go_on.new.board) (g.B.Board.found c.go_on.new.board) (g.B.Board.told c.go_on.new.board) c.rounds.self.live c.args.self.now.live c.args.given.now c.args.cube c.args.budget c.in-Some-2.end
+    (λ h. (c.rounds.invariant.writing h, (c.rounds.invariant.kept.apart h).own)) c.rounds.invariant.live c.in_ok-end.ensures.given (c.in_ok-end.ensures.kept.from ∙ c.rounds.invariant.kept.from)
     (MatchOption-at_some _ _ c.in-Some-2.end c.in-Some-2.is c.in_ok-end.ensures.end)
 
 pub rounds-preserved : goal.rounds-preserved
