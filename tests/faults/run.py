@@ -5,7 +5,9 @@ usage: run.py [PROGRAM]    (default: the program that `rt run` leaves in crates/
 
 For each script of `examples/`, of this folder, which has arrays and functions, and of the rows it first runs `solve` undisturbed. Then it runs it again under less and less memory
 (a limit on the address space), under limits up to a gigabyte, on a stack of 256 kilobytes, under limits of the size of a file, with a
-proof or answers that cannot be written (`/dev/full`), and with a script that cannot be read (a folder). Each time:
+proof or answers that cannot be written (`/dev/full`), and with a script that cannot be read (a folder). The scripts of this folder are
+run so with four cubes too, by one worker and by two, whose models and proofs differ from run to run, so that verdicts alone are
+compared. `check` of each proof is run under the same limits of memory and of the stack. Each time:
 
 - the status is the one of the undisturbed run, or 5 under a limit of memory, 4 where nothing can be written, 3 where nothing
   can be read; past a limit of file size it is 4 where the signal that tells of it (SIGXFSZ) is ignored, as the parent set it, and
@@ -50,9 +52,14 @@ UNWRITTEN = b"smt_tool: the proof cannot be written\n"
 CAUSES = {0: b"", 1: b"", 4: UNWRITTEN, 5: b"smt_tool: memory is wanting\n", -signal.SIGXFSZ: b""}
 
 
+def of_theories():
+    """The scripts of this folder, over arrays, functions and words whose checks are split."""
+    return [path.read_bytes() for path in sorted(HERE.glob("*.smt2"))]
+
+
 def scripts():
     """The scripts of the examples, of this folder, of the rows that solve, and some that take up to some hundred megabytes."""
-    found = [path.read_bytes() for folder in (ROOT / "examples", HERE) for path in sorted(folder.glob("*.smt2"))]
+    found = [path.read_bytes() for path in sorted((ROOT / "examples").glob("*.smt2"))] + of_theories()
     found += [make(size)[0] for make, size in ((made.deep_sums, 8_000), (made.named_chain, 10_000), (made.wide_disjunction, 5_000))]
     found += [make(size)[0] for make, size in ((theories.many_applications, 100), (theories.store_chain, 1_000), (theories.constant_arrays, 100))]
     for path in sorted((ROOT / "tests" / "rows").glob("*.row")):
@@ -91,14 +98,19 @@ def verdicts(text):
     return [line for line in text.split(b"\n")[:-1] if line in VERDICTS]
 
 
-def fault(program, proof, script, whole, allowed, got):
+def compared(answers, exact):
+    """What of the answers is compared: all, or the verdicts alone."""
+    return answers if exact else b"".join(line + b"\n" for line in verdicts(answers))
+
+
+def fault(program, proof, script, whole, allowed, got, exact=True):
     """What is wrong with a disturbed run, or None."""
     status, answers, told = got
     if status not in allowed:
         return f"status {status}, not one of {sorted(allowed)}"
     if told != CAUSES[status]:
         return f"status {status}, and standard error has {told!r}"
-    if not whole.startswith(answers):
+    if not compared(whole, exact).startswith(compared(answers, exact)):
         return f"answers are no front of the undisturbed ones: {answers[-60:]!r}"
     accepted = verdicts(run(program, ["check", proof], script)[1])
     said = verdicts(answers)
@@ -119,35 +131,61 @@ def least_that_starts(program):
     sys.exit("the program does not start under 256 MB")
 
 
-def disturbed(program, script, folder, least):
+def memory_limits(least):
+    """Limits of the address space in bytes, each with whether memory may be wanting under it."""
+    for extra in (0, 64, 128, 256, 512, 1024, 2048, 4096):
+        yield least * MEGABYTE + extra * 1024, True
+    for size in (20, 40, 64, 96, 128, 256, 512, 1024):
+        yield max(size, least) * MEGABYTE, size < 512
+
+
+def disturbed(program, options, script, folder, least):
     """The faults of all disturbed runs of a script, and their number, and how many of them wanted memory."""
     proof = str(folder / "proof")
-    full = run(program, ["solve", proof], script)
+    words, exact = ["solve", proof, *options], "2" not in options[2:]
+    full = run(program, words, script)
     faults, runs, wanted = [], 0, 0
-    for extra in (0, 64, 128, 256, 512, 1024, 2048, 4096):
-        got = run(program, ["solve", proof], script, least * MEGABYTE + extra * 1024)
-        faults.append(fault(program, proof, script, full[1], {full[0], 5}, got))
+    for limit, may_want in memory_limits(least):
+        got = run(program, words, script, limit)
+        faults.append(fault(program, proof, script, full[1], {full[0], 5} if may_want else {full[0]}, got, exact))
         runs, wanted = runs + 1, wanted + (got[0] == 5)
-    for size in (20, 40, 64, 96, 128, 256, 512, 1024):
-        got = run(program, ["solve", proof], script, max(size, least) * MEGABYTE)
-        faults.append(fault(program, proof, script, full[1], {full[0], 5} if size < 512 else {full[0]}, got))
-        runs, wanted = runs + 1, wanted + (got[0] == 5)
-    more = list(limited_runs(program, proof, script, full))
+    more = list(limited_runs(program, words, proof, script, full, exact))
     faults.extend(more)
+    judged, tried, short = limited_checks(program, proof, script, least)
+    faults.extend(judged)
+    if options:
+        return [f for f in faults if f], runs + len(more) + tried, wanted + short
     faults.extend(refused(program, proof, script, folder, full))
-    return [f for f in faults if f], runs + len(more) + 5, wanted
+    return [f for f in faults if f], runs + len(more) + tried + 5, wanted + short
 
 
-def limited_runs(program, proof, script, full):
+def limited_checks(program, proof, script, least):
+    """The faults of checks of the proof under limits of memory and on a small stack, their number, and how many wanted memory."""
+    words = ["check", proof]
+    run(program, ["solve", proof], script)
+    full = run(program, words, script)
+    got = run_under(program, words, script, [(resource.RLIMIT_STACK, 1 << 18)])
+    faults, wanted = [None if got == full else f"check: {got} on a small stack"], 0
+    for limit, may_want in memory_limits(least):
+        got = run(program, words, script, limit)
+        want = got[0] == 5 and may_want and full[1].startswith(got[1]) and got[2] == CAUSES[5]
+        faults.append(None if want or got == full else f"check: {got} under {limit} bytes")
+        wanted += want
+    return faults, len(faults), wanted
+
+
+def limited_runs(program, words, proof, script, full, exact):
     """The faults of runs on a small stack, and under limits of the size of a file."""
-    got = run_under(program, ["solve", proof], script, [(resource.RLIMIT_STACK, 1 << 18)])
-    yield None if got == full else f"{got} on a small stack"
+    got = run_under(program, words, script, [(resource.RLIMIT_STACK, 1 << 18)])
+    same = (got[0], compared(got[1], exact), got[2]) == (full[0], compared(full[1], exact), full[2])
+    yield None if same else f"{got} on a small stack"
     whole = len(pathlib.Path(proof).read_bytes())
     for size in sorted({0, 1, 30, whole // 2, max(whole - 1, 0), whole}):
         for signals in (False, True):
-            got = run_under(program, ["solve", proof], script, [(resource.RLIMIT_FSIZE, size)], signals)
+            got = run_under(program, words, script, [(resource.RLIMIT_FSIZE, size)], signals)
             past = -signal.SIGXFSZ if signals else 4
-            yield fault(program, proof, script, full[1], {full[0] if size >= whole else past}, got)
+            allowed = {full[0] if size >= whole else past} if exact else {full[0], past}
+            yield fault(program, proof, script, full[1], allowed, got, exact)
 
 
 def refused(program, proof, script, folder, full):
@@ -347,13 +385,15 @@ def main(words):
         all_faults, runs = all_faults + len(faults), runs + count
         for text in faults:
             print(text)
-        for number, script in enumerate(scripts()):
-            faults, count, short = disturbed(program, script, pathlib.Path(name), least)
-            more, others = closed_streams(program, script, pathlib.Path(name))
+        tried = [([], script) for script in scripts()]
+        tried += [(["--cubes", "2", "--workers", workers], script) for workers in ("1", "2") for script in of_theories()]
+        for number, (options, script) in enumerate(tried):
+            faults, count, short = disturbed(program, options, script, pathlib.Path(name), least)
+            more, others = closed_streams(program, script, pathlib.Path(name)) if not options else ([], 0)
             faults, count = faults + more, count + others
             all_faults, runs, wanted = all_faults + len(faults), runs + count, wanted + short
             for text in faults:
-                print(f"script {number}: {text}")
+                print(f"script {number} {options}: {text}")
     print(f"{runs} runs, {wanted} of them without enough memory, {all_faults} faults (the program starts with {least} MB)")
     return 1 if all_faults else 0
 
