@@ -6,7 +6,6 @@ use Rattle.std.proofs.lemmas.List.Elements.{Contains-append_right}
 use Rattle.cnf_base.specs.Literals.{Literal, true_literal, negative_of}
 use Rattle.cnf_base.specs.Choices.{equal_gates}
 use Rattle.cnf_base.specs.Gates.{gates_clauses}
-use Rattle.cnf_base.specs.declared.clause.ClauseId.{ClauseId}
 use Rattle.cnf_base.proofs.Lists.{Contains-nil, Contains-first, slice_get-at, each_slice_get}
 use Rattle.cnf_base.proofs.Options.{some_value}
 use Rattle.smt_terms.specs.declared.node.Node.{Node}

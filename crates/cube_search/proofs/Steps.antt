@@ -13,10 +13,10 @@ use Rattle.proof_log.specs.declared.board.Sync.{Sync}
 use Rattle.proof_log.specs.declared.entry.Entry.{Entry}
 use Rattle.proof_log.specs.declared.entry.Entry.TheVariants as step
 use Rattle.proof_log.specs.declared.diary.DiaryLine.{DiaryLine}
-use Rattle.proof_log.specs.declared.diary.DiaryLine.TheVariants.{Take, Put, Drop}
+use Rattle.proof_log.specs.declared.diary.DiaryLine.TheVariants.{Take, Put}
 use Rattle.proof_log.specs.Logs.{clause_at, entry_at, state_of}
 use Rattle.proof_log.specs.Boards.{Grows, IsLater, IsPutAt, KnowsOneMore}
-use Rattle.proof_log.specs.Diaries.{Subject, DiaryState, is_chain, allowed, blank, IsLine, AreLines, line_after, IsSpent}
+use Rattle.proof_log.specs.Diaries.{Subject, is_chain, allowed, blank, IsLine, IsSpent}
 use Rattle.proof_log.proofs.Growth.{later_same, grown_length, entry_within, entry_stays, chain_clause, chain_part, put_entry, put_clause, put_is_new}
 use Rattle.proof_log.proofs.Lines.{spent}
 use Rattle.cdcl_core.specs.Levels.{IsTrueBy}

@@ -1,5 +1,5 @@
 -- What a search needs to look at its models by functions and arrays, and what it may put on its board.
-use Rattle.std.specs.Prelude.{◌≡◌, ◌≤◌, ◌<◌, ◌⊎◌, ℕ, true, false, Bool, List, [], ◌∷◌, length, Option, Some, IsSome, Contains}
+use Rattle.std.specs.Prelude.{◌≡◌, ◌≤◌, ◌<◌, ◌⊎◌, ℕ, true, false, Bool, List, [], ◌∷◌, Option, Some, IsSome, Contains}
 use Rattle.std.specs.List.{AllByRecursion}
 use Rattle.cnf_base.specs.Literals.{Literal}
 use Rattle.cnf_base.specs.declared.clause.ClauseId.{ClauseId}
