@@ -41,7 +41,11 @@ fn tell_summary<W: Sink>(
 fn status_unwritten(kept: &Kept) -> Status
     ensures { result ≡ status_unwritten kept.now.refused }
 {
-    if kept.refused() == 0 { Status::WriteFault } else { Status::NoMemory }
+    if kept.refused() == 0 {
+        Status::WriteFault
+    } else {
+        Status::NoMemory
+    }
 }
 
 /// Tells the summary of what is kept of a run that came to its end, and nothing of any other.

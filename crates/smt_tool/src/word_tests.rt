@@ -104,8 +104,16 @@ const SEARCHED: [(&[&str], &str, Option<&str>); 2] = [
 /// Words that ask for `drill`, with its seed and its size.
 const DRAWN: [(&[&str], u64, u32); 5] = [
     (&["drill", "0", "1", "p"], 0, 1),
-    (&["drill", "18446744073709551615", "1000", "p"], u64::MAX, 1000),
-    (&["drill", "--workers", "3", "7", "+2", "p", "--cubes=1"], 7, 2),
+    (
+        &["drill", "18446744073709551615", "1000", "p"],
+        u64::MAX,
+        1000,
+    ),
+    (
+        &["drill", "--workers", "3", "7", "+2", "p", "--cubes=1"],
+        7,
+        2,
+    ),
     (&["drill", "007", "2", "--", "p"], 7, 2),
     (&["drill", "7", "2", "--budget", "0", "p"], 7, 2),
 ];

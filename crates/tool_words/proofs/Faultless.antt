@@ -249,12 +249,14 @@ numbers_found words name rows e found =
 pub faultless_asks : (words : List Text) → fault_of program words ≡ [] → (command : Command) × IsTo command words
 faultless_asks words e =
     let f = faultless_found words e in
-    let rows = f.1.rows in
-    (f.0, record {
-      proof = f.1.proof;
-      out = unwrap_or (first_of (codes "OUT") rows) f.1.proof;
-      script = first_of (codes "SCRIPT") rows;
-      options = options_in rows;
-      draw = draw_in rows;
-      asks = record { taken = e; names = record { rows = rows; command = f.1.command; proof_is = f.1.proof_is; out_is = refl; script_is = refl; options_are = refl; draw_is = refl } };
-    })
+    let rows = f.1.rows in (
+      f.0,
+      record {
+        proof = f.1.proof;
+        out = unwrap_or (first_of (codes "OUT") rows) f.1.proof;
+        script = first_of (codes "SCRIPT") rows;
+        options = options_in rows;
+        draw = draw_in rows;
+        asks = record { taken = e; names = record { rows = rows; command = f.1.command; proof_is = f.1.proof_is; out_is = refl; script_is = refl; options_are = refl; draw_is = refl } };
+      },
+    )

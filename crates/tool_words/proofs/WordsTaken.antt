@@ -1,9 +1,12 @@
 -- What a parse found of a command, and that the words ask for it.
-use Rattle.std.proofs.Common.{◌≡◌, ◌≤◌, ◌<◌, ◌^◌, ℕ, ◌+◌, ◌*◌, ◌==◌, List, [], get_or, Option, Some, None, refl, sym, ap, ap₂, ◌∙◌, subst, arith}
-use Rattle.std.specs.Prelude.{option_map, unwrap_or, codes, true, false, Result, Ok, Err}
+use Rattle.std.proofs.Common.{◌≡◌, ◌≤◌, ◌<◌, ◌^◌, ℕ, ◌+◌, ◌*◌, ◌==◌, List, [], get_or, Option, Some, None, refl, sym, ap, ap₂, ◌∙◌, subst, ⊎_elim, arith}
+use Rattle.std.specs.Prelude.{◌⊎◌, option_map, unwrap_or, codes, true, false, Result, Ok, Err}
 use Rattle.std.specs.Str.Parse.{ParsesUnsigned, digits_value, without_leading_plus}
 use Rattle.std.specs.Borrow.{Bor}
 use Rattle.clap.specs.Walk.{Text, Row, first_of, one_of, rows_of}
+use Rattle.clap.specs.Kinds.{IsAmong}
+use Rattle.clap.specs.declared.error.kind.ErrorKind.{ErrorKind}
+use Rattle.clap.specs.declared.error.kind.ErrorKind.TheVariants.{OutOfMemory}
 use Rattle.clap.specs.Faults.{fault_of, is_simple_and_free}
 use Rattle.clap.specs.Matches.{found_of, first_value, subcommand_name_of, ReadsOne}
 use Rattle.clap.specs.Simple.{App, HasMatchesOf, is_simple, subcommand_of, subcommand_rows_of}
@@ -108,6 +111,20 @@ free = refl
 pub numbers_asked : (app : App) (m : ArgMatches) (words : List Text) → app ≡ program → HasMatchesOf app words m → (is_simple_and_free app ≡ true → fault_of app words ≡ []) → (name : Text) (rows : List Row) → subcommand_rows_of m ≡ Some (name, rows) → AreWithin rows
 numbers_asked app m words e h k name rows found =
     numbers_found words name rows (subst (λ a. fault_of a words ≡ []) e (k (ap is_simple_and_free e ∙ free))) (sym (found_same app m words e h) ∙ found)
+
+-- what a parse found is what the words ask for
+pub asked_so : (app : App) (m : ArgMatches) (words : List Text) → app ≡ program → HasMatchesOf app words m → (is_simple_and_free app ≡ true → fault_of app words ≡ []) → (command : Command) (proof out : Text) (script : Option Text) (options : Options) (draw : Draw) → Names (subcommand_rows_of m) (name_of command) proof out script options draw → Asks command words proof out script options draw
+asked_so app m words e h k command proof out script options draw n = record {
+  taken = subst (λ a. fault_of a words ≡ []) e (k (ap is_simple_and_free e ∙ free));
+  names = subst (λ o. Names o (name_of command) proof out script options draw) (found_same app m words e h) n;
+}
+
+-- where words are taken a parse fails for want of memory alone
+pub fails_by_memory : (app : App) (words : List Text) (k : ErrorKind) → app ≡ program → (is_simple_and_free app ≡ true → (k ≡ OutOfMemory) ⊎ IsAmong k (fault_of app words)) → AreTaken words → k ≡ OutOfMemory
+fails_by_memory app words k e h t =
+    ⊎_elim (λ m. m)
+    (λ (a : IsAmong k (fault_of app words)). absurd (subst (IsAmong k) t (subst (λ b. IsAmong k (fault_of b words)) e a)))
+    (h (ap is_simple_and_free e ∙ free))
 
 -- numbers in range are allowed
 pub options_in_range : (rows : List Row) → AreWithin rows → AreOptions (options_in rows)

@@ -2,7 +2,7 @@
 -- the name of a proof file. Before it `drill` has the seed and the size of a script, behind it `convert` has the name of the file that
 -- a proof is written into, and each other perhaps that of a script, or of clauses. Two commands have three options too: how many
 -- workers search, and the limits of their search.
-use Rattle.std.specs.Prelude.{◌≡◌, ◌≤◌, ℕ, true, List, [], codes, Option, Some, None, unwrap_or}
+use Rattle.std.specs.Prelude.{◌≡◌, ◌≤◌, ℕ, true, false, List, [], ◌∷◌, codes, Option, Some, None, unwrap_or}
 use Rattle.std.specs.Str.Parse.{without_leading_plus, digits_value}
 use Rattle.clap.specs.Walk.{Text, Rule, Row, first_of, one_of}
 use Rattle.clap.specs.Simple.{App, Shape, new_rule, new_shape, with_rule, subcommand_of}

@@ -61,11 +61,8 @@ fn number_option<'a>(alloc: Global, name: &'a str, least: u64, most: u64) -> Arg
 }
 
 /// The command with the number of workers and the limits of their search.
-fn with_options<'a>(
-    alloc: Global,
-    command: CommandLine<'a>,
-) -> Result<CommandLine<'a>, AllocError>
-    requires local { (fields_of command.entry).has_globals ≡ false }
+fn with_options<'a>(alloc: Global, command: CommandLine<'a>) -> Result<CommandLine<'a>, AllocError>
+    requires local { (fields_of command).has_globals ≡ false }
     ensures app { IfOk result (λ c. app_of c ≡ with_options (app_of command.entry)) }
     ensures local { IfOk result (λ c. (fields_of c).has_globals ≡ false) }
 {
@@ -93,7 +90,10 @@ fn draw_command<'a>(alloc: Global) -> Result<CommandLine<'a>, AllocError>
     let seed = number_argument(alloc, "SEED", 0, u64::MAX);
     let size = number_argument(alloc, "SIZE", 1, MOST_SIZE);
     let proof = Arg::new(alloc, "PROOF").required(true);
-    CommandLine::new(alloc, "drill").arg(seed)?.arg(size)?.arg(proof)
+    CommandLine::new(alloc, "drill")
+        .arg(seed)?
+        .arg(size)?
+        .arg(proof)
 }
 
 /// The command that answers a script that is drawn, with the number of workers and the limits of their search.
