@@ -41,4 +41,4 @@ taken_in_order log start ls h = taken_behind log start [] ls h.later h.first
 pub taken_before : (low high : ℕ) (log : List Entry) (r : Record) → low ≤ high → HasTakenFirst high log (Some r) → HasTakenFirst low log (Some r)
 taken_before low high log (Sat values) le h = tt
 taken_before low high log (Unsat p) le h = tt
-taken_before low high log (Unknown d) le h = (let start = h.0 in omega (arith, le, start), h.1)
+taken_before low high log (Unknown d) le h = ((let start = h.0 in omega (arith, le, start)), h.1)
