@@ -49,5 +49,5 @@ returns-in-Err c = λ e stands.
 pub cut-requires-clause-marks : goal.cut-requires-clause-marks
 cut-requires-clause-marks c = plain_grows _ _ _ _ c.in-Ok.ensures.grows c.self.invariant.1
 
-pub cut-in-Err-requires-clause-marks : goal.cut-in-Err-requires-clause-marks
-cut-in-Err-requires-clause-marks c = plain_grows _ _ _ _ c.in-Ok.ensures.grows c.self.invariant.1
+pub cut-requires-in-Err-clause-marks : goal.cut-requires-in-Err-clause-marks
+cut-requires-in-Err-clause-marks c = plain_grows _ _ _ _ c.in-Ok.ensures.grows c.self.invariant.1

@@ -27,11 +27,11 @@ invariant_of-self-in-Err-Refused c = (rw (cut_back _ _ _ _ _ c.ask.ensures.grows
 pub cut-requires-clause-marks : goal.cut-requires-clause-marks
 cut-requires-clause-marks c = plain_grows _ _ _ _ c.ask.ensures.grows c.self.invariant.1
 
-pub cut-in_default-requires-clause-marks : goal.cut-in_default-requires-clause-marks
-cut-in_default-requires-clause-marks c = plain_grows _ _ _ _ c.ask.ensures.grows c.self.invariant.1
+pub cut-requires-in_default-clause-marks : goal.cut-requires-in_default-clause-marks
+cut-requires-in_default-clause-marks c = plain_grows _ _ _ _ c.ask.ensures.grows c.self.invariant.1
 
-pub cut-in-Err-NoMemory-requires-clause-marks : goal.cut-in-Err-NoMemory-requires-clause-marks
-cut-in-Err-NoMemory-requires-clause-marks c = plain_grows _ _ _ _ c.ask.ensures.grows c.self.invariant.1
+pub cut-requires-in-Err-NoMemory-clause-marks : goal.cut-requires-in-Err-NoMemory-clause-marks
+cut-requires-in-Err-NoMemory-clause-marks c = plain_grows _ _ _ _ c.ask.ensures.grows c.self.invariant.1
 
-pub cut-in-Err-Refused-requires-clause-marks : goal.cut-in-Err-Refused-requires-clause-marks
-cut-in-Err-Refused-requires-clause-marks c = plain_grows _ _ _ _ c.ask.ensures.grows c.self.invariant.1
+pub cut-requires-in-Err-Refused-clause-marks : goal.cut-requires-in-Err-Refused-clause-marks
+cut-requires-in-Err-Refused-clause-marks c = plain_grows _ _ _ _ c.ask.ensures.grows c.self.invariant.1
