@@ -10,3 +10,4 @@ mod Lining
 mod Parts
 mod Earlier
 mod Files
+pub mod TakenFirst

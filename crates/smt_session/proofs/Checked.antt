@@ -8,6 +8,7 @@ use Rattle.proof_log.specs.declared.entry.Entry.{Entry}
 use Rattle.proof_log.specs.Stored.{LogValue}
 use Rattle.proof_text.specs.declared.record.Record.{Record}
 use Rattle.proof_text.specs.declared.record.Record.TheVariants.{Sat, Unsat, Unknown}
+use Rattle.proof_file.proofs.TakenFirst.{taken_before}
 use Rattle.accepted_proof.specs.Searching.{Limits, cube_variables, given_literals}
 use Rattle.accepted_proof.specs.Turns.{IsShown, with_steps}
 use Rattle.accepted_proof.proofs.Following.{same_assumed, same_scopes, shown_back, unknown_in}
@@ -17,7 +18,6 @@ use Rattle.smt_session.specs.Planning.{Prepares}
 use Rattle.smt_session.specs.Thorough.{IsClosedCube, HasSpent, AreSearched, AreSimplified, AreWanted}
 use Rattle.smt_session.specs.Sessions.{IsSession, IsChecked, IsConcluded}
 use Rattle.smt_session.proofs.Leading.{prepares_more, state_with}
-use Rattle.smt_session.proofs.TakenFirst.{taken_before}
 
 -- ---- the cubes
 

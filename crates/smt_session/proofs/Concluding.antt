@@ -34,6 +34,7 @@ use Rattle.theory_cubes.specs.declared.outcome.Outcome.TheVariants as interprete
 use Rattle.proof_text.specs.Records.{AreWritten}
 use Rattle.proof_text.specs.declared.record.Record.{Record}
 use Rattle.proof_text.specs.declared.record.Record.TheVariants.{Sat, Unsat, Unknown}
+use Rattle.proof_file.proofs.TakenFirst.{taken_in_order, taken_before}
 use Rattle.accepted_proof.specs.Models.{IsWrittenModel}
 use Rattle.accepted_proof.specs.Searching.{Limits, Rise, cube_variables, selector_literals, bits_or_none, given_literals, HasSelector, HasBit, IsUnknown}
 use Rattle.reached_steps.specs.Reached.{IsOfTerms}
@@ -45,7 +46,6 @@ use Rattle.smt_session.specs.Sessions.{IsSession, IsConcluded}
 use Rattle.smt_session.proofs.Adding.{added_behind, grows_by_adds, variables_stay}
 use Rattle.smt_session.proofs.Giving.{given_below, given_stays}
 use Rattle.smt_session.proofs.Staying.{grows_more}
-use Rattle.smt_session.proofs.TakenFirst.{taken_in_order, taken_before}
 use Rattle.smt_session.proofs.Turning.{refutation}
 
 -- ---- what is searched
@@ -234,7 +234,7 @@ module _ (limits : Limits) (s : StateValue) (old new : LogValue) (positions vari
   }
 
   pub spent_checked : (d : Diary) → IsLowestSpent (problem s.terms.nodes old.entries positions variables given limits.budget) new.entries (2 ^ length variables) d → IsConcluded limits s old new (Unknown d)
-  spent_checked d h = record { grows = grows_by_adds s old new adds after; shown = unknown d h.own; cubes = others_searched d h; taken = (h.own.start, taken_in_order new.entries d.start d.lines h.own.order) }
+  spent_checked d h = record { grows = grows_by_adds s old new adds after; shown = unknown d h.own; cubes = others_searched d h; taken = (h.own.start, taken_in_order new.entries d.start d.lines h.own.order.later h.own.order.first) }
 
 -- ---- what a check comes to
 

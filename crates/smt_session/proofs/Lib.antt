@@ -12,7 +12,6 @@ pub mod Reasons
 pub mod Leading
 pub mod PlanSteps
 pub mod Plans
-pub mod TakenFirst
 pub mod Checked
 pub mod Reaching
 pub mod Adding

@@ -10,7 +10,6 @@ use Rattle.proof_log.specs.Logs.{entry_at}
 use Rattle.proof_text.specs.declared.record.Record.{Record}
 use Rattle.proof_text.specs.declared.record.Record.TheVariants.{Sat, Unsat, Unknown}
 use Rattle.proof_file.specs.Equalities.{AreTakenFirst, HasTakenFirst}
-use Rattle.cube_search.specs.Keeping.{IsInOrder}
 
 -- the same of the lines behind others
 abbrev ComeFirst : List Entry → ℕ → List DiaryLine → List DiaryLine → Type 0
@@ -34,8 +33,9 @@ taken_behind log start before (Put x ∷ ls) later first = (
 taken_behind log start before (Drop x ∷ ls) later first =
     taken_behind log start (before ++ Drop x ∷ []) ls (λ p c. later p (Contains-later (Drop x) (Put p) ls c)) (come_later log start before ls (Drop x) first)
 
-pub taken_in_order : (log : List Entry) (start : ℕ) (ls : List DiaryLine) → IsInOrder log start ls → AreTakenFirst log start [] ls
-taken_in_order log start ls h = taken_behind log start [] ls h.later h.first
+pub taken_in_order : (log : List Entry) (start : ℕ) (ls : List DiaryLine) → ((p : ℕ) → Contains ls (Put p) → start ≤ p)
+    → ((front behind : List DiaryLine) (p q t u : ℕ) → ls ≡ front ++ Put p ∷ behind → start ≤ q → q < p → entry_at log q ≡ Some (step.Equal t u) → Contains front (Take q)) → AreTakenFirst log start [] ls
+taken_in_order log start ls later first = taken_behind log start [] ls later first
 
 -- where a check's own steps began before
 pub taken_before : (low high : ℕ) (log : List Entry) (r : Record) → low ≤ high → HasTakenFirst high log (Some r) → HasTakenFirst low log (Some r)
