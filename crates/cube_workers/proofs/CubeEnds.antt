@@ -1,5 +1,5 @@
 -- What the search of one cube came to.
-use Rattle.std.proofs.Common.{◌≡◌, ℕ, suc, ◌<◌, ◌^◌, Bool, true, false, List, ◌++◌, length, sym, ap, ◌∙◌, subst}
+use Rattle.std.proofs.Common.{◌≡◌, ℕ, suc, ◌<◌, ◌^◌, Bool, true, false, List, ◌++◌, length, sym, ap, ◌∙◌, subst, arith}
 use Rattle.std.specs.Prelude.{Option, MatchBool}
 use Rattle.std.proofs.lemmas.List.Elements.{Contains-append_right}
 use Rattle.cnf_base.specs.Literals.{Literal}
