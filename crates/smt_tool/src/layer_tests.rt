@@ -117,6 +117,22 @@ fn commanded(alloc: Global, checker: Checker, commands: &[Chunk]) -> Option<Chec
     Some(checker)
 }
 
+/// The checker behind the next line, and what it tells of it.
+fn told_next(
+    alloc: Global,
+    checker: Checker,
+    reader: &mut ProofReader,
+) -> Option<(Checker, Result<(), Refusal>)> {
+    let Some(line) = next_line(reader) else {
+        drop(checker);
+        return None;
+    };
+    let line = Ok(line);
+    let answered = checker.line(alloc, &line);
+    drop(line);
+    answered.ok()
+}
+
 /// The checker behind so many lines, or the refusal of the first bad one.
 fn told(
     alloc: Global,
@@ -126,14 +142,7 @@ fn told(
 ) -> Option<Result<Checker, Refusal>> {
     let mut checker = checker;
     for _ in 0..count {
-        let Some(line) = next_line(reader) else {
-            drop(checker);
-            return None;
-        };
-        let line = Ok(line);
-        let answered = checker.line(alloc, &line);
-        drop(line);
-        let (next, answer) = answered.ok()?;
+        let (next, answer) = told_next(alloc, checker, reader)?;
         if let Err(refusal) = answer {
             drop(next);
             return Some(Err(refusal));
@@ -141,6 +150,23 @@ fn told(
         checker = next;
     }
     Some(Ok(checker))
+}
+
+/// The refusal of a bad line, where the same is told of each of the two lines behind it.
+fn told_again(alloc: Global, proof: &[u8]) -> Option<Refusal> {
+    let commands = commands_of(alloc, SCRIPT).ok()?;
+    let mut reader = ProofReader::new(alloc);
+    reader.feed(proof).ok()?;
+    let checker = begun(alloc, &mut reader)?;
+    let checker = commanded(alloc, checker, commands.as_slice())?;
+    let (checker, first) = told_next(alloc, checker, &mut reader)?;
+    let (checker, second) = told_next(alloc, checker, &mut reader)?;
+    let (checker, third) = told_next(alloc, checker, &mut reader)?;
+    drop(checker);
+    if second != first || third != first {
+        return None;
+    }
+    first.err()
 }
 
 /// What is told of the end of a proof, whose text the reader holds, with these commands, after so many lines behind the header;
@@ -181,6 +207,13 @@ fn a_checker_takes_commands_and_lines(rt: HostRuntime) {
         rule: RuleName::End,
     };
     assert!(rt; ended(rt.alloc(), 3) == Some((Err(cut), false)));
+    // A selector of an assertion that is none, and lines behind it that would be good.
+    let refused = Refusal {
+        line: 2,
+        rule: RuleName::Selector,
+    };
+    let proof = b"smt_proof 1 cubes 0 budget 9\ns 1\nf 0\ns 0\n";
+    assert!(rt; told_again(rt.alloc(), proof) == Some(refused));
 }
 
 #[test]

@@ -23,6 +23,8 @@ mod diary_tests;
 #[cfg(test)]
 mod error_tests;
 #[cfg(test)]
+mod fault_tests;
+#[cfg(test)]
 mod form_error_tests;
 #[cfg(test)]
 mod layer_tests;

@@ -3,6 +3,7 @@
 use crate::worked::{SOLVE, is_answered, joined};
 use smt_check::status::Status;
 use std::alloc::AllocGlobal;
+use std::process::Abort;
 use std::sync::Wait;
 use std::test::Fail;
 use std::thread::Threads;
@@ -94,6 +95,19 @@ const COMMANDS: [(&[u8], &[u8]); 20] = [
     (b"(exit)", b"success\n"),
 ];
 
+/// A name that is declared again behind a pop, the same.
+const DECLARED_AGAIN: [(&[u8], &[u8]); 9] = [
+    (b"(push 1)", b""),
+    (b"(declare-const x (_ BitVec 8))", b""),
+    (b"(assert (distinct x x))", b""),
+    (b"(check-sat)", b"unsat\n"),
+    (b"(pop 1)", b""),
+    (b"(declare-const x (_ BitVec 4))", b""),
+    (b"(assert (= x #xf))", b""),
+    (b"(check-sat)", b"sat\n"),
+    (b"(get-value (x))", b"((x #b1111))\n"),
+];
+
 /// Whether behind the lines that are answered so, a front of a command on this line is told to be unfinished.
 fn is_cut(
     rt: &(impl Threads + Wait + Sync + AllocGlobal),
@@ -125,20 +139,52 @@ fn are_cut(
     Ok(true)
 }
 
-#[test]
-fn every_prefix_answers_its_whole_commands(rt: HostRuntime) -> Result<(), Fail> {
+/// The number of the first command of which a front, or the whole, is answered otherwise behind those before it, with such a gap
+/// between two; counted from 0.
+fn first_other(
+    rt: &(impl Threads + Wait + Sync + AllocGlobal),
+    commands: &[(&[u8], &[u8])],
+    gap: u8,
+) -> Result<Option<usize>, Fail> {
     let alloc = rt.alloc();
-    let mut lines: Vec<u8> = Vec::new(alloc);
+    let mut script: Vec<u8> = Vec::new(alloc);
     let mut answers: Vec<u8> = Vec::new(alloc);
-    for (row, (command, told)) in COMMANDS.iter().enumerate() {
-        let line = row.saturating_add(1);
-        let are_cut = are_cut(&rt, lines.as_slice(), answers.as_slice(), command, line)?;
-        assert!(rt; are_cut, "line {line}");
-        lines.extend_from_slice(command)?;
+    for (row, (command, told)) in commands.iter().enumerate() {
+        let line = if gap == b'\n' {
+            row.saturating_add(1)
+        } else {
+            1
+        };
+        // Behind a gap, and so inside no command, what stands before is answered.
+        let is_so = is_answered(rt, SOLVE, script.as_slice(), answers.as_slice(), None);
+        let are_cut = are_cut(rt, script.as_slice(), answers.as_slice(), command, line)?;
+        if !is_so || !are_cut {
+            return Ok(Some(row));
+        }
+        script.extend_from_slice(command)?;
         answers.extend_from_slice(told)?;
-        let is_so = is_answered(&rt, SOLVE, lines.as_slice(), answers.as_slice(), None);
-        assert!(rt; is_so, "line {line}");
-        lines.push(b'\n')?;
+        if !is_answered(rt, SOLVE, script.as_slice(), answers.as_slice(), None) {
+            return Ok(Some(row));
+        }
+        script.push(gap)?;
+    }
+    Ok(None)
+}
+
+/// Each front of each of the commands is answered as it should be.
+fn judge_fronts(
+    rt: &(impl Threads + Wait + Sync + Abort + AllocGlobal),
+    commands: &[(&[u8], &[u8])],
+    gap: u8,
+) -> Result<(), Fail> {
+    if let Some(row) = first_other(rt, commands, gap)? {
+        panic!(rt; "command {row}, with byte {gap} between two");
     }
     Ok(())
+}
+
+#[test]
+fn every_prefix_answers_its_whole_commands(rt: HostRuntime) -> Result<(), Fail> {
+    judge_fronts(&rt, &COMMANDS, b'\n')?;
+    judge_fronts(&rt, &DECLARED_AGAIN, b' ')
 }
