@@ -55,20 +55,20 @@ const VERDICTS: [&[u8]; 3] = [b"sat\n", b"unsat\n", b"unknown\n"];
 
 /// The end of a run: its status, and what it answered and wrote.
 #[derive(Drop)]
-struct Ending {
+struct RunEnd {
     status: Status,
     answers: Vec<u8>,
     proof: Vec<u8>,
 }
 
 /// The end of a run in pieces of so many bytes, where these calls fail of the script, of the answers and of the proof.
-fn ending(
+fn run_end(
     rt: &(impl Threads + Wait + Sync + AllocGlobal),
     words: &[&str],
     script: &[u8],
     piece: usize,
     failing: [&[u64]; 3],
-) -> Ending {
+) -> RunEnd {
     let alloc = rt.alloc();
     let mut script = MemSource::new(script, piece.max(1), failing[0]);
     let mut unread = MemSource::new(b"", 1, &[]);
@@ -84,7 +84,7 @@ fn ending(
         &mut proof,
         &NoGate,
     );
-    Ending {
+    RunEnd {
         status,
         answers: answers.into_bytes(),
         proof: proof.into_bytes(),
@@ -119,19 +119,19 @@ impl Stream {
 }
 
 /// The end of a run in pieces of a byte, where the call of this number fails of the stream, counted from 0.
-fn ending_behind(
+fn run_end_behind(
     rt: &(impl Threads + Wait + Sync + AllocGlobal),
     row: &Faulted,
     stream: Stream,
     call: u64,
-) -> Ending {
+) -> RunEnd {
     let calls = [call];
     let failing: [&[u64]; 3] = match stream {
         Stream::Script => [&calls, &[], &[]],
         Stream::Answers => [&[], &calls, &[]],
         Stream::Proof => [&[], &[], &calls],
     };
-    ending(rt, row.words, row.script, 1, failing)
+    run_end(rt, row.words, row.script, 1, failing)
 }
 
 /// The verdicts among the lines that are whole, and how many they are.
@@ -215,7 +215,7 @@ fn proof_cut(alloc: Global, proof: &[u8], records: usize) -> Result<Vec<u8>, All
 fn is_accepted(
     rt: &(impl Threads + Wait + Sync + AllocGlobal),
     script: &[u8],
-    end: &Ending,
+    end: &RunEnd,
 ) -> Result<bool, AllocError> {
     let (verdicts, checks) = verdicts_of(rt.alloc(), end.answers.as_slice())?;
     if checks == 0 {
@@ -246,7 +246,7 @@ fn is_met(
     stream: Stream,
     call: u64,
 ) -> Result<Option<bool>, AllocError> {
-    let end = ending_behind(rt, row, stream, call);
+    let end = run_end_behind(rt, row, stream, call);
     let met = end.status == stream.fault();
     // A call gives or takes one byte, and the last one of the script tells its end.
     let counted = match stream {
@@ -313,7 +313,7 @@ fn each_call_of_a_run_of_workers_fails_in_turn(rt: HostRuntime) -> Result<(), Fa
 #[test]
 fn first_calls_fail(rt: HostRuntime) {
     // The first answer cannot be written: its record is in the proof.
-    let end = ending(&rt, SOLVE, POPPED, 1000, [&[], &[0], &[]]);
+    let end = run_end(&rt, SOLVE, POPPED, 1000, [&[], &[0], &[]]);
     assert!(rt; end.status == Status::WriteFault);
     assert!(rt; end.answers.is_empty());
     let mut told = MemSink::new(rt.alloc(), 1000, &[]);
