@@ -1,5 +1,5 @@
 -- The slots of names, by the row and its blocks.
-use Rattle.std.proofs.Common.{ℕ, zero, suc, ◌≡◌, ◌≢◌, ◌+◌, ◌-◌, ◌<◌, ◌≤◌, ◌⊎◌, List, [], ◌∷◌, ◌++◌, Option, Some, None, length, take, drop, replicate, refl, sym, ap, ◌∙◌, inl, inr, arith}
+use Rattle.std.proofs.Common.{ℕ, zero, suc, ◌≡◌, ◌≢◌, ◌+◌, ◌-◌, ◌<◌, ◌≤◌, List, [], ◌∷◌, ◌++◌, Some, None, length, take, drop, replicate, refl, sym, ap, ◌∙◌, inl, inr, arith}
 use Rattle.std.proofs.Math.ListN.{get_or, set, length-set, get_or-map}
 use Rattle.std.proofs.lemmas.List.{get_or-set_other, get_or-set_same, get_or_past, get_or-take, get_or-drop, get_or_append_left, get_or_default, length-append, length-take, length-drop, length-replicate, take_all, drop_all, drop-append-le, append-nil, append_assoc}
 use Rattle.std.proofs.lemmas.Bool.{cases_lt}

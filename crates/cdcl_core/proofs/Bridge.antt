@@ -10,7 +10,7 @@ use Rattle.cdcl_core.specs.declared.trail.Trail.{Trail}
 use Rattle.cdcl_core.specs.Chains.{times}
 use Rattle.cdcl_core.specs.Levels.{Row, IsTrueBy, IsFalseBy, IsRefutedBy, RestsBy, IsOpen}
 use Rattle.cdcl_core.specs.Search.{literals_of}
-use Rattle.cdcl_core.specs.Stamps.{neg, is_set, codes, Has, IsTrueAt, IsFalse, RestsAt, IsTrail}
+use Rattle.cdcl_core.specs.Stamps.{neg, codes, Has, IsTrueAt, IsFalse, RestsAt, IsTrail}
 use Rattle.cdcl_core.specs.State.{no_row, IsShown}
 use Rattle.cdcl_core.proofs.Counting.{neg_cases}
 use Rattle.cdcl_core.proofs.Trails.{found_at, true_on_trail, entry_true, half_true, trail_len}

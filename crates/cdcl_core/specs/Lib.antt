@@ -2,6 +2,7 @@ pub mod Blocks
 pub mod Chains
 pub mod Levels
 pub mod Lists
+pub mod Names
 pub mod Search
 pub mod Slots
 pub mod Stamps

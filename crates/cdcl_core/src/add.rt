@@ -1,6 +1,6 @@
 //! Clauses that come, at any moment of a search.
 
-ghost use Rattle.std.specs.Prelude.{ℕ, ◌≡◌, ◌≢◌, ◌+◌, ◌-◌, ◌*◌, ◌%◌, ◌^◌, ◌<◌, ◌≤◌, [], ◌∷◌, length, slice_set, slice_index, slice_index_or, sum_by, Some, None, OnOk, OnErr, Contains};
+ghost use Rattle.std.specs.Prelude.{ℕ, ◌≡◌, ◌≢◌, ◌+◌, ◌-◌, ◌*◌, ◌%◌, ◌^◌, ◌<◌, ◌≤◌, [], ◌∷◌, length, slice_set, slice_index, slice_index_or, sum_by, Some, None, IfOk, OnOk, OnErr, Contains};
 ghost use Rattle.cnf_base.specs.Literals.{Literal};
 ghost use Rattle.cnf_base.specs.declared.clause.ClauseId.{ClauseId};
 ghost use Rattle.cdcl_core.specs.declared.watches.Kind.TheVariants.{Fixed, Watched};
@@ -14,6 +14,7 @@ ghost use Rattle.cdcl_core.specs.State.{IsConsistent, IsSettled, IsPlaced, IsPro
 
 use crate::grow::free_slot;
 use crate::propagate::is_satisfied;
+use crate::row::Name;
 use crate::trail::{Trail, enqueue, neg, stamp_of};
 use crate::watches::{Kind, Watches};
 use cnf_base::{Clause, ClauseId, Lit};
@@ -116,15 +117,7 @@ pub(crate) fn seat(w: &mut Watches, slot: usize, clause: Clause, kind: Kind)
 }
 
 // Holds a clause of two or more different literals, of which `a` became false last, and `b` last but for it.
-fn watch(
-    w: &mut Watches,
-    t: &mut Trail,
-    slot: usize,
-    clause: Clause,
-    a: usize,
-    b: usize,
-    id: ClauseId,
-)
+fn watch(w: &mut Watches, t: &mut Trail, slot: usize, clause: Clause, a: usize, b: usize, id: Name)
     requires placed { IsPlaced w.old t.old }
     requires waiting { IsWaiting w.old slot }
     requires may_come { MayCome t.old (codes clause) }
@@ -159,7 +152,7 @@ fn watch(
 }
 
 // Holds a clause of at most one literal, `a`, or 0 where there is none: its value is settled at level 0.
-fn fix(w: &mut Watches, t: &mut Trail, slot: usize, clause: Clause, a: usize, id: ClauseId)
+fn fix(w: &mut Watches, t: &mut Trail, slot: usize, clause: Clause, a: usize, id: Name)
     requires placed { IsPlaced w.old t.old }
     requires waiting { IsWaiting w.old slot }
     requires may_come { MayCome t.old (codes clause) }
@@ -207,7 +200,7 @@ pub(crate) fn bound_of(clause: &[Lit]) -> u64
 }
 
 // Puts a clause into the slot that waits for it, and watches it where it has two literals.
-pub(crate) fn hold(w: &mut Watches, t: &mut Trail, slot: usize, clause: Clause, id: ClauseId)
+pub(crate) fn hold(w: &mut Watches, t: &mut Trail, slot: usize, clause: Clause, id: Name)
     requires placed { IsPlaced w.old t.old }
     requires waiting { IsWaiting w.old slot }
     requires may_come { MayCome t.old (codes clause) }
@@ -232,7 +225,7 @@ pub(crate) fn hold(w: &mut Watches, t: &mut Trail, slot: usize, clause: Clause, 
 }
 
 // Puts a clause into the slot that waits for it: one that is true at level 0 stays true, and is not watched.
-fn admit(w: &mut Watches, t: &mut Trail, slot: usize, clause: Clause, id: ClauseId)
+fn admit(w: &mut Watches, t: &mut Trail, slot: usize, clause: Clause, id: Name)
     requires placed { IsPlaced w.old t.old }
     requires waiting { IsWaiting w.old slot }
     requires may_come { MayCome t.old (codes clause) }
@@ -254,13 +247,13 @@ fn admit(w: &mut Watches, t: &mut Trail, slot: usize, clause: Clause, id: Clause
     }
 }
 
-// Gives the slot its name.
+// Gives the slot its name, as it is kept.
 pub(crate) fn name_slot(
     w: &mut Watches,
     t: &Trail,
     slot: usize,
     id: ClauseId,
-) -> Result<(), AllocError>
+) -> Result<Name, AllocError>
     requires settled { IsSettled w.old t.now }
     requires waiting { IsWaiting w.old slot }
     requires fresh { clause_of w.old id ≡ None }
@@ -268,6 +261,7 @@ pub(crate) fn name_slot(
     ensures kinds { w.new.kinds ≡ w.old.kinds }
     ensures clauses { w.new.clauses ≡ w.old.clauses }
     ensures calm { w.new.refuted ≡ w.old.refuted }
+    ensures name { IfOk result (λ name. name ≡ id) }
     ensures ids { OnOk result (w.new.ids.items ≡ slice_set w.old.ids.items slot id) }
     ensures named { OnOk result (IsRenamed w.old.slots w.new.slots id (Some slot)) }
     ensures placed { OnOk result (IsPlaced w.new t.now) }
@@ -275,11 +269,14 @@ pub(crate) fn name_slot(
     ensures err_slots { OnErr result ((q : ClauseId)
         → slot_in w.new.slots q ≡ slot_in w.old.slots q) }
 {
+    let Some(name) = Name::of(id) else {
+        return Err(AllocError);
+    };
     if let Err(_) = w.slots.insert(id, slot) {
         return Err(AllocError);
     }
-    w.ids[slot] = id;
-    Ok(())
+    w.ids[slot] = name;
+    Ok(name)
 }
 
 impl Watches {
@@ -311,8 +308,8 @@ impl Watches {
         let bound = bound_of(clause.literals());
         self.reserve(trail, bound)?;
         let slot = free_slot(self, trail)?;
-        name_slot(self, trail, slot, id)?;
-        admit(self, trail, slot, clause, id);
+        let name = name_slot(self, trail, slot, id)?;
+        admit(self, trail, slot, clause, name);
         Ok(())
     }
 }

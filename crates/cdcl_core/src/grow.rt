@@ -6,9 +6,10 @@ ghost use Rattle.cdcl_core.specs.Chains.{first_of, times};
 ghost use Rattle.cdcl_core.specs.Search.{literals_of, level_of, rows_of, clause_of, held_of};
 ghost use Rattle.cdcl_core.specs.State.{IsSettled, IsPropagated, IsWaiting, IsLonger, IsWider};
 
+use crate::row::{Name, Row};
 use crate::trail::Trail;
 use crate::watches::{Kind, Watches};
-use cnf_base::{Clause, ClauseId, Lit};
+use cnf_base::Clause;
 use std::alloc::AllocError;
 
 // Has at least `count` elements.
@@ -36,7 +37,7 @@ fn lengthen_trail(t: &mut Trail, count: usize) -> Result<(), AllocError>
     ensures spots { OnOk result (count ≤ 2 * length t.new.spots.items) }
 {
     let half = count / 2 + 1;
-    lengthen(&mut t.rows, half, (Lit::TRUE, 0, None))?;
+    lengthen(&mut t.rows, half, Row::new(2, 0, None))?;
     lengthen(&mut t.reasons, half, 0)?;
     lengthen(&mut t.codes, half, 0)?;
     lengthen(&mut t.spots, half, 0)?;
@@ -80,7 +81,7 @@ fn widen(w: &mut Watches) -> Result<(), AllocError>
 {
     let slot = w.kinds.len();
     w.clauses.push(Clause::empty(w.alloc))?;
-    w.ids.push(ClauseId { pos: 0, part: 0 })?;
+    w.ids.push(Name::FIRST)?;
     w.lists.grow_places(2 * slot + 2)?;
     Ok(())
 }

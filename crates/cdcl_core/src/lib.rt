@@ -18,9 +18,11 @@ mod level;
 mod lists;
 mod park;
 mod propagate;
+mod row;
 mod slot_table;
 mod trail;
 mod watches;
 
+pub use row::Row;
 pub use trail::Trail;
 pub use watches::Watches;

@@ -87,8 +87,9 @@ impl Watches {
             set_kind(self, slot, Kind::Fixed);
             return;
         }
+        let name = self.ids[slot];
         let clause = give_up(self, slot);
-        hold(self, trail, slot, clause, id);
+        hold(self, trail, slot, clause, name);
     }
 
     /// Holds the clause of this name no longer, and keeps it, at level 0. It takes no memory.

@@ -247,13 +247,13 @@ impl Watches {
         if self.refuted {
             let slot = refuted_slot(self, trail);
             if slot != 0 {
-                return Some(self.ids[slot]);
+                return Some(self.ids[slot].id());
             }
             self.refuted = false;
         }
         let slot = empty_queue(self, trail);
         if slot != 0 {
-            return Some(self.ids[slot]);
+            return Some(self.ids[slot].id());
         }
         None
     }

@@ -7,7 +7,8 @@ ghost use Rattle.cdcl_core.specs.State.{IsNew, IsConsistent, KeepsPlaces};
 ghost use Rattle.cnf_base.specs.Literals.{literal_of, code_of};
 ghost use Rattle.cdcl_core.specs.Stamps.{neg as neg_of};
 
-use cnf_base::{ClauseId, Lit};
+use crate::row::{Name, Row};
+use cnf_base::Lit;
 use std::alloc::Global;
 
 /// The true literals in order, each with its decision level and its reason.
@@ -19,7 +20,7 @@ pub struct Trail {
     pub(crate) codes: Vec<u32>,
     // the slot of the clause that forced each, 0 for a decided one
     pub(crate) reasons: Vec<usize>,
-    pub(crate) rows: Vec<(Lit, u64, Option<ClauseId>)>,
+    pub(crate) rows: Vec<Row>,
     // by variable: the place of its literal while that is true
     pub(crate) spots: Vec<u32>,
     pub(crate) len: usize,
@@ -53,7 +54,7 @@ impl Trail {
     }
 
     /// The true literals in order, each with its decision level and its reason, None for a decided one.
-    pub fn literals(&self) -> &[(Lit, u64, Option<ClauseId>)]
+    pub fn literals(&self) -> &[Row]
         ensures { result.now ≡ literals_of self.now }
     {
         let rows = self.rows.as_slice();
@@ -143,7 +144,7 @@ pub(crate) fn stamp_of(stamps: &[u32], code: usize) -> u64
 
 // Makes the literal of this code true at the present level.
 #[inline(always)]
-pub(crate) fn enqueue(t: &mut Trail, code: usize, slot: usize, reason: Option<ClauseId>)
+pub(crate) fn enqueue(t: &mut Trail, code: usize, slot: usize, reason: Option<Name>)
     requires codes { t.old.len < length t.old.codes.items }
     requires reasons { t.old.len < length t.old.reasons.items }
     requires rows { t.old.len < length t.old.rows.items }
@@ -167,7 +168,7 @@ pub(crate) fn enqueue(t: &mut Trail, code: usize, slot: usize, reason: Option<Cl
     t.stamps[code] = (t.level + 1) as u32;
     t.codes[t.len] = code as u32;
     t.reasons[t.len] = slot;
-    t.rows[t.len] = (Lit::from_code(code as u64), t.level, reason);
+    t.rows[t.len] = Row::new(code, t.level, reason);
     t.spots[code / 2] = t.len as u32;
     t.len += 1;
 }

@@ -9,6 +9,7 @@ ghost use Rattle.cdcl_core.specs.Slots.{slot_in};
 ghost use Rattle.cdcl_core.specs.State.{IsNew, IsSettled};
 
 use crate::lists::WatchLists;
+use crate::row::Name;
 use crate::slot_table::SlotTable;
 use crate::trail::Trail;
 use cnf_base::{Clause, ClauseId};
@@ -36,7 +37,7 @@ pub struct Watches {
     // by slot
     pub(crate) kinds: Vec<Kind>,
     pub(crate) clauses: Vec<Clause>,
-    pub(crate) ids: Vec<ClauseId>,
+    pub(crate) ids: Vec<Name>,
     pub(crate) slots: SlotTable,
     // whether a clause that is not watched may be false
     pub(crate) refuted: bool,
@@ -59,7 +60,7 @@ impl Watches {
             lists,
             kinds: vec![in alloc; Kind::Free; 1]?,
             clauses,
-            ids: vec![in alloc; ClauseId { pos: 0, part: 0 }; 1]?,
+            ids: vec![in alloc; Name::FIRST; 1]?,
             slots: SlotTable::new(alloc),
             refuted: false,
         })
@@ -90,7 +91,7 @@ impl Watches {
     {
         if place < trail.len {
             let slot = trail.reasons[place];
-            if slot != 0 && self.ids[slot] == id {
+            if slot != 0 && self.ids[slot].id() == id {
                 return Some(&self.clauses[slot]);
             }
         }

@@ -9,8 +9,8 @@ ghost use Rattle.cdcl_core.specs.State.{IsSettled};
 ghost use Rattle.cdcl_learn.specs.Rows.{literal_at, IsFrontOf, IsHistory, IsRefutedIn};
 ghost use Rattle.cdcl_learn.specs.Puts.{IsClash, AreGiven, IsAgainst, DecidesOnly};
 
-use crate::walk::{Row, Walk};
-use cdcl_core::{Trail, Watches};
+use crate::walk::Walk;
+use cdcl_core::{Row, Trail, Watches};
 use cnf_base::{Clause, ClauseId, Lit};
 use std::alloc::{AllocError, Global};
 
@@ -81,11 +81,12 @@ fn refute_at(
         → DecidesOnly given (literals_of trail.now) → Contains given l → IsAgainst given r.0) }
 {
     let rows = trail.literals();
-    match rows[place].2 {
+    let row = rows[place];
+    match row.reason() {
         None => Ok((Clause::of_two(alloc, l, l.negated())?, Vec::new(alloc))),
         Some(id) => {
             let mut before: Vec<Row> = Vec::from_slice(alloc, &rows[..place])?;
-            before.push((l, trail.level(), None))?;
+            before.push(row.opposite())?;
             explain_all(alloc, watches, trail, before.as_slice(), id)
         }
     }

@@ -9,8 +9,8 @@ ghost use Rattle.cdcl_learn.specs.Rows.{level_at, AreDecidedFirst, AreRaised, Ar
 ghost use Rattle.cdcl_learn.specs.Puts.{IsGoodPut, IsUnitAfter, StandsIn};
 ghost use Rattle.cdcl_learn.specs.Walks.{IsSet, IsWalk, IsUnique, MeetsReasons};
 
-use crate::walk::{Row, Walk};
-use cdcl_core::{Trail, Watches};
+use crate::walk::Walk;
+use cdcl_core::{Row, Trail, Watches};
 use cnf_base::{Clause, ClauseId};
 use std::alloc::{AllocError, Global};
 
@@ -23,7 +23,7 @@ fn ends_at(rows: &[Row], end: usize, level: u64) -> bool
     if end == 0 {
         return false;
     }
-    rows[end - 1].1 == level
+    rows[end - 1].level() == level
 }
 
 // Resolves literals of the level from the last on, until one of them is left: its place.
@@ -82,7 +82,7 @@ pub fn learn(
     let place = find_unique(&mut walk, watches, trail, rows, trail.level())?;
     walk.explain(watches, trail, rows, place, false)?;
     let rest = walk.top(place);
-    let level = if rest == 0 { 0 } else { rows[rest - 1].1 };
+    let level = if rest == 0 { 0 } else { rows[rest - 1].level() };
     let clause = walk.clause(alloc, rows)?;
     let hints = walk.into_hints();
     Ok((clause, hints, level))

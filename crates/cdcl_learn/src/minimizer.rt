@@ -4,8 +4,7 @@ ghost use Rattle.std.specs.Prelude.{◌≤◌, length};
 ghost use Rattle.cdcl_core.specs.State.{IsSettled};
 
 use crate::marks::Marks;
-use crate::walk::Row;
-use cdcl_core::{Trail, Watches};
+use cdcl_core::{Row, Trail, Watches};
 use std::alloc::{AllocError, Global};
 
 // What is known of a place of the trail.
@@ -59,7 +58,7 @@ impl Minimizer {
         let mut i = marks.top(end);
         'marked: while i > 0 {
             if let Some(row) = rows.get(i - 1) {
-                self.levels |= level_bit(row.1);
+                self.levels |= level_bit(row.level());
             }
             i = marks.top(i - 1);
         }

@@ -9,12 +9,9 @@ ghost use Rattle.cdcl_learn.specs.Walks.{IsSet, IsMarked, IsWalk, IsResolved, Is
 
 use crate::marks::Marks;
 use crate::minimizer::Minimizer;
-use cdcl_core::{Trail, Watches};
+use cdcl_core::{Row, Trail, Watches};
 use cnf_base::{Clause, ClauseId, Lit};
 use std::alloc::{AllocError, Global};
-
-/// A literal of the trail, its decision level and its reason.
-pub(crate) type Row = (Lit, u64, Option<ClauseId>);
 
 /// What a conflict rests on, and the clauses that say so.
 #[derive(Drop)]
@@ -34,7 +31,7 @@ fn stands_at(rows: &[Row], place: usize, l: Lit) -> bool
     if place >= rows.len() {
         return false;
     }
-    rows[place].0 == l
+    rows[place].literal() == l
 }
 
 // The last place, if the literal stands there.
@@ -137,7 +134,7 @@ impl Walk {
         ensures met { OnOk result
             (MeetsReasons rows.now self.old.hints.items self.new.hints.items) }
     {
-        let Some(id) = rows[i].2 else {
+        let Some(id) = rows[i].reason() else {
             return Ok(());
         };
         let Some(clause) = watches.clause_at(trail, i, id) else {
@@ -173,7 +170,7 @@ impl Walk {
         ensures hints { self.new.hints ≡ self.old.hints }
         ensures whole { IfOk result (λ b. ((IsTrue whole) ⊎ (level_at rows.now i ≡ 0)) → IsTrue b) }
     {
-        if whole || rows[i].1 == 0 {
+        if whole || rows[i].level() == 0 {
             return Ok(true);
         }
         self.minimizer.rests(watches, trail, &self.marks, i)
@@ -203,7 +200,7 @@ impl Walk {
         if !self.marks.has(i) {
             return Ok(());
         }
-        if rows[i].2.is_none() {
+        if rows[i].reason().is_none() {
             return Ok(());
         }
         if self.goes(watches, trail, rows, i, whole)? {
@@ -257,7 +254,7 @@ impl Walk {
         let mut literals: Vec<Lit> = Vec::with_capacity(alloc, 64)?;
         let mut i = self.top(rows.len());
         'back: while i > 0 {
-            literals.push(rows[i - 1].0.negated())?;
+            literals.push(rows[i - 1].literal().negated())?;
             i = self.top(i - 1);
         }
         let exact = Vec::from_slice(alloc, literals.as_slice())?;

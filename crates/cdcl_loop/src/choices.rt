@@ -5,16 +5,13 @@ ghost use Rattle.cdcl_core.specs.Levels.{IsOpen};
 ghost use Rattle.cdcl_core.specs.Search.{literals_of, level_of};
 ghost use Rattle.cdcl_core.specs.State.{IsConsistent, IsSettled};
 
-use cdcl_core::{Trail, Watches};
+use cdcl_core::{Row, Trail, Watches};
 use cnf_base::{ClauseId, Lit, Pos};
 use search_heuristics::{
     GlueCounter, Learnt, Phases, Restarts, VariableOrder, drops_are_due, worse_half,
 };
 use std::alloc::{AllocError, Global};
 use variable_list::VariableList;
-
-/// A row of the trail.
-pub(crate) type Row = (Lit, u64, Option<ClauseId>);
 
 /// The state of the choices.
 #[derive(Drop)]
@@ -106,11 +103,12 @@ impl Choices {
             let Some(row) = rows.get(end.wrapping_sub(1)) else {
                 break;
             };
-            if row.1 <= level {
+            if row.level() <= level {
                 break;
             }
-            self.phases.save(row.0.variable(), row.0.is_positive());
-            self.order.insert(row.0.variable());
+            let literal = row.literal();
+            self.phases.save(literal.variable(), literal.is_positive());
+            self.order.insert(literal.variable());
             end = end.wrapping_sub(1);
         }
     }

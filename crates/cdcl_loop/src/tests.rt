@@ -230,7 +230,7 @@ fn next_variable(engine: &mut Engine) -> Result<u64, AllocError>
         return Ok(0);
     }
     match engine.trail().literals().last() {
-        Some(row) => Ok(row.0.variable()),
+        Some(row) => Ok(row.literal().variable()),
         None => Ok(0),
     }
 }

@@ -1,6 +1,6 @@
 use Rattle.std.proofs.Common.{ℕ, ◌≡◌, ◌-◌, ◌<◌, ◌⊎◌, IsTrue, false, None, [], ◌∷◌, length, reverse, ap, ◌∙◌, inl, inr, arith}
 use Rattle.std.specs.Prelude.{Contains}
-use Rattle.std.proofs.lemmas.List.{get_or_default}
+use Rattle.std.proofs.lemmas.List.{get_or_read}
 use Rattle.cdcl_core.specs.Levels.{Row}
 use Rattle.cdcl_core.specs.State.{no_row}
 use Rattle.cdcl_core.specs.Search.{literals_of, level_of, clause_of}
@@ -40,7 +40,7 @@ judge c =
     let within : c.in_ok-place.place < length c.literals-rows.result.now = c.in_ok-place.ensures.unique.within in
     let last : IsLast c.literals-rows.result.now c.top-rest.result c.if-rest-eq0.level = elim c.if-rest-eq0.branch [
       | then-rest-eq0 w ↦ inr (w.if-rest-eq0.true, w.level-is)
-      | else-rest-eq0 w ↦ inl (omega (arith, w.if-rest-eq0.false), w.level-is ∙ ap (λ (r : Row). r.1) (get_or_default c.literals-rows.result.now (c.top-rest.result - 1) _ no_row (omega (arith, w.if-rest-eq0.false, c.top-rest.ensures.reached, within))))
+      | else-rest-eq0 w ↦ inl (omega (arith, w.if-rest-eq0.false), w.level-is ∙ (w.level-level.ensures ∙ ap (λ (r : Row). r.1) (get_or_read c.literals-rows.result.now (c.top-rest.result - 1) w.index-rows-rest.result (omega (arith, w.if-rest-eq0.false, c.top-rest.ensures.reached, within)) w.index-rows-rest.is no_row)))
     ] in
     judged c.args.watches.now c.args.trail.now c.literals-rows.result.now c.find_unique.new.walk.marks c.explain.new.self.marks c.level.result c.in_ok-place.place c.top-rest.result c.if-rest-eq0.level c.in_ok-clause.clause (reverse c.explain.new.self.hints.items)
     c.requires.settled c.requires.above c.literals-rows.ensures c.level.ensures c.in_ok-place.ensures.unique c.in_ok-explain.ensures.explained c.top-rest.ensures last c.in_ok-explain.ensures.walk.derived (record { each = c.in_ok-clause.ensures.each; only = c.in_ok-clause.ensures.only })

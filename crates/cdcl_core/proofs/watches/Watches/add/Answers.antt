@@ -7,19 +7,19 @@ use Rattle.cdcl_core.proofs.Bridge.{rows_rest, has_from}
 use Rattle.cdcl_core.proofs.Naming.{IsStored, stored_settled, stored_kept, stored_held, stored_others, unnamed_settled, unnamed_kept, unnamed_held}
 use Rattle.cdcl_core.proofs.watches.Watches.add.Goals as goal
 
-pub returns-in_err-name_slot-clause-settled : goal.returns-in_err-name_slot-clause-settled
-returns-in_err-name_slot-clause-settled c = unnamed_settled c.free_slot.new.w c.name_slot.new.w c.reserve.new.trail c.free_slot.ensures.settled c.name_slot.ensures.lists c.name_slot.ensures.kinds c.name_slot.ensures.clauses c.in_err-name_slot.ensures.err_ids c.name_slot.ensures.calm c.in_err-name_slot.ensures.err_slots
+pub returns-in_err-name-clause-settled : goal.returns-in_err-name-clause-settled
+returns-in_err-name-clause-settled c = unnamed_settled c.free_slot.new.w c.name_slot.new.w c.reserve.new.trail c.free_slot.ensures.settled c.name_slot.ensures.lists c.name_slot.ensures.kinds c.name_slot.ensures.clauses c.in_err-name.ensures.err_ids c.name_slot.ensures.calm c.in_err-name.ensures.err_slots
 
-pub returns-in_err-name_slot-clause-others : goal.returns-in_err-name_slot-clause-others
-returns-in_err-name_slot-clause-others c = λ q ne. unnamed_kept c.free_slot.new.w c.name_slot.new.w q c.name_slot.ensures.clauses c.in_err-name_slot.ensures.err_slots ∙ (c.free_slot.ensures.kept q ∙ c.reserve.ensures.kept q)
+pub returns-in_err-name-clause-others : goal.returns-in_err-name-clause-others
+returns-in_err-name-clause-others c = λ q ne. unnamed_kept c.free_slot.new.w c.name_slot.new.w q c.name_slot.ensures.clauses c.in_err-name.ensures.err_slots ∙ (c.free_slot.ensures.kept q ∙ c.reserve.ensures.kept q)
 
-pub returns-in_err-name_slot-clause-not_kept : goal.returns-in_err-name_slot-clause-not_kept
-returns-in_err-name_slot-clause-not_kept c =
-    let gone : clause_of c.name_slot.new.w c.args.id ≡ None = unnamed_kept c.free_slot.new.w c.name_slot.new.w c.args.id c.name_slot.ensures.clauses c.in_err-name_slot.ensures.err_slots ∙ (c.free_slot.ensures.kept c.args.id ∙ (c.reserve.ensures.kept c.args.id ∙ c.requires.fresh)) in
+pub returns-in_err-name-clause-not_kept : goal.returns-in_err-name-clause-not_kept
+returns-in_err-name-clause-not_kept c =
+    let gone : clause_of c.name_slot.new.w c.args.id ≡ None = unnamed_kept c.free_slot.new.w c.name_slot.new.w c.args.id c.name_slot.ensures.clauses c.in_err-name.ensures.err_slots ∙ (c.free_slot.ensures.kept c.args.id ∙ (c.reserve.ensures.kept c.args.id ∙ c.requires.fresh)) in
     search rules
 
-pub returns-in_err-name_slot-clause-others_held : goal.returns-in_err-name_slot-clause-others_held
-returns-in_err-name_slot-clause-others_held c = λ q ne. unnamed_held c.free_slot.new.w c.name_slot.new.w q c.name_slot.ensures.kinds c.name_slot.ensures.clauses c.in_err-name_slot.ensures.err_slots ∙ (c.free_slot.ensures.held q ∙ c.reserve.ensures.held q)
+pub returns-in_err-name-clause-others_held : goal.returns-in_err-name-clause-others_held
+returns-in_err-name-clause-others_held c = λ q ne. unnamed_held c.free_slot.new.w c.name_slot.new.w q c.name_slot.ensures.kinds c.name_slot.ensures.clauses c.in_err-name.ensures.err_slots ∙ (c.free_slot.ensures.held q ∙ c.reserve.ensures.held q)
 
 pub admit-requires-clause-may_come : goal.admit-requires-clause-may_come
 admit-requires-clause-may_come c = record {
@@ -34,8 +34,8 @@ returns-clause-settled c =
       settled = c.free_slot.ensures.settled;
       waiting = c.in_ok-slot.ensures.waiting;
       fresh = c.free_slot.ensures.kept c.args.id ∙ (c.reserve.ensures.kept c.args.id ∙ c.requires.fresh);
-      named = c.in_ok-name_slot.ensures.named;
-      ids = c.in_ok-name_slot.ensures.ids;
+      named = c.in_ok-name.ensures.named;
+      ids = c.in_ok-name.ensures.ids;
       kinds = c.name_slot.ensures.kinds;
       clauses = c.name_slot.ensures.clauses;
       live = held_live c.admit.ensures.holds.0 c.admit.ensures.holds.1.0;
@@ -49,8 +49,8 @@ returns-clause-kept c =
       settled = c.free_slot.ensures.settled;
       waiting = c.in_ok-slot.ensures.waiting;
       fresh = c.free_slot.ensures.kept c.args.id ∙ (c.reserve.ensures.kept c.args.id ∙ c.requires.fresh);
-      named = c.in_ok-name_slot.ensures.named;
-      ids = c.in_ok-name_slot.ensures.ids;
+      named = c.in_ok-name.ensures.named;
+      ids = c.in_ok-name.ensures.ids;
       kinds = c.name_slot.ensures.kinds;
       clauses = c.name_slot.ensures.clauses;
       live = held_live c.admit.ensures.holds.0 c.admit.ensures.holds.1.0;
@@ -64,8 +64,8 @@ returns-clause-held c =
       settled = c.free_slot.ensures.settled;
       waiting = c.in_ok-slot.ensures.waiting;
       fresh = c.free_slot.ensures.kept c.args.id ∙ (c.reserve.ensures.kept c.args.id ∙ c.requires.fresh);
-      named = c.in_ok-name_slot.ensures.named;
-      ids = c.in_ok-name_slot.ensures.ids;
+      named = c.in_ok-name.ensures.named;
+      ids = c.in_ok-name.ensures.ids;
       kinds = c.name_slot.ensures.kinds;
       clauses = c.name_slot.ensures.clauses;
       live = held_live c.admit.ensures.holds.0 c.admit.ensures.holds.1.0;
@@ -79,8 +79,8 @@ returns-clause-others c =
       settled = c.free_slot.ensures.settled;
       waiting = c.in_ok-slot.ensures.waiting;
       fresh = c.free_slot.ensures.kept c.args.id ∙ (c.reserve.ensures.kept c.args.id ∙ c.requires.fresh);
-      named = c.in_ok-name_slot.ensures.named;
-      ids = c.in_ok-name_slot.ensures.ids;
+      named = c.in_ok-name.ensures.named;
+      ids = c.in_ok-name.ensures.ids;
       kinds = c.name_slot.ensures.kinds;
       clauses = c.name_slot.ensures.clauses;
       live = held_live c.admit.ensures.holds.0 c.admit.ensures.holds.1.0;
@@ -94,8 +94,8 @@ returns-clause-others_held c =
       settled = c.free_slot.ensures.settled;
       waiting = c.in_ok-slot.ensures.waiting;
       fresh = c.free_slot.ensures.kept c.args.id ∙ (c.reserve.ensures.kept c.args.id ∙ c.requires.fresh);
-      named = c.in_ok-name_slot.ensures.named;
-      ids = c.in_ok-name_slot.ensures.ids;
+      named = c.in_ok-name.ensures.named;
+      ids = c.in_ok-name.ensures.ids;
       kinds = c.name_slot.ensures.kinds;
       clauses = c.name_slot.ensures.clauses;
       live = held_live c.admit.ensures.holds.0 c.admit.ensures.holds.1.0;
@@ -104,7 +104,7 @@ returns-clause-others_held c =
     λ q ne. (stored_others c.free_slot.new.w c.name_slot.new.w c.admit.new.w c.reserve.new.trail c.in_ok-slot.slot c.args.id c.args.clause c.admit.ensures.holds.0 q u ne).1 ∙ (c.free_slot.ensures.held q ∙ c.reserve.ensures.held q)
 
 pub returns-clause-literals : goal.returns-clause-literals
-returns-clause-literals c = rw (c.reserve.ensures.literals, c.reserve.ensures.level) at c.admit.ensures.literals
+returns-clause-literals c = rw (c.reserve.ensures.literals, c.reserve.ensures.level, c.in_ok-name.ensures.name) at c.admit.ensures.literals
 
 pub returns-clause-known : goal.returns-clause-known
 returns-clause-known c = λ l h.

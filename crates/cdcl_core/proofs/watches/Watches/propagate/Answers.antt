@@ -9,8 +9,8 @@ pub returns-then-slot-ne0-clause-conflict : goal.returns-then-slot-ne0-clause-co
 returns-then-slot-ne0-clause-conflict c =
     let high : c.refuted_slot-slot.result < length c.args.self.now.kinds.items = c.refuted_slot-slot.ensures.slot c.if-slot-ne0.true in
     let named : c.refuted_slot-slot.result < length c.args.self.now.ids.items = omega (arith, high, c.requires.named.rows) in
-    conflict_at c.args.self.now c.args.trail.now c.refuted_slot-slot.result c.index.result.now c.requires c.if-slot-ne0.true high (c.refuted_slot-slot.ensures.held c.if-slot-ne0.true) (c.refuted_slot-slot.ensures.refuted c.if-slot-ne0.true)
-    (get_or_read c.args.self.now.ids.items c.refuted_slot-slot.result c.index.result.now named c.index.ensures no_id)
+    conflict_at c.args.self.now c.args.trail.now c.refuted_slot-slot.result c.id.result c.requires c.if-slot-ne0.true high (c.refuted_slot-slot.ensures.held c.if-slot-ne0.true) (c.refuted_slot-slot.ensures.refuted c.if-slot-ne0.true)
+    (c.id.ensures ∙ get_or_read c.args.self.now.ids.items c.refuted_slot-slot.result c.index.result.now named c.index.ensures no_id)
 
 pub empty_queue-slot-requires : goal.empty_queue-slot-requires
 empty_queue-slot-requires c = elim c.if-self.branch [
@@ -22,8 +22,8 @@ pub returns-then-slot-ne0-2-clause-conflict : goal.returns-then-slot-ne0-2-claus
 returns-then-slot-ne0-2-clause-conflict c =
     let high : c.empty_queue-slot.result < length c.empty_queue-slot.new.w.kinds.items = c.empty_queue-slot.ensures.slot c.if-slot-ne0-2.true in
     let named : c.empty_queue-slot.result < length c.empty_queue-slot.new.w.ids.items = omega (arith, high, c.empty_queue-slot.ensures.settled.named.rows) in
-    conflict_at c.empty_queue-slot.new.w c.empty_queue-slot.new.t c.empty_queue-slot.result c.index-then-slot-ne0-2.result.now c.empty_queue-slot.ensures.settled c.if-slot-ne0-2.true high (c.empty_queue-slot.ensures.held c.if-slot-ne0-2.true) (c.empty_queue-slot.ensures.refuted c.if-slot-ne0-2.true)
-    (get_or_read c.empty_queue-slot.new.w.ids.items c.empty_queue-slot.result c.index-then-slot-ne0-2.result.now named c.index-then-slot-ne0-2.ensures no_id)
+    conflict_at c.empty_queue-slot.new.w c.empty_queue-slot.new.t c.empty_queue-slot.result c.id-then-slot-ne0-2.result c.empty_queue-slot.ensures.settled c.if-slot-ne0-2.true high (c.empty_queue-slot.ensures.held c.if-slot-ne0-2.true) (c.empty_queue-slot.ensures.refuted c.if-slot-ne0-2.true)
+    (c.id-then-slot-ne0-2.ensures ∙ get_or_read c.empty_queue-slot.new.w.ids.items c.empty_queue-slot.result c.index-then-slot-ne0-2.result.now named c.index-then-slot-ne0-2.ensures no_id)
 
 pub returns-then-slot-ne0-2-clause-literals : goal.returns-then-slot-ne0-2-clause-literals
 returns-then-slot-ne0-2-clause-literals c = extended c.empty_queue-slot.new.w c.args.trail.now c.empty_queue-slot.new.t c.requires.shown c.requires.trail c.empty_queue-slot.ensures.settled c.empty_queue-slot.ensures.grown

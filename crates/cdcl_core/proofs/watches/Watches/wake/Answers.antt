@@ -1,6 +1,7 @@
 use Rattle.std.proofs.Common.{ℕ, ◌≡◌, ◌≢◌, ◌*◌, ◌<◌, Some, length, get_or, [], ◌∷◌, sym, ap, ◌∙◌, arith}
 use Rattle.std.proofs.Math.ListN.{length-set}
 use Rattle.std.proofs.lemmas.List.{get_or_read, get_or-set_same}
+use Rattle.cnf_base.specs.Clauses.{no_id}
 use Rattle.cdcl_core.specs.declared.watches.Watches.{Watches}
 use Rattle.cdcl_core.specs.declared.watches.Kind.TheVariants.{Free, Fixed, Parked}
 use Rattle.cdcl_core.specs.Chains.{first_of}
@@ -245,7 +246,8 @@ hold-requires-clause-name c =
     let found : slot_in w.slots c.args.id ≡ Some s = sym c.in-Some.ensures in
     let high : s < length w.kinds.items = c.requires.settled.named.high c.args.id s found in
     let within : s < length w.clauses.items = omega (arith, high, c.requires.settled.watched.clauses, codes_length w.clauses.items) in
-    rw c.give_up-clause.ensures.ids (c.requires.settled.named.name c.args.id s found)
+    let named : s < length w.ids.items = omega (arith, high, c.requires.settled.named.rows) in
+    rw c.give_up-clause.ensures.ids (sym (get_or_read w.ids.items s c.index-name.result.now named c.index-name.ensures no_id))
 
 pub hold-requires-clause-lists : goal.hold-requires-clause-lists
 hold-requires-clause-lists c =
@@ -343,4 +345,4 @@ returns-clause-others c =
 
 pub returns-clause-literals : goal.returns-clause-literals
 returns-clause-literals c =
-    rw c.requires.level at (added_extended (literals_of c.args.trail.now) (literals_of c.hold.new.t) (level_of c.args.trail.now) c.args.id c.give_up-clause.result c.hold.ensures.literals)
+    rw c.requires.level at (added_extended (literals_of c.args.trail.now) (literals_of c.hold.new.t) (level_of c.args.trail.now) c.index-name.result.now c.give_up-clause.result c.hold.ensures.literals)

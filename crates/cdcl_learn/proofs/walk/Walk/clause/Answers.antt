@@ -1,5 +1,5 @@
 use Rattle.std.proofs.Common.{◌-◌, ◌∙◌, ap, arith}
-use Rattle.std.proofs.lemmas.List.{get_or_default}
+use Rattle.std.proofs.lemmas.List.{get_or_read}
 use Rattle.cnf_base.specs.Literals.{negated}
 use Rattle.cdcl_core.specs.Levels.{Row}
 use Rattle.cdcl_core.specs.State.{no_row}
@@ -18,7 +18,7 @@ back-preserved c = record {
   reached = omega (arith, c.top-i-in-back.ensures.reached, c.back.invariant.reached);
   marked = c.top-i-in-back.ensures.marked;
   collected = rw c.in_ok-push.ensures.items (more_collected c.args.rows.now c.args.self.now.marks c.back.literals.items c.back.i c.top-i-in-back.result c.negated.result c.back-test.true c.back.invariant.reached (c.back.invariant.marked c.back-test.true)
-      (c.negated.ensures ∙ ap (λ (r : Row). negated r.0) (get_or_default c.args.rows.now (c.back.i - 1) c.index-rows-i.result no_row (omega (arith, c.back-test.true, c.back.invariant.reached)))) c.top-i-in-back.ensures c.back.invariant.collected);
+      (c.negated.ensures ∙ (ap negated c.literal.ensures ∙ ap (λ (r : Row). negated r.0) (get_or_read c.args.rows.now (c.back.i - 1) c.index-rows-i.result (omega (arith, c.back-test.true, c.back.invariant.reached)) c.index-rows-i.is no_row))) c.top-i-in-back.ensures c.back.invariant.collected);
 }
 
 pub returns-clause-each : goal.returns-clause-each
