@@ -121,16 +121,16 @@ def large_circuits(n):
 SIGNS = 17
 
 
-def parities(n, drops):
-    """A diary of so many puts, each a clause that a parity of 17 names gives with one of their assignments, by chance. Half of what
-    is held is given up where that may be, or nothing ever is."""
+def parities(n, drops, times=1):
+    """A diary of so many puts, each a clause that a parity of 17 names gives with one of their assignments, by chance, each literal
+    so many times. Half of what is held is given up where that may be, or nothing ever is."""
     names = [f"l{i}" for i in range(SIGNS)]
     script = text([*(f"(declare-const {name} Bool)" for name in names), f"(assert (xor {' '.join(names)}))", "(check-sat)"])
     lines = [header(n - 1), *(f"f {i}" for i in range(SIGNS)), *(f"e {SIGNS + i}" for i in range(SIGNS - 1)), "s 0"]
     first = 2 * SIGNS + 1
     diary, held = [], []
     for number, bits in enumerate(random.Random(n).sample(range(1 << SIGNS), n)):
-        lines.append(parity_chain([bits >> i & 1 == 1 for i in range(SIGNS)]))
+        lines.append(parity_chain([bits >> i & 1 == 1 for i in range(SIGNS)], times))
         diary.append(f"+ {first + number}")
         held.append(first + number)
         if drops and (number + 1) % 2000 == 0 and number + 1 < n:
@@ -141,7 +141,7 @@ def parities(n, drops):
     return script, proof, ["unknown", "accepted 1"]
 
 
-def parity_chain(values):
+def parity_chain(values, times):
     """The chain of the clause that an assignment of the names gives: name i is variable 2 + i, the parity of the first k + 1 names
     is variable 18 + k, and the entry of its gate is 17 + k."""
     clause = [(-(2 + i) if value else 2 + i) for i, value in enumerate(values)]
@@ -153,7 +153,7 @@ def parity_chain(values):
         before = gate
     whole = SIGNS + 1 + SIGNS - 1
     clause.append(whole if before else -whole)
-    return f"c {' '.join(map(str, clause))} 0 {' '.join(hints)}"
+    return f"c {' '.join(map(str, clause * times))} 0 {' '.join(hints)}"
 
 
 def diary_with_drops(n):
@@ -164,6 +164,11 @@ def diary_with_drops(n):
 def diary_without_drops(n):
     """A diary of so many puts that gives nothing up: each put is looked for among all before it."""
     return parities(n, drops=False)
+
+
+def diary_with_repeats(n):
+    """The same, where each clause has its literals n / 10 times over, so that the proof grows with the square."""
+    return parities(n, drops=False, times=max(1, n // 10))
 
 
 def diary_taken_again(n):
@@ -195,5 +200,6 @@ FAMILIES = {
     "large_circuits": Family(large_circuits, 5),
     "diary_with_drops": Family(diary_with_drops, 8_000),
     "diary_without_drops": Family(diary_without_drops, 2_000, forced=2.0),
+    "diary_with_repeats": Family(diary_with_repeats, 400, forced=2.0),
     "diary_taken_again": Family(diary_taken_again, 2_000, forced=2.0),
 }

@@ -252,7 +252,7 @@ FAMILIES = {
     "many_faults": Family(many_faults, 20_000),
     "joined_words": Family(joined_words, 1_000),
     "divisions": Family(divisions, 5),
-    "many_diaries": Family(many_diaries, 500, budget=0),
+    "many_diaries": Family(many_diaries, 2_000, budget=0),
     "spent_diary": Family(spent_diary, 4_000, budgeted=True),
     "diary_under_one_literal": Family(diary_under_one_literal, 4_000, budgeted=True),
 }
