@@ -1,6 +1,6 @@
 // The accesses of constant arrays.
 
-ghost use Rattle.std.specs.Prelude.{◌≡◌, ◌<◌, ◌≤◌, ℕ, List, Contains, All, IfOk, OnOk, MatchOption, None, Some, map};
+ghost use Rattle.std.specs.Prelude.{◌≡◌, ◌↔◌, ◌<◌, ◌≤◌, ℕ, List, Contains, All, IfOk, OnOk, MatchOption, None, Some, map};
 ghost use Rattle.smt_terms.specs.declared.sort.Sort.TheVariants as sort;
 ghost use Rattle.smt_terms.specs.Bits.{image_in};
 ghost use Rattle.smt_terms.specs.Terms.{sort_of};
@@ -235,6 +235,14 @@ fn indexes_in(alloc: Global, network: &Network) -> Result<Vec<TermId>, AllocErro
     Ok(indexes)
 }
 
+/// Leaves each index once.
+fn leave_once(indexes: &mut Vec<TermId>)
+    ensures { (i : ℕ) → Contains indexes.new.items i ↔ Contains indexes.old.items i }
+{
+    indexes.sort_unstable();
+    indexes.dedup();
+}
+
 /// The accesses and the moves of reached terms without images; of a constant array at each index
 /// that a select or a store has, and at the first words of its index width. These are the widths of
 /// all constant arrays.
@@ -267,6 +275,7 @@ pub fn network_of(
     let mut indexes = indexes_in(alloc, &network)?;
     let count = indexes.len() + 1;
     push_all_words(alloc, terms, bits, widths, count, &mut indexes)?;
+    leave_once(&mut indexes);
     fill_all(&mut network, terms, bits, reached, &indexes)?;
     Ok(network)
 }
