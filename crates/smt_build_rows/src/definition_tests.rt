@@ -333,11 +333,7 @@ const SORTS: [(&[u8], Result<u32, BuildError>, u32); 12] = [
         Err(BuildError::Fault(BuildFault::Width)),
         0,
     ),
-    (
-        b"(define-sort W () (Array Byte Byte))",
-        Err(BuildError::Fault(BuildFault::NotSupported)),
-        0,
-    ),
+    (b"(define-sort W () (Array Byte Byte))", Ok(0), 0),
 ];
 
 #[test]

@@ -297,7 +297,7 @@ const REFUSED: [(&[u8], BuildFault); 70] = [
         b"(assert ((_ extract 340282366920938463463374607431768211456 0) x))",
         BuildFault::WrongSort,
     ),
-    (b"(assert ((as const S) z))", BuildFault::NotSupported),
+    (b"(assert ((as const S) z))", BuildFault::UnknownSymbol),
 ];
 
 /// Terms that are refused where three terms may be held, each with its first fault.
