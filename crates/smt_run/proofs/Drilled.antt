@@ -3,6 +3,7 @@ use Rattle.std.proofs.Common.{◌≡◌, ◌≢◌, ℕ, zero, suc, ◌+◌, ◌
 use Rattle.std.specs.Prelude.{◌⊎◌, Result, Ok, Err, MatchResult}
 use Rattle.std.specs.Io.KnownBytes.{Appends}
 use Rattle.smt_desk.specs.Faults.{Rose}
+use Rattle.drill_script.specs.Keeping.{Keeping}
 use Rattle.drill_script.specs.Scripts.{drill_script}
 use Rattle.drill_script.specs.Summaries.{summary_of}
 use Rattle.drill_script.proofs.Lengths.{script_length}
@@ -94,7 +95,7 @@ never_long seed size left s p p' refused small e long u c =
 pub undrawn : (limits : Limits) (seed size : ℕ) (f : Files) → Drills limits seed size NoMemory f f
 undrawn limits seed size f = record { answered = inr (record { wanting = refl; same = refl }); always = λ _. inr (inr refl); cause = tt }
 
-pub drilled : (limits : Limits) (seed size : ℕ) (solved status : Status) (left answered : List ℕ) (refused : ℕ) (script answers answers' proof proof' : Stream) → size ≤ 1000 → solved ≢ Usage
+drilled : (limits : Limits) (seed size : ℕ) (solved status : Status) (left answered : List ℕ) (refused : ℕ) (script answers answers' proof proof' : Stream) → size ≤ 1000 → solved ≢ Usage
     → Solves limits solved (files (stream (Some (drill_script seed size)) 0) (stream (Some []) 0) proof) (files (stream (Some left) 0) (stream (Some answered) refused) proof')
     → IsTold (summary_of seed size answered) refused solved status answers answers'
     → Drills limits seed size status (files script answers proof) (files script answers' proof')
@@ -106,3 +107,13 @@ drilled limits seed size solved status left answered refused script answers answ
           (λ _ c. absurd (z.script c)) (λ e. absurd (never_long seed size left solved proof proof' refused small e solves.too_long u solves.cause)) told cause;
       cause = cause;
     }
+
+-- the same of a source that holds the script, and of a sink that keeps nothing yet
+pub drilled_over : (limits : Limits) (seed size : ℕ) (solved status : Status) (left answered : List ℕ) (refused : ℕ) (script answers answers' proof proof' : Stream) (given : List ℕ) (kept : Keeping) → given ≡ drill_script seed size → kept ≡ record { bytes = []; refused = 0 } → size ≤ 1000 → solved ≢ Usage
+    → Solves limits solved (files (stream (Some given) 0) (stream (Some kept.bytes) kept.refused) proof) (files (stream (Some left) 0) (stream (Some answered) refused) proof')
+    → IsTold (summary_of seed size answered) refused solved status answers answers'
+    → Drills limits seed size status (files script answers proof) (files script answers' proof')
+drilled_over limits seed size solved status left answered refused script answers answers' proof proof' given kept e f small u solves told =
+    drilled limits seed size solved status left answered refused script answers answers' proof proof' small u
+    (subst (λ (k : Keeping). Solves limits solved (files (stream (Some (drill_script seed size)) 0) (stream (Some k.bytes) k.refused) proof) (files (stream (Some left) 0) (stream (Some answered) refused) proof')) f
+    (subst (λ t. Solves limits solved (files (stream (Some t) 0) (stream (Some kept.bytes) kept.refused) proof) (files (stream (Some left) 0) (stream (Some answered) refused) proof')) e solves)) told

@@ -22,10 +22,10 @@ use Rattle.smt_run.proofs.Drilled.{undrawn}
 use Rattle.smt_run.proofs.running.run.Goals as goal
 
 pub solve-requires-clause-settings : goal.solve-requires-clause-settings
-solve-requires-clause-settings g c κs within = options_allowed _ _ c.settings_of.ensures c.in-Ok.ensures.options
+solve-requires-clause-settings g c κs within = options_allowed _ _ c.settings_of-settings.ensures c.in-Ok.ensures.options
 
 pub drill-requires-clause-settings : goal.drill-requires-clause-settings
-drill-requires-clause-settings g c κs within = options_allowed _ _ c.settings_of-2.ensures c.in-Ok.ensures.options
+drill-requires-clause-settings g c κs within = options_allowed _ _ c.settings_of-settings-in-Drill.ensures c.in-Ok.ensures.options
 
 pub drill-requires-clause-size : goal.drill-requires-clause-size
 drill-requires-clause-size g c κs within = c.in-Ok.ensures.draw
@@ -46,8 +46,8 @@ returns-in-Solve-clause-asked g c = λ t. faultless_asks _ t
 
 pub returns-in-Solve-clause-solves : goal.returns-in-Solve-clause-solves
 returns-in-Solve-clause-solves g c = λ limits w.
-    let same : limits_of c.in-Solve.settings ≡ limits = solve_limits _ _ _ _ _ _ _ _ limits c.settings_of.ensures c.in-Ok.ensures.asked w in
-    let does : Solves (limits_of c.in-Solve.settings) c.solve.result
+    let same : limits_of c.settings_of-settings.result ≡ limits = solve_limits _ _ _ _ _ _ _ _ limits c.settings_of-settings.ensures c.in-Ok.ensures.asked w in
+    let does : Solves (limits_of c.settings_of-settings.result) c.solve.result
     (files (stream (g.S.Source.left c.args.script.now) (g.S.Source.faults c.args.script.now)) (stream (g.W.Sink.written c.args.answers.now) (g.W.Sink.faults c.args.answers.now)) (stream (g.Q.Sink.written c.args.proof_out.now) (g.Q.Sink.faults c.args.proof_out.now)))
     (files (stream (g.S.Source.left c.solve.new.script) (g.S.Source.faults c.solve.new.script)) (stream (g.W.Sink.written c.solve.new.answers) (g.W.Sink.faults c.solve.new.answers)) (stream (g.Q.Sink.written c.solve.new.proof) (g.Q.Sink.faults c.solve.new.proof)))
     = record {
@@ -320,7 +320,7 @@ returns-in-Drill-clause-converts g c = λ k. absurd (other_command Convert Drill
 
 pub returns-in-Drill-clause-drills : goal.returns-in-Drill-clause-drills
 returns-in-Drill-clause-drills g c = λ limits seed size w.
-    let same = drill_numbers _ _ _ _ _ _ _ _ limits seed size c.settings_of-2.ensures c.in-Ok.ensures.asked w in
+    let same = drill_numbers _ _ _ _ _ _ _ _ limits seed size c.settings_of-settings-in-Drill.ensures c.in-Ok.ensures.asked w in
     ((refl, refl), rw (← same.limits_are, ← same.seed_is, ← same.size_is) (c.drill.ensures.drills _))
 
 pub returns-in-Drill-clause-stays : goal.returns-in-Drill-clause-stays
