@@ -30,11 +30,11 @@ module _ {A E : Type 0} (whole here : List ℕ → Result A E) where
   way_none s h = record { text = []; consumed = Consumes-nil s; size = refl; judged = h }
 
   module _ (s s' : Option (List ℕ)) (left : ℕ) (w : UnderWay whole here s s' left) where
-    pub way_more : (next : List ℕ → Result A E) (s'' : Option (List ℕ)) (n : ℕ) (piece : List ℕ) → n ≤ left → Consumes s' s'' piece → length piece ≡ n → ((more : List ℕ) → here (piece ++ more) ≡ next more) → UnderWay whole next s s'' (left - n)
-    way_more next s'' n piece le c e h = record {
+    pub way_more : (next : List ℕ → Result A E) (s'' : Option (List ℕ)) (n rest : ℕ) (piece : List ℕ) → n ≤ left → left - n ≡ rest → Consumes s' s'' piece → length piece ≡ n → ((more : List ℕ) → here (piece ++ more) ≡ next more) → UnderWay whole next s s'' rest
+    way_more next s'' n rest piece le f c e h = record {
       text = w.text ++ piece;
       consumed = Consumes-trans s s' s'' w.text piece w.consumed c;
-      size = omega (arith, length-append w.text piece, w.size, e);
+      size = omega (arith, length-append w.text piece, w.size, e, f);
       judged = λ more. ap whole (append_assoc w.text piece more) ∙ w.judged (piece ++ more) ∙ h more;
     }
 

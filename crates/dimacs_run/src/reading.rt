@@ -3,6 +3,7 @@
 ghost use Rattle.std.specs.Prelude.{◌≡◌, ◌<◌, ◌≤◌, ℕ, List, Ok, IfOk, IfErr, IfSome, MatchResult, length, take};
 ghost use Rattle.std.specs.Io.KnownBytes.{Consumes};
 ghost use Rattle.smt_desk.specs.Faults.{Rose};
+ghost use Rattle.smt_desk.specs.Meters.{room, counting};
 ghost use Rattle.dimacs_front.specs.Cnf.{cnf_of};
 ghost use Rattle.dimacs_front.specs.Lrat.{lrat_of};
 ghost use Rattle.dimacs_run.specs.Reads.{ReadsPiece, ReadsWithin, ReadsToHalt, HaltsAt, halt_of, IsFailed};
@@ -11,6 +12,7 @@ use crate::failure::{Halt, Unread};
 use dimacs_front::cnf::{Cnf, CnfFault, CnfReader};
 use dimacs_front::lrat::{LratChecker, LratFault};
 use dimacs_front::stop::Stop;
+use smt_desk::meter::Meter;
 use smt_desk::stream::Source;
 use std::alloc::{AllocError, Global};
 
@@ -27,25 +29,30 @@ pub(crate) fn piece_buffer(alloc: Global) -> Result<Vec<u8>, AllocError>
     vec![in alloc; 0u8; PIECE]
 }
 
-/// Reads into the front of the buffer, no more bytes than may still be read, or one where none may.
-fn read_piece<S: Source>(source: &mut S, buffer: &mut [u8], left: u64) -> Result<usize, Unread>
+/// Reads into the front of the buffer, no more bytes than the meter has left, or one where it has none, and counts them.
+fn read_piece<S: Source>(
+    source: &mut S,
+    buffer: &mut [u8],
+    meter: &mut Meter,
+) -> Result<usize, Unread>
     requires { 0 < length buffer.old }
     ensures within { IfOk result (λ n. n ≤ length buffer.new) }
     ensures bytes { IfOk result
         (λ n. Consumes (S.left source.old) (S.left source.new) (take n buffer.new)) }
-    ensures read { ReadsPiece left (S.left source.old) (S.left source.new) result }
+    ensures read { ReadsPiece (room meter.old) (S.left source.old) (S.left source.new) result }
+    ensures counted { MatchResult result (λ n. meter.new ≡ counting meter.old n)
+        (λ _. meter.new ≡ meter.old) }
     ensures later { S.faults source.old ≤ S.faults source.new }
     ensures cause { IfErr result
         (λ u. u ≡ Unread.Failed → Rose (S.faults source.old) (S.faults source.new)) }
 {
-    let wanted = left.max(1).min(buffer.len() as u64) as usize;
+    let wanted = meter.left().max(1).min(buffer.len() as u64) as usize;
     match source.read(&mut buffer[..wanted]) {
-        Ok(size) => {
-            if size as u64 > left {
-                return Err(Unread::TooLong);
-            }
-            Ok(size)
-        }
+        Ok(0) => Ok(0),
+        Ok(size) => match meter.take(size) {
+            Ok(()) => Ok(size),
+            Err(_) => Err(Unread::TooLong),
+        },
         Err(_) => Err(Unread::Failed),
     }
 }
@@ -79,9 +86,9 @@ pub(crate) fn read_clauses<S: Source>(
         (λ h. IsFailed h → Rose (S.faults source.old) (S.faults source.new)) }
 {
     let mut reader = CnfReader::new(alloc);
-    let mut left = INPUT_LIMIT;
+    let mut meter = Meter::new(INPUT_LIMIT);
     'pieces: loop {
-        let size = match read_piece(source, buffer, left) {
+        let size = match read_piece(source, buffer, &mut meter) {
             Ok(size) => size,
             Err(why) => {
                 drop(reader);
@@ -102,7 +109,6 @@ pub(crate) fn read_clauses<S: Source>(
                 return Err(halt);
             }
         }
-        left -= size as u64;
     }
 }
 
@@ -127,9 +133,9 @@ pub(crate) fn check_refutation<S: Source>(
         Ok(checker) => checker,
         Err(_) => return Err(Halt::NoMemory),
     };
-    let mut left = INPUT_LIMIT;
+    let mut meter = Meter::new(INPUT_LIMIT);
     'pieces: loop {
-        let size = match read_piece(source, buffer, left) {
+        let size = match read_piece(source, buffer, &mut meter) {
             Ok(size) => size,
             Err(why) => {
                 drop(checker);
@@ -152,6 +158,5 @@ pub(crate) fn check_refutation<S: Source>(
                 return Err(halt);
             }
         }
-        left -= size as u64;
     }
 }

@@ -40,65 +40,65 @@ consumes_none s s' n z h = subst (Consumes s s') (nil_from_length h.0 (h.2 ∙ z
 one_open : (b : Bool) (rest left : ℕ) → b ≡ false → rest < left → rest + if_open b < left + 1
 one_open b rest left e h = subst (λ x. rest + if_open x < left + 1) (sym e) (omega arith)
 
-none_open : (b : Bool) (left : ℕ) → b ≡ true → left + if_open b < left + 1
-none_open b left e = subst (λ x. left + if_open x < left + 1) (sym e) (omega arith)
+none_open : (b : Bool) (left rest : ℕ) → left ≡ rest → b ≡ true → rest + if_open b < left + 1
+none_open b left rest l e = subst (λ x. rest + if_open x < left + 1) (sym e) (omega (arith, l))
 
-module _ (old new : Checking) (left n : ℕ) (s s' : Option (List ℕ)) where
-  pub script_ends : n ≡ 0 → ReadsBytes n s s' → (n ≡ 0 → IsAtEnd s') → ((script proof : List ℕ) (vs : List Verdict) (o : Option Refusal) → Judges new script proof vs o → Judges old script proof vs o) → AreEnded new true old.inputs.proof_ended → ((script proof : List ℕ) (vs : List Verdict) → Accepts new script proof vs → Accepts old script proof vs) → IsFed old new 0 → TakesScript old new left left s s'
+module _ (old new : Checking) (left rest n : ℕ) (s s' : Option (List ℕ)) (same : left ≡ rest) where
+  pub script_ends : n ≡ 0 → ReadsBytes n s s' → (n ≡ 0 → IsAtEnd s') → ((script proof : List ℕ) (vs : List Verdict) (o : Option Refusal) → Judges new script proof vs o → Judges old script proof vs o) → AreEnded new true old.inputs.proof_ended → ((script proof : List ℕ) (vs : List Verdict) → Accepts new script proof vs → Accepts old script proof vs) → IsFed old new 0 → TakesScript old new left rest s s'
   script_ends z h e j d a f = record {
     bytes = [];
     consumed = consumes_none s s' n z h;
-    size = omega arith;
+    size = omega (arith, same);
     judged = j;
     accepted = a;
     fed = f;
     end = λ _. e z;
     other = d.proof;
-    less = none_open new.inputs.script_ended left d.script;
+    less = none_open new.inputs.script_ended left rest same d.script;
   }
 
-  pub proof_ends : n ≡ 0 → ReadsBytes n s s' → (n ≡ 0 → IsAtEnd s') → ((script proof : List ℕ) (vs : List Verdict) (o : Option Refusal) → Judges new script proof vs o → Judges old script proof vs o) → AreEnded new old.inputs.script_ended true → ((script proof : List ℕ) (vs : List Verdict) → Accepts new script proof vs → Accepts old script proof vs) → IsFed old new 0 → TakesProof old new left left s s'
+  pub proof_ends : n ≡ 0 → ReadsBytes n s s' → (n ≡ 0 → IsAtEnd s') → ((script proof : List ℕ) (vs : List Verdict) (o : Option Refusal) → Judges new script proof vs o → Judges old script proof vs o) → AreEnded new old.inputs.script_ended true → ((script proof : List ℕ) (vs : List Verdict) → Accepts new script proof vs → Accepts old script proof vs) → IsFed old new 0 → TakesProof old new left rest s s'
   proof_ends z h e j d a f = record {
     bytes = [];
     consumed = consumes_none s s' n z h;
-    size = omega arith;
+    size = omega (arith, same);
     judged = j;
     accepted = a;
     fed = f;
     end = λ _. e z;
     other = d.script;
-    less = none_open new.inputs.proof_ended left d.proof;
+    less = none_open new.inputs.proof_ended left rest same d.proof;
   }
 
 -- a piece that was fed
-left_behind : (bytes : List ℕ) (left n : ℕ) → length bytes ≡ n → n ≤ left → length bytes + (left - n) ≡ left
-left_behind bytes left n e h = omega (arith, e)
+left_behind : (bytes : List ℕ) (left n rest : ℕ) → length bytes ≡ n → n ≤ left → left - n ≡ rest → length bytes + rest ≡ left
+left_behind bytes left n rest e h f = omega (arith, e, f)
 
-module _ (old new : Checking) (left n : ℕ) (s s' : Option (List ℕ)) (buffer : List ℕ) (some : n ≢ 0) (within : n ≤ length buffer) (le : n ≤ left) where
-  pub script_fed : old.inputs.script_ended ≡ false → Consumes s s' (take n buffer) → ((script proof : List ℕ) (vs : List Verdict) (o : Option Refusal) → Judges new script proof vs o → Judges old (take n buffer ++ script) proof vs o) → AreEnded new old.inputs.script_ended old.inputs.proof_ended → ((script proof : List ℕ) (vs : List Verdict) → Accepts new script proof vs → Accepts old (take n buffer ++ script) proof vs) → IsFed old new (length (take n buffer)) → TakesScript old new left (left - n) s s'
+module _ (old new : Checking) (left n rest : ℕ) (s s' : Option (List ℕ)) (buffer : List ℕ) (some : n ≢ 0) (within : n ≤ length buffer) (le : n ≤ left) (fewer : left - n ≡ rest) where
+  pub script_fed : old.inputs.script_ended ≡ false → Consumes s s' (take n buffer) → ((script proof : List ℕ) (vs : List Verdict) (o : Option Refusal) → Judges new script proof vs o → Judges old (take n buffer ++ script) proof vs o) → AreEnded new old.inputs.script_ended old.inputs.proof_ended → ((script proof : List ℕ) (vs : List Verdict) → Accepts new script proof vs → Accepts old (take n buffer ++ script) proof vs) → IsFed old new (length (take n buffer)) → TakesScript old new left rest s s'
   script_fed closed c j d a f = record {
     bytes = take n buffer;
     consumed = c;
-    size = left_behind (take n buffer) left n (length-take-le n buffer within) le;
+    size = left_behind (take n buffer) left n rest (length-take-le n buffer within) le fewer;
     judged = j;
     accepted = a;
     fed = f;
     end = λ h. let z : ⊥ = cc (h, d.script, closed) in absurd z;
     other = d.proof;
-    less = one_open new.inputs.script_ended (left - n) left (d.script ∙ closed) (omega (arith, some, le));
+    less = one_open new.inputs.script_ended rest left (d.script ∙ closed) (omega (arith, some, le, fewer));
   }
 
-  pub proof_fed : old.inputs.proof_ended ≡ false → Consumes s s' (take n buffer) → ((script proof : List ℕ) (vs : List Verdict) (o : Option Refusal) → Judges new script proof vs o → Judges old script (take n buffer ++ proof) vs o) → AreEnded new old.inputs.script_ended old.inputs.proof_ended → ((script proof : List ℕ) (vs : List Verdict) → Accepts new script proof vs → Accepts old script (take n buffer ++ proof) vs) → IsFed old new (length (take n buffer)) → TakesProof old new left (left - n) s s'
+  pub proof_fed : old.inputs.proof_ended ≡ false → Consumes s s' (take n buffer) → ((script proof : List ℕ) (vs : List Verdict) (o : Option Refusal) → Judges new script proof vs o → Judges old script (take n buffer ++ proof) vs o) → AreEnded new old.inputs.script_ended old.inputs.proof_ended → ((script proof : List ℕ) (vs : List Verdict) → Accepts new script proof vs → Accepts old script (take n buffer ++ proof) vs) → IsFed old new (length (take n buffer)) → TakesProof old new left rest s s'
   proof_fed closed c j d a f = record {
     bytes = take n buffer;
     consumed = c;
-    size = left_behind (take n buffer) left n (length-take-le n buffer within) le;
+    size = left_behind (take n buffer) left n rest (length-take-le n buffer within) le fewer;
     judged = j;
     accepted = a;
     fed = f;
     end = λ h. let z : ⊥ = cc (h, d.proof, closed) in absurd z;
     other = d.script;
-    less = one_open new.inputs.proof_ended (left - n) left (d.proof ∙ closed) (omega (arith, some, le));
+    less = one_open new.inputs.proof_ended rest left (d.proof ∙ closed) (omega (arith, some, le, fewer));
   }
 
 -- ---- both texts

@@ -4,6 +4,7 @@ ghost use Rattle.std.specs.Prelude.{◌≡◌, ◌≢◌, ◌⊎◌, ◌<◌, �
 ghost use Rattle.std.specs.Io.KnownBytes.{Appends};
 ghost use Rattle.std.specs.List.{flat_map};
 ghost use Rattle.smt_desk.specs.Faults.{Rose};
+ghost use Rattle.smt_desk.specs.Meters.{room};
 ghost use Rattle.accepted_proof.specs.Answers.{verdict_text};
 ghost use Rattle.proof_checker.specs.Checked.{IsJudged};
 ghost use Rattle.proof_checker.specs.Checkings.{verdicts_by};
@@ -16,59 +17,62 @@ use accepted_proof::refusal::Refusal;
 use proof_checker::checking::{Checking, Judgement, Progress};
 use proof_checker::report::{end_line, verdict_line};
 use script_state::answer::Verdict;
+use smt_desk::meter::Meter;
 use smt_desk::stream::{Sink, Source, write_whole};
 use std::alloc::Global;
 
-/// Feeds the next piece of the script, or its end, and tells how many bytes may still be read.
+/// Feeds the next piece of the script, whose bytes the meter counts, or its end.
 fn read_script<S: Source>(
     checking: &mut Checking,
     buffer: &mut [u8],
     script: &mut S,
-    left: u64,
-) -> Result<u64, Status>
+    meter: &mut Meter,
+) -> Result<(), Status>
     requires room { 0 < length buffer.old }
     requires unended { checking.old.inputs.script_ended ≡ false }
     ensures ok { IfOk result
-        (λ rest. TakesScript checking.old checking.new left rest (S.left script.old)
-        (S.left script.new)) }
-    ensures err { IfErr result (StopsReading left (S.left script.old) (S.left script.new)) }
+        (λ _. TakesScript checking.old checking.new (room meter.old) (room meter.new)
+        (S.left script.old) (S.left script.new)) }
+    ensures err { IfErr result
+        (StopsReading (room meter.old) (S.left script.old) (S.left script.new)) }
     ensures later { S.faults script.old ≤ S.faults script.new }
     ensures cause { IfErr result
         (HasCause (counts (S.faults script.old) 0 0) (counts (S.faults script.new) 0 0)) }
 {
-    let size = read_piece(script, buffer, left)?;
+    let size = read_piece(script, buffer, meter)?;
     if size == 0 {
         checking.end_script();
-        return Ok(left);
+        return Ok(());
     }
     checking.feed_script(&buffer[..size])?;
-    Ok(left - size as u64)
+    Ok(())
 }
 
-/// Feeds the next piece of the proof, or its end, and tells how many bytes may still be read.
+/// Feeds the next piece of the proof, whose bytes the meter counts, or its end.
 fn read_proof<P: Source>(
     checking: &mut Checking,
     buffer: &mut [u8],
     proof: &mut P,
-    left: u64,
-) -> Result<u64, Status>
+    meter: &mut Meter,
+) -> Result<(), Status>
     requires room { 0 < length buffer.old }
     requires unended { checking.old.inputs.proof_ended ≡ false }
     ensures ok { IfOk result
-        (λ rest. TakesProof checking.old checking.new left rest (P.left proof.old)
-        (P.left proof.new)) }
-    ensures err { IfErr result (StopsReading left (P.left proof.old) (P.left proof.new)) }
+        (λ _. TakesProof checking.old checking.new (room meter.old) (room meter.new)
+        (P.left proof.old) (P.left proof.new)) }
+    ensures err { IfErr result
+        (StopsReading (room meter.old) (P.left proof.old) (P.left proof.new)) }
     ensures later { P.faults proof.old ≤ P.faults proof.new }
     ensures cause { IfErr result
         (HasCause (counts (P.faults proof.old) 0 0) (counts (P.faults proof.new) 0 0)) }
 {
-    let size = read_piece(proof, buffer, left)?;
+    let size = read_piece(proof, buffer, meter)?;
     if size == 0 {
         checking.end_proof();
-        return Ok(left);
+        return Ok(());
     }
     checking.feed_proof(&buffer[..size])?;
-    Ok(left - size as u64)
+    Ok(())
 }
 
 /// Tells the verdict of a record that is accepted.
@@ -122,8 +126,8 @@ fn check_texts<S: Source, P: Source, W: Sink>(
         (counts (S.faults script.new) (W.faults answers.new) (P.faults proof.new))) }
 {
     let mut checking = Checking::new(alloc);
-    let mut script_left = INPUT_LIMIT;
-    let mut proof_left = INPUT_LIMIT;
+    let mut script_meter = Meter::new(INPUT_LIMIT);
+    let mut proof_meter = Meter::new(INPUT_LIMIT);
     'texts: loop {
         match checking.advance(alloc)? {
             Progress::Done(judgement) => return Ok(judgement),
@@ -139,8 +143,8 @@ fn check_texts<S: Source, P: Source, W: Sink>(
             }
             Progress::Script(held) => {
                 checking = held;
-                match read_script(&mut checking, buffer, script, script_left) {
-                    Ok(left) => script_left = left,
+                match read_script(&mut checking, buffer, script, &mut script_meter) {
+                    Ok(()) => {}
                     Err(status) => {
                         drop(checking);
                         return Err(status);
@@ -149,8 +153,8 @@ fn check_texts<S: Source, P: Source, W: Sink>(
             }
             Progress::Proof(held) => {
                 checking = held;
-                match read_proof(&mut checking, buffer, proof, proof_left) {
-                    Ok(left) => proof_left = left,
+                match read_proof(&mut checking, buffer, proof, &mut proof_meter) {
+                    Ok(()) => {}
                     Err(status) => {
                         drop(checking);
                         return Err(status);

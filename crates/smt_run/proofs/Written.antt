@@ -40,6 +40,10 @@ Progress-more room left n a b c p le q = record {
   read = reads_more (input_limit - left) n (input_limit - (left - n)) a b c p.read q (omega (arith, p.within));
 }
 
+-- the same where so many may be read then
+pub Progress-counted : (room left n rest : ℕ) (a b c : Option (List ℕ)) → Progress room left a b → n ≤ left → left - n ≡ rest → ReadsBytes n b c → Progress room rest a c
+Progress-counted room left n rest a b c p le e q = subst (λ (x : ℕ). Progress room x a c) e (Progress-more room left n a b c p le q)
+
 -- ---- how a script was read
 
 pub at_most : (size left : ℕ) (s s' : Option (List ℕ)) → Progress size left s s' → ReadsWithin s s'

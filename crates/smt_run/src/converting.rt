@@ -13,6 +13,7 @@ use proof_conversion::converting::convert;
 use proof_conversion::fault::{Fault, Rule};
 use smt_check::reading::{INPUT_LIMIT, read_piece};
 use smt_check::status::Status;
+use smt_desk::meter::Meter;
 use smt_desk::stream::{Failed, Sink, Source, write_whole};
 use smt_text::number::push_number;
 use smt_text::text::Text;
@@ -30,9 +31,9 @@ fn read_whole<P: Source>(alloc: Global, buffer: &mut [u8], proof: &mut P) -> Res
         (HasCause (counts (P.faults proof.old) 0 0) (counts (P.faults proof.new) 0 0)) }
 {
     let mut text = Text::new(alloc);
-    let mut left = INPUT_LIMIT;
+    let mut meter = Meter::new(INPUT_LIMIT);
     'pieces: loop {
-        let size = match read_piece(proof, buffer, left) {
+        let size = match read_piece(proof, buffer, &mut meter) {
             Ok(size) => size,
             Err(status) => {
                 drop(text);
@@ -49,7 +50,6 @@ fn read_whole<P: Source>(alloc: Global, buffer: &mut [u8], proof: &mut P) -> Res
                 return Err(Status::NoMemory);
             }
         }
-        left -= size as u64;
     }
 }
 

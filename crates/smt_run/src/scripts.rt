@@ -11,6 +11,7 @@ use crate::answering::{Answered, answer_piece, answer_rest};
 use cube_workers::Gate;
 use smt_check::reading::{INPUT_LIMIT, read_piece};
 use smt_check::status::Status;
+use smt_desk::meter::Meter;
 use smt_desk::stream::{Sink, Source};
 use smt_session::session::Session;
 use smt_session::settings::Settings;
@@ -62,9 +63,9 @@ pub(crate) fn answer_script<R: Threads + Wait + Sync, S: Source, W: Sink, Q: Sin
         refused: false,
         ended: false,
     };
-    let mut left = INPUT_LIMIT;
+    let mut meter = Meter::new(INPUT_LIMIT);
     'pieces: while !so_far.ended {
-        let size = match read_piece(script, buffer, left) {
+        let size = match read_piece(script, buffer, &mut meter) {
             Ok(size) => size,
             Err(status) => {
                 drop(so_far);
@@ -74,7 +75,6 @@ pub(crate) fn answer_script<R: Threads + Wait + Sync, S: Source, W: Sink, Q: Sin
         if size == 0 {
             return answer_rest(rt, alloc, so_far, &mut framer, answers, proof, gate);
         }
-        left -= size as u64;
         let piece = &buffer[..size];
         so_far = answer_piece(rt, alloc, so_far, &mut framer, piece, answers, proof, gate)?;
     }

@@ -1,5 +1,6 @@
 use Rattle.std.proofs.Common.{◌<◌, ◌≤◌, ℕ, List, length}
 use Rattle.dimacs_front.specs.Lrat.{lrat_of, lrat_goes_on}
+use Rattle.smt_desk.specs.Meters.{room}
 use Rattle.dimacs_run.proofs.Ways.{UnderWay}
 use Rattle.dimacs_run.proofs.reading.check_refutation.Given as goal
 
@@ -7,9 +8,9 @@ abbrev pub invariant-pieces : goal.invariant-pieces
 invariant-pieces g l =
     record {
       room : 0 < length l.buffer;
-      way : UnderWay (λ (text : List ℕ). lrat_of l.fn.cnf text) (λ (more : List ℕ). lrat_goes_on l.checker more) (g.S.Source.left l.fn.source) (g.S.Source.left l.source) l.left;
+      way : UnderWay (λ (text : List ℕ). lrat_of l.fn.cnf text) (λ (more : List ℕ). lrat_goes_on l.checker more) (g.S.Source.left l.fn.source) (g.S.Source.left l.source) (room l.meter);
       later : g.S.Source.faults l.fn.source ≤ g.S.Source.faults l.source;
     }
 
 abbrev pub decreases-pieces : goal.decreases-pieces
-decreases-pieces g l = l.left
+decreases-pieces g l = room l.meter

@@ -1,5 +1,6 @@
 use Rattle.std.proofs.Common.{◌<◌, length, take, arith}
 use Rattle.std.proofs.lemmas.List.{length-take-le}
+use Rattle.smt_desk.proofs.Metering.{room_counted}
 use Rattle.dimacs_run.specs.Reads.{HaltsAt, halt_of}
 use Rattle.dimacs_run.proofs.Ways.{way_more, way_read, way_stopped, way_fails, stop_halts, stop_reads}
 use Rattle.dimacs_run.proofs.reading.read_clauses.Goals as goal
@@ -28,6 +29,6 @@ pieces-preserved g c =
     let size = c.in-Ok.ensures in
     record {
       room = room;
-      way = way_more _ _ _ _ _ c.pieces.invariant.way _ _ c.in-Ok.size (take c.in-Ok.size c.read_piece.new.buffer) size.read.0 size.bytes (length-take-le c.in-Ok.size c.read_piece.new.buffer size.within) (λ more. c.in-Ok-feed.ensures more);
+      way = way_more _ _ _ _ _ c.pieces.invariant.way _ _ c.in-Ok.size _ (take c.in-Ok.size c.read_piece.new.buffer) size.read.0 (room_counted _ _ _ size.counted) size.bytes (length-take-le c.in-Ok.size c.read_piece.new.buffer size.within) (λ more. c.in-Ok-feed.ensures more);
       later = omega (arith, c.pieces.invariant.later, c.read_piece.ensures.later);
     }

@@ -8,7 +8,7 @@ use Rattle.smt_check.proofs.checking.check_texts.Goals as goal
 pub texts-init : goal.texts-init
 texts-init g c = record {
   room = c.requires;
-  way = way_none _ _ _ c.new-checking.ensures.judged c.new-checking.ensures.accepted c.new-checking.ensures.ended;
+  way = rw (c.new-script_meter.ensures, c.new-proof_meter.ensures) (way_none _ _ _ c.new-checking.ensures.judged c.new-checking.ensures.accepted c.new-checking.ensures.ended);
   telling = telling_none _ _ _ _ c.new-checking.ensures.verdicts;
   later = later_same _;
 }

@@ -1,4 +1,5 @@
 use Rattle.std.proofs.lemmas.Result.{err_from_is_err_and}
+use Rattle.smt_desk.proofs.Metering.{room_counted, room_kept}
 use Rattle.smt_check.proofs.Checks.{read_stopped, read_without_memory, script_ends, script_fed}
 use Rattle.smt_check.proofs.checking.read_script.Goals as goal
 
@@ -20,7 +21,7 @@ returns-in_err-size-clause-cause g c =
 pub returns-then-size-eq0-clause-ok : goal.returns-then-size-eq0-clause-ok
 returns-then-size-eq0-clause-ok g c =
     let read = c.in_ok-size.ensures.read in
-    script_ends _ _ _ _ _ _ c.if-size-eq0.true read.1 read.2 c.end_script.ensures.judged c.end_script.ensures.ended c.end_script.ensures.accepted c.end_script.ensures.fed
+    script_ends _ _ _ _ _ _ _ (room_kept _ _ _ c.if-size-eq0.true c.in_ok-size.ensures.counted) c.if-size-eq0.true read.1 read.2 c.end_script.ensures.judged c.end_script.ensures.ended c.end_script.ensures.accepted c.end_script.ensures.fed
 
 pub returns-in_err-feed_script-clause-ok : goal.returns-in_err-feed_script-clause-ok
 returns-in_err-feed_script-clause-ok g c =
@@ -40,4 +41,4 @@ returns-in_err-feed_script-clause-cause g c =
 pub returns-clause-ok : goal.returns-clause-ok
 returns-clause-ok g c =
     let size = c.in_ok-size.ensures in
-    script_fed _ _ _ _ _ _ _ c.if-size-eq0.false size.within size.read.0 c.requires.unended size.bytes c.in_ok-feed_script.ensures.judged c.feed_script.ensures.ended c.in_ok-feed_script.ensures.accepted c.feed_script.ensures.fed
+    script_fed _ _ _ _ _ _ _ _ c.if-size-eq0.false size.within size.read.0 (room_counted _ _ _ size.counted) c.requires.unended size.bytes c.in_ok-feed_script.ensures.judged c.feed_script.ensures.ended c.in_ok-feed_script.ensures.accepted c.feed_script.ensures.fed

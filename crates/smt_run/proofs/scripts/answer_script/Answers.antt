@@ -5,11 +5,13 @@ use Rattle.std.proofs.lemmas.Bool.{not-true, not-false}
 use Rattle.smt_text.specs.Framing.{Held}
 use Rattle.smt_text.proofs.Cuts.{Begins-append}
 use Rattle.smt_text.proofs.Driver.{framed_none}
+use Rattle.smt_desk.specs.Meters.{room}
+use Rattle.smt_desk.proofs.Metering.{room_counted}
 use Rattle.smt_check.specs.Runs.{counts}
 use Rattle.smt_check.proofs.Parts.{adds_more, cause_after}
 use Rattle.smt_session.specs.Sessions.{limits_of}
 use Rattle.smt_run.specs.Adding.{opening, streams, with_piece}
-use Rattle.smt_run.proofs.Written.{Progress-none, Progress-more, Progress-resize, Written-none, Written-more, within_none, within_more, read_stopped, read_failed, read_whole, at_most, piece_read, script_cause, sinks_cause}
+use Rattle.smt_run.proofs.Written.{Progress-none, Progress-counted, Progress-resize, Written-none, Written-more, within_none, within_more, read_stopped, read_failed, read_whole, at_most, piece_read, script_cause, sinks_cause}
 use Rattle.smt_run.proofs.Turning.{Advances-none, Advances-trans, Begins-trans, held_none, held_stop, held_more, held_behind}
 use Rattle.smt_run.proofs.Telling.{front_told, rest_told, ended_told, ended_read, read_told, rest_read, no_read}
 use Rattle.smt_run.proofs.scripts.answer_script.Goals as goal
@@ -24,7 +26,7 @@ pieces-init g c =
     let fresh = c.in_ok-session.ensures.fresh in
     let framed = framed_none _ [] c.new-framer.ensures refl in
     record {
-      read = Progress-none _ _ c.requires.room;
+      read = rw c.new-meter.ensures (Progress-none _ _ c.requires.room);
       written = Written-none _ _ _;
       text = [];
       consumed = Consumes-nil (g.S.Source.left c.args.script.now);
@@ -46,7 +48,7 @@ returns-in-Err-clause-turns g c =
     let held : Held = record { line = 1; bytes = inv.text } in
     let start = streams (g.W.Sink.written c.args.answers.now) (g.Q.Sink.written c.args.proof.now) in
     let here = streams (g.W.Sink.written c.pieces.answers) (g.Q.Sink.written c.pieces.proof) in
-    let more = piece_read c.pieces.left (g.S.Source.left c.pieces.script) (g.S.Source.left c.read_piece.new.script) c.in-Err.status c.in-Err.ensures.read in
+    let more = piece_read (room c.pieces.meter) (g.S.Source.left c.pieces.script) (g.S.Source.left c.read_piece.new.script) c.in-Err.status c.in-Err.ensures.read in
     front_told (limits_of c.args.settings) (g.S.Source.left c.args.script.now) (g.S.Source.left c.read_piece.new.script) (inv.text ++ more.0) start here
     (Consumes-trans (g.S.Source.left c.args.script.now) (g.S.Source.left c.pieces.script) (g.S.Source.left c.read_piece.new.script) inv.text more.0 inv.consumed more.1)
     (held_more held more.0 (opening (limits_of c.args.settings)) start here
@@ -94,7 +96,7 @@ pieces-preserved g c =
     record {
       read =
           Progress-resize _ _ _ _ _ room
-          (Progress-more _ _ _ _ _ _ c.pieces.invariant.read c.in-Ok.ensures.read.0 c.in-Ok.ensures.read.1);
+          (Progress-counted _ _ _ _ _ _ _ c.pieces.invariant.read c.in-Ok.ensures.read.0 (room_counted _ _ _ c.in-Ok.ensures.counted) c.in-Ok.ensures.read.1);
       text = inv.text ++ piece;
       consumed = Consumes-trans (g.S.Source.left c.args.script.now) (g.S.Source.left c.pieces.script) (g.S.Source.left c.read_piece.new.script) inv.text piece inv.consumed c.in-Ok.ensures.bytes;
       chunks = inv.chunks ++ turns.chunks;
@@ -176,7 +178,7 @@ returns-in-Err-clause-answered g c =
     let going = not-true c.pieces.so_far.ended c.pieces-test.true in
     let start = streams (g.W.Sink.written c.args.answers.now) (g.Q.Sink.written c.args.proof.now) in
     let here = streams (g.W.Sink.written c.pieces.answers) (g.Q.Sink.written c.pieces.proof) in
-    λ _. read_told (limits_of c.args.settings) (g.S.Source.left c.args.script.now) (g.S.Source.left c.pieces.script) (g.S.Source.left c.read_piece.new.script) inv.text c.pieces.left c.pieces.so_far start here inv.chunks c.pieces.framer c.in-Err.status
+    λ _. read_told (limits_of c.args.settings) (g.S.Source.left c.args.script.now) (g.S.Source.left c.pieces.script) (g.S.Source.left c.read_piece.new.script) inv.text (room c.pieces.meter) c.pieces.so_far start here inv.chunks c.pieces.framer c.in-Err.status
     going inv.consumed c.in-Err.ensures.read inv.begins (inv.ends going) inv.advances
 
 pub returns-in_err-so_far-clause-answered : goal.returns-in_err-so_far-clause-answered
