@@ -7,7 +7,7 @@ use Rattle.dimacs_run.proofs.reading.check_refutation.Given as goal
 abbrev pub invariant-pieces : goal.invariant-pieces
 invariant-pieces g l =
     record {
-      room : 0 < length l.buffer;
+      nonempty : 0 < length l.buffer;
       way : UnderWay (λ (text : List ℕ). lrat_of l.fn.cnf text) (λ (more : List ℕ). lrat_goes_on l.checker more) (g.S.Source.left l.fn.source) (g.S.Source.left l.source) (room l.meter);
       later : g.S.Source.faults l.fn.source ≤ g.S.Source.faults l.source;
     }

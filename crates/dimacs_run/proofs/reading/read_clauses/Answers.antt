@@ -1,9 +1,16 @@
-use Rattle.std.proofs.Common.{◌<◌, length, take, arith}
+use Rattle.std.proofs.Common.{◌<◌, length, take, refl, arith}
 use Rattle.std.proofs.lemmas.List.{length-take-le}
 use Rattle.smt_desk.proofs.Metering.{room_counted}
 use Rattle.dimacs_run.specs.Reads.{HaltsAt, halt_of}
-use Rattle.dimacs_run.proofs.Ways.{way_more, way_read, way_stopped, way_fails, stop_halts, stop_reads}
+use Rattle.dimacs_run.proofs.Ways.{way_none, way_more, way_read, way_stopped, way_fails, stop_halts, stop_reads}
 use Rattle.dimacs_run.proofs.reading.read_clauses.Goals as goal
+
+pub pieces-init : goal.pieces-init
+pieces-init g c = record {
+  nonempty = c.requires;
+  way = rw (c.new-meter.ensures, c.new-reader.ensures) (way_none _ _ _ (λ more. refl));
+  later = omega arith;
+}
 
 pub returns-in-Err-clause-read : goal.returns-in-Err-clause-read
 returns-in-Err-clause-read g c = way_stopped _ _ _ _ _ c.pieces.invariant.way _ _ c.in-Err.ensures.read
@@ -25,10 +32,10 @@ returns-in-Err-feed-clause-read g c = rw c.halted-halt.ensures (stop_reads _ _ _
 
 pub pieces-preserved : goal.pieces-preserved
 pieces-preserved g c =
-    let room : 0 < length c.read_piece.new.buffer = omega (arith, c.pieces.invariant.room) in
+    let nonempty : 0 < length c.read_piece.new.buffer = omega (arith, c.pieces.invariant.nonempty) in
     let size = c.in-Ok.ensures in
     record {
-      room = room;
+      nonempty = nonempty;
       way = way_more _ _ _ _ _ c.pieces.invariant.way _ _ c.in-Ok.size _ (take c.in-Ok.size c.read_piece.new.buffer) size.read.0 (room_counted _ _ _ size.counted) size.bytes (length-take-le c.in-Ok.size c.read_piece.new.buffer size.within) (λ more. c.in-Ok-feed.ensures more);
       later = omega (arith, c.pieces.invariant.later, c.read_piece.ensures.later);
     }

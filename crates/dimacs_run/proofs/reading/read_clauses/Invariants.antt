@@ -7,7 +7,7 @@ use Rattle.dimacs_run.proofs.reading.read_clauses.Given as goal
 abbrev pub invariant-pieces : goal.invariant-pieces
 invariant-pieces g l =
     record {
-      room : 0 < length l.buffer;
+      nonempty : 0 < length l.buffer;
       way : UnderWay (λ (text : List ℕ). cnf_of text) (λ (more : List ℕ). goes_on l.reader more) (g.S.Source.left l.fn.source) (g.S.Source.left l.source) (room l.meter);
       later : g.S.Source.faults l.fn.source ≤ g.S.Source.faults l.source;
     }

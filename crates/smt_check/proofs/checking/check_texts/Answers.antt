@@ -7,7 +7,7 @@ use Rattle.smt_check.proofs.checking.check_texts.Goals as goal
 
 pub texts-init : goal.texts-init
 texts-init g c = record {
-  room = c.requires;
+  nonempty = c.requires;
   way = rw (c.new-script_meter.ensures, c.new-proof_meter.ensures) (way_none _ _ _ c.new-checking.ensures.judged c.new-checking.ensures.accepted c.new-checking.ensures.ended);
   telling = telling_none _ _ _ _ c.new-checking.ensures.verdicts;
   later = later_same _;
@@ -64,7 +64,7 @@ texts-preserved-in-Ok g c =
     let s = stops_shown _ _ _ _ _ c.in-Shown.is c.in_ok-judgement.ensures in
     let w = c.texts.invariant in
     record {
-      room = w.room;
+      nonempty = w.nonempty;
       way = way_advance _ _ _ _ _ _ _ w.way _ s.0;
       telling = telling_more _ _ _ _ _ w.telling _ _ s.1 (way_shown _ _ _ _ _ _ _ w.way c.in-Shown.held s.2) _ c.in-Ok.ensures.bytes;
       later = record { script = w.later.script; answers = omega (arith, w.later.answers, c.tell.ensures.later); proof = w.later.proof };
@@ -106,7 +106,7 @@ texts-preserved-in-Ok-read_script g c =
     let w = c.texts.invariant in
     let k = c.in-Ok-read_script.ensures.ok in
     record {
-      room = rw c.read_script.auto.buffer w.room;
+      nonempty = rw c.read_script.auto.buffer w.nonempty;
       way = way_script _ _ _ _ _ _ _ (way_advance _ _ _ _ _ _ _ w.way _ s.0) s.2 _ _ _ k;
       telling = rw k.fed.checker (telling_same _ _ _ _ _ w.telling _ s.1);
       later = record { script = omega (arith, w.later.script, c.read_script.ensures.later); answers = w.later.answers; proof = w.later.proof };
@@ -143,7 +143,7 @@ texts-preserved g c =
     let w = c.texts.invariant in
     let k = c.in-Ok-read_proof.ensures.ok in
     record {
-      room = rw c.read_proof.auto.buffer w.room;
+      nonempty = rw c.read_proof.auto.buffer w.nonempty;
       way = way_proof _ _ _ _ _ _ _ (way_advance _ _ _ _ _ _ _ w.way _ s.0) s.2 _ _ _ k;
       telling = rw k.fed.checker (telling_same _ _ _ _ _ w.telling _ s.1);
       later = record { script = w.later.script; answers = w.later.answers; proof = omega (arith, w.later.proof, c.read_proof.ensures.later) };

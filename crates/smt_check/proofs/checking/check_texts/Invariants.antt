@@ -9,7 +9,7 @@ use Rattle.smt_check.proofs.checking.check_texts.Given as goal
 abbrev pub invariant-texts : goal.invariant-texts
 invariant-texts g l =
     record {
-      room : 0 < length l.buffer;
+      nonempty : 0 < length l.buffer;
       way : UnderWay l.checking (g.S.Source.left l.fn.script) (g.S.Source.left l.script) (g.P.Source.left l.fn.proof) (g.P.Source.left l.proof) (room l.script_meter) (room l.proof_meter);
       telling : IsTelling (g.S.Source.left l.fn.script) (g.P.Source.left l.fn.proof) (g.W.Sink.written l.fn.answers) (g.W.Sink.written l.answers) (verdicts_by l.checking.checker);
       later : IsLater (counts (g.S.Source.faults l.fn.script) (g.W.Sink.faults l.fn.answers) (g.P.Source.faults l.fn.proof)) (counts (g.S.Source.faults l.script) (g.W.Sink.faults l.answers) (g.P.Source.faults l.proof));
