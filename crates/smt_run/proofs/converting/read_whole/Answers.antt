@@ -23,9 +23,9 @@ returns-in-Err-push_slice-clause-read g c = within_more _ _ _ _ _ _ c.pieces.inv
 
 pub pieces-preserved : goal.pieces-preserved
 pieces-preserved g c =
-    let room : 0 < length c.read_piece.new.buffer = omega (arith, c.pieces.invariant.read.room) in
+    let nonempty : 0 < length c.read_piece.new.buffer = omega (arith, c.pieces.invariant.read.room) in
     record {
-      read = Progress-resize _ _ _ _ _ room (Progress-counted _ _ _ _ _ _ _ c.pieces.invariant.read c.in-Ok.ensures.read.0 (room_counted _ _ _ c.in-Ok.ensures.counted) c.in-Ok.ensures.read.1);
+      read = Progress-resize _ _ _ _ _ nonempty (Progress-counted _ _ _ _ _ _ _ c.pieces.invariant.read c.in-Ok.ensures.read.0 (room_counted _ _ _ c.in-Ok.ensures.counted) c.in-Ok.ensures.read.1);
       consumed =
           rw c.in-Ok-push_slice.ensures.ok
           (Consumes-trans (g.P.Source.left c.args.proof.now) (g.P.Source.left c.pieces.proof) (g.P.Source.left c.read_piece.new.script) c.pieces.text (take c.in-Ok.size c.read_piece.new.buffer) c.pieces.invariant.consumed c.in-Ok.ensures.bytes);

@@ -85,7 +85,7 @@ returns-in_err-so_far-clause-proof g c = adds_more _ _ _ c.pieces.invariant.writ
 
 pub pieces-preserved : goal.pieces-preserved
 pieces-preserved g c =
-    let room : 0 < length c.read_piece.new.buffer = omega (arith, c.pieces.invariant.read.room) in
+    let nonempty : 0 < length c.read_piece.new.buffer = omega (arith, c.pieces.invariant.read.room) in
     let inv = c.pieces.invariant in
     let turns = c.in_ok-so_far.ensures.turns in
     let piece = take c.in-Ok.size c.read_piece.new.buffer in
@@ -95,7 +95,7 @@ pieces-preserved g c =
     let behind = streams (g.W.Sink.written c.answer_piece.new.answers) (g.Q.Sink.written c.answer_piece.new.proof) in
     record {
       read =
-          Progress-resize _ _ _ _ _ room
+          Progress-resize _ _ _ _ _ nonempty
           (Progress-counted _ _ _ _ _ _ _ c.pieces.invariant.read c.in-Ok.ensures.read.0 (room_counted _ _ _ c.in-Ok.ensures.counted) c.in-Ok.ensures.read.1);
       text = inv.text ++ piece;
       consumed = Consumes-trans (g.S.Source.left c.args.script.now) (g.S.Source.left c.pieces.script) (g.S.Source.left c.read_piece.new.script) inv.text piece inv.consumed c.in-Ok.ensures.bytes;
