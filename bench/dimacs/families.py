@@ -65,6 +65,24 @@ class Clauses:
             total = self.sum(total, [false] * i + [self.both(a, b) for a in x[: len(x) - i]])
         return total
 
+    def difference(self, x, y):
+        """The difference of two words, and whether there is no borrow."""
+        carry, bits = self.constant(True), []
+        for a, b in zip(x, y):
+            bits.append(self.differ(self.differ(a, -b), carry))
+            carry = self.majority(a, -b, carry)
+        return bits, carry
+
+    def quotient(self, x, y):
+        """The quotient of two words and the remainder, by long division; the divisor is not 0."""
+        rest, bits = [self.constant(False)] * (len(y) + 1), []
+        for bit in reversed(x):
+            rest = [bit] + rest[:-1]
+            less, fits = self.difference(rest, y + [self.constant(False)])
+            rest = [self.choice(fits, a, b) for a, b in zip(less, rest)]
+            bits.insert(0, fits)
+        return bits, rest[:-1]
+
     def word(self, width, value):
         return [self.constant(value >> i & 1) for i in range(width)]
 
@@ -168,6 +186,54 @@ def factors(width, number):
     return made
 
 
+def divides(width):
+    """Two words, the second not 0, of which the quotient times the second and the remainder are not the first: no model."""
+    made = Clauses()
+    a, b = made.fresh(width), made.fresh(width)
+    made.add(*b)
+    quotient, rest = made.quotient(a, b)
+    made.make_differ(made.sum(made.product(quotient, b), rest), a)
+    return made
+
+
+def sorts(count):
+    """So many bits that a network of bubbles and one of odd and even transpositions sort otherwise: no model."""
+    made = Clauses()
+    given = made.fresh(count)
+
+    def sorted_by(pairs):
+        bits = list(given)
+        for i in pairs:
+            bits[i], bits[i + 1] = made.both(bits[i], bits[i + 1]), -made.both(-bits[i], -bits[i + 1])
+        return bits
+
+    bubbles = [i for end in range(count - 1, 0, -1) for i in range(end)]
+    turns = [i for turn in range(count) for i in range(turn % 2, count - 1, 2)]
+    made.make_differ(sorted_by(bubbles), sorted_by(turns))
+    return made
+
+
+def hashes(width, rounds, seed):
+    """Two words that are hashed, by so many rounds of adding, turning and multiplying behind which they are added once more, to what
+    two that the seed draws are hashed to."""
+    rng, mask = random.Random(seed), (1 << width) - 1
+    keys = [rng.getrandbits(width) for _ in range(rounds)]
+    made = Clauses()
+    first, second = made.fresh(width), made.fresh(width)
+    drawn, other = rng.getrandbits(width), rng.getrandbits(width)
+    a, b, x, y = first, second, drawn, other
+    for key in keys:
+        a = made.sum(made.sum(a, b), made.word(width, key))
+        b = [made.differ(c, d) for c, d in zip(b[-3:] + b[:-3], a)]
+        a = made.product(a, [made.constant(True)] + b[1:])
+        x = x + y + key & mask
+        y = (y << 3 | y >> width - 3) & mask ^ x
+        x = x * (y | 1) & mask
+    made.make_equal(made.sum(a, first), made.word(width, x + drawn & mask))
+    made.make_equal(made.sum(b, second), made.word(width, y + other & mask))
+    return made
+
+
 def machine(width, steps, target):
     """A register that begins as 0, and at each step becomes three times itself and 1 or itself and 7, as an input says: it is the
     target after so many steps, and not before."""
@@ -184,7 +250,7 @@ def machine(width, steps, target):
     return made
 
 
-FAMILIES = [random3, pigeons, parity, colours, commutes, distributes, factors, machine]
+FAMILIES = [random3, pigeons, parity, colours, commutes, distributes, factors, divides, sorts, hashes, machine]
 
 
 def main():

@@ -1,14 +1,16 @@
 #!/usr/bin/env python3
 """Runs the built program on scripts that take one worker some seconds, with 1, 2 and 4 workers, and prints a table.
 
-usage: run.py [PROGRAM] [--only TEXT] [--workers 1,2,4] [--cubes 4] [--limit SECONDS] [--times N] [--narrower N]
+usage: run.py [PROGRAM] [--only TEXT] [--workers 1,2,4] [--cubes 4] [--split-only] [--limit SECONDS] [--times N] [--smaller N]
        (default: the program that `rt run` leaves in crates/smt_tool/out, 4 variables that split a check, 120 seconds, once)
 
-The first column of seconds is one worker without a split; the others are so many workers over the cubes. Seconds are of the
-clock, and behind them those of all processors, each the least of N runs. Every verdict is compared with the one that is known, and
-`check` has to accept each proof. `--narrower 3` takes 3 bits off each width, for a run of some seconds.
+The first column of seconds is one worker without a split, which `--split-only` leaves out; the others are so many workers over the
+cubes. Seconds are of the clock, and behind them those of all processors, each the least of N runs. Every verdict is compared with
+the one that is known, and `check` has to accept each proof. `--smaller 3` takes 3 off each size, for a run of some seconds. Behind
+the scripts stand the geometric means of what each column takes of the first one, where the limit counts for a run that reached it.
 """
 import argparse
+import math
 import os
 import pathlib
 import resource
@@ -17,42 +19,9 @@ import sys
 import tempfile
 import time
 
+import scripts
+
 PROGRAM = pathlib.Path(__file__).resolve().parents[2] / "crates/smt_tool/out/smt_tool"
-
-
-def declared(names, width):
-    return "".join("(declare-const %s (_ BitVec %d))" % (n, width) for n in names)
-
-
-def law(width, names, one, other):
-    """Two words that are one by a law of the ring are asserted to differ."""
-    return "%s(assert (distinct %s %s))(check-sat)\n" % (declared(names, width), one, other)
-
-
-def factors(width, number):
-    """Two words above 1, the lower one first, whose product is the number, without a carry."""
-    wide = "((_ zero_extend %d) %%s)" % width
-    product = "(bvmul %s %s)" % (wide % "x", wide % "y")
-    return ("%s(assert (= %s (_ bv%d %d)))(assert (bvugt x (_ bv1 %d)))(assert (bvule x y))(check-sat)\n"
-            % (declared("xy", width), product, number, 2 * width, width))
-
-
-def prime_below(bound):
-    """The greatest prime below a number above 2."""
-    return next(n for n in range(bound - 1, 1, -1) if all(n % d for d in range(2, int(n ** 0.5) + 1)))
-
-
-def scripts(narrower):
-    """The name, the text and the verdict of each script."""
-    for n in (7 - narrower, 8 - narrower):
-        yield "distributivity_%d" % n, law(n, "xyz", "(bvmul x (bvadd y z))", "(bvadd (bvmul x y) (bvmul x z))"), "unsat"
-        yield "difference_of_squares_%d" % n, law(n, "xy", "(bvmul (bvadd x y) (bvsub x y))", "(bvsub (bvmul x x) (bvmul y y))"), "unsat"
-    for n in (5 - narrower, 6 - narrower):
-        yield "associativity_%d" % n, law(n, "xyz", "(bvmul x (bvmul y z))", "(bvmul (bvmul x y) z)"), "unsat"
-    for n in (14 - narrower, 15 - narrower, 16 - narrower):
-        yield "prime_%d" % n, factors(n, prime_below(1 << 2 * n - 1)), "unsat"
-    for n in (16 - narrower, 17 - narrower, 18 - narrower):
-        yield "two_primes_%d" % n, factors(n, prime_below(5 << n - 3) * prime_below(1 << n)), "sat"
 
 
 class Bench:
@@ -89,38 +58,67 @@ class Bench:
     def shown(self, seconds):
         return "%.2f (%.2f)" % tuple(seconds) if seconds else ">%d" % self.options.limit
 
+    def clock(self, seconds):
+        return max(seconds[0], 0.001) if seconds else self.options.limit
+
+
+def mean(values):
+    """The geometric mean."""
+    return math.exp(sum(map(math.log, values)) / len(values))
+
+
+def print_means(bench, rows):
+    """What each column takes of the first one, by the clock."""
+    kinds = [("unsat, words alone", lambda made: made.verdict == "unsat" and not made.theory),
+             ("unsat, functions and arrays", lambda made: made.verdict == "unsat" and made.theory),
+             ("unsat, all", lambda made: made.verdict == "unsat"), ("sat", lambda made: made.verdict == "sat")]
+    for name, belongs in kinds:
+        clocks = [[bench.clock(s) for s in found] for made, found in rows if belongs(made)]
+        if clocks:
+            shares = [mean([row[k] / row[0] for row in clocks]) for k in range(len(clocks[0]))]
+            print("| %s | %d scripts | %s |" % (name, len(clocks), " | ".join("%.2f" % s for s in shares)))
+
 
 def read_options():
     parser = argparse.ArgumentParser(description=__doc__.split("\n")[0])
     parser.add_argument("program", nargs="?", default=str(PROGRAM))
     parser.add_argument("--only", default="", help="scripts whose name has this text")
     parser.add_argument("--workers", default="1,2,4")
-    for name, default in ("cubes", 4), ("limit", 120), ("times", 1), ("narrower", 0):
+    parser.add_argument("--split-only", action="store_true")
+    for name, default in ("cubes", 4), ("limit", 120), ("times", 1), ("smaller", 0):
         parser.add_argument("--" + name, type=int, default=default)
     return parser.parse_args()
 
 
+def heading(ways):
+    heads = ["%d%s" % (workers, "" if cubes else ", no split") for workers, cubes in ways]
+    print("| script | verdict | %s |" % " | ".join(heads))
+    print("|%s" % ("---|" * (2 + len(ways))), flush=True)
+
+
 def main():
     options = read_options()
-    counts, wrong = [int(n) for n in options.workers.split(",")], 0
+    ways = [] if options.split_only else [(1, 0)]
+    ways += [(int(n), options.cubes) for n in options.workers.split(",")]
+    rows, wrong, start = [], 0, time.monotonic()
     print("%d processors, load %.1f at the begin" % (os.cpu_count(), os.getloadavg()[0]))
-    print("| script | verdict | 1, no split | %s |" % " | ".join("%d" % n for n in counts))
-    print("|%s" % ("---|" * (3 + len(counts))))
+    heading(ways)
     with tempfile.TemporaryDirectory() as folder:
         bench = Bench(options, pathlib.Path(folder))
         script = pathlib.Path(folder) / "script.smt2"
-        for name, text, verdict in scripts(options.narrower):
-            if options.only not in name:
+        for made in scripts.scripts(options.smaller):
+            if options.only not in made.name:
                 continue
-            script.write_text(text)
-            found = [bench.measured(str(script), verdict, 1, 0)]
-            found += [bench.measured(str(script), verdict, n, options.cubes) for n in counts]
-            print("| %s | %s | %s |" % (name, verdict, " | ".join(bench.shown(seconds) for seconds, _ in found)), flush=True)
+            script.write_text(made.text)
+            found = [bench.measured(str(script), made.verdict, *way) for way in ways]
+            rows.append((made, [seconds for seconds, _ in found]))
+            print("| %s | %s | %s |" % (made.name, made.verdict, " | ".join(map(bench.shown, rows[-1][1]))), flush=True)
             for fault in {f for _, f in found if f}:
-                print("\n%s: %s\n" % (name, fault))
+                print("\n%s: %s\n" % (made.name, fault))
                 wrong += 1
-    print("\n%d wrong" % wrong)
-    return 1 if wrong else 0
+    print_means(bench, rows)
+    print("\n%d scripts, %d wrong, %.0f seconds in all" % (len(rows), wrong, time.monotonic() - start))
+    return 1 if wrong or not rows else 0
 
 
 if __name__ == "__main__":

@@ -31,3 +31,4 @@ pub mod Taking
 pub mod Dropping
 pub mod Leveling
 pub mod Parking
+pub mod Restating

@@ -18,6 +18,7 @@ mod level;
 mod lists;
 mod park;
 mod propagate;
+mod restate;
 mod row;
 mod slot_table;
 mod trail;

@@ -1,6 +1,6 @@
 //! The trail: the literals that are true, in the order in which they became so.
 
-ghost use Rattle.std.specs.Prelude.{ℕ, ◌≡◌, ◌+◌, ◌/◌, ◌^◌, ◌<◌, ◌≤◌, [], length, slice_set, slice_index, ltb, IsTrue, ◌↔◌, MatchOption, MatchBool};
+ghost use Rattle.std.specs.Prelude.{ℕ, ◌≡◌, ◌+◌, ◌/◌, ◌^◌, ◌<◌, ◌≤◌, [], length, slice_set, slice_index, ltb, IsTrue, ◌↔◌, Some, MatchOption, MatchBool};
 ghost use Rattle.cdcl_core.specs.Levels.{IsOpen, IsTrueBy, IsFalseBy, StandsAt};
 ghost use Rattle.cdcl_core.specs.Search.{literals_of, level_of, IsKnown};
 ghost use Rattle.cdcl_core.specs.State.{IsNew, IsConsistent, KeepsPlaces};
@@ -171,4 +171,20 @@ pub(crate) fn enqueue(t: &mut Trail, code: usize, slot: usize, reason: Option<Na
     t.rows[t.len] = Row::new(code, t.level, reason);
     t.spots[code / 2] = t.len as u32;
     t.len += 1;
+}
+
+// Says that the clause of this slot forced the literal at a place, as at level 0.
+pub(crate) fn restate(t: &mut Trail, place: usize, slot: usize, reason: Name)
+    requires codes { place < length t.old.codes.items }
+    requires reasons { place < length t.old.reasons.items }
+    requires rows { place < length t.old.rows.items }
+    requires named { 2 ≤ slice_index t.old.codes.items place }
+    ensures same { t.new ≡ record t.old { reasons = t.new.reasons; rows = t.new.rows } }
+    ensures reasons { t.new.reasons.items ≡ slice_set t.old.reasons.items place slot }
+    ensures rows { t.new.rows.items
+        ≡ slice_set t.old.rows.items place
+        (record { 0 = literal_of (slice_index t.old.codes.items place); 1 = 0; 2 = Some reason }) }
+{
+    t.reasons[place] = slot;
+    t.rows[place] = Row::new(t.codes[place] as usize, 0, Some(reason));
 }

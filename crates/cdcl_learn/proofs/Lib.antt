@@ -8,3 +8,4 @@ pub mod Judging
 pub mod Standing
 pub mod Cutting
 pub mod Orders
+pub mod Chaining

@@ -18,10 +18,12 @@ mod last;
 mod learning;
 mod marks;
 mod minimizer;
+mod units;
 mod walk;
 
 pub use last::{Clash, final_clause};
 pub use learning::learn;
+pub use units::unit_clause;
 
 #[cfg(test)]
 mod tests;

@@ -1,10 +1,12 @@
 //! What a search chooses: variables, signs, restarts, and the clauses that it drops.
 
-ghost use Rattle.std.specs.Prelude.{IfSome, Contains};
+ghost use Rattle.std.specs.Prelude.{◌≡◌, IfSome, Contains};
 ghost use Rattle.cdcl_core.specs.Levels.{IsOpen};
 ghost use Rattle.cdcl_core.specs.Search.{literals_of, level_of};
 ghost use Rattle.cdcl_core.specs.State.{IsConsistent, IsSettled};
+ghost use Rattle.cdcl_loop.specs.Counts.{no_effort, with_conflict};
 
+use crate::effort::Effort;
 use cdcl_core::{Row, Trail, Watches};
 use cnf_base::{ClauseId, Lit, Pos};
 use search_heuristics::{
@@ -23,10 +25,12 @@ pub struct Choices {
     counter: GlueCounter,
     // by variable: the number of the last conflict that met it
     met: Vec<u64>,
-    conflicts: u64,
+    pub(crate) effort: Effort,
     // the chains that may be dropped, mostly in order, with their worth: those that were learnt, and those that were taken
     chains: Vec<Pos>,
     learnt: Vec<Learnt>,
+    // each place of the trail before this one was looked at at level 0
+    fixed: usize,
 }
 
 // The level at which the variable of a literal got its value, 0 where it has none.
@@ -63,7 +67,9 @@ fn last_of_level<'a>(
 
 impl Choices {
     /// For no variable.
-    pub(crate) fn new(alloc: Global) -> Choices {
+    pub(crate) fn new(alloc: Global) -> Choices
+        ensures { result.effort ≡ no_effort }
+    {
         Choices {
             alloc,
             order: VariableOrder::new(alloc),
@@ -71,14 +77,17 @@ impl Choices {
             restarts: Restarts::new(),
             counter: GlueCounter::new(alloc),
             met: Vec::new(alloc),
-            conflicts: 0,
+            effort: Effort::none(),
             chains: Vec::new(alloc),
             learnt: Vec::new(alloc),
+            fixed: 0,
         }
     }
 
     /// Has a row for the variable in each table. Where one comes, more come with it, so that this is seldom.
-    pub(crate) fn reserve(&mut self, variable: u64) -> Result<(), AllocError> {
+    pub(crate) fn reserve(&mut self, variable: u64) -> Result<(), AllocError>
+        ensures effort { self.new.effort ≡ self.old.effort }
+    {
         if variable < self.met.len() as u64 {
             return Ok(());
         }
@@ -91,15 +100,19 @@ impl Choices {
     }
 
     /// Forgets what late conflicts had, as another check begins; the signs of the variables stay, and the worth of chains.
-    pub(crate) fn renew(&mut self) {
+    pub(crate) fn renew(&mut self)
+        ensures effort { self.new.effort ≡ self.old.effort }
+    {
         self.order.forget();
         self.restarts = Restarts::new();
     }
 
     /// Keeps the signs of the literals above the level, whose variables become open.
-    pub(crate) fn take_back(&mut self, rows: &[Row], level: u64) {
+    pub(crate) fn take_back(&mut self, rows: &[Row], level: u64)
+        ensures effort { self.new.effort ≡ self.old.effort }
+    {
         let mut end = rows.len();
-        for _ in 0..rows.len() {
+        'rows: for _ in 0..rows.len() {
             let Some(row) = rows.get(end.wrapping_sub(1)) else {
                 break;
             };
@@ -114,19 +127,23 @@ impl Choices {
     }
 
     // Raises the activity of a variable that is not fixed, once for each conflict.
-    fn meet(&mut self, trail: &Trail, literal: Lit) {
+    fn meet(&mut self, trail: &Trail, literal: Lit)
+        ensures effort { self.new.effort ≡ self.old.effort }
+    {
         let variable = literal.variable() as usize;
         if variable < self.met.len()
-            && self.met[variable] != self.conflicts
+            && self.met[variable] != self.effort.conflicts
             && level_at(trail, literal) != 0
         {
-            self.met[variable] = self.conflicts;
+            self.met[variable] = self.effort.conflicts;
             self.order.bump(literal.variable());
         }
     }
 
-    fn meet_all(&mut self, trail: &Trail, literals: &[Lit]) {
-        for literal in literals {
+    fn meet_all(&mut self, trail: &Trail, literals: &[Lit])
+        ensures effort { self.new.effort ≡ self.old.effort }
+    {
+        'literals: for literal in literals {
             self.meet(trail, *literal);
         }
     }
@@ -135,8 +152,9 @@ impl Choices {
     // Liang and others, "Learning rate based branching heuristic for SAT solvers", 2016).
     fn meet_reasons(&mut self, watches: &Watches, trail: &Trail, clause: &[Lit], base: u64)
         requires { IsSettled watches.now trail.now }
+        ensures effort { self.new.effort ≡ self.old.effort }
     {
-        for literal in clause {
+        'literals: for literal in clause {
             if level_at(trail, *literal) > base {
                 if let Some(place) = trail.place(literal.negated()) {
                     if let Some(found) = watches.reason(trail, place) {
@@ -148,7 +166,9 @@ impl Choices {
     }
 
     // Tells the glue of a learnt clause anew, from which a conflict came: where it is less now, it counts.
-    fn tell_anew(&mut self, trail: &Trail, id: ClauseId, literals: &[Lit], base: u64) {
+    fn tell_anew(&mut self, trail: &Trail, id: ClauseId, literals: &[Lit], base: u64)
+        ensures effort { self.new.effort ≡ self.old.effort }
+    {
         let Some(first) = self.chains.first() else {
             return;
         };
@@ -180,10 +200,11 @@ impl Choices {
         base: u64,
     ) -> Result<(), AllocError>
         requires { IsSettled watches.now trail.now }
+        ensures effort { self.new.effort ≡ with_conflict self.old.effort }
     {
-        self.conflicts = self.conflicts.wrapping_add(1);
+        self.effort.count_conflict();
         self.counter.reserve((level as usize).saturating_add(1))?;
-        for hint in last_of_level(watches, trail, hints, level) {
+        'hints: for hint in last_of_level(watches, trail, hints, level) {
             if let Some(found) = watches.clause(*hint) {
                 self.meet_all(trail, found.literals());
                 self.tell_anew(trail, *hint, found.literals(), base);
@@ -200,13 +221,17 @@ impl Choices {
     }
 
     /// Names the clause that was weighed last.
-    pub(crate) fn name(&mut self, at: Pos) -> Result<(), AllocError> {
+    pub(crate) fn name(&mut self, at: Pos) -> Result<(), AllocError>
+        ensures effort { self.new.effort ≡ self.old.effort }
+    {
         self.chains.push(at)?;
         Ok(())
     }
 
     /// Names a chain that another search put, of so many literals: it is worth as much as a clause with a level for each.
-    pub(crate) fn take(&mut self, at: Pos, size: usize) -> Result<(), AllocError> {
+    pub(crate) fn take(&mut self, at: Pos, size: usize) -> Result<(), AllocError>
+        ensures effort { self.new.effort ≡ self.old.effort }
+    {
         let size = (size % (1 << 32)) as u32;
         self.learnt.push(Learnt { glue: size, size })?;
         self.chains.push(at)?;
@@ -214,10 +239,12 @@ impl Choices {
     }
 
     // The number of those literals that got their values above the base, and that of their levels.
-    fn worth(&mut self, trail: &Trail, literals: &[Lit], base: u64) -> Learnt {
+    fn worth(&mut self, trail: &Trail, literals: &[Lit], base: u64) -> Learnt
+        ensures effort { self.new.effort ≡ self.old.effort }
+    {
         let mut size = 0u32;
         self.counter.begin();
-        for literal in literals {
+        'literals: for literal in literals {
             let level = level_at(trail, *literal);
             if level > base {
                 size = size.wrapping_add(1);
@@ -229,7 +256,9 @@ impl Choices {
     }
 
     /// Whether the search is to restart now; then it counts one.
-    pub(crate) fn restarts_now(&mut self) -> bool {
+    pub(crate) fn restarts_now(&mut self) -> bool
+        ensures effort { self.new.effort ≡ self.old.effort }
+    {
         let due = self.restarts.is_due();
         if due {
             self.restarts.restart();
@@ -239,11 +268,13 @@ impl Choices {
 
     /// Whether so many chains are held that some are to be dropped.
     pub(crate) fn drops_now(&self) -> bool {
-        drops_are_due(self.conflicts, self.learnt.len() as u64)
+        drops_are_due(self.effort.conflicts, self.learnt.len() as u64)
     }
 
     /// The chains that are to be dropped; they are forgotten.
-    pub(crate) fn worst(&mut self) -> Result<Vec<Pos>, AllocError> {
+    pub(crate) fn worst(&mut self) -> Result<Vec<Pos>, AllocError>
+        ensures effort { self.new.effort ≡ self.old.effort }
+    {
         let places = worse_half(self.alloc, self.learnt.as_slice())?;
         let mut goes = vec![in self.alloc; false; self.learnt.len()]?;
         for place in &places {
@@ -269,6 +300,16 @@ impl Choices {
         Ok(worst)
     }
 
+    /// The place of the trail up to which each was looked at at level 0.
+    pub(crate) fn fixed(&self) -> usize {
+        self.fixed
+    }
+
+    /// Each place before this one was looked at.
+    pub(crate) fn fix(&mut self, place: usize) {
+        self.fixed = place;
+    }
+
     /// The sign that the variable had last.
     pub(crate) fn is_positive(&self, variable: u64) -> bool {
         self.phases.is_positive(variable)
@@ -277,10 +318,11 @@ impl Choices {
     /// An open literal of a listed variable that was bumped, None where there is none.
     pub(crate) fn pick(&mut self, list: &VariableList, trail: &Trail) -> Option<Lit>
         requires consistent { IsConsistent trail.now }
-        ensures { IfSome result (λ l. Contains list.now l.variable
+        ensures effort { self.new.effort ≡ self.old.effort }
+        ensures picked { IfSome result (λ l. Contains list.now l.variable
             × IsOpen (literals_of trail.now) (level_of trail.now) l) }
     {
-        for _ in 0..u64::MAX {
+        'tries: for _ in 0..u64::MAX {
             let Some(variable) = self.order.pop() else {
                 return None;
             };

@@ -1,6 +1,6 @@
 //! What an engine decides: the given literals first, and then the listed variables.
 
-ghost use Rattle.std.specs.Prelude.{◌≡◌, true, false, Contains, IfOk, OnOk, MatchOption};
+ghost use Rattle.std.specs.Prelude.{◌≡◌, true, false, if◌then◌else◌, Contains, IfOk, OnOk, MatchOption};
 ghost use Rattle.cdcl_core.specs.Levels.{IsOpen};
 ghost use Rattle.cdcl_core.specs.Search.{literals_of, level_of, IsAtRest};
 ghost use Rattle.cdcl_core.specs.State.{IsPropagated, IsConsistent};
@@ -8,6 +8,8 @@ ghost use Rattle.cdcl_learn.specs.Puts.{IsClash, AreGiven};
 ghost use Rattle.cdcl_loop.specs.Agendas.{IsScanned};
 ghost use Rattle.cdcl_loop.specs.Courses.{AreValued};
 ghost use Rattle.cdcl_loop.specs.Engines.{IsEngine, IsOnCourse, IsSameTask, IsSameStore, IsAssuming, IsAssumed, HasDecided};
+ghost use Rattle.cdcl_loop.specs.Counts.{with_decision};
+ghost use Rattle.cdcl_loop.specs.Efforts.{effort_of, HasWorked};
 
 use crate::agenda::Agenda;
 use crate::choices::Choices;
@@ -22,6 +24,7 @@ fn open_literal(choices: &mut Choices, agenda: &mut Agenda, trail: &Trail) -> Op
     requires consistent { IsConsistent trail.now }
     requires scanned { IsScanned agenda.old (literals_of trail.now) (level_of trail.now) }
     ensures list { agenda.new.list ≡ agenda.old.list }
+    ensures effort { choices.new.effort ≡ choices.old.effort }
     ensures scanned { IsScanned agenda.new (literals_of trail.now) (level_of trail.now) }
     ensures next { MatchOption result
         (AreValued agenda.old.list (literals_of trail.now) (level_of trail.now))
@@ -45,6 +48,7 @@ impl Engine {
         requires unset { IsOpen (literals_of self.old.trail) (level_of self.old.trail) literal }
         ensures task { IsSameTask self.old self.new }
         ensures store { IsSameStore self.old.watches self.new.watches }
+        ensures work { OnOk result (HasWorked self.old self.new) }
         ensures assuming { OnOk result (IsAssuming self.old self.new literal) }
         ensures clash { IfOk result
             (λ o. MatchOption o (IsPropagated self.new.watches self.new.trail
@@ -56,8 +60,11 @@ impl Engine {
         self.watches
             .reserve(&mut self.trail, literal.variable() + 1)?;
         self.watches.decide(&mut self.trail, literal);
+        self.choices.effort.count_decision();
         self.base = self.trail.level();
+        let before = self.trail.literals().len();
         let conflict = self.watches.propagate(&mut self.trail);
+        self.choices.effort.count_behind(before, &self.trail);
         match conflict {
             Some(id) => Ok(Some(Clash::Held(id))),
             None => Ok(None),
@@ -74,6 +81,7 @@ impl Engine {
         requires given { Contains self.old.given.items literal }
         ensures task { IsSameTask self.old self.new }
         ensures store { IsSameStore self.old.watches self.new.watches }
+        ensures work { OnOk result (HasWorked self.old self.new) }
         ensures clash { IfOk result (λ o. MatchOption o
             (IsAssuming self.old self.new literal × IsPropagated self.new.watches self.new.trail
             × IsAtRest self.new.watches self.new.trail)
@@ -96,6 +104,7 @@ impl Engine {
         requires course { IsOnCourse self.old }
         ensures task { IsSameTask self.old self.new }
         ensures store { IsSameStore self.old.watches self.new.watches }
+        ensures work { OnOk result (HasWorked self.old self.new) }
         ensures engine { OnOk result (IsEngine self.new) }
         ensures course { OnOk result (IsOnCourse self.new) }
         ensures clash { IfOk result
@@ -122,6 +131,8 @@ impl Engine {
         requires course { IsOnCourse self.old }
         ensures task { IsSameTask self.old self.new }
         ensures store { IsSameStore self.old.watches self.new.watches }
+        ensures effort { IfOk result (λ more. effort_of self.new
+            ≡ (if more then with_decision (effort_of self.old) else effort_of self.old)) }
         ensures engine { OnOk result (IsEngine self.new) }
         ensures course { OnOk result (IsOnCourse self.new) }
         ensures decided { IfOk result (λ more. more ≡ true → HasDecided self.old self.new) }
@@ -137,6 +148,7 @@ impl Engine {
         self.watches
             .reserve(&mut self.trail, literal.variable() + 1)?;
         self.watches.decide(&mut self.trail, literal);
+        self.choices.effort.count_decision();
         Ok(true)
     }
 }

@@ -9,9 +9,12 @@ ghost use Rattle.cdcl_core.specs.Search.{literals_of, level_of, clause_of, IsAtR
 ghost use Rattle.cdcl_core.specs.State.{IsPropagated};
 ghost use Rattle.cdcl_loop.specs.Values.{valuation};
 ghost use Rattle.cdcl_loop.specs.Engines.{IsTrailOf, IsEngine, IsOnCourse, IsSameTask, IsSameStore};
+ghost use Rattle.cdcl_loop.specs.Counts.{no_effort, with_propagations};
+ghost use Rattle.cdcl_loop.specs.Efforts.{effort_of, literals_gained};
 
 use crate::agenda::Agenda;
 use crate::choices::Choices;
+use crate::effort::Effort;
 use cdcl_core::{Trail, Watches};
 use cnf_base::{Clause, ClauseId, Lit};
 use std::alloc::{AllocError, Global};
@@ -38,6 +41,7 @@ impl Engine {
         ensures trail { result.trail ≡ trail }
         ensures given { result.given.items ≡ [] }
         ensures listed { result.agenda.list ≡ [] }
+        ensures effort { effort_of result ≡ no_effort }
         ensures course { IsOnCourse result }
     {
         Engine {
@@ -57,6 +61,7 @@ impl Engine {
         ensures same { self.new
             ≡ record self.old { choices = self.new.choices; agenda = self.new.agenda } }
         ensures listed { OnOk result (IsListed self.old.agenda.list variable self.new.agenda.list) }
+        ensures effort { effort_of self.new ≡ effort_of self.old }
         ensures course { IsOnCourse self.old → IsOnCourse self.new }
     {
         self.choices.reserve(variable)?;
@@ -100,6 +105,13 @@ impl Engine {
         self.base
     }
 
+    /// What it has done since it was made.
+    pub fn effort(&self) -> Effort
+        ensures { result ≡ effort_of self.now }
+    {
+        self.choices.effort
+    }
+
     /// The clause that is kept under this name.
     pub fn clause(&self, id: ClauseId) -> Option<&Clause>
         ensures { option_copied result ≡ clause_of self.now.watches id }
@@ -131,6 +143,7 @@ impl Engine {
         ensures level { level_of self.new.trail ≡ level }
         ensures literals { literals_of self.new.trail
             ≡ filter (λ r. nat_le r.1 level) (literals_of self.old.trail) }
+        ensures effort { effort_of self.new ≡ effort_of self.old }
         ensures course { IsOnCourse self.old → IsOnCourse self.new }
     {
         self.choices.take_back(self.trail.literals(), level);
@@ -147,6 +160,7 @@ impl Engine {
         ensures watches { self.new.watches ≡ self.old.watches }
         ensures given { self.new.given ≡ given }
         ensures listed { self.new.agenda.list ≡ self.old.agenda.list }
+        ensures effort { effort_of self.new ≡ effort_of self.old }
         ensures engine { IsEngine self.new }
         ensures level { level_of self.new.trail ≡ 0 }
         ensures course { IsOnCourse self.new }
@@ -164,6 +178,7 @@ impl Engine {
         ensures watches { self.new.watches ≡ self.old.watches }
         ensures given { self.new.given.items ≡ [] }
         ensures listed { self.new.agenda.list ≡ take count self.old.agenda.list }
+        ensures effort { effort_of self.new ≡ effort_of self.old }
         ensures engine { IsEngine self.new }
         ensures level { level_of self.new.trail ≡ 0 }
         ensures course { IsOnCourse self.new }
@@ -187,6 +202,7 @@ impl Engine {
               base = self.new.base;
             } }
         ensures task { IsSameTask self.old self.new }
+        ensures effort { effort_of self.new ≡ effort_of self.old }
         ensures engine { IsEngine self.new }
         ensures course { IsOnCourse self.new }
         ensures back { (self.new.trail ≡ self.old.trail)
@@ -209,10 +225,15 @@ impl Engine {
         ensures literals { IsExtended (literals_of self.old.trail) (level_of self.old.trail)
             (literals_of self.new.trail) }
         ensures level { level_of self.new.trail ≡ level_of self.old.trail }
+        ensures effort { effort_of self.new
+            ≡ with_propagations (effort_of self.old) (literals_gained self.old self.new) }
         ensures rest { MatchOption result (IsPropagated self.new.watches self.new.trail
             × IsAtRest self.new.watches self.new.trail)
             (IsConflict self.new.watches self.new.trail) }
     {
-        self.watches.propagate(&mut self.trail)
+        let before = self.trail.literals().len();
+        let conflict = self.watches.propagate(&mut self.trail);
+        self.choices.effort.count_behind(before, &self.trail);
+        conflict
     }
 }

@@ -7,6 +7,8 @@ ghost use Rattle.cdcl_core.specs.Levels.{RestsBy, IsAdded};
 ghost use Rattle.cdcl_core.specs.Search.{literals_of, level_of, clause_of, held_of, IsConflict};
 ghost use Rattle.cdcl_learn.specs.Puts.{IsClash, AreGiven, IsAgainst, IsGoodPut, IsUnitAfter, StandsIn};
 ghost use Rattle.cdcl_loop.specs.Engines.{IsEngine, IsOnCourse, IsSameTask, IsSameBut, IsIdle};
+ghost use Rattle.cdcl_loop.specs.Counts.{with_conflict};
+ghost use Rattle.cdcl_loop.specs.Efforts.{effort_of};
 
 use crate::engine::Engine;
 use cdcl_learn::{Clash, final_clause, learn};
@@ -32,6 +34,7 @@ impl Engine {
         requires conflict { IsConflict self.old.watches self.old.trail conflict }
         requires above { 0 < level_of self.old.trail }
         ensures same { self.new ≡ record self.old { choices = self.new.choices } }
+        ensures effort { OnOk result (effort_of self.new ≡ with_conflict (effort_of self.old)) }
         ensures chain { IfOk result (λ r. IsChain (clause_of self.old.watches) r.0 r.1.items) }
         ensures good { IfOk result
             (λ r. IsGoodPut (clause_of self.old.watches) (held_of self.old.watches)
@@ -60,6 +63,7 @@ impl Engine {
         requires unit { IsUnitAfter (literals_of self.old.trail) level clause }
         requires fresh { clause_of self.old.watches (record { pos = at; part = 0 }) ≡ None }
         ensures task { IsSameTask self.old self.new }
+        ensures effort { effort_of self.new ≡ effort_of self.old }
         ensures engine { OnOk result (IsEngine self.new) }
         ensures course { OnOk result (IsOnCourse self.old → IsOnCourse self.new) }
         ensures level { OnOk result (level_of self.new.trail ≡ level) }
@@ -86,6 +90,7 @@ impl Engine {
         requires engine { IsEngine self.old }
         requires fresh { clause_of self.old.watches (record { pos = at; part = 0 }) ≡ None }
         ensures task { IsSameTask self.old self.new }
+        ensures effort { effort_of self.new ≡ effort_of self.old }
         ensures engine { OnOk result (IsEngine self.new) }
         ensures course { OnOk result (IsOnCourse self.old → IsOnCourse self.new) }
         ensures literals { OnOk result
@@ -140,6 +145,7 @@ impl Engine {
         requires engine { IsEngine self.old }
         ensures watches { self.new.watches ≡ self.old.watches }
         ensures task { IsSameTask self.old self.new }
+        ensures effort { effort_of self.new ≡ effort_of self.old }
         ensures engine { IsEngine self.new }
         ensures level { level_of self.new.trail ≡ 0 }
         ensures course { IsOnCourse self.old → IsOnCourse self.new }

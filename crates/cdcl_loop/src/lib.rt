@@ -7,7 +7,8 @@
 //! It searches under given literals, which it decides first, each at a level of its own up to the base level (N. Eén and N. Sörensson,
 //! "Temporal induction by incremental SAT solving", 2003). The contracts say which clauses are held, how the trail moves, and which
 //! literals are decided, so that a caller knows of each conflict whether it refutes the given literals, and of the end of the
-//! decisions that each listed variable has a value. Nothing is promised of the choices: which variable is decided, when the search
+//! decisions that each listed variable has a value. They say too what the engine counts of its work: conflicts, decisions and literals
+//! of unit propagation ([`Effort`]). Nothing is promised of the choices: which variable is decided, when the search
 //! restarts, and which clauses are the worse half.
 //!
 //! It knows of clauses only their names. What a clause is worth outside, as a line of a proof, is its caller's. It stands on
@@ -18,12 +19,19 @@
 mod agenda;
 mod choices;
 mod deciding;
+mod effort;
 mod engine;
+mod fixing;
 mod learning;
 mod parking;
 
+pub use effort::Effort;
 pub use engine::Engine;
 
+#[cfg(test)]
+mod effort_tests;
+#[cfg(test)]
+mod fixing_tests;
 #[cfg(test)]
 mod parking_tests;
 #[cfg(test)]

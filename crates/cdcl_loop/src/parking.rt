@@ -5,6 +5,7 @@ ghost use Rattle.cnf_base.specs.declared.clause.ClauseId.{ClauseId};
 ghost use Rattle.cdcl_core.specs.Levels.{IsExtended};
 ghost use Rattle.cdcl_core.specs.Search.{literals_of, level_of, clause_of, held_of};
 ghost use Rattle.cdcl_loop.specs.Engines.{IsEngine, IsOnCourse, IsSameBut};
+ghost use Rattle.cdcl_loop.specs.Efforts.{effort_of};
 
 use crate::engine::Engine;
 use cnf_base::{Clause, ClauseId};
@@ -44,6 +45,7 @@ impl Engine {
         ensures same { self.new
             ≡ record self.old
             { watches = self.new.watches; trail = self.new.trail; choices = self.new.choices } }
+        ensures effort { effort_of self.new ≡ effort_of self.old }
         ensures engine { IsEngine self.new }
         ensures course { IsOnCourse self.old → IsOnCourse self.new }
         ensures literals { IsExtended (literals_of self.old.trail) 0 (literals_of self.new.trail) }

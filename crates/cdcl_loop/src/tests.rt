@@ -323,7 +323,9 @@ fn learn_next(engine: &mut Engine) -> Result<(usize, u64), AllocError>
 }
 
 // The same, and the clause that closes the search then.
-fn learn_and_close(engine: &mut Engine) -> Result<(usize, u64, Option<Clause>), AllocError>
+pub(crate) fn learn_and_close(
+    engine: &mut Engine,
+) -> Result<(usize, u64, Option<Clause>), AllocError>
     requires engine { IsEngine engine.old }
     requires course { IsOnCourse engine.old }
 {

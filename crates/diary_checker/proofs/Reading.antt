@@ -12,7 +12,7 @@ use Rattle.proof_log.specs.declared.entry.Entry.TheVariants as step
 use Rattle.proof_log.specs.declared.diary.DiaryLine.{DiaryLine}
 use Rattle.proof_log.specs.declared.diary.DiaryLine.TheVariants.{Take, Put, Drop}
 use Rattle.proof_log.specs.Logs.{clause_at, entry_at}
-use Rattle.proof_log.specs.Stored.{LogValue}
+use Rattle.faded_log.specs.Faded.{FadedValue}
 use Rattle.proof_log.specs.Diaries.{Subject, DiaryState, look_of, is_chain, with_held, count_new, allowed, IsGoodPut, IsLine, line_after, lines_after, EndsInPut}
 use Rattle.proof_text.specs.Deletions.{blank_without, is_deleted, IsSpentFrom}
 use Rattle.proof_log.proofs.Lines.{are_lines_snoc, lines_after_snoc, ends_in_put}
@@ -25,13 +25,13 @@ use Rattle.diary_checker.proofs.Starting.{back_none, back_dropped}
 
 -- ---- the start
 
-pub look_is : (g : Subject) (log : LogValue) → IsAbout g log → clause_at log.clauses ≡ look_of g
+pub look_is : (g : Subject) (log : FadedValue) → IsAbout g log → clause_at log.clauses ≡ look_of g
 look_is g log about = ap clause_at about.clauses
 
-pub filed_here : (g : Subject) (log : LogValue) (r : ReaderValue) → IsAbout g log → IsSetUp g r → AreFiled (clause_at log.clauses) (bit_in r.held) r.filed
+pub filed_here : (g : Subject) (log : FadedValue) (r : ReaderValue) → IsAbout g log → IsSetUp g r → AreFiled (clause_at log.clauses) (bit_in r.held) r.filed
 filed_here g log r about set_up = subst (λ (k : Lookup). AreFiled k (bit_in r.held) r.filed) (sym (look_is g log about)) set_up.filed
 
-pub begun : (deleted : ℕ → Bool) (g : Subject) (log : LogValue) (given : List Literal) (from : ℕ) (r : ReaderValue) → IsAbout g log → g.given ≡ given → g.from ≡ from → IsSetOf r.given given →
+pub begun : (deleted : ℕ → Bool) (g : Subject) (log : FadedValue) (given : List Literal) (from : ℕ) (r : ReaderValue) → IsAbout g log → g.given ≡ given → g.from ≡ from → IsSetOf r.given given →
     ((p : ℕ) → bit_in r.held p ≡ (ltb p from && not (deleted p || is_chain (entry_at log.entries p)))) →
     AreFiled (clause_at log.clauses) (bit_in r.held) r.filed →
     r.chains ≡ 0 → r.puts ≡ 0 → r.drops ≡ 0 → r.ended ≡ false → r.from ≡ from → r.brought ≡ [] → HasRead deleted g [] r
@@ -52,7 +52,7 @@ begun deleted g log given from r about e f set held filed chains puts drops ende
 
 -- ---- one line
 
-module _ (g : Subject) (log : LogValue) (at : ℕ) (old new : ReaderValue) (about : IsAbout g log) (set_up : IsSetUp g old) (given : new.given ≡ old.given) where
+module _ (g : Subject) (log : FadedValue) (at : ℕ) (old new : ReaderValue) (about : IsAbout g log) (set_up : IsSetUp g old) (given : new.given ≡ old.given) where
   still : (AreFiled (clause_at log.clauses) (bit_in old.held) old.filed → AreFiled (clause_at log.clauses) (bit_in new.held) new.filed) → IsSetUp g new
   still filed = record {
     given = subst (λ t. IsSetOf t g.given) (sym given) set_up.given;
@@ -123,18 +123,18 @@ at_old g v old new l e t = subst (λ o. IsTaken g o new l) e t
 
 -- ---- refused
 
-pub take_refused : (g : Subject) (log : LogValue) (at : ℕ) (old : ReaderValue) → IsAbout g log → suc (length log.entries) ≤ at → ¬ (IsLine g (state_in old) (Take at))
+pub take_refused : (g : Subject) (log : FadedValue) (at : ℕ) (old : ReaderValue) → IsAbout g log → suc (length log.entries) ≤ at → ¬ (IsLine g (state_in old) (Take at))
 take_refused g log at old about past within =
     let within' : at ≤ length log.entries = subst (λ l. at ≤ length l) (sym about.entries) within in
     absurd (omega arith)
 
-pub put_refused : (g : Subject) (log : LogValue) (at : ℕ) (old : ReaderValue) → IsAbout g log → ((c : List Literal) (hints : List ClauseId) → entry_at log.entries at ≢ Some (step.Chain c hints)) → ¬ (IsLine g (state_in old) (Put at))
+pub put_refused : (g : Subject) (log : FadedValue) (at : ℕ) (old : ReaderValue) → IsAbout g log → ((c : List Literal) (hints : List ClauseId) → entry_at log.entries at ≢ Some (step.Chain c hints)) → ¬ (IsLine g (state_in old) (Put at))
 put_refused g log at old about none p = none p.0 p.1 (subst (λ l. entry_at l at ≡ Some (step.Chain p.0 p.1)) (sym about.entries) p.2)
 
 same_step : (o : Option Entry) (c c' : List Literal) (hints hints' : List ClauseId) → o ≡ Some (step.Chain c hints) → o ≡ Some (step.Chain c' hints') → (c ≡ c') × (hints ≡ hints')
 same_step o c c' hints hints' e f = (cc, cc)
 
-pub put_not_good : (g : Subject) (log : LogValue) (at : ℕ) (v old : ReaderValue) (c : List Literal) (hints : List ClauseId) → v ≡ old → IsAbout g log → entry_at log.entries at ≡ Some (step.Chain c hints) → ¬ (IsGoodPut g (bit_in v.held) c hints) → ¬ (IsLine g (state_in old) (Put at))
+pub put_not_good : (g : Subject) (log : FadedValue) (at : ℕ) (v old : ReaderValue) (c : List Literal) (hints : List ClauseId) → v ≡ old → IsAbout g log → entry_at log.entries at ≡ Some (step.Chain c hints) → ¬ (IsGoodPut g (bit_in v.held) c hints) → ¬ (IsLine g (state_in old) (Put at))
 put_not_good g log at v old c hints e about is bad p =
     let at_g = subst (λ l. entry_at l at ≡ Some (step.Chain c hints)) about.entries is in
     let same = same_step (entry_at g.log at) p.0 c p.1 hints p.2 at_g in
@@ -152,7 +152,7 @@ no_chain (Some (step.Rewrite u)) none e = cc
 no_chain (Some (step.Equal s t)) none e = cc
 no_chain (Some (step.Lemma l)) none e = cc
 
-pub drop_refused : (g : Subject) (log : LogValue) (at : ℕ) (old : ReaderValue) → IsAbout g log → ((c : List Literal) (hints : List ClauseId) → entry_at log.entries at ≢ Some (step.Chain c hints)) → ¬ (IsLine g (state_in old) (Drop at))
+pub drop_refused : (g : Subject) (log : FadedValue) (at : ℕ) (old : ReaderValue) → IsAbout g log → ((c : List Literal) (hints : List ClauseId) → entry_at log.entries at ≢ Some (step.Chain c hints)) → ¬ (IsLine g (state_in old) (Drop at))
 drop_refused g log at old about none p = no_chain (entry_at log.entries at) none (subst (λ l. is_chain (entry_at l at) ≡ true) (sym about.entries) p.1)
 
 -- ---- memory was wanting
@@ -270,7 +270,7 @@ spent_puts deleted g lines r budget read s = ap (λ (t : DiaryState). t.puts) re
 -- ---- the end
 
 -- what was brought is given up, so what is held is what was held at the start
-pub ended_start : (places : List ℕ) (g : Subject) (lines : List DiaryLine) (r : ReaderValue) (log : LogValue) (s : StartValue) → IsAbout g log → HasRead (is_deleted places) g lines r → s.known ≡ length places → s.from ≡ r.from →
+pub ended_start : (places : List ℕ) (g : Subject) (lines : List DiaryLine) (r : ReaderValue) (log : FadedValue) (s : StartValue) → IsAbout g log → HasRead (is_deleted places) g lines r → s.known ≡ length places → s.from ≡ r.from →
     r.from ≤ suc (length log.entries) →
     ((start : ℕ → Bool) → IsBroughtTo start (bit_in r.held) r.brought → (p : ℕ) → bit_in s.held p ≡ start p) →
     (AreFiled (clause_at log.clauses) (bit_in r.held) r.filed → AreFiled (clause_at log.clauses) (bit_in s.held) s.filed) → IsStart places log s

@@ -14,7 +14,7 @@ use Rattle.hint_chain.specs.Chains.{Lookup}
 use Rattle.cnf_base.proofs.Lists.{slice_get-append_left}
 use Rattle.proof_log.specs.declared.entry.Entry.{Entry}
 use Rattle.proof_log.specs.Logs.{clause_at, clause_in, entry_at}
-use Rattle.proof_log.specs.Stored.{LogValue}
+use Rattle.faded_log.specs.Faded.{FadedValue}
 use Rattle.proof_log.specs.Diaries.{is_chain, with_held}
 use Rattle.proof_log.proofs.Growth.{entry_left}
 use Rattle.proof_text.specs.Deletions.{is_deleted}
@@ -162,7 +162,7 @@ back_held (Err e) start held now brought at f ok err h = back_pushed start held 
 
 -- ---- the start of no log
 
-pub start_none : (deleted : List ℕ) (log : LogValue) (s : StartValue) → s.from ≡ 0 → s.known ≡ 0 → ((p : ℕ) → bit_in s.held p ≡ false) → IsStart deleted log s
+pub start_none : (deleted : List ℕ) (log : FadedValue) (s : StartValue) → s.from ≡ 0 → s.known ≡ 0 → ((p : ℕ) → bit_in s.held p ≡ false) → IsStart deleted log s
 start_none deleted log s from known none = record {
   within = omega (arith, from);
   known = omega (arith, known);
@@ -176,7 +176,7 @@ start_none deleted log s from known none = record {
 
 -- ---- over a log that grew, and where more places are deleted
 
-pub start_longer : (deleted : List ℕ) (log longer : LogValue) (more : List Entry) (rows : List (List (List Literal))) (s : StartValue) → longer.entries ≡ log.entries ++ more → longer.clauses ≡ log.clauses ++ rows →
+pub start_longer : (deleted : List ℕ) (log longer : FadedValue) (more : List Entry) (rows : List (List (List Literal))) (s : StartValue) → longer.entries ≡ log.entries ++ more → longer.clauses ≡ log.clauses ++ rows →
     length log.clauses ≡ suc (length log.entries) → IsStart deleted log s → IsStart deleted longer s
 start_longer deleted log longer more rows s entries clauses positions h = record {
   within = let n : length longer.entries ≡ length log.entries + length more = ap length entries ∙ length-append log.entries more in omega (arith, h.within, n);
@@ -207,7 +207,7 @@ start_longer deleted log longer more rows s entries clauses positions h = record
         let within : id.pos < length log.clauses = omega (arith, lt, h.within, positions) in
         ap (λ o. clause_in o id.part) (ap (λ rs. slice_get rs id.pos) clauses ∙ slice_get-append_left log.clauses rows id.pos within)
 
-pub start_deleted : (deleted more : List ℕ) (log : LogValue) (s : StartValue) → IsStart deleted log s → IsStart (deleted ++ more) log s
+pub start_deleted : (deleted more : List ℕ) (log : FadedValue) (s : StartValue) → IsStart deleted log s → IsStart (deleted ++ more) log s
 start_deleted deleted more log s h = record {
   within = h.within;
   known = let n = length-append deleted more in omega (arith, h.known, n);

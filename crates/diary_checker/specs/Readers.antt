@@ -4,7 +4,7 @@ use Rattle.cnf_base.specs.declared.clause.ClauseId.{ClauseId}
 use Rattle.proof_log.specs.declared.diary.DiaryLine.{DiaryLine}
 use Rattle.proof_log.specs.declared.diary.DiaryLine.TheVariants.{Take, Put, Drop}
 use Rattle.proof_log.specs.Logs.{entry_at, state_of}
-use Rattle.proof_log.specs.Stored.{LogValue}
+use Rattle.faded_log.specs.Faded.{FadedValue}
 use Rattle.proof_log.specs.Diaries.{Subject, DiaryState, look_of, is_chain, IsLine, line_after, AreLines, lines_after, EndsInPut}
 use Rattle.proof_text.specs.Deletions.{blank_without}
 use Rattle.diary_checker.specs.Tables.{Stamps, IsSetOf, bit_in}
@@ -28,7 +28,7 @@ abbrev pub state_in : ReaderValue → DiaryState
 state_in r = record { held = bit_in r.held; chains = r.chains; puts = r.puts; drops = r.drops }
 
 -- the log that is at hand is the one that the diary is about
-pub record IsAbout (g : Subject) (log : LogValue) : Type 0 where
+pub record IsAbout (g : Subject) (log : FadedValue) : Type 0 where
   pub entries : log.entries ≡ g.log
   pub clauses : log.clauses ≡ (state_of g.nodes g.log).clauses
 

@@ -3,7 +3,7 @@ use Rattle.std.specs.Prelude.{◌≡◌, ◌≤◌, ◌⊎◌, ◌&&◌, ◌||�
 use Rattle.cnf_base.specs.declared.clause.ClauseId.{ClauseId}
 use Rattle.proof_log.specs.declared.entry.Entry.{Entry}
 use Rattle.proof_log.specs.Logs.{clause_at, entry_at}
-use Rattle.proof_log.specs.Stored.{LogValue}
+use Rattle.faded_log.specs.Faded.{FadedValue}
 use Rattle.proof_log.specs.Diaries.{is_chain}
 use Rattle.proof_text.specs.Deletions.{is_deleted}
 use Rattle.diary_checker.specs.Tables.{bit_in}
@@ -22,7 +22,7 @@ abbrev pub is_at_start : (ℕ → Bool) → List Entry → ℕ → ℕ → Bool
 is_at_start deleted log from p = ltb p from && not (deleted p || is_chain (entry_at log p))
 
 -- what a diary over a front of this log held at its start, where the first of these places were deleted, with its clauses filed
-pub record IsStart (deleted : List ℕ) (log : LogValue) (s : StartValue) : Type 0 where
+pub record IsStart (deleted : List ℕ) (log : FadedValue) (s : StartValue) : Type 0 where
   pub within : s.from ≤ suc (length log.entries)
   pub known : s.known ≤ length deleted
   pub held : (p : ℕ) → bit_in s.held p ≡ is_at_start (is_deleted (take s.known deleted)) log.entries s.from p

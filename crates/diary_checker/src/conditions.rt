@@ -12,7 +12,7 @@ use crate::positions::Positions;
 use crate::table::LiteralNumbers;
 use crate::watches::Watches;
 use cnf_base::{ClauseId, Lit};
-use proof_log::Log;
+use faded_log::FadedLog;
 use proof_log::entry::Hints;
 use std::alloc::AllocError;
 
@@ -96,7 +96,7 @@ pub(crate) fn are_held(held: &Positions, hints: &Hints) -> bool
 }
 
 // Whether a held clause of this name has no literal out of the table.
-fn is_within(log: &Log, held: &Positions, own: &LiteralNumbers, id: ClauseId) -> bool
+fn is_within(log: &FadedLog, held: &Positions, own: &LiteralNumbers, id: ClauseId) -> bool
     ensures { MatchBool result
         (Subsumes (clause_at log.now.clauses) (bit_in held.now) own.now id)
         (¬ (Subsumes (clause_at log.now.clauses) (bit_in held.now) own.now id)) }
@@ -111,7 +111,7 @@ fn is_within(log: &Log, held: &Positions, own: &LiteralNumbers, id: ClauseId) ->
 }
 
 // Whether one of these clauses is held and has no literal out of the table.
-fn is_one_within(log: &Log, held: &Positions, own: &LiteralNumbers, ids: &[ClauseId]) -> bool
+fn is_one_within(log: &FadedLog, held: &Positions, own: &LiteralNumbers, ids: &[ClauseId]) -> bool
     ensures { MatchBool result
         ((id : ClauseId) × Subsumes (clause_at log.now.clauses) (bit_in held.now) own.now id)
         ((id : ClauseId) → Contains ids.now id
@@ -127,7 +127,7 @@ fn is_one_within(log: &Log, held: &Positions, own: &LiteralNumbers, ids: &[Claus
 
 // Whether a held clause that is filed under a literal of the clause, or is empty, has no literal out of the table.
 pub(crate) fn is_subsumed(
-    log: &Log,
+    log: &FadedLog,
     held: &Positions,
     watches: &Watches,
     own: &LiteralNumbers,

@@ -13,12 +13,12 @@ ghost use Rattle.diary_checker.specs.Starts.{IsBroughtTo};
 use crate::positions::Positions;
 use crate::watches::Watches;
 use cnf_base::{ClauseId, Lit, Pos};
-use proof_log::Log;
+use faded_log::FadedLog;
 use proof_log::entry::Entry;
 use std::alloc::AllocError;
 
 // Whether a chain stands at a position.
-pub(crate) fn is_chain_at(log: &Log, at: Pos) -> bool
+pub(crate) fn is_chain_at(log: &FadedLog, at: Pos) -> bool
     ensures { result ≡ is_chain (entry_at log.now.entries at) }
 {
     match log.entry(at) {
@@ -57,7 +57,7 @@ fn key_of(watches: &Watches, clause: &[Lit]) -> Option<Lit>
 }
 
 // Files each clause of a position under the literal whose list is shortest. A position with as many clauses as there are names has no room.
-fn file(watches: &mut Watches, log: &Log, at: Pos) -> Result<(), AllocError>
+fn file(watches: &mut Watches, log: &FadedLog, at: Pos) -> Result<(), AllocError>
     ensures kept { (k : Option Literal) (i : ClauseId) → Contains (filed_under watches.old k) i
         → Contains (filed_under watches.new k) i }
     ensures filed { OnOk result ((id : ClauseId) (c : List Literal) → id.pos ≡ at
@@ -78,7 +78,7 @@ fn file(watches: &mut Watches, log: &Log, at: Pos) -> Result<(), AllocError>
 pub(crate) fn hold(
     held: &mut Positions,
     watches: &mut Watches,
-    log: &Log,
+    log: &FadedLog,
     at: Pos,
 ) -> Result<(), AllocError>
     ensures held { OnOk result ((p : ℕ)
@@ -101,7 +101,7 @@ pub(crate) fn bring(
     held: &mut Positions,
     watches: &mut Watches,
     brought: &mut Vec<Pos>,
-    log: &Log,
+    log: &FadedLog,
     at: Pos,
 ) -> Result<(), AllocError>
     ensures held { OnOk result ((p : ℕ)
@@ -135,7 +135,7 @@ pub(crate) fn unfile(watches: &mut Watches, at: Pos, clause: &[Lit])
 }
 
 // Takes a position out of the lists in which its clauses may be filed.
-fn unfile_all(watches: &mut Watches, log: &Log, at: Pos)
+fn unfile_all(watches: &mut Watches, log: &FadedLog, at: Pos)
     ensures { (k : Option Literal) (i : ClauseId) → i.pos ≢ at
         → Contains (filed_under watches.old k) i → Contains (filed_under watches.new k) i }
 {
@@ -151,7 +151,7 @@ fn unfile_all(watches: &mut Watches, log: &Log, at: Pos)
 fn take_back(
     held: &mut Positions,
     watches: &mut Watches,
-    log: &Log,
+    log: &FadedLog,
     at: Pos,
 ) -> Result<(), AllocError>
     ensures held { OnOk result ((p : ℕ)
@@ -167,7 +167,7 @@ fn take_back(
 pub(crate) fn take_all_back(
     held: &mut Positions,
     watches: &mut Watches,
-    log: &Log,
+    log: &FadedLog,
     brought: &[Pos],
 ) -> Result<(), AllocError>
     ensures held { OnOk result ((start : ℕ → Bool)
@@ -194,7 +194,7 @@ pub(crate) fn leave_out(held: &mut Positions, places: &[u64]) -> Result<(), Allo
 }
 
 // Whether a position is deleted or a chain's.
-fn is_left_out(log: &Log, deleted: &Positions, at: Pos) -> bool
+fn is_left_out(log: &FadedLog, deleted: &Positions, at: Pos) -> bool
     ensures { result ≡ (bit_in deleted.now at || is_chain (entry_at log.now.entries at)) }
 {
     deleted.has(at) || is_chain_at(log, at)
@@ -204,7 +204,7 @@ fn is_left_out(log: &Log, deleted: &Positions, at: Pos) -> bool
 fn hold_plain(
     held: &mut Positions,
     watches: &mut Watches,
-    log: &Log,
+    log: &FadedLog,
     deleted: &Positions,
     at: Pos,
 ) -> Result<(), AllocError>
@@ -227,7 +227,7 @@ fn hold_plain(
 pub(crate) fn hold_from(
     held: &mut Positions,
     watches: &mut Watches,
-    log: &Log,
+    log: &FadedLog,
     deleted: &Positions,
     first: Pos,
     from: Pos,

@@ -13,7 +13,7 @@ use crate::table::LiteralNumbers;
 use crate::uses::{are_used, find_lasts};
 use crate::watches::Watches;
 use cnf_base::Lit;
-use proof_log::Log;
+use faded_log::FadedLog;
 use proof_log::entry::Hints;
 use std::alloc::{AllocError, Global};
 
@@ -38,7 +38,7 @@ impl Scratch {
 
 // Whether a clause follows from held clauses, of which each of its literals and each step has need.
 fn is_derived(
-    log: &Log,
+    log: &FadedLog,
     held: &Positions,
     trues: &mut LiteralNumbers,
     lasts: &mut LiteralNumbers,
@@ -62,7 +62,7 @@ fn is_derived(
 
 // Whether a clause says something that neither the held clauses nor the given literals say by themselves.
 fn is_apart(
-    log: &Log,
+    log: &FadedLog,
     held: &Positions,
     given: &LiteralNumbers,
     watches: &Watches,
@@ -85,7 +85,7 @@ fn is_apart(
 
 /// Whether a chain of this clause and these hints is a good put, where each held clause is filed.
 pub(crate) fn is_good_put(
-    log: &Log,
+    log: &FadedLog,
     held: &Positions,
     given: &LiteralNumbers,
     watches: &Watches,

@@ -7,7 +7,7 @@
 //! keeps. What a diary holds at its start is kept for the next one as a `DiaryStart`, so that this one costs what was added
 //! since, and not the log. A put is decided in a time that is linear
 //! in the literals of its clause, of its hints' clauses and of the held clauses that are filed under one of its literals; a
-//! clause that is given up is filed no more. The crate stands on `proof_text`, `proof_log`, `hint_chain`, `smt_terms` and
+//! clause that is given up is filed no more. The crate stands on `faded_log`, `proof_text`, `proof_log`, `hint_chain`, `smt_terms` and
 //! `cnf_base`.
 #![tactic(auto)]
 

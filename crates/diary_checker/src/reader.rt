@@ -21,7 +21,7 @@ use crate::start::DiaryStart;
 use crate::table::LiteralNumbers;
 use crate::watches::Watches;
 use cnf_base::{Clause, Lit, Pos};
-use proof_log::Log;
+use faded_log::FadedLog;
 use proof_log::diary::DiaryLine;
 use proof_log::entry::{Entry, Hints};
 use std::alloc::{AllocError, Global};
@@ -67,7 +67,7 @@ impl DiaryReader {
     /// takes the given literals as true. It has read no line. What an earlier diary of the log held at its start serves it.
     pub fn new(
         alloc: Global,
-        log: &Log,
+        log: &FadedLog,
         start: DiaryStart,
         deleted: &Positions,
         places: &[u64],
@@ -105,7 +105,7 @@ impl DiaryReader {
     }
 
     /// What was held at the start, for the next diary. The log and the number of deleted places are those of this one.
-    pub fn end(self, log: &Log, known: usize) -> Result<DiaryStart, AllocError>
+    pub fn end(self, log: &FadedLog, known: usize) -> Result<DiaryStart, AllocError>
         ensures { IfOk result (λ s. (places : List ℕ) (g : Subject) (lines : List DiaryLine)
             → IsAbout g log.now → known ≡ length places
             → HasRead (is_deleted places) g lines self → IsStart places log.now s) }
@@ -140,7 +140,7 @@ impl DiaryReader {
 
     /// Takes one line more and answers true exactly where it may stand after those that were taken, else all is as before.
     /// The log is the one that the reader was made over. For want of memory the lines that were taken are as before.
-    pub fn line(&mut self, log: &Log, line: DiaryLine) -> Result<bool, AllocError>
+    pub fn line(&mut self, log: &FadedLog, line: DiaryLine) -> Result<bool, AllocError>
         ensures { (deleted : ℕ → Bool) (g : Subject) (lines : List DiaryLine) → IsAbout g log.now
             → HasRead deleted g lines self.old → MatchResult result
             (λ taken. MatchBool taken
@@ -163,7 +163,7 @@ impl DiaryReader {
         self.ended && is_one_more(self.puts, budget)
     }
 
-    fn decide(&mut self, log: &Log, line: DiaryLine) -> Result<bool, AllocError>
+    fn decide(&mut self, log: &FadedLog, line: DiaryLine) -> Result<bool, AllocError>
         ensures { (g : Subject) → IsAbout g log.now → IsSetUp g self.old →
             MatchResult result (IsDecided g self.old self.new line)
             (λ e. IsUndecided g self.old self.new) }
@@ -175,7 +175,7 @@ impl DiaryReader {
         }
     }
 
-    fn take(&mut self, log: &Log, at: Pos) -> Result<bool, AllocError>
+    fn take(&mut self, log: &FadedLog, at: Pos) -> Result<bool, AllocError>
         ensures { (g : Subject) → IsAbout g log.now → IsSetUp g self.old →
             MatchResult result (IsDecided g self.old self.new (row.Take at))
             (λ e. IsUndecided g self.old self.new) }
@@ -199,7 +199,7 @@ impl DiaryReader {
         Ok(true)
     }
 
-    fn put(&mut self, log: &Log, at: Pos) -> Result<bool, AllocError>
+    fn put(&mut self, log: &FadedLog, at: Pos) -> Result<bool, AllocError>
         ensures { (g : Subject) → IsAbout g log.now → IsSetUp g self.old →
             MatchResult result (IsDecided g self.old self.new (row.Put at))
             (λ e. IsUndecided g self.old self.new) }
@@ -238,7 +238,7 @@ impl DiaryReader {
         Ok(true)
     }
 
-    fn give_up(&mut self, log: &Log, at: Pos) -> Result<bool, AllocError>
+    fn give_up(&mut self, log: &FadedLog, at: Pos) -> Result<bool, AllocError>
         ensures { (g : Subject) → IsAbout g log.now → IsSetUp g self.old →
             MatchResult result (IsDecided g self.old self.new (row.Drop at))
             (λ e. IsUndecided g self.old self.new) }
@@ -262,7 +262,7 @@ impl DiaryReader {
 }
 
 // The clause and the hints of the chain at a position, if a chain stands there.
-fn chain_at(log: &Log, at: Pos) -> Option<(&Clause, &Hints)>
+fn chain_at(log: &FadedLog, at: Pos) -> Option<(&Clause, &Hints)>
     ensures { MatchOption result
         ((c : List Literal) (hints : List ClauseId)
         → entry_at log.now.entries at ≢ Some (step.Chain c hints))

@@ -2,7 +2,7 @@
 
 ghost use Rattle.std.specs.Prelude.{◌≡◌, ◌≤◌, ℕ, List, IfOk};
 ghost use Rattle.proof_log.specs.Logs.{clause_at};
-ghost use Rattle.proof_log.specs.Stored.{LogValue};
+ghost use Rattle.faded_log.specs.Faded.{FadedValue};
 ghost use Rattle.proof_text.specs.Deletions.{is_deleted};
 ghost use Rattle.diary_checker.specs.Tables.{bit_in};
 ghost use Rattle.diary_checker.specs.Uses.{AreFiled};
@@ -14,7 +14,7 @@ use crate::positions::Positions;
 use crate::table::LiteralNumbers;
 use crate::watches::Watches;
 use cnf_base::Pos;
-use proof_log::Log;
+use faded_log::FadedLog;
 use std::alloc::{AllocError, Global};
 use std::marker::Model;
 
@@ -42,7 +42,7 @@ impl Model for DiaryStart {
 impl DiaryStart {
     /// Nothing is held yet.
     pub fn new(alloc: Global) -> DiaryStart
-        ensures start { (deleted : List ℕ) (log : LogValue) → IsStart deleted log result }
+        ensures start { (deleted : List ℕ) (log : FadedValue) → IsStart deleted log result }
         ensures from { result.from ≡ 0 }
     {
         DiaryStart {
@@ -58,7 +58,7 @@ impl DiaryStart {
     // One that is not past a position: this one, or one of nothing.
     fn not_past(self, from: Pos) -> DiaryStart
         ensures order { result.from ≤ from }
-        ensures start { (deleted : List ℕ) (log : LogValue) → IsStart deleted log self
+        ensures start { (deleted : List ℕ) (log : FadedValue) → IsStart deleted log self
             → IsStart deleted log result }
     {
         if self.from <= from {
@@ -72,7 +72,7 @@ impl DiaryStart {
     /// The same at another position, where these places are deleted, each of which has its bit.
     pub(crate) fn moved(
         self,
-        log: &Log,
+        log: &FadedLog,
         deleted: &Positions,
         places: &[u64],
         from: Pos,

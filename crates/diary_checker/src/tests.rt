@@ -1,13 +1,13 @@
 //! Worked diaries, with ample memory. Each test is a table of lines, each with whether it is taken.
 
 ghost use Rattle.std.specs.Prelude.{IfOk};
-ghost use Rattle.proof_log.specs.Stored.{Stands};
+ghost use Rattle.faded_log.specs.Faded.{IsHeld};
 ghost use Rattle.proof_log.specs.Faults.{IsDeclared};
 
 use crate::positions::Positions;
 use crate::{DiaryReader, DiaryStart};
 use cnf_base::{Clause, ClauseId, Lit, Pos};
-use proof_log::Log;
+use faded_log::FadedLog;
 use proof_log::diary::DiaryLine;
 use proof_log::entry::{Entry, Hints};
 use smt_terms::node::{Node, Op};
@@ -20,7 +20,7 @@ use std::test::Fail;
 // A log, and the terms that it stands over.
 #[derive(Drop)]
 struct Proof {
-    log: Log,
+    log: FadedLog,
     terms: Terms,
 }
 
@@ -30,13 +30,13 @@ const IMPLIED: ClauseId = ClauseId { pos: 2, part: 0 };
 
 // A valid step more.
 fn step(proof: &mut Proof, alloc: Global, entry: Entry) -> Result<(), AllocError>
-    requires stands { Stands proof.old.terms.nodes proof.old.log }
+    requires stands { IsHeld proof.old.terms.nodes proof.old.log }
     requires declared { IsDeclared proof.old.terms entry }
-    ensures { Stands proof.new.terms.nodes proof.new.log }
+    ensures { IsHeld proof.new.terms.nodes proof.new.log }
 {
     match proof.log.try_push(alloc, &mut proof.terms, entry) {
-        Ok(_) => Ok(()),
-        Err(_) => Err(AllocError),
+        Ok(true) => Ok(()),
+        _ => Err(AllocError),
     }
 }
 
@@ -46,8 +46,8 @@ fn chain(
     clause: Clause,
     hints: &[ClauseId],
 ) -> Result<(), AllocError>
-    requires { Stands proof.old.terms.nodes proof.old.log }
-    ensures { Stands proof.new.terms.nodes proof.new.log }
+    requires { IsHeld proof.old.terms.nodes proof.old.log }
+    ensures { IsHeld proof.new.terms.nodes proof.new.log }
 {
     let hints = Hints::of(alloc, hints)?;
     step(proof, alloc, Entry::Chain(clause, hints))
@@ -55,11 +55,11 @@ fn chain(
 
 // No step yet, over the term false.
 fn begun(alloc: Global) -> Result<Proof, AllocError>
-    ensures { IfOk result (λ p. Stands p.terms.nodes p.log) }
+    ensures { IfOk result (λ p. IsHeld p.terms.nodes p.log) }
 {
     let mut terms = Terms::new(alloc);
     let made = terms.make(Node::leaf(alloc, Op::Plain(Operator::False)));
-    match (made, Log::new(alloc)) {
+    match (made, FadedLog::new(alloc)) {
         (Ok(_), Ok(log)) => Ok(Proof { log, terms }),
         (_, log) => {
             drop((log, terms));
@@ -71,8 +71,8 @@ fn begun(alloc: Global) -> Result<Proof, AllocError>
 // False is asserted: its selector is variable 2, and position 2 has the clause {-2, -1}. Position 3 derives {-2}, twice
 // over with position 4, and position 5 has the clause of position 2 again.
 fn refute(proof: &mut Proof, alloc: Global) -> Result<(), AllocError>
-    requires { Stands proof.old.terms.nodes proof.old.log }
-    ensures { Stands proof.new.terms.nodes proof.new.log }
+    requires { IsHeld proof.old.terms.nodes proof.old.log }
+    ensures { IsHeld proof.new.terms.nodes proof.new.log }
 {
     step(proof, alloc, Entry::Encode(0))?;
     step(proof, alloc, Entry::Selector(0, 0))?;
@@ -88,7 +88,7 @@ fn refute(proof: &mut Proof, alloc: Global) -> Result<(), AllocError>
 // The first line that is taken where it is not told so, or is not where it is, counted from 0.
 fn first_other(
     reader: &mut DiaryReader,
-    log: &Log,
+    log: &FadedLog,
     lines: &[(DiaryLine, bool)],
 ) -> Result<Option<usize>, AllocError> {
     for at in 0..lines.len() {
@@ -103,7 +103,7 @@ fn first_other(
 // The same of a diary of this log, and whether the lines spent a budget of 0.
 fn first_other_of(
     alloc: Global,
-    log: &Log,
+    log: &FadedLog,
     given: Lit,
     from: Pos,
     lines: &[(DiaryLine, bool)],

@@ -10,7 +10,7 @@ ghost use Rattle.diary_checker.specs.Uses.{HasIn, IsGiven, AreLasts};
 
 use crate::table::LiteralNumbers;
 use cnf_base::{ClauseId, Lit};
-use proof_log::Log;
+use faded_log::FadedLog;
 use proof_log::entry::Hints;
 use std::alloc::AllocError;
 
@@ -27,7 +27,7 @@ fn mark(table: &mut LiteralNumbers, clause: &[Lit], number: u64) -> Result<(), A
 
 // Gives each literal of a hint's clause a number.
 fn mark_hint(
-    log: &Log,
+    log: &FadedLog,
     table: &mut LiteralNumbers,
     id: ClauseId,
     number: u64,
@@ -43,7 +43,7 @@ fn mark_hint(
 
 // Gives each literal the number of the last hint with it, counted from 1, and 0 where no hint has it.
 pub(crate) fn find_lasts(
-    log: &Log,
+    log: &FadedLog,
     lasts: &mut LiteralNumbers,
     hints: &Hints,
 ) -> Result<(), AllocError>
@@ -112,7 +112,7 @@ fn sole_open(trues: &LiteralNumbers, clause: &[Lit]) -> Option<Lit>
 }
 
 // The one literal of a hint's clause that is not false, if there is just one.
-fn open_at(log: &Log, trues: &LiteralNumbers, id: ClauseId) -> Option<Lit>
+fn open_at(log: &FadedLog, trues: &LiteralNumbers, id: ClauseId) -> Option<Lit>
     ensures { (known : List Literal) → IsSetOf trues.now known → MatchOption result
         ((h : List Literal) (l : Literal) → clause_at log.now.clauses id ≡ Some h
         → ¬ (IsUnit known h l))
@@ -126,7 +126,7 @@ fn open_at(log: &Log, trues: &LiteralNumbers, id: ClauseId) -> Option<Lit>
 
 // Whether each hint before the last makes a literal true whose opposite stands in a later hint.
 pub(crate) fn are_used(
-    log: &Log,
+    log: &FadedLog,
     trues: &mut LiteralNumbers,
     lasts: &LiteralNumbers,
     hints: &Hints,

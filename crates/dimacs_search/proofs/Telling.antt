@@ -1,6 +1,6 @@
 -- What a checker holds of a text to which lines are added.
-use Rattle.std.proofs.Common.{◌≡◌, ℕ, ◌+◌, ◌-◌, ◌^◌, ◌<◌, ◌≤◌, Bool, true, false, List, [], ◌∷◌, ◌++◌, length, Option, Some, None, Ok, Err, refl, sym, ap, ◌∙◌, subst, inl, inr, ⊎_elim, arith, append-nil, append_assoc}
-use Rattle.std.specs.Prelude.{◌⊎◌, ◌||◌, Contains, map, Result, IfErr, IsErrAnd}
+use Rattle.std.proofs.Common.{◌≡◌, ℕ, ◌+◌, ◌^◌, ◌<◌, ◌≤◌, Bool, true, false, List, [], ◌∷◌, ◌++◌, length, Option, Some, None, Ok, Err, refl, sym, ap, ◌∙◌, subst, inl, inr, ⊎_elim, arith, append-nil, append_assoc}
+use Rattle.std.specs.Prelude.{◌⊎◌, ◌||◌, if◌then◌else◌, Contains, map, Result, IfErr, IsErrAnd}
 use Rattle.std.specs.List.{AllByRecursion}
 use Rattle.std.specs.Io.KnownBytes.{Appends}
 use Rattle.std.proofs.KnownBytes.{Appends-nil, Appends-trans}
@@ -188,3 +188,8 @@ cause_later a b c NoMemory le h = tt
 pub err_more : {T E : Type 0} (r : Result T E) (P Q : E → Type 0) → ((e : E) → Q e → P e) → IsErrAnd r Q → IfErr r P
 err_more (Ok x) P Q f h = tt
 err_more (Err e) P Q f h = f e h
+
+-- where a line was put the next number is one more
+pub telling_put : (cnf : CnfValue) (look more : Lookup) (n : ℕ) (old mid : Option (List ℕ)) (waiting now : List ℕ) (put b : Bool) → put ≡ b → IsTelling cnf look n old mid waiting → ((told : List ℕ) → IsRead cnf look n (told ++ waiting) → IsRead cnf more (if put then n + 1 else n) (told ++ now)) → IsTelling cnf more (if b then n + 1 else n) old mid now
+telling_put cnf look more n old mid waiting now put b e t f =
+    telling_more cnf look more n (if b then n + 1 else n) old mid waiting now t (λ told r. subst (λ (x : Bool). IsRead cnf more (if x then n + 1 else n) (told ++ now)) e (f told r))

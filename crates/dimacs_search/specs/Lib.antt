@@ -1,3 +1,4 @@
 pub mod Writing
 pub mod Solving
 pub mod Searching
+pub mod Efforts

@@ -1,6 +1,6 @@
 //! What a search does between and at conflicts.
 
-ghost use Rattle.std.specs.Prelude.{◌≡◌, ◌+◌, ◌<◌, ◌++◌, [], ℕ, List, Ok, Some, IfOk, OnOk, MatchOption};
+ghost use Rattle.std.specs.Prelude.{◌≡◌, ◌+◌, ◌<◌, ◌++◌, [], ℕ, List, Ok, Some, IfOk, OnOk, MatchOption, if◌then◌else◌};
 ghost use Rattle.cnf_base.specs.Literals.{Literal};
 ghost use Rattle.cnf_base.specs.declared.clause.ClauseId.{ClauseId as Name};
 ghost use Rattle.cdcl_core.specs.Search.{literals_of, level_of, clause_of, held_of, IsAtRest, IsConflict};
@@ -41,6 +41,40 @@ pub(crate) fn next_conflict(engine: &mut Engine) -> Result<Option<ClauseId>, All
         }
     }
     Err(AllocError)
+}
+
+/// At level 0, where a longer clause forced a literal: the clause of that alone is held under this number, from now on for the
+/// one that forced it, and its line comes behind the others. Tells whether.
+pub(crate) fn put_unit(
+    engine: &mut Engine,
+    lines: &mut Text,
+    number: Pos,
+) -> Result<bool, AllocError>
+    requires engine { IsEngine engine.old }
+    requires fresh { AreFresh engine.old.watches number }
+    requires number { IsWritable number }
+    ensures engine { OnOk result (IsEngine engine.new) }
+    ensures course { OnOk result (IsOnCourse engine.old → IsOnCourse engine.new) }
+    ensures task { OnOk result (IsSameTask engine.old engine.new) }
+    ensures held { OnOk result ((id : Name) (c : List Literal)
+        → held_of engine.old.watches id ≡ Some c → held_of engine.new.watches id ≡ Some c) }
+    ensures read { IfOk result (λ put. (cnf : CnfValue) (told : List ℕ)
+        → IsRead cnf (clause_of engine.old.watches) number (told ++ lines.old)
+        → IsRead cnf (clause_of engine.new.watches) (if put then number + 1 else number)
+        (told ++ lines.new)) }
+{
+    if engine.level() != 0 {
+        return Ok(false);
+    }
+    if engine.propagate().is_some() {
+        return Ok(false);
+    }
+    let Some((place, clause, hints)) = engine.next_unit()? else {
+        return Ok(false);
+    };
+    push_added(lines, number, clause.literals(), hints.as_slice())?;
+    engine.keep_unit(clause, place, number)?;
+    Ok(true)
 }
 
 /// Learns from a conflict above level 0: the clause is held under this number, and its line comes behind the others.

@@ -27,6 +27,8 @@ pub(crate) struct Rare {
     numbers: Vec<Pos>,
     /// The number at which all are watched.
     next: Pos,
+    /// One more for each clause that was learnt, from the first number on.
+    turn: Pos,
     is_roused: bool,
 }
 
@@ -86,12 +88,13 @@ impl Rare {
             first,
             numbers: Vec::new(alloc),
             next: FIRST_ROUSED,
+            turn: first,
             is_roused: false,
         }
     }
 
-    /// The worse half of the learnt clauses become rare, where many are watched, as the number is a multiple of the pause.
-    fn thin(&mut self, engine: &mut Engine, number: Pos) -> Result<(), AllocError>
+    /// The worse half of the learnt clauses become rare, where many are watched, as the turn is a multiple of the pause.
+    fn thin(&mut self, engine: &mut Engine) -> Result<(), AllocError>
         requires { IsEngine engine.old }
         ensures first { self.new.first ≡ self.old.first }
         ensures engine { OnOk result (IsEngine engine.new) }
@@ -100,7 +103,9 @@ impl Rare {
         ensures keeping { OnOk result
             (IsKeeping self.old.first engine.old.watches engine.new.watches) }
     {
-        if number % PAUSE != 0 || !engine.drops_now() {
+        let turn = self.turn;
+        self.turn = turn.saturating_add(1);
+        if turn % PAUSE != 0 || !engine.drops_now() {
             return Ok(());
         }
         let worst = engine.worst()?;
@@ -155,7 +160,7 @@ impl Rare {
             (IsKeeping self.old.first engine.old.watches engine.new.watches) }
     {
         self.calm(engine);
-        self.thin(engine, number)?;
+        self.thin(engine)?;
         self.rouse(engine, number);
         Ok(())
     }

@@ -5,13 +5,14 @@ ghost use Rattle.std.specs.Io.KnownBytes.{Appends};
 ghost use Rattle.smt_desk.specs.Faults.{Rose};
 ghost use Rattle.cdcl_loop.specs.Values.{valuation};
 ghost use Rattle.dimacs_front.specs.Cnf.{CnfValue, cnf_of};
+ghost use Rattle.dimacs_search.specs.Efforts.{IsCounted};
 ghost use Rattle.dimacs_search.specs.Solving.{HaveTheirVariables, IsEnd, AddsTo, HasCause, assignment};
 
-use crate::learning::{close, learn, next_conflict};
+use crate::learning::{close, learn, next_conflict, put_unit};
 use crate::loading::load;
 use crate::outcome::{Failure, Outcome};
 use crate::rare::Rare;
-use cdcl_loop::Engine;
+use cdcl_loop::{Effort, Engine};
 use cnf_base::{Lit, Pos};
 use dimacs_front::cnf::Cnf;
 use dimacs_front::number::NUMBER_LIMIT;
@@ -78,15 +79,23 @@ fn number_behind(clauses: usize) -> Result<Pos, AllocError>
 }
 
 /// Searches the clauses until values are found under which each of them is true, or a refutation of them is written, by LRAT. The
-/// clauses that are learnt have the numbers behind the first ones. Lines are written in large pieces, and none is kept.
+/// clauses that are learnt have the numbers behind the first ones. Lines are written in large pieces, and none is kept. The effort is
+/// what the engine has counted where it ends so, and else stays.
 ///
 /// Want of memory is also the answer where a number of 2^60 would be needed.
-pub fn solve<W: Sink>(alloc: Global, cnf: Cnf, refutation: &mut W) -> Result<Outcome, Failure>
+pub fn solve_counting<W: Sink>(
+    alloc: Global,
+    cnf: Cnf,
+    refutation: &mut W,
+    effort: &mut Effort,
+) -> Result<Outcome, Failure>
     requires { HaveTheirVariables cnf }
     // The values make each clause true, or a checker accepts what was written.
     ensures end { IfOk result
         (IsEnd cnf (W.written refutation.old) (W.written refutation.new)) }
     ensures added { AddsTo (W.written refutation.old) (W.written refutation.new) }
+    // An engine that holds the clauses has counted this.
+    ensures effort { IfOk result (λ _. IsCounted cnf effort.new) }
     // A failure is answered only where the count rose.
     ensures later { W.faults refutation.old ≤ W.faults refutation.new }
     ensures cause { IfErr result
@@ -99,13 +108,19 @@ pub fn solve<W: Sink>(alloc: Global, cnf: Cnf, refutation: &mut W) -> Result<Out
     let mut lines = Text::new(alloc);
     let mut rare = Rare::new(alloc, first);
     'conflicts: for number in first..NUMBER_LIMIT {
+        if put_unit(&mut engine, &mut lines, number)? {
+            write_piece(refutation, &mut lines)?;
+            continue;
+        }
         let Some(conflict) = next_conflict(&mut engine)? else {
             let values = values_of(alloc, &engine, variables)?;
+            *effort = engine.effort();
             return Ok(Outcome::Satisfiable(values));
         };
         if engine.level() == engine.base() {
             close(&engine, &mut lines, conflict, number)?;
             write_lines(refutation, &mut lines)?;
+            *effort = engine.effort();
             return Ok(Outcome::Unsatisfiable);
         }
         learn(&mut engine, &mut lines, conflict, number)?;
@@ -114,6 +129,20 @@ pub fn solve<W: Sink>(alloc: Global, cnf: Cnf, refutation: &mut W) -> Result<Out
         write_piece(refutation, &mut lines)?;
     }
     Err(Failure::NoMemory)
+}
+
+/// The same, where the effort is not asked for.
+pub fn solve<W: Sink>(alloc: Global, cnf: Cnf, refutation: &mut W) -> Result<Outcome, Failure>
+    requires { HaveTheirVariables cnf }
+    ensures end { IfOk result
+        (IsEnd cnf (W.written refutation.old) (W.written refutation.new)) }
+    ensures added { AddsTo (W.written refutation.old) (W.written refutation.new) }
+    ensures later { W.faults refutation.old ≤ W.faults refutation.new }
+    ensures cause { IfErr result
+        (HasCause (W.faults refutation.old) (W.faults refutation.new)) }
+{
+    let mut effort = Effort::none();
+    solve_counting(alloc, cnf, refutation, &mut effort)
 }
 
 /// The clauses that a text says have no other variables than it says.

@@ -14,7 +14,9 @@ use Rattle.scope_selectors.specs.declared.live.Live.{Live}
 use Rattle.script_state.specs.declared.answer.Asked.{Asked}
 use Rattle.script_state.specs.States.{StateValue, assumptions}
 use Rattle.proof_log.specs.Logs.{Asserted, state_of, clause_at}
-use Rattle.proof_log.specs.Stored.{LogValue, IsKept, literal_of, selector_in}
+use Rattle.proof_log.specs.Stored.{literal_of, selector_in}
+use Rattle.faded_log.specs.Faded.{FadedValue}
+use Rattle.faded_log.proofs.Weaving.{IsKeptHere}
 use Rattle.accepted_proof.specs.Turns.{IsAgainst, IsAgainstAssumed, IsAgainstOne, IsRefutation}
 use Rattle.check_cubes.specs.Searches.{only}
 use Rattle.check_cubes.proofs.Searched.{only_found}
@@ -37,42 +39,42 @@ asserted_found : (o : Option Asserted) (m : Literal) → literal_of o ≡ Some m
 asserted_found None m e = let f : ⊥ = cc in absurd f
 asserted_found (Some r) m e = record { asserted = r; some = refl; literal = let q : m ≡ r.literal = cc in q }
 
-module _ (s : StateValue) (log : LogValue) (kept : IsKept s.terms.nodes log) where
+module _ (s : StateValue) (log : FadedValue) (kept : IsKeptHere s.terms.nodes log) where
   abbrev is_selected : Literal → Bool
-  is_selected k = list_any (λ a. is_against log.selectors a (code_of k)) s.scopes.live
+  is_selected k = list_any (λ a. is_against log.base.selectors a (code_of k)) s.scopes.live
 
   abbrev is_assumed : Literal → Bool
-  is_assumed k = list_any (λ a. is_against_bit log.bits a (code_of k)) (assumptions s)
+  is_assumed k = list_any (λ a. is_against_bit log.base.bits a (code_of k)) (assumptions s)
 
   abbrev is_blamed : Literal → Bool
   is_blamed k = is_selected k || is_assumed k
 
   selected_found : (k : Literal) → is_selected k ≡ true → IsAgainst s s.terms.nodes log.entries k
   selected_found k e =
-      let any = Any-from_list_any (λ a. is_against log.selectors a (code_of k)) s.scopes.live e in
+      let any = Any-from_list_any (λ a. is_against log.base.selectors a (code_of k)) s.scopes.live e in
       let a : Live = any.1 in
-      let code = code_found (selector_in log.selectors a.assertion) k any.4 in
+      let code = code_found (selector_in log.base.selectors a.assertion) k any.4 in
       let made = asserted_found ((state_of s.terms.nodes log.entries).selectors a.assertion) code.0 (sym (kept.selectors a.assertion) ∙ code.1) in
       record { assertion = a; live = (any.0, any.2, any.3); selector = made.asserted; made = made.some; negation = code.2 ∙ ap negated made.literal }
 
   selected_there : (k : Literal) → IsAgainst s s.terms.nodes log.entries k → is_selected k ≡ true
   selected_there k h =
-      let selector : selector_in log.selectors h.assertion.assertion ≡ Some h.selector.literal = kept.selectors h.assertion.assertion ∙ ap literal_of h.made in
-      let code = code_there (selector_in log.selectors h.assertion.assertion) k h.selector.literal selector h.negation in
-      list_any-from_Any (λ a. is_against log.selectors a (code_of k)) s.scopes.live (h.live.0, h.assertion, h.live.1, h.live.2, code)
+      let selector : selector_in log.base.selectors h.assertion.assertion ≡ Some h.selector.literal = kept.selectors h.assertion.assertion ∙ ap literal_of h.made in
+      let code = code_there (selector_in log.base.selectors h.assertion.assertion) k h.selector.literal selector h.negation in
+      list_any-from_Any (λ a. is_against log.base.selectors a (code_of k)) s.scopes.live (h.live.0, h.assertion, h.live.1, h.live.2, code)
 
   assumed_found : (k : Literal) → is_assumed k ≡ true → IsAgainstAssumed s s.terms.nodes log.entries k
   assumed_found k e =
-      let any = Any-from_list_any (λ a. is_against_bit log.bits a (code_of k)) (assumptions s) e in
+      let any = Any-from_list_any (λ a. is_against_bit log.base.bits a (code_of k)) (assumptions s) e in
       let a : Asked = any.1 in
-      let code = code_found (only (bits_in log.bits a.term)) k any.4 in
-      record { assumption = a; assumed = (any.0, any.2, any.3); bit = code.0; bits = sym (kept.bits a.term) ∙ only_found (bits_in log.bits a.term) code.0 code.1; negation = code.2 }
+      let code = code_found (only (bits_in log.base.bits a.term)) k any.4 in
+      record { assumption = a; assumed = (any.0, any.2, any.3); bit = code.0; bits = sym (kept.bits a.term) ∙ only_found (bits_in log.base.bits a.term) code.0 code.1; negation = code.2 }
 
   assumed_there : (k : Literal) → IsAgainstAssumed s s.terms.nodes log.entries k → is_assumed k ≡ true
   assumed_there k h =
-      let bit : only (bits_in log.bits h.assumption.term) ≡ Some h.bit = ap only (kept.bits h.assumption.term ∙ h.bits) in
-      let code = code_there (only (bits_in log.bits h.assumption.term)) k h.bit bit h.negation in
-      list_any-from_Any (λ a. is_against_bit log.bits a (code_of k)) (assumptions s) (h.assumed.0, h.assumption, h.assumed.1, h.assumed.2, code)
+      let bit : only (bits_in log.base.bits h.assumption.term) ≡ Some h.bit = ap only (kept.bits h.assumption.term ∙ h.bits) in
+      let code = code_there (only (bits_in log.base.bits h.assumption.term)) k h.bit bit h.negation in
+      list_any-from_Any (λ a. is_against_bit log.base.bits a (code_of k)) (assumptions s) (h.assumed.0, h.assumption, h.assumed.1, h.assumed.2, code)
 
   against_by : (k : Literal) → (is_selected k ≡ true) ⊎ (is_assumed k ≡ true) → IsAgainstOne s s.terms.nodes log.entries k
   against_by k (inl e) = inl (selected_found k e)
@@ -110,13 +112,13 @@ module _ (s : StateValue) (log : LogValue) (kept : IsKept s.terms.nodes log) whe
 
   -- the literals of a clause are tested one by one
   pub refutation_told : (p : ℕ) (clause : List Literal) (live : List Live) (asked : List Asked) (first test : ℕ → Bool) (b : Bool) → live ≡ s.scopes.live → asked ≡ assumptions s
-      → ((q : ℕ) → first q ≡ list_any (λ a. is_against log.selectors a q) live) → ((q : ℕ) → test q ≡ (first q || list_any (λ a. is_against_bit log.bits a q) asked))
+      → ((q : ℕ) → first q ≡ list_any (λ a. is_against log.base.selectors a q) live) → ((q : ℕ) → test q ≡ (first q || list_any (λ a. is_against_bit log.base.bits a q) asked))
       → clause_at log.clauses (record { pos = p; part = 0 }) ≡ Some clause → b ≡ list_all (λ l. test (code_of l)) clause
       → MatchBool b (IsRefutation s s.terms.nodes log.entries p) (IsRefutation s s.terms.nodes log.entries p → ⊥)
   refutation_told p clause live asked first test b same assumed firsts tests e told =
       let agree = λ (l : Literal).
       tests (code_of l)
-      ∙ ap₂ (λ x y. x || y) (firsts (code_of l) ∙ ap (λ ls. list_any (λ a. is_against log.selectors a (code_of l)) ls) same) (ap (λ ls. list_any (λ a. is_against_bit log.bits a (code_of l)) ls) assumed) in
+      ∙ ap₂ (λ x y. x || y) (firsts (code_of l) ∙ ap (λ ls. list_any (λ a. is_against log.base.selectors a (code_of l)) ls) same) (ap (λ ls. list_any (λ a. is_against_bit log.base.bits a (code_of l)) ls) assumed) in
       let all : b ≡ list_all is_blamed clause = told ∙ ap (λ (f : Literal → Bool). list_all f clause) (λ i l. agree l i) in
       go b (sym all)
     where

@@ -17,7 +17,7 @@ use Rattle.proof_log.specs.declared.entry.Entry.{Entry}
 use Rattle.proof_log.specs.declared.entry.Entry.TheVariants as entry
 use Rattle.proof_text.specs.declared.list.WrittenHint.{WrittenHint}
 use Rattle.proof_log.specs.Logs.{entry_at}
-use Rattle.proof_log.specs.Stored.{LogValue}
+use Rattle.faded_log.specs.Faded.{FadedValue}
 use Rattle.proof_log.specs.Diaries.{with_held}
 use Rattle.proof_text.specs.declared.line.Line.{Line}
 use Rattle.proof_text.specs.declared.line.Line.TheVariants as line
@@ -56,7 +56,7 @@ module _ (deleted : List ℕ) (l : Line) where
   cites_line (entry.Lemma a) e = let p : lemma_line a ≡ l = cc in lemma_cites a p
 
 -- no step of a line is taken that cites a deleted place
-pub no_cited : (s : StateValue) (log : LogValue) (deleted : List ℕ) (l : Line) (b : Bool) → ((e : Entry) → entry_line e ≡ Some l → cites deleted e ≡ b) → b ≡ true
+pub no_cited : (s : StateValue) (log : FadedValue) (deleted : List ℕ) (l : Line) (b : Bool) → ((e : Entry) → entry_line e ≡ Some l → cites deleted e ≡ b) → b ≡ true
     → ((e : Entry) → IsStepOf s log.entries deleted l e → ⊥) × (s ≡ s) × (log ≡ log)
 no_cited s log deleted l b h t = ((λ e is. false≢true (sym is.left ∙ h e is.written ∙ t)), refl, refl)
 

@@ -16,7 +16,9 @@ use Rattle.accepted_proof.specs.declared.refusal.Refusal.{Refusal}
 use Rattle.accepted_proof.specs.Searching.{Limits}
 use Rattle.accepted_proof.specs.Judged.{Judging, judging_from, commanded, is_idle, ending, Moves, IsHeader, bad_header, ReadEach}
 use Rattle.accepted_proof.proofs.Following.{reach_here}
-use Rattle.proof_checker.specs.Checkers.{Says, CheckerValue, no_records, judged_so, GoesTo, answer_by, at_end}
+use Rattle.proof_checker.specs.Checkers.{Says, CheckerValue, and_shown, no_records, judged_so, GoesTo, answer_by, at_end}
+use Rattle.proof_checker.specs.Deletions.{IsLikened, GoesToLike}
+use Rattle.proof_checker.proofs.Likening.{likened_over, likened_back, shown_alike, tells_alike}
 use Rattle.proof_checker.specs.Checked.{shown_at, AreLines, Tells, IsTold, IsToldSoFar}
 use Rattle.proof_checker.specs.Checkings.{MayCome, to_be_done, told_from, IsJudgedFrom, IsAcceptedFrom, AreToCome, Keeps, verdicts_by, Concludes, AddsVerdicts, GoesOn, held_by, IsSameScript, IsSameProof, TakesLine, TakesChunk, IsProofAtEnd, IsScriptAtEnd, IsLeft, HasNoCommand, IsAtLine, Stops, Advances}
 use Rattle.proof_checker.specs.declared.inputs.Inputs.{Inputs}
@@ -299,6 +301,82 @@ module _ (old new : Inputs) (l : Option Line) (same : IsSameScript old new) (tak
 
     pub refused : (r : Refusal) → answer_by d.judging.owed ≡ Err r → (j : Judgement) → j.checker ≡ Some d → j.refusal ≡ Some r → Concludes old (Some c) j × AddsVerdicts (Some c) j.checker []
     refused r e j jc jr = (refused_so r e j jc jr, ap verdicts_by jc ∙ verdicts_are ∙ ap (λ x. c.verdicts ++ x) (over_shown d.judging r (over_of d.judging.owed r e)))
+
+  -- the same of a line behind which it is judged as is likened to what was judged
+  module _ (c d : CheckerValue) (at : IsAtLine old c) (goes : GoesToLike (Moves c.judging l) c d) where
+    abbrev e : CheckerValue
+    e = record { judging = goes.to; verdicts = d.verdicts }
+
+    plain : GoesTo (Moves c.judging l) c e
+    plain = record { judged = goes.judged; verdicts = goes.verdicts ∙ by goes.like }
+      where
+        by : (goes.to ≡ d.judging) ⊎ IsLikened goes.to d.judging → and_shown c.verdicts d.judging.owed d.judging.state.standing ≡ and_shown c.verdicts goes.to.owed goes.to.state.standing
+        by (inl same) = ap (λ (j : Judging). and_shown c.verdicts j.owed j.state.standing) (sym same)
+        by (inr k) = ap (λ (j : Judging). and_shown c.verdicts j.owed j.state.standing) (likened_over goes.to d.judging k)
+
+    shows : shown_at goes.to ≡ shown_at d.judging
+    shows = by goes.like
+      where
+        by : (goes.to ≡ d.judging) ⊎ IsLikened goes.to d.judging → shown_at goes.to ≡ shown_at d.judging
+        by (inl same) = ap shown_at same
+        by (inr k) = sym (shown_alike goes.to d.judging k)
+
+    answers : answer_by goes.to.owed ≡ answer_by d.judging.owed
+    answers = by goes.like
+      where
+        by : (goes.to ≡ d.judging) ⊎ IsLikened goes.to d.judging → answer_by goes.to.owed ≡ answer_by d.judging.owed
+        by (inl same) = ap (λ (j : Judging). answer_by j.owed) same
+        by (inr k) = ap answer_by (sym k.owed)
+
+    tells : (cs : List Says) (ls : List (Option Line)) (vs : List Verdict) (o : Option Refusal) → Tells d.judging cs ls vs o → Tells goes.to cs ls vs o
+    tells cs ls vs o h = by goes.like
+      where
+        by : (goes.to ≡ d.judging) ⊎ IsLikened goes.to d.judging → Tells goes.to cs ls vs o
+        by (inl same) = subst (λ (j : Judging). Tells j cs ls vs o) (sym same) h
+        by (inr k) = tells_alike ls d.judging goes.to cs vs o (likened_back goes.to d.judging k) h
+
+    told_like : (ended : Bool) (cs : List Says) (ls : List (Option Line)) (vs : List Verdict) (o : Option Refusal) → told_from ended (Some d) cs ls vs o → told_from ended (Some e) cs ls vs o
+    told_like ended cs ls vs o h = (h.0, h.1, tells (to_be_done ended cs) ls h.0 o h.2)
+
+    abbrev stands_in : Checking
+    stands_in = record { inputs = new; checker = Some e }
+
+    keeps_like : Keeps old (Some c) stands_in → (k : Checking) → k.inputs ≡ new → k.checker ≡ Some d → Keeps old (Some c) k
+    keeps_like h k ki kc = record {
+      judged = λ s p vs o t j'.
+          let j : IsJudgedFrom new (Some d) s p vs o = subst (λ (x : Option CheckerValue). IsJudgedFrom new x s p vs o) kc (subst (λ (x : Inputs). IsJudgedFrom x k.checker s p vs o) ki j') in
+          h.judged s p vs o t
+          (record { chunks = j.chunks; behind = j.behind; says = j.says; lines = j.lines; cut = j.cut; read = j.read; split = j.split; told = λ rest n. told_like new.run_ended (j.says ++ rest) j.lines vs o (j.told rest n); whole = j.whole });
+      accepted = λ s p vs t j'.
+          let j : IsAcceptedFrom new (Some d) s p vs = subst (λ (x : Option CheckerValue). IsAcceptedFrom new x s p vs) kc (subst (λ (x : Inputs). IsAcceptedFrom x k.checker s p vs) ki j') in
+          h.accepted s p vs t
+          (record { chunks = j.chunks; behind = j.behind; says = j.says; lines = j.lines; later = j.later; cut = j.cut; read = j.read; split = j.split; told = told_like new.run_ended j.says j.lines vs None j.told });
+      script = ap (λ (x : Inputs). x.script_ended) ki ∙ h.script;
+      proof = ap (λ (x : Inputs). x.proof_ended) ki ∙ h.proof;
+      held = subst (λ (x : Inputs). held_by x ≤ held_by old) (sym ki) h.held;
+    }
+
+    pub lined_like : (r : Step) → GoesOn new d r → Advances old (Some c) r
+    lined_like (step.On k) h =
+        let q = lined c e at plain (step.On stands_in) (refl, refl, shows ∙ h.2) in
+        (keeps_like q.0 k h.0 h.1, ap verdicts_by h.1 ∙ q.1, subst (λ (x : Inputs). held_by x < held_by old) (sym h.0) q.2)
+    lined_like (step.Stop (progress.Shown k v)) h =
+        let q = lined c e at plain (step.Stop (progress.Shown stands_in v)) (refl, refl, shows ∙ h.2) in (
+          keeps_like q.0 k h.0 h.1,
+          ap verdicts_by h.1 ∙ q.1,
+          (λ s p t. subst (λ (x : Option CheckerValue). IsAcceptedFrom old (Some c) s p (verdicts_by x)) (sym h.1) (q.2 s p t)),
+          subst (λ (x : Inputs). held_by x < held_by old) (sym h.0) q.3,
+        )
+    lined_like (step.Stop (progress.Script k)) h = absurd h
+    lined_like (step.Stop (progress.Proof k)) h = absurd h
+    lined_like (step.Stop (progress.Done j)) h = absurd h
+
+    pub refused_like : (r : Refusal) → answer_by d.judging.owed ≡ Err r → (j : Judgement) → j.checker ≡ Some d → j.refusal ≡ Some r → Concludes old (Some c) j × AddsVerdicts (Some c) j.checker []
+    refused_like r is j jc jr =
+        let q = refused c e at plain r (answers ∙ is) (record { checker = Some e; refusal = j.refusal }) refl jr in (
+          (λ s p t. subst (λ (x : Option CheckerValue). IsJudgedFrom old (Some c) s p (verdicts_by x) j.refusal) (sym jc) (q.0 s p t)),
+          ap verdicts_by jc ∙ q.1,
+        )
 
 -- ---- the end of the proof
 

@@ -4,6 +4,9 @@ pub mod Naming
 pub mod Splits
 pub mod Chunking
 pub mod Telling
+pub mod Alike
+pub mod Noted
+pub mod Likening
 pub mod Keeping
 pub mod Verdicts
 pub mod Passing
@@ -18,3 +21,5 @@ pub mod Noting
 pub mod Heading
 mod Deleting
 mod Starting
+mod Forgetting
+mod Searching

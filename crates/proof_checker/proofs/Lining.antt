@@ -23,10 +23,10 @@ use Rattle.script_state.proofs.Keeping.{fit_more}
 use Rattle.proof_log.specs.declared.entry.Entry.{Entry}
 use Rattle.proof_log.specs.declared.entry.Entry.TheVariants as entry
 use Rattle.proof_log.specs.Logs.{state_of, clause_at}
-use Rattle.proof_log.specs.Stored.{LogValue, Stands}
+use Rattle.faded_log.specs.Faded.{FadedValue, IsHeld, IsTried}
 use Rattle.proof_log.specs.Faults as faults
 use Rattle.proof_log.specs.Faults.{IsNewNode, IsValid, terms_after}
-use Rattle.proof_log.proofs.Standing.{stands_over}
+use Rattle.faded_log.proofs.Weaving.{held_kept}
 use Rattle.proof_text.specs.declared.list.WrittenLiteral.{WrittenLiteral}
 use Rattle.proof_text.specs.declared.list.WrittenHint.{WrittenHint}
 use Rattle.proof_text.specs.declared.line.Head.{Head}
@@ -39,7 +39,7 @@ use Rattle.accepted_proof.specs.Turns.{IsOfScript}
 use Rattle.accepted_proof.specs.Judged.{IsStepOf}
 use Rattle.accepted_proof.proofs.Good.{step_grows, step_list}
 use Rattle.accepted_proof.proofs.Once.{is_lemma, is_lemma_in, lemma_is_one, same_entry, term_line}
-use Rattle.proof_checker.specs.Checkers.{IsChainOf, IsTaken, IsTried}
+use Rattle.proof_checker.specs.Checkers.{IsChainOf, IsTaken}
 
 -- ---- steps
 
@@ -51,14 +51,14 @@ pub fit_step : (t w : TermsValue) (r : RestValue) (log : List Entry) (e : Entry)
 fit_step t w r log e fit valid of same = subst (λ x. Fit x r) (sym same) (fit_more t (terms_after t e) r (step_grows (with_terms r t) log e valid of) (step_list (with_terms r t) log e fit.state valid) fit)
 
 -- the step of a line was tried
-pub tried : (s t : StateValue) (l : Line) (log longer : LogValue) (deleted : List ℕ) (e : Entry) (b : Bool) → entry_line e ≡ Some l → IsOfScript s e → cites deleted e ≡ false
+pub tried : (s t : StateValue) (l : Line) (log longer : FadedValue) (deleted : List ℕ) (e : Entry) (b : Bool) → entry_line e ≡ Some l → IsOfScript s e → cites deleted e ≡ false
     → MatchBool b (IsValid s.terms (state_of s.terms.nodes log.entries) e × IsTaken s log e t longer) ((IsValid s.terms (state_of s.terms.nodes log.entries) e → ⊥) × (t ≡ s) × (longer ≡ log))
     → MatchBool b ((d : Entry) × IsStepOf s log.entries deleted l d × IsTaken s log d t longer) (((d : Entry) → IsStepOf s log.entries deleted l d → ⊥) × (t ≡ s) × (longer ≡ log))
 tried s t l log longer deleted e true w of left h = (e, record { written = w; script = of; valid = h.0; left = left }, h.1)
 tried s t l log longer deleted e false w of left h = (λ d is. h.0 (subst (IsValid s.terms (state_of s.terms.nodes log.entries)) (same_entry s l d e is.written w is.script of) is.valid), h.1, h.2)
 
 -- the same, where memory may be wanting
-pub tried_in : {E : Type 0} (s t : StateValue) (l : Line) (log longer : LogValue) (deleted : List ℕ) (e : Entry) → entry_line e ≡ Some l → IsOfScript s e → cites deleted e ≡ false → (r : Result Bool E)
+pub tried_in : {E : Type 0} (s t : StateValue) (l : Line) (log longer : FadedValue) (deleted : List ℕ) (e : Entry) → entry_line e ≡ Some l → IsOfScript s e → cites deleted e ≡ false → (r : Result Bool E)
     → IfOk r (λ b. MatchBool b (IsValid s.terms (state_of s.terms.nodes log.entries) e × IsTaken s log e t longer) ((IsValid s.terms (state_of s.terms.nodes log.entries) e → ⊥) × (t ≡ s) × (longer ≡ log)))
     → IfOk r (λ b. MatchBool b ((d : Entry) × IsStepOf s log.entries deleted l d × IsTaken s log d t longer) (((d : Entry) → IsStepOf s log.entries deleted l d → ⊥) × (t ≡ s) × (longer ≡ log)))
 tried_in s t l log longer deleted e w of left (Ok b) h = tried s t l log longer deleted e b w of left h
@@ -66,7 +66,7 @@ tried_in s t l log longer deleted e w of left (Err f) h = tt
 
 -- ---- a step over the terms of a state
 
-module _ {E : Type 0} (t w : TermsValue) (r : RestValue) (log longer : LogValue) (e : Entry) where
+module _ {E : Type 0} (t w : TermsValue) (r : RestValue) (log longer : FadedValue) (e : Entry) where
   -- the terms behind a step that was tried fit the rest
   pub fit_tried : (p : Result Bool E) → Fit t r → IsOfScript (with_terms r t) e → IfOk p (IsTried t w log longer e) → OnErr p ((w ≡ t) × (longer ≡ log)) → Fit w r
   fit_tried (Ok true) fit of h k = fit_step t w r log.entries e fit h.0 of h.1
@@ -78,7 +78,7 @@ module _ {E : Type 0} (t w : TermsValue) (r : RestValue) (log longer : LogValue)
       → IfOk p (λ b. MatchBool b (IsValid s.terms (state_of s.terms.nodes log.entries) e × IsTaken s log e u longer) ((IsValid s.terms (state_of s.terms.nodes log.entries) e → ⊥) × (u ≡ s) × (longer ≡ log)))
   tried_state s u (Ok true) before after h =
       subst (λ (x : StateValue). IsValid x.terms (state_of x.terms.nodes log.entries) e × IsTaken x log e u longer) (sym before)
-      (h.0, record { state = after ∙ ap (with_terms r) h.1; entries = h.2; stands = subst (λ (x : StateValue). Stands x.terms.nodes longer) (sym after) h.3 })
+      (h.0, record { state = after ∙ ap (with_terms r) h.1; entries = h.2; held = subst (λ (x : StateValue). IsHeld x.terms.nodes longer) (sym after) h.3 })
   tried_state s u (Ok false) before after h =
       (subst (λ (x : StateValue). IsValid x.terms (state_of x.terms.nodes log.entries) e → ⊥) (sym before) h.0, after ∙ ap (with_terms r) h.1 ∙ sym before, h.2)
   tried_state s u (Err f) before after h = tt
@@ -216,15 +216,15 @@ module _ (s : StateValue) (log : List Entry) (l : Line) where
   chain_line literals hints e w is = absurd is
 
 -- a chain over a stored log
-pub no_chain_line : (s : StateValue) (log : LogValue) (l : Line) (literals : List WrittenLiteral) (hints : List WrittenHint) → Stands s.terms.nodes log → l ≡ line.Chain literals hints
-    → ((c : List Literal) (names : List ClauseId) → entry_line (entry.Chain c names) ≡ Some (line.Chain literals hints) → AreBelow log.next c → IsChain (clause_at log.clauses) c names → ⊥)
+pub no_chain_line : (s : StateValue) (log : FadedValue) (l : Line) (literals : List WrittenLiteral) (hints : List WrittenHint) → IsHeld s.terms.nodes log → l ≡ line.Chain literals hints
+    → ((c : List Literal) (names : List ClauseId) → entry_line (entry.Chain c names) ≡ Some (line.Chain literals hints) → AreBelow log.base.next c → IsChain (clause_at log.clauses) c names → ⊥)
     → (deleted : List ℕ) (e : Entry) → IsStepOf s log.entries deleted l e → ⊥
 no_chain_line s log l literals hints stands w none deleted (entry.Node n) is = no_node n l is.written (λ h args p. let f : ⊥ = cc in f)
 no_chain_line s log l literals hints stands w none deleted (entry.Leaf t) is = let p : Some (line.Leaf t) ≡ Some l = is.written in let f : ⊥ = cc in f
 no_chain_line s log l literals hints stands w none deleted (entry.Encode t) is = let p : Some (line.Encode t) ≡ Some l = is.written in let f : ⊥ = cc in f
 no_chain_line s log l literals hints stands w none deleted (entry.Selector a t) is = let p : Some (line.Selector a) ≡ Some l = is.written in let f : ⊥ = cc in f
 no_chain_line s log l literals hints stands w none deleted (entry.Chain c names) is =
-    let kept = stands_over s.terms.nodes log stands in
+    let kept = held_kept s.terms.nodes log stands in
     none c names (is.written ∙ ap Some w)
     (subst (λ k. AreBelow k c) (sym kept.next) is.valid.0)
     (subst (λ rows. IsChain (clause_at rows) c names) (sym kept.clauses) is.valid.1)
@@ -233,8 +233,8 @@ no_chain_line s log l literals hints stands w none deleted (entry.Equal t u) is 
 no_chain_line s log l literals hints stands w none deleted (entry.Lemma a) is = false≢true (sym (ap is_lemma w) ∙ sym (ap is_lemma_in is.written) ∙ (lemma_is_one a).0)
 
 -- the step that the line of a chain says, where memory may be wanting
-pub chain_told : {E : Type 0} (s : StateValue) (log : LogValue) (l : Line) (literals clause : List WrittenLiteral) (hints names : List WrittenHint) → Stands s.terms.nodes log → l ≡ line.Chain literals hints → clause ≡ literals → names ≡ hints → (r : Result (Option Entry) E)
-    → IfOk r (λ o. MatchOption o ((c : List Literal) (is : List ClauseId) → entry_line (entry.Chain c is) ≡ Some (line.Chain clause names) → AreBelow log.next c → IsChain (clause_at log.clauses) c is → ⊥) (λ e. IsChainOf clause names e))
+pub chain_told : {E : Type 0} (s : StateValue) (log : FadedValue) (l : Line) (literals clause : List WrittenLiteral) (hints names : List WrittenHint) → IsHeld s.terms.nodes log → l ≡ line.Chain literals hints → clause ≡ literals → names ≡ hints → (r : Result (Option Entry) E)
+    → IfOk r (λ o. MatchOption o ((c : List Literal) (is : List ClauseId) → entry_line (entry.Chain c is) ≡ Some (line.Chain clause names) → AreBelow log.base.next c → IsChain (clause_at log.clauses) c is → ⊥) (λ e. IsChainOf clause names e))
     → IfOk r (λ o. MatchOption o ((deleted : List ℕ) (e : Entry) → IsStepOf s log.entries deleted l e → ⊥) (λ e. (entry_line e ≡ Some l) × IsOfScript s e))
 chain_told s log l literals clause hints names stands w p q (Ok None) h = no_chain_line s log l clause names stands (w ∙ ap (λ x. line.Chain x hints) (sym p) ∙ ap (line.Chain clause) (sym q)) h
 chain_told s log l literals clause hints names stands w p q (Ok (Some e)) h = chain_line s log.entries l clause names e (w ∙ ap (λ x. line.Chain x hints) (sym p) ∙ ap (line.Chain clause) (sym q)) h

@@ -15,8 +15,8 @@ use Rattle.script_state.specs.Steps.{Step, step, settled, forgotten, IsAskedValu
 use Rattle.script_state.proofs.Deciding.{values_after_sat, ends_by_exit}
 use Rattle.script_state.proofs.Keeping.{GoesOn, step_goes_on}
 use Rattle.proof_log.specs.declared.entry.Entry.{Entry}
-use Rattle.proof_log.specs.Stored.{LogValue, Stands}
-use Rattle.proof_log.proofs.Standing.{stands_longer}
+use Rattle.faded_log.specs.Faded.{FadedValue, IsHeld}
+use Rattle.faded_log.proofs.Holding.{held_longer}
 use Rattle.proof_text.specs.declared.line.Format.{Format}
 use Rattle.proof_text.specs.declared.line.WrittenValue.{WrittenValue}
 use Rattle.proof_text.specs.declared.line.Line.TheVariants as line
@@ -56,11 +56,11 @@ settled_asked s new left says a asked n is e f held forgets =
 pub settled_other : (s new : StateValue) (says : Says) (a : Answer) → ◌≡◌ {A = Step} (step s says) (a, new) → ((asked : List Asked) → a ≡ Values asked → ⊥) → new ≡ settled s (step s says).0 (step s says).1
 settled_other s new says a e other = settled_by (λ x. new ≡ x) s new a (λ asked f. absurd (other asked f)) refl ∙ ap (λ (to : Step). settled s to.0 to.1) (sym e)
 
-pub still_stands : (old new : StateValue) (log : LogValue) (says : Says) → IsState old → Stands old.terms.nodes log → new ≡ settled old (step old says).0 (step old says).1 → Stands new.terms.nodes log
-still_stands old new log says is stands e =
+pub still_held : (old new : StateValue) (log : FadedValue) (says : Says) → IsState old → IsHeld old.terms.nodes log → new ≡ settled old (step old says).0 (step old says).1 → IsHeld new.terms.nodes log
+still_held old new log says is stands e =
     let g : GoesOn old (step old says).1 = step_goes_on old is says in
-    let behind : Stands (step old says).1.terms.nodes log = subst (λ ns. Stands ns log) (sym g.keeps.nodes) (stands_longer old.terms.nodes g.keeps.behind log stands) in
-    subst (λ (x : StateValue). Stands x.terms.nodes log) (sym e) (settled_by (λ (x : StateValue). Stands x.terms.nodes log) old (step old says).1 (step old says).0 (λ asked f. stands) behind)
+    let behind : IsHeld (step old says).1.terms.nodes log = subst (λ ns. IsHeld ns log) (sym g.keeps.nodes) (held_longer old.terms.nodes g.keeps.behind log stands) in
+    subst (λ (x : StateValue). IsHeld x.terms.nodes log) (sym e) (settled_by (λ (x : StateValue). IsHeld x.terms.nodes log) old (step old says).1 (step old says).0 (λ asked f. stands) behind)
 
 pub commanded_to : (format : Format) (limits : Limits) (s new : StateValue) (log : List Entry) (deleted : List ℕ) (o p : Owed) (n : ℕ) (told : List Verdict) (a : Answer) (says : Says) → a ≡ (step s says).0 → new ≡ settled s (step s says).0 (step s says).1 → p ≡ owed_by a
     → held format limits new log deleted p n told ≡ judged_so (held format limits s log deleted o n told) (commanded (held format limits s log deleted o n told).judging says)

@@ -10,11 +10,11 @@ use Rattle.script_state.specs.States.{StateValue}
 use Rattle.proof_log.specs.declared.entry.Entry.{Entry}
 use Rattle.proof_log.specs.declared.diary.DiaryLine.{DiaryLine}
 use Rattle.proof_log.specs.declared.diary.DiaryLine.TheVariants as diary
-use Rattle.proof_log.specs.Stored.{LogValue, Stands}
+use Rattle.faded_log.specs.Faded.{FadedValue, IsHeld}
 use Rattle.cnf_base.proofs.Lists.{each_append, each_behind}
 use Rattle.proof_log.specs.Diaries.{Subject, DiaryState, line_after, lines_after, AreLines}
 use Rattle.proof_log.specs.Diaries as diaries
-use Rattle.proof_log.proofs.Standing.{stands_over}
+use Rattle.faded_log.proofs.Weaving.{held_clauses}
 use Rattle.proof_text.specs.declared.line.Format.{Format}
 use Rattle.proof_text.specs.declared.line.Line.TheVariants as line
 use Rattle.proof_text.specs.Deletions.{IsSpentFrom, IsSpentWithout, blank_without, is_deleted, place_of}
@@ -31,8 +31,8 @@ use Rattle.proof_checker.specs.Checkers.{AreLeft, CheckerValue, GoesTo, HasLine,
 use Rattle.proof_checker.proofs.Moving.{held}
 
 -- the log at hand is the one that the diary is about
-pub is_about : (limits : Limits) (s : StateValue) (log : LogValue) (cube start : ℕ) → Stands s.terms.nodes log → IsAbout (subject_of limits s s.terms.nodes log.entries cube start) log
-is_about limits s log cube start h = record { entries = refl; clauses = (stands_over s.terms.nodes log h).clauses }
+pub is_about : (limits : Limits) (s : StateValue) (log : FadedValue) (cube start : ℕ) → IsHeld s.terms.nodes log → IsAbout (subject_of limits s s.terms.nodes log.entries cube start) log
+is_about limits s log cube start h = record { entries = refl; clauses = held_clauses s.terms.nodes log h }
 
 -- the last of some lines may stand behind the others
 last_line : (g : Subject) (s : DiaryState) (ls : List DiaryLine) (l : DiaryLine) → AreLines g s (ls ++ l ∷ []) → diaries.IsLine g (lines_after g s ls) l
@@ -164,7 +164,7 @@ pub names_line : (limits : Limits) (s : StateValue) (log : List Entry) (deleted 
 names_line limits s log deleted old l e = λ p. let other = p.0 in let f : ⊥ = cc in f
 
 -- what the reader of a diary tells of a line that names no deleted place is told of the diary
-module _ (limits : Limits) (s : StateValue) (log : LogValue) (deleted : List ℕ) where
+module _ (limits : Limits) (s : StateValue) (log : FadedValue) (deleted : List ℕ) where
   abbrev about : ℕ → ℕ → Subject
   about cube start = subject_of limits s s.terms.nodes log.entries cube start
 

@@ -13,7 +13,8 @@ use Rattle.script_state.specs.Readings.{Reading}
 use Rattle.script_state.specs.States.{StateValue, concluded}
 use Rattle.proof_log.specs.Logs.{state_of}
 use Rattle.proof_log.specs.Faults.{IsValid, terms_after}
-use Rattle.proof_log.specs.Stored.{LogValue, Stands, selector_in}
+use Rattle.proof_log.specs.Stored.{selector_in}
+use Rattle.faded_log.specs.Faded.{FadedValue, IsHeld}
 use Rattle.accepted_proof.specs.Turns.{with_step}
 use Rattle.smt_build.specs.declared.symbols.LiveName.{LiveName}
 use Rattle.proof_log.specs.declared.entry.Entry.{Entry}
@@ -121,16 +122,11 @@ abbrev pub hints_in : Line → List WrittenHint
 hints_in (line.Chain clause hints) = hints
 hints_in _ = []
 
--- the step was tried over these terms: where it is valid it was added, else all is as before
-abbrev pub IsTried : TermsValue → TermsValue → LogValue → LogValue → Entry → Bool → Type 0
-IsTried v w log longer e true = IsValid v (state_of v.nodes log.entries) e × (w ≡ terms_after v e) × (longer.entries ≡ log.entries ++ e ∷ []) × Stands w.nodes longer
-IsTried v w log longer e false = (IsValid v (state_of v.nodes log.entries) e → ⊥) × (w ≡ v) × (longer ≡ log)
-
 -- the step was added
-pub record IsTaken (old : StateValue) (log : LogValue) (e : Entry) (new : StateValue) (longer : LogValue) : Type 0 where
+pub record IsTaken (old : StateValue) (log : FadedValue) (e : Entry) (new : StateValue) (longer : FadedValue) : Type 0 where
   pub state : new ≡ with_step old e
   pub entries : longer.entries ≡ log.entries ++ e ∷ []
-  pub stands : Stands new.terms.nodes longer
+  pub held : IsHeld new.terms.nodes longer
 
 abbrev pub is_code : Option Literal → ℕ → Bool
 is_code None q = false

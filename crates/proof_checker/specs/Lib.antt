@@ -5,3 +5,4 @@ pub mod Reports
 pub mod Blanks
 pub mod Written
 pub mod Naming
+pub mod Deletions

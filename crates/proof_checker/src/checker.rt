@@ -1,10 +1,13 @@
 // The checker.
 
-ghost use Rattle.std.specs.Prelude.{◌≡◌, ◌+◌, ◌<◌, ◌^◌, true, not, Some, None, IfOk, MatchResult, option_to_list};
+ghost use Rattle.std.specs.Prelude.{◌≡◌, ◌+◌, ◌<◌, ◌^◌, ℕ, List, true, not, Some, None, IfOk, MatchBool, MatchResult, option_to_list};
 ghost use Rattle.proof_text.specs.Lines.{IsLine};
+ghost use Rattle.proof_text.specs.declared.line.Line.TheVariants as row;
+ghost use Rattle.accepted_proof.specs.Judged as judged;
 ghost use Rattle.accepted_proof.specs.Judged.{is_idle, ending, refused, Moves};
 ghost use Rattle.check_cubes.specs.Searches.{limits_of};
 ghost use Rattle.proof_checker.specs.Checked.{shown_at};
+ghost use Rattle.proof_checker.specs.Deletions.{AreChainsForgotten, GoesToLike};
 ghost use Rattle.proof_checker.specs.Checkers.{GoesTo, line_in, IsRead, judged_so, answer_by, at_end, closed_with, gone_on, owed_of, IsOpen, IsNoted, AreKept};
 
 use crate::deletions::Deleted;
@@ -13,7 +16,7 @@ use crate::kept::KeptInterp;
 use accepted_proof::refusal::{Refusal, RuleName};
 use check_cubes::Limits;
 use diary_checker::DiaryStart;
-use proof_log::Log;
+use faded_log::FadedLog;
 use proof_text::line::{Format, Line};
 use proof_text::reader::LineFault;
 use script_state::answer::Verdict;
@@ -31,7 +34,7 @@ pub struct Checker {
     pub(crate) format: Format,
     pub(crate) limits: Limits,
     pub(crate) state: Box<State>,
-    pub(crate) log: Box<Log>,
+    pub(crate) log: Box<FadedLog>,
     pub(crate) deleted: Deleted,
     pub(crate) due: Due,
     /// The values of a model that is not whole yet.
@@ -51,7 +54,8 @@ impl Model for Checker {
     ghost use Rattle.check_cubes.specs.Searches.{limits_of};
     ghost use Rattle.proof_checker.specs.Checkers.{CheckerValue, owed_of, IsOpen, IsNoted, AreKept};
     ghost use Rattle.accepted_proof.specs.Searching.{AreLimits};
-    ghost use Rattle.proof_log.specs.Stored.{Stands};
+    ghost use Rattle.faded_log.specs.Faded.{IsHeld};
+    ghost use Rattle.proof_checker.specs.Deletions.{AreChainsForgotten};
     ghost use Rattle.diary_checker.specs.Starts.{IsStart};
 
     ghost Value = { CheckerValue };
@@ -70,12 +74,13 @@ impl Model for Checker {
           verdicts = c.verdicts.items;
         } };
 
-    ghost invariant = { λ c. Stands c.state.value.terms.nodes c.log.value
+    ghost invariant = { λ c. IsHeld c.state.value.terms.nodes c.log.value
         × IsOpen c.due c.state.value.symbols.live c.values.items
         × IsNoted (limits_of c.limits) c.state.value c.log.value.entries c.deleted c.due
         × AreLimits (limits_of c.limits)
         × AreKept c.due c.state.value.symbols.signatures c.values.items
-        × IsStart c.deleted c.log.value c.start };
+        × IsStart c.deleted c.log.value c.start
+        × AreChainsForgotten c.deleted c.log.value.entries };
 }
 
 impl Checker {
@@ -147,8 +152,39 @@ impl Checker {
         Ok(checker)
     }
 
+    // Whether steps and a record are owed.
+    fn is_at_step(&self) -> bool
+        ensures { MatchBool result (self.now.judging.owed ≡ judged.Steps)
+            (self.now.judging.owed ≡ judged.Steps → ⊥) }
+    {
+        match &self.due {
+            Due::Steps => true,
+            _ => false,
+        }
+    }
+
     // A whole line of a proof.
     fn whole_line(self, alloc: Global, line: &Line) -> Result<Checker, AllocError>
+        requires written { IsLine line.now }
+        requires more { self.judging.line + 1 < 2 ^ 64 }
+        ensures { IfOk result (λ c. GoesToLike (Moves self.judging (Some line.now)) self c) }
+    {
+        match line {
+            Line::Delete(places) => {
+                if self.is_at_step() {
+                    self.delete(alloc, places.as_slice())
+                } else {
+                    self.other_line(alloc, line)
+                }
+            }
+            _ => self.other_line(alloc, line),
+        }
+    }
+
+    // The same, where no places can be deleted by it.
+    fn other_line(self, alloc: Global, line: &Line) -> Result<Checker, AllocError>
+        requires other { self.judging.owed ≡ judged.Steps
+            → (places : List ℕ) → line.now ≡ row.Delete places → ⊥ }
         requires written { IsLine line.now }
         requires more { self.judging.line + 1 < 2 ^ 64 }
         ensures { IfOk result (λ c. GoesTo (Moves self.judging (Some line.now)) self c) }
@@ -175,6 +211,25 @@ impl Checker {
         }
     }
 
+    // Each chain that is deleted is forgotten.
+    fn has_forgotten(&self)
+        ensures { AreChainsForgotten self.now.judging.deleted self.now.judging.log }
+    {
+        let _places = self.deleted.places();
+    }
+
+    // The next line, which is one of a proof or none.
+    fn any_line(self, alloc: Global, line: &Result<Line, LineFault>) -> Result<Checker, AllocError>
+        requires read { IsRead line.now }
+        requires more { self.judging.line + 1 < 2 ^ 64 }
+        ensures { IfOk result (λ c. GoesToLike (Moves self.judging (line_in line.now)) self c) }
+    {
+        match line {
+            Ok(line) => self.whole_line(alloc, line),
+            Err(_) => Ok(self.bad_line()),
+        }
+    }
+
     // What a line is answered.
     fn told(&self) -> Result<(), Refusal>
         ensures { result ≡ answer_by self.now.judging.owed }
@@ -185,7 +240,7 @@ impl Checker {
         }
     }
 
-    /// Judges the next line. After a refusal every further line and the end are answered the same. For want of numbers of
+    /// Judges the next line. Each chain that is deleted is forgotten; it is judged as if it was not. After a refusal every further line and the end are answered the same. For want of numbers of
     /// lines the answer is want of memory.
     pub fn line(
         self,
@@ -193,16 +248,17 @@ impl Checker {
         line: &Result<Line, LineFault>,
     ) -> Result<(Checker, Result<(), Refusal>), AllocError>
         requires { IsRead line.now }
-        ensures moves { IfOk result (λ r. GoesTo (Moves self.judging (line_in line.now)) self r.0) }
+        ensures moves { IfOk result
+            (λ r. GoesToLike (Moves self.judging (line_in line.now)) self r.0) }
         ensures told { IfOk result (λ r. r.1 ≡ answer_by r.0.judging.owed) }
+        ensures forgotten { IfOk result
+            (λ r. AreChainsForgotten r.0.judging.deleted r.0.judging.log) }
     {
         if self.line == u64::MAX {
             return Err(self.release());
         }
-        let checker = match line {
-            Ok(line) => self.whole_line(alloc, line)?,
-            Err(_) => self.bad_line(),
-        };
+        let checker = self.any_line(alloc, line)?;
+        checker.has_forgotten();
         let told = checker.told();
         Ok((checker, told))
     }

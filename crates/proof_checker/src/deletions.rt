@@ -11,7 +11,7 @@ ghost use Rattle.proof_checker.specs.Checkers.{hints_in};
 
 use cnf_base::Pos;
 use diary_checker::positions::Positions;
-use proof_log::Log;
+use faded_log::FadedLog;
 use proof_log::diary::DiaryLine;
 use proof_log::entry::Entry;
 use proof_text::line::Line;
@@ -100,7 +100,7 @@ impl Deleted {
 }
 
 /// Whether a lemma or a chain stands at a place.
-fn is_deletable(log: &Log, at: Pos) -> bool
+fn is_deletable(log: &FadedLog, at: Pos) -> bool
     ensures { result ≡ is_deletable (entry_at log.now.entries at) }
 {
     match log.entry(at) {
@@ -111,7 +111,7 @@ fn is_deletable(log: &Log, at: Pos) -> bool
 }
 
 /// Whether a place is that of a lemma or a chain and not deleted.
-fn can_be_deleted(log: &Log, deleted: &Deleted, place: u64) -> bool
+fn can_be_deleted(log: &FadedLog, deleted: &Deleted, place: u64) -> bool
     ensures { MatchBool result
         ((is_deletable (entry_at log.now.entries place) ≡ true)
         × (is_deleted deleted.now place ≡ false))
@@ -124,7 +124,7 @@ fn can_be_deleted(log: &Log, deleted: &Deleted, place: u64) -> bool
 /// Deletes places where each can be, and tells whether it is so. Where one cannot, the same places are deleted as before.
 pub fn delete(
     alloc: Global,
-    log: &Log,
+    log: &FadedLog,
     deleted: &mut Deleted,
     places: &[u64],
 ) -> Result<bool, AllocError>

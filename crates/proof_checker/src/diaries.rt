@@ -2,7 +2,7 @@
 
 ghost use Rattle.std.specs.Prelude.{◌≡◌, ◌<◌, ◌+◌, ◌^◌, true, ℕ, Some, List, [], IfOk, MatchBool, MatchOption};
 ghost use Rattle.proof_log.specs.declared.entry.Entry.{Entry as Step};
-ghost use Rattle.proof_log.specs.Stored.{Stands};
+ghost use Rattle.faded_log.specs.Faded.{IsHeld};
 ghost use Rattle.proof_text.specs.Deletions.{IsSpentWithout};
 ghost use Rattle.script_state.specs.States.{StateValue};
 ghost use Rattle.accepted_proof.specs.Searching.{Limits, subject_of, given_literals};
@@ -14,11 +14,11 @@ ghost use Rattle.proof_checker.specs.Checkers.{closed_with, GoesTo, HasLine, IsN
 use crate::checker::Checker;
 use crate::deletions::{Deleted, names_deleted};
 use crate::due::{Due, Noting};
+use crate::searches::search_from;
 use accepted_proof::refusal::RuleName;
-use check_cubes::search;
 use cnf_base::{Lit, Pos};
 use diary_checker::{DiaryReader, DiaryStart};
-use proof_log::Log;
+use faded_log::FadedLog;
 use proof_log::diary::{DiaryLine, DiaryLines};
 use proof_text::line::Line;
 use script_state::answer::Verdict;
@@ -28,7 +28,7 @@ use std::mem;
 /// A diary without a line, of which one is next and so many are left behind it. What an earlier one held at its start serves it.
 fn open(
     alloc: Global,
-    log: &Log,
+    log: &FadedLog,
     kept: DiaryStart,
     deleted: &Deleted,
     given: &[Lit],
@@ -40,7 +40,7 @@ fn open(
     ensures parts { IfOk result (λ n. (n.cube ≡ cube) × (n.start ≡ start) × (n.left ≡ left)
         × (n.lines ≡ [])) }
     ensures noted { IfOk result (λ n. (limits : Limits) (s : StateValue)
-        → Stands s.terms.nodes log.now
+        → IsHeld s.terms.nodes log.now
         → given.now ≡ given_literals limits s s.terms.nodes log.now.entries cube
         → IsNoted limits s log.now.entries deleted.now (Noted n)) }
 {
@@ -65,12 +65,12 @@ fn open(
 
 /// One line more, and whether it may stand there.
 fn with_line(
-    log: &Log,
+    log: &FadedLog,
     deleted: &Deleted,
     noting: Noting,
     line: DiaryLine,
 ) -> Result<(Noting, bool), AllocError>
-    ensures { IfOk result (λ r. (limits : Limits) (s : StateValue) → Stands s.terms.nodes log.now
+    ensures { IfOk result (λ r. (limits : Limits) (s : StateValue) → IsHeld s.terms.nodes log.now
         → IsNoted limits s log.now.entries deleted.now (Noted noting)
         → MatchBool r.1 (HasLine limits s log.now.entries deleted.now noting line r.0)
         (IsNoLine limits s log.now.entries deleted.now noting line)) }
@@ -112,9 +112,9 @@ fn is_spent(noting: &Noting, budget: u64) -> bool
 }
 
 /// What the diary held at its start, for the next one.
-fn end(log: &Log, deleted: &Deleted, noting: Noting) -> Result<DiaryStart, AllocError>
+fn end(log: &FadedLog, deleted: &Deleted, noting: Noting) -> Result<DiaryStart, AllocError>
     ensures { IfOk result (λ kept. (limits : Limits) (s : StateValue)
-        → Stands s.terms.nodes log.now
+        → IsHeld s.terms.nodes log.now
         → IsNoted limits s log.now.entries deleted.now (Noted noting)
         → IsStart deleted.now log.now kept) }
 {
@@ -151,7 +151,7 @@ impl Checker {
             (λ g. MaySearch self.old.judging cube start
             × (g.items ≡ given_in self.old.judging cube))) }
     {
-        search(
+        search_from(
             alloc,
             &self.state,
             &self.log,

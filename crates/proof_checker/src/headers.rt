@@ -14,7 +14,7 @@ use crate::kept::KeptInterp;
 use accepted_proof::refusal::{Refusal, RuleName};
 use check_cubes::Limits;
 use diary_checker::DiaryStart;
-use proof_log::Log;
+use faded_log::FadedLog;
 use proof_text::line::{Format, Line};
 use proof_text::reader::LineFault;
 use script_state::state::State;
@@ -62,7 +62,7 @@ impl Checker {
             }));
         };
         let state = Box::new(alloc, State::new(alloc))?;
-        let log = Box::new(alloc, Log::new(alloc)?)?;
+        let log = Box::new(alloc, FadedLog::new(alloc)?)?;
         Ok(Ok(Checker {
             format,
             limits,

@@ -16,7 +16,7 @@ ghost use Rattle.proof_log.specs.Faults.{IsNewNode};
 ghost use Rattle.proof_checker.specs.Checkers.{IsChainOf};
 ghost use Rattle.proof_log.specs.declared.entry.Entry.{Entry as Step};
 ghost use Rattle.proof_log.specs.Logs.{clause_at};
-ghost use Rattle.proof_log.specs.Stored.{Stands};
+ghost use Rattle.faded_log.specs.Faded.{IsHeld};
 ghost use Rattle.proof_text.specs.declared.line.Line.TheVariants as line;
 ghost use Rattle.proof_text.specs.Lines.{IsLiteral, IsLine};
 ghost use Rattle.proof_text.specs.Entries.{head_of, written_literal, written_hint, entry_line};
@@ -25,7 +25,7 @@ ghost use Rattle.accepted_proof.specs.Judged.{IsStepOf};
 
 use crate::named::{lemma_of, pair_of, term_of, use_of};
 use cnf_base::{Clause, ClauseId, Lit, Pos};
-use proof_log::Log;
+use faded_log::FadedLog;
 use proof_log::entry::{Entry, Hints};
 use proof_text::line::{Head, Line};
 use proof_text::list::{WrittenHint, WrittenLiteral};
@@ -38,15 +38,15 @@ use std::alloc::{AllocError, Global};
 /// The clause that is written, where each of its variables was made.
 fn clause_of(
     alloc: Global,
-    log: &Log,
+    log: &FadedLog,
     literals: &[WrittenLiteral],
 ) -> Result<Option<Clause>, AllocError>
     requires { AllByRecursion IsLiteral literals.now }
     ensures { IfOk result (λ o. MatchOption o
-        ((c : List Literal) → map written_literal c ≡ literals.now → AreBelow log.now.next c → ⊥)
+        ((c : List Literal) → map written_literal c ≡ literals.now → AreBelow log.now.base.next c → ⊥)
         (λ c. map written_literal c ≡ literals.now)) }
 {
-    let next = log.next();
+    let next = log.base().next();
     let mut made = Vec::new(alloc);
     for literal in literals {
         if literal.variable >= next {
@@ -61,7 +61,7 @@ fn clause_of(
 }
 
 /// No hints, where a position has fewer than two to the 32 clauses.
-fn no_part(log: &Log, pos: Pos) -> Result<Option<Hints>, AllocError>
+fn no_part(log: &FadedLog, pos: Pos) -> Result<Option<Hints>, AllocError>
     ensures { IfOk result (λ o. (o ≡ None)
         × ((part : ℕ) → 2 ^ 32 ≤ part
         → clause_at log.now.clauses (record { pos = pos; part = part }) ≡ None)) }
@@ -77,7 +77,11 @@ fn no_part(log: &Log, pos: Pos) -> Result<Option<Hints>, AllocError>
 }
 
 /// The hints that are written, where each of them names a clause that there is or is small.
-fn hints_of(alloc: Global, log: &Log, hints: &[WrittenHint]) -> Result<Option<Hints>, AllocError>
+fn hints_of(
+    alloc: Global,
+    log: &FadedLog,
+    hints: &[WrittenHint],
+) -> Result<Option<Hints>, AllocError>
     ensures { IfOk result (λ o. MatchOption o
         ((c : List Literal) (names : List Name) → map written_hint names ≡ hints.now
         → IsChain (clause_at log.now.clauses) c names → ⊥)
@@ -211,7 +215,7 @@ fn asserted(state: &State, number: u64) -> Option<(u32, TermId)>
 /// The chain that is written, where its variables and its hints may be.
 fn chain_of(
     alloc: Global,
-    log: &Log,
+    log: &FadedLog,
     literals: &[WrittenLiteral],
     hints: &[WrittenHint],
 ) -> Result<Option<Entry>, AllocError>
@@ -219,7 +223,7 @@ fn chain_of(
     ensures { IfOk result (λ o. MatchOption o
         ((c : List Literal) (names : List Name)
         → entry_line (step.Chain c names) ≡ Some (line.Chain literals.now hints.now)
-        → AreBelow log.now.next c → IsChain (clause_at log.now.clauses) c names → ⊥)
+        → AreBelow log.now.base.next c → IsChain (clause_at log.now.clauses) c names → ⊥)
         (λ e. IsChainOf literals.now hints.now e)) }
 {
     let Some(clause) = clause_of(alloc, log, literals)? else {
@@ -235,10 +239,10 @@ fn chain_of(
 pub fn entry_of(
     alloc: Global,
     state: &State,
-    log: &Log,
+    log: &FadedLog,
     line: &Line,
 ) -> Result<Option<Entry>, AllocError>
-    requires stands { Stands state.now.terms.nodes log.now }
+    requires held { IsHeld state.now.terms.nodes log.now }
     requires written { IsLine line.now }
     ensures { IfOk result (λ o. MatchOption o
         ((deleted : List ℕ) (e : Step)

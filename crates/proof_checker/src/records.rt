@@ -1,14 +1,15 @@
 // The lines of steps, and those that begin or are a record.
 
-ghost use Rattle.std.specs.Prelude.{◌≡◌, ◌+◌, ◌<◌, ◌^◌, IfOk};
+ghost use Rattle.std.specs.Prelude.{◌≡◌, ◌+◌, ◌<◌, ◌^◌, ℕ, List, IfOk};
 ghost use Rattle.proof_text.specs.Lines.{IsLine};
-ghost use Rattle.proof_text.specs.declared.line.Line.TheVariants as line;
+ghost use Rattle.proof_text.specs.declared.line.Line.TheVariants as row;
 ghost use Rattle.accepted_proof.specs.Judged as judged;
 ghost use Rattle.accepted_proof.specs.Judged.{StepsBy, Deletes, AtStep};
 ghost use Rattle.proof_checker.specs.Checkers.{GoesTo};
+ghost use Rattle.proof_checker.specs.Deletions.{GoesToLike};
 
 use crate::checker::Checker;
-use crate::deletions::delete;
+use crate::deletions::{Deleted, delete};
 use crate::due::Due;
 use crate::refutations::is_refutation;
 use crate::steps::take_step;
@@ -69,12 +70,12 @@ impl Checker {
         }
     }
 
-    // The deletion of places, which the first format cannot say.
-    fn delete(self, alloc: Global, places: &[u64]) -> Result<Checker, AllocError>
+    // The deletion of places, which the first format cannot say; the chains among them are forgotten.
+    pub(crate) fn delete(self, alloc: Global, places: &[u64]) -> Result<Checker, AllocError>
         requires steps { self.judging.owed ≡ judged.Steps }
         requires more { self.judging.line + 1 < 2 ^ 64 }
         ensures { IfOk result
-            (λ c. GoesTo (Deletes self.judging.format self.judging places.now) self c) }
+            (λ c. GoesToLike (Deletes self.judging.format self.judging places.now) self c) }
     {
         if self.format == Format::One {
             return Ok(self.refuse(RuleName::Line));
@@ -83,20 +84,21 @@ impl Checker {
         checker.due = Due::Steps;
         let Ok(done) = delete(alloc, &checker.log, &mut checker.deleted, places) else {
             // Which places are deleted now is not told, so what was held over them is let go.
+            checker.deleted = Deleted::none(alloc);
             checker.start = DiaryStart::new(alloc);
             return Err(checker.release());
         };
-        if done {
-            Ok(checker.go_on())
-        } else {
-            Ok(checker.refuse(RuleName::Delete))
+        if !done {
+            return Ok(checker.refuse(RuleName::Delete));
         }
+        checker.log.forget(places);
+        Ok(checker.go_on())
     }
 
     // The line of a refutation.
     fn refute(self, alloc: Global, pos: Pos) -> Result<Checker, AllocError>
         requires more { self.judging.line + 1 < 2 ^ 64 }
-        ensures { IfOk result (λ c. GoesTo (AtStep self.judging (line.Unsat pos)) self c) }
+        ensures { IfOk result (λ c. GoesTo (AtStep self.judging (row.Unsat pos)) self c) }
     {
         if self.deleted.has(pos) {
             return Ok(self.refuse(RuleName::Unsat));
@@ -111,9 +113,10 @@ impl Checker {
         }
     }
 
-    // A line where steps and a record are owed.
+    // A line where steps and a record are owed, but the deletion of places.
     pub(crate) fn at_step(self, alloc: Global, line: &Line) -> Result<Checker, AllocError>
         requires steps { self.judging.owed ≡ judged.Steps }
+        requires other { (places : List ℕ) → line.now ≡ row.Delete places → ⊥ }
         requires written { IsLine line.now }
         requires more { self.judging.line + 1 < 2 ^ 64 }
         ensures { IfOk result (λ c. GoesTo (AtStep self.judging line.now) self c) }
@@ -141,7 +144,8 @@ impl Checker {
             Line::Congruence(_, _) => self.step(alloc, line),
             Line::Witness(_) => self.step(alloc, line),
             Line::Accesses(_, _) => self.step(alloc, line),
-            Line::Delete(places) => self.delete(alloc, places.as_slice()),
+            // Excluded by the condition on the line.
+            Line::Delete(_) => unreachable!(),
             Line::Sat(count) => self.begin_values(alloc, *count),
             Line::Value {
                 declaration: _,

@@ -5,12 +5,13 @@ ghost use Rattle.std.specs.List.{list_any, list_all};
 ghost use Rattle.std.specs.Ordering.{nat_cmp};
 ghost use Rattle.std.specs.BTreeSet.{contains};
 ghost use Rattle.cnf_base.specs.Literals.{code_of};
-ghost use Rattle.proof_log.specs.Stored.{Stands};
+ghost use Rattle.faded_log.specs.Faded.{IsHeld};
 ghost use Rattle.accepted_proof.specs.Turns.{IsRefutation};
 ghost use Rattle.proof_checker.specs.Checkers.{is_against, is_against_bit};
 
 use check_cubes::bit_of;
 use cnf_base::{ClauseId, Lit, Pos};
+use faded_log::FadedLog;
 use proof_log::Log;
 use scope_selectors::live::Live;
 use script_state::answer::Asked;
@@ -65,8 +66,13 @@ fn are_among(literals: &[Lit], codes: &BTreeSet<u64>) -> bool
 }
 
 /// Whether the first clause of a position has negated selectors of live assertions and negated bits of assumptions alone.
-pub fn is_refutation(alloc: Global, state: &State, log: &Log, pos: Pos) -> Result<bool, AllocError>
-    requires { Stands state.now.terms.nodes log.now }
+pub fn is_refutation(
+    alloc: Global,
+    state: &State,
+    log: &FadedLog,
+    pos: Pos,
+) -> Result<bool, AllocError>
+    requires { IsHeld state.now.terms.nodes log.now }
     ensures { IfOk result (λ b. MatchBool b
         (IsRefutation state.now state.now.terms.nodes log.now.entries pos)
         (IsRefutation state.now state.now.terms.nodes log.now.entries pos → ⊥)) }
@@ -74,7 +80,7 @@ pub fn is_refutation(alloc: Global, state: &State, log: &Log, pos: Pos) -> Resul
     let Some(clause) = log.clause(ClauseId { pos, part: 0 }) else {
         return Ok(false)
     };
-    let selectors = codes_of(alloc, log, state.live())?;
-    let codes = and_assumed(log, state.assumptions(), selectors)?;
+    let selectors = codes_of(alloc, log.base(), state.live())?;
+    let codes = and_assumed(log.base(), state.assumptions(), selectors)?;
     Ok(are_among(clause.literals(), &codes))
 }

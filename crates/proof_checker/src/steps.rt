@@ -3,50 +3,30 @@
 ghost use Rattle.std.specs.Prelude.{◌≡◌, IfOk, OnErr, MatchBool};
 ghost use Rattle.proof_log.specs.declared.entry.Entry.{Entry as Step};
 ghost use Rattle.proof_log.specs.Logs.{state_of};
-ghost use Rattle.proof_log.specs.Faults.{IsDeclared, IsValid};
-ghost use Rattle.proof_log.specs.Stored.{Stands};
+ghost use Rattle.proof_log.specs.Faults.{IsValid};
+ghost use Rattle.faded_log.specs.Faded.{IsHeld};
 ghost use Rattle.proof_text.specs.Lines.{IsLine};
 ghost use Rattle.accepted_proof.specs.Turns.{IsOfScript};
 ghost use Rattle.accepted_proof.specs.Judged.{IsStepOf};
-ghost use Rattle.proof_checker.specs.Checkers.{IsTaken, IsTried};
+ghost use Rattle.proof_checker.specs.Checkers.{IsTaken};
 
 use crate::deletions::{Deleted, cites_deleted};
 use crate::lines::entry_of;
+use faded_log::FadedLog;
 use proof_log::entry::Entry;
-use proof_log::{Log, PushError};
 use proof_text::line::Line;
 use script_state::state::State;
-use smt_terms::terms::Terms;
 use std::alloc::{AllocError, Global};
 use std::mem;
-
-/// Adds a step where it is valid over these terms, and tells whether it is. For want of memory all is as before.
-fn try_over(
-    alloc: Global,
-    terms: &mut Terms,
-    log: &mut Log,
-    entry: Entry,
-) -> Result<bool, AllocError>
-    requires stands { Stands terms.old.nodes log.old }
-    requires declared { IsDeclared terms.old entry }
-    ensures ok { IfOk result (IsTried terms.old terms.new log.old log.new entry) }
-    ensures err { OnErr result ((terms.new ≡ terms.old) × (log.new ≡ log.old)) }
-{
-    match log.try_push(alloc, terms, entry) {
-        Ok(_) => Ok(true),
-        Err(PushError::Fault(_)) => Ok(false),
-        Err(PushError::NoMemory) => Err(AllocError),
-    }
-}
 
 /// Adds a step where it is valid, and tells whether it is. For want of memory all is as before.
 fn try_step(
     alloc: Global,
     state: &mut State,
-    log: &mut Log,
+    log: &mut FadedLog,
     entry: Entry,
 ) -> Result<bool, AllocError>
-    requires stands { Stands state.old.terms.nodes log.old }
+    requires held { IsHeld state.old.terms.nodes log.old }
     requires script { IsOfScript state.old entry }
     ensures ok { IfOk result (λ taken. MatchBool taken
         (IsValid state.old.terms (state_of state.old.terms.nodes log.old.entries) entry
@@ -56,7 +36,7 @@ fn try_step(
     ensures err { OnErr result ((state.new ≡ state.old) × (log.new ≡ log.old)) }
 {
     let (mut terms, rest) = mem::replace(state, State::new(alloc)).into_parts();
-    let taken = try_over(alloc, &mut terms, log, entry);
+    let taken = log.try_push(alloc, &mut terms, entry);
     *state = State::from_parts(terms, rest);
     taken
 }
@@ -66,11 +46,11 @@ fn try_step(
 pub fn take_step(
     alloc: Global,
     state: &mut State,
-    log: &mut Log,
+    log: &mut FadedLog,
     deleted: &Deleted,
     line: &Line,
 ) -> Result<bool, AllocError>
-    requires stands { Stands state.old.terms.nodes log.old }
+    requires held { IsHeld state.old.terms.nodes log.old }
     requires written { IsLine line.now }
     ensures ok { IfOk result (λ taken. MatchBool taken
         ((e : Step) × IsStepOf state.old log.old.entries deleted.now line.now e

@@ -17,6 +17,23 @@ pub(crate) struct Proof {
 /// What is shown, a line that is changed, counted from 1, what stands there then, and the first bad line with its rule.
 pub(crate) type Change = (&'static str, usize, &'static [u8], Option<(u64, RuleName)>);
 
+/// Feeds the script, and the proof with this line in place of its own.
+fn feed(
+    checking: &mut Checking,
+    proof: &Proof,
+    changed: usize,
+    by: &[u8],
+) -> Result<(), AllocError> {
+    checking.feed_script(proof.script)?;
+    checking.end_script();
+    for (number, line) in proof.lines.iter().enumerate() {
+        let line = if number + 1 == changed { by } else { *line };
+        checking.feed_proof(line)?;
+    }
+    checking.end_proof();
+    Ok(())
+}
+
 /// Whether a proof with this line in place of its own is judged so.
 fn is_judged(
     alloc: Global,
@@ -26,20 +43,25 @@ fn is_judged(
     wanted: Option<Refusal>,
 ) -> Result<bool, AllocError> {
     let mut checking = Checking::new(alloc);
-    checking.feed_script(proof.script)?;
-    checking.end_script();
-    for (number, line) in proof.lines.iter().enumerate() {
-        let line = if number + 1 == changed { by } else { *line };
-        checking.feed_proof(line)?;
+    if feed(&mut checking, proof, changed, by).is_err() {
+        drop(checking);
+        return Err(AllocError);
     }
-    checking.end_proof();
     for _ in 0..3 {
         match checking.advance(alloc)? {
             Progress::Shown(next, _) => checking = next,
-            Progress::Done(judgement) => return Ok(judgement.refusal == wanted),
-            Progress::Script(_) | Progress::Proof(_) => return Ok(false),
+            Progress::Done(judgement) => {
+                let refusal = judgement.refusal;
+                drop(judgement);
+                return Ok(refusal == wanted);
+            }
+            Progress::Script(held) | Progress::Proof(held) => {
+                drop(held);
+                return Ok(false);
+            }
         }
     }
+    drop(checking);
     Ok(false)
 }
 

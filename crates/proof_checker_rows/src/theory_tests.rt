@@ -5,6 +5,15 @@ use proof_checker::checking::{Checking, Progress};
 use std::alloc::{AllocError, Global};
 use std::test::Fail;
 
+/// Feeds both texts whole.
+fn feed(checking: &mut Checking, script: &[u8], proof: &[u8]) -> Result<(), AllocError> {
+    checking.feed_script(script)?;
+    checking.end_script();
+    checking.feed_proof(proof)?;
+    checking.end_proof();
+    Ok(())
+}
+
 /// How many records are accepted, and the first bad line, where both texts are whole.
 fn judged(
     alloc: Global,
@@ -12,20 +21,25 @@ fn judged(
     proof: &[u8],
 ) -> Result<Option<(usize, Option<Refusal>)>, AllocError> {
     let mut checking = Checking::new(alloc);
-    checking.feed_script(script)?;
-    checking.end_script();
-    checking.feed_proof(proof)?;
-    checking.end_proof();
+    if feed(&mut checking, script, proof).is_err() {
+        drop(checking);
+        return Err(AllocError);
+    }
     for _ in 0..3 {
         match checking.advance(alloc)? {
             Progress::Shown(next, _) => checking = next,
             Progress::Done(judgement) => {
-                return Ok(Some((judgement.verdicts().len(), judgement.refusal)));
+                let told = (judgement.verdicts().len(), judgement.refusal);
+                drop(judgement);
+                return Ok(Some(told));
             }
-            Progress::Script(_) => return Ok(None),
-            Progress::Proof(_) => return Ok(None),
+            Progress::Script(held) | Progress::Proof(held) => {
+                drop(held);
+                return Ok(None);
+            }
         }
     }
+    drop(checking);
     Ok(None)
 }
 

@@ -2,6 +2,7 @@
 use Rattle.std.proofs.Common.{◌≡◌, ℕ, zero, suc, ◌+◌, ◌-◌, ◌<◌, ◌≤◌, List, [], ◌∷◌, ◌++◌, length, map, take, drop, get_or, Option, Some, None, refl, sym, ap, ◌∙◌, subst, arith, append_assoc, append-nil}
 use Rattle.std.specs.Prelude.{Bool, true, false, not, if◌then◌else◌, option_map, option_to_list, All, Contains, slice_get, IsSome, IfSome}
 use Rattle.std.specs.List.{flat_map, AllByRecursion}
+use Rattle.std.specs.Fmt.{decimal}
 use Rattle.std.proofs.lemmas.Grind.{flat_map-append}
 use Rattle.std.proofs.lemmas.List.{take_more, map-append}
 use Rattle.std.proofs.lemmas.Option.{slice_get_within, get_or_from_slice_get}
@@ -12,7 +13,7 @@ use Rattle.proof_log.specs.declared.entry.Entry.{Entry}
 use Rattle.proof_log.specs.declared.entry.Entry.TheVariants as step
 use Rattle.proof_log.specs.Logs.{entry_at}
 use Rattle.proof_text.specs.declared.line.Line.{Line}
-use Rattle.proof_text.specs.Lines.{line_text, IsLine}
+use Rattle.proof_text.specs.Lines.{spaced, line_text, IsLine, IsNumber}
 use Rattle.proof_text.specs.Entries.{entry_line}
 use Rattle.proof_text.specs.Deletions.{is_deletable}
 use Rattle.accepted_proof.specs.Turns.{Item, Step, Delete, item_lines}
@@ -204,3 +205,23 @@ pub hints_next : (f : ClauseId → ClauseId) (xs : List ClauseId) (k : ℕ) (x :
 hints_next f xs k x old new at e n =
     let front : take (k + 1) xs ≡ take k xs ++ x ∷ [] = take_more xs k x (slice_get_within xs k x at) ∙ ap (λ (y : ClauseId). take k xs ++ y ∷ []) (get_or_from_slice_get xs k x x at) in
     n ∙ ap (λ (ys : List ClauseId). ys ++ f x ∷ []) e ∙ sym (map-append f (take k xs) (x ∷ [])) ∙ ap (map f) (sym front)
+
+-- ---- numbers behind spaces
+
+spaced_more : (words : List (List ℕ)) (word : List ℕ) → spaced (words ++ word ∷ []) ≡ spaced words ++ 32 ∷ word
+spaced_more words word = flat_map-append (λ (w : List ℕ). 32 ∷ w) words (word ∷ []) ∙ ap (λ (t : List ℕ). spaced words ++ t) (append-nil (32 ∷ word))
+
+-- so many numbers, and the next
+module _ (xs : List ℕ) (k x d n : ℕ) (lt : k < length xs) (is : x ≡ get_or xs k d) (own : n ≡ x) where
+  front : take (k + 1) xs ≡ take k xs ++ n ∷ []
+  front = take_more xs k d lt ∙ ap (λ (y : ℕ). take k xs ++ y ∷ []) (sym (own ∙ is))
+
+  pub numbers_next : (a old new : List ℕ) → old ≡ a ++ spaced (map decimal (take k xs)) → new ≡ old ++ 32 ∷ decimal n → new ≡ a ++ spaced (map decimal (take (k + 1) xs))
+  numbers_next a old new o e =
+      e ∙ ap (λ (t : List ℕ). t ++ 32 ∷ decimal n) o
+      ∙ append_assoc a (spaced (map decimal (take k xs))) (32 ∷ decimal n)
+      ∙ ap (λ (t : List ℕ). a ++ t) (sym (spaced_more (map decimal (take k xs)) (decimal n)) ∙ ap spaced (sym (map-append decimal (take k xs) (n ∷ []))))
+      ∙ ap (λ (ys : List ℕ). a ++ spaced (map decimal ys)) (sym front)
+
+  pub each_next : AllByRecursion IsNumber (take k xs) → IsNumber n → AllByRecursion IsNumber (take (k + 1) xs)
+  each_next h m = subst (AllByRecursion IsNumber) (sym front) (each_append IsNumber (take k xs) (n ∷ []) h (m, tt))

@@ -83,37 +83,15 @@ impl ProofFile {
         ensures file { OnOk result (IsFileOf terms.now.nodes log.now.entries self.new) }
     {
         let gone = self.chains.stale(alloc, live, self.places.table())?;
-        self.places.remove_all(gone.as_slice());
-        write_deletion(gone.as_slice(), out)?;
+        self.places.remove_all(&gone);
+        write_deletion(&gone, out)?;
         self.chains.learn(terms, log)?;
         let needed = needed_by(alloc, log, &self.places, shown, &mut self.found)?;
         let made = made_positions(alloc, log, from)?;
-        write_steps(
-            alloc,
-            log,
-            made.as_slice(),
-            &mut self.places,
-            &mut self.chains,
-            out,
-        )?;
+        write_steps(alloc, log, &made, &mut self.places, &mut self.chains, out)?;
         let start = self.places.next();
-        write_steps(
-            alloc,
-            log,
-            needed.as_slice(),
-            &mut self.places,
-            &mut self.chains,
-            out,
-        )?;
-        write_shown(
-            alloc,
-            log,
-            &self.places,
-            start,
-            needed.as_slice(),
-            shown,
-            out,
-        )?;
+        write_steps(alloc, log, &needed, &mut self.places, &mut self.chains, out)?;
+        write_shown(alloc, log, &self.places, start, &needed, shown, out)?;
         Ok(())
     }
 }

@@ -1,6 +1,6 @@
 // What a record needs of a log and its file has not.
 
-ghost use Rattle.std.specs.Prelude.{◌≡◌, ◌<◌, ◌∷◌, [], Some, IfOk, OnOk, map, slice_get};
+ghost use Rattle.std.specs.Prelude.{◌≡◌, ◌<◌, ◌^◌, ◌∷◌, [], Some, IfOk, OnOk, length, map, slice_get};
 ghost use Rattle.variable_list.specs.Variables.{IsOnce};
 ghost use Rattle.proof_log.specs.Logs.{entry_at};
 ghost use Rattle.proof_text.specs.Deletions.{is_deletable, place_of};
@@ -44,7 +44,7 @@ pub(crate) fn is_derived(log: &Log, at: Pos) -> bool
 }
 
 /// The position that a line of a diary names.
-fn place_of(line: DiaryLine) -> Pos
+fn position_of(line: DiaryLine) -> Pos
     ensures { result ≡ place_of line }
 {
     match line {
@@ -62,7 +62,7 @@ fn find_one(log: &Log, places: &Places, at: Pos, found: &mut VariableList) -> Re
     if !is_derived(log, at) {
         return Ok(());
     }
-    if places.place_of(at) != 0 {
+    if !places.place_of(at).is_nowhere() {
         return Ok(());
     }
     if at >= 1 << 63 {
@@ -79,8 +79,8 @@ fn find_hints(
     hints: &Hints,
     found: &mut VariableList,
 ) -> Result<(), AllocError>
-    ensures { OnOk result (AreFound log.now.entries (file_in places.now).places (hint_positions hints.now)
-        found.old found.new) }
+    ensures { OnOk result (AreFound log.now.entries (file_in places.now).places
+        (hint_positions hints.now) found.old found.new) }
 {
     for k in 0..hints.len() {
         find_one(log, places, hints.hint(k).pos, found)?;
@@ -95,11 +95,11 @@ fn find_lines(
     lines: &[DiaryLine],
     found: &mut VariableList,
 ) -> Result<(), AllocError>
-    ensures { OnOk result (AreFound log.now.entries (file_in places.now).places (map place_of lines.now)
-        found.old found.new) }
+    ensures { OnOk result (AreFound log.now.entries (file_in places.now).places
+        (map place_of lines.now) found.old found.new) }
 {
     for line in lines {
-        find_one(log, places, place_of(*line), found)?;
+        find_one(log, places, position_of(*line), found)?;
     }
     Ok(())
 }
@@ -111,8 +111,8 @@ fn find_named(
     shown: &Record,
     found: &mut VariableList,
 ) -> Result<(), AllocError>
-    ensures { OnOk result (AreFound log.now.entries (file_in places.now).places (named_by shown.now)
-        found.old found.new) }
+    ensures { OnOk result (AreFound log.now.entries (file_in places.now).places
+        (named_by shown.now) found.old found.new) }
 {
     match shown {
         Record::Sat(_) => Ok(()),
@@ -159,12 +159,13 @@ fn find_cited(
     }
 }
 
-/// The position at a place of those that were found, if there is one.
-fn found_at(found: &VariableList, place: usize) -> Option<Pos>
-    ensures at { result ≡ slice_get found.now place }
+/// The position at an index of those that were found, if there is one.
+fn found_at(found: &VariableList, index: usize) -> Option<Pos>
+    ensures at { result ≡ slice_get found.now index }
+    ensures few { length found.now < 2 ^ 64 }
     ensures once { IsOnce found.now }
 {
-    found.as_slice().get(place).copied()
+    found.as_slice().get(index).copied()
 }
 
 /// The positions of what the record needs and the file has not, rising. The list is for the positions that are found; it may be a
@@ -179,7 +180,6 @@ pub(crate) fn needed_by(
     ensures { IfOk result
         (λ ps. AreNeeded log.now.entries (file_in places.now).places shown.now ps.items) }
 {
-    let _count = log.len();
     found.clear();
     find_named(log, places, shown, found)?;
     let mut done = 0;

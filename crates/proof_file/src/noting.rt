@@ -6,6 +6,7 @@ ghost use Rattle.proof_log.specs.Stored.{Stands};
 ghost use Rattle.proof_file.specs.Indexed.{selected_by, noted_under, place_in};
 ghost use Rattle.proof_file.specs.Noting.{assertion_of, IsNamed, Denies, AreMarked, IsWanted, ArePicked, Adds, IsPlaceOf, IsPlaceUnder, AreForgotten};
 
+use crate::places::{Place, place_at};
 use cnf_base::{Lit, Pos};
 use plain_list::List;
 use proof_log::Log;
@@ -205,32 +206,22 @@ pub(crate) fn picked(
     Ok(found)
 }
 
-// The place of a position.
-fn place(places: &[Pos], position: Pos) -> Pos
-    ensures { result ≡ place_in places.now position }
-{
-    match places.get(position as usize) {
-        Some(at) => *at,
-        None => 0,
-    }
-}
-
 // Adds the place of a position, where it stands somewhere.
-fn add_place(found: &mut Vec<Pos>, places: &[Pos], position: Pos) -> Result<(), AllocError>
+fn add_place(found: &mut Vec<Place>, places: &[Place], position: Pos) -> Result<(), AllocError>
     ensures { OnOk result (found.new.items
         ≡ (if place_in places.now position == 0 then found.old.items
         else found.old.items ++ place_in places.now position ∷ [])) }
 {
-    let at = place(places, position);
-    if at == 0 {
+    let place = place_at(places, position);
+    if place.is_nowhere() {
         return Ok(());
     }
-    found.push(at)?;
+    found.push(place)?;
     Ok(())
 }
 
 // Adds the places of these positions, where they stand somewhere.
-fn add_places(found: &mut Vec<Pos>, places: &[Pos], positions: &[Pos]) -> Result<(), AllocError>
+fn add_places(found: &mut Vec<Place>, places: &[Place], positions: &[Pos]) -> Result<(), AllocError>
     ensures { OnOk result
         (Adds found.old.items (IsPlaceOf places.now positions.now) found.new.items) }
 {
@@ -245,8 +236,8 @@ pub(crate) fn places_under(
     alloc: Global,
     noted: &[Positions],
     assertions: &[AssertId],
-    places: &[Pos],
-) -> Result<Vec<Pos>, AllocError>
+    places: &[Place],
+) -> Result<Vec<Place>, AllocError>
     ensures { IfOk result (λ v.
         Adds [] (IsPlaceUnder places.now noted.now assertions.now) v.items) }
 {

@@ -1,6 +1,6 @@
 // At which places of a file the positions of a log stand.
 
-ghost use Rattle.std.specs.Prelude.{◌≡◌, ◌<◌, ◌^◌, ℕ, [], ◌∷◌, suc, MatchOption, OnOk, length};
+ghost use Rattle.std.specs.Prelude.{◌≡◌, ◌==◌, ◌<◌, ◌^◌, ℕ, [], ◌∷◌, suc, MatchOption, OnOk, length};
 ghost use Rattle.proof_file.specs.Places.{no_file, with_step, without_places};
 ghost use Rattle.proof_file.specs.Indexed.{place_in};
 ghost use Rattle.proof_file.specs.Held.{AreHeldAt, file_in};
@@ -9,8 +9,40 @@ use cnf_base::Pos;
 use std::alloc::{AllocError, Global};
 use std::marker::Model;
 
-/// A place in a file, counted from 1; 0 is that of what stands nowhere.
-pub(crate) type Place = u64;
+/// A place in a file, counted from 1.
+#[derive(Clone, Copy, Debug, PartialEq, Eq, PartialOrd, Ord)]
+pub(crate) struct Place {
+    number: u64,
+}
+
+impl Model for Place {
+    ghost use Rattle.std.specs.Prelude.{ℕ};
+
+    ghost Value = { ℕ };
+
+    ghost view = { λ p. p.number };
+
+    ghost inverse = { λ n. record { number = n } };
+}
+
+impl Place {
+    /// That of what stands nowhere.
+    pub(crate) const NOWHERE: Place = Place { number: 0 };
+
+    /// Its number in the file.
+    pub(crate) fn number(self) -> u64
+        ensures { result ≡ self }
+    {
+        self.number
+    }
+
+    /// Whether it is that of what stands nowhere.
+    pub(crate) fn is_nowhere(self) -> bool
+        ensures { result ≡ (self == 0) }
+    {
+        self.number == 0
+    }
+}
 
 /// How many steps a file has, and at which place a position stands now.
 #[derive(Debug, Drop)]
@@ -44,18 +76,18 @@ fn make_room(places: &mut Vec<Place>, row: usize) -> Result<(), AllocError>
 {
     if row >= places.len() {
         let rows = row + row / 4 + 64;
-        places.resize(rows, 0)?;
+        places.resize(rows, Place::NOWHERE)?;
     }
     Ok(())
 }
 
-// The place of a position by a table.
-fn place_at(places: &[Place], at: Pos) -> Place
+/// The place of a position by a table.
+pub(crate) fn place_at(places: &[Place], at: Pos) -> Place
     ensures { result ≡ place_in places.now at }
 {
     match places.get(at as usize) {
         Some(place) => *place,
-        None => 0,
+        None => Place::NOWHERE,
     }
 }
 
@@ -66,10 +98,10 @@ fn row_of(places: &[Place], positions: &[Pos], place: Place) -> Option<usize>
         (λ r. (r < length places.now) × (place_in places.now r ≡ place)
         × ((p : ℕ) → place_in places.now p ≡ place → p ≡ r)) }
 {
-    if place == 0 {
+    if place.is_nowhere() {
         return None;
     }
-    let Some(at) = positions.get((place - 1) as usize) else {
+    let Some(at) = positions.get((place.number() - 1) as usize) else {
         return None
     };
     if place_at(places, *at) == place {
@@ -108,7 +140,9 @@ impl Places {
     pub(crate) fn next(&self) -> Place
         ensures { result ≡ suc self.now.count }
     {
-        self.positions.len() as u64 + 1
+        Place {
+            number: self.positions.len() as u64 + 1,
+        }
     }
 
     /// One step more, that of this position. For want of memory, or of numbers, all is as before.
@@ -131,7 +165,7 @@ impl Places {
         ensures { file_in self.new ≡ without_places (file_in self.old) (place ∷ []) }
     {
         if let Some(row) = row_of(self.places.as_slice(), self.positions.as_slice(), place) {
-            self.places[row] = 0;
+            self.places[row] = Place::NOWHERE;
         }
     }
 

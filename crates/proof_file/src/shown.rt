@@ -52,11 +52,13 @@ fn is_held(log: &Log, at: Pos, start: Pos) -> bool
     at < start && is_lemma_at(log, at)
 }
 
-fn push_if(lines: &mut DiaryLines, line: DiaryLine, is_wanted: bool) -> Result<(), AllocError>
-    ensures { OnOk result (lines.new ≡ (if is_wanted then lines.old ++ line ∷ [] else lines.old)) }
+/// Puts a line behind others that takes what stands at this place, where the search held it.
+fn push_take(lines: &mut DiaryLines, place: Place, is_held: bool) -> Result<(), AllocError>
+    ensures { OnOk result
+        (lines.new ≡ (if is_held then lines.old ++ Take place ∷ [] else lines.old)) }
 {
-    if is_wanted {
-        lines.push(line)?;
+    if is_held {
+        lines.push(DiaryLine::Take(place.number()))?;
     }
     Ok(())
 }
@@ -70,11 +72,11 @@ fn push_lemmas(
     lines: &mut DiaryLines,
 ) -> Result<(), AllocError>
     ensures { OnOk result (lines.new ≡ lines.old
-        ++ map (λ p. Take ((file_in places.now).places p)) (lemmas_before log.now.entries start needed.now)) }
+        ++ map (λ p. Take ((file_in places.now).places p))
+        (lemmas_before log.now.entries start needed.now)) }
 {
     for at in needed {
-        let line = DiaryLine::Take(places.place_of(*at));
-        push_if(lines, line, is_held(log, *at, start))?;
+        push_take(lines, places.place_of(*at), is_held(log, *at, start))?;
     }
     Ok(())
 }
@@ -84,9 +86,9 @@ fn placed_line(places: &Places, line: DiaryLine) -> DiaryLine
     ensures { result ≡ placed_line (file_in places.now).places line }
 {
     match line {
-        DiaryLine::Take(at) => DiaryLine::Take(places.place_of(at)),
-        DiaryLine::Put(at) => DiaryLine::Put(places.place_of(at)),
-        DiaryLine::Drop(at) => DiaryLine::Drop(places.place_of(at)),
+        DiaryLine::Take(at) => DiaryLine::Take(places.place_of(at).number()),
+        DiaryLine::Put(at) => DiaryLine::Put(places.place_of(at).number()),
+        DiaryLine::Drop(at) => DiaryLine::Drop(places.place_of(at).number()),
     }
 }
 
@@ -122,7 +124,7 @@ fn placed_diary(
     push_placed(places, diary.lines.as_slice(), &mut lines)?;
     Ok(Diary {
         cube: diary.cube,
-        start,
+        start: start.number(),
         lines,
     })
 }
@@ -145,7 +147,7 @@ pub(crate) fn write_shown(
 {
     match shown {
         Record::Sat(_) => write_record(shown, out),
-        Record::Unsat(at) => write_record(&Record::Unsat(places.place_of(*at)), out),
+        Record::Unsat(at) => write_record(&Record::Unsat(places.place_of(*at).number()), out),
         Record::Unknown(diary) => {
             let placed = placed_diary(alloc, log, places, start, needed, diary)?;
             write_record(&Record::Unknown(placed), out)

@@ -10,6 +10,7 @@ ghost use Rattle.proof_file.specs.Noting.{KeepsIndex, Denies, DenyAmong, HasNote
 use crate::noting::{
     Positions, denied, forget, hold, mark, picked, places_under, read_entry, watch,
 };
+use crate::places::Place;
 use cnf_base::{Clause, Lit, Pos};
 use proof_log::Log;
 use proof_log::entry::AssertId;
@@ -151,8 +152,8 @@ impl StaleChains {
         &mut self,
         alloc: Global,
         live: &[Live],
-        places: &[Pos],
-    ) -> Result<Vec<Pos>, AllocError>
+        places: &[Place],
+    ) -> Result<Vec<Place>, AllocError>
         ensures { IfOk result (λ qs. IsFound live.now places.now qs.items self.old self.new) }
     {
         mark(&mut self.live, live)?;

@@ -1,6 +1,7 @@
 //! Worked calls, with ample memory.
 
 use crate::noting::{denied, forget, hold, mark, name, picked, places_under};
+use crate::places::Places;
 use cnf_base::Lit;
 use scope_selectors::live::Live;
 use std::test::Fail;
@@ -48,15 +49,19 @@ fn places_are_found_under_assertions(rt: HostRuntime) -> Result<(), Fail> {
     hold(rt.alloc(), &mut noted, 2, 3)?;
     hold(rt.alloc(), &mut noted, 0, 1)?;
     hold(rt.alloc(), &mut noted, 2, 1)?;
-    let places = [0, 8, 9, 0];
+    let mut places = Places::new(rt.alloc());
+    places.put(4)?;
+    places.put(1)?;
+    let place = places.place_of(1);
+    assert_eq!(rt; place.number(), 2);
     assert_eq!(rt;
-        places_under(rt.alloc(), &noted, &[2, 5], &places)?.as_slice(),
-        [8].as_slice()
+        places_under(rt.alloc(), &noted, &[2, 5], places.table())?.as_slice(),
+        [place].as_slice()
     );
     forget(rt.alloc(), &mut noted, &[2, 5]);
     assert_eq!(rt;
-        places_under(rt.alloc(), &noted, &[0, 2], &places)?.as_slice(),
-        [8].as_slice()
+        places_under(rt.alloc(), &noted, &[0, 2], places.table())?.as_slice(),
+        [place].as_slice()
     );
     Ok(())
 }

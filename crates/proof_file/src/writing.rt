@@ -42,17 +42,18 @@ pub(crate) fn write_deletion(places: &[Place], out: &mut Text) -> Result<(), All
     }
     out.push(b'd')?;
     for place in places {
-        push_spaced(out, *place)?;
+        push_spaced(out, place.number())?;
     }
     out.push(b'\n')
 }
 
-fn push_if(positions: &mut Vec<Pos>, at: Pos, is_wanted: bool) -> Result<(), AllocError>
-    ensures { OnOk result (positions.new.items
-        ≡ (if is_wanted then positions.old.items ++ at ∷ [] else positions.old.items)) }
+/// Puts a position behind others, where its step makes a term or a variable.
+fn push_made(made: &mut Vec<Pos>, at: Pos, is_made: bool) -> Result<(), AllocError>
+    ensures { OnOk result
+        (made.new.items ≡ (if is_made then made.old.items ++ at ∷ [] else made.old.items)) }
 {
-    if is_wanted {
-        positions.push(at)?;
+    if is_made {
+        made.push(at)?;
     }
     Ok(())
 }
@@ -65,7 +66,7 @@ pub(crate) fn made_positions(alloc: Global, log: &Log, from: Pos) -> Result<Vec<
 {
     let mut made = Vec::new(alloc);
     for at in from..log.len() {
-        push_if(&mut made, at, !is_derived(log, at))?;
+        push_made(&mut made, at, !is_derived(log, at))?;
     }
     Ok(made)
 }
@@ -78,7 +79,7 @@ fn placed_hints(alloc: Global, hints: &Hints, places: &Places) -> Result<Hints, 
     for k in 0..hints.len() {
         let hint = hints.hint(k);
         placed.push(ClauseId {
-            pos: places.place_of(hint.pos),
+            pos: places.place_of(hint.pos).number(),
             part: hint.part,
         })?;
     }
@@ -104,8 +105,8 @@ fn write_placed(
     out: &mut Text,
 ) -> Result<(), AllocError>
     requires { IsSome (entry_line entry.now) }
-    ensures text { OnOk result (out.new
-        ≡ out.old ++ flat_map line_text (step_lines (placed (file_in places.now).places entry.now ∷ []))) }
+    ensures text { OnOk result (out.new ≡ out.old ++ flat_map line_text
+        (step_lines (placed (file_in places.now).places entry.now ∷ []))) }
     ensures line { OnOk result
         (AllByRecursion IsLine (step_lines (placed (file_in places.now).places entry.now ∷ []))) }
 {
@@ -151,10 +152,10 @@ fn write_step(
     out: &mut Text,
 ) -> Result<(), AllocError>
     requires { HasLine log.now.entries at }
-    ensures steps { OnOk result
-        (AreStepsWritten log.now.entries (file_in places.old) (file_in places.new) (at ∷ []) out.old out.new) }
-    ensures index { OnOk result
-        (KeepsIndex log.now.entries (file_in places.old) (file_in places.new) chains.old chains.new) }
+    ensures steps { OnOk result (AreStepsWritten log.now.entries
+        (file_in places.old) (file_in places.new) (at ∷ []) out.old out.new) }
+    ensures index { OnOk result (KeepsIndex log.now.entries
+        (file_in places.old) (file_in places.new) chains.old chains.new) }
 {
     match log.entry(at) {
         Some(entry) => {
@@ -177,10 +178,10 @@ pub(crate) fn write_steps(
     out: &mut Text,
 ) -> Result<(), AllocError>
     requires { All (HasLine log.now.entries) positions.now }
-    ensures steps { OnOk result
-        (AreStepsWritten log.now.entries (file_in places.old) (file_in places.new) positions.now out.old out.new) }
-    ensures index { OnOk result
-        (KeepsIndex log.now.entries (file_in places.old) (file_in places.new) chains.old chains.new) }
+    ensures steps { OnOk result (AreStepsWritten log.now.entries
+        (file_in places.old) (file_in places.new) positions.now out.old out.new) }
+    ensures index { OnOk result (KeepsIndex log.now.entries
+        (file_in places.old) (file_in places.new) chains.old chains.new) }
 {
     for at in positions {
         write_step(alloc, log, *at, places, chains, out)?;

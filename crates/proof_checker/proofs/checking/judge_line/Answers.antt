@@ -1,18 +1,18 @@
 use Rattle.std.proofs.Common.{refl, sym, Some}
 use Rattle.accepted_proof.specs.Judged.{ending}
-use Rattle.proof_checker.proofs.Keeping.{proof_asked, lined, refused, ended, end_answered, end_verdicts}
+use Rattle.proof_checker.proofs.Keeping.{proof_asked, lined_like, refused_like, ended, end_answered, end_verdicts}
 use Rattle.proof_checker.proofs.checking.judge_line.Goals as goal
 
 pub returns-in-Ok-told : goal.returns-in-Ok-told
 returns-in-Ok-told c =
     let l = rw c.in-Line.is at c.in-Ok.ensures.line in
-    lined _ _ _ c.in-Ok.ensures.same l.1 c.args.checker c.in_ok-checker-in-Line.checker c.requires c.in_ok-checker-in-Line.ensures.moves c.go_on.result c.go_on.ensures
+    lined_like _ _ _ c.in-Ok.ensures.same l.1 c.args.checker c.in_ok-checker-in-Line.checker c.requires c.in_ok-checker-in-Line.ensures.moves c.go_on.result c.go_on.ensures
 
 pub returns-in-Err : goal.returns-in-Err
 returns-in-Err c =
     let l = rw c.in-Line.is at c.in-Ok.ensures.line in
     let told = rw c.in-Err.is at c.in_ok-checker-in-Line.ensures.told in
-    refused _ _ _ c.in-Ok.ensures.same l.1 c.args.checker c.in_ok-checker-in-Line.checker c.requires c.in_ok-checker-in-Line.ensures.moves _ (sym told) (record { checker = Some c.in_ok-checker-in-Line.checker; refusal = Some c.in-Err.refusal }) refl refl
+    refused_like _ _ _ c.in-Ok.ensures.same l.1 c.args.checker c.in_ok-checker-in-Line.checker c.requires c.in_ok-checker-in-Line.ensures.moves _ (sym told) (record { checker = Some c.in_ok-checker-in-Line.checker; refusal = Some c.in-Err.refusal }) refl refl
 
 pub returns-in-End : goal.returns-in-End
 returns-in-End c =

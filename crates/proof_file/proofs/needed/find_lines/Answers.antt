@@ -14,7 +14,7 @@ pub loop-line-preserved : goal.loop-line-preserved
 loop-line-preserved c =
     found_next_read c.args.log.now.entries (file_in c.args.places.now).places place_of c.args.lines.now c.loop-line.line-index _
     c.args.found.now c.loop-line.found c.find_one.new.found c.loop-line-test.true c.loop-line.invariant
-    (subst (λ (p : ℕ). AreFound c.args.log.now.entries (file_in c.args.places.now).places (p ∷ []) c.loop-line.found c.find_one.new.found) c.place_of.ensures c.in_ok-find_one.ensures)
+    (subst (λ (p : ℕ). AreFound c.args.log.now.entries (file_in c.args.places.now).places (p ∷ []) c.loop-line.found c.find_one.new.found) c.position_of.ensures c.in_ok-find_one.ensures)
 
 pub returns : goal.returns
 returns c =

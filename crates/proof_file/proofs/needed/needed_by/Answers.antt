@@ -22,9 +22,8 @@ found-smaller c =
 
 pub overflow_add-done : goal.overflow_add-done
 overflow_add-done c =
-    let few = found_few c.args.log.now.entries (file_in c.args.places.now).places c.args.shown.now c.found.found c.found.done c.found.invariant c.in-Some.ensures.once in
     let lt = slice_get_within c.found.found c.found.done c.in-Some.at (sym c.in-Some.ensures.at) in
-    omega (arith, few, lt, c.len-count.ensures)
+    omega (arith, lt, c.in-Some.ensures.few)
 
 pub returns : goal.returns
 returns c =

@@ -8,4 +8,4 @@ use Rattle.proof_file.proofs.writing.placed_hints.Goals as goal
 pub loop-k-preserved : goal.loop-k-preserved
 loop-k-preserved c =
     hints_next (placed_hint (file_in c.args.places.now).places) c.args.hints.now c.loop-k.k c.hint-hint.result c.loop-k.placed.items c.push.new.self.items c.hint-hint.ensures c.loop-k.invariant
-    (c.in_ok-push.ensures.items ∙ ap (λ (q : ℕ). c.loop-k.placed.items ++ record { pos = q; part = c.hint-hint.result.part } ∷ []) c.place_of.ensures)
+    (c.in_ok-push.ensures.items ∙ ap (λ (q : ℕ). c.loop-k.placed.items ++ record { pos = q; part = c.hint-hint.result.part } ∷ []) (c.number.ensures ∙ c.place_of.ensures))

@@ -3,6 +3,7 @@ use Rattle.cdcl_core.specs.Search.{literals_of, level_of}
 use Rattle.cdcl_loop.proofs.Courses.{true_later}
 use Rattle.cdcl_loop.proofs.Assuming.{assumed_more, none_of}
 use Rattle.cdcl_loop.proofs.Trails.{store_then}
+use Rattle.cdcl_loop.proofs.Working.{worked_none, worked_then}
 use Rattle.cdcl_loop.proofs.engine.Engine.assume.Goals as goal
 use Rattle.cnf_base.proofs.Lists.{Contains-nil}
 
@@ -18,6 +19,7 @@ literals-init c = record {
   given = refl;
   listed = refl;
   store = record { kept = λ id. refl; held = λ id. refl };
+  work = worked_none c.args.self.now;
   engine = c.requires.engine;
   course = c.requires.course;
   at_base = omega (arith, c.requires.course.0.lower, c.if-self-level.false, c.level.ensures);
@@ -35,6 +37,7 @@ literals-preserved c =
       given = c.assume_one.ensures.task.given ∙ c.literals.invariant.given;
       listed = c.assume_one.ensures.task.listed ∙ c.literals.invariant.listed;
       store = store_then s.watches b.watches n.watches c.literals.invariant.store c.assume_one.ensures.store;
+      work = worked_then s b n c.literals.invariant.work c.in_ok-clash.ensures.work;
       engine = done.0.engine;
       course = done.0.course;
       at_base = done.0.at_base;
@@ -50,3 +53,9 @@ returns-in_err-clash-clause-store c = store_then c.args.self.now.watches c.liter
 
 pub returns-in-Some-clause-store : goal.returns-in-Some-clause-store
 returns-in-Some-clause-store c = store_then c.args.self.now.watches c.literals.self.watches c.assume_one.new.self.watches c.literals.invariant.store c.assume_one.ensures.store
+
+pub returns-in-Some-clause-work : goal.returns-in-Some-clause-work
+returns-in-Some-clause-work c = worked_then c.args.self.now c.literals.self c.assume_one.new.self c.literals.invariant.work c.in_ok-clash.ensures.work
+
+pub returns-then-self-level-clause-work : goal.returns-then-self-level-clause-work
+returns-then-self-level-clause-work c = worked_none c.args.self.now

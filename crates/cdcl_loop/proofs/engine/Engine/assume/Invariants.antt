@@ -1,6 +1,7 @@
 use Rattle.std.proofs.Common.{◌≡◌, take}
 use Rattle.cdcl_core.specs.Search.{level_of}
 use Rattle.cdcl_loop.specs.Engines.{IsEngine, IsOnCourse, IsSameStore, IsAssumed}
+use Rattle.cdcl_loop.specs.Efforts.{HasWorked}
 use Rattle.cdcl_loop.proofs.engine.Engine.assume.Given as goal
 
 abbrev pub invariant-literals : goal.invariant-literals
@@ -8,6 +9,7 @@ invariant-literals l = record {
   given : l.self.given ≡ l.fn.self.given;
   listed : l.self.agenda.list ≡ l.fn.self.agenda.list;
   store : IsSameStore l.fn.self.watches l.self.watches;
+  work : HasWorked l.fn.self l.self;
   engine : IsEngine l.self;
   course : IsOnCourse l.self;
   at_base : l.self.base ≡ level_of l.self.trail;

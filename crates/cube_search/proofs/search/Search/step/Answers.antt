@@ -36,6 +36,9 @@ returns-in-Some-2-clause-end g c =
     subst (λ (l : List Literal). IsClosing (state_of (g.B.Board.nodes c.close.new.board) (g.B.Board.log c.close.new.board)).clauses l c.in_ok-close.field-0)
     (ap (λ v. v.items) (c.assume.ensures.task.given ∙ c.propagate.ensures.task.given)) c.in_ok-close.ensures.closing
 
+pub returns-in_err-clash-clause-later : goal.returns-in_err-clash-clause-later
+returns-in_err-clash-clause-later g c = running_board c.args.self.now (g.B.Board.nodes c.args.board.now) (g.B.Board.log c.args.board.now) (g.B.Board.knows c.args.board.now) c.requires.running
+
 pub returns-in_err-decide-clause-later : goal.returns-in_err-decide-clause-later
 returns-in_err-decide-clause-later g c = running_board c.args.self.now (g.B.Board.nodes c.args.board.now) (g.B.Board.log c.args.board.now) (g.B.Board.knows c.args.board.now) c.requires.running
 

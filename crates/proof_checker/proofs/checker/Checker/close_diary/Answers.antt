@@ -16,6 +16,7 @@ invariant_of-checker c =
       c.checker.invariant.3,
       c.checker.invariant.4,
       told (limits_of before.limits) before.state.value c.checker.invariant.0 noted,
+      c.checker.invariant.6,
     )
 
 pub returns : goal.returns

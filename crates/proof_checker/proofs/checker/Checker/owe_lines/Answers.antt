@@ -11,4 +11,5 @@ invariant_of-checker c = (
   c.checker.invariant.3,
   tt,
   c.checker.invariant.5,
+  c.checker.invariant.6,
 )

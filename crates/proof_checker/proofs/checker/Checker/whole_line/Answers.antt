@@ -1,16 +1,15 @@
-use Rattle.std.proofs.Common.{sym, subst}
-use Rattle.proof_checker.specs.declared.due.Due.{Due}
-use Rattle.proof_checker.specs.Checkers.{CheckerValue, IsOwedValues, IsOwedLines, owed_of}
-use Rattle.proof_checker.proofs.Moving.{are_owed}
+use Rattle.std.proofs.Common.{◌≡◌, Some, sym, ap, ◌∙◌}
+use Rattle.std.proofs.lemmas.Bool.{MatchBool-at_true, MatchBool-at_false}
+use Rattle.proof_text.specs.declared.line.Line.TheVariants as line
+use Rattle.accepted_proof.specs.Judged.{Moves}
+use Rattle.proof_checker.proofs.Forgetting.{goes_plain_in, goes_deleted}
 use Rattle.proof_checker.proofs.checker.Checker.whole_line.Goals as goal
 
-pub at_value-requires-clause-values : goal.at_value-requires-clause-values
-at_value-requires-clause-values c =
-    let before = c.self.inside in
-    subst (λ (x : CheckerValue). IsOwedValues x.judging.owed) c.self.view_is (are_owed before.due before.state.value.symbols.live before.values.items c.in-Values.is c.self.invariant.1)
+pub returns-then-is_at_step : goal.returns-then-is_at_step
+returns-then-is_at_step c = goes_deleted c.args.self c.args.line.now c.as_slice.result.now c.delete.result c.if-is_at_step.ensures (c.in-Delete.is ∙ ap line.Delete (sym c.as_slice.ensures)) c.delete.ensures
 
-pub at_diary-requires-clause-lines : goal.at_diary-requires-clause-lines
-at_diary-requires-clause-lines c =
-    let before = c.self.inside in
-    subst (λ (x : CheckerValue). IsOwedLines x.judging.owed) c.self.view_is
-    (subst (λ (d : Due). IsOwedLines (owed_of d before.state.value.symbols.live before.values.items)) (sym c.in-Noted.is) tt)
+pub returns-else-is_at_step : goal.returns-else-is_at_step
+returns-else-is_at_step c = goes_plain_in (Moves c.args.self.judging (Some c.args.line.now)) c.args.self c.other_line.result c.other_line.ensures
+
+pub returns-in_default : goal.returns-in_default
+returns-in_default c = goes_plain_in (Moves c.args.self.judging (Some c.args.line.now)) c.args.self c.other_line-in_default.result c.other_line-in_default.ensures

@@ -1,0 +1,5 @@
+use Rattle.std.proofs.Common.{◌≡◌}
+use Rattle.cdcl_loop.proofs.choices.Choices.meet_reasons.Given as goal
+
+abbrev pub invariant-literals : goal.invariant-literals
+invariant-literals l = l.self.effort ≡ l.fn.self.effort

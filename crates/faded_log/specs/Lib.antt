@@ -1,0 +1,2 @@
+pub mod Faded
+pub mod Slots
