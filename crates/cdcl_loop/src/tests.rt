@@ -313,11 +313,14 @@ fn learn_next(engine: &mut Engine) -> Result<(usize, u64), AllocError>
     let Some(id) = engine.propagate() else {
         return Err(AllocError);
     };
-    if engine.clause(ClauseId { pos: 9, part: 0 }).is_some() || engine.level() == 0 {
+    if engine.level() == 0 {
         return Err(AllocError);
     }
     let (clause, _hints, level) = engine.learn(id)?;
     let len = clause.len();
+    if engine.clause(ClauseId { pos: 9, part: 0 }).is_some() {
+        return Err(AllocError);
+    }
     engine.keep(clause, level, 9)?;
     Ok((len, level))
 }
