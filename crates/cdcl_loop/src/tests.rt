@@ -318,7 +318,7 @@ fn learn_next(engine: &mut Engine) -> Result<(usize, u64), AllocError>
     }
     let (clause, _hints, level) = engine.learn(id)?;
     let len = clause.len();
-    if engine.clause(ClauseId { pos: 9, part: 0 }).is_some() {
+    if let Some(_) = engine.clause(ClauseId { pos: 9, part: 0 }) {
         return Err(AllocError);
     }
     engine.keep(clause, level, 9)?;
