@@ -96,7 +96,8 @@ impl Engine {
         }
     }
 
-    /// Decides the given literals that are open, in order; gives what contradicts them.
+    /// Decides the given literals that are open, the last first; gives what contradicts them. What was assumed or asserted last is
+    /// given last: where it is refuted, that is found before all that came earlier is set.
     pub fn assume(&mut self) -> Result<Option<Clash>, AllocError>
         requires engine { IsEngine self.old }
         requires propagated { IsPropagated self.old.watches self.old.trail }
@@ -115,8 +116,9 @@ impl Engine {
         if self.base < self.trail.level() {
             return Ok(None);
         }
-        'literals: for i in 0..self.given.len() {
-            let literal = self.given[i];
+        let count = self.given.len();
+        'literals: for i in 0..count {
+            let literal = self.given[count - 1 - i];
             if let Some(clash) = self.assume_one(literal)? {
                 return Ok(Some(clash));
             }

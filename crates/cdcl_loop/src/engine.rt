@@ -18,6 +18,7 @@ use crate::effort::Effort;
 use cdcl_core::{Trail, Watches};
 use cnf_base::{Clause, ClauseId, Lit};
 use std::alloc::{AllocError, Global};
+use variable_list::VariableList;
 
 /// Clauses over a trail, with the choices of a search under given literals.
 #[derive(Drop)]
@@ -67,6 +68,13 @@ impl Engine {
         self.choices.reserve(variable)?;
         self.agenda.add(variable)?;
         Ok(())
+    }
+
+    /// The variables that are listed.
+    pub fn variables(&self) -> &VariableList
+        ensures { result.now ≡ self.now.agenda.list }
+    {
+        &self.agenda.list
     }
 
     /// How many variables are listed.

@@ -4,7 +4,7 @@ ghost use Rattle.std.specs.Prelude.{◌≡◌, List, IfOk};
 ghost use Rattle.cnf_base.specs.Literals.{Literal};
 ghost use Rattle.cnf_base.specs.Clauses.{lit_true};
 ghost use Rattle.proof_log.specs.declared.entry.Entry.{Entry};
-ghost use Rattle.cube_search.specs.Running.{IsResting, valuation_of};
+ghost use Rattle.cube_search.specs.Running.{IsResting, valuation_of, variables_in};
 
 use crate::keeper::Keeper;
 use cdcl_core::{Trail, Watches};
@@ -57,6 +57,13 @@ impl Search {
             seen: 0,
             diary: Keeper::new(alloc, 0),
         })
+    }
+
+    /// The variables that it has: those of the clauses at its opening positions.
+    pub fn variables(&self) -> &VariableList
+        ensures { result.now ≡ variables_in self.now }
+    {
+        self.engine.variables()
     }
 
     /// Whether the literal is true, where each variable that has no value is false.

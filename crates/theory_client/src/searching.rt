@@ -184,7 +184,7 @@ fn ends_on<B: LemmaBoard>(
 {
     let positions = posed.positions.as_slice();
     let mut search = begun(alloc, &*board, positions, from)?;
-    let mut theory = Theory::new(alloc, &*board, terms, roots, positions, next)?;
+    let mut theory = Theory::new(alloc, &*board, terms, &search, roots, next)?;
     let given = posed.given.as_slice();
     run_twice(
         alloc,

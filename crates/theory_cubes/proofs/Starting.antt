@@ -64,16 +64,18 @@ pub searching_begun : (nodes : List Node) (from next : ℕ) (k : TheoryCheck) (s
     → IsTermList nodes → IsLog nodes b.log.entries → next ≡ (state_of nodes b.log.entries).next → from ≡ suc (length b.log.entries)
     → IsProblem (problem nodes from k) b.log.entries → AreApart nodes b.log.entries k.live.now k.positions.now
     → IsSearch s nodes b.log.entries → s.opening.items ≡ k.positions.now → s.from ≡ from
-    → IsTheory nodes b.log.entries k.positions.now t → t.live.items ≡ k.live.now → AreListed nodes b.log.entries t.variables t.reached k.positions.now → t.next ≡ next
+    → IsTheory nodes b.log.entries s.opening.items t → t.live.items ≡ k.live.now → AreListed nodes b.log.entries t.variables t.reached s.opening.items → t.next ≡ next
     → IsSearching (problem nodes from k) s t b
 searching_begun nodes from next k s t b all stands count end problem_is apart search opening begins theory live listed same = record {
   search = search;
-  theory = subst (λ (ps : List ℕ). IsTheory nodes b.log.entries ps t) (sym opening) theory;
+  theory = theory;
   apart =
       subst (λ (x : ℕ). IsApart nodes b.log.entries t.variables x s.opening.items s.from) (sym same)
       (subst (λ (ps : List ℕ). IsApart nodes b.log.entries t.variables next ps s.from) (sym opening)
       (subst (λ (x : ℕ). IsApart nodes b.log.entries t.variables next k.positions.now x) (sym begins)
-      (begins_apart nodes b.log.entries k.live.now k.positions.now t theory live listed next from all stands count end apart)));
+      (begins_apart nodes b.log.entries k.live.now k.positions.now t
+      (subst (λ (ps : List ℕ). IsTheory nodes b.log.entries ps t) opening theory) live
+      (subst (λ (ps : List ℕ). AreListed nodes b.log.entries t.variables t.reached ps) opening listed) next from all stands count end apart)));
   live = live;
   longer = longer_same k.positions.now s.opening.items opening;
   from = begins;

@@ -72,7 +72,7 @@ fn begun(
     let _count = terms.len();
     let _stands = board.bits();
     search.retarget(board, check.positions, from)?;
-    let theory = Theory::new(alloc, board, terms, check.live, check.positions, next)?;
+    let theory = Theory::new(alloc, board, terms, search, check.live, next)?;
     Ok(theory)
 }
 

@@ -52,12 +52,6 @@ pub record AreEnough (nodes : List Node) (log : List Entry) (live positions : Li
 
 -- ---- variables
 
--- the variables of more clauses are listed behind the others: those of these positions
-pub record IsShowing (rows : List (List (List Literal))) (old new positions : List ℕ) : Type 0 where
-  pub longer : IsLonger old new
-  pub only : (x : ℕ) → Contains new x → Contains old x ⊎ Occurs rows positions x
-  pub shown : (id : ClauseId) (c : List Literal) → Contains positions id.pos → clause_at rows id ≡ Some c → AreAmong new c
-
 -- the variable is one of the bits of these terms
 abbrev pub IsOfBits : (ℕ → Option (List Literal)) → List ℕ → ℕ → Type 0
 IsOfBits bits terms x = (t : ℕ) × (row : List Literal) × (l : Literal) × Contains terms t × (bits t ≡ Some row) × Contains row l × (l.variable ≡ x)

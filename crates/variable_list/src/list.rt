@@ -1,6 +1,6 @@
 //! Variables in an order.
 
-ghost use Rattle.std.specs.Prelude.{◌≡◌, ◌<◌, ◌^◌, [], ◌∷◌, ◌++◌, MatchBool, MatchOption, OnOk, OnErr, Some, All, Contains, length, slice_get, take};
+ghost use Rattle.std.specs.Prelude.{◌≡◌, ◌<◌, ◌^◌, [], ◌∷◌, ◌++◌, MatchBool, MatchOption, IfOk, OnOk, OnErr, Some, All, Contains, length, slice_get, take};
 ghost use Rattle.variable_list.specs.Variables.{IsVariable, IsOnce, IsListed, Keeps};
 
 use std::alloc::{AllocError, Global};
@@ -56,6 +56,15 @@ impl VariableList {
         ensures once { IsOnce self.now }
     {
         self.variables.as_slice()
+    }
+
+    /// The same variables in the same order, in memory of its own.
+    pub fn copy(&self, alloc: Global) -> Result<VariableList, AllocError>
+        ensures { IfOk result (λ copied. copied ≡ self.now) }
+    {
+        let places = Vec::from_slice(alloc, self.places.as_slice())?;
+        let variables = Vec::from_slice(alloc, self.variables.as_slice())?;
+        Ok(VariableList { places, variables })
     }
 
     /// Whether the variable is listed; takes no memory.
