@@ -1,7 +1,7 @@
-// What a check comes to: the search of its cubes, first by bits alone, and then with lemmas on functions and arrays (R. Brummayer and
+// What a check comes to: the search of its cubes, by bits alone or with lemmas on functions and arrays (R. Brummayer and
 // A. Biere, "Lemmas on Demand for the Extensional Theory of Arrays", 2009).
 
-ghost use Rattle.std.specs.Prelude.{◌≡◌, ◌<◌, List, IfOk, OnOk, length};
+ghost use Rattle.std.specs.Prelude.{◌≡◌, ◌<◌, true, List, IfOk, OnOk, length};
 ghost use Rattle.smt_terms.specs.declared.node.Node.{Node};
 ghost use Rattle.proof_log.specs.Stored.{Stands};
 ghost use Rattle.proof_log.specs.Logs.{state_of};
@@ -31,7 +31,7 @@ use std::sync::Wait;
 use std::thread::Threads;
 use term_reach::Reached;
 use theory_cubes::{Outcome as Interpreted, TheoryCheck};
-use word_models::word_model;
+use word_models::{has_other_leaf, word_model};
 use written_models::written_model;
 
 /// The cubes of a check: those of the variables by which the limits split it.
@@ -135,6 +135,17 @@ fn settle(
     }
 }
 
+// Whether a check goes to lemmas at once: one worker has its search from an earlier check, and a function or an array is reached. A
+// search by bits alone would find values that the search with lemmas has to find once more.
+fn may_walk(state: &State, workspace: &Workspace, steps: &[Pos], workers: u32) -> bool
+    requires kept { IsKept state.now workspace.now }
+    ensures { result ≡ true → 0 < length workspace.now.searches.items }
+{
+    workers == 1
+        && !workspace.searches.is_empty()
+        && has_other_leaf(state.terms(), &workspace.log, steps)
+}
+
 /// Searches the cubes of a check under the selectors of the live assertions and the bits of the assumptions, over these steps,
 /// and gives the record that shows what was found.
 pub(crate) fn conclude<R: Threads + Wait + Sync, G: Gate + Sync>(
@@ -166,6 +177,9 @@ pub(crate) fn conclude<R: Threads + Wait + Sync, G: Gate + Sync>(
             budget: limits.budget,
         },
     };
+    if may_walk(state, workspace, steps, settings.workers) {
+        return interpret(alloc, state, workspace, 0, &asked, limits);
+    }
     let (outcome, by) = search_cubes(rt, alloc, state.terms(), workspace, &asked, gate)?;
     match outcome {
         Outcome::Unsat(at) => Ok(Record::Unsat(at)),

@@ -1,4 +1,5 @@
 pub mod Rows
 pub mod Constants
 pub mod Leaves
+pub mod Others
 pub mod Found
