@@ -103,7 +103,7 @@ assumed_more w t u given i l lt is h kept made m k =
     let behind : length given - (i + 1) + 1 ≡ length given - i = omega (arith, lt) in
     let here : l ≡ get_or given (length given - (i + 1)) l = is ∙ ap (λ n. get_or given n l) at in
     let split : drop (length given - (i + 1)) given ≡ l ∷ drop (length given - i) given =
-        drop_at given (length given - (i + 1)) l (omega (arith, lt)) here ∙ ap (λ n. l ∷ drop n given) behind in
+    drop_at given (length given - (i + 1)) l (omega (arith, lt)) here ∙ ap (λ n. l ∷ drop n given) behind in
     ⊎_elim
     (λ first. subst (IsTrueBy (literals_of u) (level_of u)) (Contains-one l m first) made)
     (λ old. kept m (h.all m old))

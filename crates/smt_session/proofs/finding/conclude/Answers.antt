@@ -25,6 +25,19 @@ search_cubes-requires-clause-problem g c κs within =
     rw c.terms.ensures.terms
     (is_problem c.args.state.now c.args.workspace.now.log c.requires.kept.session enough.reached c.args.steps.now enough.opening c.in_ok-tree.tree c.args.given.now c.limits-limits.result.budget c.in_ok-tree.ensures.rise c.requires.given)
 
+pub interpret-requires-clause-variables : goal.interpret-requires-clause-variables
+interpret-requires-clause-variables g c = c.in_ok-tree.ensures.variables
+
+pub interpret-requires-clause-rise : goal.interpret-requires-clause-rise
+interpret-requires-clause-rise g c = c.in_ok-tree.ensures.rise
+
+pub returns-then-may_walk-clause-checked : goal.returns-then-may_walk-clause-checked
+returns-then-may_walk-clause-checked g c =
+    let s = c.args.state.now in
+    let old = c.args.workspace.now.log in
+    let new = c.interpret.new.workspace.log in
+    IfOk-weaker c.interpret.result _ _ (λ r h. subst (λ limits. IsConcluded limits s old new r) c.limits-limits.ensures h) c.interpret.ensures.checked
+
 pub returns-in-Unsat-clause-checked : goal.returns-in-Unsat-clause-checked
 returns-in-Unsat-clause-checked g c =
     let old = c.args.workspace.now.log in
