@@ -4,8 +4,8 @@
 //! rules of rewriting, and encodes what that needs; one worker or several search its cubes by bits alone, and what the proof file
 //! needs for its record is written before it is answered. Where each cube is closed, the clauses that close them are
 //! joined to a refutation; where the budget was spent on one and no other gave a model, the answer is `unknown`, with the diary of
-//! the lowest such cube as record. Values of the bits are a model where no function and no array is reached; else the search that
-//! found them goes on with lemmas. The searches of the workers are kept from check to check, and go over to what the next one
+//! the lowest such cube as record. Values of the bits are a model where no function and no array is reached; else a search goes on
+//! with lemmas, at once where there is one worker. The searches of the workers are kept from check to check, and go over to what the next one
 //! reaches. A model and the values of terms are printed from the record of the last check, and so are the names of a core and the
 //! assumptions that a refutation rests on.
 //! The terms whose values are asked for are forgotten once they are printed. The contract of [`session::Session::command`]
