@@ -71,15 +71,15 @@ CHANGES = [
     # the clause that is put
     (14, 1, "c 2 5 0 5.2 3.2", "c:"),
     (14, 1, "c 2 -2 0", "a complementary pair"),
-    (14, 1, "c 2 5 4 6 0 5.2 3.2", "a literal of no hint"),
-    (14, 1, "c 2 5 4 0 0.0 5.2 3.2", "a hint of no use"),
+    (14, 1, "c 2 4 5 6 0 5.2 3.2", "a literal of no hint"),
+    (14, 1, "c 2 4 5 0 0.0 5.2 3.2", "a hint of no use"),
     (14, 1, "c -4 -2 0 3.0", "a subset"),
     (14, 1, "c 4 3 2 0 3.2", "a subset"),
     # a second chain, whose hint is the first
-    (14, 3, "c 2 5 4 0 5.2 3.2|c 2 5 -8 0 9.0 13.0|unknown 0 13 1|+ 14", "a hint is not held"),
-    (14, 3, "c 2 5 4 0 5.2 3.2|c 2 5 -8 0 9.0 13.0|unknown 0 13 2|= 13|+ 14", "accepted"),
-    (14, 3, "c 2 5 4 0 5.2 3.2|c 2 5 -8 0 9.0 13.0|unknown 0 13 2|= 14|+ 13", "accepted"),
-    (14, 3, "c 2 5 4 0 5.2 3.2|c 2 5 -8 0 9.0 13.0|unknown 0 14 1|+ 14", "a hint is not held"),
+    (14, 3, "c 2 4 5 0 5.2 3.2|c 2 5 -8 0 9.0 13.0|unknown 0 13 1|+ 14", "a hint is not held"),
+    (14, 3, "c 2 4 5 0 5.2 3.2|c 2 5 -8 0 9.0 13.0|unknown 0 13 2|= 13|+ 14", "accepted"),
+    (14, 3, "c 2 4 5 0 5.2 3.2|c 2 5 -8 0 9.0 13.0|unknown 0 13 2|= 14|+ 13", "accepted"),
+    (14, 3, "c 2 4 5 0 5.2 3.2|c 2 5 -8 0 9.0 13.0|unknown 0 14 1|+ 14", "a hint is not held"),
 ]
 
 # So many first symbols, and so many last ones. A row of DROPS has the lines behind the 2000th put.
