@@ -1,5 +1,5 @@
 -- Literals that are decided.
-use Rattle.std.proofs.Common.{◌≡◌, ℕ, ◌+◌, ◌<◌, List, [], ◌∷◌, ◌++◌, length, take, Option, Some, None, refl, ap, ◌∙◌, subst, ⊎_elim, arith, get_or}
+use Rattle.std.proofs.Common.{◌≡◌, ℕ, ◌+◌, ◌-◌, ◌<◌, ◌≤◌, List, [], ◌∷◌, ◌++◌, length, drop, Option, Some, None, refl, ap, ◌∙◌, subst, inl, inr, arith, get_or}
 use Rattle.std.specs.Prelude.{Contains, MatchOption, slice_get}
 use Rattle.cnf_base.specs.Literals.{Literal}
 use Rattle.cdcl_core.specs.declared.trail.Trail.{Trail}
@@ -8,7 +8,8 @@ use Rattle.cdcl_core.specs.Levels.{Row, IsTrueBy, IsOpen, IsExtended}
 use Rattle.cdcl_core.specs.Search.{literals_of, level_of}
 use Rattle.cdcl_core.specs.State.{IsSettled}
 use Rattle.cdcl_learn.specs.Puts.{DecidesOnly}
-use Rattle.cdcl_learn.proofs.Lists.{front_cases}
+use Rattle.cdcl_learn.proofs.Lists.{member_cases}
+use Rattle.cnf_base.proofs.Rows.{drop_at}
 use Rattle.cdcl_loop.specs.declared.agenda.Agenda.{Agenda}
 use Rattle.cdcl_loop.specs.declared.engine.Engine.{Engine}
 use Rattle.cdcl_loop.specs.Agendas.{IsScanned}
@@ -81,9 +82,16 @@ module _ (s : Engine) (w1 w2 : Watches) (t1 t2 t3 : Trail) (l : Literal) (h : Is
 pub open_same : (t u : Trail) (l : Literal) → literals_of u ≡ literals_of t → level_of u ≡ level_of t → IsOpen (literals_of t) (level_of t) l → IsOpen (literals_of u) (level_of u) l
 open_same t u l e f h = rw (e, f) h
 
--- the given literals so far, and one more
-pub assumed_more : (w : Watches) (t u : Trail) (x : Watches) (given : List Literal) (i : ℕ) (l : Literal) → i < length given → l ≡ get_or given i l → IsAssumed w t (take i given) → ((m : Literal) → IsTrueBy (literals_of t) (level_of t) m → IsTrueBy (literals_of u) (level_of u) m) → IsTrueBy (literals_of u) (level_of u) l → (m : Literal) → Contains (take (i + 1) given) m → IsTrueBy (literals_of u) (level_of u) m
-assumed_more w t u x given i l lt is h kept made m k = ⊎_elim (λ old. kept m (h.all m old)) (λ e. subst (IsTrueBy (literals_of u) (level_of u)) (is ∙ e) made) (front_cases given i l m lt k)
+-- the last given literals, and one more before them
+pub assumed_more : (w : Watches) (t u : Trail) (given : List Literal) (i : ℕ) (l : Literal) → 0 < i → i ≤ length given → l ≡ get_or given (i - 1) l → IsAssumed w t (drop i given) → ((m : Literal) → IsTrueBy (literals_of t) (level_of t) m → IsTrueBy (literals_of u) (level_of u) m) → IsTrueBy (literals_of u) (level_of u) l → (m : Literal) → Contains (drop (i - 1) given) m → IsTrueBy (literals_of u) (level_of u) m
+assumed_more w t u given i l pos within is h kept made m k =
+    let here : i - 1 < length given = omega (arith, pos, within) in
+    let next : i - 1 + 1 ≡ i = omega (arith, pos) in
+    let row : drop (i - 1) given ≡ l ∷ drop i given = drop_at given (i - 1) l here is ∙ ap (λ n. l ∷ drop n given) next in
+    elim (member_cases l m (drop i given) (subst (λ xs. Contains xs m) row k)) [
+      | inl e ↦ subst (IsTrueBy (literals_of u) (level_of u)) e made
+      | inr old ↦ kept m (h.all m old)
+    ]
 
 -- ---- the loop over the given literals
 

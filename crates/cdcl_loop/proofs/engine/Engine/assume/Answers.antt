@@ -1,5 +1,8 @@
-use Rattle.std.proofs.Common.{length, get_or, refl, ap, ◌∙◌, arith}
+use Rattle.std.proofs.Common.{◌≡◌, ◌-◌, length, drop, get_or, refl, ap, ◌∙◌, subst, arith}
+use Rattle.std.specs.Prelude.{Contains}
+use Rattle.std.proofs.Math.Seq.{drop-length}
 use Rattle.cdcl_core.specs.Search.{literals_of, level_of}
+use Rattle.cdcl_loop.specs.Engines.{IsAssumed}
 use Rattle.cdcl_loop.proofs.Courses.{true_later}
 use Rattle.cdcl_loop.proofs.Assuming.{assumed_more, none_of}
 use Rattle.cdcl_loop.proofs.Trails.{store_then}
@@ -23,7 +26,7 @@ literals-init c = record {
   engine = c.requires.engine;
   course = c.requires.course;
   at_base = omega (arith, c.requires.course.0.lower, c.if-self-level.false, c.level.ensures);
-  assumed = record { propagated = c.requires.propagated; rest = c.requires.rest; all = λ l k. absurd (Contains-nil l k) };
+  assumed = record { propagated = c.requires.propagated; rest = c.requires.rest; all = λ l k. absurd (Contains-nil l (subst (λ xs. Contains xs l) (ap (λ n. drop n c.args.self.now.given.items) (let size : c.len-i.result ≡ length c.args.self.now.given.items = omega (arith, c.len-i.ensures) in size) ∙ drop-length c.args.self.now.given.items) k)) };
 }
 
 pub literals-preserved : goal.literals-preserved
@@ -44,7 +47,7 @@ literals-preserved c =
       assumed = record {
         propagated = done.1;
         rest = done.2;
-        all = assumed_more b.watches b.trail n.trail n.watches s.given.items c.literals.i c.index-literal.result.now (omega (arith, ap length given, c.literals-test.true)) (c.index-literal.ensures ∙ ap (λ ls. get_or ls c.literals.i c.index-literal.result.now) given) c.literals.invariant.assumed done.0.kept done.0.made;
+        all = assumed_more b.watches b.trail n.trail s.given.items c.literals.i c.index-literal.result.now c.literals-test.true (omega (arith, c.literals.auto.i, c.len-i.ensures)) (c.index-literal.ensures ∙ ap (λ ls. get_or ls (c.literals.i - 1) c.index-literal.result.now) given) c.literals.invariant.assumed done.0.kept done.0.made;
       };
     }
 
@@ -59,3 +62,8 @@ returns-in-Some-clause-work c = worked_then c.args.self.now c.literals.self c.as
 
 pub returns-then-self-level-clause-work : goal.returns-then-self-level-clause-work
 returns-then-self-level-clause-work c = worked_none c.args.self.now
+
+pub returns-clause-clash : goal.returns-clause-clash
+returns-clause-clash c =
+    let end : c.literals.i ≡ 0 = omega (arith, c.literals-test.false) in
+    subst (λ n. IsAssumed c.literals.self.watches c.literals.self.trail (drop n c.args.self.now.given.items)) end c.literals.invariant.assumed
