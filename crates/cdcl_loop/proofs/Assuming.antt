@@ -1,17 +1,15 @@
 -- Literals that are decided.
-use Rattle.std.proofs.Common.{◌≡◌, ℕ, ◌+◌, ◌-◌, ◌<◌, ◌≤◌, List, [], ◌∷◌, ◌++◌, length, drop, Option, Some, None, refl, ap, ◌∙◌, subst, ⊎_elim, arith, get_or}
+use Rattle.std.proofs.Common.{◌≡◌, ℕ, ◌+◌, ◌-◌, ◌<◌, ◌≤◌, List, [], ◌∷◌, ◌++◌, length, drop, Option, Some, None, refl, ap, ◌∙◌, subst, inl, inr, arith, get_or}
 use Rattle.std.specs.Prelude.{Contains, MatchOption, slice_get}
-use Rattle.std.proofs.Math.Seq.{drop-length}
-use Rattle.std.proofs.lemmas.List.Elements.{Contains-append_cases}
 use Rattle.cnf_base.specs.Literals.{Literal}
-use Rattle.cnf_base.proofs.Lists.{Contains-nil, Contains-one}
-use Rattle.cnf_base.proofs.Rows.{drop_at}
 use Rattle.cdcl_core.specs.declared.trail.Trail.{Trail}
 use Rattle.cdcl_core.specs.declared.watches.Watches.{Watches}
 use Rattle.cdcl_core.specs.Levels.{Row, IsTrueBy, IsOpen, IsExtended}
 use Rattle.cdcl_core.specs.Search.{literals_of, level_of}
 use Rattle.cdcl_core.specs.State.{IsSettled}
 use Rattle.cdcl_learn.specs.Puts.{DecidesOnly}
+use Rattle.cdcl_learn.proofs.Lists.{member_cases}
+use Rattle.cnf_base.proofs.Rows.{drop_at}
 use Rattle.cdcl_loop.specs.declared.agenda.Agenda.{Agenda}
 use Rattle.cdcl_loop.specs.declared.engine.Engine.{Engine}
 use Rattle.cdcl_loop.specs.Agendas.{IsScanned}
@@ -84,30 +82,16 @@ module _ (s : Engine) (w1 w2 : Watches) (t1 t2 t3 : Trail) (l : Literal) (h : Is
 pub open_same : (t u : Trail) (l : Literal) → literals_of u ≡ literals_of t → level_of u ≡ level_of t → IsOpen (literals_of t) (level_of t) l → IsOpen (literals_of u) (level_of u) l
 open_same t u l e f h = rw (e, f) h
 
--- of the given literals none yet
-pub assumed_none : (given : List Literal) (l : Literal) → Contains (drop (length given - 0) given) l → ⊥
-assumed_none given l k =
-    let all : length given - 0 ≡ length given = omega arith in
-    Contains-nil l (subst (λ (ls : List Literal). Contains ls l) (ap (λ n. drop n given) all ∙ drop-length given) k)
-
--- all of them
-pub assumed_all : (w : Watches) (t : Trail) (given : List Literal) (i : ℕ) → length given ≤ i → IsAssumed w t (drop (length given - i) given) → IsAssumed w t given
-assumed_all w t given i le h =
-    let none : length given - i ≡ 0 = omega (arith, le) in
-    subst (IsAssumed w t) (ap (λ n. drop n given) none) h
-
--- the last of the given literals, and the one before them
-pub assumed_more : (w : Watches) (t u : Trail) (given : List Literal) (i : ℕ) (l : Literal) → i < length given → l ≡ get_or given (length given - 1 - i) l → IsAssumed w t (drop (length given - i) given) → ((m : Literal) → IsTrueBy (literals_of t) (level_of t) m → IsTrueBy (literals_of u) (level_of u) m) → IsTrueBy (literals_of u) (level_of u) l → (m : Literal) → Contains (drop (length given - (i + 1)) given) m → IsTrueBy (literals_of u) (level_of u) m
-assumed_more w t u given i l lt is h kept made m k =
-    let at : length given - 1 - i ≡ length given - (i + 1) = omega arith in
-    let behind : length given - (i + 1) + 1 ≡ length given - i = omega (arith, lt) in
-    let here : l ≡ get_or given (length given - (i + 1)) l = is ∙ ap (λ n. get_or given n l) at in
-    let split : drop (length given - (i + 1)) given ≡ l ∷ drop (length given - i) given =
-    drop_at given (length given - (i + 1)) l (omega (arith, lt)) here ∙ ap (λ n. l ∷ drop n given) behind in
-    ⊎_elim
-    (λ first. subst (IsTrueBy (literals_of u) (level_of u)) (Contains-one l m first) made)
-    (λ old. kept m (h.all m old))
-    (Contains-append_cases (l ∷ []) (drop (length given - i) given) m (subst (λ ls. Contains ls m) split k))
+-- the last given literals, and one more before them
+pub assumed_more : (w : Watches) (t u : Trail) (given : List Literal) (i : ℕ) (l : Literal) → 0 < i → i ≤ length given → l ≡ get_or given (i - 1) l → IsAssumed w t (drop i given) → ((m : Literal) → IsTrueBy (literals_of t) (level_of t) m → IsTrueBy (literals_of u) (level_of u) m) → IsTrueBy (literals_of u) (level_of u) l → (m : Literal) → Contains (drop (i - 1) given) m → IsTrueBy (literals_of u) (level_of u) m
+assumed_more w t u given i l pos within is h kept made m k =
+    let here : i - 1 < length given = omega (arith, pos, within) in
+    let next : i - 1 + 1 ≡ i = omega (arith, pos) in
+    let row : drop (i - 1) given ≡ l ∷ drop i given = drop_at given (i - 1) l here is ∙ ap (λ n. l ∷ drop n given) next in
+    elim (member_cases l m (drop i given) (subst (λ xs. Contains xs m) row k)) [
+      | inl e ↦ subst (IsTrueBy (literals_of u) (level_of u)) e made
+      | inr old ↦ kept m (h.all m old)
+    ]
 
 -- ---- the loop over the given literals
 

@@ -96,8 +96,9 @@ impl Engine {
         }
     }
 
-    /// Decides the given literals that are open, the last first; gives what contradicts them. What was assumed or asserted last is
-    /// given last: where it is refuted, that is found before all that came earlier is set.
+    /// Decides the given literals that are open, the last first; gives what contradicts them. The
+    /// last are the assumptions and the newest assertions: what these refute ends before the words
+    /// of all older ones are set.
     pub fn assume(&mut self) -> Result<Option<Clash>, AllocError>
         requires engine { IsEngine self.old }
         requires propagated { IsPropagated self.old.watches self.old.trail }
@@ -116,9 +117,8 @@ impl Engine {
         if self.base < self.trail.level() {
             return Ok(None);
         }
-        let count = self.given.len();
-        'literals: for i in 0..count {
-            let literal = self.given[count - 1 - i];
+        'literals: for i in (0..self.given.len()).rev() {
+            let literal = self.given[i];
             if let Some(clash) = self.assume_one(literal)? {
                 return Ok(Some(clash));
             }

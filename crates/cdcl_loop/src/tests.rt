@@ -152,20 +152,20 @@ fn is_closed(
     is_clause(alloc, closed.as_ref(), wanted)
 }
 
-// Clauses, given literals, and the clause that closes their search.
+// Clauses, given literals, of which the last is decided first, and the clause that closes their search.
 const CLOSED: [(&[&[i64]], &[i64], Option<&[i64]>); 8] = [
     // a conflict at level 0
     (&[&[1], &[-1]], &[], Some(&[])),
     (&[&[1, 2], &[1, -2], &[-1]], &[5], Some(&[])),
     (&[&[]], &[5], Some(&[])),
     // a held clause that is false
-    (&[&[-1, 2], &[-1, 3], &[-2, -3]], &[5, 1], Some(&[-1])),
+    (&[&[-1, 2], &[-1, 3], &[-2, -3]], &[1, 5], Some(&[-1])),
     // a given literal that is false
-    (&[&[-1, 2], &[-2, -7]], &[5, 1, 7], Some(&[-7, -1])),
-    (&[&[7]], &[5, -7], Some(&[7])),
-    (&[], &[5, 1, -1], Some(&[-1, 1])),
+    (&[&[-1, 2], &[-2, -7]], &[7, 1, 5], Some(&[-7, -1])),
+    (&[&[7]], &[-7, 5], Some(&[7])),
+    (&[], &[-1, 1, 5], Some(&[-1, 1])),
     // nothing
-    (&[&[-1, 2], &[-2, 7]], &[5, 1, 7], None),
+    (&[&[-1, 2], &[-2, 7]], &[7, 1, 5], None),
 ];
 
 #[test]
@@ -290,7 +290,7 @@ const COME: [(&[i64], u64, usize); 8] = [
 #[test]
 fn a_clause_from_elsewhere_goes_back_where_it_asks(rt: HostRuntime) -> Result<(), Fail> {
     for (numbers, level, count) in &COME {
-        let mut engine = begun(rt.alloc(), &[], &[1, 2, 3])?;
+        let mut engine = begun(rt.alloc(), &[], &[3, 2, 1])?;
         let told = admitted(&mut engine, numbers);
         drop(engine);
         assert_eq!(rt; told?, (*level, *level, *count));
@@ -399,7 +399,7 @@ fn a_reason_is_not_dropped(rt: HostRuntime) -> Result<(), Fail> {
         (1, 1, false),
         (0, 1, true),
     ];
-    let mut engine = begun(rt.alloc(), &[&[-1, 2], &[-2, -3, 4], &[5, 6]], &[1, 3])?;
+    let mut engine = begun(rt.alloc(), &[&[-1, 2], &[-2, -3, 4], &[5, 6]], &[3, 1])?;
     let other = match assume(&mut engine) {
         Ok(()) => Ok(first_other(&mut engine, &rows)),
         Err(error) => Err(error),

@@ -1,11 +1,14 @@
-use Rattle.std.proofs.Common.{◌≡◌, ◌-◌, length, get_or, refl, ap, ◌∙◌, arith}
-use Rattle.std.specs.Vec.{vec_len}
+use Rattle.std.proofs.Common.{◌≡◌, ◌-◌, length, drop, get_or, refl, ap, ◌∙◌, subst, arith}
+use Rattle.std.specs.Prelude.{Contains}
+use Rattle.std.proofs.Math.Seq.{drop-length}
 use Rattle.cdcl_core.specs.Search.{literals_of, level_of}
+use Rattle.cdcl_loop.specs.Engines.{IsAssumed}
 use Rattle.cdcl_loop.proofs.Courses.{true_later}
-use Rattle.cdcl_loop.proofs.Assuming.{assumed_none, assumed_all, assumed_more, none_of}
+use Rattle.cdcl_loop.proofs.Assuming.{assumed_more, none_of}
 use Rattle.cdcl_loop.proofs.Trails.{store_then}
 use Rattle.cdcl_loop.proofs.Working.{worked_none, worked_then}
 use Rattle.cdcl_loop.proofs.engine.Engine.assume.Goals as goal
+use Rattle.cnf_base.proofs.Lists.{Contains-nil}
 
 pub returns-then-self-level-clause-clash : goal.returns-then-self-level-clause-clash
 returns-then-self-level-clause-clash c = record {
@@ -23,7 +26,7 @@ literals-init c = record {
   engine = c.requires.engine;
   course = c.requires.course;
   at_base = omega (arith, c.requires.course.0.lower, c.if-self-level.false, c.level.ensures);
-  assumed = record { propagated = c.requires.propagated; rest = c.requires.rest; all = λ l k. absurd (assumed_none c.args.self.now.given.items l k) };
+  assumed = record { propagated = c.requires.propagated; rest = c.requires.rest; all = λ l k. absurd (Contains-nil l (subst (λ xs. Contains xs l) (ap (λ n. drop n c.args.self.now.given.items) (let size : c.len-i.result ≡ length c.args.self.now.given.items = omega (arith, c.len-i.ensures) in size) ∙ drop-length c.args.self.now.given.items) k)) };
 }
 
 pub literals-preserved : goal.literals-preserved
@@ -32,7 +35,6 @@ literals-preserved c =
     let b = c.literals.self in
     let n = c.assume_one.new.self in
     let given = ap (λ v. v.items) c.literals.invariant.given in
-    let count : vec_len s.given ≡ length s.given.items = omega arith in
     let done = none_of _ c.in_ok-clash.field-0 c.in_default.not-Some c.in_ok-clash.ensures.clash in
     record {
       given = c.assume_one.ensures.task.given ∙ c.literals.invariant.given;
@@ -45,7 +47,7 @@ literals-preserved c =
       assumed = record {
         propagated = done.1;
         rest = done.2;
-        all = assumed_more b.watches b.trail n.trail s.given.items c.literals.i c.index-literal.result.now (omega (arith, c.len-count.ensures, c.literals-test.true)) (c.index-literal.ensures ∙ ap (λ ls. get_or ls (c.len-count.result - 1 - c.literals.i) c.index-literal.result.now) given ∙ ap (λ k. get_or s.given.items (k - 1 - c.literals.i) c.index-literal.result.now) (c.len-count.ensures ∙ count)) c.literals.invariant.assumed done.0.kept done.0.made;
+        all = assumed_more b.watches b.trail n.trail s.given.items c.literals.i c.index-literal.result.now c.literals-test.true (omega (arith, c.literals.auto.i, c.len-i.ensures)) (c.index-literal.ensures ∙ ap (λ ls. get_or ls (c.literals.i - 1) c.index-literal.result.now) given) c.literals.invariant.assumed done.0.kept done.0.made;
       };
     }
 
@@ -63,5 +65,5 @@ returns-then-self-level-clause-work c = worked_none c.args.self.now
 
 pub returns-clause-clash : goal.returns-clause-clash
 returns-clause-clash c =
-    let count : vec_len c.args.self.now.given ≡ length c.args.self.now.given.items = omega arith in
-    assumed_all c.literals.self.watches c.literals.self.trail c.args.self.now.given.items c.literals.i (omega (arith, count, c.len-count.ensures, c.literals-test.false)) c.literals.invariant.assumed
+    let end : c.literals.i ≡ 0 = omega (arith, c.literals-test.false) in
+    subst (λ n. IsAssumed c.literals.self.watches c.literals.self.trail (drop n c.args.self.now.given.items)) end c.literals.invariant.assumed

@@ -1,4 +1,4 @@
-use Rattle.std.proofs.Common.{◌≡◌, ◌-◌, length, drop}
+use Rattle.std.proofs.Common.{◌≡◌, drop}
 use Rattle.cdcl_core.specs.Search.{level_of}
 use Rattle.cdcl_loop.specs.Engines.{IsEngine, IsOnCourse, IsSameStore, IsAssumed}
 use Rattle.cdcl_loop.specs.Efforts.{HasWorked}
@@ -13,5 +13,5 @@ invariant-literals l = record {
   engine : IsEngine l.self;
   course : IsOnCourse l.self;
   at_base : l.self.base ≡ level_of l.self.trail;
-  assumed : IsAssumed l.self.watches l.self.trail (drop (length l.fn.self.given.items - l.i) l.fn.self.given.items);
+  assumed : IsAssumed l.self.watches l.self.trail (drop l.i l.fn.self.given.items);
 }
