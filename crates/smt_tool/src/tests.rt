@@ -205,7 +205,7 @@ fn is_front_behind(
 const STREAMS: [(u8, u64, Status); 3] = [
     (0, 195, Status::ReadFault),
     (1, 10, Status::WriteFault),
-    (2, 10, Status::WriteFault),
+    (2, 6, Status::WriteFault),
 ];
 
 #[test]
