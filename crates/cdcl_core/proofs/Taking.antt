@@ -7,7 +7,7 @@ use Rattle.std.proofs.lemmas.List.Sums.{get_or-le-sum_by}
 use Rattle.std.proofs.lemmas.Bool.Decides.{eqb_tells}
 use Rattle.cdcl_core.specs.Chains.{times, first_of, rest_of}
 use Rattle.cdcl_core.specs.Lists.{Lists}
-use Rattle.cdcl_core.specs.State.{IsMoved, IsTakenOut}
+use Rattle.cdcl_core.specs.Taking.{IsMoved, IsTakenOut}
 use Rattle.cdcl_core.proofs.Counting.{same_or_not, times_cons, times_nil, taken_apart}
 
 -- ---- places that move

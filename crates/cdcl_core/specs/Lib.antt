@@ -8,4 +8,5 @@ pub mod Slots
 pub mod Stamps
 pub mod State
 pub mod Tables
+pub mod Taking
 pub mod Watched

@@ -124,21 +124,6 @@ pub record Holds (old new : Watches) (slot : ℕ) (k : Kind) (c : List Literal) 
 abbrev pub HoldsSome : Watches → Watches → ℕ → List Literal → Type 0
 HoldsSome old new slot c = (k : Kind) × (IsHeld k × Holds old new slot k c)
 
--- places were moved between list 0 and another one
-pub record IsMoved (old new : Lists) (list : ℕ) : Type 0 where
-  pub literals : new.literals ≡ old.literals
-  pub size : length new.lists ≡ length old.lists
-  pub both : (q : ℕ) → times q (slice_index_or new.lists 0 []) + times q (slice_index_or new.lists list []) ≡ times q (slice_index_or old.lists 0 []) + times q (slice_index_or old.lists list [])
-  pub others : (i : ℕ) → i ≢ 0 → i ≢ list → slice_index_or new.lists i [] ≡ slice_index_or old.lists i []
-
--- so were places other than this one, and this one stands in neither list
-pub record IsTakenOut (old new : Lists) (list place : ℕ) : Type 0 where
-  pub literals : new.literals ≡ old.literals
-  pub size : length new.lists ≡ length old.lists
-  pub gone : times place (slice_index_or new.lists 0 []) + times place (slice_index_or new.lists list []) ≡ 0
-  pub both : (q : ℕ) → q ≢ place → times q (slice_index_or new.lists 0 []) + times q (slice_index_or new.lists list []) ≡ times q (slice_index_or old.lists 0 []) + times q (slice_index_or old.lists list [])
-  pub others : (i : ℕ) → i ≢ 0 → i ≢ list → slice_index_or new.lists i [] ≡ slice_index_or old.lists i []
-
 -- the places of the slot stand in no list, and the others where they stood
 pub record IsCleared (old new : Lists) (slot : ℕ) : Type 0 where
   pub literals : new.literals ≡ old.literals

@@ -8,7 +8,8 @@ ghost use Rattle.cdcl_core.specs.Levels.{IsReason};
 ghost use Rattle.cdcl_core.specs.Search.{literals_of, clause_of, held_of};
 ghost use Rattle.cdcl_core.specs.declared.watches.Kind.TheVariants.{Free, Watched};
 ghost use Rattle.cdcl_core.specs.Watched.{kind_at};
-ghost use Rattle.cdcl_core.specs.State.{IsConsistent, KeepsPlaces, IsSettled, IsPropagated, IsPlaced, IsMoved, IsTakenOut, IsCleared, HasForced};
+ghost use Rattle.cdcl_core.specs.Taking.{IsMoved, IsTakenOut};
+ghost use Rattle.cdcl_core.specs.State.{IsConsistent, KeepsPlaces, IsSettled, IsPropagated, IsPlaced, IsCleared, HasForced};
 
 use crate::lists::WatchLists;
 use crate::trail::Trail;

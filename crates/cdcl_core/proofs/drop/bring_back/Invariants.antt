@@ -1,5 +1,5 @@
 use Rattle.std.proofs.Common.{length, get_or, []}
-use Rattle.cdcl_core.specs.State.{IsMoved}
+use Rattle.cdcl_core.specs.Taking.{IsMoved}
 use Rattle.cdcl_core.proofs.drop.bring_back.Given as goal
 
 abbrev pub invariant-places : goal.invariant-places

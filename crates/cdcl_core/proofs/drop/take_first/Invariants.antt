@@ -1,6 +1,6 @@
 use Rattle.std.proofs.Common.{◌≡◌, length, get_or, []}
 use Rattle.cdcl_core.specs.Chains.{times}
-use Rattle.cdcl_core.specs.State.{IsMoved}
+use Rattle.cdcl_core.specs.Taking.{IsMoved}
 use Rattle.cdcl_core.proofs.drop.take_first.Given as goal
 
 abbrev pub invariant-places : goal.invariant-places
