@@ -10,14 +10,14 @@ use Rattle.std.specs.Option.{option_map}
 use Rattle.std.specs.Fmt.{decimal}
 use Rattle.smt_values.specs.declared.value.Value.{Value as Kept}
 use Rattle.smt_values.specs.declared.value.Value.TheVariants as kept
-use Rattle.proof_text.specs.Lines.{spaced, joined, with_number, head_words, scalar_text, value_words, value_text, line_text, digit_of}
+use Rattle.proof_text.specs.Lines.{spaced, joined, with_number, head_words, scalar_text, value_words, value_text, format_text, line_text, digit_of}
 use Rattle.proof_text.specs.Records.{binary, written_value}
 use Rattle.proof_text.specs.declared.list.WrittenScalar.{WrittenScalar}
 use Rattle.proof_text.specs.declared.line.WrittenValue.{WrittenValue}
 use Rattle.proof_text.specs.declared.line.WrittenValue.TheVariants as value
 use Rattle.proof_text.specs.declared.line.Head.{Head}
 use Rattle.proof_text.specs.declared.line.Head.TheVariants.{Plain, Word, Extract, ZeroExtend, SignExtend, RotateLeft, RotateRight, Repeat, Apply, ConstantArray}
-use Rattle.proof_text.specs.declared.line.Format.TheVariants.{One}
+use Rattle.proof_text.specs.declared.line.Format.{Format}
 use Rattle.proof_text.specs.declared.line.Line.TheVariants.{Term, Header, Value}
 
 -- the highest digit of so many
@@ -57,12 +57,12 @@ kept_front old mid new more e h =
 pub number_behind : (out mid new w : List ℕ) (n : ℕ) → mid ≡ out ++ w → new ≡ mid ++ 32 ∷ decimal n → new ≡ out ++ joined (with_number w n)
 number_behind out mid new w n e f = f ∙ rw (e, append-nil (decimal n)) (append_assoc out w (32 ∷ decimal n))
 
-regroup : (out a b c d e : List ℕ) → ((out ++ (a ++ b)) ++ (c ++ d)) ++ e ≡ out ++ (a ++ ((b ++ (c ++ d)) ++ e))
-regroup out a b c d e = simp append_assoc
+regroup : (out a f b c d e g : List ℕ) → ((((out ++ a) ++ f) ++ (b ++ c)) ++ (d ++ e)) ++ g ≡ out ++ (a ++ ((f ++ (b ++ (c ++ (d ++ e)))) ++ g))
+regroup out a f b c d e g = simp append_assoc
 
-pub header_words : (out a b new : List ℕ) (cubes budget : ℕ) → a ≡ out ++ joined (with_number (codes "smt_proof 1 cubes") cubes) → b ≡ a ++ joined (with_number (codes " budget") budget) → new ≡ b ++ 10 ∷ [] → new ≡ out ++ line_text (Header One cubes budget)
-header_words out a b new cubes budget e f g =
-    g ∙ rw (f, e, append-nil (decimal cubes), append-nil (decimal budget)) (regroup out (codes "smt_proof 1 cubes") (32 ∷ decimal cubes) (codes " budget") (32 ∷ decimal budget) (10 ∷ []))
+pub header_words : (format : Format) (out a b c d new : List ℕ) (cubes budget : ℕ) → a ≡ out ++ codes "smt_proof " → b ≡ a ++ format_text format → c ≡ b ++ joined (with_number (codes " cubes") cubes) → d ≡ c ++ joined (with_number (codes " budget") budget) → new ≡ d ++ 10 ∷ [] → new ≡ out ++ line_text (Header format cubes budget)
+header_words format out a b c d new cubes budget e f g h i =
+    i ∙ rw (h, g, f, e, append-nil (decimal cubes), append-nil (decimal budget)) (regroup out (codes "smt_proof ") (format_text format) (codes " cubes") (32 ∷ decimal cubes) (codes " budget") (32 ∷ decimal budget) (10 ∷ []))
 
 pub chain_words : (out a b c d new : List ℕ) (ls hs : List (List ℕ)) → a ≡ out ++ 99 ∷ [] → b ≡ a ++ spaced ls → c ≡ b ++ 32 ∷ 48 ∷ [] → d ≡ c ++ spaced hs → new ≡ d ++ 10 ∷ [] → new ≡ out ++ (99 ∷ (spaced (ls ++ (48 ∷ []) ∷ hs) ++ 10 ∷ []))
 chain_words out a b c d new ls hs e f g h i = i ∙ rw (h, g, f, e, flat_map-append (λ w. 32 ∷ w) ls ((48 ∷ []) ∷ hs)) (simp append_assoc)

@@ -10,6 +10,7 @@ use proof_log::diary::{Diary, DiaryLine, DiaryLines};
 use proof_log::entry::{Entry, Hints, RuleUse};
 use proof_text::entry::write_entry;
 use proof_text::header::write_header;
+use proof_text::line::Format;
 use proof_text::record::{DeclaredValues, Record, write_record};
 use smt_terms::list::Arguments;
 use smt_terms::node::{Node, Op};
@@ -49,7 +50,7 @@ fn chain(alloc: Global) -> Result<Entry, AllocError>
 
 /// Prints a refutation of the assertion of false, and tells how long its first line is.
 fn print_refutation(alloc: Global, out: &mut Text) -> Result<usize, AllocError> {
-    write_header(0, 100000, out)?;
+    write_header(Format::One, 0, 100000, out)?;
     let first = out.len();
     print_entry(Entry::Encode(0), out)?;
     print_entry(Entry::Selector(0, 0), out)?;
