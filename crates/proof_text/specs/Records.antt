@@ -1,5 +1,5 @@
 -- Which lines a record is: the end of a check.
-use Rattle.std.specs.Prelude.{ℕ, suc, zero, ◌<◌, ◌/◌, ◌%◌, ◌^◌, ◌==◌, Bool, List, [], ◌∷◌, ◌++◌, map, length, Option, Some, IsSome, option_to_list}
+use Rattle.std.specs.Prelude.{ℕ, suc, zero, ◌<◌, ◌/◌, ◌%◌, ◌^◌, ◌==◌, Bool, List, [], ◌∷◌, ◌++◌, map, length, Option, Some, None, IsSome, option_to_list}
 use Rattle.std.specs.List.{flat_map, AllByRecursion}
 use Rattle.smt_words.specs.Words.{WordValue}
 use Rattle.smt_terms.specs.declared.scalar.Scalar.{Scalar}
