@@ -190,8 +190,8 @@ def diary_taken_again(n):
 FAMILIES = {
     "long_clause": Family(long_clause, 50_000),
     "many_long_clauses": Family(many_long_clauses, 500),
-    "hints_to_one_clause": Family(hints_to_one_clause, 5_000),
-    "one_literal_again": Family(one_literal_again, 5_000),
+    "hints_to_one_clause": Family(hints_to_one_clause, 5_000, forced=2.0),
+    "one_literal_again": Family(one_literal_again, 5_000, forced=2.0),
     "long_chain": Family(long_chain, 50_000),
     "clause_again": Family(clause_again, 100_000),
     "deleted_clauses": Family(deleted_clauses, 50_000),
