@@ -4,6 +4,7 @@ mod Sets
 mod Using
 mod Keys
 mod Holding
+mod Each
 pub mod Starting
 mod Puts
 pub mod Reading

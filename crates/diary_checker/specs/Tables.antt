@@ -1,5 +1,5 @@
 -- Tables by literal and by position.
-use Rattle.std.specs.Prelude.{◌≡◌, ℕ, ◌-◌, ◌<◌, ◌≤◌, ◌↔◌, Bool, false, List, [], Option, Some, None, Contains, length, slice_index_or}
+use Rattle.std.specs.Prelude.{◌≡◌, ◌≢◌, ℕ, ◌-◌, ◌<◌, ◌≤◌, ◌↔◌, Bool, false, List, [], Option, Some, None, Contains, length, get_or, slice_index_or}
 use Rattle.cnf_base.specs.Literals.{Literal, code_of}
 use Rattle.cnf_base.specs.declared.clause.ClauseId.{ClauseId}
 
@@ -15,6 +15,16 @@ number_of t l = slice_index_or t.stamps (code_of l) 0 - t.clock
 -- the literals whose numbers are not 0 are those of the list
 abbrev pub IsSetOf : Stamps → List Literal → Type 0
 IsSetOf t literals = (l : Literal) → (0 < number_of t l) ↔ Contains literals l
+
+-- no literal stands at two places of the list
+abbrev pub AreDifferent : List Literal → Type 0
+AreDifferent ls = (i j : ℕ) (d : Literal) → i < j → j < length ls → get_or ls i d ≢ get_or ls j d
+
+-- the list has the literals of the clause and no others, each once, and the table is the set of them
+pub record AreEach (t : Stamps) (each clause : List Literal) : Type 0 where
+  pub table : IsSetOf t each
+  pub same : (l : Literal) → Contains each l ↔ Contains clause l
+  pub once : AreDifferent each
 
 -- whether a position's bit is set
 abbrev pub bit_in : List Bool → ℕ → Bool

@@ -16,21 +16,6 @@ use faded_log::FadedLog;
 use proof_log::entry::Hints;
 use std::alloc::AllocError;
 
-// Makes the table the set of a clause's literals, and tells whether none of them stands beside its opposite.
-pub(crate) fn collect(own: &mut LiteralNumbers, clause: &[Lit]) -> Result<bool, AllocError>
-    ensures pair { IfOk result (λ b. MatchBool b (¬ (HasPair clause.now)) (HasPair clause.now)) }
-    ensures set { IfOk result (λ b. MatchBool b (IsSetOf own.new clause.now) (Unit {0})) }
-{
-    own.clear();
-    for l in clause {
-        if own.get(l.negated()) != 0 {
-            return Ok(false);
-        }
-        own.set(*l, 1)?;
-    }
-    Ok(true)
-}
-
 // Makes the table the set of these literals.
 pub(crate) fn insert(table: &mut LiteralNumbers, literals: &[Lit]) -> Result<(), AllocError>
     ensures { OnOk result (IsSetOf table.new literals.now) }
@@ -79,6 +64,19 @@ pub(crate) fn is_none_in(table: &LiteralNumbers, clause: &[Lit]) -> bool
         }
     }
     true
+}
+
+// Whether one of the literals, of which this is the table, stands beside its opposite.
+pub(crate) fn has_pair(own: &LiteralNumbers, clause: &[Lit]) -> bool
+    requires { IsSetOf own.now clause.now }
+    ensures { MatchBool result (HasPair clause.now) (¬ (HasPair clause.now)) }
+{
+    for l in clause {
+        if own.get(l.negated()) != 0 {
+            return true;
+        }
+    }
+    false
 }
 
 // Whether each hint is held.

@@ -10,6 +10,7 @@ ghost use Rattle.proof_text.specs.Deletions.{is_deleted};
 ghost use Rattle.diary_checker.specs.Uses.{AreFiled, MayBeUnder};
 ghost use Rattle.diary_checker.specs.Starts.{IsBroughtTo};
 
+use crate::literals::ClauseLiterals;
 use crate::positions::Positions;
 use crate::watches::Watches;
 use cnf_base::{ClauseId, Lit, Pos};
@@ -134,23 +135,31 @@ pub(crate) fn unfile(watches: &mut Watches, at: Pos, clause: &[Lit])
     }
 }
 
-// Takes a position out of the lists in which its clauses may be filed.
-fn unfile_all(watches: &mut Watches, log: &FadedLog, at: Pos)
+// Takes a position out of the lists in which its clauses may be filed, of each once.
+fn unfile_all(
+    watches: &mut Watches,
+    own: &mut ClauseLiterals,
+    log: &FadedLog,
+    at: Pos,
+) -> Result<(), AllocError>
     ensures { (k : Option Literal) (i : ClauseId) → i.pos ≢ at
         → Contains (filed_under watches.old k) i → Contains (filed_under watches.new k) i }
 {
     for part in 0..u32::MAX {
         let Some(clause) = log.clause(ClauseId { pos: at, part }) else {
-            return;
+            return Ok(());
         };
-        unfile(watches, at, clause.literals());
+        own.collect(clause.literals())?;
+        unfile(watches, at, own.each.as_slice());
     }
+    Ok(())
 }
 
 // Gives up a position that a diary brought.
 fn take_back(
     held: &mut Positions,
     watches: &mut Watches,
+    own: &mut ClauseLiterals,
     log: &FadedLog,
     at: Pos,
 ) -> Result<(), AllocError>
@@ -159,7 +168,7 @@ fn take_back(
     ensures filed { OnOk result (AreFiled (clause_at log.now.clauses) (bit_in held.old) watches.old
         → AreFiled (clause_at log.now.clauses) (bit_in held.new) watches.new) }
 {
-    unfile_all(watches, log, at);
+    unfile_all(watches, own, log, at)?;
     held.set(at, false)
 }
 
@@ -167,6 +176,7 @@ fn take_back(
 pub(crate) fn take_all_back(
     held: &mut Positions,
     watches: &mut Watches,
+    own: &mut ClauseLiterals,
     log: &FadedLog,
     brought: &[Pos],
 ) -> Result<(), AllocError>
@@ -177,7 +187,7 @@ pub(crate) fn take_all_back(
         → AreFiled (clause_at log.now.clauses) (bit_in held.new) watches.new) }
 {
     for at in brought {
-        take_back(held, watches, log, *at)?;
+        take_back(held, watches, own, log, *at)?;
     }
     Ok(())
 }

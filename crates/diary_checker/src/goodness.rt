@@ -7,7 +7,8 @@ ghost use Rattle.proof_log.specs.Diaries.{Subject, look_of, IsGoodPut};
 ghost use Rattle.diary_checker.specs.Tables.{bit_in, IsSetOf};
 ghost use Rattle.diary_checker.specs.Uses.{AreFiled, IsApart, IsDerived};
 
-use crate::conditions::{are_all_in, are_held, collect, is_none_in, is_subsumed, negate};
+use crate::conditions::{are_all_in, are_held, has_pair, is_none_in, is_subsumed, negate};
+use crate::literals::ClauseLiterals;
 use crate::positions::Positions;
 use crate::table::LiteralNumbers;
 use crate::uses::{are_used, find_lasts};
@@ -21,7 +22,7 @@ use std::alloc::{AllocError, Global};
 /// hint with each literal.
 #[derive(Debug, Drop)]
 pub(crate) struct Scratch {
-    own: LiteralNumbers,
+    pub(crate) own: ClauseLiterals,
     trues: LiteralNumbers,
     lasts: LiteralNumbers,
 }
@@ -29,7 +30,7 @@ pub(crate) struct Scratch {
 impl Scratch {
     pub(crate) fn new(alloc: Global) -> Scratch {
         Scratch {
-            own: LiteralNumbers::new(alloc),
+            own: ClauseLiterals::new(alloc),
             trues: LiteralNumbers::new(alloc),
             lasts: LiteralNumbers::new(alloc),
         }
@@ -66,7 +67,7 @@ fn is_apart(
     held: &Positions,
     given: &LiteralNumbers,
     watches: &Watches,
-    own: &mut LiteralNumbers,
+    own: &mut ClauseLiterals,
     clause: &[Lit],
 ) -> Result<bool, AllocError>
     ensures { IfOk result (λ b. (literals : List Literal) → IsSetOf given.now literals →
@@ -77,10 +78,12 @@ fn is_apart(
     if !is_none_in(given, clause) {
         return Ok(false);
     }
-    if !collect(own, clause)? {
+    own.collect(clause)?;
+    let each = own.each.as_slice();
+    if has_pair(&own.table, each) {
         return Ok(false);
     }
-    Ok(!is_subsumed(log, held, watches, own, clause))
+    Ok(!is_subsumed(log, held, watches, &own.table, each))
 }
 
 /// Whether a chain of this clause and these hints is a good put, where each held clause is filed.

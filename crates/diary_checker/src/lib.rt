@@ -14,6 +14,7 @@
 mod conditions;
 mod filing;
 mod goodness;
+mod literals;
 pub mod positions;
 mod reader;
 mod start;

@@ -124,10 +124,17 @@ impl DiaryReader {
         } = self;
         let mut held = held;
         let mut watches = watches;
+        let mut scratch = scratch;
         if from > log.len() {
             return Ok(DiaryStart::new(watches.alloc()));
         }
-        take_all_back(&mut held, &mut watches, log, brought.as_slice())?;
+        take_all_back(
+            &mut held,
+            &mut watches,
+            &mut scratch.own,
+            log,
+            brought.as_slice(),
+        )?;
         Ok(DiaryStart {
             held,
             watches,
@@ -252,8 +259,9 @@ impl DiaryReader {
         let Some((clause, _)) = chain_at(log, at) else {
             return Ok(false);
         };
+        self.scratch.own.collect(clause.literals())?;
         self.held.set(at, false)?;
-        unfile(&mut self.watches, at, clause.literals());
+        unfile(&mut self.watches, at, self.scratch.own.each.as_slice());
         self.chains = self.chains.saturating_sub(1);
         self.drops -= 1;
         self.ended = false;

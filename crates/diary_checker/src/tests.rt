@@ -69,7 +69,7 @@ fn begun(alloc: Global) -> Result<Proof, AllocError>
 }
 
 // False is asserted: its selector is variable 2, and position 2 has the clause {-2, -1}. Position 3 derives {-2}, twice
-// over with position 4, and position 5 has the clause of position 2 again.
+// over with position 4, position 5 has the clause of position 2 again, and position 6 is {-2, -2}.
 fn refute(proof: &mut Proof, alloc: Global) -> Result<(), AllocError>
     requires { IsHeld proof.old.terms.nodes proof.old.log }
     ensures { IsHeld proof.new.terms.nodes proof.new.log }
@@ -82,7 +82,9 @@ fn refute(proof: &mut Proof, alloc: Global) -> Result<(), AllocError>
     let twice = Clause::of_one(alloc, negated)?;
     chain(proof, alloc, twice, &[TRUE, IMPLIED])?;
     let wider = Clause::of_two(alloc, negated, Lit::FALSE)?;
-    chain(proof, alloc, wider, &[IMPLIED])
+    chain(proof, alloc, wider, &[IMPLIED])?;
+    let repeated = Clause::of_two(alloc, negated, negated)?;
+    chain(proof, alloc, repeated, &[TRUE, IMPLIED])
 }
 
 // The first line that is taken where it is not told so, or is not where it is, counted from 0.
@@ -168,6 +170,18 @@ fn a_held_clause_bars_wider_ones(rt: HostRuntime) -> Result<(), Fail> {
 }
 
 #[test]
+fn a_literal_that_stands_twice_counts_once(rt: HostRuntime) -> Result<(), Fail> {
+    let lines = [
+        (DiaryLine::Put(6), true),
+        (DiaryLine::Put(3), false),
+        (DiaryLine::Put(6), false),
+    ];
+    read(&rt, Lit::new(2, true), 3, &lines, true)?;
+    let lines = [(DiaryLine::Put(3), true), (DiaryLine::Put(6), false)];
+    read(&rt, Lit::new(2, true), 3, &lines, true)
+}
+
+#[test]
 fn a_given_literal_bars_its_clauses(rt: HostRuntime) -> Result<(), Fail> {
     read(
         &rt,
@@ -182,7 +196,7 @@ fn a_given_literal_bars_its_clauses(rt: HostRuntime) -> Result<(), Fail> {
 fn hints_are_taken_before_they_are_used(rt: HostRuntime) -> Result<(), Fail> {
     let lines = [
         (DiaryLine::Put(3), false),
-        (DiaryLine::Take(6), false),
+        (DiaryLine::Take(7), false),
         (DiaryLine::Take(2), true),
         (DiaryLine::Put(3), true),
         (DiaryLine::Drop(3), false),

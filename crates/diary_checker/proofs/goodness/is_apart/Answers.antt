@@ -2,6 +2,7 @@ use Rattle.std.proofs.Common.{arith}
 use Rattle.proof_log.specs.Logs.{clause_at}
 use Rattle.diary_checker.specs.Tables.{bit_in}
 use Rattle.diary_checker.proofs.Puts.{apart}
+use Rattle.diary_checker.proofs.Each.{apart_by_each}
 use Rattle.diary_checker.proofs.goodness.is_apart.Goals as goal
 
 pub returns-then-not-is_none_in : goal.returns-then-not-is_none_in
@@ -11,7 +12,7 @@ returns-then-not-is_none_in c = λ literals set filed a.
 
 pub returns : goal.returns
 returns c = λ literals set filed.
-    let alone = rw c.if-not-branch.false at c.in_ok-collect.ensures.pair in
-    let own = rw c.if-not-branch.false at c.in_ok-collect.ensures.set in
-    apart (clause_at c.args.log.now.clauses) (bit_in c.args.held.now) literals c.args.clause.now c.args.watches.now c.collect.new.own c.is_subsumed.result
-    alone own (λ l cl gl. let e = c.if-not-is_none_in.ensures l cl in let lt = (set l).1 gl in absurd (omega arith)) filed c.is_subsumed.ensures
+    let own = rw c.as_slice.ensures.value at c.in_ok-collect.ensures in
+    apart_by_each (clause_at c.args.log.now.clauses) (bit_in c.args.held.now) literals c.as_slice.result.now c.args.clause.now _ own.same
+    (apart (clause_at c.args.log.now.clauses) (bit_in c.args.held.now) literals c.as_slice.result.now c.args.watches.now c.collect.new.self.table c.is_subsumed.result
+    c.if-has_pair.ensures own.table (λ l cl gl. let e = c.if-not-is_none_in.ensures l ((own.same l).0 cl) in let lt = (set l).1 gl in absurd (omega arith)) filed c.is_subsumed.ensures)
