@@ -1,0 +1,4 @@
+pub mod Growth
+pub mod Numerals
+pub mod ReservedWords
+pub mod Folds
