@@ -7,9 +7,9 @@
 //! it reads, and on the interpretations of `smt_values`.
 #![tactic(auto)]
 
-mod leaves;
 mod model;
+mod reaching;
 mod values;
 
-pub use leaves::has_other_leaf;
 pub use model::word_model;
+pub use reaching::has_other_leaf;

@@ -2,7 +2,7 @@ use Rattle.std.proofs.Common.{Some, sym, ap, ◌∙◌}
 use Rattle.std.specs.Option.{option_copied}
 use Rattle.word_models.proofs.Leaves.{leaf_there}
 use Rattle.word_models.proofs.Others.{plain_leaf}
-use Rattle.word_models.proofs.leaves.is_other_leaf.Goals as goal
+use Rattle.word_models.proofs.reaching.is_other_leaf.Goals as goal
 
 pub node-requires : goal.node-requires
 node-requires c =
