@@ -245,7 +245,7 @@ def check_heads(crates):
 
 
 # The crates that say how a script is read and obeyed.
-READING = ["smt_text", "smt_syntax", "script_operators", "smt_build", "script_state"]
+READING = ["smt_text", "smt_syntax", "smt_build", "script_state"]
 
 
 def check_counts(text):

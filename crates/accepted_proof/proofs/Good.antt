@@ -4,8 +4,8 @@ use Rattle.smt_terms.specs.Terms.{IsTermList, with_node}
 use Rattle.smt_terms.specs.Values.{Interpretation, is_true, value}
 use Rattle.smt_terms.proofs.Evaluating.{value_longer}
 use Rattle.scope_selectors.specs.declared.live.Live.{Live}
-use Rattle.script_operators.specs.Building.{Grows}
-use Rattle.script_operators.proofs.Growth.{grows_none, made_grows}
+use Rattle.smt_build.specs.Building.{Grows}
+use Rattle.smt_build.proofs.Growth.{grows_none, made_grows}
 use Rattle.script_state.specs.declared.answer.Asked.{Asked}
 use Rattle.script_state.specs.States.{StateValue, IsState, IsAssumption, assumptions}
 use Rattle.smt_build.proofs.Longer.{list_made}

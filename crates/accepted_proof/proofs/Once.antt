@@ -31,7 +31,7 @@ use Rattle.theory_terms.specs.declared.lemma.Access.{Access}
 use Rattle.theory_terms.specs.declared.lemma.Lemma.{Lemma}
 use Rattle.theory_terms.specs.declared.lemma.Lemma.TheVariants as lemma
 use Rattle.script_state.specs.Readings.{Reading}
-use Rattle.script_operators.specs.Declarations.{IsDeclared}
+use Rattle.smt_build.specs.Names.{IsDeclared}
 use Rattle.smt_build.specs.declared.symbols.LiveName.{LiveName}
 use Rattle.script_state.specs.States.{StateValue}
 use Rattle.proof_log.specs.declared.entry.Entry.{Entry}

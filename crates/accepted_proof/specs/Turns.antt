@@ -6,7 +6,7 @@ use Rattle.std.specs.List.{flat_map, AllByRecursion}
 use Rattle.cnf_base.specs.Literals.{Literal, negated}
 use Rattle.smt_terms.specs.declared.node.Node.{Node}
 use Rattle.script_state.specs.Readings.{Reading}
-use Rattle.script_operators.specs.Declarations.{IsDeclared}
+use Rattle.smt_build.specs.Names.{IsDeclared}
 use Rattle.scope_selectors.specs.declared.live.Live.{Live}
 use Rattle.script_state.specs.declared.answer.Answer.{Answer}
 use Rattle.script_state.specs.declared.answer.Answer.TheVariants.{Check}

@@ -16,7 +16,7 @@ use Rattle.smt_terms.specs.declared.node.Op.TheVariants as op
 use Rattle.smt_terms.specs.declared.node.Node.{Node}
 use Rattle.smt_terms.specs.Terms.{TermsValue, IsTermList, with_node}
 use Rattle.smt_terms.proofs.Growing.{node_last}
-use Rattle.script_operators.specs.Declarations.{IsDeclared}
+use Rattle.smt_build.specs.Names.{IsDeclared}
 use Rattle.smt_build.proofs.Longer.{list_made}
 use Rattle.script_state.specs.States.{StateValue, RestValue, with_terms, IsState, Fit}
 use Rattle.script_state.proofs.Keeping.{fit_more}

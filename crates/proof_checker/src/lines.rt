@@ -10,7 +10,7 @@ ghost use Rattle.smt_terms.specs.declared.node.Op.{Op as OpValue};
 ghost use Rattle.smt_terms.specs.declared.node.Node.{Node as NodeValue};
 ghost use Rattle.smt_terms.specs.Nodes.{node_of};
 ghost use Rattle.smt_terms.specs.Terms.{TermsValue};
-ghost use Rattle.script_operators.specs.Declarations.{IsDeclared};
+ghost use Rattle.smt_build.specs.Names.{IsDeclared};
 ghost use Rattle.proof_log.specs.declared.entry.Entry.TheVariants as step;
 ghost use Rattle.proof_log.specs.Faults.{IsNewNode};
 ghost use Rattle.proof_checker.specs.Checkers.{IsChainOf};

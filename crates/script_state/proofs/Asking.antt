@@ -7,11 +7,11 @@ use Rattle.smt_syntax.specs.Sexps.{Sexp, Sexps, none, more}
 use Rattle.smt_syntax.specs.Walk.{◌>>=◌}
 use Rattle.smt_terms.specs.declared.node.Node.{Node}
 use Rattle.smt_terms.specs.Terms.{TermsValue, IsTermList}
-use Rattle.script_operators.specs.Building.{Built}
-use Rattle.script_operators.proofs.Growth.{longer}
+use Rattle.smt_build.specs.Building.{Built}
 use Rattle.smt_build.specs.Names.{SymbolsValue, AreBodies}
 use Rattle.smt_build.specs.Scoped.{is_over, AreOver}
 use Rattle.smt_build.specs.Terms.{term_of}
+use Rattle.smt_build.proofs.Growth.{longer}
 use Rattle.smt_build.proofs.KeptTerms.{GoOn, Follows, go_none, go_both}
 use Rattle.smt_build.proofs.Longer.{term_longer, term_is_held}
 use Rattle.smt_build.proofs.Scoped.{bodies_over_grows, term_is_over}

@@ -12,10 +12,10 @@ use Rattle.smt_terms.proofs.Growing.{sort_longer}
 use Rattle.scope_selectors.specs.declared.live.Live.{Live}
 use Rattle.scope_selectors.specs.Scopes.{ScopesValue, asserted}
 use Rattle.scope_selectors.proofs.Asserting.{one_more}
-use Rattle.script_operators.specs.Building.{Grows}
 use Rattle.smt_build.specs.declared.symbols.Level.{Level}
 use Rattle.smt_build.specs.declared.symbols.LiveName.{LiveName}
 use Rattle.smt_build.specs.declared.definition.Definition.{Definition}
+use Rattle.smt_build.specs.Building.{Grows}
 use Rattle.smt_build.specs.Names.{SymbolsValue, Meanings, AreBodies, with_definition}
 use Rattle.smt_build.specs.Scoped.{is_over, AreOver}
 use Rattle.smt_build.specs.Declaring.{declare}

@@ -8,8 +8,8 @@ use Rattle.smt_syntax.specs.declared.command.SyntaxFault.{SyntaxFault}
 use Rattle.smt_syntax.specs.Commands.{read}
 use Rattle.smt_terms.specs.Terms.{TermsValue, cut_at}
 use Rattle.scope_selectors.specs.Scopes.{ScopesValue}
-use Rattle.script_operators.specs.Building.{Grows}
-use Rattle.script_operators.proofs.Growth.{cut_back}
+use Rattle.smt_build.specs.Building.{Grows}
+use Rattle.smt_build.proofs.Growth.{cut_back}
 use Rattle.smt_text.specs.Lexicon.{Lexeme}
 use Rattle.smt_text.specs.declared.chunk.Chunk.{Chunk}
 use Rattle.smt_text.specs.declared.chunk.ChunkKind.{ChunkKind}

@@ -17,13 +17,12 @@ use Rattle.smt_terms.specs.declared.sort.Signature.{Signature}
 use Rattle.smt_terms.specs.declared.node.Node.{Node}
 use Rattle.smt_terms.specs.Terms.{IsSort, constant_signature}
 use Rattle.cnf_base.proofs.Lists.{slice_get-longer}
-use Rattle.script_operators.specs.declared.fault.BuildFault.{BuildFault}
-use Rattle.script_operators.specs.declared.fault.BuildFault.TheVariants.{Declared, Reserved, NotSupported}
-use Rattle.script_operators.specs.Literals.{decimal_value, value_in}
-use Rattle.script_operators.specs.Declarations.{AreDeclared}
-use Rattle.script_operators.specs.Operators.{is_reserved}
+use Rattle.smt_build.specs.declared.fault.BuildFault.{BuildFault}
+use Rattle.smt_build.specs.declared.fault.BuildFault.TheVariants.{Declared, Reserved, NotSupported}
 use Rattle.smt_build.specs.declared.symbols.LiveName.{LiveName}
-use Rattle.smt_build.specs.Names.{SymbolsValue, Meanings, meaning_in, is_taken, with_declaration}
+use Rattle.smt_build.specs.Literals.{decimal_value, value_in}
+use Rattle.smt_build.specs.Names.{SymbolsValue, Meanings, AreDeclared, meaning_in, is_taken, with_declaration}
+use Rattle.smt_build.specs.Operators.{is_reserved}
 use Rattle.smt_build.specs.Sorts.{defined_sort, sort_named, word_of_width, width_sort, named_sort, indexed_sort, word_listed, part_sort, array_by, array_sort, begins_array, behind_head, sort_in}
 use Rattle.smt_build.specs.Parts.{over_parts}
 use Rattle.smt_build.specs.Parameters.{plain_sort}

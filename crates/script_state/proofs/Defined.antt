@@ -7,8 +7,8 @@ use Rattle.smt_syntax.specs.Sexps.{Sexp, Sexps, atom, group, none, more}
 use Rattle.smt_syntax.specs.Walk.{◌>>=◌}
 use Rattle.smt_terms.specs.declared.sort.Sort.{Sort}
 use Rattle.smt_terms.specs.Terms.{IsSort}
-use Rattle.script_operators.specs.declared.fault.BuildFault.{BuildFault}
-use Rattle.script_operators.specs.declared.fault.BuildFault.TheVariants.{Declared, Reserved}
+use Rattle.smt_build.specs.declared.fault.BuildFault.{BuildFault}
+use Rattle.smt_build.specs.declared.fault.BuildFault.TheVariants.{Declared, Reserved}
 use Rattle.smt_build.specs.Names.{SymbolsValue, Meanings, meaning_in, with_sort}
 use Rattle.smt_build.specs.Defining.{SortDefinition, is_sort_reserved, next_sort, name_sort, sort_parts, define_sort}
 use Rattle.script_state.proofs.Declared.{IsTakenIf, AreTakenNames, taken_value}

@@ -11,10 +11,10 @@ use Rattle.smt_syntax.specs.Spans.{Stands, AllStand}
 use Rattle.smt_syntax.specs.Walk.{◌>>=◌}
 use Rattle.smt_terms.specs.declared.node.Node.{Node}
 use Rattle.smt_terms.specs.Terms.{TermsValue}
-use Rattle.script_operators.specs.Building.{Grows}
-use Rattle.script_operators.proofs.Growth.{grows_both, longer}
+use Rattle.smt_build.specs.Building.{Grows}
 use Rattle.smt_build.specs.Names.{SymbolsValue, AreBodies}
 use Rattle.smt_build.specs.Terms.{term_of}
+use Rattle.smt_build.proofs.Growth.{grows_both, longer}
 use Rattle.smt_build.proofs.Uses.{bodies_longer}
 use Rattle.script_state.specs.declared.answer.Asked.{Asked}
 use Rattle.script_state.specs.declared.asked.Purpose.{Purpose}

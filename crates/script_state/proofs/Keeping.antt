@@ -8,7 +8,7 @@ use Rattle.smt_terms.specs.declared.sort.Signature.{Signature}
 use Rattle.smt_terms.specs.declared.node.Node.{Node}
 use Rattle.smt_terms.specs.Terms.{TermsValue, IsTermList}
 use Rattle.scope_selectors.specs.Scopes.{ScopesValue, asserted, pushed, popped}
-use Rattle.script_operators.specs.Building.{Grows}
+use Rattle.smt_build.specs.Building.{Grows}
 use Rattle.smt_build.specs.Names.{SymbolsValue}
 use Rattle.smt_build.specs.Declaring.{declare}
 use Rattle.smt_build.specs.Defining.{define_sort, define}

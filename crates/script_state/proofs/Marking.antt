@@ -11,7 +11,7 @@ use Rattle.smt_terms.specs.declared.node.Node.{Node}
 use Rattle.smt_terms.specs.Nodes.{node_at}
 use Rattle.smt_terms.specs.Terms.{TermsValue, IsTerm, IsTermList}
 use Rattle.smt_terms.proofs.Recursion.{same_map, at_term_is, at_term_longer}
-use Rattle.script_operators.specs.Building.{Grows}
+use Rattle.smt_build.specs.Building.{Grows}
 use Rattle.script_state.specs.Plain.{is_plain_op, is_plain, HavePlain}
 
 pub plain_longer : (nodes more : List Node) (t : ℕ) → t < length nodes → is_plain (nodes ++ more) t ≡ is_plain nodes t

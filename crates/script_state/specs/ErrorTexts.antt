@@ -2,8 +2,8 @@
 use Rattle.std.specs.Prelude.{ℕ, List, codes}
 use Rattle.smt_syntax.specs.declared.command.SyntaxFault.{SyntaxFault}
 use Rattle.smt_syntax.specs.declared.command.SyntaxFault.TheVariants as syntax
-use Rattle.script_operators.specs.declared.fault.BuildFault.{BuildFault}
-use Rattle.script_operators.specs.declared.fault.BuildFault.TheVariants as build
+use Rattle.smt_build.specs.declared.fault.BuildFault.{BuildFault}
+use Rattle.smt_build.specs.declared.fault.BuildFault.TheVariants as build
 use Rattle.script_state.specs.declared.error_text.ErrorText.{ErrorText}
 use Rattle.script_state.specs.declared.error_text.ErrorText.TheVariants.{UnfinishedCommand, TextOutsideCommand, BadToken, UnknownCommand, MalformedCommand, NestingTooDeep, UnknownSymbol, AlreadyDeclared, ReservedSymbol, WrongArguments, WidthOutOfRange, LiteralTooWide, NotSupported, TooManyTerms, UnknownLogic, LevelOutOfRange, NoModel, NoRefutation, OptionOff, NoUnknownAnswer}
 

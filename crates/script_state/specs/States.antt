@@ -8,11 +8,10 @@ use Rattle.smt_terms.specs.declared.node.Node.{Node}
 use Rattle.smt_terms.specs.Terms.{TermsValue, IsSort, IsTermList, no_terms, sort_of}
 use Rattle.scope_selectors.specs.declared.live.Live.{Live}
 use Rattle.scope_selectors.specs.Scopes.{ScopesValue, AreScopes, no_scopes, made_within}
-use Rattle.script_operators.specs.Declarations.{AreDeclared}
 use Rattle.smt_build.specs.declared.definition.Definition.{Definition}
 use Rattle.smt_build.specs.declared.symbols.LiveName.{LiveName}
 use Rattle.smt_build.specs.declared.symbols.Level.{Level}
-use Rattle.smt_build.specs.Names.{SymbolsValue, Meanings, AreBodies, no_symbols}
+use Rattle.smt_build.specs.Names.{SymbolsValue, Meanings, AreDeclared, AreBodies, no_symbols}
 use Rattle.smt_build.specs.Scoped.{is_over, AreOver}
 use Rattle.script_state.specs.declared.answer.Asked.{Asked}
 use Rattle.script_state.specs.declared.answer.Verdict.{Verdict}

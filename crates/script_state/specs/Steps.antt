@@ -20,11 +20,11 @@ use Rattle.smt_terms.specs.Terms.{TermsValue, sort_of, cut_at}
 use Rattle.scope_selectors.specs.declared.fault.OutOfRange.{OutOfRange}
 use Rattle.scope_selectors.specs.declared.live.Live.{Live}
 use Rattle.scope_selectors.specs.Scopes.{ScopesValue, asserted, without_assertions, pushed as scopes_pushed, popped as scopes_popped}
-use Rattle.script_operators.specs.Literals.{value_in, decimal_value}
-use Rattle.script_operators.specs.Building.{Built}
+use Rattle.smt_build.specs.Literals.{value_in, decimal_value}
 use Rattle.smt_build.specs.Names.{SymbolsValue, emptied, pushed, popped}
 use Rattle.smt_build.specs.Asserting.{Assertion, assertion}
 use Rattle.smt_build.specs.Naming.{name_of_assertion}
+use Rattle.smt_build.specs.Building.{Built}
 use Rattle.smt_build.specs.Declaring.{Declaration, declare}
 use Rattle.smt_build.specs.Defining.{SortDefinition, FunctionDefinition, define_sort, define}
 use Rattle.smt_build.specs.Terms.{term_of}

@@ -19,7 +19,7 @@ use crate::plain::cut;
 use crate::state::State;
 use crate::watches::watches_fit;
 use crate::word::word_at;
-use script_operators::fault::BuildError;
+use smt_build::fault::BuildError;
 use smt_build::naming::name_of_assertion;
 use smt_syntax::command::Command;
 use smt_syntax::span::Span;

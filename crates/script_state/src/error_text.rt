@@ -3,7 +3,7 @@
 ghost use Rattle.std.specs.Prelude.{◌≡◌};
 ghost use Rattle.script_state.specs.ErrorTexts.{text_of, syntax_error, build_error};
 
-use script_operators::fault::BuildFault;
+use smt_build::fault::BuildFault;
 use smt_syntax::command::SyntaxFault;
 
 /// What a refused command is told.

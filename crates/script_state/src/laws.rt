@@ -4,7 +4,7 @@ ghost use Rattle.std.specs.Prelude.{◌≡◌, ◌↔◌, ◌+◌, ◌≤◌, tr
 ghost use Rattle.smt_terms.specs.Terms.{TermsValue, IsTermList};
 ghost use Rattle.smt_terms.specs.Evaluations.{has_no_witness};
 ghost use Rattle.smt_text.specs.declared.chunk.Chunk.{Chunk};
-ghost use Rattle.script_operators.specs.Building.{Grows};
+ghost use Rattle.smt_build.specs.Building.{Grows};
 ghost use Rattle.script_state.specs.Readings.{Reading, ReadsAs};
 ghost use Rattle.script_state.specs.declared.answer.Answer.TheVariants.{Refused, Check, Model, Values, Core, Assumptions, Exit};
 ghost use Rattle.script_state.specs.declared.answer.Asked.{Asked};

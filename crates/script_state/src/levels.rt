@@ -10,7 +10,7 @@ use crate::error_text::ErrorText;
 use crate::options::Options;
 use crate::state::State;
 use crate::word::word_at;
-use script_operators::literal::index_of;
+use smt_build::literal::index_of;
 use smt_syntax::span::Span;
 use smt_text::token::Tokens;
 use std::alloc::AllocError;

@@ -9,8 +9,8 @@ use Rattle.smt_syntax.specs.declared.span.Span.{Span}
 use Rattle.smt_syntax.specs.Sexps.{Sign, open_paren, close_paren, word, Sexp, Sexps, atom, group, none, more, spelling, spellings, sign_by, sign_in, signs_in}
 use Rattle.smt_syntax.specs.Spans.{AllStand, Stands}
 use Rattle.smt_terms.specs.declared.sort.Sort.{Sort}
-use Rattle.script_operators.specs.declared.fault.BuildFault.{BuildFault}
-use Rattle.script_operators.specs.declared.fault.BuildFault.TheVariants.{NotSupported}
+use Rattle.smt_build.specs.declared.fault.BuildFault.{BuildFault}
+use Rattle.smt_build.specs.declared.fault.BuildFault.TheVariants.{NotSupported}
 use Rattle.smt_build.specs.Names.{Meanings}
 use Rattle.smt_build.specs.Naming.{parts_of}
 use Rattle.smt_build.specs.Sorts.{part_sort, array_by, array_sort, begins_array, behind_head}

@@ -13,12 +13,12 @@ use Rattle.smt_syntax.specs.Commands.{name_of, spans_of}
 use Rattle.smt_syntax.proofs.CommandReadings.{length-signs, some_signs}
 use Rattle.smt_terms.specs.declared.sort.Sort.{Sort}
 use Rattle.smt_terms.specs.declared.sort.Signature.{Signature}
-use Rattle.script_operators.specs.declared.fault.BuildFault.{BuildFault}
-use Rattle.script_operators.specs.declared.fault.BuildFault.TheVariants.{Declared, Reserved, NotSupported}
-use Rattle.script_operators.specs.declared.fault.BuildError.{BuildError}
-use Rattle.script_operators.specs.Operators.{is_reserved}
+use Rattle.smt_build.specs.declared.fault.BuildFault.{BuildFault}
+use Rattle.smt_build.specs.declared.fault.BuildFault.TheVariants.{Declared, Reserved, NotSupported}
+use Rattle.smt_build.specs.declared.fault.BuildError.{BuildError}
 use Rattle.smt_build.specs.declared.definition.Definition.{Definition}
 use Rattle.smt_build.specs.Names.{SymbolsValue, declaration_of, meaning_in, is_taken}
+use Rattle.smt_build.specs.Operators.{is_reserved}
 use Rattle.smt_build.specs.Sorts.{sort_in}
 use Rattle.smt_build.specs.Naming.{parts_of}
 use Rattle.smt_build.specs.Declaring.{next, named, declare_name, value_sort, of_constant, plain_in, next_argument, of_function, signature_in, declare, Declares}

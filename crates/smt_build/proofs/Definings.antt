@@ -13,15 +13,15 @@ use Rattle.smt_syntax.specs.Spans.{AllStand, Stands}
 use Rattle.smt_syntax.specs.Commands.{name_of, spans_of}
 use Rattle.smt_terms.specs.declared.sort.Sort.{Sort}
 use Rattle.smt_terms.specs.Terms.{TermsValue, held_sort}
-use Rattle.script_operators.specs.declared.fault.BuildFault.{BuildFault}
-use Rattle.script_operators.specs.declared.fault.BuildFault.TheVariants.{Declared, Reserved, WrongSort, NotSupported}
-use Rattle.script_operators.specs.declared.fault.BuildError.{BuildError}
-use Rattle.script_operators.specs.declared.fault.BuildError.TheVariants.{NoMemory, Fault}
-use Rattle.script_operators.specs.Building.{Builds}
-use Rattle.script_operators.specs.Grouping.{has_sort}
-use Rattle.script_operators.specs.Operators.{is_reserved}
+use Rattle.smt_build.specs.declared.fault.BuildFault.{BuildFault}
+use Rattle.smt_build.specs.declared.fault.BuildFault.TheVariants.{Declared, Reserved, WrongSort, NotSupported}
+use Rattle.smt_build.specs.declared.fault.BuildError.{BuildError}
+use Rattle.smt_build.specs.declared.fault.BuildError.TheVariants.{NoMemory, Fault}
 use Rattle.smt_build.specs.Names.{SymbolsValue, meaning_in, is_taken, with_definition}
+use Rattle.smt_build.specs.Building.{Builds}
+use Rattle.smt_build.specs.Grouping.{has_sort}
 use Rattle.smt_build.specs.Terms.{term_over}
+use Rattle.smt_build.specs.Operators.{is_reserved}
 use Rattle.smt_build.specs.Declaring.{value_sort}
 use Rattle.smt_build.specs.Sorts.{sort_in}
 use Rattle.smt_build.specs.Parameters.{Parameters, sorts_of, parameters_in, Lists}

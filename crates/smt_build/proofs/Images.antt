@@ -21,15 +21,15 @@ use Rattle.term_reach.specs.Reach.{arguments, IsWay, IsReached, IsOnce, IsReach}
 use Rattle.term_reach.proofs.Tables.{at_contained}
 use Rattle.term_reach.proofs.Ways.{argument_earlier, reached_closed}
 use Rattle.term_reach.proofs.Rising.{equal_flips, sorted_rises, once_rest, all_apart}
-use Rattle.script_operators.specs.declared.fault.BuildFault.{BuildFault}
-use Rattle.script_operators.specs.declared.fault.BuildError.{BuildError}
-use Rattle.script_operators.specs.declared.fault.BuildError.TheVariants.{NoMemory, Fault}
-use Rattle.script_operators.specs.Building.{Means, made}
-use Rattle.script_operators.specs.Declarations.{AreDeclared, IsDeclared}
-use Rattle.script_operators.specs.Grouping.{Listed}
-use Rattle.script_operators.proofs.Growth.{AllGrow}
+use Rattle.smt_build.specs.declared.fault.BuildFault.{BuildFault}
+use Rattle.smt_build.specs.declared.fault.BuildError.{BuildError}
+use Rattle.smt_build.specs.declared.fault.BuildError.TheVariants.{NoMemory, Fault}
+use Rattle.smt_build.specs.Building.{Means, made}
+use Rattle.smt_build.specs.Names.{AreDeclared, IsDeclared}
+use Rattle.smt_build.specs.Grouping.{Listed}
 use Rattle.smt_build.specs.Definitions.{reaches, image, argument, made_again, image_of, images, instance}
 use Rattle.smt_build.specs.Reached.{placed, made_over, again, AreRising}
+use Rattle.smt_build.proofs.Growth.{AllGrow}
 use Rattle.smt_build.proofs.Ways.{reach_itself, reach_arguments, told_way, way_told}
 
 -- ---- what is placed

@@ -7,17 +7,17 @@ use Rattle.smt_syntax.specs.Sexps.{Sexp, Sexps, atom, group, none, more}
 use Rattle.smt_syntax.specs.Walk.{◌>>=◌}
 use Rattle.smt_terms.specs.declared.sort.Sort.{Sort}
 use Rattle.smt_terms.specs.Terms.{TermsValue, held_sort}
-use Rattle.script_operators.specs.declared.fault.BuildFault.{BuildFault}
-use Rattle.script_operators.specs.declared.fault.BuildFault.TheVariants.{Declared, Reserved, WrongSort}
-use Rattle.script_operators.specs.Operators.{is_reserved}
-use Rattle.script_operators.specs.Building.{Built}
-use Rattle.script_operators.specs.Grouping.{has_sort}
-use Rattle.script_operators.proofs.Growth.{longer}
+use Rattle.smt_build.specs.declared.fault.BuildFault.{BuildFault}
+use Rattle.smt_build.specs.declared.fault.BuildFault.TheVariants.{Declared, Reserved, WrongSort}
 use Rattle.smt_build.specs.declared.symbols.Level.{Level}
+use Rattle.smt_build.specs.Operators.{is_reserved}
 use Rattle.smt_build.specs.Names.{SymbolsValue, AreBodies, is_taken, with_definition, popped_to, popped}
+use Rattle.smt_build.specs.Building.{Built}
+use Rattle.smt_build.specs.Grouping.{has_sort}
 use Rattle.smt_build.specs.Parameters.{Parameters, sorts_of}
 use Rattle.smt_build.specs.Terms.{term_over}
 use Rattle.smt_build.specs.Defining.{FunctionDefinition, of_sort, next_function, head_of, function_over, define_function, definition_parts, define}
+use Rattle.smt_build.proofs.Growth.{longer}
 use Rattle.smt_build.proofs.Uses.{bodies_longer, bodies_push, bodies_take}
 use Rattle.smt_build.proofs.Longer.{GoOn, Keeps, keeps_term}
 

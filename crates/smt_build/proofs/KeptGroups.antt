@@ -6,15 +6,15 @@ use Rattle.smt_terms.specs.declared.operator.Operator.TheVariants.{True, Not, An
 use Rattle.smt_terms.specs.declared.node.Op.TheVariants.{Plain}
 use Rattle.smt_terms.specs.Terms.{TermsValue}
 use Rattle.smt_terms.specs.Evaluations.{is_witness}
-use Rattle.script_operators.specs.declared.fault.BuildFault.{BuildFault}
-use Rattle.script_operators.specs.declared.fault.BuildFault.TheVariants.{WrongSort, Width}
-use Rattle.script_operators.specs.declared.operators.Arity.{Arity}
-use Rattle.script_operators.specs.declared.operators.Arity.TheVariants.{Ranked, LeftAssociative, RightAssociative, Chainable, Pairwise, Joining}
-use Rattle.script_operators.specs.declared.operators.Named.{Named}
-use Rattle.script_operators.specs.declared.operators.Named.TheVariants.{Applies, Indexed}
-use Rattle.script_operators.specs.Building.{Built}
-use Rattle.script_operators.specs.Grouping.{each, of_one, of_two, left, right, Chain, next_equal, chain, chained, Listed, apart, apart_from, all_apart, all_true, joins_within, by_arity, are_taken, grouped, operation}
+use Rattle.smt_build.specs.declared.fault.BuildFault.{BuildFault}
+use Rattle.smt_build.specs.declared.fault.BuildFault.TheVariants.{WrongSort, Width}
+use Rattle.smt_build.specs.declared.operators.Arity.{Arity}
+use Rattle.smt_build.specs.declared.operators.Arity.TheVariants.{Ranked, LeftAssociative, RightAssociative, Chainable, Pairwise, Joining}
+use Rattle.smt_build.specs.declared.operators.Named.{Named}
+use Rattle.smt_build.specs.declared.operators.Named.TheVariants.{Applies, Indexed}
 use Rattle.smt_build.specs.Names.{SymbolsValue}
+use Rattle.smt_build.specs.Building.{Built}
+use Rattle.smt_build.specs.Grouping.{each, of_one, of_two, left, right, Chain, next_equal, chain, chained, Listed, apart, apart_from, all_apart, all_true, joins_within, by_arity, are_taken, grouped, operation}
 use Rattle.smt_build.specs.Applying.{applied}
 use Rattle.smt_build.proofs.KeptTerms as kept_terms
 use Rattle.smt_build.proofs.KeptTerms.{IsKept, IsNoWitness, go_none}

@@ -11,15 +11,16 @@ use Rattle.smt_syntax.specs.Walk.{◌>>=◌}
 use Rattle.smt_terms.specs.declared.node.Op.TheVariants.{Param}
 use Rattle.smt_terms.specs.Nodes.{leaf}
 use Rattle.smt_terms.specs.Terms.{TermsValue}
-use Rattle.script_operators.specs.declared.fault.BuildFault.{BuildFault}
-use Rattle.script_operators.specs.declared.fault.BuildFault.TheVariants.{Declared, Reserved, WrongSort}
-use Rattle.script_operators.specs.Operators.{is_reserved}
-use Rattle.script_operators.specs.Building.{Built}
+use Rattle.smt_build.specs.declared.fault.BuildFault.{BuildFault}
+use Rattle.smt_build.specs.declared.fault.BuildFault.TheVariants.{Declared, Reserved, WrongSort}
+use Rattle.smt_build.specs.Operators.{is_reserved}
 use Rattle.smt_build.specs.Names.{SymbolsValue, meaning_in}
 use Rattle.smt_build.specs.declared.parameters.Parameter.{Parameter}
 use Rattle.smt_build.specs.Parameters.{Parameters}
+use Rattle.smt_build.specs.Building.{Built}
 use Rattle.smt_build.specs.Applying.{word_term, application, indexed_term}
-use Rattle.smt_build.specs.Heads.{Head, plain, indexed, everywhere, indexed_in, head_in}
+use Rattle.smt_build.specs.Indices.{Head, plain, indexed, everywhere, indexed_in}
+use Rattle.smt_build.specs.Heads.{head_in}
 use Rattle.smt_build.specs.Binding.{Bound, innermost, bound_at, new_variable, Progress, Read, as_read, first_of, local_at, local_or, parameter_or, is_local, misused, word_in, application_in, indexed_in_scope, is_given, naming, is_label, alone}
 use Rattle.smt_build.specs.Terms.{attributes_of, name_of, term_in, args_of, let_of, bindings_of, binding_of, body_of, annotated_of, term_alone, term_over}
 use Rattle.smt_build.proofs.KeptTerms as kept_terms

@@ -14,14 +14,13 @@ use Rattle.smt_terms.specs.Terms.{TermsValue, IsTermList, make, declaration_of}
 use Rattle.smt_terms.specs.Evaluations.{is_witness}
 use Rattle.smt_terms.proofs.Growing.{list_push, list_shorter}
 use Rattle.smt_terms.proofs.Made as making
-use Rattle.script_operators.specs.declared.fault.BuildFault.{BuildFault}
-use Rattle.script_operators.specs.Declarations.{AreDeclared, IsDeclared}
-use Rattle.script_operators.specs.Building.{Built, Grows, as_built, made}
-use Rattle.script_operators.specs.Grouping.{Listed}
-use Rattle.script_operators.proofs.Growth.{grows_none, grows_both, remade_grows, names_none}
+use Rattle.smt_build.specs.declared.fault.BuildFault.{BuildFault}
 use Rattle.smt_build.specs.declared.definition.Definition.{Definition}
-use Rattle.smt_build.specs.Names.{Meanings, SymbolsValue}
+use Rattle.smt_build.specs.Names.{Meanings, SymbolsValue, AreDeclared, IsDeclared}
 use Rattle.smt_build.specs.Scoped.{is_scripted}
+use Rattle.smt_build.specs.Building.{Built, Grows, as_built, made}
+use Rattle.smt_build.specs.Grouping.{Listed}
+use Rattle.smt_build.proofs.Growth.{grows_none, grows_both, remade_grows, names_none}
 
 -- the terms begin with those before, and are well sorted where those are
 pub record GoOn (signatures : List Signature) (old new : TermsValue) : Type 0 where

@@ -15,12 +15,11 @@ use Rattle.smt_terms.specs.Nodes.{node_of, node_at}
 use Rattle.smt_terms.specs.Terms.{TermsValue, IsTermList, make, declaration_of, signature_of}
 use Rattle.smt_terms.proofs.Growing.{node_past, node_longer}
 use Rattle.smt_terms.proofs.Made as making
-use Rattle.script_operators.specs.declared.fault.BuildFault.TheVariants.{WrongSort}
-use Rattle.script_operators.specs.Declarations.{AreDeclared, IsDeclared}
-use Rattle.script_operators.specs.Building.{Built, as_built, made}
-use Rattle.script_operators.specs.Grouping.{Listed}
+use Rattle.smt_build.specs.declared.fault.BuildFault.TheVariants.{WrongSort}
 use Rattle.smt_build.specs.declared.definition.Definition.{Definition}
-use Rattle.smt_build.specs.Names.{SymbolsValue}
+use Rattle.smt_build.specs.Names.{SymbolsValue, AreDeclared, IsDeclared}
+use Rattle.smt_build.specs.Building.{Built, as_built, made}
+use Rattle.smt_build.specs.Grouping.{Listed}
 use Rattle.smt_build.specs.Definitions.{have_sorts, reaches, image, argument, made_again, image_of, images, instance, with_arguments, used}
 use Rattle.smt_build.proofs.Reaching.{all_among, all_from, earlier, reaches_args, reached_has}
 use Rattle.smt_build.proofs.KeptTerms as kept_terms

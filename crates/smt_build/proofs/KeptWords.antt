@@ -14,26 +14,24 @@ use Rattle.smt_terms.specs.declared.node.Op.{Op}
 use Rattle.smt_terms.specs.declared.node.Op.TheVariants.{Word, ConstantArray, Constant, Apply}
 use Rattle.smt_terms.specs.Nodes.{node_of, leaf}
 use Rattle.smt_terms.specs.Terms.{TermsValue}
-use Rattle.script_operators.specs.declared.fault.BuildFault.{BuildFault}
-use Rattle.script_operators.specs.declared.fault.BuildFault.TheVariants.{UnknownSymbol, Declared, Reserved, WrongSort, Width, LiteralTooWide, NotSupported, TermLimit}
-use Rattle.script_operators.specs.declared.operators.Family.{Family}
-use Rattle.script_operators.specs.declared.operators.Family.TheVariants as family
-use Rattle.script_operators.specs.declared.operators.Named.{Named}
-use Rattle.script_operators.specs.declared.operators.Named.TheVariants.{Applies, Indexed}
-use Rattle.script_operators.specs.Literals.{bit_value, hexadecimal_value, value_in, width_of_numeral, number_of}
-use Rattle.script_operators.specs.Operators.{operators, look_up, operator_named}
-use Rattle.script_operators.specs.Building.{Built, made}
-use Rattle.script_operators.specs.Indices.{Indices, one, two, many, word_by, word_in, word_of, with_indices, first_width, indexed_by}
-use Rattle.script_operators.proofs.Growth.{constant_declared, function_declared}
+use Rattle.smt_build.specs.declared.fault.BuildFault.{BuildFault}
+use Rattle.smt_build.specs.declared.fault.BuildFault.TheVariants.{UnknownSymbol, Declared, Reserved, WrongSort, Width, LiteralTooWide, NotSupported, TermLimit}
+use Rattle.smt_build.specs.declared.operators.Family.{Family}
+use Rattle.smt_build.specs.declared.operators.Family.TheVariants as family
+use Rattle.smt_build.specs.declared.operators.Named.{Named}
+use Rattle.smt_build.specs.declared.operators.Named.TheVariants.{Applies, Indexed}
 use Rattle.smt_build.specs.declared.symbols.LiveName.{LiveName}
 use Rattle.smt_build.specs.declared.definition.Definition.{Definition}
+use Rattle.smt_build.specs.Literals.{bit_value, hexadecimal_value, value_in, width_of_numeral, number_of}
+use Rattle.smt_build.specs.Operators.{operators, look_up, operator_named}
 use Rattle.smt_build.specs.Names.{Meanings, SymbolsValue, declaration_of, meaning_in}
 use Rattle.smt_build.specs.Scoped.{is_live, names_live}
 use Rattle.smt_build.specs.Definitions.{have_sorts, used}
-use Rattle.smt_build.specs.Building.{constant, declared_at, declared, function, called_at, called}
-use Rattle.smt_build.specs.Applying.{symbol_by, symbol_term, word_term, application_by, constant_array, application, indexed_term, known, indexed_application}
-use Rattle.smt_build.specs.Heads.{Head, plain, indexed, everywhere}
+use Rattle.smt_build.specs.Building.{Built, made, constant, declared_at, declared, function, called_at, called}
+use Rattle.smt_build.specs.Applying.{symbol_by, symbol_term, word_term, application_by, constant_array, application, indexed_term}
+use Rattle.smt_build.specs.Indices.{Indices, one, two, many, Head, plain, indexed, everywhere, word_by, word_in, word_of, known, with_indices, first_width, indexed_by, indexed_application}
 use Rattle.smt_build.specs.Binding.{misused}
+use Rattle.smt_build.proofs.Growth.{constant_declared, function_declared}
 use Rattle.smt_build.proofs.KeptTerms as kept_terms
 use Rattle.smt_build.proofs.KeptTerms.{IsKept, MayStand, none_stands}
 use Rattle.smt_build.proofs.KeptGroups as kept_groups

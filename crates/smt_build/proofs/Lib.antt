@@ -1,3 +1,6 @@
+pub mod Growth
+pub mod Numerals
+pub mod ReservedWords
 pub mod NameLemmas
 pub mod Spellings
 pub mod Places
@@ -8,6 +11,7 @@ pub mod PartLists
 pub mod Declarations
 pub mod ArraySorts
 pub mod Levels
+pub mod Folds
 pub mod Uses
 pub mod Ways
 pub mod Images

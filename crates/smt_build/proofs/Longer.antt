@@ -5,12 +5,12 @@ use Rattle.smt_terms.specs.Terms.{TermsValue}
 use Rattle.smt_terms.specs.Nodes.{node_of, node_at}
 use Rattle.smt_terms.proofs.Growing.{all_within}
 use Rattle.smt_terms.proofs.Made as making
-use Rattle.script_operators.specs.Building.{Built}
-use Rattle.script_operators.proofs.Growth.{longer}
 use Rattle.smt_build.specs.declared.definition.Definition.{Definition}
 use Rattle.smt_build.specs.Names.{Meanings, SymbolsValue, AreBodies}
 use Rattle.smt_build.specs.Parameters.{Parameters}
+use Rattle.smt_build.specs.Building.{Built}
 use Rattle.smt_build.specs.Terms.{term_over, term_of}
+use Rattle.smt_build.proofs.Growth.{longer}
 pub use Rattle.smt_build.proofs.KeptTerms.{GoOn, list_made, Follows}
 use Rattle.smt_build.proofs.KeptTerms as kept_terms
 use Rattle.smt_build.proofs.KeptTerms.{IsKept}

@@ -15,14 +15,14 @@ use Rattle.smt_terms.specs.Evaluations.{is_witness, each_true, has_no_witness}
 use Rattle.smt_terms.proofs.Recursion.{at_term_is, at_term_longer}
 use Rattle.smt_terms.proofs.Growing.{all_within}
 use Rattle.smt_terms.proofs.Made as making
-use Rattle.script_operators.specs.Building.{Built, Grows}
-use Rattle.script_operators.proofs.Growth.{longer}
 use Rattle.smt_build.specs.declared.symbols.LiveName.{LiveName}
 use Rattle.smt_build.specs.declared.definition.Definition.{Definition}
 use Rattle.smt_build.specs.Names.{Meanings, SymbolsValue, AreBodies}
 use Rattle.smt_build.specs.Scoped.{is_live, names_live, is_scripted, is_over, AreOver}
 use Rattle.smt_build.specs.Parameters.{Parameters}
+use Rattle.smt_build.specs.Building.{Built, Grows}
 use Rattle.smt_build.specs.Terms.{term_over, term_of}
+use Rattle.smt_build.proofs.Growth.{longer}
 use Rattle.smt_build.proofs.Reaching.{earlier}
 use Rattle.smt_build.proofs.KeptTerms.{GoOn, IsKept, BodiesHave, Keeps, go_made, list_before}
 use Rattle.smt_build.proofs.KeptReadings as kept_readings

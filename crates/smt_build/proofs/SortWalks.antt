@@ -7,12 +7,13 @@ use Rattle.smt_syntax.specs.Shapes.{is_const}
 use Rattle.smt_syntax.specs.Walk.{◌>>=◌, walk, walks}
 use Rattle.smt_syntax.proofs.Walks.{bind_assoc}
 use Rattle.smt_terms.specs.declared.sort.Sort.{Sort}
-use Rattle.script_operators.specs.declared.fault.BuildFault.{BuildFault}
-use Rattle.script_operators.specs.declared.fault.BuildFault.TheVariants.{NotSupported}
+use Rattle.smt_build.specs.declared.fault.BuildFault.{BuildFault}
+use Rattle.smt_build.specs.declared.fault.BuildFault.TheVariants.{NotSupported}
 use Rattle.smt_build.specs.declared.reader.Want.TheVariants as want
 use Rattle.smt_build.specs.Names.{SymbolsValue}
 use Rattle.smt_build.specs.Sorts.{word_listed, part_sort, array_sort, begins_array, behind_head, sort_in}
-use Rattle.smt_build.specs.Heads.{Head, everywhere, constant_in}
+use Rattle.smt_build.specs.Indices.{Head, everywhere}
+use Rattle.smt_build.specs.Heads.{constant_in}
 use Rattle.smt_build.specs.SortParts.{SortPart, word, listed, SortParts, no_part, more_parts, with_part, sort_of_part, is_array_word, sort_of_words, sort_of_parts}
 use Rattle.smt_build.specs.TermReader.{Part, head, const_word, sort_part, Open, as_started, const_read, sort_list, State, at_word, opens, context, takes, closes, term_reader}
 

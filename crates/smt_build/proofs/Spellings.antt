@@ -11,8 +11,8 @@ use Rattle.smt_syntax.specs.declared.span.Span.{Span}
 use Rattle.smt_syntax.specs.Spans.{IsWithin, tokens_at, Stands}
 use Rattle.smt_syntax.proofs.CommandReadings.{signs_same}
 use Rattle.smt_terms.specs.declared.sort.Sort.{Sort}
-use Rattle.script_operators.specs.declared.fault.BuildFault.{BuildFault}
-use Rattle.script_operators.specs.declared.fault.BuildFault.TheVariants.{NotSupported}
+use Rattle.smt_build.specs.declared.fault.BuildFault.{BuildFault}
+use Rattle.smt_build.specs.declared.fault.BuildFault.TheVariants.{NotSupported}
 use Rattle.smt_build.specs.Names.{Meanings}
 use Rattle.smt_build.specs.Sorts.{sort_named, width_sort, named_sort, indexed_sort, part_sort}
 

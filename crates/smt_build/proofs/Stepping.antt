@@ -8,11 +8,10 @@ use Rattle.smt_syntax.specs.Sexps.{Sign, open_paren, close_paren, word, sign_by,
 use Rattle.smt_syntax.specs.Walk.{Reader, ◌>>=◌, run, context_in}
 use Rattle.smt_syntax.proofs.Walks.{bind_assoc, bind_same, given, run-all}
 use Rattle.smt_terms.specs.Terms.{TermsValue}
-use Rattle.script_operators.specs.declared.fault.BuildFault.{BuildFault}
-use Rattle.script_operators.specs.declared.fault.BuildFault.TheVariants.{NotSupported}
-use Rattle.script_operators.specs.declared.fault.BuildError.{BuildError}
-use Rattle.script_operators.specs.declared.fault.BuildError.TheVariants.{NoMemory, Fault}
-use Rattle.script_operators.specs.Building.{Builds}
+use Rattle.smt_build.specs.declared.fault.BuildFault.{BuildFault}
+use Rattle.smt_build.specs.declared.fault.BuildFault.TheVariants.{NotSupported}
+use Rattle.smt_build.specs.declared.fault.BuildError.{BuildError}
+use Rattle.smt_build.specs.declared.fault.BuildError.TheVariants.{NoMemory, Fault}
 use Rattle.smt_build.specs.declared.reader.Want.{Want}
 use Rattle.smt_build.specs.declared.reader.Want.TheVariants as want
 use Rattle.smt_build.specs.declared.reader.Open.{Open as OpenList}
@@ -20,6 +19,7 @@ use Rattle.smt_build.specs.declared.reader.Part.{Part as ReadPart}
 use Rattle.smt_build.specs.declared.reader.Part.TheVariants as parts
 use Rattle.smt_build.specs.declared.scope.Scope.{Scope}
 use Rattle.smt_build.specs.Names.{SymbolsValue, no_symbols}
+use Rattle.smt_build.specs.Building.{Builds}
 use Rattle.smt_build.specs.Binding.{Progress, Read}
 use Rattle.smt_build.specs.Terms.{term_in, term_alone}
 use Rattle.smt_build.specs.TermReader.{Part, term, passed, Open, State, progress, after as later, as_part, term_reader, takes, closes, at_word}

@@ -6,13 +6,13 @@ use Rattle.smt_text.specs.declared.token.TokenKind.TheVariants as kind
 use Rattle.smt_syntax.specs.Sexps.{Sexp, Sexps, atom, group, none, more}
 use Rattle.smt_syntax.specs.Walk.{◌>>=◌, walk, walks}
 use Rattle.smt_syntax.proofs.Walks.{bind_assoc, bind_same}
-use Rattle.script_operators.specs.declared.fault.BuildFault.{BuildFault}
-use Rattle.script_operators.specs.Indices.{Indices, one, with_index}
+use Rattle.smt_build.specs.declared.fault.BuildFault.{BuildFault}
 use Rattle.smt_build.specs.declared.reader.Want.TheVariants as want
 use Rattle.smt_build.specs.Names.{SymbolsValue}
 use Rattle.smt_build.specs.Binding.{Bound, new_variable, Progress, Read, application_in, indexed_in_scope, naming, is_label, alone}
 use Rattle.smt_build.specs.Terms.{attributes_of, name_of, term_in, args_of, let_of, bindings_of, binding_of, body_of, annotated_of}
-use Rattle.smt_build.specs.Heads.{Head, plain, indices_behind, indexed_in, head_in}
+use Rattle.smt_build.specs.Indices.{Indices, one, with_index, Head, plain, indices_behind, indexed_in}
+use Rattle.smt_build.specs.Heads.{head_in}
 use Rattle.smt_build.specs.TermReader.{Part, term, head, name, label, passed, binding, Role, a_term, a_head, Open, started, marked, with_indices, application, let_started, let_bound, in_bindings, binding_started, binding_named, bang_started, annotated, labelled, unread, State, progress, state, after, as_part, at_word, opens, context, takes, closes, term_reader}
 use Rattle.smt_build.proofs.SortWalks.{walk-as}
 

@@ -5,9 +5,9 @@ use Rattle.std.proofs.lemmas.List.{drop_more, drop_all}
 use Rattle.smt_terms.specs.declared.sort.Sort.{Sort}
 use Rattle.smt_terms.specs.declared.node.Node.{Node}
 use Rattle.smt_terms.specs.Terms.{held_sort}
-use Rattle.script_operators.specs.Grouping.{has_sort}
 use Rattle.smt_build.specs.declared.definition.Definition.{Definition}
 use Rattle.smt_build.specs.Names.{Meanings, AreBodies}
+use Rattle.smt_build.specs.Grouping.{has_sort}
 use Rattle.smt_build.specs.Definitions.{have_sorts}
 
 -- other numbers of terms than of sorts

@@ -1,5 +1,5 @@
 -- The terms of symbols, of words and of applications.
-use Rattle.std.specs.Prelude.{ℕ, ◌||◌, is_some, List, [], ◌∷◌, Option, Some, None, Err, if◌then◌else◌}
+use Rattle.std.specs.Prelude.{ℕ, List, [], ◌∷◌, Option, Some, None, Err, if◌then◌else◌}
 use Rattle.smt_text.specs.declared.token.TokenKind.{TokenKind}
 use Rattle.smt_text.specs.declared.token.TokenKind.TheVariants as kind
 use Rattle.smt_syntax.specs.Shapes.{is_word_name}
@@ -8,19 +8,16 @@ use Rattle.smt_terms.specs.declared.sort.Sort.TheVariants as sort
 use Rattle.smt_terms.specs.declared.node.Op.TheVariants.{ConstantArray}
 use Rattle.smt_terms.specs.Nodes.{node_of}
 use Rattle.smt_terms.specs.Terms.{TermsValue}
-use Rattle.script_operators.specs.declared.fault.BuildFault.{BuildFault}
-use Rattle.script_operators.specs.declared.fault.BuildFault.TheVariants.{UnknownSymbol, WrongSort, NotSupported}
-use Rattle.script_operators.specs.declared.operators.Named.{Named}
-use Rattle.script_operators.specs.declared.operators.Named.TheVariants.{Applies, Indexed}
-use Rattle.script_operators.specs.Operators.{operator_named}
-use Rattle.script_operators.specs.Building.{Built, made, binary, hexadecimal}
-use Rattle.script_operators.specs.Grouping.{operation}
-use Rattle.script_operators.specs.Indices.{Indices, word_of, with_indices, first_width, indexed_by}
+use Rattle.smt_build.specs.declared.fault.BuildFault.TheVariants.{WrongSort, NotSupported}
+use Rattle.smt_build.specs.declared.operators.Named.{Named}
+use Rattle.smt_build.specs.declared.operators.Named.TheVariants.{Applies, Indexed}
+use Rattle.smt_build.specs.Operators.{operator_named}
 use Rattle.smt_build.specs.declared.definition.Definition.{Definition}
-use Rattle.smt_build.specs.Names.{SymbolsValue, declaration_of, meaning_in, is_taken}
+use Rattle.smt_build.specs.Names.{SymbolsValue, declaration_of, meaning_in}
 use Rattle.smt_build.specs.Definitions.{have_sorts, used}
-use Rattle.smt_build.specs.Building.{declared, called}
-use Rattle.smt_build.specs.Heads.{Head, plain, indexed, everywhere}
+use Rattle.smt_build.specs.Building.{Built, made, binary, hexadecimal, declared, called}
+use Rattle.smt_build.specs.Grouping.{operation}
+use Rattle.smt_build.specs.Indices.{Head, plain, indexed, everywhere, word_of, known, indexed_application}
 
 -- the term of an operator's name and its arguments
 abbrev pub applied : TermsValue → Named → List ℕ → Built
@@ -52,16 +49,6 @@ application_by symbols terms None None d args = called symbols terms d args
 abbrev pub constant_array : TermsValue → Sort → List ℕ → Built
 constant_array terms (sort.Array n m) args = if have_sorts terms.nodes (sort.Word m ∷ []) args then made terms (node_of (ConstantArray n) args) else Err WrongSort
 constant_array terms _ args = Err WrongSort
-
--- a name that stands for something takes other indices
-abbrev pub known : SymbolsValue → List ℕ → BuildFault
-known symbols f = if is_some (operator_named f) || is_taken symbols f then WrongSort else UnknownSymbol
-
--- the term of a name with indices and the terms that it is applied to
-abbrev pub indexed_application : SymbolsValue → TermsValue → List ℕ → Indices → Option Named → List ℕ → Built
-indexed_application symbols terms f is (Some (Indexed k)) args = indexed_by terms (with_indices k is (first_width terms args)) args
-indexed_application symbols terms f is (Some (Applies o arity)) args = Err WrongSort
-indexed_application symbols terms f is None args = Err (known symbols f)
 
 -- the term of a name and the terms that it is applied to
 unfoldable pub application : SymbolsValue → TermsValue → Head → List ℕ → Built

@@ -9,15 +9,15 @@ use Rattle.smt_syntax.specs.Walk.{◌>>=◌}
 use Rattle.smt_terms.specs.declared.node.Op.TheVariants.{Param}
 use Rattle.smt_terms.specs.Nodes.{leaf}
 use Rattle.smt_terms.specs.Terms.{TermsValue}
-use Rattle.script_operators.specs.declared.fault.BuildFault.{BuildFault}
-use Rattle.script_operators.specs.declared.fault.BuildFault.TheVariants.{UnknownSymbol, Declared, Reserved, WrongSort, NotSupported}
-use Rattle.script_operators.specs.Operators.{is_reserved}
-use Rattle.script_operators.specs.Building.{Built, made}
+use Rattle.smt_build.specs.declared.fault.BuildFault.{BuildFault}
+use Rattle.smt_build.specs.declared.fault.BuildFault.TheVariants.{UnknownSymbol, Declared, Reserved, WrongSort, NotSupported}
 use Rattle.smt_build.specs.declared.parameters.Parameter.{Parameter}
+use Rattle.smt_build.specs.Operators.{is_reserved}
 use Rattle.smt_build.specs.Names.{SymbolsValue, meaning_in, is_taken}
 use Rattle.smt_build.specs.Parameters.{Parameters}
+use Rattle.smt_build.specs.Building.{Built, made}
 pub use Rattle.smt_build.specs.Pairs.{Bound, innermost, bound_at}
-use Rattle.smt_build.specs.Heads.{Head, plain, indexed, everywhere}
+use Rattle.smt_build.specs.Indices.{Head, plain, indexed, everywhere}
 use Rattle.smt_build.specs.Applying.{word_term, application, indexed_term}
 
 abbrev pub is_bound : Bound → List ℕ → Bool

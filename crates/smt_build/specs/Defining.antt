@@ -8,17 +8,17 @@ use Rattle.smt_syntax.specs.Sexps.{Sexp, Sexps, atom, group, none, more}
 use Rattle.smt_syntax.specs.Walk.{◌>>=◌}
 use Rattle.smt_terms.specs.declared.sort.Sort.{Sort}
 use Rattle.smt_terms.specs.Terms.{TermsValue, held_sort}
-use Rattle.script_operators.specs.declared.fault.BuildFault.{BuildFault}
-use Rattle.script_operators.specs.declared.fault.BuildFault.TheVariants.{Declared, Reserved, WrongSort, NotSupported}
-use Rattle.script_operators.specs.declared.fault.BuildError.{BuildError}
-use Rattle.script_operators.specs.declared.fault.BuildError.TheVariants.{NoMemory, Fault}
-use Rattle.script_operators.specs.Operators.{is_reserved}
-use Rattle.script_operators.specs.Building.{Built}
-use Rattle.script_operators.specs.Grouping.{has_sort}
+use Rattle.smt_build.specs.declared.fault.BuildFault.{BuildFault}
+use Rattle.smt_build.specs.declared.fault.BuildFault.TheVariants.{Declared, Reserved, WrongSort, NotSupported}
+use Rattle.smt_build.specs.declared.fault.BuildError.{BuildError}
+use Rattle.smt_build.specs.declared.fault.BuildError.TheVariants.{NoMemory, Fault}
 use Rattle.smt_build.specs.Names.{SymbolsValue, meaning_in, is_taken, with_definition, with_sort}
+use Rattle.smt_build.specs.Operators.{is_reserved}
 use Rattle.smt_build.specs.Declaring.{value_sort}
 use Rattle.smt_build.specs.Sorts.{sort_in}
 use Rattle.smt_build.specs.Parameters.{Parameters, is_none, sorts_of, plain_sort, parameters_in}
+use Rattle.smt_build.specs.Building.{Built}
+use Rattle.smt_build.specs.Grouping.{has_sort}
 use Rattle.smt_build.specs.Terms.{term_over}
 
 -- ---- names of sorts

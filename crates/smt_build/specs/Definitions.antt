@@ -8,10 +8,10 @@ use Rattle.smt_terms.specs.declared.node.Op.TheVariants.{Param}
 use Rattle.smt_terms.specs.declared.node.Node.{Node}
 use Rattle.smt_terms.specs.Nodes.{node_of, node_at, at_term}
 use Rattle.smt_terms.specs.Terms.{TermsValue, held_sort}
-use Rattle.script_operators.specs.declared.fault.BuildFault.TheVariants.{WrongSort}
-use Rattle.script_operators.specs.Building.{Built, made}
-use Rattle.script_operators.specs.Grouping.{Listed, has_sort}
 use Rattle.smt_build.specs.declared.definition.Definition.{Definition}
+use Rattle.smt_build.specs.declared.fault.BuildFault.TheVariants.{WrongSort}
+use Rattle.smt_build.specs.Building.{Built, made}
+use Rattle.smt_build.specs.Grouping.{Listed, has_sort}
 
 -- there are as many terms as sorts, each of its sort
 abbrev pub have_sorts : List Node → List Sort → List ℕ → Bool

@@ -1,8 +1,12 @@
+pub mod Literals
+pub mod Operators
 pub mod Names
 pub mod Sorts
 pub mod Parameters
 pub mod Declaring
 pub mod Building
+pub mod Grouping
+pub mod Indices
 pub mod SortParts
 pub mod Heads
 pub mod Definitions

@@ -5,6 +5,10 @@ use Rattle.std.specs.declared.alloc.Global.{Global}
 use Rattle.std.specs.Str.{bytes_eq}
 use Rattle.smt_terms.specs.declared.sort.Sort.{Sort}
 use Rattle.smt_terms.specs.declared.sort.Signature.{Signature}
+use Rattle.smt_terms.specs.declared.node.Op.{Op}
+use Rattle.smt_terms.specs.declared.node.Node.{Node}
+use Rattle.smt_terms.specs.Nodes.{node_at}
+use Rattle.smt_terms.specs.Terms.{declaration_of as declaration_in, signature_of}
 use Rattle.smt_build.specs.declared.definition.Definition.{Definition}
 use Rattle.smt_build.specs.declared.symbols.LiveName.{LiveName}
 use Rattle.smt_build.specs.declared.symbols.Level.{Level}
@@ -75,6 +79,14 @@ popped v n = popped_to v (length v.levels - n) (slice_get v.levels (length v.lev
 -- no levels and no names; the declarations stay counted
 abbrev pub emptied : SymbolsValue → SymbolsValue
 emptied v = record { live = []; signatures = v.signatures; definitions = []; sorts = []; levels = [] }
+
+-- each declaration that a term names was made, with the signature that the term gives it
+pub record AreDeclared (signatures : List Signature) (nodes : List Node) : Type 0 where
+  pub each : (t d : ℕ) → declaration_in (node_at nodes t).op ≡ Some d → slice_get signatures d ≡ Some (signature_of (node_at nodes t).op)
+
+-- an operator names no declaration but one that was made, with its signature
+pub record IsDeclared (signatures : List Signature) (op : Op) : Type 0 where
+  pub each : (d : ℕ) → declaration_in op ≡ Some d → slice_get signatures d ≡ Some (signature_of op)
 
 -- the bodies of definitions are among so many terms
 abbrev pub AreBodies : ℕ → Meanings Definition → Type 0

@@ -4,12 +4,12 @@ use Rattle.smt_syntax.specs.Sexps.{Sexp, Sexps, atom, group, none, more}
 use Rattle.smt_syntax.specs.Walk.{◌>>=◌}
 use Rattle.smt_terms.specs.declared.sort.Sort.{Sort}
 use Rattle.smt_terms.specs.declared.sort.Sort.TheVariants.{Array}
-use Rattle.script_operators.specs.declared.fault.BuildFault.{BuildFault}
-use Rattle.script_operators.specs.declared.fault.BuildFault.TheVariants.{Declared, Reserved, NotSupported}
-use Rattle.script_operators.specs.declared.fault.BuildError.{BuildError}
-use Rattle.script_operators.specs.declared.fault.BuildError.TheVariants.{NoMemory, Fault}
-use Rattle.script_operators.specs.Operators.{is_reserved}
+use Rattle.smt_build.specs.declared.fault.BuildFault.{BuildFault}
+use Rattle.smt_build.specs.declared.fault.BuildFault.TheVariants.{Declared, Reserved, NotSupported}
+use Rattle.smt_build.specs.declared.fault.BuildError.{BuildError}
+use Rattle.smt_build.specs.declared.fault.BuildError.TheVariants.{NoMemory, Fault}
 use Rattle.smt_build.specs.declared.parameters.Parameter.{Parameter}
+use Rattle.smt_build.specs.Operators.{is_reserved}
 use Rattle.smt_build.specs.Names.{Meanings, SymbolsValue, meaning_in}
 use Rattle.smt_build.specs.Parts.{over_parts}
 use Rattle.smt_build.specs.Sorts.{sort_in}

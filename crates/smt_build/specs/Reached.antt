@@ -4,7 +4,7 @@ use Rattle.smt_terms.specs.declared.node.Node.{Node}
 use Rattle.smt_terms.specs.Nodes.{node_of, node_at}
 use Rattle.smt_terms.specs.Terms.{TermsValue, IsTermList}
 use Rattle.term_reach.specs.Reach.{IsOnce}
-use Rattle.script_operators.specs.Building.{Built, made}
+use Rattle.smt_build.specs.Building.{Built, made}
 use Rattle.smt_build.specs.Definitions.{reaches, argument}
 
 -- what stands for a term: the number that has the term's place; 0 where there is none

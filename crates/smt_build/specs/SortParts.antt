@@ -4,8 +4,8 @@ use Rattle.std.specs.Str.{bytes_eq}
 use Rattle.smt_text.specs.declared.token.TokenKind.{TokenKind}
 use Rattle.smt_text.specs.declared.token.TokenKind.TheVariants as kind
 use Rattle.smt_terms.specs.declared.sort.Sort.{Sort}
-use Rattle.script_operators.specs.declared.fault.BuildFault.{BuildFault}
-use Rattle.script_operators.specs.declared.fault.BuildFault.TheVariants.{NotSupported}
+use Rattle.smt_build.specs.declared.fault.BuildFault.{BuildFault}
+use Rattle.smt_build.specs.declared.fault.BuildFault.TheVariants.{NotSupported}
 use Rattle.smt_build.specs.Names.{Meanings, SymbolsValue}
 use Rattle.smt_build.specs.Sorts.{sort_named, indexed_sort, array_by}
 

@@ -7,9 +7,9 @@ use Rattle.smt_syntax.specs.Sexps.{Sexp, Sexps, atom, group, none, more}
 use Rattle.smt_syntax.specs.Walk.{◌>>=◌}
 use Rattle.smt_terms.specs.declared.sort.Sort.{Sort}
 use Rattle.smt_terms.specs.declared.sort.Sort.TheVariants as sort
-use Rattle.script_operators.specs.declared.fault.BuildFault.{BuildFault}
-use Rattle.script_operators.specs.declared.fault.BuildFault.TheVariants.{UnknownSymbol, Width, NotSupported}
-use Rattle.script_operators.specs.Literals.{width_of_numeral}
+use Rattle.smt_build.specs.declared.fault.BuildFault.{BuildFault}
+use Rattle.smt_build.specs.declared.fault.BuildFault.TheVariants.{UnknownSymbol, Width, NotSupported}
+use Rattle.smt_build.specs.Literals.{width_of_numeral}
 use Rattle.smt_build.specs.Names.{Meanings, SymbolsValue, meaning_in}
 
 abbrev pub defined_sort : Option Sort → Result Sort BuildFault

@@ -2,9 +2,9 @@
 use Rattle.std.specs.Prelude.{◌≡◌, List, [], ◌∷◌, Option, Some, None, Result, Ok, Err}
 use Rattle.smt_syntax.specs.Sexps.{Sign, open_paren, close_paren, word}
 use Rattle.smt_syntax.specs.Walk.{Reader, ◌>>=◌, context_in}
-use Rattle.script_operators.specs.declared.fault.BuildFault.{BuildFault}
-use Rattle.script_operators.specs.declared.fault.BuildError.{BuildError}
-use Rattle.script_operators.specs.declared.fault.BuildError.TheVariants.{NoMemory, Fault}
+use Rattle.smt_build.specs.declared.fault.BuildFault.{BuildFault}
+use Rattle.smt_build.specs.declared.fault.BuildError.{BuildError}
+use Rattle.smt_build.specs.declared.fault.BuildError.TheVariants.{NoMemory, Fault}
 use Rattle.smt_build.specs.declared.reader.Part.{Part as ReadPart}
 use Rattle.smt_build.specs.TermReader.{Part, Open, State}
 use Rattle.smt_build.specs.Views.{part_of}

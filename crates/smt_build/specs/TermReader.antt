@@ -5,14 +5,13 @@ use Rattle.smt_text.specs.declared.token.TokenKind.TheVariants as kind
 use Rattle.smt_syntax.specs.Shapes.{is_const}
 use Rattle.smt_syntax.specs.Walk.{Reader, ◌>>=◌}
 use Rattle.smt_terms.specs.Terms.{TermsValue}
-use Rattle.script_operators.specs.declared.fault.BuildFault.{BuildFault}
-use Rattle.script_operators.specs.declared.fault.BuildFault.TheVariants.{NotSupported}
-use Rattle.script_operators.specs.Indices.{Indices, one, with_index}
+use Rattle.smt_build.specs.declared.fault.BuildFault.{BuildFault}
+use Rattle.smt_build.specs.declared.fault.BuildFault.TheVariants.{NotSupported}
 use Rattle.smt_build.specs.declared.reader.Want.{Want}
 use Rattle.smt_build.specs.declared.reader.Want.TheVariants as want
 use Rattle.smt_build.specs.declared.scope.Scope.{Scope}
 use Rattle.smt_build.specs.Names.{SymbolsValue}
-use Rattle.smt_build.specs.Heads.{Head, plain, indexed, everywhere}
+use Rattle.smt_build.specs.Indices.{Indices, one, with_index, Head, plain, indexed, everywhere}
 use Rattle.smt_build.specs.SortParts.{SortPart, word, listed, SortParts, no_part, with_part, sort_of_part, sort_of_parts}
 use Rattle.smt_build.specs.Binding.{Bound, new_variable, Progress, Read, word_in, application_in, indexed_in_scope, naming, is_label}
 

@@ -5,12 +5,13 @@ use Rattle.smt_text.specs.declared.token.TokenKind.TheVariants as kind
 use Rattle.smt_syntax.specs.Sexps.{Sexp, Sexps, atom, group, none, more}
 use Rattle.smt_syntax.specs.Walk.{◌>>=◌}
 use Rattle.smt_terms.specs.Terms.{TermsValue}
-use Rattle.script_operators.specs.declared.fault.BuildFault.{BuildFault}
-use Rattle.script_operators.specs.declared.fault.BuildFault.TheVariants.{NotSupported}
-use Rattle.script_operators.specs.Building.{Built}
+use Rattle.smt_build.specs.declared.fault.BuildFault.{BuildFault}
+use Rattle.smt_build.specs.declared.fault.BuildFault.TheVariants.{NotSupported}
 use Rattle.smt_build.specs.Names.{SymbolsValue}
 use Rattle.smt_build.specs.Parameters.{Parameters}
-use Rattle.smt_build.specs.Heads.{plain, indexed_in, head_in}
+use Rattle.smt_build.specs.Building.{Built}
+use Rattle.smt_build.specs.Indices.{plain, indexed_in}
+use Rattle.smt_build.specs.Heads.{head_in}
 use Rattle.smt_build.specs.Binding.{Bound, new_variable, Progress, Read, word_in, application_in, indexed_in_scope, naming, is_label, alone}
 
 -- `may_name` says whether terms may be given names here

@@ -1,17 +1,18 @@
 -- What the reader of terms holds, without where it lies in memory, and what its calls answer.
 use Rattle.std.specs.Prelude.{◌≡◌, ℕ, Bool, true, List, [], map, reverse, Result, Ok, Err}
 use Rattle.smt_terms.specs.Terms.{TermsValue}
-use Rattle.script_operators.specs.declared.fault.BuildFault.{BuildFault}
-use Rattle.script_operators.specs.declared.fault.BuildFault.TheVariants.{UnknownSymbol, WrongSort}
-use Rattle.script_operators.specs.declared.fault.BuildError.{BuildError}
-use Rattle.script_operators.specs.declared.fault.BuildError.TheVariants.{NoMemory, Fault}
-use Rattle.script_operators.specs.Views.{indices_of}
+use Rattle.smt_build.specs.declared.fault.BuildFault.{BuildFault}
+use Rattle.smt_build.specs.declared.fault.BuildFault.TheVariants.{UnknownSymbol, WrongSort}
+use Rattle.smt_build.specs.declared.fault.BuildError.{BuildError}
+use Rattle.smt_build.specs.declared.fault.BuildError.TheVariants.{NoMemory, Fault}
 use Rattle.smt_build.specs.declared.reader.Open.{Open as OpenList}
 use Rattle.smt_build.specs.declared.reader.Open.TheVariants as lists
 use Rattle.smt_build.specs.declared.reader.Part.{Part as ReadPart}
 use Rattle.smt_build.specs.declared.reader.Part.TheVariants as parts
-use Rattle.smt_build.specs.declared.head.Head.{Head as ReadHead}
-use Rattle.smt_build.specs.declared.head.Head.TheVariants as heads
+use Rattle.smt_build.specs.declared.indices.Indices.{Indices as ReadIndices}
+use Rattle.smt_build.specs.declared.indices.Indices.TheVariants as counts
+use Rattle.smt_build.specs.declared.indices.Head.{Head as ReadHead}
+use Rattle.smt_build.specs.declared.indices.Head.TheVariants as heads
 use Rattle.smt_build.specs.declared.reader.Role.{Role as ReadRole}
 use Rattle.smt_build.specs.declared.reader.Role.TheVariants as roles
 use Rattle.smt_build.specs.declared.sort_parts.SortPart.{SortPart as ReadSortPart}
@@ -19,11 +20,16 @@ use Rattle.smt_build.specs.declared.sort_parts.SortPart.TheVariants as sort_part
 use Rattle.smt_build.specs.declared.sort_parts.SortParts.{SortParts as ReadSortParts}
 use Rattle.smt_build.specs.declared.sort_parts.SortParts.TheVariants as sort_lists
 use Rattle.smt_build.specs.declared.scope.Scope.{Scope}
-use Rattle.smt_build.specs.Heads.{Head, plain, indexed, everywhere}
+use Rattle.smt_build.specs.Indices.{Indices, one, two, many, Head, plain, indexed, everywhere}
 use Rattle.smt_build.specs.SortParts.{SortPart, word, listed, SortParts, no_part, one_part, two_parts, three_parts, more_parts}
 use Rattle.smt_build.specs.Parameters.{Parameters}
 use Rattle.smt_build.specs.Binding.{Progress, Read}
 use Rattle.smt_build.specs.TermReader.{Part, term, head, mark, name, index, let_word, binding, bindings, bang_word, label, passed, as_word, const_word, sort_part, Role, a_term, a_head, Open, started, head_started, marked, named, with_indices, application, let_started, let_bound, let_done, in_bindings, binding_started, binding_named, binding_done, bang_started, annotated, labelled, unread, as_started, const_read, const_sorted, sort_list, State}
+
+abbrev pub indices_of : ReadIndices → Indices
+indices_of (counts.One i) = one i.now
+indices_of (counts.Two i j) = two i.now j.now
+indices_of counts.Many = many
 
 abbrev pub head_of : ReadHead → Head
 head_of (heads.Plain f) = plain f.now

@@ -3,18 +3,18 @@
 ghost use Rattle.std.specs.Prelude.{◌≡◌, OnOk, OnErr, map};
 ghost use Rattle.smt_syntax.specs.Sexps.{signs_of, Sexp};
 ghost use Rattle.smt_syntax.specs.Spans.{Stands};
-ghost use Rattle.script_operators.specs.Declarations.{AreDeclared};
-ghost use Rattle.script_operators.specs.Building.{Grows};
+ghost use Rattle.smt_build.specs.Names.{AreDeclared};
+ghost use Rattle.smt_build.specs.Building.{Grows};
 ghost use Rattle.smt_build.specs.Pairs.{pair_of};
 ghost use Rattle.smt_build.specs.Asserting.{with_name, with_names, assertion, Asserts};
 
 use crate::declare::tokens_at;
 use crate::definition::Definition;
 use crate::elaborate::{read_term, scope_over};
+use crate::fault::BuildError;
 use crate::parameters::Parameters;
 use crate::scope::Variable;
 use crate::symbols::Symbols;
-use script_operators::fault::BuildError;
 use smt_syntax::span::Span;
 use smt_terms::node::TermId;
 use smt_terms::terms::Terms;

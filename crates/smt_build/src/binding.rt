@@ -2,26 +2,24 @@
 
 ghost use Rattle.std.specs.Prelude.{◌≡◌, drop, List, Ok, Err, IfOk, IfErr, OnOk, if◌then◌else◌};
 ghost use Rattle.smt_terms.specs.declared.sort.Signature.{Signature as SignatureValue};
-ghost use Rattle.script_operators.specs.Declarations.{AreDeclared};
-ghost use Rattle.script_operators.specs.Building.{made, Builds, Grows};
+ghost use Rattle.smt_build.specs.Names.{AreDeclared};
+ghost use Rattle.smt_build.specs.Building.{made, Builds, Grows};
 ghost use Rattle.smt_terms.specs.Nodes.{leaf};
 ghost use Rattle.smt_terms.specs.Terms.{TermsValue};
-ghost use Rattle.script_operators.specs.Views.{indices_of};
 ghost use Rattle.smt_build.specs.Binding.{new_variable, local_at, is_local, word_in, application_in, indexed_in_scope, naming, is_label};
-ghost use Rattle.smt_build.specs.Heads.{indexed};
+ghost use Rattle.smt_build.specs.Indices.{indexed};
 ghost use Rattle.smt_build.specs.TermReader.{label, passed, progress};
-ghost use Rattle.smt_build.specs.Views.{head_of, part_of, state_of, misused_error, ReadsTerm, Names};
+ghost use Rattle.smt_build.specs.Views.{head_of, indices_of, part_of, state_of, misused_error, ReadsTerm, Names};
 
 use crate::build::{application, indexed_term, word_term};
-use crate::head::Head;
+use crate::fault::{BuildError, BuildFault};
+use crate::indices::{Head, Indices};
+use crate::making::made;
+use crate::operators::is_reserved;
 use crate::parameters::Parameter;
 use crate::reader::Part;
 use crate::scope::Scope;
 use crate::symbols::Symbols;
-use script_operators::fault::{BuildError, BuildFault};
-use script_operators::indices::Indices;
-use script_operators::making::made;
-use script_operators::operators::is_reserved;
 use smt_terms::node::{Node, Op, TermId};
 use smt_terms::terms::Terms;
 use smt_text::token::TokenKind;

@@ -3,25 +3,21 @@
 ghost use Rattle.std.specs.Prelude.{◌≡◌, ◌*◌, Some, slice_get, List};
 ghost use Rattle.smt_terms.specs.Nodes.{leaf};
 ghost use Rattle.smt_terms.specs.declared.sort.Signature.{Signature as SignatureValue};
-ghost use Rattle.script_operators.specs.Declarations.{AreDeclared};
-ghost use Rattle.script_operators.specs.Building.{made, binary, hexadecimal, Builds, Means, Grows};
-ghost use Rattle.script_operators.specs.Operators.{operator_named};
-ghost use Rattle.script_operators.specs.Views.{indices_of};
-ghost use Rattle.smt_build.specs.Names.{declaration_of, meaning_in};
-ghost use Rattle.smt_build.specs.Building.{constant, declared, declared_at, function, called, called_at};
+ghost use Rattle.smt_build.specs.Names.{AreDeclared, declaration_of, meaning_in};
+ghost use Rattle.smt_build.specs.Building.{made, binary, hexadecimal, constant, declared, declared_at, function, called, called_at, Builds, Means, Grows};
 ghost use Rattle.smt_build.specs.Applying.{applied, symbol_term, word_term, application_by, constant_array, application, indexed_term};
-ghost use Rattle.smt_build.specs.Heads.{indexed};
-ghost use Rattle.smt_build.specs.Views.{head_of};
+ghost use Rattle.smt_build.specs.Indices.{indexed};
+ghost use Rattle.smt_build.specs.Operators.{operator_named};
+ghost use Rattle.smt_build.specs.Views.{head_of, indices_of};
 
 use crate::definition::{have_sorts, used};
-use crate::head::{Head, indexed_application, known};
+use crate::fault::{BuildError, BuildFault};
+use crate::grouping::operation;
+use crate::indices::{Head, Indices, indexed_application, known, word_of};
+use crate::literal::{binary_number, hexadecimal_number};
+use crate::making::made;
+use crate::operators::{Named, operator_named};
 use crate::symbols::Symbols;
-use script_operators::fault::{BuildError, BuildFault};
-use script_operators::grouping::operation;
-use script_operators::indices::{Indices, word_of};
-use script_operators::literal::{binary, hexadecimal};
-use script_operators::making::made;
-use script_operators::operators::{Named, operator_named};
 use smt_syntax::words::is_word_name;
 use smt_terms::list::Arguments;
 use smt_terms::node::{Node, Op, TermId};
@@ -30,6 +26,44 @@ use smt_terms::terms::Terms;
 use smt_text::token::TokenKind;
 use std::alloc::Global;
 use term_reach::Reached;
+
+/// The term of a literal.
+fn literal(
+    alloc: Global,
+    terms: &mut Terms,
+    width: usize,
+    value: u128,
+) -> Result<TermId, BuildError>
+    ensures builds { Builds (made terms.old (leaf (Op.Word width value))) result terms.old
+        terms.new }
+    ensures grows { (signatures : List SignatureValue) → Grows signatures terms.old terms.new }
+{
+    let op = Op::Word {
+        width: width as u64,
+        value,
+    };
+    made(terms, Node::leaf(alloc, op))
+}
+
+fn binary(alloc: Global, terms: &mut Terms, digits: &[u8]) -> Result<TermId, BuildError>
+    ensures builds { Builds (binary terms.old digits.now) result terms.old terms.new }
+    ensures grows { (signatures : List SignatureValue) → Grows signatures terms.old terms.new }
+{
+    if digits.len() > 128 {
+        return Err(BuildError::Fault(BuildFault::LiteralTooWide));
+    }
+    literal(alloc, terms, digits.len(), binary_number(digits))
+}
+
+fn hexadecimal(alloc: Global, terms: &mut Terms, digits: &[u8]) -> Result<TermId, BuildError>
+    ensures builds { Builds (hexadecimal terms.old digits.now) result terms.old terms.new }
+    ensures grows { (signatures : List SignatureValue) → Grows signatures terms.old terms.new }
+{
+    if digits.len() > 32 {
+        return Err(BuildError::Fault(BuildFault::LiteralTooWide));
+    }
+    literal(alloc, terms, 4 * digits.len(), hexadecimal_number(digits))
+}
 
 /// The term of a declared constant.
 fn constant(

@@ -9,12 +9,12 @@ ghost use Rattle.smt_build.specs.Naming.{parts_of};
 ghost use Rattle.smt_build.specs.Parts.{over_parts};
 ghost use Rattle.smt_build.specs.Declaring.{declare, declare_name, value_sort, of_constant, plain_in, next_argument, of_function, signature_in, AreArguments, Declares};
 
+use crate::fault::{BuildError, BuildFault};
 use crate::naming::parts_of;
+use crate::operators::is_reserved;
 use crate::parameters::plain_sort;
 use crate::sorts::sort_of;
 use crate::symbols::Symbols;
-use script_operators::fault::{BuildError, BuildFault};
-use script_operators::operators::is_reserved;
 use smt_syntax::command::Command;
 use smt_syntax::span::Span;
 use smt_terms::list::Sorts;

@@ -3,13 +3,13 @@
 ghost use Rattle.std.specs.Prelude.{◌≡◌, ◌≢◌, ◌<◌, ℕ, List, [], Contains, map, length, IfOk};
 ghost use Rattle.smt_terms.specs.declared.sort.Signature.{Signature as SignatureValue};
 ghost use Rattle.smt_terms.specs.Nodes.{node_of, node_at};
-ghost use Rattle.script_operators.specs.Building.{made, Builds, Means, Grows};
+ghost use Rattle.smt_build.specs.Building.{made, Builds, Means, Grows};
 ghost use Rattle.smt_build.specs.Definitions.{have_sorts, image, argument, instance, used};
 ghost use Rattle.smt_build.specs.Reached.{placed, again, AreRising};
 
-use script_operators::fault::{BuildError, BuildFault};
-use script_operators::grouping::{has_sort, held_sort};
-use script_operators::making::made;
+use crate::fault::{BuildError, BuildFault};
+use crate::grouping::{has_sort, held_sort};
+use crate::making::made;
 use smt_terms::list::{Arguments, Sorts};
 use smt_terms::node::{Node, Op, TermId};
 use smt_terms::sort::Sort;

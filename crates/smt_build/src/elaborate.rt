@@ -5,20 +5,19 @@ ghost use Rattle.smt_syntax.specs.Sexps.{sign_in, signs_in, signs_of, spelling, 
 ghost use Rattle.smt_syntax.specs.Spans.{Stands};
 ghost use Rattle.smt_syntax.specs.Walk.{run, context_in};
 ghost use Rattle.smt_terms.specs.Terms.{TermsValue};
-ghost use Rattle.script_operators.specs.Declarations.{AreDeclared};
-ghost use Rattle.script_operators.specs.Building.{Grows, Builds};
-ghost use Rattle.smt_build.specs.Names.{no_symbols};
+ghost use Rattle.smt_build.specs.Names.{AreDeclared, no_symbols};
+ghost use Rattle.smt_build.specs.Building.{Grows, Builds};
 ghost use Rattle.smt_build.specs.Terms.{term_in, term_over, term_of};
 ghost use Rattle.smt_build.specs.TermReader.{term_reader, progress};
 ghost use Rattle.smt_build.specs.Steps.{opened, handed, step, Steps};
 ghost use Rattle.smt_build.specs.Views.{scope_over, stack_of, part_of, state_of, Does, ReadsTerm};
 
 use crate::declare::tokens_at;
+use crate::fault::{BuildError, BuildFault};
 use crate::parameters::Parameters;
 use crate::reader::{Open, Part, Want, at_word, closes, context, opens, takes};
 use crate::scope::{Scope, Variables};
 use crate::symbols::Symbols;
-use script_operators::fault::{BuildError, BuildFault};
 use smt_syntax::span::Span;
 use smt_terms::node::TermId;
 use smt_terms::terms::Terms;

@@ -6,12 +6,12 @@ ghost use Rattle.smt_build.specs.Names.{meaning_in};
 ghost use Rattle.smt_build.specs.Parameters.{is_none, sorts_of, plain_sort, with_parameter, new_parameter, named_parameter, next_parameter, parameters_in, Lists};
 
 use crate::declare::tokens_at;
+use crate::fault::{BuildError, BuildFault};
 use crate::naming::parts_of;
+use crate::operators::is_reserved;
 use crate::sorts::sort_of;
 use crate::symbols::Symbols;
 use indexmap::IndexMap;
-use script_operators::fault::{BuildError, BuildFault};
-use script_operators::operators::is_reserved;
 use smt_terms::list::Sorts;
 use smt_terms::sort::Sort;
 use smt_text::token::Token;

@@ -1,22 +1,20 @@
 // The reader of terms, a step at a time.
 
 ghost use Rattle.std.specs.Prelude.{◌≡◌};
-ghost use Rattle.script_operators.specs.Declarations.{AreDeclared};
-ghost use Rattle.script_operators.specs.Building.{Grows};
-ghost use Rattle.smt_build.specs.Names.{SymbolsValue};
+ghost use Rattle.smt_build.specs.Names.{AreDeclared, SymbolsValue};
 ghost use Rattle.smt_build.specs.Binding.{new_variable, naming, is_label, word_in, application_in, indexed_in_scope};
+ghost use Rattle.smt_build.specs.Building.{Grows};
 ghost use Rattle.smt_build.specs.TermReader.{opens, context, takes, closes, at_word, progress};
 ghost use Rattle.smt_build.specs.Views.{open_of, part_of, state_of, Opens, Does, Takes};
 
 use crate::binding::{
     application_in, attribute, indexed_in_scope, name_term, new_variable, word_in,
 };
-use crate::head::Head;
+use crate::fault::{BuildError, BuildFault};
+use crate::indices::{Head, Indices, with_index};
 use crate::scope::Scope;
 use crate::sort_parts::{SortPart, SortParts, sort_of_part, sort_of_parts, with_part};
 use crate::symbols::Symbols;
-use script_operators::fault::{BuildError, BuildFault};
-use script_operators::indices::{Indices, with_index};
 use smt_terms::node::TermId;
 use smt_terms::terms::Terms;
 use smt_text::token::TokenKind;

@@ -4,9 +4,9 @@ ghost use Rattle.std.specs.Prelude.{◌≡◌};
 ghost use Rattle.smt_build.specs.SortParts.{with_part, sort_of_part, is_array_word, sort_of_words, sort_of_parts};
 ghost use Rattle.smt_build.specs.Views.{sort_part_of, sort_parts_of};
 
+use crate::fault::BuildFault;
 use crate::sorts::{array_by, indexed_sort, sort_named};
 use crate::symbols::Symbols;
-use script_operators::fault::BuildFault;
 use smt_terms::sort::Sort;
 use smt_text::token::TokenKind;
 

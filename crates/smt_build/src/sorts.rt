@@ -5,10 +5,10 @@ ghost use Rattle.smt_syntax.specs.Sexps.{signs_in, spelling, Sexp};
 ghost use Rattle.smt_build.specs.Sorts.{sort_named, width_sort, named_sort, indexed_sort, part_sort, array_by, array_sort, begins_array, behind_head, sort_in};
 
 use crate::declare::tokens_at;
+use crate::fault::BuildFault;
+use crate::literal::width_of_numeral;
 use crate::naming::parts_of;
 use crate::symbols::Symbols;
-use script_operators::fault::BuildFault;
-use script_operators::literal::width_of_numeral;
 use smt_terms::sort::Sort;
 use smt_text::token::{Token, TokenKind};
 use std::alloc::{AllocError, Global};

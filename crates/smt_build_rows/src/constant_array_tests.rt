@@ -4,7 +4,7 @@ ghost use Rattle.std.specs.Prelude.{◌≤◌, ◌^◌};
 
 use crate::tests::{done, no_terms};
 use crate::theory_tests::declare_all;
-use script_operators::fault::{BuildError, BuildFault};
+use smt_build::fault::{BuildError, BuildFault};
 use smt_build::symbols::Symbols;
 use std::process::Abort;
 use std::test::Fail;

@@ -1,10 +1,10 @@
 //! Worked definitions of functions and of sorts, and terms that are no command's, with ample memory.
 
 ghost use Rattle.std.specs.Prelude.{◌≤◌, ◌^◌};
-ghost use Rattle.script_operators.specs.Declarations.{AreDeclared};
+ghost use Rattle.smt_build.specs.Names.{AreDeclared};
 
 use crate::tests::{P, X, declared, no_terms};
-use script_operators::fault::{BuildError, BuildFault};
+use smt_build::fault::{BuildError, BuildFault};
 use smt_build::symbols::Symbols;
 use smt_syntax::command::{Command, SyntaxError, read_command};
 use smt_syntax::span::Span;

@@ -1,9 +1,9 @@
 //! Worked commands, with ample memory.
 
 ghost use Rattle.std.specs.Prelude.{◌≤◌, ◌^◌};
-ghost use Rattle.script_operators.specs.Declarations.{AreDeclared};
+ghost use Rattle.smt_build.specs.Names.{AreDeclared};
 
-use script_operators::fault::{BuildError, BuildFault};
+use smt_build::fault::{BuildError, BuildFault};
 use smt_build::symbols::Symbols;
 use smt_syntax::command::{Command, SyntaxError, read_command};
 use smt_terms::terms::Terms;

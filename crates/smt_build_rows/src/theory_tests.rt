@@ -1,9 +1,9 @@
 //! Worked functions and arrays, with ample memory.
 
-ghost use Rattle.script_operators.specs.Declarations.{AreDeclared};
+ghost use Rattle.smt_build.specs.Names.{AreDeclared};
 
 use crate::tests::{declared, done, no_terms};
-use script_operators::fault::{BuildError, BuildFault};
+use smt_build::fault::{BuildError, BuildFault};
 use smt_build::symbols::Symbols;
 use smt_terms::terms::Terms;
 use std::process::Abort;

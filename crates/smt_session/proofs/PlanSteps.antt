@@ -14,7 +14,7 @@ use Rattle.smt_terms.specs.Nodes.{node_at}
 use Rattle.smt_terms.specs.Ranks.{is_plain}
 use Rattle.smt_terms.specs.Terms.{TermsValue, sort_of}
 use Rattle.smt_terms.proofs.Growing.{sort_longer}
-use Rattle.script_operators.specs.Declarations.{IsDeclared}
+use Rattle.smt_build.specs.Names.{IsDeclared}
 use Rattle.script_state.specs.States.{StateValue, RestValue, with_terms, Fit}
 use Rattle.script_state.proofs.Keeping.{fit_more}
 use Rattle.bv_rules.proofs.Keeping.{matched}

@@ -6,7 +6,7 @@ ghost use Rattle.smt_terms.specs.Nodes.{node_at};
 ghost use Rattle.smt_terms.specs.Bits.{TermBits, bits_in, image_in};
 ghost use Rattle.smt_terms.specs.Ranks.{is_plain};
 ghost use Rattle.smt_terms.specs.Terms.{TermsValue, Agrees, sort_of};
-ghost use Rattle.script_operators.specs.Declarations.{IsDeclared};
+ghost use Rattle.smt_build.specs.Names.{IsDeclared};
 ghost use Rattle.proof_log.specs.declared.entry.Entry.TheVariants as step;
 ghost use Rattle.proof_log.specs.Faults.{Answers};
 ghost use Rattle.proof_log.specs.Logs.{leaf_width};

@@ -1,5 +1,5 @@
-use Rattle.script_operators.proofs.Growth.{cut_back, grows_same}
 use Rattle.smt_build.proofs.Declarations.{not_defined}
+use Rattle.smt_build.proofs.Growth.{cut_back, grows_same}
 use Rattle.smt_build.proofs.define.define_name.Goals as goal
 
 pub add_definition-requires : goal.add_definition-requires

@@ -1,5 +1,5 @@
 use Rattle.std.proofs.Common.{ap, sym, ◌∙◌, arith}
-use Rattle.script_operators.specs.Grouping.{has_sort}
+use Rattle.smt_build.specs.Grouping.{has_sort}
 use Rattle.smt_build.proofs.Uses.{uneven, left_fails, left_more, left_none}
 use Rattle.smt_build.proofs.definition.have_sorts.Goals as goal
 

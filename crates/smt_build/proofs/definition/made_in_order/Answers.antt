@@ -1,7 +1,7 @@
 use Rattle.std.proofs.Common.{◌≡◌, ◌≤◌, [], length, ap, ◌∙◌, arith}
 use Rattle.std.proofs.lemmas.List.{length-replicate}
 use Rattle.std.proofs.lemmas.Result.{err_from_is_err_and}
-use Rattle.script_operators.proofs.Growth.{longer, grows_none, all_grow}
+use Rattle.smt_build.proofs.Growth.{longer, grows_none, all_grow}
 use Rattle.smt_build.proofs.Images.{made_none, order_reached, order_below, walk_fails, walk_more, walk_ends}
 use Rattle.smt_build.proofs.definition.made_in_order.Goals as goal
 

@@ -1,5 +1,5 @@
 use Rattle.std.proofs.Common.{◌≤◌, length}
-use Rattle.script_operators.proofs.Growth.{AllGrow}
+use Rattle.smt_build.proofs.Growth.{AllGrow}
 use Rattle.smt_build.proofs.Images.{IsMadeTo, end_at}
 use Rattle.smt_build.proofs.definition.made_in_order.Given as goal
 

@@ -1,5 +1,5 @@
 use Rattle.std.proofs.lemmas.Result.{err_from_is_err_and}
-use Rattle.script_operators.proofs.Growth.{grows_both}
+use Rattle.smt_build.proofs.Growth.{grows_both}
 use Rattle.smt_build.proofs.Stepping.{step_more, step_ends, step_fails, reads_out}
 use Rattle.smt_build.proofs.elaborate.read_part.Goals as goal
 

@@ -1,4 +1,4 @@
-use Rattle.script_operators.specs.Building.{Grows}
+use Rattle.smt_build.specs.Building.{Grows}
 use Rattle.smt_build.specs.Views.{state_of}
 use Rattle.smt_build.proofs.Stepping.{Reads}
 use Rattle.smt_build.proofs.elaborate.read_part.Given as goal

@@ -1,8 +1,8 @@
 use Rattle.std.proofs.Common.{ap, subst, Ok, Err}
-use Rattle.script_operators.specs.Building.{Builds}
-use Rattle.script_operators.proofs.Growth.{cut_back, grows_same}
 use Rattle.smt_build.specs.Parameters.{Parameters}
+use Rattle.smt_build.specs.Building.{Builds}
 use Rattle.smt_build.specs.Terms.{term_over}
+use Rattle.smt_build.proofs.Growth.{cut_back, grows_same}
 use Rattle.smt_build.proofs.Spellings.{at_span}
 use Rattle.smt_build.proofs.Stepping.{reads_ok, builds_error}
 use Rattle.smt_build.proofs.elaborate.term_over.Goals as goal

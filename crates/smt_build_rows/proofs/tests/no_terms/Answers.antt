@@ -1,4 +1,4 @@
-use Rattle.script_operators.proofs.Growth.{none_declared}
+use Rattle.smt_build.proofs.Growth.{none_declared}
 use Rattle.smt_build_rows.proofs.tests.no_terms.Goals as goal
 
 pub returns : goal.returns

@@ -2,8 +2,8 @@ use Rattle.std.proofs.Common.{◌≡◌, Some, sym, ap, ◌∙◌, subst}
 use Rattle.std.specs.Prelude.{slice_get}
 use Rattle.std.specs.Option.{option_copied}
 use Rattle.smt_terms.specs.Same.{signature_same}
-use Rattle.script_operators.specs.Declarations.{IsDeclared}
-use Rattle.script_operators.proofs.Growth.{function_declared}
+use Rattle.smt_build.specs.Names.{IsDeclared}
+use Rattle.smt_build.proofs.Growth.{function_declared}
 use Rattle.smt_session.proofs.taking.is_of_script.Goals as goal
 
 pub returns-in-Some : goal.returns-in-Some

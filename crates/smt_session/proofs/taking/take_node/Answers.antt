@@ -1,6 +1,6 @@
 use Rattle.std.proofs.Common.{◌≡◌, sym, ◌∙◌, subst}
-use Rattle.script_operators.specs.Declarations.{IsDeclared}
-use Rattle.script_operators.proofs.Growth.{agrees}
+use Rattle.smt_build.specs.Names.{IsDeclared}
+use Rattle.smt_build.proofs.Growth.{agrees}
 use Rattle.script_state.specs.States.{StateValue, with_terms}
 use Rattle.proof_log.specs.Stored.{Stands}
 use Rattle.smt_session.proofs.PlanSteps.{node_adds, node_fits}

@@ -4,7 +4,7 @@ use Rattle.script_state.specs.Steps.{Step, asserting}
 use Rattle.smt_build.specs.Asserting.{assertion}
 use Rattle.smt_build.specs.Naming.{name_of_assertion}
 use Rattle.script_state.specs.States.{StateValue}
-use Rattle.script_operators.proofs.Growth.{cut_back}
+use Rattle.smt_build.proofs.Growth.{cut_back}
 use Rattle.script_state.proofs.Marking.{plain_grows}
 use Rattle.script_state.proofs.Naming.{assertion_is, names_back, asserting_refused}
 use Rattle.script_state.proofs.Keeping.{asserted_goes_on}

@@ -1,5 +1,5 @@
 use Rattle.std.proofs.Common.{refl, sym, ◌∙◌}
-use Rattle.script_operators.proofs.Growth.{cut_back}
+use Rattle.smt_build.proofs.Growth.{cut_back}
 use Rattle.script_state.specs.States.{StateValue}
 use Rattle.script_state.proofs.Assuming.{watching_ok}
 use Rattle.script_state.proofs.Keeping.{assumed_goes_on}

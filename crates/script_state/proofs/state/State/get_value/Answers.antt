@@ -1,5 +1,5 @@
 use Rattle.std.proofs.Common.{sym, ◌∙◌}
-use Rattle.script_operators.proofs.Growth.{cut_back}
+use Rattle.smt_build.proofs.Growth.{cut_back}
 use Rattle.script_state.specs.States.{StateValue}
 use Rattle.script_state.proofs.Keeping.{valued_goes_on}
 use Rattle.script_state.proofs.Listing.{group_of}

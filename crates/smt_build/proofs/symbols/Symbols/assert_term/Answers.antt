@@ -1,6 +1,6 @@
 use Rattle.std.proofs.Common.{map, ap, ◌∙◌}
-use Rattle.script_operators.proofs.Growth.{cut_back, grows_same}
 use Rattle.smt_build.specs.Pairs.{pair_of}
+use Rattle.smt_build.proofs.Growth.{cut_back, grows_same}
 use Rattle.smt_build.proofs.Spellings.{at_span}
 use Rattle.smt_build.proofs.GivenNames.{asserts_ok, asserts_fault, given_signatures}
 use Rattle.smt_build.proofs.symbols.Symbols.assert_term.Goals as goal

@@ -1,5 +1,5 @@
 use Rattle.std.proofs.Common.{refl}
-use Rattle.script_operators.proofs.Growth.{grows_none}
+use Rattle.smt_build.proofs.Growth.{grows_none}
 use Rattle.smt_build.proofs.Spellings.{at_span}
 use Rattle.smt_build.proofs.Definings.{defines_function, no_definition}
 use Rattle.smt_build.proofs.symbols.Symbols.define.Goals as goal

@@ -1,4 +1,0 @@
-pub mod Growth
-pub mod Numerals
-pub mod ReservedWords
-pub mod Folds

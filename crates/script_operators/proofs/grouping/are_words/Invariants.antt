@@ -1,8 +1,0 @@
-use Rattle.std.proofs.Common.{◌≡◌, drop}
-use Rattle.std.specs.List.{list_all}
-use Rattle.smt_terms.specs.Terms.{held_sort}
-use Rattle.script_operators.specs.Grouping.{is_word_sort}
-use Rattle.script_operators.proofs.grouping.are_words.Given as goal
-
-abbrev pub invariant-loop-term : goal.invariant-loop-term
-invariant-loop-term l = list_all (λ t. is_word_sort (held_sort l.terms.nodes t)) l.rest ≡ list_all (λ t. is_word_sort (held_sort l.terms.nodes t)) (drop l.term-index l.rest)

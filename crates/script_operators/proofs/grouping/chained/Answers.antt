@@ -1,5 +1,0 @@
-use Rattle.script_operators.proofs.Growth.{all_grow}
-use Rattle.script_operators.proofs.grouping.chained.Goals as goal
-
-pub returns-clause-grows : goal.returns-clause-grows
-returns-clause-grows c = all_grow _ _ _ c.in_ok-chain.ensures.grows c.all_true.ensures.grows

@@ -1,6 +1,0 @@
-use Rattle.std.proofs.Common.{◌≡◌, ◌≤◌, ◌∷◌, drop}
-use Rattle.script_operators.specs.Grouping.{joins_within}
-use Rattle.script_operators.proofs.grouping.joins_within.Given as goal
-
-abbrev pub invariant-loop-term : goal.invariant-loop-term
-invariant-loop-term l = (joins_within l.terms.nodes 0 (l.first ∷ l.rest) ≡ joins_within l.terms.nodes l.bits (drop l.term-index l.rest)) × (l.bits ≤ 128)

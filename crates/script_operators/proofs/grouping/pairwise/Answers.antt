@@ -1,5 +1,0 @@
-use Rattle.script_operators.proofs.Growth.{all_grow}
-use Rattle.script_operators.proofs.grouping.pairwise.Goals as goal
-
-pub returns-clause-grows : goal.returns-clause-grows
-returns-clause-grows c = all_grow _ _ _ c.in_ok-all_apart.ensures.grows c.all_true.ensures.grows

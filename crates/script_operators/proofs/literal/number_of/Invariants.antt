@@ -1,5 +1,0 @@
-use Rattle.script_operators.proofs.Numerals.{HasNumber}
-use Rattle.script_operators.proofs.literal.number_of.Given as goal
-
-abbrev pub invariant-loop-digit : goal.invariant-loop-digit
-invariant-loop-digit l = HasNumber l.digits l.digit-index l.value

@@ -1,5 +1,0 @@
-use Rattle.script_operators.proofs.Numerals.{HasRead}
-use Rattle.script_operators.proofs.literal.width_of_numeral.Given as goal
-
-abbrev pub invariant-loop-digit : goal.invariant-loop-digit
-invariant-loop-digit l = HasRead l.digits l.digit-index l.value
