@@ -13,7 +13,7 @@ use Rattle.proof_conversion.specs.declared.fault.Fault.{Fault}
 use Rattle.proof_conversion.specs.declared.fault.Rule.{Rule}
 use Rattle.proof_conversion.specs.declared.header.Numbers.{Numbers}
 use Rattle.proof_conversion.specs.declared.kind.Owed.TheVariants as owed
-use Rattle.proof_conversion.specs.Headers.{AreWithin}
+use Rattle.proof_conversion.specs.Headers.{AreWithin, header_of}
 use Rattle.proof_conversion.specs.Parts.{kind_of, owed_behind}
 use Rattle.proof_conversion.specs.Needs.{Known, Knows, nothing_known, due_in, deletion, with_deletions}
 use Rattle.proof_conversion.specs.Conversions.{BeginsWrong, HasHeader, IsBroken, IsConverted, IsFirstBad, IsUnconverted, converted_lines}
@@ -60,7 +60,7 @@ record IsOfFirst (limits : Limits) (parts : List Part) (n : Numbers) (rest : Lis
   budget : n.budget ≡ limits.budget
   rest_is : rest ≡ flat_map line_text (flat_map part_lines parts)
 
-is_of_first : (limits : Limits) (script proof rest : List ℕ) (turns : List Turn) (n : Numbers) → (a : Accepted limits script proof turns) → AreWithin n → proof ≡ line_text (Header One n.cubes n.budget) ++ rest → IsOfFirst limits a.parts n rest
+is_of_first : (limits : Limits) (script proof rest : List ℕ) (turns : List Turn) (n : Numbers) → (a : Accepted limits script proof turns) → AreWithin n → proof ≡ header_of One n ++ rest → IsOfFirst limits a.parts n rest
 is_of_first limits script proof rest turns n a w e =
     let behind = flat_map line_text (flat_map part_lines a.parts) in
     let both : line_text (Header a.format limits.cubes limits.budget) ++ behind ≡ line_text (Header One n.cubes n.budget) ++ rest = sym a.lines ∙ e in

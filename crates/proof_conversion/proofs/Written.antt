@@ -5,13 +5,12 @@ use Rattle.std.specs.List.{AllByRecursion}
 use Rattle.smt_text.specs.Framing.{Held}
 use Rattle.proof_text.specs.declared.line.Format.TheVariants.{One, Two}
 use Rattle.proof_text.specs.declared.line.Line.{Line}
-use Rattle.proof_text.specs.declared.line.Line.TheVariants.{Header}
-use Rattle.proof_text.specs.Lines.{line_text, IsLine}
+use Rattle.proof_text.specs.Lines.{IsLine}
 use Rattle.proof_conversion.specs.declared.header.Numbers.{Numbers}
 use Rattle.proof_conversion.specs.declared.scanning.Scan.{Scan}
 use Rattle.proof_conversion.specs.Conversions.{IsConverted, IsRead}
 use Rattle.proof_conversion.specs.Filing.{AreDue}
-use Rattle.proof_conversion.specs.Headers.{AreWithin}
+use Rattle.proof_conversion.specs.Headers.{AreWithin, header_of}
 use Rattle.proof_conversion.specs.Needs.{Known, nothing_known, deletion, due, due_in}
 use Rattle.proof_conversion.specs.Scans.{IsScan, text_of}
 use Rattle.proof_conversion.specs.Writing.{IsWritten, texts_behind}
@@ -34,13 +33,13 @@ module _ (n : Numbers) (s : Scan) (k : Known) (lists : List (List ℕ)) (is : Is
       let below : q < s.part = (let d = is.part in omega arith) in
       a.each q below ∙ ap₂ (λ (x : List Line) (y : List ℕ). due q 1 x y) is.steps is.last
 
-  pub is_written : (front out : List ℕ) (records : ℕ) → front ≡ line_text (Header Two n.cubes n.budget) → out ≡ front ++ texts_behind (λ part. get_or lists part []) 0 s.texts.items
+  pub is_written : (front out : List ℕ) (records : ℕ) → front ≡ header_of Two n → out ≡ front ++ texts_behind (λ part. get_or lists part []) 0 s.texts.items
       → ((part : ℕ) → part < length s.texts.items → AllByRecursion IsLine (deletion (get_or lists part []))) → records ≡ length s.texts.items → IsWritten n k out records
   is_written front out records e f readable count = record {
     out_is =
         f ∙ ap (λ (x : List ℕ). x ++ texts_behind (λ part. get_or lists part []) 0 s.texts.items) e
-        ∙ ap (λ (x : List (List ℕ)). line_text (Header Two n.cubes n.budget) ++ texts_behind (λ part. get_or lists part []) 0 x) is.texts
-        ∙ ap (λ (x : List ℕ). line_text (Header Two n.cubes n.budget) ++ x) (text_behind (due_in k) (λ part. get_or lists part []) 0 k.parts (λ q lt. same_due q (omega arith)));
+        ∙ ap (λ (x : List (List ℕ)). header_of Two n ++ texts_behind (λ part. get_or lists part []) 0 x) is.texts
+        ∙ ap (λ (x : List ℕ). header_of Two n ++ x) (text_behind (due_in k) (λ part. get_or lists part []) 0 k.parts (λ q lt. same_due q (omega arith)));
     readable = λ part lt.
         subst (λ (x : List ℕ). AllByRecursion IsLine (deletion x)) (same_due part lt) (readable part (let c = text_count s k is in omega arith));
     count = count ∙ text_count s k is;
@@ -49,17 +48,17 @@ module _ (n : Numbers) (s : Scan) (k : Known) (lists : List (List ℕ)) (is : Is
 -- the same of the slices that the code goes over
 pub written_as : (n : Numbers) (s : Scan) (k : Known) (lists : List (List ℕ)) (steps : List Line) (last : List ℕ) (texts due : List (List ℕ)) (start front out : List ℕ) (records : ℕ)
     → IsScan s k → steps ≡ s.steps.items → last ≡ s.last.items → texts ≡ s.texts.items → due ≡ lists → start ≡ []
-    → AreDue s.part steps last lists → front ≡ start ++ line_text (Header Two n.cubes n.budget) → out ≡ front ++ texts_behind (λ part. get_or due part []) 0 texts
+    → AreDue s.part steps last lists → front ≡ start ++ header_of Two n → out ≡ front ++ texts_behind (λ part. get_or due part []) 0 texts
     → ((part : ℕ) → part < length texts → AllByRecursion IsLine (deletion (get_or due part []))) → records ≡ length texts → IsWritten n k out records
 written_as n s k lists steps last texts due start front out records is es el et ed eb a f g readable count =
     is_written n s k lists is
     (subst (λ (x : List Line). AreDue s.part x s.last.items lists) es (subst (λ (x : List ℕ). AreDue s.part steps x lists) el a))
-    front out records (f ∙ ap (λ (x : List ℕ). x ++ line_text (Header Two n.cubes n.budget)) eb)
+    front out records (f ∙ ap (λ (x : List ℕ). x ++ header_of Two n) eb)
     (g ∙ ap₂ (λ (d t : List (List ℕ)). front ++ texts_behind (λ part. get_or d part []) 0 t) ed et)
     (λ part lt. subst (λ (d : List (List ℕ)). AllByRecursion IsLine (deletion (get_or d part []))) ed (readable part (subst (λ (t : List (List ℕ)). part < length t) (sym et) lt)))
     (count ∙ ap length et)
 
-pub is_converted : (text rest out : List ℕ) (n : Numbers) (lines : List Line) (k : Known) (records : ℕ) → AreWithin n → text ≡ line_text (Header One n.cubes n.budget) ++ rest → IsRead rest lines k → IsWritten n k out records → IsConverted text out records
+pub is_converted : (text rest out : List ℕ) (n : Numbers) (lines : List Line) (k : Known) (records : ℕ) → AreWithin n → text ≡ header_of One n ++ rest → IsRead rest lines k → IsWritten n k out records → IsConverted text out records
 is_converted text rest out n lines k records within e read w = record {
   numbers = n;
   within = within;

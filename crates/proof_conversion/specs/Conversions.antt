@@ -4,7 +4,6 @@ use Rattle.std.specs.Prelude.{◌≡◌, ◌≢◌, ◌⊎◌, ℕ, ◌+◌, Lis
 use Rattle.std.specs.List.{flat_map, AllByRecursion}
 use Rattle.proof_text.specs.declared.line.Format.TheVariants.{One, Two}
 use Rattle.proof_text.specs.declared.line.Line.{Line}
-use Rattle.proof_text.specs.declared.line.Line.TheVariants.{Header}
 use Rattle.proof_text.specs.Lines.{line_text, IsLine}
 use Rattle.proof_conversion.specs.declared.fault.Fault.{Fault}
 use Rattle.proof_conversion.specs.declared.fault.Rule.{Rule}
@@ -12,7 +11,7 @@ use Rattle.proof_conversion.specs.declared.fault.Rule.TheVariants as rule
 use Rattle.proof_conversion.specs.declared.header.Numbers.{Numbers}
 use Rattle.proof_conversion.specs.declared.kind.Owed.{Owed}
 use Rattle.proof_conversion.specs.declared.kind.Owed.TheVariants as owed
-use Rattle.proof_conversion.specs.Headers.{AreWithin}
+use Rattle.proof_conversion.specs.Headers.{AreWithin, header_of}
 use Rattle.proof_conversion.specs.Parts.{kind_of, owed_behind}
 use Rattle.proof_conversion.specs.Needs.{Known, nothing_known, Knows, due_in, with_deletions}
 
@@ -34,9 +33,9 @@ pub record IsConverted (text out : List ℕ) (records : ℕ) : Type 0 where
   pub rest : List ℕ
   pub lines : List Line
   pub known : Known
-  pub header : text ≡ line_text (Header One numbers.cubes numbers.budget) ++ rest
+  pub header : text ≡ header_of One numbers ++ rest
   pub read : IsRead rest lines known
-  pub out_is : out ≡ line_text (Header Two numbers.cubes numbers.budget) ++ flat_map line_text (converted_lines known)
+  pub out_is : out ≡ header_of Two numbers ++ flat_map line_text (converted_lines known)
   pub readable : AllByRecursion IsLine (converted_lines known)
   pub count : records ≡ length known.parts
 
@@ -77,7 +76,7 @@ pub record IsFirstBad (text : List ℕ) (fault : Fault) : Type 0 where
 pub record HasHeader (text rest : List ℕ) : Type 0 where
   pub numbers : Numbers
   pub within : AreWithin numbers
-  pub begins : text ≡ line_text (Header One numbers.cubes numbers.budget) ++ rest
+  pub begins : text ≡ header_of One numbers ++ rest
 
 abbrev pub no_header : Fault
 no_header = record { line = 1; rule = rule.Header }

@@ -2,9 +2,9 @@
 use Rattle.std.specs.Prelude.{◌≡◌, ℕ, ◌<◌, suc, List, [], ◌∷◌, ◌++◌, length}
 use Rattle.std.specs.List.{flat_map, AllByRecursion}
 use Rattle.proof_text.specs.declared.line.Format.TheVariants.{Two}
-use Rattle.proof_text.specs.declared.line.Line.TheVariants.{Header}
 use Rattle.proof_text.specs.Lines.{line_text, IsLine}
 use Rattle.proof_conversion.specs.declared.header.Numbers.{Numbers}
+use Rattle.proof_conversion.specs.Headers.{header_of}
 use Rattle.proof_conversion.specs.Needs.{Known, deletion, due_in}
 use Rattle.proof_conversion.specs.Conversions.{converted_lines}
 
@@ -15,6 +15,6 @@ texts_behind due part (t ∷ ts) = (flat_map line_text (deletion (due part)) ++ 
 
 -- the proof and the number of its records
 pub record IsWritten (numbers : Numbers) (known : Known) (out : List ℕ) (records : ℕ) : Type 0 where
-  pub out_is : out ≡ line_text (Header Two numbers.cubes numbers.budget) ++ flat_map line_text (converted_lines known)
+  pub out_is : out ≡ header_of Two numbers ++ flat_map line_text (converted_lines known)
   pub readable : (part : ℕ) → part < length known.parts → AllByRecursion IsLine (deletion (due_in known part))
   pub count : records ≡ length known.parts

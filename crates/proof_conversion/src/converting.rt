@@ -10,11 +10,9 @@ ghost use Rattle.proof_conversion.specs.Writing.{texts_behind, IsWritten};
 
 use crate::deleting::{places_due, push_deletion};
 use crate::fault::{Fault, Rule};
-use crate::header::{Numbers, read_header};
+use crate::header::{Numbers, push_header, read_header};
 use crate::scanning::{Scan, scan_parts};
 use plain_list::List as Places;
-use proof_text::header::write_header;
-use proof_text::line::Format;
 use proof_text::reader::ProofReader;
 use smt_text::text::Text;
 use std::alloc::{AllocError, Global};
@@ -49,7 +47,7 @@ fn write(alloc: Global, numbers: Numbers, scan: &Scan) -> Result<Converted, Allo
         → IsWritten numbers known c.proof c.records) }
 {
     let mut proof = Text::new(alloc);
-    write_header(Format::Two, numbers.cubes, numbers.budget, &mut proof)?;
+    push_header(numbers, &mut proof)?;
     let due = places_due(
         alloc,
         scan.part,

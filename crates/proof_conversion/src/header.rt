@@ -1,15 +1,16 @@
 // The first line of a proof.
 
-ghost use Rattle.std.specs.Prelude.{◌≡◌, ◌++◌, ℕ, List, IfOk, MatchOption};
-ghost use Rattle.proof_text.specs.Lines.{line_text};
-ghost use Rattle.proof_text.specs.declared.line.Format.TheVariants.{One};
+ghost use Rattle.std.specs.Prelude.{◌≡◌, ◌++◌, ℕ, List, IfOk, OnOk, MatchOption};
+ghost use Rattle.proof_text.specs.declared.line.Format.TheVariants.{One, Two};
 ghost use Rattle.proof_text.specs.declared.line.Line.TheVariants.{Header};
 ghost use Rattle.proof_conversion.specs.declared.header.Numbers.{Numbers as Limits};
-ghost use Rattle.proof_conversion.specs.Headers.{AreWithin};
+ghost use Rattle.proof_conversion.specs.Headers.{AreWithin, header_of};
 ghost use Rattle.proof_conversion.specs.Conversions.{HasHeader};
 
 use proof_text::line::{Format, Line};
 use proof_text::reader::ProofReader;
+use smt_text::number::push_number;
+use smt_text::text::Text;
 use std::alloc::AllocError;
 
 /// How deep the cubes of a check are split, and how many clauses a cube may learn.
@@ -60,11 +61,22 @@ pub(crate) fn read_header(reader: &mut ProofReader) -> Result<Option<Numbers>, A
     ensures { IfOk result (λ r. MatchOption r
         ((rest : List ℕ) → HasHeader reader.old.bytes rest → ⊥)
         (λ n. AreWithin n × (reader.new.line ≡ 2)
-        × (reader.old.bytes ≡ line_text (Header One n.cubes n.budget) ++ reader.new.bytes))) }
+        × (reader.old.bytes ≡ header_of One n ++ reader.new.bytes))) }
 {
     match reader.next()? {
         Some(Ok(line)) => Ok(numbers_of(&line)),
         Some(Err(_)) => Ok(None),
         None => Ok(None),
     }
+}
+
+/// Appends the header of the second format.
+pub fn push_header(numbers: Numbers, out: &mut Text) -> Result<(), AllocError>
+    ensures { OnOk result (out.new ≡ out.old ++ header_of Two numbers) }
+{
+    out.push_slice(b"smt_proof 2 cubes ")?;
+    push_number(out, numbers.cubes)?;
+    out.push_slice(b" budget ")?;
+    push_number(out, numbers.budget)?;
+    out.push(b'\n')
 }

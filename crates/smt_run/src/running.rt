@@ -31,8 +31,7 @@ use drill_script::given::Given;
 use drill_script::kept::Kept;
 use drill_script::script::drill_script;
 use proof_checker::{accepted_proofs_pass, texts_are_judged_one_way, what_is_accepted_is_right};
-use proof_text::header::write_header;
-use proof_text::line::Format;
+use proof_conversion::header::{Numbers, push_header};
 use smt_check::checking::check;
 use smt_check::status::Status;
 use smt_desk::stream::{Sink, Source, write_whole};
@@ -70,12 +69,11 @@ fn open_proof<Q: Sink>(alloc: Global, settings: &Settings, proof: &mut Q) -> Res
         (HasCause (counts 0 0 (Q.faults proof.old)) (counts 0 0 (Q.faults proof.new))) }
 {
     let mut text = Text::new(alloc);
-    write_header(
-        Format::Two,
-        settings.cubes as u64,
-        settings.budget as u64,
-        &mut text,
-    )?;
+    let numbers = Numbers {
+        cubes: settings.cubes as u64,
+        budget: settings.budget as u64,
+    };
+    push_header(numbers, &mut text)?;
     match write_whole(proof, text.as_slice()) {
         Ok(()) => Ok(()),
         Err(_) => Err(Status::WriteFault),

@@ -1,8 +1,7 @@
 use Rattle.std.proofs.Common.{List, ℕ, ◌++◌, refl, sym, ap, ◌∙◌, subst, inl, inr}
 use Rattle.smt_text.specs.Framing.{Held}
 use Rattle.proof_text.specs.declared.line.Format.TheVariants.{One}
-use Rattle.proof_text.specs.declared.line.Line.TheVariants.{Header}
-use Rattle.proof_text.specs.Lines.{line_text}
+use Rattle.proof_conversion.specs.Headers.{header_of}
 use Rattle.proof_conversion.specs.Conversions.{HasHeader}
 use Rattle.proof_conversion.proofs.Written.{is_converted, read_lengths, held_behind, header_front, held_is}
 use Rattle.proof_conversion.proofs.converting.convert.Goals as goal
@@ -20,7 +19,7 @@ scan_parts-requires c =
     record {
       held =
           held_is c.read_header.new.reader c.split_at.result.1.now h.1
-          (held_behind c.args.text.now c.feed.new.self.bytes c.split_at.result.1.now c.read_header.new.reader.bytes (line_text (Header One c.in-Some.numbers.cubes c.in-Some.numbers.budget)) c.held.result fed h.2 c.split_at.ensures.back c.held.ensures);
+          (held_behind c.args.text.now c.feed.new.self.bytes c.split_at.result.1.now c.read_header.new.reader.bytes (header_of One c.in-Some.numbers) c.held.result fed h.2 c.split_at.ensures.back c.held.ensures);
     }
 
 pub write-requires : goal.write-requires
@@ -32,7 +31,7 @@ returns-in-Ok c =
     let h = rw c.in-Some.is at c.in_ok-numbers.ensures in
     let r = rw c.in-Ok.is at c.in_ok-scan.ensures in
     is_converted c.args.text.now c.split_at.result.1.now c.in_ok-converted-in-Ok.converted.proof c.in-Some.numbers r.0 r.1 c.in_ok-converted-in-Ok.converted.records h.0
-    (header_front c.args.text.now c.feed.new.self.bytes c.split_at.result.1.now c.read_header.new.reader.bytes (line_text (Header One c.in-Some.numbers.cubes c.in-Some.numbers.budget)) c.held.result fed h.2 c.split_at.ensures.back c.held.ensures)
+    (header_front c.args.text.now c.feed.new.self.bytes c.split_at.result.1.now c.read_header.new.reader.bytes (header_of One c.in-Some.numbers) c.held.result fed h.2 c.split_at.ensures.back c.held.ensures)
     r.2 (c.in_ok-converted-in-Ok.ensures r.1 r.3)
 
 pub returns : goal.returns
@@ -45,7 +44,7 @@ returns c =
       record {
         numbers = c.in-Some.numbers;
         within = h.0;
-        begins = header_front c.args.text.now c.feed.new.self.bytes c.split_at.result.1.now c.read_header.new.reader.bytes (line_text (Header One c.in-Some.numbers.cubes c.in-Some.numbers.budget)) c.held.result fed h.2 c.split_at.ensures.back c.held.ensures;
+        begins = header_front c.args.text.now c.feed.new.self.bytes c.split_at.result.1.now c.read_header.new.reader.bytes (header_of One c.in-Some.numbers) c.held.result fed h.2 c.split_at.ensures.back c.held.ensures;
       },
       f,
     )
