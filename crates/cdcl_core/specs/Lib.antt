@@ -8,5 +8,4 @@ pub mod Slots
 pub mod Stamps
 pub mod State
 pub mod Tables
-pub mod Taking
 pub mod Watched

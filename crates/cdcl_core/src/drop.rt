@@ -8,7 +8,6 @@ ghost use Rattle.cdcl_core.specs.Levels.{IsReason};
 ghost use Rattle.cdcl_core.specs.Search.{literals_of, clause_of, held_of};
 ghost use Rattle.cdcl_core.specs.declared.watches.Kind.TheVariants.{Free, Watched};
 ghost use Rattle.cdcl_core.specs.Watched.{kind_at};
-ghost use Rattle.cdcl_core.specs.Taking.{IsMoved, IsTakenOut};
 ghost use Rattle.cdcl_core.specs.State.{IsConsistent, KeepsPlaces, IsSettled, IsPropagated, IsPlaced, IsCleared, HasForced};
 
 use crate::lists::WatchLists;
@@ -17,36 +16,7 @@ use crate::watches::{Kind, Watches};
 use cnf_base::{Clause, ClauseId, Lit};
 use std::mem;
 
-// Moves the places of list 0 before this one to the front of another list, and takes this one out.
-fn take_first(lists: &mut WatchLists, list: usize, place: usize)
-    requires list { list < length lists.old.lists }
-    requires other { list ≢ 0 }
-    requires apart { times place (slice_index_or lists.old.lists list []) ≡ 0 }
-    ensures { IsTakenOut lists.old lists.new list place }
-{
-    'places: while lists.first(0) != 0 {
-        if lists.first(0) == place {
-            lists.pop_first(0);
-            return;
-        }
-        lists.move_first(0, list);
-    }
-}
-
-// Moves the places of list 0 to the front of another list, the first of them first.
-fn bring_back(lists: &mut WatchLists, list: usize)
-    requires list { list < length lists.old.lists }
-    requires other { list ≢ 0 }
-    ensures moved { IsMoved lists.old lists.new list }
-    ensures idle { slice_index_or lists.new.lists 0 [] ≡ [] }
-{
-    'places: while lists.first(0) != 0 {
-        lists.move_first(0, list);
-    }
-}
-
-// Takes a place out of a list, whose other places keep their order, in as many steps as there are
-// places before this one; list 0 is empty before and after.
+// Takes a place out of a list; list 0 is empty before and after.
 fn take_out(lists: &mut WatchLists, list: usize, place: usize)
     requires list { list < length lists.old.lists }
     requires other { list ≢ 0 }
@@ -61,9 +31,13 @@ fn take_out(lists: &mut WatchLists, list: usize, place: usize)
         ≡ times q (slice_index_or lists.old.lists i []) }
 {
     lists.exchange(0, list);
-    take_first(lists, list, place);
-    lists.exchange(0, list);
-    bring_back(lists, list);
+    'places: while lists.first(0) != 0 {
+        if lists.first(0) == place {
+            lists.pop_first(0);
+        } else {
+            lists.move_first(0, list);
+        }
+    }
 }
 
 // Takes the two places of a watched clause out of the lists of their literals.
