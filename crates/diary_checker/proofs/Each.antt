@@ -48,8 +48,8 @@ pub each_old : (t : Stamps) (each clause : List Literal) (l : Literal) → 0 < n
 each_old t each clause l lt h = record {
   table = h.table;
   same = λ k. (
-      (λ c. Contains-append_left clause (l ∷ []) k ((h.same k).0 c)),
-      (λ c. ⊎_elim (h.same k).1 (λ e. subst (Contains each) e ((h.table l).0 lt)) (Contains-push_cases clause l k c)),
+    (λ c. Contains-append_left clause (l ∷ []) k ((h.same k).0 c)),
+    (λ c. ⊎_elim (h.same k).1 (λ e. subst (Contains each) e ((h.table l).0 lt)) (Contains-push_cases clause l k c)),
   );
   once = h.once;
 }
